@@ -1,0 +1,11 @@
+pub mod Chunks
+pub mod Unique
+pub mod Exists
+pub mod GoingOn
+pub mod Taken
+pub mod Held
+pub mod Reading
+pub mod Writing
+pub mod Packet
+pub mod Steps
+mod Decides

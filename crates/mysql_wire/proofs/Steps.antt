@@ -1,0 +1,64 @@
+-- The steps of the loop, as its calls and tests tell of them.
+use Rattle.std.proofs.Common.{◌≡◌, ◌≢◌, ◌⊎◌, inl, inr, ℕ, min, ◌+◌, ◌-◌, ◌%◌, ◌<◌, ◌≤◌, List, [], ◌++◌, length, take, drop, refl, ap, sym, ◌∙◌, subst, arith}
+use Rattle.std.specs.Prelude.{Option, Some, None, Ok, Err}
+use Rattle.std.proofs.lemmas.List.{take_all, drop_all}
+use Rattle.mysql_wire.specs.Stream.{IsRest}
+use Rattle.mysql_wire.specs.Stream.Rest.{OutOfSync}
+use Rattle.mysql_wire.specs.Codec.{held, packet_number, Waits, HandsOut, IsDue}
+use Rattle.mysql_wire.specs.Moving.{codec_of, NextChunk}
+use Rattle.mysql_wire.specs.declared.codec.BegunChunk.{BegunChunk}
+use Rattle.mysql_wire.specs.declared.codec.Refusal.{Refusal}
+use Rattle.mysql_wire.proofs.Packet.{Reading, waits_for_header, too_large_at, opens, waits_for_bytes, out_of_sync_at, handed_out_at, next_at}
+
+module _ (limit n0 : ℕ) (b0 : Option BegunChunk) (src0 dst0 : List ℕ) (number : ℕ) where
+  pub next_none : (begun : Option BegunChunk) (src dst src' : List ℕ) (filled : ℕ) → Reading limit n0 b0 src0 dst0 number begun src dst → NextChunk begun src filled limit (Ok None) src' →
+      Waits (codec_of n0 limit b0) src0 dst0 (codec_of number limit begun) src' dst × (length src' < 4)
+  next_none None src dst src' filled start n = (waits_for_header limit n0 b0 src0 dst0 number src dst src' start n.0 n.1, omega (arith, ap length n.1, n.0))
+  next_none (Some begun) src dst src' filled start n = absurd n
+
+  pub next_err : (begun : Option BegunChunk) (src dst src' : List ℕ) (filled : ℕ) (refusal : Refusal) → Reading limit n0 b0 src0 dst0 number begun src dst → filled ≡ length dst →
+      NextChunk begun src filled limit (Err refusal) src' → IsDue (codec_of n0 limit b0) src0 dst0 refusal
+  next_err None src dst src' filled refusal start same n =
+      subst (IsDue (codec_of n0 limit b0) src0 dst0) (sym n.0) (too_large_at limit n0 b0 src0 dst0 number src dst start n.1 (omega (arith, same, n.2)))
+  next_err (Some begun) src dst src' filled refusal start same n = absurd n
+
+  pub next_some : (begun : Option BegunChunk) (src dst src' : List ℕ) (filled : ℕ) (chunk : BegunChunk) → Reading limit n0 b0 src0 dst0 number begun src dst → filled ≡ length dst →
+      NextChunk begun src filled limit (Ok (Some chunk)) src' → Reading limit n0 b0 src0 dst0 number (Some chunk) src' dst
+  next_some None src dst src' filled chunk start same n = opens limit n0 b0 src0 dst0 number src dst src' chunk start n.0 (omega (arith, same, n.1)) n.2
+  next_some (Some begun) src dst src' filled chunk start same n =
+      subst (λ k. Reading limit n0 b0 src0 dst0 number (Some chunk) k dst) (sym n.1) (subst (λ k. Reading limit n0 b0 src0 dst0 number (Some k) src dst) (sym n.0) start)
+
+  pub moved_part : (chunk : BegunChunk) (src dst src' dst' : List ℕ) (count : ℕ) → Reading limit n0 b0 src0 dst0 number (Some chunk) src dst → count ≡ min chunk.awaited (length src) → count < chunk.awaited →
+      src' ≡ drop count src → dst' ≡ dst ++ take count src →
+      Waits (codec_of n0 limit b0) src0 dst0 (codec_of number limit (Some (record { number = chunk.number; awaited = chunk.awaited - count }))) src' dst' × (length src' < 4)
+  moved_part chunk src dst src' dst' count start least short left put =
+      let all : count ≡ length src = omega arith in
+      let none : src' ≡ [] = left ∙ drop_all count src (omega arith) in
+      let more : dst' ≡ dst ++ src = put ∙ ap (λ k. dst ++ k) (take_all count src (omega arith)) in (
+        waits_for_bytes limit n0 b0 src0 dst0 number src dst src' dst' chunk (record { number = chunk.number; awaited = chunk.awaited - count }) start (omega arith) none more refl (omega arith),
+        omega (arith, ap length none),
+      )
+
+  module _ (chunk : BegunChunk) (src dst src' dst' : List ℕ) (count : ℕ) (byte : number < 256) (byte' : chunk.number < 256) (start : Reading limit n0 b0 src0 dst0 number (Some chunk) src dst)
+      (least : count ≡ min chunk.awaited (length src)) (whole : chunk.awaited ≤ count) (left : src' ≡ drop count src) (put : dst' ≡ dst ++ take count src) where
+    all : count ≡ chunk.awaited
+    all = omega arith
+
+    enough : chunk.awaited ≤ length src
+    enough = omega arith
+
+    left_all : src' ≡ drop chunk.awaited src
+    left_all = left ∙ ap (λ k. drop k src) all
+
+    put_all : dst' ≡ dst ++ take chunk.awaited src
+    put_all = put ∙ ap (λ k. dst ++ take k src) all
+
+    pub moved_wrong : chunk.number ≢ number → IsRest limit (packet_number (codec_of n0 limit b0) dst0) (held (codec_of n0 limit b0) src0 dst0) OutOfSync
+    moved_wrong wrong = out_of_sync_at limit n0 b0 src0 dst0 number src dst src' dst' chunk byte byte' start enough left_all put_all wrong
+
+    pub moved_last : chunk.number ≡ number → (count ≡ 0) ⊎ (length dst' % 16777215 ≢ 0) → HandsOut (codec_of n0 limit b0) src0 dst0 (codec_of ((number + 1) % 256) limit None) src' dst'
+    moved_last nth ends = handed_out_at limit n0 b0 src0 dst0 number src dst src' dst' chunk byte byte' start enough left_all put_all nth
+        (elim ends [ inl none ↦ inl (sym all ∙ none) | inr some ↦ inr some ])
+
+    pub moved_middle : chunk.number ≡ number → (count ≢ 0) → length dst' % 16777215 ≡ 0 → Reading limit n0 b0 src0 dst0 ((number + 1) % 256) None src' dst'
+    moved_middle nth some full = next_at limit n0 b0 src0 dst0 number src dst src' dst' chunk byte byte' start enough left_all put_all nth (omega (arith, some, all)) full

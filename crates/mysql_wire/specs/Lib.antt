@@ -1,0 +1,8 @@
+pub mod Framing
+pub mod Stream
+pub mod Laws
+pub mod Chunk
+pub mod Codec
+pub mod Reader
+pub mod Moving
+pub mod GoingOn

@@ -1,0 +1,24 @@
+-- A chunk whose bytes go out as they come.
+use Rattle.std.specs.Prelude.{◌≡◌, ℕ, ◌+◌, ◌%◌, ◌<◌, ◌≤◌, List, ◌∷◌, ◌++◌, length, Option, Some, None, Result, Ok, Err, option_map}
+use Rattle.mysql_wire.specs.Framing.{max_payload_len, length_bytes, announced}
+use Rattle.mysql_wire.specs.Codec.{Begun, Codec}
+use Rattle.mysql_wire.specs.declared.codec.BegunChunk.{BegunChunk}
+use Rattle.mysql_wire.specs.declared.codec.Refusal.{Refusal}
+use Rattle.mysql_wire.specs.declared.codec.Refusal.TheVariants as refusals
+
+-- a chunk begun, as a codec's value has it
+abbrev pub begun_of : Option BegunChunk → Option Begun
+begun_of begun = option_map (λ chunk. record { number = chunk.number; awaited = chunk.awaited }) begun
+
+-- a codec of these parts that has not refused
+abbrev pub codec_of : ℕ → ℕ → Option BegunChunk → Codec
+codec_of number limit begun = record { limit = limit; number = number; begun = begun_of begun; refused = None }
+
+-- the chunk whose bytes come next: the one begun, or the one whose header stands at the front of src
+abbrev pub NextChunk : Option BegunChunk → List ℕ → ℕ → ℕ → Result (Option BegunChunk) Refusal → List ℕ → Type 0
+NextChunk (Some begun) src filled limit (Ok (Some chunk)) src' = (chunk ≡ begun) × (src' ≡ src)
+NextChunk (Some begun) src filled limit (Ok None) src' = ⊥
+NextChunk (Some begun) src filled limit (Err refusal) src' = ⊥
+NextChunk None src filled limit (Ok (Some chunk)) src' = (src ≡ length_bytes chunk.awaited ++ (chunk.number % 256 ∷ src')) × (filled + chunk.awaited ≤ limit) × (chunk.awaited ≤ max_payload_len)
+NextChunk None src filled limit (Ok None) src' = (length src < 4) × (src' ≡ src)
+NextChunk None src filled limit (Err refusal) src' = (refusal ≡ refusals.TooLarge) × (4 ≤ length src) × (limit < filled + announced src)
