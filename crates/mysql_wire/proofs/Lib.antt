@@ -3,9 +3,11 @@ pub mod Unique
 pub mod Exists
 pub mod GoingOn
 pub mod Taken
+pub mod Moved
 pub mod Held
 pub mod Reading
 pub mod Writing
 pub mod Packet
 pub mod Steps
 mod Decides
+mod Fronts

@@ -9,10 +9,10 @@ use Rattle.mysql_wire.specs.Stream.Rest.{TooLarge, OutOfSync}
 use Rattle.mysql_wire.specs.Chunk.{TakesChunk, info_number, is_last}
 use Rattle.mysql_wire.specs.Codec.{held, begun_bytes, packet_number, whole_chunks, IsOfPacket, Waits, HandsOut}
 use Rattle.mysql_wire.specs.Moving.{begun_of, codec_of}
-use Rattle.mysql_wire.specs.declared.codec.BegunChunk.{BegunChunk}
-use Rattle.mysql_wire.specs.declared.codec.ChunkDecoder.TheVariants.{Idle}
-use Rattle.mysql_wire.specs.declared.codec.ChunkInfo.{ChunkInfo}
-use Rattle.mysql_wire.specs.declared.codec.ChunkInfo.TheVariants.{Middle, Last}
+use Rattle.mysql_wire.specs.declared.codec.packet.BegunChunk.{BegunChunk}
+use Rattle.mysql_wire.specs.declared.codec.chunk.ChunkDecoder.TheVariants.{Idle}
+use Rattle.mysql_wire.specs.declared.codec.chunk.ChunkInfo.{ChunkInfo}
+use Rattle.mysql_wire.specs.declared.codec.chunk.ChunkInfo.TheVariants.{Middle, Last}
 use Rattle.mysql_wire.proofs.Chunks.{announced_length, chunks-suc, chunks-zero}
 use Rattle.mysql_wire.proofs.Held.{both, first_of, middle_taken, last_taken, lacks_rest, passes_rest, wrong_rest}
 

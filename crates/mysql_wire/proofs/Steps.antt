@@ -6,7 +6,7 @@ use Rattle.mysql_wire.specs.Stream.{IsRest}
 use Rattle.mysql_wire.specs.Stream.Rest.{OutOfSync}
 use Rattle.mysql_wire.specs.Codec.{held, packet_number, Waits, HandsOut, IsDue}
 use Rattle.mysql_wire.specs.Moving.{codec_of, NextChunk}
-use Rattle.mysql_wire.specs.declared.codec.BegunChunk.{BegunChunk}
+use Rattle.mysql_wire.specs.declared.codec.packet.BegunChunk.{BegunChunk}
 use Rattle.mysql_wire.specs.declared.codec.Refusal.{Refusal}
 use Rattle.mysql_wire.proofs.Packet.{Reading, waits_for_header, too_large_at, opens, waits_for_bytes, out_of_sync_at, handed_out_at, next_at}
 

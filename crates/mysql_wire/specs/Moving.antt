@@ -1,8 +1,10 @@
--- A chunk whose bytes go out as they come.
+-- Words of the codec's own body, which no public call's clause has: how its fields stand for a codec, and the step from one
+-- chunk to the next, whose bytes are then moved as they come.
+-- (MySQL: Client/Server Protocol, "Protocol Basics: MySQL Packets".)
 use Rattle.std.specs.Prelude.{◌≡◌, ℕ, ◌+◌, ◌%◌, ◌<◌, ◌≤◌, List, ◌∷◌, ◌++◌, length, Option, Some, None, Result, Ok, Err, option_map}
 use Rattle.mysql_wire.specs.Framing.{max_payload_len, length_bytes, announced}
 use Rattle.mysql_wire.specs.Codec.{Begun, Codec}
-use Rattle.mysql_wire.specs.declared.codec.BegunChunk.{BegunChunk}
+use Rattle.mysql_wire.specs.declared.codec.packet.BegunChunk.{BegunChunk}
 use Rattle.mysql_wire.specs.declared.codec.Refusal.{Refusal}
 use Rattle.mysql_wire.specs.declared.codec.Refusal.TheVariants as refusals
 

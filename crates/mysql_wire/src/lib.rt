@@ -6,7 +6,7 @@ pub mod error;
 pub mod laws;
 
 pub use codec::{
-    ChunkDecoder, ChunkInfo, MAX_PAYLOAD_LEN, PacketCodec, PacketCodecError, Packets, feed_all,
-    packet_to_chunks,
+    ChunkDecoder, ChunkInfo, DEFAULT_MAX_ALLOWED_PACKET, MAX_PAYLOAD_LEN, PacketCodec,
+    PacketCodecError, Packets, PartialHeader, feed_all, packet_to_chunks,
 };
 pub use error::WireError;

@@ -1,0 +1,13 @@
+pub mod Readable
+pub mod Looking
+pub mod Judging
+pub mod Auditing
+pub mod Splits
+pub mod Feeding
+pub mod Loops
+pub mod Pieces
+pub mod Stepping
+pub mod Progressing
+pub mod Receiving
+pub mod Fronts
+pub mod Cuttings

@@ -1,0 +1,168 @@
+-- Loops that read one thing after another.
+use Rattle.std.proofs.Common.{◌≡◌, ℕ, suc, ◌-◌, ◌+◌, ◌≤◌, ◌<◌, List, [], ◌∷◌, ◌++◌, length, drop, Bool, true, false, Option, Result, Ok, Err, refl, sym, ap, ◌∙◌, append_assoc, arith, get_or, add-one, drop-cons}
+use Rattle.std.specs.Prelude.{◌==◌, ◌||◌}
+use Rattle.std.specs.List.{list_any, range_with_len}
+use Rattle.std.proofs.lemmas.Bool.{eqb-true}
+use Rattle.std.proofs.lemmas.List.{append-nil, drop_all}
+use Rattle.mysql_commands.specs.declared.fault.StreamFault.{StreamFault}
+use Rattle.mysql_commands.specs.declared.refusal.Refusal.{Refusal}
+use Rattle.mysql_commands.specs.declared.refusal.Refusal.TheVariants as refusal
+use Rattle.mysql_commands.specs.Fields.{◌>>=◌}
+use Rattle.mysql_commands.specs.Layout.{Types, type_at, types_at}
+use Rattle.mysql_commands.specs.declared.fault.StreamFault.TheVariants.{BadExecute, BadBulk}
+use Rattle.mysql_commands.specs.declared.param_type.ParamType.{ParamType}
+use Rattle.mysql_values.specs.declared.content.Content.{Content}
+use Rattle.mysql_commands.specs.Reading.{Set, held_at, set_at, column_at, row_at, rows_at}
+use Rattle.mysql_commands.specs.Views.{Fails}
+
+-- what was read before, and what is still read
+abbrev pub with_front : {A : Type 0} → List A → Result (List A × List ℕ) StreamFault → Result (List A × List ℕ) StreamFault
+with_front before read = read >>= λ x. Ok (before ++ x.0, x.1)
+
+regroup : {A : Type 0} (before : List A) (n : A) (read : Result (List A × List ℕ) StreamFault) → with_front before (read >>= λ x. Ok (n ∷ x.0, x.1)) ≡ with_front (before ++ n ∷ []) read
+regroup {A = A} before n (Ok x) = ap (λ (ns : List A). Ok (ns, x.1)) (simp append_assoc)
+regroup before n (Err f) = refl
+
+pub types_go_on : (before : Types) (short : StreamFault) (count i : ℕ) (bytes : List ℕ) (n : ParamType) (after : List ℕ) (total : Result (Types × List ℕ) StreamFault) → i < count → type_at short bytes ≡ Ok (n, after)
+    → with_front before (types_at short (count - i) bytes) ≡ total → with_front (before ++ n ∷ []) (types_at short (count - (i + 1)) after) ≡ total
+unfolding types_at
+types_go_on before short count i bytes n after total lt h so_far =
+    let k : count - i ≡ suc (count - (i + 1)) = omega arith in
+    let one : with_front before (types_at short (count - i) bytes) ≡ with_front (before ++ n ∷ []) (types_at short (count - (i + 1)) after) = rw (k, h) (regroup before n (types_at short (count - (i + 1)) after)) in
+    sym one ∙ so_far
+
+pub types_end : (e : Refusal) (before : Types) (short : StreamFault) (count i : ℕ) (bytes : List ℕ) (total : Result (Types × List ℕ) StreamFault) → i < count → Fails e (type_at short bytes)
+    → with_front before (types_at short (count - i) bytes) ≡ total → Fails e total
+unfolding types_at
+types_end refusal.Memory before short count i bytes total lt h so_far = tt
+types_end (refusal.Fault f) before short count i bytes total lt h so_far =
+    let k : count - i ≡ suc (count - (i + 1)) = omega arith in
+    let one : with_front before (types_at short (count - i) bytes) ≡ Err f = rw (k, h) refl in
+    sym so_far ∙ one
+
+pub types_done : (before : Types) (short : StreamFault) (count i : ℕ) (bytes : List ℕ) (total : Result (Types × List ℕ) StreamFault) → count ≤ i → with_front before (types_at short (count - i) bytes) ≡ total → total ≡ Ok (before, bytes)
+unfolding types_at
+types_done before short count i bytes total le so_far =
+    let k : count - i ≡ 0 = omega arith in
+    let one : with_front before (types_at short (count - i) bytes) ≡ Ok (before, bytes) = rw k (ap (λ (ns : Types). Ok (ns, bytes)) (append-nil before)) in
+    sym so_far ∙ one
+
+-- ---- the places of an execute
+
+-- what was read before, and what is still read to the end
+abbrev pub behind : {A : Type 0} → List A → Result (List A) StreamFault → Result (List A) StreamFault
+behind before read = read >>= λ x. Ok (before ++ x)
+
+behind_one : {A : Type 0} (before : List A) (n : A) (read : Result (List A) StreamFault) → behind before (read >>= λ x. Ok (n ∷ x)) ≡ behind (before ++ n ∷ []) read
+behind_one {A = A} before n (Ok x) = ap (λ (ns : List A). Ok ns) (simp append_assoc)
+behind_one before n (Err f) = refl
+
+module _ (pieces : ℕ → Option (List ℕ)) (nulls : List ℕ) (types : List ParamType) (total : Result Set StreamFault) where
+  pub set_goes_on : (before : Set) (place : ℕ) (t : ParamType) (rest : List ℕ) (n : Content) (after : List ℕ) → drop place types ≡ t ∷ drop (place + 1) types → held_at pieces nulls place t rest ≡ Ok (n, after)
+      → behind before (set_at pieces nulls place (drop place types) rest) ≡ total → behind (before ++ n ∷ []) (set_at pieces nulls (place + 1) (drop (place + 1) types) after) ≡ total
+  unfolding set_at
+  set_goes_on before place t rest n after e h so_far =
+      let one : behind before (set_at pieces nulls place (drop place types) rest) ≡ behind (before ++ n ∷ []) (set_at pieces nulls (place + 1) (drop (place + 1) types) after) =
+      rw (e, h) (behind_one before n (set_at pieces nulls (place + 1) (drop (place + 1) types) after)) in
+      sym one ∙ so_far
+
+  pub set_ends : (r : Refusal) (before : Set) (place : ℕ) (t : ParamType) (rest : List ℕ) → drop place types ≡ t ∷ drop (place + 1) types → Fails r (held_at pieces nulls place t rest)
+      → behind before (set_at pieces nulls place (drop place types) rest) ≡ total → Fails r total
+  unfolding set_at
+  set_ends refusal.Memory before place t rest e h so_far = tt
+  set_ends (refusal.Fault f) before place t rest e h so_far =
+      let one : behind before (set_at pieces nulls place (drop place types) rest) ≡ Err f = rw (e, h) refl in
+      sym so_far ∙ one
+
+  pub set_done : (before : Set) (place : ℕ) (rest : List ℕ) → length types ≤ place → true ≡ (length rest == 0) → behind before (set_at pieces nulls place (drop place types) rest) ≡ total → total ≡ Ok before
+  unfolding set_at
+  set_done before place (b ∷ rest) past e so_far = absurd (omega (arith, eqb-true (length (b ∷ rest)) 0 (sym e)))
+  set_done before place [] past e so_far =
+      let none : drop place types ≡ [] = drop_all place types past in
+      let one : behind before (set_at pieces nulls place (drop place types) []) ≡ Ok before = rw none (ap (λ (ns : Set). Ok ns) (append-nil before)) in
+      sym so_far ∙ one
+
+  pub set_left : (before : Set) (place : ℕ) (rest : List ℕ) → length types ≤ place → false ≡ (length rest == 0) → behind before (set_at pieces nulls place (drop place types) rest) ≡ total → total ≡ Err BadExecute
+  unfolding set_at
+  set_left before place [] past e so_far = absurd cc
+  set_left before place (b ∷ rest) past e so_far =
+      let none : drop place types ≡ [] = drop_all place types past in
+      let one : behind before (set_at pieces nulls place (drop place types) (b ∷ rest)) ≡ Err BadExecute = rw none refl in
+      sym so_far ∙ one
+
+-- the element that stands first of what is left
+pub at_place : (types : List ParamType) (place : ℕ) (t : ParamType) → place < length types → drop place types ≡ get_or types place t ∷ drop (place + 1) types
+at_place types place t lt = rw add-one (drop-cons types place t lt)
+
+-- ---- the columns of a row
+
+module _ (types : List ParamType) (total : Result (Set × List ℕ) StreamFault) where
+  pub row_goes_on : (before : Set) (i : ℕ) (t : ParamType) (rest : List ℕ) (n : Content) (after : List ℕ) → drop i types ≡ t ∷ drop (i + 1) types → column_at t rest ≡ Ok (n, after)
+      → with_front before (row_at (drop i types) rest) ≡ total → with_front (before ++ n ∷ []) (row_at (drop (i + 1) types) after) ≡ total
+  unfolding row_at
+  row_goes_on before i t rest n after e h so_far =
+      let one : with_front before (row_at (drop i types) rest) ≡ with_front (before ++ n ∷ []) (row_at (drop (i + 1) types) after) =
+      rw (e, h) (regroup before n (row_at (drop (i + 1) types) after)) in
+      sym one ∙ so_far
+
+  pub row_ends : (r : Refusal) (before : Set) (i : ℕ) (t : ParamType) (rest : List ℕ) → drop i types ≡ t ∷ drop (i + 1) types → Fails r (column_at t rest)
+      → with_front before (row_at (drop i types) rest) ≡ total → Fails r total
+  unfolding row_at
+  row_ends refusal.Memory before i t rest e h so_far = tt
+  row_ends (refusal.Fault f) before i t rest e h so_far =
+      let one : with_front before (row_at (drop i types) rest) ≡ Err f = rw (e, h) refl in
+      sym so_far ∙ one
+
+  pub row_done : (before : Set) (i : ℕ) (rest : List ℕ) → length types ≤ i → with_front before (row_at (drop i types) rest) ≡ total → total ≡ Ok (before, rest)
+  unfolding row_at
+  row_done before i rest past so_far =
+      let none : drop i types ≡ [] = drop_all i types past in
+      let one : with_front before (row_at (drop i types) rest) ≡ Ok (before, rest) = rw none (ap (λ (ns : Set). Ok (ns, rest)) (append-nil before)) in
+      sym so_far ∙ one
+
+-- ---- the rows of a bulk
+
+module _ (types : Types) (total : Result (List Set) StreamFault) where
+  pub rows_go_on : (before : List Set) (count i : ℕ) (rest : List ℕ) (n : Set) (after : List ℕ) → i < count → false ≡ (length rest == 0) → row_at types rest ≡ Ok (n, after)
+      → behind before (rows_at types (count - i) rest) ≡ total → behind (before ++ n ∷ []) (rows_at types (count - (i + 1)) after) ≡ total
+  unfolding rows_at
+  rows_go_on before count i [] n after lt e h so_far = absurd cc
+  rows_go_on before count i (b ∷ rest) n after lt e h so_far =
+      let k : count - i ≡ suc (count - (i + 1)) = omega arith in
+      let one : behind before (rows_at types (count - i) (b ∷ rest)) ≡ behind (before ++ n ∷ []) (rows_at types (count - (i + 1)) after) =
+      rw (k, h) (behind_one before n (rows_at types (count - (i + 1)) after)) in
+      sym one ∙ so_far
+
+  pub rows_end : (r : Refusal) (before : List Set) (count i : ℕ) (rest : List ℕ) → i < count → false ≡ (length rest == 0) → Fails r (row_at types rest)
+      → behind before (rows_at types (count - i) rest) ≡ total → Fails r total
+  unfolding rows_at
+  rows_end refusal.Memory before count i rest lt e h so_far = tt
+  rows_end (refusal.Fault f) before count i [] lt e h so_far = absurd cc
+  rows_end (refusal.Fault f) before count i (b ∷ rest) lt e h so_far =
+      let k : count - i ≡ suc (count - (i + 1)) = omega arith in
+      let one : behind before (rows_at types (count - i) (b ∷ rest)) ≡ Err f = rw (k, h) refl in
+      sym so_far ∙ one
+
+  pub rows_done : (before : List Set) (n : ℕ) (rest : List ℕ) → true ≡ (length rest == 0) → behind before (rows_at types n rest) ≡ total → total ≡ Ok before
+  unfolding rows_at
+  rows_done before n (b ∷ rest) e so_far = absurd (omega (arith, eqb-true (length (b ∷ rest)) 0 (sym e)))
+  rows_done before n [] e so_far = sym so_far ∙ ap (λ (ns : List Set). Ok ns) (append-nil before)
+
+  pub rows_left : (before : List Set) (n : ℕ) (rest : List ℕ) → n ≡ 0 → false ≡ (length rest == 0) → behind before (rows_at types n rest) ≡ total → total ≡ Err BadBulk
+  unfolding rows_at
+  rows_left before n [] z e so_far = absurd cc
+  rows_left before n (b ∷ rest) z e so_far = let one : behind before (rows_at types n (b ∷ rest)) ≡ Err BadBulk = rw z refl in sym so_far ∙ one
+
+-- ---- a test of the places from one on
+
+pub any_goes_on : (p : ℕ → Bool) (i n : ℕ) (total : Bool) → i < n → false ≡ p i → list_any p (range_with_len i (n - i)) ≡ total → list_any p (range_with_len (i + 1) (n - (i + 1))) ≡ total
+any_goes_on p i n total lt fails so_far =
+    let k : n - i ≡ suc (n - (i + 1)) = omega arith in
+    let one : list_any p (range_with_len i (n - i)) ≡ list_any p (range_with_len (i + 1) (n - (i + 1))) = ap (λ (m : ℕ). list_any p (range_with_len i m)) k ∙ ap (λ b. b || list_any p (range_with_len (i + 1) (n - (i + 1)))) (sym fails) in
+    sym one ∙ so_far
+
+pub any_here : (p : ℕ → Bool) (i n : ℕ) (total : Bool) → i < n → true ≡ p i → list_any p (range_with_len i (n - i)) ≡ total → true ≡ total
+any_here p i n total lt holds so_far =
+    let k : n - i ≡ suc (n - (i + 1)) = omega arith in
+    let one : list_any p (range_with_len i (n - i)) ≡ true = ap (λ (m : ℕ). list_any p (range_with_len i m)) k ∙ ap (λ b. b || list_any p (range_with_len (i + 1) (n - (i + 1)))) (sym holds) in
+    sym one ∙ so_far

@@ -1,0 +1,273 @@
+-- A run over the payloads that a codec hands out.
+use Rattle.std.proofs.Common.{◌≡◌, ℕ, ◌+◌, ◌-◌, ◌^◌, ◌<◌, Bool, true, false, List, [], ◌∷◌, ◌++◌, length, take, get_or, Some, None, Err, refl, sym, ap, subst, ◌∙◌, arith, inl, inr, append_assoc}
+use Rattle.std.specs.Prelude.{◌==◌, ◌||◌, not}
+use Rattle.std.specs.List.{flat_map}
+use Rattle.std.proofs.lemmas.Bool.{ne_eqb}
+use Rattle.std.proofs.lemmas.List.{append-nil, length-append, get_or-append-add}
+use Rattle.std.proofs.lemmas.List.Concat.{flat_map-append}
+use Rattle.std.proofs.Math.Seq.{take-append_seam}
+use Rattle.mysql_wire.specs.Laws.{AreBytes}
+use Rattle.mysql_wire.specs.Codec.{Codec, HandsOut, Waits, RefusesBy, IsDue, held, packet_number, error_of}
+use Rattle.mysql_wire.specs.Reader.{HasRead}
+use Rattle.mysql_wire.specs.Stream.{Rest, IsSplit, IsRest, IsFault, framings, first_number}
+use Rattle.mysql_wire.specs.Stream.Rest.{Empty as EmptyRest, TooLarge as TooLargeRest, OutOfSync as OutOfSyncRest, Open as OpenRest}
+use Rattle.mysql_wire.specs.Stream.Numbering.{EachFromZero}
+use Rattle.mysql_wire.specs.declared.codec.Refusal.{Refusal as CodecRefusal}
+use Rattle.mysql_wire.specs.declared.codec.Refusal.TheVariants as codec_refusal
+use Rattle.mysql_wire.specs.declared.codec.PacketCodecError.{PacketCodecError}
+use Rattle.mysql_wire.proofs.Reading.{takes_reset, held_more, held_between, feeds}
+use Rattle.mysql_wire.proofs.GoingOn.{framed_come_first, framing_length}
+use Rattle.mysql_commands.specs.declared.fault.StreamFault.TheVariants.{Memory}
+use Rattle.mysql_commands.specs.declared.refusal.Refusal.{Refusal}
+use Rattle.mysql_commands.specs.declared.refusal.Refusal.TheVariants as refusal
+use Rattle.mysql_commands.specs.declared.progress.Progress.{Progress}
+use Rattle.mysql_commands.specs.Layout.{Conversation}
+use Rattle.mysql_commands.specs.InForce.{Standing, standing_after}
+use Rattle.mysql_commands.specs.Reading.{Set, ReadsAs, Faulty, PayloadReadsAs, PayloadFaulty}
+use Rattle.mysql_commands.specs.Audit.{Read}
+use Rattle.mysql_commands.specs.Views.{standing_of, sets_of, PayloadJudged}
+use Rattle.mysql_commands.specs.GoingOn.{Held, Fed, Stands, fault_of_rest}
+use Rattle.mysql_commands.specs.Progress.{ReadOne, OneBy}
+use Rattle.mysql_commands.specs.Receiving.{holds, fault_by, refusal_by, StaysOpen}
+use Rattle.mysql_commands.proofs.Looking.{standing_after_nil, standing_after_append}
+use Rattle.mysql_commands.proofs.Auditing.{read_append, one_read, read_longer, faulty_from}
+use Rattle.mysql_commands.proofs.Splits.{some_split, bytes_append, bytes_behind, each_stays}
+
+pub reads_first : (c : Conversation) (s : Standing) (n : ℕ) (payload : List ℕ) (sets : List Set) → n < 2 ^ 64 - 1 → PayloadReadsAs c s payload sets → ReadsAs c s n [] payload sets
+reads_first c s n payload sets few h = (omega arith, subst (λ (st : Standing). PayloadReadsAs c st payload sets) (sym (standing_after_nil c s)) h)
+
+pub fails_first : (c : Conversation) (old new : Progress) (payload : List ℕ) (r : Refusal) → old.count < 2 ^ 64 - 1 → PayloadJudged c (standing_of old.standing) payload (Err r) → OneBy c old payload new (Err r)
+fails_first c old new payload refusal.Memory few h = tt
+fails_first c old new payload (refusal.Fault f) few h = inr (omega arith, subst (λ (st : Standing). PayloadFaulty c st payload f) (sym (standing_after_nil c (standing_of old.standing))) h)
+
+-- so many payloads of the bytes were handed out, and they were read
+pub record Behind (c : Conversation) (limit : ℕ) (old : Progress) (bytes : List ℕ) (codec : Codec) (src packet : List ℕ) (now : Progress) : Type 0 where
+  pub payloads : List (List ℕ)
+  pub taken : HasRead limit EachFromZero bytes payloads codec src packet
+  pub reads : List (List Set)
+  pub each : Read c (standing_of old.standing) old.count payloads reads
+  pub all : length reads ≡ length payloads
+  pub sets : sets_of now.sets.items ≡ sets_of old.sets.items ++ flat_map (λ sets. sets) reads
+  pub count : now.count ≡ old.count + length reads
+  pub standing : standing_of now.standing ≡ standing_after c (standing_of old.standing) payloads
+
+module _ (c : Conversation) (limit : ℕ) (old : Progress) (bytes : List ℕ) where
+  pub behind_none : (codec : Codec) (src packet : List ℕ) → HasRead limit EachFromZero bytes [] codec src packet → Behind c limit old bytes codec src packet old
+  behind_none codec src packet h =
+      record {
+        payloads = [];
+        taken = h;
+        reads = [];
+        each = record { there = omega arith; each = λ i lt. absurd (omega arith) };
+        all = refl;
+        sets = sym (append-nil (sets_of old.sets.items));
+        count = omega arith;
+        standing = sym (standing_after_nil c (standing_of old.standing));
+      }
+
+  -- the next payload reads
+  next_read : (codec : Codec) (src packet payload : List ℕ) (mid new : Progress) (b : Behind c limit old bytes codec src packet mid) (one : ReadOne c mid payload new)
+      → Read c (standing_after c (standing_of old.standing) b.payloads) (old.count + length b.payloads) (payload ∷ []) (one.sets ∷ [])
+  next_read codec src packet payload mid new b one =
+      one_read c (standing_after c (standing_of old.standing) b.payloads) (old.count + length b.payloads) payload one.sets
+      (subst (λ (k : ℕ). ReadsAs c (standing_after c (standing_of old.standing) b.payloads) k [] payload one.sets) (omega (arith, b.count, b.all))
+      (subst (λ (st : Standing). ReadsAs c st mid.count [] payload one.sets) b.standing one.reads))
+
+  pub behind_more : (codec : Codec) (src packet : List ℕ) (next : Codec) (after payload : List ℕ) (mid new : Progress) → Behind c limit old bytes codec src packet mid → HandsOut codec src packet next after payload → ReadOne c mid payload new
+      → Behind c limit old bytes (record next { number = 0 }) after [] new
+  behind_more codec src packet next after payload mid new b h one =
+      record {
+        payloads = b.payloads ++ payload ∷ [];
+        taken = takes_reset limit bytes b.payloads codec src packet next after payload b.taken h;
+        reads = b.reads ++ one.sets ∷ [];
+        each = read_append c (standing_of old.standing) old.count b.payloads (payload ∷ []) b.reads (one.sets ∷ []) b.each b.all (next_read codec src packet payload mid new b one);
+        all = omega (arith, b.all, length-append b.reads (one.sets ∷ []), length-append b.payloads (payload ∷ []));
+        sets = one.more ∙ ap (λ (l : List Set). l ++ one.sets) b.sets ∙ append_assoc (sets_of old.sets.items) (flat_map (λ sets. sets) b.reads) one.sets
+            ∙ ap (λ (l : List Set). sets_of old.sets.items ++ l) (ap (λ (l : List Set). flat_map (λ sets. sets) b.reads ++ l) (sym (append-nil one.sets)) ∙ sym (flat_map-append (λ sets. sets) b.reads (one.sets ∷ [])));
+        count = omega (arith, one.count, b.count, length-append b.reads (one.sets ∷ []));
+        standing = one.standing ∙ ap (λ (st : Standing). standing_after c st (payload ∷ [])) b.standing
+            ∙ sym (standing_after_append c (standing_of old.standing) b.payloads (payload ∷ []));
+      }
+
+  -- the split where what is held is a rest
+  here : (codec : Codec) (src packet : List ℕ) (mid : Progress) (b : Behind c limit old bytes codec src packet mid) (rest : Rest) → IsRest codec.limit (packet_number codec packet) (held codec src packet) rest
+      → IsSplit limit EachFromZero bytes (record { payloads = b.payloads; rest_bytes = held codec src packet; rest = rest })
+  here codec src packet mid b rest e = record {
+    joined = b.taken.joined;
+    within = b.taken.within;
+    ends = subst (λ k. IsRest limit k (held codec src packet) rest) b.taken.number (subst (λ k. IsRest k (packet_number codec packet) (held codec src packet) rest) b.taken.limit_same e);
+  }
+
+  no_fault_of : (rest : Rest) → ¬ IsFault rest → None ≡ fault_of_rest rest
+  no_fault_of EmptyRest n = refl
+  no_fault_of OpenRest n = refl
+  no_fault_of TooLargeRest n = absurd (n tt)
+  no_fault_of OutOfSyncRest n = absurd (n tt)
+
+  -- the codec waits for more bytes
+  pub waits_fed : (codec : Codec) (src packet : List ℕ) (next : Codec) (after front : List ℕ) (now : Progress) → Behind c limit old bytes codec src packet now → Waits codec src packet next after front
+      → Fed c limit (holds old [] None) bytes (holds now (held next after front) None)
+  waits_fed codec src packet next after front now b w =
+      record {
+        split = record { payloads = b.payloads; rest_bytes = held codec src packet; rest = w.rest };
+        is_split = here codec src packet now b w.rest w.is_rest;
+        reads = b.reads;
+        each = b.each;
+        sets = b.sets;
+        count = b.count;
+        stands = inr (inr (b.all, no_fault_of w.rest w.no_fault, λ e. (w.held_same, b.standing)));
+      }
+
+  pub waits_open : (codec : Codec) (src packet : List ℕ) (next : Codec) (after front : List ℕ) (now : Progress) → AreBytes bytes → Behind c limit old bytes codec src packet now → Waits codec src packet next after front
+      → StaysOpen next after front
+  waits_open codec src packet next after front now are b w =
+      let number : packet_number codec packet ≡ 0 = b.taken.number ∙ ap first_number (each_stays b.payloads) in
+      record {
+        reading = record {
+          joined = refl;
+          within = tt;
+          number = w.number ∙ number;
+          limit_same = refl;
+          refused = w.refused;
+          goes_on = w.goes_on;
+        };
+        bytes = bytes_behind (framings b.payloads EachFromZero) (held next after front) bytes (b.taken.joined ∙ ap (λ k. framings b.payloads EachFromZero ++ k) (sym w.held_same)) are;
+        rest = w.rest;
+        no_fault = w.no_fault;
+        is_rest = subst (λ n. IsRest n 0 (held next after front) w.rest) (sym w.limit)
+            (subst (λ n. IsRest codec.limit n (held next after front) w.rest) number (subst (λ l. IsRest codec.limit (packet_number codec packet) l w.rest) (sym w.held_same) w.is_rest));
+      }
+
+  -- want of memory
+  pub memory_fed : (codec : Codec) (src packet partial : List ℕ) (mid now : Progress) → AreBytes bytes → Behind c limit old bytes codec src packet mid → sets_of now.sets.items ≡ sets_of mid.sets.items → now.count ≡ mid.count
+      → Fed c limit (holds old [] None) bytes (holds now partial (Some Memory))
+  memory_fed codec src packet partial mid now are b sets count =
+      let s = some_split limit bytes are in
+      let f = framed_come_first limit EachFromZero b.payloads bytes (held codec src packet) s.0 b.taken.within b.taken.joined s.1 in
+      record {
+        split = s.0;
+        is_split = s.1;
+        reads = b.reads;
+        each = subst (λ (l : List (List ℕ)). Read c (standing_of old.standing) old.count l b.reads) (sym f.1) (read_longer c (standing_of old.standing) old.count b.payloads f.0 b.reads b.each);
+        sets = sets ∙ b.sets;
+        count = count ∙ b.count;
+        stands = inr (inl refl);
+      }
+
+  -- the codec refuses
+  pub refused_fed : (codec next : Codec) (src packet partial : List ℕ) (error : PacketCodecError) (now : Progress) → AreBytes bytes → Behind c limit old bytes codec src packet now → RefusesBy codec src packet next error
+      → Fed c limit (holds old [] None) bytes (holds now partial (fault_by (Err (refusal_by error))))
+  refused_fed codec next src packet partial error now are b r =
+      subst (λ (e : PacketCodecError). Fed c limit (holds old [] None) bytes (holds now partial (fault_by (Err (refusal_by e))))) (sym r.answered) (by r.refusal (r.due b.taken.refused))
+    where
+      by : (x : CodecRefusal) → IsDue codec src packet x → Fed c limit (holds old [] None) bytes (holds now partial (fault_by (Err (refusal_by (error_of x)))))
+      by codec_refusal.TooLarge due =
+          record {
+            split = record { payloads = b.payloads; rest_bytes = held codec src packet; rest = TooLargeRest };
+            is_split = here codec src packet now b TooLargeRest due;
+            reads = b.reads;
+            each = b.each;
+            sets = b.sets;
+            count = b.count;
+            stands = inr (inr (b.all, refl, λ e. absurd cc));
+          }
+      by codec_refusal.OutOfSync due =
+          record {
+            split = record { payloads = b.payloads; rest_bytes = held codec src packet; rest = OutOfSyncRest };
+            is_split = here codec src packet now b OutOfSyncRest due;
+            reads = b.reads;
+            each = b.each;
+            sets = b.sets;
+            count = b.count;
+            stands = inr (inr (b.all, refl, λ e. absurd cc));
+          }
+      by codec_refusal.Memory due = memory_fed codec src packet partial now now are b refl refl
+
+  -- a payload is refused
+  pub payload_fed : (codec : Codec) (src packet : List ℕ) (next : Codec) (after payload partial : List ℕ) (mid now : Progress) (r : Refusal) → AreBytes bytes → Behind c limit old bytes codec src packet mid → HandsOut codec src packet next after payload
+      → OneBy c mid payload now (Err r) → sets_of now.sets.items ≡ sets_of mid.sets.items → now.count ≡ mid.count
+      → Fed c limit (holds old [] None) bytes (holds now partial (fault_by (Err r)))
+  payload_fed codec src packet next after payload partial mid now refusal.Memory are b h one sets count = memory_fed codec src packet partial mid now are b sets count
+  payload_fed codec src packet next after payload partial mid now (refusal.Fault f) are b h one sets count =
+      let s = some_split limit bytes are in
+      let taken = takes_reset limit bytes b.payloads codec src packet next after payload b.taken h in
+      let found = framed_come_first limit EachFromZero (b.payloads ++ payload ∷ []) bytes (held (record next { number = 0 }) after []) s.0 taken.within taken.joined s.1 in
+      let is : s.0.payloads ≡ b.payloads ++ (payload ∷ found.0) = found.1 ∙ append_assoc b.payloads (payload ∷ []) found.0 in
+      let moved : Faulty c (standing_after c (standing_of old.standing) b.payloads) (old.count + length b.payloads) [] payload f =
+      subst (λ (k : ℕ). Faulty c (standing_after c (standing_of old.standing) b.payloads) k [] payload f) (omega (arith, b.count, b.all))
+      (subst (λ (st : Standing). Faulty c st mid.count [] payload f) b.standing one) in
+      let here_it_is : Faulty c (standing_of old.standing) old.count b.payloads payload f =
+      subst (λ (l : List (List ℕ)). Faulty c (standing_of old.standing) old.count l payload f) (append-nil b.payloads)
+      (faulty_from c (standing_of old.standing) old.count b.payloads [] payload f moved) in
+      let front : take (length b.reads) s.0.payloads ≡ b.payloads = ap (λ (n : ℕ). take n s.0.payloads) b.all ∙ ap (λ (l : List (List ℕ)). take (length b.payloads) l) is ∙ take-append_seam b.payloads (payload ∷ found.0) in
+      let at : get_or s.0.payloads (length b.reads) [] ≡ payload =
+      ap (λ (l : List (List ℕ)). get_or l (length b.reads) []) is ∙ ap (λ (n : ℕ). get_or (b.payloads ++ (payload ∷ found.0)) n []) (b.all ∙ omega arith) ∙ get_or-append-add b.payloads (payload ∷ found.0) 0 [] in
+      record {
+        split = s.0;
+        is_split = s.1;
+        reads = b.reads;
+        each = subst (λ (l : List (List ℕ)). Read c (standing_of old.standing) old.count l b.reads) (sym is) (read_longer c (standing_of old.standing) old.count b.payloads (payload ∷ found.0) b.reads b.each);
+        sets = sets ∙ b.sets;
+        count = count ∙ b.count;
+        stands = inl (
+          f,
+          omega (arith, ap length is, b.all, length-append b.payloads (payload ∷ found.0)),
+          subst (λ (p : List ℕ). Faulty c (standing_of old.standing) old.count (take (length b.reads) s.0.payloads) p f) (sym at)
+              (subst (λ (l : List (List ℕ)). Faulty c (standing_of old.standing) old.count l payload f) (sym front) here_it_is),
+          refl,
+        );
+      }
+
+-- what is held behind a payload that was handed out
+pub taken_held : (codec : Codec) (src packet : List ℕ) (next : Codec) (after payload front : List ℕ) → HandsOut codec src packet next after payload → front ≡ [] → held (record next { number = 0 }) after front ≡ after
+taken_held codec src packet next after payload front h empty = held_between (record next { number = 0 }) after front h.between.0 empty
+
+pub taken_smaller : (codec : Codec) (src packet : List ℕ) (next : Codec) (after payload front : List ℕ) → HandsOut codec src packet next after payload → front ≡ []
+    → length (held (record next { number = 0 }) after front) < length (held codec src packet)
+taken_smaller codec src packet next after payload front h empty =
+    omega (arith, ap length (taken_held codec src packet next after payload front h empty), ap length h.framed, framing_length payload after (packet_number codec packet))
+
+not_not : (b : Bool) → not (not b) ≡ b
+not_not true = refl
+not_not false = refl
+
+-- whether a packet was begun, by what is left
+pub still_begun : (bytes after : List ℕ) (n : ℕ) → bytes ≡ after → n ≡ length after → (length bytes == 0) ≡ not (not (n == 0))
+still_begun bytes after n e m = ap (λ (l : List ℕ). length l == 0) e ∙ ap (λ (k : ℕ). k == 0) (sym m) ∙ sym (not_not (n == 0))
+
+pub piece_begins : (old piece bytes : List ℕ) (b : Bool) → bytes ≡ old ++ piece → (length old == 0) ≡ not b → (length bytes == 0) ≡ not (b || not (length piece == 0))
+piece_begins old piece bytes b e h = ap (λ (l : List ℕ). length l == 0) e ∙ by old piece b h
+  where
+    by : (old piece : List ℕ) (b : Bool) → (length old == 0) ≡ not b → (length (old ++ piece) == 0) ≡ not (b || not (length piece == 0))
+    by [] piece false h = sym (not_not (length piece == 0))
+    by [] piece true h = absurd cc
+    by (x ∷ xs) piece true h = ne_eqb (length (x ∷ (xs ++ piece))) 0 (λ z. omega (arith, z))
+    by (x ∷ xs) piece false h = let z = ne_eqb (length (x ∷ xs)) 0 (λ z. omega (arith, z)) in absurd cc
+
+-- behind a fault it doesn't count what is still held
+pub fed_partial : (c : Conversation) (limit : ℕ) (old : Held) (piece : List ℕ) (now : Progress) (x y : List ℕ) (r : Refusal) → Fed c limit old piece (holds now x (fault_by (Err r))) → Fed c limit old piece (holds now y (fault_by (Err r)))
+fed_partial c limit old piece now x y r h = record { split = h.split; is_split = h.is_split; reads = h.reads; each = h.each; sets = h.sets; count = h.count; stands = by h.stands }
+  where
+    by : Stands c old h.split (length h.reads) (holds now x (fault_by (Err r))) → Stands c old h.split (length h.reads) (holds now y (fault_by (Err r)))
+    by (inl k) = inl k
+    by (inr (inl k)) = inr (inl k)
+    by (inr (inr k)) = inr (inr (k.0, k.1, λ e. absurd cc))
+
+-- a piece comes behind what is held
+module _ (codec : Codec) (header packet piece src : List ℕ) (e : src ≡ header ++ piece) where
+  pub is_held : held codec src packet ≡ held codec header packet ++ piece
+  is_held = ap (λ (l : List ℕ). held codec l packet) e ∙ held_more codec header packet piece
+
+  pub piece_reads : HasRead codec.limit EachFromZero (held codec header packet) [] codec header packet → HasRead codec.limit EachFromZero (held codec src packet) [] codec src packet
+  piece_reads h =
+      subst (λ (l : List ℕ). HasRead codec.limit EachFromZero (held codec l packet) [] codec l packet) (sym e)
+      (subst (λ (l : List ℕ). HasRead codec.limit EachFromZero l [] codec (header ++ piece) packet) (sym (held_more codec header packet piece))
+      (feeds codec.limit EachFromZero (held codec header packet) [] codec header packet piece h))
+
+  pub piece_bytes : AreBytes (held codec header packet) → AreBytes piece → AreBytes (held codec src packet)
+  piece_bytes p q = subst AreBytes (sym is_held) (bytes_append (held codec header packet) piece p q)
+
+  -- what was held before the piece and the piece are one list of bytes
+  pub piece_fed : (c : Conversation) (limit : ℕ) (old : Progress) (new : Held) → Fed c limit (holds old [] None) (held codec src packet) new → Fed c limit (holds old (held codec header packet) None) piece new
+  piece_fed c limit old new h =
+      record { split = h.split; is_split = subst (λ (l : List ℕ). IsSplit limit EachFromZero l h.split) is_held h.is_split; reads = h.reads; each = h.each; sets = h.sets; count = h.count; stands = h.stands }

@@ -1,0 +1,10 @@
+use Rattle.std.proofs.Common.{◌≡◌, drop}
+use Rattle.mysql_commands.specs.Reading.{set_at}
+use Rattle.mysql_commands.specs.Views.{piece_kept}
+use Rattle.mysql_commands.proofs.Loops.{behind}
+use Rattle.mysql_commands.proofs.reading.whole_set.Given as goal
+
+abbrev pub invariant-loop-place : goal.invariant-loop-place
+invariant-loop-place l =
+    behind (l.set.items) (set_at (piece_kept l.standing.pieces.items) l.nulls l.place (drop l.place l.types) l.rest)
+    ≡ set_at (piece_kept l.standing.pieces.items) l.nulls 0 l.types l.cells

@@ -1,0 +1,80 @@
+-- What a stream of commands says: its parameter sets, and how it ends.
+-- MySQL: Client/Server Protocol, "MySQL Packets" and "Command Phase".
+use Rattle.std.specs.Prelude.{◌≡◌, ℕ, ◌+◌, ◌<◌, ◌≤◌, ◌⊎◌, List, [], length, take, slice_index_or, if◌then◌else◌}
+use Rattle.std.specs.List.{flat_map}
+use Rattle.mysql_commands.specs.declared.fault.StreamFault.{StreamFault}
+use Rattle.mysql_commands.specs.declared.fault.StreamFault.TheVariants.{TooLarge, OutOfSync, Memory}
+use Rattle.mysql_commands.specs.declared.audit.End.{End}
+use Rattle.mysql_commands.specs.declared.audit.End.TheVariants.{Fault, WaitingPieces, UnfinishedPacket, Whole}
+use Rattle.mysql_commands.specs.Query.{IsQuery}
+use Rattle.mysql_commands.specs.Layout.{Conversation}
+use Rattle.mysql_commands.specs.InForce.{Standing, nothing_yet, standing_after, is_waiting}
+use Rattle.mysql_commands.specs.Reading.{Set, ReadsAs, Faulty}
+use Rattle.mysql_wire.specs.Stream.{Rest, Split, IsSplit}
+use Rattle.mysql_wire.specs.Stream.Rest.{Empty as EmptyRest, TooLarge as TooLargeRest, OutOfSync as OutOfSyncRest, Open as OpenRest}
+use Rattle.mysql_wire.specs.Stream.Numbering.{EachFromZero}
+
+pub record Audit : Type 0 where
+  pub sets : List Set
+  pub ending : End
+
+-- the end where no payload is faulty: by the rest, and by the pieces that wait
+abbrev pub end_by_rest : Conversation → Standing → ℕ → Rest → End
+end_by_rest c s count TooLargeRest = Fault count TooLarge
+end_by_rest c s count OutOfSyncRest = Fault count OutOfSync
+end_by_rest c s count OpenRest = if is_waiting c s then WaitingPieces else UnfinishedPacket
+end_by_rest c s count EmptyRest = if is_waiting c s then WaitingPieces else Whole
+
+-- The payloads read as these, one after another, each by what is in force there. The first of them has the number first.
+pub record Read (c : Conversation) (s : Standing) (first : ℕ) (payloads : List (List ℕ)) (reads : List (List Set)) : Type 0 where
+  pub there : length reads ≤ length payloads
+  pub each : (i : ℕ) → i < length reads → ReadsAs c s first (take i payloads) (slice_index_or payloads i []) (slice_index_or reads i [])
+
+-- Behind so many payloads that were read comes the fault of the next one, or none comes and the rest decides.
+abbrev pub Ends : Conversation → Standing → ℕ → List (List ℕ) → Rest → ℕ → End → Type 0
+Ends c s first payloads rest n ending =
+    ((f : StreamFault) × (n < length payloads) × Faulty c s first (take n payloads) (slice_index_or payloads n []) f × (ending ≡ Fault (first + n) f))
+    ⊎ ((n ≡ length payloads) × (ending ≡ end_by_rest c (standing_after c s payloads) (first + n) rest))
+
+-- The audit of payloads and a rest, from a standing on: the sets of all payloads before the least faulty one, and the end.
+pub record Audits (c : Conversation) (s : Standing) (first : ℕ) (payloads : List (List ℕ)) (rest : Rest) (audit : Audit) : Type 0 where
+  pub reads : List (List Set)
+  pub each : Read c s first payloads reads
+  pub sets : audit.sets ≡ flat_map (λ sets. sets) reads
+  pub ending : Ends c s first payloads rest (length reads) audit.ending
+
+-- Want of memory stopped the reading: the sets of the first payloads, as many as the end counts.
+pub record Stopped (c : Conversation) (s : Standing) (first : ℕ) (payloads : List (List ℕ)) (audit : Audit) : Type 0 where
+  pub reads : List (List Set)
+  pub each : Read c s first payloads reads
+  pub sets : audit.sets ≡ flat_map (λ sets. sets) reads
+  pub ending : audit.ending ≡ Fault (first + length reads) Memory
+
+-- the audit of a whole stream of commands
+abbrev pub Audited : Conversation → ℕ → List ℕ → Audit → Type 0
+Audited c limit bytes audit = (split : Split) × IsSplit limit EachFromZero bytes split × Audits c nothing_yet 0 split.payloads split.rest audit
+
+-- as much of it as was read before memory ran out
+abbrev pub OutOfMemory : Conversation → ℕ → List ℕ → Audit → Type 0
+OutOfMemory c limit bytes audit = (split : Split) × IsSplit limit EachFromZero bytes split × Stopped c nothing_yet 0 split.payloads audit
+
+-- an end that is no fault
+abbrev pub IsNoFault : End → Type 0
+IsNoFault (Fault n f) = ⊥
+IsNoFault WaitingPieces = Unit {0}
+IsNoFault UnfinishedPacket = Unit {0}
+IsNoFault Whole = Unit {0}
+
+-- the conversation is about this query, and its statement has this id
+pub record IsAbout (c : Conversation) (query : List ℕ) (id : ℕ) : Type 0 where
+  pub is_query : IsQuery c.query
+  pub text : c.query.text ≡ query
+  pub id_is : c.id ≡ id
+
+-- The audit of a stream of commands: what the bytes say of the query's parameter sets, with packets up to the limit.
+abbrev pub AuditOf : List ℕ → ℕ → ℕ → List ℕ → Audit → Type 0
+AuditOf query id limit bytes audit = (c : Conversation) × IsAbout c query id × Audited c limit bytes audit
+
+-- the sets of the stream's first payloads, as many as the end counts, where memory ran out behind them
+abbrev pub OutOfMemoryIn : List ℕ → ℕ → ℕ → List ℕ → Audit → Type 0
+OutOfMemoryIn query id limit bytes audit = (c : Conversation) × IsAbout c query id × OutOfMemory c limit bytes audit

@@ -1,0 +1,71 @@
+-- What a receiver holds in place of the bytes that it was fed, and what that decides over the bytes still to come.
+-- MySQL: Client/Server Protocol, "MySQL Packets" and "Command Phase".
+use Rattle.std.specs.Prelude.{◌≡◌, ℕ, ◌+◌, ◌<◌, ◌⊎◌, List, [], ◌++◌, length, take, slice_index_or, Option, Some, None}
+use Rattle.std.specs.List.{flat_map}
+use Rattle.mysql_commands.specs.declared.fault.StreamFault.{StreamFault}
+use Rattle.mysql_commands.specs.declared.fault.StreamFault.TheVariants.{Memory, TooLarge, OutOfSync}
+use Rattle.mysql_commands.specs.Layout.{Conversation}
+use Rattle.mysql_commands.specs.InForce.{Standing, nothing_yet, standing_after}
+use Rattle.mysql_commands.specs.Reading.{Set, Faulty}
+use Rattle.mysql_wire.specs.Laws.{AreBytes}
+use Rattle.mysql_wire.specs.Stream.{Rest, Split, IsSplit}
+use Rattle.mysql_wire.specs.Stream.Rest.{Empty as EmptyRest, TooLarge as TooLargeRest, OutOfSync as OutOfSyncRest, Open as OpenRest}
+use Rattle.mysql_wire.specs.Stream.Numbering.{EachFromZero}
+use Rattle.mysql_commands.specs.Audit.{Audit, Audits, Stopped, Read}
+use Rattle.mysql_commands.specs.declared.audit.End.TheVariants as ends
+
+-- the payloads read, what is in force behind them, the bytes of the packet that isn't whole, the sets so far, the fault
+pub record Held : Type 0 where
+  pub count : ℕ
+  pub standing : Standing
+  pub partial : List ℕ
+  pub sets : List Set
+  pub fault : Option StreamFault
+
+-- what a receiver holds when it is new
+abbrev pub held_at_start : Held
+held_at_start = record { count = 0; standing = nothing_yet; partial = []; sets = []; fault = None }
+
+-- the audit, or as much of it as is read before memory runs out
+abbrev pub AnswersFrom : Conversation → Standing → ℕ → List (List ℕ) → Rest → Audit → Type 0
+AnswersFrom c s first payloads rest a = Audits c s first payloads rest a ⊎ Stopped c s first payloads a
+
+-- The audit that is decided over the bytes still to come: that of the fault, else the sets so far and the answer, from
+-- the standing on, over the open bytes with those to come.
+abbrev pub DecidesBy : Conversation → ℕ → Held → Option StreamFault → List ℕ → Audit → Type 0
+DecidesBy c limit held (Some f) z a = (a.sets ≡ held.sets) × (a.ending ≡ ends.Fault held.count f)
+DecidesBy c limit held None z a =
+    (split : Split) × (sets : List Set) × IsSplit limit EachFromZero (held.partial ++ z) split
+    × (a.sets ≡ held.sets ++ sets) × AnswersFrom c held.standing held.count split.payloads split.rest (record { sets = sets; ending = a.ending })
+
+abbrev pub Decides : Conversation → ℕ → Held → List ℕ → Audit → Type 0
+Decides c limit held z a = DecidesBy c limit held held.fault z a
+
+-- What the one decides over bytes still to come, the other decides over the piece and them.
+abbrev pub GoesOn : Conversation → ℕ → Held → List ℕ → Held → Type 0
+GoesOn c limit old piece new = (z : List ℕ) (a : Audit) → AreBytes z → Decides c limit new z a → Decides c limit old (piece ++ z) a
+
+-- how a rest decides the fault: none, where bytes to come can still make it whole
+abbrev pub fault_of_rest : Rest → Option StreamFault
+fault_of_rest EmptyRest = None
+fault_of_rest OpenRest = None
+fault_of_rest TooLargeRest = Some TooLarge
+fault_of_rest OutOfSyncRest = Some OutOfSync
+
+-- why a reading of payloads ended behind the first of them: by the fault of the next, for want of memory, or all are read and the rest decides
+abbrev pub Stands : Conversation → Held → Split → ℕ → Held → Type 0
+Stands c old split n new =
+    ((f : StreamFault) × (n < length split.payloads) × Faulty c old.standing old.count (take n split.payloads) (slice_index_or split.payloads n []) f × (new.fault ≡ Some f))
+    ⊎ (new.fault ≡ Some Memory)
+    ⊎ ((n ≡ length split.payloads) × (new.fault ≡ fault_of_rest split.rest)
+    × (new.fault ≡ None → (new.partial ≡ split.rest_bytes) × (new.standing ≡ standing_after c old.standing split.payloads)))
+
+-- What is held after a piece, where no fault was held before it: the sets of the payloads that were read, and why no more.
+pub record Fed (c : Conversation) (limit : ℕ) (old : Held) (piece : List ℕ) (new : Held) : Type 0 where
+  pub split : Split
+  pub is_split : IsSplit limit EachFromZero (old.partial ++ piece) split
+  pub reads : List (List Set)
+  pub each : Read c old.standing old.count split.payloads reads
+  pub sets : new.sets ≡ old.sets ++ flat_map (λ sets. sets) reads
+  pub count : new.count ≡ old.count + length reads
+  pub stands : Stands c old split (length reads) new

@@ -1,0 +1,32 @@
+-- What a receiver's fields stand for, and what is true of them.
+-- MySQL: Client/Server Protocol, "Command Phase".
+use Rattle.std.specs.Prelude.{◌≡◌, ℕ, List, Option, None, map}
+use Rattle.std.specs.Global.{Vec}
+use Rattle.std.specs.Option.{option_map}
+use Rattle.mysql_commands.specs.declared.receiver.Receiver.TheInside.{Inside}
+use Rattle.mysql_commands.specs.Query.{IsQuery}
+use Rattle.mysql_commands.specs.Views.{conversation_of, types_kept, sets_of}
+use Rattle.mysql_commands.specs.Receiving.{partial_of, IsOpen}
+use Rattle.mysql_commands.specs.Received.{Received}
+
+abbrev pub pieces_of : List (Option (Vec ℕ)) → List (Option (List ℕ))
+pieces_of pieces = map (λ piece. option_map (λ bytes. bytes.items) piece) pieces
+
+abbrev pub received_of : Inside → Received
+received_of r =
+    record {
+      conversation = conversation_of r.conversation;
+      limit = r.incoming.codec.limit;
+      count = r.progress.count;
+      prepared = r.progress.standing.prepared;
+      types = types_kept r.progress.standing.types;
+      pieces = pieces_of r.progress.standing.pieces.items;
+      partial = partial_of r.incoming;
+      sets = sets_of r.progress.sets.items;
+      fault = r.fault;
+    }
+
+-- the conversation is about its query; where no fault is held, bytes to come can make what is held of a packet whole
+pub record IsKept (r : Inside) : Type 0 where
+  pub query : IsQuery (conversation_of r.conversation).query
+  pub stays : r.fault ≡ None → IsOpen r.incoming

@@ -1,0 +1,93 @@
+-- The laws of reading a command stream.
+-- MySQL: Client/Server Protocol, "MySQL Packets" and "Command Phase".
+use Rattle.std.specs.Prelude.{◌≡◌, ◌⊎◌, ℕ, ◌+◌, ◌<◌, ◌≤◌, ◌^◌, List, ◌∷◌, ◌++◌, length, take, Option, Some, None}
+use Rattle.std.specs.List.{All, AllByRecursion, flat_map, concat}
+use Rattle.mysql_commands.specs.declared.fault.StreamFault.{StreamFault}
+use Rattle.mysql_commands.specs.Query.{IsQuery}
+use Rattle.mysql_commands.specs.Layout.{Conversation, Types}
+use Rattle.mysql_commands.specs.InForce.{Standing, nothing_yet, standing_after, last_said}
+use Rattle.mysql_commands.specs.Reading.{Set, ReadsAs, Faulty}
+use Rattle.mysql_wire.specs.Laws.{AreBytes}
+use Rattle.mysql_wire.specs.Stream.{Rest, StandWhole, framings}
+use Rattle.mysql_wire.specs.Stream.Numbering.{EachFromZero}
+use Rattle.mysql_commands.specs.declared.audit.End.TheVariants.{Whole}
+use Rattle.mysql_commands.specs.Audit.{Audit, Read, Audits, Audited, AuditOf, OutOfMemory, IsNoFault}
+use Rattle.mysql_commands.specs.GoingOn.{Held, held_at_start, Decides, GoesOn, Fed}
+
+-- what is in force behind two lists of payloads is what is in force behind the second, from the first on
+abbrev pub LookingBackGoesOn : Type 0
+LookingBackGoesOn = (c : Conversation) (s : Standing) (xs ys : List (List ℕ)) → standing_after c s (xs ++ ys) ≡ standing_after c (standing_after c s xs) ys
+
+-- a payload that says something, with none behind it that says anything, decides
+abbrev pub LastWordCounts : Type 0
+LastWordCounts =
+    (says : List ℕ → Option (Option Types)) (before word : Option Types) (earlier later : List (List ℕ)) (payload : List ℕ)
+    → says payload ≡ Some word → All (λ other. says other ≡ None) later → last_said says before (earlier ++ payload ∷ later) ≡ word
+
+-- A payload reads as one list of sets and has no fault, or has one fault and reads as nothing.
+pub record IsJudged (c : Conversation) (s : Standing) (first : ℕ) (earlier : List (List ℕ)) (payload : List ℕ) : Type 0 where
+  pub judged : ((sets : List Set) × ReadsAs c s first earlier payload sets) ⊎ ((f : StreamFault) × Faulty c s first earlier payload f)
+  pub not_both : (sets : List Set) (f : StreamFault) → ReadsAs c s first earlier payload sets → Faulty c s first earlier payload f → ⊥
+  pub sets_one : (xs ys : List Set) → ReadsAs c s first earlier payload xs → ReadsAs c s first earlier payload ys → xs ≡ ys
+  pub fault_one : (f g : StreamFault) → Faulty c s first earlier payload f → Faulty c s first earlier payload g → f ≡ g
+
+abbrev pub EachPayloadIsJudged : Type 0
+EachPayloadIsJudged = (c : Conversation) (s : Standing) (first : ℕ) (earlier : List (List ℕ)) (payload : List ℕ) → IsQuery c.query → IsJudged c s first earlier payload
+
+-- Of any payloads and rest, from any standing on, there is an audit, and no other.
+abbrev pub ThereIsOneAudit : Type 0
+ThereIsOneAudit =
+    (c : Conversation) (s : Standing) (first : ℕ) (payloads : List (List ℕ)) (rest : Rest) → IsQuery c.query
+    → (a : Audit) × Audits c s first payloads rest a × ((b : Audit) → Audits c s first payloads rest b → b ≡ a)
+
+-- Behind payloads that all read, the audit goes on from the standing that they leave.
+abbrev pub AuditGoesOn : Type 0
+AuditGoesOn =
+    (c : Conversation) (s : Standing) (first : ℕ) (xs ys : List (List ℕ)) (rest : Rest) (reads : List (List Set)) (a : Audit)
+    → Read c s first xs reads → length reads ≡ length xs → Audits c (standing_after c s xs) (first + length xs) ys rest a
+    → Audits c s first (xs ++ ys) rest (record { sets = flat_map (λ sets. sets) reads ++ a.sets; ending = a.ending })
+
+-- Of any bytes there is an audit, and no other.
+abbrev pub StreamHasOneAudit : Type 0
+StreamHasOneAudit =
+    (c : Conversation) (limit : ℕ) (bytes : List ℕ) → IsQuery c.query → AreBytes bytes
+    → (a : Audit) × Audited c limit bytes a × ((b : Audit) → Audited c limit bytes b → b ≡ a)
+
+-- Two cuttings of the same bytes have equal audits.
+abbrev pub CuttingsAgree : Type 0
+CuttingsAgree =
+    (query : List ℕ) (id limit : ℕ) (pieces others : List (List ℕ)) (a b : Audit) → AreBytes (concat pieces) → concat pieces ≡ concat others
+    → AuditOf query id limit (concat pieces) a → AuditOf query id limit (concat others) b → a ≡ b
+
+-- What a new receiver holds decides the audit of the bytes to come, or as much of it as is read before memory runs out.
+abbrev pub StartDecidesTheAudit : Type 0
+StartDecidesTheAudit =
+    (c : Conversation) (limit : ℕ) (z : List ℕ) (a : Audit)
+    → (Decides c limit held_at_start z a → Audited c limit z a ⊎ OutOfMemory c limit z a) × (Audited c limit z a → Decides c limit held_at_start z a)
+
+-- What is held after a piece decides, over all bytes still to come, what was decided before it over the piece and them.
+abbrev pub FeedingGoesOn : Type 0
+FeedingGoesOn =
+    (c : Conversation) (limit : ℕ) (old new : Held) (piece : List ℕ) → AreBytes (old.partial ++ piece)
+    → old.fault ≡ None → Fed c limit old piece new → GoesOn c limit old piece new
+
+-- Pieces one after another are one piece.
+abbrev pub PiecesGoOn : Type 0
+PiecesGoOn =
+    (c : Conversation) (limit : ℕ) (old mid new : Held) (front back : List ℕ) → AreBytes back
+    → GoesOn c limit old front mid → GoesOn c limit mid back new → GoesOn c limit old (front ++ back) new
+
+-- A front of a stream whose payloads all read has no fault, and the sets of exactly those payloads that stand whole in it.
+abbrev pub FrontsReadOn : Type 0
+FrontsReadOn =
+    (c : Conversation) (limit : ℕ) (payloads : List (List ℕ)) (reads : List (List Set)) (front back : List ℕ) (a : Audit) → IsQuery c.query
+    → AllByRecursion (λ payload. length payload ≤ limit) payloads → framings payloads EachFromZero ≡ front ++ back
+    → Read c nothing_yet 0 payloads reads → length reads ≡ length payloads → Audited c limit front a
+    → (k : ℕ) × StandWhole EachFromZero payloads front k × (a.sets ≡ flat_map (λ sets. sets) (take k reads)) × IsNoFault a.ending
+
+-- Two streams that audit whole, with fewer than 2 ^ 64 payloads together, make one that audits whole, with their sets joined.
+abbrev pub WholeStreamsJoin : Type 0
+WholeStreamsJoin =
+    (c : Conversation) (limit : ℕ) (xs ys : List ℕ) (a b : Audit) (first : Audited c limit xs a) (second : Audited c limit ys b)
+    → length first.0.payloads + length second.0.payloads < 2 ^ 64 → a.ending ≡ Whole → b.ending ≡ Whole
+    → Audited c limit (xs ++ ys) (record { sets = a.sets ++ b.sets; ending = Whole })

@@ -1,0 +1,14 @@
+pub mod Fields
+pub mod Cells
+pub mod Query
+pub mod Layout
+pub mod InForce
+pub mod Reading
+pub mod Audit
+pub mod GoingOn
+pub mod Laws
+pub mod Views
+pub mod Progress
+pub mod Receiving
+pub mod Received
+pub mod Inside

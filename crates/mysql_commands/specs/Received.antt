@@ -1,0 +1,36 @@
+-- What a receiver holds, as plain data.
+-- MySQL: Client/Server Protocol, "Command Phase".
+use Rattle.std.specs.Prelude.{ℕ, Bool, List, Option, slice_get}
+use Rattle.std.specs.Option.{option_and_then}
+use Rattle.mysql_commands.specs.declared.fault.StreamFault.{StreamFault}
+use Rattle.mysql_commands.specs.Layout.{Conversation, Types}
+use Rattle.mysql_commands.specs.Reading.{Set}
+use Rattle.mysql_commands.specs.GoingOn.{Held}
+
+-- the conversation and the limit; the payloads read, what is in force behind them, the bytes of the packet that isn't
+-- whole, the sets so far, the fault
+pub record Received : Type 0 where
+  pub conversation : Conversation
+  pub limit : ℕ
+  pub count : ℕ
+  pub prepared : Bool
+  pub types : Option Types
+  pub pieces : List (Option (List ℕ))
+  pub partial : List ℕ
+  pub sets : List Set
+  pub fault : Option StreamFault
+
+-- the data that waits for a place
+abbrev pub piece_in : List (Option (List ℕ)) → ℕ → Option (List ℕ)
+piece_in pieces place = option_and_then (λ piece. piece) (slice_get pieces place)
+
+-- in place of the bytes that were fed
+abbrev pub held_by : Received → Held
+held_by r =
+    record {
+      count = r.count;
+      standing = record { prepared = r.prepared; types = r.types; pieces = piece_in r.pieces };
+      partial = r.partial;
+      sets = r.sets;
+      fault = r.fault;
+    }

@@ -1,0 +1,78 @@
+-- What a receiver's parts stand for.
+-- MySQL: Client/Server Protocol, "MySQL Packets" and "Command Phase".
+use Rattle.std.specs.Prelude.{◌≡◌, ℕ, Bool, List, [], Option, Some, None, Result, Ok, Err, ◌==◌, if◌then◌else◌, length, not}
+use Rattle.mysql_wire.specs.Laws.{AreBytes}
+use Rattle.mysql_wire.specs.Codec.{Codec, held}
+use Rattle.mysql_wire.specs.Reader.{HasRead}
+use Rattle.mysql_wire.specs.Stream.{Rest, IsRest, IsFault}
+use Rattle.mysql_wire.specs.Stream.Numbering.{EachFromZero}
+use Rattle.mysql_wire.specs.declared.codec.PacketCodecError.{PacketCodecError}
+use Rattle.mysql_wire.specs.declared.codec.PacketCodecError.TheVariants as codec_error
+use Rattle.mysql_commands.specs.declared.fault.StreamFault.{StreamFault}
+use Rattle.mysql_commands.specs.declared.fault.StreamFault.TheVariants.{TooLarge, OutOfSync, Memory}
+use Rattle.mysql_commands.specs.declared.refusal.Refusal.{Refusal}
+use Rattle.mysql_commands.specs.declared.refusal.Refusal.TheVariants as refusal
+use Rattle.mysql_commands.specs.declared.progress.Progress.{Progress}
+use Rattle.mysql_commands.specs.declared.incoming.Incoming.{Incoming}
+use Rattle.mysql_commands.specs.declared.audit.End.{End}
+use Rattle.mysql_commands.specs.declared.audit.End.TheVariants as ends
+use Rattle.mysql_commands.specs.declared.audit.Audit.{Audit as HeldAudit}
+use Rattle.mysql_commands.specs.Audit.{Audit}
+use Rattle.mysql_commands.specs.InForce.{is_waiting}
+use Rattle.mysql_commands.specs.Layout.{Conversation}
+use Rattle.mysql_commands.specs.GoingOn.{Held}
+use Rattle.mysql_commands.specs.Views.{standing_of, sets_of}
+
+-- the bytes that are held of a packet that isn't whole
+abbrev pub partial_of : Incoming → List ℕ
+partial_of incoming = held incoming.codec incoming.header incoming.packet.items
+
+-- what is held begins a packet of a command stream, if it is anything, and bytes to come can still make that whole
+pub record StaysOpen (codec : Codec) (src packet : List ℕ) : Type 0 where
+  pub reading : HasRead codec.limit EachFromZero (held codec src packet) [] codec src packet
+  pub bytes : AreBytes (held codec src packet)
+  pub rest : Rest
+  pub no_fault : ¬ IsFault rest
+  pub is_rest : IsRest codec.limit 0 (held codec src packet) rest
+
+pub record IsOpen (incoming : Incoming) : Type 0 where
+  pub stays : StaysOpen incoming.codec incoming.header incoming.packet.items
+  pub begun : (length (partial_of incoming) == 0) ≡ not incoming.begun
+
+-- the refusal that a codec's error is
+abbrev pub refusal_by : PacketCodecError → Refusal
+refusal_by (codec_error.Io _) = refusal.Memory
+refusal_by codec_error.PacketTooLarge = refusal.Fault TooLarge
+refusal_by codec_error.PacketsOutOfSync = refusal.Fault OutOfSync
+refusal_by codec_error.Memory = refusal.Memory
+
+-- the fault that a refusal is
+abbrev pub fault_from : Refusal → StreamFault
+fault_from refusal.Memory = Memory
+fault_from (refusal.Fault f) = f
+
+-- the fault that a reading ends with
+abbrev pub fault_by : Result (Unit {0}) Refusal → Option StreamFault
+fault_by (Ok done) = None
+fault_by (Err r) = Some (fault_from r)
+
+-- what a progress holds, with these open bytes and this fault
+abbrev pub holds : Progress → List ℕ → Option StreamFault → Held
+holds p partial fault = record { count = p.count; standing = standing_of p.standing; partial = partial; sets = sets_of p.sets.items; fault = fault }
+
+-- the end as things stand: the fault, else by the pieces that wait and by whether a packet was begun
+abbrev pub end_by : Conversation → Held → Bool → Option StreamFault → End
+end_by c h begun (Some f) = ends.Fault h.count f
+end_by c h begun None = if is_waiting c h.standing then ends.WaitingPieces else if begun then ends.UnfinishedPacket else ends.Whole
+
+-- the answer of a feed, by the fault that is held after it
+abbrev pub answer_by : Option StreamFault → Result (Unit {0}) StreamFault
+answer_by None = Ok tt
+answer_by (Some f) = Err f
+
+-- memory didn't run out
+abbrev pub IsMemory : End → Type 0
+IsMemory ending = (count : ℕ) × (ending ≡ ends.Fault count Memory)
+
+abbrev pub audit_of : HeldAudit → Audit
+audit_of a = record { sets = sets_of a.sets.items; ending = a.end }

@@ -1,0 +1,68 @@
+//! Laws of the definitions. Each function has an empty body, or calls the laws below: its contract is the law.
+
+ghost use Rattle.mysql_commands.specs.Laws.{AuditGoesOn, CuttingsAgree, EachPayloadIsJudged, FeedingGoesOn, FrontsReadOn, LastWordCounts, LookingBackGoesOn, PiecesGoOn, StartDecidesTheAudit, StreamHasOneAudit, ThereIsOneAudit, WholeStreamsJoin};
+
+use mysql_wire::laws::fronts_split;
+
+/// Looking back over two lists of payloads, one after the other, is looking back over the second from what is in
+/// force behind the first.
+pub fn looking_back_goes_on()
+    ensures { LookingBackGoesOn }
+{}
+
+/// The types in force are those of the last payload that speaks of types.
+pub fn last_word_counts()
+    ensures { LastWordCounts }
+{}
+
+/// Each payload reads as one list of sets or has one fault, and never both.
+pub fn each_payload_is_judged()
+    ensures { EachPayloadIsJudged }
+{}
+
+/// There is exactly one audit of any payloads and rest, from any standing on.
+pub fn there_is_one_audit()
+    ensures { ThereIsOneAudit }
+{}
+
+/// Behind payloads that all read, the audit goes on from the standing that they leave.
+pub fn audit_goes_on()
+    ensures { AuditGoesOn }
+{}
+
+/// There is exactly one audit of any bytes.
+pub fn stream_has_one_audit()
+    ensures { StreamHasOneAudit }
+{}
+
+/// Two cuttings of the same bytes have equal audits.
+pub fn cuttings_agree()
+    ensures { CuttingsAgree }
+{}
+
+/// What a new receiver holds decides the audit of the bytes to come.
+pub fn start_decides_the_audit()
+    ensures { StartDecidesTheAudit }
+{}
+
+/// What is held after a piece decides what was decided before it over the piece and the bytes still to come.
+pub fn feeding_goes_on()
+    ensures { FeedingGoesOn }
+{}
+
+/// Pieces one after another are one piece.
+pub fn pieces_go_on()
+    ensures { PiecesGoOn }
+{}
+
+/// A stream that is cut off has no fault, and the sets of the payloads that stand whole.
+pub fn fronts_read_on()
+    ensures { FrontsReadOn }
+{
+    fronts_split();
+}
+
+/// Two streams that audit whole make one that does, with their sets joined.
+pub fn whole_streams_join()
+    ensures { WholeStreamsJoin }
+{}

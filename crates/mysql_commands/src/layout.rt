@@ -1,0 +1,180 @@
+//! What commands say by their own bytes.
+
+ghost use Rattle.std.specs.Prelude.{◌≡◌, ℕ, ◌+◌, ◌/◌, ◌<◌, ◌^◌, Option, Some, None, IfOk, OnOk, map, length};
+ghost use Rattle.std.specs.Option.{option_map};
+ghost use Rattle.mysql_commands.specs.Layout.{type_at, types_at, id_at, piece_at, binding_at, execute_head, bulk_head};
+ghost use Rattle.mysql_commands.specs.Query.{place_count};
+ghost use Rattle.mysql_commands.specs.Views.{Gives, conversation_of, execute_head_of, bulk_head_of, piece_of};
+
+use crate::fault::StreamFault;
+use crate::fields::{byte, front, is_type_number, must, number1, number2, number4};
+use crate::param_type::ParamType;
+use crate::refusal::Refusal;
+use crate::statement::Conversation;
+use std::alloc::Global;
+
+/// What stands before an execute's cells.
+#[derive(Drop)]
+pub struct ExecuteHead<'a> {
+    pub nulls: &'a [u8],
+    pub own: Option<Vec<ParamType>>,
+    pub cells: &'a [u8],
+}
+
+/// What stands before a bulk's rows.
+#[derive(Drop)]
+pub struct BulkHead<'a> {
+    pub own: Option<Vec<ParamType>>,
+    pub rows: &'a [u8],
+}
+
+/// A piece of a place's bytes.
+#[derive(Drop)]
+pub struct Piece<'a> {
+    pub place: u16,
+    pub bytes: &'a [u8],
+}
+
+/// A pair of a type and a flag.
+pub fn type_pair(short: StreamFault, bytes: &[u8]) -> Result<(ParamType, &[u8]), Refusal>
+    ensures { Gives (λ x. (x.0, x.1.now)) result (type_at short bytes.now) }
+{
+    let (number, rest) = byte(short, bytes)?;
+    must(StreamFault::BadType, is_type_number(number))?;
+    let (flags, rest) = byte(short, rest)?;
+    must(StreamFault::BadType, flags == 0 || flags == 128)?;
+    Ok((
+        ParamType {
+            number,
+            unsigned: flags == 128,
+        },
+        rest,
+    ))
+}
+
+/// Pairs of a type and a flag.
+pub fn types(
+    alloc: Global,
+    short: StreamFault,
+    count: usize,
+    bytes: &[u8],
+) -> Result<(Vec<ParamType>, &[u8]), Refusal>
+    ensures { Gives (λ x. (x.0.items, x.1.now)) result (types_at short count bytes.now) }
+{
+    let mut types = Vec::new(alloc);
+    let mut rest = bytes;
+    for _ in 0..count {
+        let (next, after) = type_pair(short, rest)?;
+        types.push(next)?;
+        rest = after;
+    }
+    Ok((types, rest))
+}
+
+/// The conversation's id.
+pub fn id<'a>(conversation: &Conversation, bytes: &'a [u8]) -> Result<&'a [u8], Refusal>
+    ensures { Gives (λ x. x.now) result (id_at (conversation_of conversation.now) bytes.now) }
+{
+    let (id, rest) = number4(StreamFault::WrongId, bytes)?;
+    must(StreamFault::WrongId, id == conversation.id)?;
+    Ok(rest)
+}
+
+/// The body of a long data command.
+pub fn long_data<'a>(conversation: &Conversation, body: &'a [u8]) -> Result<Piece<'a>, Refusal>
+    ensures { Gives piece_of result (piece_at (conversation_of conversation.now) body.now) }
+{
+    let rest = id(conversation, body)?;
+    let (place, bytes) = number2(StreamFault::BadPlace, rest)?;
+    must(
+        StreamFault::BadPlace,
+        (place as usize) < conversation.places.len(),
+    )?;
+    Ok(Piece { place, bytes })
+}
+
+// How many bytes hold a bit for each place.
+fn bitmap_len(places: usize) -> usize
+    ensures { result ≡ (places + 7) / 8 }
+{
+    if places % 8 == 0 {
+        places / 8
+    } else {
+        places / 8 + 1
+    }
+}
+
+#[tactic(auto, unfolding(crate::specs::Layout::binding_at))]
+fn binding(alloc: Global, places: usize, bytes: &[u8]) -> Result<ExecuteHead<'_>, Refusal>
+    ensures { Gives execute_head_of result (binding_at places bytes.now) }
+{
+    let (nulls, rest) = front(StreamFault::BadExecute, bitmap_len(places), bytes)?;
+    let (bound, rest) = byte(StreamFault::BadExecute, rest)?;
+    must(StreamFault::BadExecute, bound <= 1)?;
+    if bound == 0 {
+        return Ok(ExecuteHead {
+            nulls,
+            own: None,
+            cells: rest,
+        });
+    }
+    let (own, cells) = types(alloc, StreamFault::BadExecute, places, rest)?;
+    Ok(ExecuteHead {
+        nulls,
+        own: Some(own),
+        cells,
+    })
+}
+
+/// What stands before an execute's cells.
+#[tactic(auto, unfolding(crate::specs::Layout::execute_head))]
+pub fn execute_front<'a>(
+    alloc: Global,
+    conversation: &Conversation,
+    body: &'a [u8],
+) -> Result<ExecuteHead<'a>, Refusal>
+    ensures { Gives execute_head_of result (execute_head (conversation_of conversation.now) body.now) }
+{
+    let rest = id(conversation, body)?;
+    let (cursor, rest) = number1(StreamFault::BadExecute, rest)?;
+    must(StreamFault::BadExecute, cursor == 0)?;
+    let (count, rest) = number4(StreamFault::BadExecute, rest)?;
+    must(StreamFault::BadExecute, count == 1)?;
+    let places = conversation.places.len();
+    if places == 0 {
+        return Ok(ExecuteHead {
+            nulls: &[],
+            own: None,
+            cells: rest,
+        });
+    }
+    binding(alloc, places, rest)
+}
+
+/// What stands before a bulk's rows.
+#[tactic(auto, unfolding(crate::specs::Layout::bulk_head))]
+pub fn bulk_front<'a>(
+    alloc: Global,
+    conversation: &Conversation,
+    body: &'a [u8],
+) -> Result<BulkHead<'a>, Refusal>
+    ensures { Gives bulk_head_of result (bulk_head (conversation_of conversation.now) body.now) }
+{
+    let rest = id(conversation, body)?;
+    let (flags, rest) = number2(StreamFault::BadBulk, rest)?;
+    must(
+        StreamFault::BadBulk,
+        flags == 0 || flags == 64 || flags == 128 || flags == 192,
+    )?;
+    if flags < 128 {
+        return Ok(BulkHead {
+            own: None,
+            rows: rest,
+        });
+    }
+    let (own, rows) = types(alloc, StreamFault::BadBulk, conversation.places.len(), rest)?;
+    Ok(BulkHead {
+        own: Some(own),
+        rows,
+    })
+}

@@ -1,0 +1,25 @@
+//! Streams of commands that carry parameter sets of one query.
+#![tactic(auto)]
+
+mod audit;
+mod cell_form;
+mod cells;
+mod fault;
+mod fields;
+mod incoming;
+pub mod laws;
+mod layout;
+mod param_type;
+mod progress;
+mod reading;
+mod receiver;
+mod refusal;
+mod statement;
+mod step;
+mod whole;
+
+pub use audit::{Audit, End};
+pub use fault::StreamFault;
+pub use mysql_values::Content;
+pub use receiver::{Receiver, ReceiverError};
+pub use whole::receive;

@@ -1,0 +1,252 @@
+//! Reading a stream of commands back.
+
+ghost use Rattle.std.specs.Prelude.{◌≡◌, ◌≤◌, ◌⊎◌, [], true, false, Err, IfErr, IfOk, IfSome, OnOk};
+ghost use Rattle.mysql_wire.specs.Laws.{AreBytes};
+ghost use Rattle.mysql_values.specs.Queries.{HasMixed, IsParsed};
+ghost use Rattle.mysql_commands.specs.declared.receiver.ReceiverError.TheVariants as receiver_error;
+ghost use Rattle.mysql_commands.specs.Query.{IsQuery};
+ghost use Rattle.mysql_commands.specs.Audit.{IsAbout};
+ghost use Rattle.mysql_commands.specs.GoingOn.{GoesOn, Decides, held_at_start};
+ghost use Rattle.mysql_commands.specs.Receiving.{answer_by, audit_of, end_by, fault_from, holds};
+ghost use Rattle.mysql_commands.specs.Received.{held_by};
+ghost use Rattle.mysql_commands.specs.Views.{conversation_of};
+
+use crate::audit::{Audit, End};
+use crate::fault::StreamFault;
+use crate::incoming::Incoming;
+use crate::progress::Progress;
+use crate::reading::waits;
+use crate::refusal::Refusal;
+use crate::statement::{Conversation, Standing};
+use bytes::BytesMut;
+use mysql_values::{NamedParamsError, ParsedNamedParams, places};
+use mysql_wire::{PacketCodec, PartialHeader, WireError};
+use std::alloc::{AllocError, Global};
+use std::marker::Model;
+use thiserror::Error;
+
+/// Why a receiver can't be made.
+#[derive(Clone, Copy, Debug, PartialEq, Eq, Error)]
+pub enum ReceiverError {
+    /// The query has both names and question marks as placeholders.
+    #[error("the query has both named and positional parameters")]
+    Mixed,
+    /// A growth of memory was refused.
+    #[error("out of memory")]
+    Memory,
+}
+
+impl From<AllocError> for ReceiverError {
+    ghost from_gives = { λ _ e. e ≡ receiver_error.Memory };
+
+    fn from(_e: AllocError) -> ReceiverError {
+        ReceiverError::Memory
+    }
+}
+
+// What is read of a query is refused for want of memory alone.
+impl From<WireError> for ReceiverError {
+    ghost from_gives = { λ _ e. e ≡ receiver_error.Memory };
+
+    fn from(_e: WireError) -> ReceiverError {
+        ReceiverError::Memory
+    }
+}
+
+/// The query's parsed text.
+fn parsed<'a>(alloc: Global, query: &'a [u8]) -> Result<ParsedNamedParams<'a>, ReceiverError>
+    ensures query { IfOk result (λ parsed. IsParsed query.entry.now parsed.query) }
+    ensures one_kind { OnOk result (HasMixed query.entry.now false) }
+    ensures mixed { IfErr result (λ e. (e ≡ receiver_error.Memory) ⊎ ((e ≡ receiver_error.Mixed) × HasMixed query.entry.now true)) }
+{
+    match ParsedNamedParams::parse(alloc, query) {
+        Ok(parsed) => Ok(parsed),
+        Err(NamedParamsError::Mixed(_)) => Err(ReceiverError::Mixed),
+        Err(NamedParamsError::Memory) => Err(ReceiverError::Memory),
+    }
+}
+
+/// The conversation about a query.
+fn conversation(alloc: Global, query: &[u8], stmt_id: u32) -> Result<Conversation, ReceiverError>
+    ensures about { IfOk result (λ c. IsAbout (conversation_of c) query.now stmt_id) }
+    ensures one_kind { OnOk result (HasMixed query.now false) }
+    ensures mixed { IfErr result (λ e. (e ≡ receiver_error.Memory) ⊎ ((e ≡ receiver_error.Mixed) × HasMixed query.now true)) }
+{
+    let parsed = parsed(alloc, query)?;
+    Ok(Conversation {
+        query: Vec::from_slice(alloc, query)?,
+        parsed: Vec::from_slice(alloc, parsed.query())?,
+        places: places(alloc, query)?,
+        id: stmt_id,
+    })
+}
+
+/// Reads a stream of commands about one query that is handed over in pieces.
+///
+/// Contracts see what it holds in place of the bytes that it was fed: the payloads read, what is in force behind them, the
+/// bytes of the packet that isn't whole, the sets so far, and the fault.
+#[derive(Drop)]
+pub struct Receiver {
+    alloc: Global,
+    conversation: Conversation,
+    incoming: Incoming,
+    progress: Progress,
+    fault: Option<StreamFault>,
+}
+
+impl Model for Receiver {
+    ghost use Rattle.mysql_commands.specs.Received.{Received};
+
+    ghost Value = { Received };
+
+    ghost use Rattle.mysql_commands.specs.Inside.{received_of, IsKept};
+
+    ghost view = { received_of };
+
+    ghost invariant = { IsKept };
+}
+
+/// The fault that a refusal is.
+fn fault_of(refusal: Refusal) -> StreamFault
+    ensures { result ≡ fault_from refusal }
+{
+    match refusal {
+        Refusal::Memory => StreamFault::Memory,
+        Refusal::Fault(fault) => fault,
+    }
+}
+
+/// How a stream ends as things stand.
+fn end_now(
+    conversation: &Conversation,
+    progress: &Progress,
+    begun: bool,
+    fault: Option<StreamFault>,
+) -> End
+    ensures { result ≡ end_by (conversation_of conversation.now) (holds progress.now [] fault) begun fault }
+{
+    if let Some(fault) = fault {
+        return End::Fault(progress.count, fault);
+    }
+    if waits(conversation, &progress.standing) {
+        return End::WaitingPieces;
+    }
+    if begun {
+        return End::UnfinishedPacket;
+    }
+    End::Whole
+}
+
+impl Receiver {
+    /// A receiver of a stream of commands about this query, whose statement was given this id, with payloads of at most
+    /// `limit` bytes, which is at least 4.
+    ///
+    /// # Errors
+    /// `Mixed` where both names and question marks occur in the query, `Memory`.
+    pub fn new(
+        alloc: Global,
+        query: &[u8],
+        stmt_id: u32,
+        limit: usize,
+    ) -> Result<Receiver, ReceiverError>
+        requires { 4 ≤ limit }
+        ensures held { IfOk result (λ r. held_by r ≡ held_at_start) }
+        ensures about { IfOk result (λ r. IsAbout r.conversation query.now stmt_id) }
+        ensures limit { IfOk result (λ r. r.limit ≡ limit) }
+        ensures one_kind { OnOk result (HasMixed query.now false) }
+        ensures mixed { IfErr result (λ e. (e ≡ receiver_error.Memory) ⊎ ((e ≡ receiver_error.Mixed) × HasMixed query.now true)) }
+    {
+        let conversation = conversation(alloc, query, stmt_id)?;
+        Ok(Receiver::over(alloc, conversation, limit))
+    }
+
+    /// A receiver that was fed nothing.
+    fn over(alloc: Global, conversation: Conversation, limit: usize) -> Receiver
+        requires { IsQuery (conversation_of conversation).query }
+        ensures held { held_by result ≡ held_at_start }
+        ensures conversation { result.conversation ≡ conversation_of conversation }
+        ensures limit { result.limit ≡ limit }
+    {
+        Receiver {
+            alloc,
+            conversation,
+            incoming: Incoming {
+                codec: PacketCodec::at(0, limit),
+                header: PartialHeader::new(),
+                packet: BytesMut::new(alloc),
+                begun: false,
+            },
+            progress: Progress {
+                standing: Standing {
+                    prepared: false,
+                    types: None,
+                    pieces: Vec::new(alloc),
+                },
+                sets: Vec::new(alloc),
+                count: 0,
+            },
+            fault: None,
+        }
+    }
+
+    /// Takes the next piece of the stream, of any length.
+    ///
+    /// What is held after it decides, over all bytes to come, what was decided before it over the piece and them. No more
+    /// is held of the bytes than the packet that isn't whole.
+    ///
+    /// # Errors
+    /// The first fault of the stream, [`StreamFault::Memory`] where a growth was refused. From then on each call answers
+    /// that fault and changes nothing.
+    ///
+    /// Follows the MySQL Client/Server Protocol, "MySQL Packets" and "Command Phase".
+    pub fn feed(&mut self, piece: &[u8]) -> Result<(), StreamFault>
+        ensures goes_on { GoesOn self.old.conversation self.old.limit (held_by self.old) piece.now (held_by self.new) }
+        ensures after_fault { IfSome self.old.fault (λ fault. (result ≡ Err fault) × (self.new ≡ self.old)) }
+        ensures answer { result ≡ answer_by self.new.fault }
+        ensures bytes { OnOk result (AreBytes self.new.partial) }
+        ensures conversation { self.new.conversation ≡ self.old.conversation }
+        ensures limit { self.new.limit ≡ self.old.limit }
+    {
+        if let Some(fault) = self.fault {
+            return Err(fault);
+        }
+        match self
+            .incoming
+            .read_piece(self.alloc, &self.conversation, &mut self.progress, piece)
+        {
+            Ok(()) => Ok(()),
+            Err(refusal) => {
+                let fault = fault_of(refusal);
+                self.fault = Some(fault);
+                Err(fault)
+            }
+        }
+    }
+
+    /// The audit of what was fed. It takes no memory.
+    ///
+    /// After [`StreamFault::Memory`] its sets are those of the payloads that were read before, as many as its end counts.
+    pub fn finish(self) -> Audit
+        ensures { Decides self.conversation self.limit (held_by self) [] (audit_of result) }
+    {
+        let end = end_now(
+            &self.conversation,
+            &self.progress,
+            self.incoming.begun,
+            self.fault,
+        );
+        let Receiver {
+            alloc: _,
+            conversation: _,
+            incoming: _,
+            progress,
+            fault: _,
+        } = self;
+        let Progress {
+            standing: _,
+            sets,
+            count: _,
+        } = progress;
+        Audit { sets, end }
+    }
+}

@@ -1,0 +1,264 @@
+//! One payload at a time.
+
+ghost use Rattle.std.specs.Prelude.{◌≡◌, ℕ, ◌+◌, ◌<◌, ◌^◌, List, [], ◌∷◌, Option, Some, None, Ok, IfOk, OnOk, OnErr, length, vec_len};
+ghost use Rattle.mysql_commands.specs.Query.{IsQuery, all_alone as is_all_alone};
+ghost use Rattle.mysql_commands.specs.Layout.{Prepare, Text, Execute, Bulk, LongData, command_of};
+ghost use Rattle.mysql_commands.specs.InForce.{Standing as Force, standing_after, execute_types, bulk_types, prepared_anew, after_execute, after_bulk, after_piece, with_piece};
+ghost use Rattle.mysql_commands.specs.Reading.{prepared_piece};
+ghost use Rattle.mysql_commands.specs.Views.{Gives, piece_of, Judged, PayloadJudged, sets_of, types_kept, conversation_of, standing_of, piece_kept};
+
+use crate::fault::StreamFault;
+use crate::fields::must;
+use crate::layout::{Piece, long_data};
+use crate::param_type::ParamType;
+use crate::reading::{bulk, execute};
+use crate::refusal::Refusal;
+use crate::statement::{Conversation, Standing};
+use mysql_values::{Content, read_text};
+use std::alloc::{AllocError, Global};
+
+impl Standing {
+    /// Behind a prepare.
+    pub fn prepare(&mut self)
+        ensures { standing_of self.new ≡ prepared_anew }
+    {
+        self.prepared = true;
+        self.types = None;
+        self.pieces.clear();
+    }
+
+    /// Behind an execute that carries these types, or none.
+    pub fn execute(&mut self, own: Option<Vec<ParamType>>)
+        ensures { standing_of self.new ≡ after_execute (standing_of self.old) (types_kept own) }
+    {
+        if own.is_some() {
+            self.types = own;
+        }
+        self.pieces.clear();
+    }
+
+    /// Behind a bulk that carries these types, or none.
+    pub fn bulk(&mut self, own: Option<Vec<ParamType>>)
+        ensures { standing_of self.new ≡ after_bulk (standing_of self.old) (types_kept own) }
+    {
+        if own.is_some() {
+            self.types = own;
+        }
+    }
+}
+
+/// Whether each place stands alone.
+fn all_alone(conversation: &Conversation) -> bool
+    ensures { result ≡ is_all_alone (conversation_of conversation.now).query }
+{
+    conversation.places.iter().all(|place| place.alone)
+}
+
+/// One set.
+fn one(alloc: Global, set: Vec<Content>) -> Result<Vec<Vec<Content>>, AllocError>
+    ensures { IfOk result (λ sets. sets_of sets.items ≡ set.items ∷ []) }
+{
+    let mut sets = Vec::new(alloc);
+    sets.push(set)?;
+    Ok(sets)
+}
+
+/// A text.
+fn text(
+    alloc: Global,
+    conversation: &Conversation,
+    body: &[u8],
+) -> Result<Vec<Vec<Content>>, Refusal>
+    requires { IsQuery (conversation_of conversation.now).query }
+    ensures { (s : Force) → Judged (conversation_of conversation.now) s Text body.now result }
+{
+    if !all_alone(conversation) {
+        return Err(Refusal::Fault(StreamFault::NotAlone));
+    }
+    match read_text(alloc, &conversation.query, &conversation.places, body)? {
+        Some(set) => Ok(one(alloc, set)?),
+        None => Err(Refusal::Fault(StreamFault::TextMismatch)),
+    }
+}
+
+/// A prepare.
+fn prepare(
+    alloc: Global,
+    conversation: &Conversation,
+    body: &[u8],
+) -> Result<Vec<Vec<Content>>, Refusal>
+    ensures { (s : Force) → Judged (conversation_of conversation.now) s Prepare body.now result }
+{
+    if body != conversation.parsed.as_slice() {
+        return Err(Refusal::Fault(StreamFault::PrepareMismatch));
+    }
+    if conversation.places.len() > 65535 {
+        return Err(Refusal::Fault(StreamFault::TooManyPlaces));
+    }
+    Ok(Vec::new(alloc))
+}
+
+impl Standing {
+    /// Behind a piece.
+    pub fn add_piece(&mut self, alloc: Global, place: usize, bytes: &[u8]) -> Result<(), AllocError>
+        requires { place < 2 ^ 32 }
+        ensures ok { OnOk result (standing_of self.new ≡ after_piece (standing_of self.old) (record { place = place; bytes = bytes.now })) }
+        ensures err { OnErr result (standing_of self.new ≡ standing_of self.old) }
+    {
+        reach(&mut self.pieces, place)?;
+        append(alloc, &mut self.pieces, place, bytes)
+    }
+}
+
+/// Makes the list reach a place, by places where nothing waits.
+fn reach(pieces: &mut Vec<Option<Vec<u8>>>, place: usize) -> Result<(), AllocError>
+    requires { place < 2 ^ 32 }
+    ensures same { piece_kept pieces.new.items ≡ piece_kept pieces.old.items }
+    ensures long { OnOk result (place < length pieces.new.items) }
+{
+    while pieces.len() <= place {
+        pieces.push(None)?;
+    }
+    Ok(())
+}
+
+/// Appends to what waits for a place.
+fn append(
+    alloc: Global,
+    pieces: &mut Vec<Option<Vec<u8>>>,
+    place: usize,
+    bytes: &[u8],
+) -> Result<(), AllocError>
+    requires { place < length pieces.old.items }
+    ensures ok { OnOk result (piece_kept pieces.new.items ≡ with_piece (piece_kept pieces.old.items) place bytes.now) }
+    ensures err { OnErr result (piece_kept pieces.new.items ≡ piece_kept pieces.old.items) }
+{
+    let waiting = &mut pieces[place];
+    match waiting {
+        Some(piece) => piece.extend_from_slice(bytes),
+        None => {
+            *waiting = Some(Vec::from_slice(alloc, bytes)?);
+            Ok(())
+        }
+    }
+}
+
+/// Reads a prepare. A refusal changes nothing, here and below.
+fn on_prepare(
+    alloc: Global,
+    conversation: &Conversation,
+    standing: &mut Standing,
+    body: &[u8],
+) -> Result<Vec<Vec<Content>>, Refusal>
+    ensures judged { Judged (conversation_of conversation.now) (standing_of standing.old) Prepare body.now result }
+    ensures ok { OnOk result (standing_of standing.new ≡ prepared_anew) }
+    ensures err { OnErr result (standing_of standing.new ≡ standing_of standing.old) }
+{
+    let sets = prepare(alloc, conversation, body)?;
+    standing.prepare();
+    Ok(sets)
+}
+
+/// Reads an execute.
+fn on_execute(
+    alloc: Global,
+    conversation: &Conversation,
+    standing: &mut Standing,
+    body: &[u8],
+) -> Result<Vec<Vec<Content>>, Refusal>
+    ensures judged { Judged (conversation_of conversation.now) (standing_of standing.old) Execute body.now result }
+    ensures ok { OnOk result (standing_of standing.new ≡ after_execute (standing_of standing.old) (execute_types (conversation_of conversation.now) body.now)) }
+    ensures err { OnErr result (standing_of standing.new ≡ standing_of standing.old) }
+{
+    let (set, own) = execute(alloc, conversation, standing, body)?;
+    let sets = one(alloc, set)?;
+    standing.execute(own);
+    Ok(sets)
+}
+
+/// Reads a bulk.
+fn on_bulk(
+    alloc: Global,
+    conversation: &Conversation,
+    standing: &mut Standing,
+    body: &[u8],
+) -> Result<Vec<Vec<Content>>, Refusal>
+    ensures judged { Judged (conversation_of conversation.now) (standing_of standing.old) Bulk body.now result }
+    ensures ok { OnOk result (standing_of standing.new ≡ after_bulk (standing_of standing.old) (bulk_types (conversation_of conversation.now) body.now)) }
+    ensures err { OnErr result (standing_of standing.new ≡ standing_of standing.old) }
+{
+    let (sets, own) = bulk(alloc, conversation, standing, body)?;
+    standing.bulk(own);
+    Ok(sets)
+}
+
+/// Reads the body of a long data command.
+#[tactic(auto, unfolding(crate::specs::Reading::prepared_piece))]
+fn expected_piece<'a>(
+    conversation: &Conversation,
+    standing: &Standing,
+    body: &'a [u8],
+) -> Result<Piece<'a>, Refusal>
+    ensures { Gives piece_of result (prepared_piece (conversation_of conversation.now) (standing_of standing.now) body.now) }
+{
+    must(StreamFault::NotPrepared, standing.prepared)?;
+    long_data(conversation, body)
+}
+
+/// Reads a long data command.
+#[tactic(auto, unfolding(crate::specs::Reading::prepared_piece, crate::specs::Reading::long_data_at))]
+fn on_long_data(
+    alloc: Global,
+    conversation: &Conversation,
+    standing: &mut Standing,
+    body: &[u8],
+) -> Result<Vec<Vec<Content>>, Refusal>
+    ensures judged { Judged (conversation_of conversation.now) (standing_of standing.old) LongData body.now result }
+    ensures ok { OnOk result (standing_of standing.new ≡ standing_after (conversation_of conversation.now) (standing_of standing.old) ((24 ∷ body.now) ∷ [])) }
+    ensures err { OnErr result (standing_of standing.new ≡ standing_of standing.old) }
+{
+    let Piece { place, bytes } = expected_piece(conversation, standing, body)?;
+    standing.add_piece(alloc, place as usize, bytes)?;
+    Ok(Vec::new(alloc))
+}
+
+/// Reads the body of a command.
+fn on_command(
+    alloc: Global,
+    conversation: &Conversation,
+    standing: &mut Standing,
+    command: u8,
+    body: &[u8],
+) -> Result<Vec<Vec<Content>>, Refusal>
+    requires { IsQuery (conversation_of conversation.now).query }
+    ensures judged { Judged (conversation_of conversation.now) (standing_of standing.old) (command_of command) body.now result }
+    ensures ok { OnOk result (standing_of standing.new ≡ standing_after (conversation_of conversation.now) (standing_of standing.old) ((command ∷ body.now) ∷ [])) }
+    ensures err { OnErr result (standing_of standing.new ≡ standing_of standing.old) }
+{
+    match command {
+        3 => text(alloc, conversation, body),
+        22 => on_prepare(alloc, conversation, standing, body),
+        23 => on_execute(alloc, conversation, standing, body),
+        24 => on_long_data(alloc, conversation, standing, body),
+        250 => on_bulk(alloc, conversation, standing, body),
+        _ => Err(Refusal::Fault(StreamFault::OtherCommand)),
+    }
+}
+
+/// Reads one payload, and makes the standing that behind it. A refusal changes nothing.
+pub fn step(
+    alloc: Global,
+    conversation: &Conversation,
+    standing: &mut Standing,
+    payload: &[u8],
+) -> Result<Vec<Vec<Content>>, Refusal>
+    requires { IsQuery (conversation_of conversation.now).query }
+    ensures judged { PayloadJudged (conversation_of conversation.now) (standing_of standing.old) payload.now result }
+    ensures ok { OnOk result (standing_of standing.new ≡ standing_after (conversation_of conversation.now) (standing_of standing.old) (payload.now ∷ [])) }
+    ensures err { OnErr result (standing_of standing.new ≡ standing_of standing.old) }
+{
+    match payload {
+        [] => Err(Refusal::Fault(StreamFault::EmptyCommand)),
+        [command, body @ ..] => on_command(alloc, conversation, standing, *command, body),
+    }
+}

@@ -1,0 +1,47 @@
+//! A whole stream of commands.
+
+ghost use Rattle.std.specs.Prelude.{◌≡◌, ◌≤◌, ◌⊎◌, true, false, IfErr, IfOk, OnOk, flat_map};
+ghost use Rattle.mysql_wire.specs.Laws.{AreBytes};
+ghost use Rattle.mysql_values.specs.Queries.{HasMixed};
+ghost use Rattle.mysql_commands.specs.declared.receiver.ReceiverError.TheVariants as receiver_error;
+ghost use Rattle.mysql_commands.specs.Audit.{AuditOf, OutOfMemoryIn};
+ghost use Rattle.mysql_commands.specs.Receiving.{IsMemory, audit_of};
+
+use crate::audit::Audit;
+use crate::receiver::{Receiver, ReceiverError};
+use std::alloc::Global;
+
+/// A slice holds bytes: a fact that the proof below uses.
+fn are_bytes(bytes: &[u8])
+    ensures { AreBytes bytes.now }
+{
+    let _first = bytes.first();
+}
+
+/// The audit of the stream of commands whose bytes are those of the pieces, one after another, however they are cut.
+///
+/// The statement was given the id `stmt_id`; payloads have at most `limit` bytes, which is at least 4. Where memory runs
+/// out while the stream is read, the audit's end is a fault by that name, and its sets are those of the payloads before.
+///
+/// # Errors
+/// `Mixed` where both names and question marks occur in the query, `Memory`.
+pub fn receive(
+    alloc: Global,
+    query: &[u8],
+    stmt_id: u32,
+    limit: usize,
+    pieces: &[&[u8]],
+) -> Result<Audit, ReceiverError>
+    requires { 4 ≤ limit }
+    ensures audit { IfOk result (λ a. (IsMemory a.end → ⊥) → AuditOf query.now stmt_id limit (flat_map (λ piece. piece.now) pieces.now) (audit_of a)) }
+    ensures memory { IfOk result (λ a. IsMemory a.end → OutOfMemoryIn query.now stmt_id limit (flat_map (λ piece. piece.now) pieces.now) (audit_of a)) }
+    ensures one_kind { OnOk result (HasMixed query.now false) }
+    ensures mixed { IfErr result (λ e. (e ≡ receiver_error.Memory) ⊎ ((e ≡ receiver_error.Mixed) × HasMixed query.now true)) }
+{
+    let mut receiver = Receiver::new(alloc, query, stmt_id, limit)?;
+    'pieces: for piece in pieces {
+        are_bytes(piece);
+        let _answer = receiver.feed(piece);
+    }
+    Ok(receiver.finish())
+}

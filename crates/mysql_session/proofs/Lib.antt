@@ -1,0 +1,3 @@
+pub mod Texts
+pub mod Queries
+pub mod ReadBack

@@ -1,0 +1,5 @@
+pub mod Commands
+pub mod Sent
+pub mod Cause
+pub mod Sending
+pub mod Sets

@@ -1,0 +1,10 @@
+/// How parameter sets of a query are sent.
+#[derive(Clone, Copy, Debug, PartialEq, Eq, Hash)]
+pub enum Road {
+    /// A text query for each set, its values as literals.
+    Text,
+    /// One prepare, and an execution for each set.
+    Execute,
+    /// One prepare, and MariaDB's bulk executions.
+    Bulk,
+}

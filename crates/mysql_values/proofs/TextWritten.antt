@@ -1,0 +1,189 @@
+-- Writing a text of a query piece by piece and literal by literal.
+use Rattle.std.proofs.Common.{◌≡◌, ◌≢◌, ℕ, zero, suc, ◌+◌, ◌≤◌, ◌<◌, Bool, true, false, List, [], ◌∷◌, ◌++◌, length, take, drop, get_or, map, slice_range, refl, sym, ap, ◌∙◌, append_assoc, append-nil, arith, subst, Option, Some, None, Result, Ok, Err, is_none}
+use Rattle.std.specs.List.{AllByRecursion, position_from}
+use Rattle.std.proofs.lemmas.List.{map-append}
+use Rattle.mysql_values.specs.Tokens.{HasTokens}
+use Rattle.mysql_values.specs.Literals.{IsLiteral}
+use Rattle.mysql_values.specs.Queries.{pieces_of, Alternates, Slices, HasPlaces, places_from, slices_between}
+use Rattle.mysql_values.specs.Values.{content_of, literal_of, plain_content, sql_of, without_zero_sign}
+use Rattle.mysql_values.specs.AsSql.{HasLiteral}
+use Rattle.mysql_values.specs.Binding.{interleaved, IsFilled}
+use Rattle.mysql_values.specs.declared.content.Content.{Content}
+use Rattle.mysql_values.specs.declared.value.Value.{Value}
+use Rattle.mysql_values.specs.declared.value.Value.TheVariants.{NULL, Bytes, Int, UInt, Float, Double, Date, Time}
+use Rattle.mysql_values.specs.declared.placeholders.Place.{Place}
+use Rattle.mysql_values.proofs.QuerySlices.{InOrder, Next, next_place, next_in_order, no_place, no_places_left, places_in_order, take_all_front}
+use Rattle.mysql_values.proofs.TextReading.{read_before}
+
+-- slices with literals between them
+abbrev pub filled : List ℕ → ℕ → List Place → List (List ℕ) → List ℕ
+filled query at places literals = interleaved (slices_between query at places) literals
+
+-- one piece and one literal more
+pub filled_more : (query : List ℕ) (at : ℕ) (places : List Place) (k : ℕ) (literal : List ℕ) (literals : List (List ℕ)) → k < length places
+    → filled query at (drop k places) (literal ∷ literals) ≡ slice_range query at (get_or places k no_place).start ++ (literal ++ filled query (get_or places k no_place).end (drop (k + 1) places) literals)
+filled_more query at places k literal literals h = ap (λ ps. filled query at ps (literal ∷ literals)) (next_place places k h)
+
+-- How far a text is written: the literals so far, and what goes on with others behind them.
+pub record WrittenTo (query : List ℕ) (places : List Place) (values : List Value) (at : ℕ) (left : List Place) (k : ℕ) (before after : List ℕ) : Type 0 where
+  pub order : InOrder query at left
+  pub in_range : at ≤ length query
+  pub literals : List (List ℕ)
+  pub written : List ℕ
+  pub each : map literal_of (take k values) ≡ map Some literals
+  pub have : AllByRecursion HasLiteral (take k values)
+  pub appended : after ≡ before ++ written
+  pub onward : (others : List (List ℕ)) → filled query 0 places (literals ++ others) ≡ written ++ filled query at left others
+
+pub written_none : (query : List ℕ) (places : List Place) (values : List Value) (before : List ℕ) → HasPlaces query places → WrittenTo query places values 0 places 0 before before
+written_none query places values before h = record {
+  order = places_in_order query places h;
+  in_range = omega arith;
+  literals = [];
+  written = [];
+  each = refl;
+  have = tt;
+  appended = sym (append-nil before);
+  onward = λ others. refl;
+}
+
+-- one element more of a list that is seen through a function
+taken_more : {A B : Type 0} → (f : A → B) (xs : List A) (k : ℕ) (x : A) → x ≡ get_or xs k x → k < length xs → take (k + 1) (map f xs) ≡ take k (map f xs) ++ f x ∷ []
+taken_more f [] k x e h = absurd (omega arith)
+taken_more f (y ∷ xs) zero x e h = ap (λ z. f z ∷ []) (sym e)
+taken_more f (y ∷ xs) (suc k) x e h = let n : suc k + 1 ≡ suc (k + 1) = omega arith in rw n (ap (λ zs. f y ∷ zs) (taken_more f xs k x e (omega arith)))
+
+all_more : (P : Value → Type 0) (values : List Value) (value : Value) → AllByRecursion P values → P value → AllByRecursion P (values ++ value ∷ [])
+all_more P [] value h k = (k, tt)
+all_more P (v ∷ values) value h k = (h.0, all_more P values value h.1 k)
+
+pub written_more : {A : Type 0} → (f : A → Value) (query : List ℕ) (places : List Place) (xs : List A) (at k : ℕ) (before after next text : List ℕ) (x : A) → WrittenTo query places (map f xs) at (drop k places) k before after → k < length places → k < length xs
+    → x ≡ get_or xs k x → literal_of (f x) ≡ Some text → HasLiteral (f x) → next ≡ (after ++ slice_range query at (get_or places k no_place).start) ++ text
+    → WrittenTo query places (map f xs) (get_or places k no_place).end (drop (k + 1) places) (k + 1) before next
+written_more f query places xs at k before after next text x w h l e t has n =
+    let p = get_or places k no_place in
+    let o : Next query at p (drop (k + 1) places) = next_in_order query at places k h w.order in
+    let piece : List ℕ = slice_range query at p.start in
+    let more : take (k + 1) (map f xs) ≡ take k (map f xs) ++ f x ∷ [] = taken_more f xs k x e l in
+    record {
+      order = o.rest;
+      in_range = o.in_range;
+      literals = w.literals ++ text ∷ [];
+      written = (w.written ++ piece) ++ text;
+      each = ap (map literal_of) more ∙ map-append literal_of (take k (map f xs)) (f x ∷ []) ∙ ap (λ ys. ys ++ literal_of (f x) ∷ []) w.each ∙ ap (λ y. map Some w.literals ++ y ∷ []) t ∙ sym (map-append Some w.literals (text ∷ []));
+      have = subst (AllByRecursion HasLiteral) (sym more) (all_more HasLiteral (take k (map f xs)) (f x) w.have has);
+      appended = n ∙ ap (λ y. (y ++ piece) ++ text) w.appended ∙ ap (λ y. y ++ text) (append_assoc before w.written piece) ∙ append_assoc before (w.written ++ piece) text;
+      onward = λ others. ap (filled query 0 places) (append_assoc w.literals (text ∷ []) others) ∙ w.onward (text ∷ others) ∙ ap (λ y. w.written ++ y) (filled_more query at places k text others h)
+          ∙ sym (append_assoc w.written piece (text ++ filled query p.end (drop (k + 1) places) others)) ∙ sym (append_assoc (w.written ++ piece) text (filled query p.end (drop (k + 1) places) others));
+    }
+
+taken_all : {A : Type 0} → (xs : List A) (k : ℕ) → length xs ≤ k → take k xs ≡ xs
+taken_all [] zero h = refl
+taken_all [] (suc k) h = refl
+taken_all (x ∷ xs) zero h = absurd (omega arith)
+taken_all (x ∷ xs) (suc k) h = ap (λ ys. x ∷ ys) (taken_all xs k (omega arith))
+
+pub written_end : (query : List ℕ) (places : List Place) (values : List Value) (at k : ℕ) (before after next : List ℕ) → WrittenTo query places values at (drop k places) k before after → length places ≤ k → length values ≡ length places
+    → next ≡ after ++ drop at query → (text : List ℕ) × (next ≡ before ++ text) × IsFilled query places values text
+written_end query places values at k before after next w h l n =
+    let all : take k values ≡ values = taken_all values k (omega (arith, h, l)) in
+    let onward : filled query 0 places w.literals ≡ w.written ++ drop at query =
+    ap (filled query 0 places) (sym (append-nil w.literals)) ∙ w.onward [] ∙ ap (λ ps. w.written ++ filled query at ps []) (no_places_left places k h) ∙ ap (λ y. w.written ++ y) (append-nil (drop at query)) in (
+      w.written ++ drop at query,
+      n ∙ ap (λ y. y ++ drop at query) w.appended ∙ append_assoc before w.written (drop at query),
+      record {
+        literals = w.literals;
+        each = ap (map literal_of) (sym all) ∙ w.each;
+        have = subst (AllByRecursion HasLiteral) all w.have;
+        spelled = sym onward;
+      },
+    )
+
+pub written_front : (query : List ℕ) (places : List Place) (values : List Value) (at : ℕ) (left : List Place) (k : ℕ) (before after : List ℕ) → WrittenTo query places values at left k before after → (piece : List ℕ) → take (length before) (after ++ piece) ≡ before
+written_front query places values at left k before after w piece = ap (λ y. take (length before) (y ++ piece)) w.appended ∙ ap (take (length before)) (append_assoc before w.written piece) ∙ take_all_front before (w.written ++ piece)
+
+-- a value with a literal has a content
+has_content : (value : Value) (text : List ℕ) → literal_of value ≡ Some text → (content : Content) × (content_of value ≡ Some content)
+has_content NULL text h = (_, refl)
+has_content (Bytes bytes) text h = (_, refl)
+has_content (Int z) text h = (_, refl)
+has_content (UInt n) text h = (_, refl)
+has_content (Float bits) text h = cc
+has_content (Double bits) text h = cc
+has_content (Date year month day hour minute second micros) text h = (_, refl)
+has_content (Time negative days hours minutes seconds micros) text h = (_, refl)
+
+pub no_literal_no_content : (value : Value) → literal_of value ≡ None → content_of value ≡ None
+no_literal_no_content NULL h = cc
+no_literal_no_content (Bytes bytes) h = cc
+no_literal_no_content (Int z) h = cc
+no_literal_no_content (UInt n) h = cc
+no_literal_no_content (Float bits) h = refl
+no_literal_no_content (Double bits) h = refl
+no_literal_no_content (Date year month day hour minute second micros) h = cc
+no_literal_no_content (Time negative days hours minutes seconds micros) h = cc
+
+-- each of these is a literal of the content beside it
+abbrev pub AreLiterals : List (List ℕ) → List Content → Type 0
+AreLiterals [] [] = Unit {0}
+AreLiterals [] (content ∷ contents) = ⊥
+AreLiterals (literal ∷ literals) [] = ⊥
+AreLiterals (literal ∷ literals) (content ∷ contents) = IsLiteral literal content × AreLiterals literals contents
+
+abbrev is_float : Value → Bool
+is_float value = is_none (content_of value)
+
+-- the contents of values with literals
+pub record Contents (values : List Value) (literals : List (List ℕ)) : Type 0 where
+  pub contents : List Content
+  pub each : map content_of values ≡ map Some contents
+  pub are : AreLiterals literals contents
+  pub count : length literals ≡ length values
+
+pub contents_of : (values : List Value) (literals : List (List ℕ)) → map literal_of values ≡ map Some literals → AllByRecursion HasLiteral values → Contents values literals
+contents_of [] [] e h = record { contents = []; each = refl; are = tt; count = refl }
+contents_of [] (l ∷ literals) e h = cc
+contents_of (v ∷ values) [] e h = cc
+contents_of (v ∷ values) (l ∷ literals) e h =
+    let first : literal_of v ≡ Some l = cc in
+    let later : map literal_of values ≡ map Some literals = cc in
+    let c : (content : Content) × (content_of v ≡ Some content) = has_content v l first in
+    let o : Contents values literals = contents_of values literals later h.1 in
+    let n : length literals ≡ length values = o.count in
+    record { contents = c.0 ∷ o.contents; each = ap (λ y. y ∷ map content_of values) c.1 ∙ ap (λ ys. Some c.0 ∷ ys) o.each; are = (h.0 l c.0 first c.1, o.are); count = omega (arith, n) }
+
+pub no_floats : (values : List Value) (literals : List (List ℕ)) (i : ℕ) → map literal_of values ≡ map Some literals → position_from is_float i values ≡ None
+no_floats [] literals i e = refl
+no_floats (v ∷ values) [] i e = cc
+no_floats (v ∷ values) (l ∷ literals) i e =
+    let first : literal_of v ≡ Some l = cc in
+    let later : map literal_of values ≡ map Some literals = cc in
+    let c : (content : Content) × (content_of v ≡ Some content) = has_content v l first in
+    let some : is_float v ≡ false = ap is_none c.1 in
+    rw some (no_floats values literals (i + 1) later)
+
+-- the first value that has no literal is the first float
+pub float_at : {A : Type 0} → (f : A → Value) (xs : List A) (k i : ℕ) (x : A) (literals : List (List ℕ)) → map literal_of (take k (map f xs)) ≡ map Some literals → k < length xs → x ≡ get_or xs k x → literal_of (f x) ≡ None
+    → position_from is_float i (map f xs) ≡ Some (i + k)
+float_at f [] k i x literals e h g n = absurd (omega arith)
+float_at f (y ∷ xs) zero i x literals e h g n =
+    let none : is_float (f y) ≡ true = ap is_none (ap (λ z. content_of (f z)) (sym g) ∙ no_literal_no_content (f x) n) in
+    let j : i ≡ i + zero = omega arith in
+    rw none (ap Some j)
+float_at f (y ∷ xs) (suc k) i x [] e h g n = cc
+float_at f (y ∷ xs) (suc k) i x (l ∷ literals) e h g n =
+    let first : literal_of (f y) ≡ Some l = cc in
+    let later : map literal_of (take k (map f xs)) ≡ map Some literals = cc in
+    let c : (content : Content) × (content_of (f y) ≡ Some content) = has_content (f y) l first in
+    let some : is_float (f y) ≡ false = ap is_none c.1 in
+    let j : i + 1 + k ≡ i + suc k = omega arith in
+    rw some (float_at f xs k (i + 1) x literals later (omega arith) g n ∙ ap Some j)
+
+pub filled_alternates : (query : List ℕ) (at : ℕ) (places : List Place) (literals : List (List ℕ)) (contents : List Content) → length literals ≡ length places → AreLiterals literals contents → Alternates (slices_between query at places) contents (filled query at places literals)
+filled_alternates query at [] [] [] n h = append-nil (drop at query)
+filled_alternates query at [] [] (c ∷ contents) n h = elim h [ ]
+filled_alternates query at [] (l ∷ literals) contents n h = absurd (omega (arith, n))
+filled_alternates query at (p ∷ places) [] contents n h = absurd (omega (arith, n))
+filled_alternates query at (p ∷ places) (l ∷ literals) [] n h = elim h [ ]
+filled_alternates query at (p ∷ places) (l ∷ literals) (c ∷ contents) n h =
+    read_before query at p places c contents (filled query at (p ∷ places) (l ∷ literals)) l (filled query p.end places literals) h.0 refl (filled_alternates query p.end places literals contents (omega (arith, n)) h.1)

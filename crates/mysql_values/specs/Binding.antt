@@ -1,0 +1,78 @@
+-- The text that a query and a parameter set make, and why there is none.
+-- MySQL Reference Manual, "Literal Values" and "PREPARE Statement" (parameter markers).
+use Rattle.std.specs.Prelude.{◌≡◌, ℕ, ◌==◌, not, List, [], ◌∷◌, ◌++◌, map, length, is_none, Option, Some, None, Result, Ok, Err, if◌then◌else◌}
+use Rattle.std.specs.List.{concat, position_from, AllByRecursion}
+use Rattle.mysql_values.specs.Tokens.{HasTokens}
+use Rattle.mysql_values.specs.Queries.{is_mixed, pieces_of, places_from, slices_between}
+use Rattle.mysql_values.specs.Values.{content_of, literal_of}
+use Rattle.mysql_values.specs.AsSql.{HasLiteral}
+use Rattle.mysql_values.specs.Params.{names_of, values_over}
+use Rattle.mysql_values.specs.declared.value.Value.{Value}
+use Rattle.mysql_values.specs.declared.placeholders.Place.{Place}
+use Rattle.mysql_values.specs.declared.params.Params.{Params}
+use Rattle.mysql_values.specs.declared.params.ParamsError.{ParamsError}
+use Rattle.mysql_values.specs.declared.params.ParamsError.TheVariants.{Missing, Confusion, Memory}
+use Rattle.mysql_values.specs.declared.bind.BindError.{BindError}
+use Rattle.mysql_values.specs.declared.bind.BindError.TheVariants as bind_error
+
+-- the refusal for a set that gives no values: want of memory is that of the whole
+abbrev pub bind_error_of : ParamsError → BindError
+bind_error_of (Missing name) = bind_error.Params (Missing name)
+bind_error_of (Confusion confusion) = bind_error.Params (Confusion confusion)
+bind_error_of Memory = bind_error.Memory
+
+-- the first placeholder that doesn't stand alone
+abbrev pub first_not_alone : List Place → Option ℕ
+first_not_alone places = position_from (λ place. not place.alone) 0 places
+
+-- the first value that is a float
+abbrev pub first_float : List Value → Option ℕ
+first_float values = position_from (λ value. is_none (content_of value)) 0 values
+
+-- a fault at a placeholder, if there is one
+abbrev pub float_cause : Option ℕ → Option BindError
+float_cause None = None
+float_cause (Some place) = Some (bind_error.Float place)
+
+-- what is wrong with values for so many placeholders
+abbrev pub values_cause : ℕ → Result (List Value) ParamsError → Option BindError
+values_cause count (Err error) = Some (bind_error.Params error)
+values_cause count (Ok values) = if length values == count then float_cause (first_float values) else Some bind_error.WrongCount
+
+-- the cause at a placeholder that doesn't stand alone, else the one behind it
+abbrev pub alone_cause : Option ℕ → Option BindError → Option BindError
+alone_cause None other = other
+alone_cause (Some place) other = Some (bind_error.NotAlone place)
+
+-- The first cause, in the order of the errors, for which no text is bound to these placeholders and the values over them.
+abbrev pub bind_cause : List Place → Result (List Value) ParamsError → Option BindError
+bind_cause places over = if is_mixed places then Some bind_error.Mixed else alone_cause (first_not_alone places) (values_cause (length places) over)
+
+-- pieces with literals between them
+abbrev pub interleaved : List (List ℕ) → List (List ℕ) → List ℕ
+interleaved pieces [] = concat pieces
+interleaved [] (literal ∷ literals) = []
+interleaved (piece ∷ pieces) (literal ∷ literals) = piece ++ (literal ++ interleaved pieces literals)
+
+-- no text is bound, for this cause
+abbrev pub IsBindCause : List ℕ → Params → BindError → Type 0
+IsBindCause query params error =
+    (tokens : List (List ℕ)) × HasTokens query tokens × (bind_cause (places_from query 0 tokens) (values_over (names_of tokens) params) ≡ Some error)
+
+-- the text that is bound: the query's pieces with the literal of each value between them; no cause speaks against it
+pub record IsBound (query : List ℕ) (params : Params) (text : List ℕ) : Type 0 where
+  pub tokens : List (List ℕ)
+  pub has : HasTokens query tokens
+  pub values : List Value
+  pub over : values_over (names_of tokens) params ≡ Ok values
+  pub none : bind_cause (places_from query 0 tokens) (Ok values) ≡ None
+  pub literals : List (List ℕ)
+  pub each : map literal_of values ≡ map Some literals
+  pub spelled : text ≡ interleaved (pieces_of tokens) literals
+
+-- a text between the placeholders of a query: its pieces with the literals of the values between them, each a literal of its content
+pub record IsFilled (query : List ℕ) (places : List Place) (values : List Value) (text : List ℕ) : Type 0 where
+  pub literals : List (List ℕ)
+  pub each : map literal_of values ≡ map Some literals
+  pub have : AllByRecursion HasLiteral values
+  pub spelled : text ≡ interleaved (slices_between query 0 places) literals

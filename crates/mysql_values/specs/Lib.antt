@@ -1,0 +1,14 @@
+pub mod Tokens
+pub mod Literals
+pub mod Queries
+pub mod Written
+pub mod Laws
+pub mod Scanning
+pub mod TokenKinds
+pub mod LiteralRuns
+pub mod LiteralViews
+pub mod Values
+pub mod Parsed
+pub mod Params
+pub mod Binding
+pub mod AsSql

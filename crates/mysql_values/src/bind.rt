@@ -1,0 +1,197 @@
+//! A query's text with literals in the places of its placeholders.
+
+ghost use Rattle.mysql_values.specs.AsSql.{HasLiteral};
+ghost use Rattle.mysql_values.specs.Binding.{IsBindCause, IsBound, IsFilled, bind_cause, bind_error_of, first_float, first_not_alone as first_apart, values_cause};
+ghost use Rattle.mysql_values.specs.Params.{IsMeaning, names_at, values_over};
+ghost use Rattle.mysql_values.specs.Queries.{HasPlaces, Lexes, Slices, is_mixed as has_both_kinds};
+ghost use Rattle.mysql_values.specs.Values.{literal_of};
+ghost use Rattle.mysql_values.specs.declared.content.Content.{Content};
+ghost use Rattle.mysql_values.specs.declared.params.ParamsError.{ParamsError as ParamsErrorOf};
+ghost use Rattle.mysql_values.specs.declared.value.Value.{Value as ValueOf};
+ghost use Rattle.std.specs.Prelude.{
+  ◌++◌,
+  ◌≡◌,
+  ◌⊎◌,
+  Err,
+  IfErr,
+  IfOk,
+  IsSomeAnd,
+  List,
+  None,
+  Ok,
+  OnErr,
+  OnOk,
+  Result,
+  Some,
+  false,
+  length,
+  map,
+  take,
+  ℕ,
+};
+ghost use Rattle.mysql_values.specs.declared.bind.BindError.TheVariants as bind_error;
+
+use crate::as_sql::{AsSqlError, push_literal};
+use crate::named_params::names_among;
+use crate::params::{Params, ParamsError, values_over_names};
+use crate::placeholders::{Place, find_places, first_not_alone, is_mixed};
+use crate::value::Value;
+use std::alloc::{AllocError, AllocFailed, Global};
+use thiserror::Error;
+
+/// Why no text is bound, in the order in which the causes are looked for.
+#[derive(Debug, PartialEq, Eq, Hash, Drop, Error)]
+pub enum BindError {
+    /// The query has both kinds of placeholder.
+    #[error("the query has both named and positional parameters")]
+    Mixed,
+    /// The first placeholder that does not stand alone, counted from 0.
+    #[error("placeholder {0} does not stand alone")]
+    NotAlone(usize),
+    /// The set gives the query no values. This is never `Memory`.
+    #[error("{0}")]
+    Params(ParamsError),
+    /// The values are not as many as the placeholders.
+    #[error("the values are not as many as the placeholders")]
+    WrongCount,
+    /// The first placeholder whose value is a float, counted from 0.
+    #[error("the value of placeholder {0} is a float")]
+    Float(usize),
+    #[error("out of memory")]
+    Memory,
+}
+
+impl From<AllocError> for BindError {
+    ghost from_gives = { λ _ e. e ≡ bind_error.Memory };
+
+    fn from(_e: AllocError) -> BindError {
+        BindError::Memory
+    }
+}
+
+impl<T: Drop> From<AllocFailed<T>> for BindError {
+    ghost from_gives = { λ _ e. e ≡ bind_error.Memory };
+
+    fn from(_e: AllocFailed<T>) -> BindError {
+        BindError::Memory
+    }
+}
+
+impl From<ParamsError> for BindError {
+    ghost from_gives = { λ inner outer. outer ≡ bind_error_of inner };
+
+    fn from(e: ParamsError) -> BindError {
+        match e {
+            ParamsError::Missing(name) => BindError::Params(ParamsError::Missing(name)),
+            ParamsError::Confusion(confusion) => {
+                BindError::Params(ParamsError::Confusion(confusion))
+            }
+            ParamsError::Memory => BindError::Memory,
+        }
+    }
+}
+
+/// Refuses `Mixed`, then `NotAlone`.
+fn check_places(places: &[Place]) -> Result<(), BindError>
+    ensures one_kind { OnOk result (has_both_kinds places.now ≡ false) }
+    ensures alone { OnOk result (first_apart places.now ≡ None) }
+    ensures err { IfErr result (λ e. (over : Result (List ValueOf) ParamsErrorOf) → bind_cause places.now over ≡ Some e) }
+{
+    if is_mixed(places) {
+        return Err(BindError::Mixed);
+    }
+    match first_not_alone(places) {
+        Some(place) => Err(BindError::NotAlone(place)),
+        None => Ok(()),
+    }
+}
+
+/// The values for the placeholders. Refuses `Params`, then `WrongCount`.
+fn values_to_bind<'a>(
+    alloc: Global,
+    query: &[u8],
+    places: &[Place],
+    params: &'a Params,
+) -> Result<Vec<&'a Value>, BindError>
+    requires { HasPlaces query.now places.now }
+    ensures over { IfOk result (λ values. values_over (names_at query.now places.now) params.entry.now ≡ Ok (map (λ value. value.now) values.items)) }
+    ensures count { IfOk result (λ values. length values.items ≡ length places.now) }
+    ensures err { IfErr result (λ e. (e ≡ bind_error.Memory) ⊎ (values_cause (length places.now) (values_over (names_at query.now places.now) params.entry.now) ≡ Some e)) }
+{
+    let names = names_among(alloc, query, places)?;
+    let values = values_over_names(alloc, params, &names)?;
+    if values.len() == places.len() {
+        Ok(values)
+    } else {
+        Err(BindError::WrongCount)
+    }
+}
+
+/// Appends the literal of the value at a placeholder.
+fn put_literal(out: &mut Vec<u8>, value: &Value, place: usize) -> Result<(), BindError>
+    ensures ok { OnOk result (IsSomeAnd (literal_of value.now) (λ text. out.new.items ≡ out.old.items ++ text)) }
+    ensures err { IfErr result (λ e. (e ≡ bind_error.Memory) ⊎ ((e ≡ bind_error.Float place) × (literal_of value.now ≡ None))) }
+    ensures kept { OnErr result (out.new.items ≡ out.old.items) }
+    ensures literal { HasLiteral value.now }
+{
+    match push_literal(out, value) {
+        Ok(()) => Ok(()),
+        Err(AsSqlError::Float) => Err(BindError::Float(place)),
+        Err(AsSqlError::Memory) => Err(BindError::Memory),
+    }
+}
+
+/// Appends the query's pieces with the values' literals between. Refuses `Float`; a refusal may leave a part behind.
+fn put_text(
+    out: &mut Vec<u8>,
+    query: &[u8],
+    places: &[Place],
+    values: &[&Value],
+) -> Result<(), BindError>
+    requires places { HasPlaces query.now places.now }
+    requires count { length values.now ≡ length places.now }
+    ensures ok { OnOk result ((text : List ℕ) × (out.new.items ≡ out.old.items ++ text) × IsFilled query.now places.now (map (λ value. value.now) values.now) text) }
+    ensures err { IfErr result (λ e. (e ≡ bind_error.Memory) ⊎ ((place : ℕ) × (e ≡ bind_error.Float place) × (first_float (map (λ value. value.now) values.now) ≡ Some place))) }
+    ensures kept { take (length out.old.items) out.new.items ≡ out.old.items }
+{
+    let mut at = 0;
+    for i in 0..places.len() {
+        let place = places[i];
+        out.extend_from_slice(&query[at..place.start])?;
+        put_literal(out, values[i], i)?;
+        at = place.end;
+    }
+    out.extend_from_slice(&query[at..])?;
+    Ok(())
+}
+
+/// Appends the text of a query with the literals of a set's values in the places of its placeholders.
+///
+/// The literals are for a server that takes backslash escapes; an all-zero time is written without its sign.
+///
+/// # Errors
+/// `Mixed`, `NotAlone` with the first such placeholder, `Params`, `WrongCount`, `Float` with the first such placeholder, `Memory`; nothing is appended then.
+pub fn bind_text(
+    alloc: Global,
+    query: &[u8],
+    params: &Params,
+    out: &mut Vec<u8>,
+) -> Result<(), BindError>
+    // What is appended is the text of the set over the query, and reads as the set's meaning in both ways.
+    ensures ok { OnOk result ((text : List ℕ) × (contents : List Content) × (out.new.items ≡ out.old.items ++ text) × IsBound query.now params.now text
+        × IsMeaning query.now params.now contents × Slices query.now text contents × Lexes query.now text contents) }
+    ensures err { IfErr result (λ e. (e ≡ bind_error.Memory) ⊎ IsBindCause query.now params.now e) }
+    ensures kept { OnErr result (out.new.items ≡ out.old.items) }
+{
+    let places = find_places(alloc, query)?;
+    check_places(&places)?;
+    let values = values_to_bind(alloc, query, &places, params)?;
+    let start = out.len();
+    match put_text(out, query, &places, &values) {
+        Ok(()) => Ok(()),
+        Err(e) => {
+            out.truncate(start);
+            Err(e)
+        }
+    }
+}

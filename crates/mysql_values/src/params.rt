@@ -1,0 +1,254 @@
+//! Parameter sets of a query.
+
+ghost use Rattle.mysql_values.specs.Params.{IsMissing, IsPositional, names_given, value_named, values_named, values_over};
+ghost use Rattle.std.specs.Prelude.{◌≡◌, ◌⊎◌, Err, IfErr, IfOk, Ok, map, option_copied};
+ghost use Rattle.mysql_values.specs.declared.params.ParamsError.TheVariants as params_error;
+ghost use Rattle.mysql_values.specs.declared.params.SetError.TheVariants as set_error;
+
+use crate::byte_string::ByteString;
+use crate::named_params::ParsedNamedParams;
+use crate::value::Value;
+use std::alloc::{AllocError, AllocFailed, Global};
+use std::collections::HashMap;
+use std::convert::AsSlice;
+use thiserror::Error;
+
+/// A set of parameters of a query.
+#[derive(Debug, PartialEq, Eq, Drop)]
+pub enum Params {
+    /// No values.
+    Empty,
+    /// A value for each name.
+    Named(HashMap<Vec<u8>, Value>),
+    /// The values in order.
+    Positional(Vec<Value>),
+}
+
+/// The first name of a query for which a set has no value.
+#[derive(Debug, PartialEq, Eq, Hash, Drop, Error)]
+#[error("a named parameter of the query has no value")]
+pub struct MissingNamedParameterError(pub ByteString);
+
+/// A set of the other kind than the query's placeholders.
+#[derive(Clone, Copy, Debug, PartialEq, Eq, Hash, Error)]
+pub enum ParamsConfusionError {
+    /// Names for a query that has none.
+    #[error("named parameters for a query without names")]
+    NamedParamsForPositionalQuery,
+    /// A list of values for a query with names.
+    #[error("positional parameters for a query with names")]
+    PositionalParamsForNamedQuery,
+}
+
+/// Why a set gives a query no values.
+#[derive(Debug, PartialEq, Eq, Hash, Drop, Error)]
+pub enum ParamsError {
+    #[error("{0}")]
+    Missing(MissingNamedParameterError),
+    #[error("{0}")]
+    Confusion(ParamsConfusionError),
+    #[error("out of memory")]
+    Memory,
+}
+
+impl From<AllocError> for ParamsError {
+    ghost from_gives = { λ _ e. e ≡ params_error.Memory };
+
+    fn from(_e: AllocError) -> ParamsError {
+        ParamsError::Memory
+    }
+}
+
+impl<T: Drop> From<AllocFailed<T>> for ParamsError {
+    ghost from_gives = { λ _ e. e ≡ params_error.Memory };
+
+    fn from(_e: AllocFailed<T>) -> ParamsError {
+        ParamsError::Memory
+    }
+}
+
+/// Why no parameter set is made of what was handed in.
+#[derive(Debug, PartialEq, Eq, Hash, Drop, Error)]
+pub enum SetError {
+    #[error("{0}")]
+    Params(ParamsError),
+    /// The first name that an earlier pair has too.
+    #[error("a named parameter is given twice")]
+    Redefined(ByteString),
+    /// The least place whose value is too long.
+    #[error("the value at place {0} is too long")]
+    TooLong(usize),
+    #[error("out of memory")]
+    Memory,
+}
+
+impl From<AllocError> for SetError {
+    ghost from_gives = { λ _ e. e ≡ set_error.Memory };
+
+    fn from(_e: AllocError) -> SetError {
+        SetError::Memory
+    }
+}
+
+impl<T: Drop> From<AllocFailed<T>> for SetError {
+    ghost from_gives = { λ _ e. e ≡ set_error.Memory };
+
+    fn from(_e: AllocFailed<T>) -> SetError {
+        SetError::Memory
+    }
+}
+
+/// The value of a name.
+fn find<'a>(entries: &'a HashMap<Vec<u8>, Value>, name: &[u8]) -> Option<&'a Value>
+    ensures { option_copied result ≡ value_named name.now entries.entry.now.entries }
+{
+    entries.get(name)
+}
+
+/// The value of each name, in order.
+///
+/// Refuses `Missing` with the first name that has none, `Memory`.
+fn look_up<'a, N: AsSlice<u8>>(
+    alloc: Global,
+    entries: &'a HashMap<Vec<u8>, Value>,
+    names: &[N],
+) -> Result<Vec<&'a Value>, ParamsError>
+    ensures ok { IfOk result (λ values. values_named entries.entry.now.entries (map N.items names.now) ≡ Ok (map (λ value. value.now) values.items)) }
+    ensures err { IfErr result (λ e. (e ≡ params_error.Memory) ⊎ (values_named entries.entry.now.entries (map N.items names.now) ≡ Err e)) }
+{
+    let mut values = Vec::new(alloc);
+    for name in names {
+        let Some(value) = find(entries, name.as_slice()) else {
+            let name = ByteString::copy(alloc, name.as_slice())?;
+            return Err(ParamsError::Missing(MissingNamedParameterError(name)));
+        };
+        values.push(value)?;
+    }
+    Ok(values)
+}
+
+/// The values that a set gives a query with these names.
+pub(crate) fn values_over_names<'a, N: AsSlice<u8>>(
+    alloc: Global,
+    params: &'a Params,
+    names: &[N],
+) -> Result<Vec<&'a Value>, ParamsError>
+    ensures ok { IfOk result (λ values. values_over (map N.items names.now) params.entry.now ≡ Ok (map (λ value. value.now) values.items)) }
+    ensures err { IfErr result (λ e. (e ≡ params_error.Memory) ⊎ (values_over (map N.items names.now) params.entry.now ≡ Err e)) }
+{
+    match params {
+        Params::Empty => Ok(Vec::new(alloc)),
+        Params::Positional(values) => {
+            if names.is_empty() {
+                Ok(lent(alloc, values)?)
+            } else {
+                Err(ParamsError::Confusion(ParamsConfusionError::PositionalParamsForNamedQuery))
+            }
+        }
+        Params::Named(entries) => {
+            if names.is_empty() {
+                Err(ParamsError::Confusion(ParamsConfusionError::NamedParamsForPositionalQuery))
+            } else {
+                look_up(alloc, entries, names)
+            }
+        }
+    }
+}
+
+/// Copies of the values.
+fn copies(alloc: Global, values: &[&Value]) -> Result<Vec<Value>, AllocError>
+    ensures { IfOk result (λ copies. copies.items ≡ map (λ value. value.now) values.now) }
+{
+    let mut copies = Vec::with_capacity(alloc, values.len())?;
+    for value in values {
+        let value: &Value = *value;
+        copies.push(value.clone(alloc)?)?;
+    }
+    Ok(copies)
+}
+
+/// The values themselves, lent.
+fn lent<'a>(alloc: Global, values: &'a [Value]) -> Result<Vec<&'a Value>, AllocError>
+    ensures { IfOk result (λ lent. map (λ value. value.now) lent.items ≡ values.entry.now) }
+{
+    let mut lent = Vec::with_capacity(alloc, values.len())?;
+    for value in values {
+        lent.push(value)?;
+    }
+    Ok(lent)
+}
+
+impl Params {
+    /// The values that the set gives a query, in the order of its placeholders, lent.
+    ///
+    /// A set by name looks up each name of the query, a name that occurs twice twice; names that the query lacks are left aside.
+    ///
+    /// # Errors
+    /// `Missing` with the first name that has no entry; `Confusion` for names over a query without names, and for a list of values over a query with names; `Memory`.
+    pub fn values_for<'a>(
+        &'a self,
+        alloc: Global,
+        query: &ParsedNamedParams<'_>,
+    ) -> Result<Vec<&'a Value>, ParamsError>
+        ensures ok { IfOk result (λ values. values_over query.now.names self.entry.now ≡ Ok (map (λ value. value.now) values.items)) }
+        ensures err { IfErr result (λ e. (e ≡ params_error.Memory) ⊎ (values_over query.now.names self.entry.now ≡ Err e)) }
+    {
+        values_over_names(alloc, self, query.params())
+    }
+
+    /// The values that the set gives a query with these names, in the order of its placeholders. An empty list of names counts as none.
+    ///
+    /// # Errors
+    /// `Missing` with the first name that has no entry; `Confusion` for names over a query without names, and for a list of values over a query with names; `Memory`.
+    pub fn into_values(
+        self,
+        alloc: Global,
+        named_params: Option<&[Vec<u8>]>,
+    ) -> Result<Vec<Value>, ParamsError>
+        ensures ok { IfOk result (λ values. values_over (names_given (option_copied named_params.entry)) self ≡ Ok values.items) }
+        ensures err { IfErr result (λ e. (e ≡ params_error.Memory) ⊎ (values_over (names_given (option_copied named_params.entry)) self ≡ Err e)) }
+    {
+        let names = named_params.unwrap_or(&[]);
+        match self {
+            Params::Empty => Ok(Vec::new(alloc)),
+            Params::Positional(values) => {
+                if names.is_empty() {
+                    Ok(values)
+                } else {
+                    Err(ParamsError::Confusion(ParamsConfusionError::PositionalParamsForNamedQuery))
+                }
+            }
+            Params::Named(entries) => {
+                if names.is_empty() {
+                    return Err(ParamsError::Confusion(
+                        ParamsConfusionError::NamedParamsForPositionalQuery,
+                    ));
+                }
+                let values = look_up(alloc, &entries, names)?;
+                Ok(copies(alloc, &values)?)
+            }
+        }
+    }
+
+    /// The set by place: a set by name as the list of the values of these names, any other set as it is.
+    ///
+    /// # Errors
+    /// `Missing` with the first name that has no entry, `Memory`.
+    pub fn into_positional(
+        self,
+        alloc: Global,
+        named_params: &[Vec<u8>],
+    ) -> Result<Params, ParamsError>
+        ensures ok { IfOk result (λ set. IsPositional (map (λ name. name.items) named_params.now) self set) }
+        ensures err { IfErr result (λ e. (e ≡ params_error.Memory) ⊎ IsMissing (map (λ name. name.items) named_params.now) self e) }
+    {
+        match self {
+            Params::Empty => Ok(Params::Empty),
+            Params::Positional(values) => Ok(Params::Positional(values)),
+            Params::Named(entries) => {
+                let values = look_up(alloc, &entries, named_params)?;
+                Ok(Params::Positional(copies(alloc, &values)?))
+            }
+        }
+    }
+}

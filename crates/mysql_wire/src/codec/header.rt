@@ -1,0 +1,66 @@
+//! The front of a header that a reader keeps from one piece of a stream to the next.
+
+ghost use Rattle.std.specs.Prelude.{◌≡◌, ◌<◌, [], ◌++◌, length};
+
+use bytes::Buf;
+use bytes::buf::Chain;
+use std::marker::Model;
+
+/// The bytes of a chunk's header of which fewer than four came: what [`PacketCodec::decode`] leaves
+/// of a piece of a stream, to be read before the next piece.
+/// (MySQL: Client/Server Protocol, "Protocol Basics: MySQL Packets".)
+///
+/// [`PacketCodec::decode`]: super::PacketCodec::decode
+#[derive(Debug, Drop)]
+pub struct PartialHeader {
+    bytes: [u8; 3],
+    len: usize,
+}
+
+impl Model for PartialHeader {
+    ghost use Rattle.std.specs.Prelude.{ℕ, List, ◌≤◌, take};
+
+    ghost Value = { List ℕ };
+
+    ghost view = { λ header. take header.len header.bytes };
+
+    ghost invariant = { λ header. header.len ≤ 3 };
+}
+
+impl PartialHeader {
+    /// No byte came.
+    pub fn new() -> Self
+        ensures { result ≡ [] }
+    {
+        PartialHeader {
+            bytes: [0; 3],
+            len: 0,
+        }
+    }
+
+    /// All that is left of a buffer that holds fewer than four bytes.
+    pub fn rest_of<B: Buf>(src: &mut B) -> Self
+        requires { length (B.unread src.old) < 4 }
+        ensures { result ≡ B.unread src.old }
+    {
+        let len = src.remaining();
+        let mut bytes = [0; 3];
+        src.copy_to_slice(&mut bytes[..len]);
+        PartialHeader { bytes, len }
+    }
+
+    /// The bytes that came.
+    pub fn as_slice(&self) -> &[u8]
+        ensures value { result.now ≡ self.now }
+        ensures short { length self.now < 4 }
+    {
+        &self.bytes[..self.len]
+    }
+
+    /// The bytes that came and then those of the next piece, as one buffer, without copying the piece.
+    pub fn followed_by<'a>(&'a self, piece: &'a [u8]) -> Chain<&'a [u8], &'a [u8]>
+        ensures { ⟦<Chain<&'a [u8], &'a [u8]> as Buf>⟧.unread result ≡ self.now ++ piece.now }
+    {
+        self.as_slice().chain(piece)
+    }
+}

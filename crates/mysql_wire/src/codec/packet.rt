@@ -1,0 +1,114 @@
+//! One packet read from a buffer: its payload bytes go on to where they are wanted as they come.
+
+ghost use Rattle.std.specs.Bool.{OnFalse, OnTrue};
+ghost use Rattle.std.specs.Prelude.{◌≡◌, ◌≢◌, ◌⊎◌, ◌%◌, ◌^◌, false, ◌<◌, ◌≤◌, ◌++◌, IfErr, IfOk, Ok, OnErr, OnOk, drop, length, take};
+ghost use Rattle.mysql_wire.specs.Codec.{Decodes, IsDue, IsOfPacket};
+ghost use Rattle.mysql_wire.specs.Framing.{max_payload_len};
+ghost use Rattle.mysql_wire.specs.Moving.{NextChunk, begun_of, codec_of};
+
+use super::Refusal;
+use super::chunk::{MAX_PAYLOAD_LEN, header_of};
+use bytes::{Buf, BytesMut};
+use std::alloc::AllocError;
+
+/// A chunk whose header was taken while its bytes still come.
+#[derive(Clone, Copy, Debug, PartialEq, Eq)]
+pub(super) struct BegunChunk {
+    number: u8,
+    awaited: usize,
+}
+
+// The chunk whose bytes come next, if its header stands.
+fn next_chunk<B: Buf>(
+    begun: Option<BegunChunk>,
+    src: &mut B,
+    filled: usize,
+    limit: usize,
+) -> Result<Option<BegunChunk>, Refusal>
+    requires { filled < 2 ^ 63 }
+    ensures { NextChunk begun (B.unread src.old) filled limit result (B.unread src.new) }
+{
+    if begun.is_some() {
+        return Ok(begun);
+    }
+    if src.remaining() < 4 {
+        return Ok(None);
+    }
+    let mut header = [0; 4];
+    src.copy_to_slice(&mut header);
+    let (awaited, number) = header_of(&header);
+    if filled + awaited > limit {
+        return Err(Refusal::TooLarge);
+    }
+    Ok(Some(BegunChunk { number, awaited }))
+}
+
+// Moves the first bytes of a buffer to the end of another: all of them, or none.
+fn move_bytes<B: Buf>(src: &mut B, count: usize, dst: &mut BytesMut) -> Result<(), AllocError>
+    requires { count ≤ length (B.unread src.old) }
+    ensures ok { OnOk result (dst.new.items ≡ dst.old.items ++ take count (B.unread src.old)) }
+    ensures rest { OnOk result (B.unread src.new ≡ drop count (B.unread src.old)) }
+    ensures err { OnErr result (dst.new.items ≡ dst.old.items) }
+{
+    dst.reserve(count)?;
+    let mut moved = 0;
+    'parts: while moved < count {
+        let part = src.chunk();
+        let len = part.len().min(count - moved);
+        dst.extend_reserved(&part[..len]);
+        src.advance(len);
+        moved += len;
+    }
+    Ok(())
+}
+
+// Whether the chunk whose last `count` bytes were moved is its packet's last one, being shorter than a
+// full one: so it is where it had no bytes, or where what was moved of the packet isn't full chunks.
+fn is_last_chunk(count: usize, filled: usize) -> bool
+    ensures last { OnTrue result ((count ≡ 0) ⊎ (filled % max_payload_len ≢ 0)) }
+    ensures middle { OnFalse result ((count ≢ 0) × (filled % max_payload_len ≡ 0)) }
+{
+    count == 0 || filled % MAX_PAYLOAD_LEN != 0
+}
+
+/// Moves the bytes of one packet from `src` to `dst`, as far as they came, and answers whether it is whole.
+pub(super) fn take_packet<B: Buf>(
+    number: &mut u8,
+    begun: &mut Option<BegunChunk>,
+    src: &mut B,
+    dst: &mut BytesMut,
+    limit: usize,
+) -> Result<bool, Refusal>
+    requires { IsOfPacket limit (begun_of begun.old) dst.old.items }
+    ensures ok { IfOk result (λ whole. Decodes (codec_of number.old limit begun.old) (B.unread src.old) dst.old.items whole
+        (codec_of number.new limit begun.new) (B.unread src.new) dst.new.items) }
+    ensures err { IfErr result (IsDue (codec_of number.old limit begun.old) (B.unread src.old) dst.old.items) }
+    ensures moved { result ≡ Ok false → length (B.unread src.new) < 4 }
+{
+    'chunks: loop {
+        let chunk = match next_chunk(*begun, src, dst.len(), limit) {
+            Ok(Some(chunk)) => chunk,
+            Ok(None) => return Ok(false),
+            Err(refusal) => return Err(refusal),
+        };
+        let count = chunk.awaited.min(src.remaining());
+        if move_bytes(src, count, dst).is_err() {
+            return Err(Refusal::Memory);
+        }
+        if count < chunk.awaited {
+            *begun = Some(BegunChunk {
+                number: chunk.number,
+                awaited: chunk.awaited - count,
+            });
+            return Ok(false);
+        }
+        *begun = None;
+        if chunk.number != *number {
+            return Err(Refusal::OutOfSync);
+        }
+        *number = number.wrapping_add(1);
+        if is_last_chunk(count, dst.len()) {
+            return Ok(true);
+        }
+    }
+}

@@ -1,0 +1,49 @@
+//! Payloads written as chunks.
+
+ghost use Rattle.std.specs.Prelude.{◌≡◌, ◌+◌, ◌++◌, ◌≤◌, IfOk, OnErr, OnOk, length};
+ghost use Rattle.mysql_wire.specs.Framing.{chunk, framing, max_payload_len, number_after};
+
+use super::chunk::MAX_PAYLOAD_LEN;
+use bytes::BufMut;
+use std::alloc::AllocError;
+
+// Writes a chunk, where there is room.
+fn put_chunk<B: BufMut>(number: u8, bytes: &[u8], dst: &mut B)
+    requires fits { length bytes.now ≤ max_payload_len }
+    requires room { 4 + length bytes.now ≤ B.spare dst.old }
+    ensures items { B.written dst.new ≡ B.written dst.old ++ chunk number bytes.now }
+    ensures spare { B.spare dst.old ≤ B.spare dst.new + 4 + length bytes.now }
+{
+    let count = bytes.len();
+    let header = [
+        (count % 256) as u8,
+        (count / 256 % 256) as u8,
+        (count / 65536 % 256) as u8,
+        number,
+    ];
+    dst.put_slice(&header).unwrap();
+    dst.put_slice(bytes).unwrap();
+}
+
+/// Appends the framing of `payload` to `dst`, its first chunk numbered `id`, and answers the number
+/// after its last chunk: `id` and the count of chunks, modulo 256. A payload of n bytes takes
+/// n / [`MAX_PAYLOAD_LEN`] + 1 chunks, so one that fills its chunks ends with an empty chunk.
+///
+/// The error is a growth of `dst` that was refused; `dst` then holds what it held.
+/// (MySQL: Client/Server Protocol, "Protocol Basics: MySQL Packets", "Sending More Than 16Mb" and "Sequence ID".)
+pub fn packet_to_chunks<B: BufMut>(id: u8, payload: &[u8], dst: &mut B) -> Result<u8, AllocError>
+    ensures ok { OnOk result (B.written dst.new ≡ B.written dst.old ++ framing payload.now id) }
+    ensures next { IfOk result (λ next. next ≡ number_after payload.now id) }
+    ensures err { OnErr result (B.written dst.new ≡ B.written dst.old) }
+{
+    dst.reserve(payload.len() + 4 * (payload.len() / MAX_PAYLOAD_LEN + 1))?;
+    let mut number = id;
+    let mut rest = payload;
+    'slices: while rest.len() >= MAX_PAYLOAD_LEN {
+        put_chunk(number, &rest[..MAX_PAYLOAD_LEN], dst);
+        rest = &rest[MAX_PAYLOAD_LEN..];
+        number = number.wrapping_add(1);
+    }
+    put_chunk(number, rest, dst);
+    Ok(number.wrapping_add(1))
+}

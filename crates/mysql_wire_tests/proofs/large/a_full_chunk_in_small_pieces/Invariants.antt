@@ -1,0 +1,6 @@
+use Rattle.mysql_wire.specs.Codec.{CanGoOn}
+use Rattle.mysql_wire_tests.proofs.large.a_full_chunk_in_small_pieces.Given as goal
+
+-- the packet isn't whole yet
+abbrev pub invariant-loop : goal.invariant-loop
+invariant-loop g l = CanGoOn l.codec l.dst.items
