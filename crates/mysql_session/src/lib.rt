@@ -1,10 +1,14 @@
 //! Parameter sets of one query as streams of commands, and back.
 #![tactic(auto)]
 
+mod program;
 mod refusal;
 mod road;
 mod sender;
 
+pub use mysql_commands::{Audit, End, Receiver, ReceiverError, StreamFault, receive};
+pub use mysql_values::{Content, Params, ParamsError, SetError, Value};
+pub use program::{Status, run};
 pub use refusal::Refusal;
 pub use road::Road;
 pub use sender::send;

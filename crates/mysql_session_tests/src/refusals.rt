@@ -1,0 +1,117 @@
+//! Why sets are not sent.
+
+use crate::support::{named, sent};
+use mysql_session::{Params, ParamsError, Refusal, SetError, Value};
+use std::alloc::{AllocError, Global};
+
+/// The refusal of two sets over a query, behind five bytes that have to stay; None where they are sent.
+fn refusal(
+    alloc: Global,
+    query: &[u8],
+    first: Params,
+    second: Params,
+    limit: usize,
+) -> Result<Option<Refusal>, AllocError> {
+    let mut sets = Vec::new(alloc);
+    sets.push(first)?;
+    sets.push(second)?;
+    let mut out = Vec::from_slice(alloc, b"front")?;
+    let limit = limit.max(4);
+    match sent(alloc, query, &sets, limit, &mut out) {
+        Ok(()) => Ok(None),
+        Err(refusal) => {
+            if out.as_slice() == b"front".as_slice() {
+                Ok(Some(refusal))
+            } else {
+                Ok(None)
+            }
+        }
+    }
+}
+
+fn one(alloc: Global, value: Value) -> Result<Params, AllocError> {
+    named(alloc, b"a", value)
+}
+
+/// Whether the answer is the wanted one, or memory was refused on the way to the call.
+fn is(answer: Result<Option<Refusal>, AllocError>, wanted: Refusal) -> bool {
+    match answer {
+        Ok(Some(refusal)) => refusal == wanted,
+        Ok(None) => false,
+        Err(_) => true,
+    }
+}
+
+fn refused_by_limit(alloc: Global, limit: usize) -> Result<Option<Refusal>, AllocError> {
+    refusal(
+        alloc,
+        b"SELECT :a",
+        one(alloc, Value::Int(1))?,
+        one(alloc, Value::Int(10))?,
+        limit,
+    )
+}
+
+#[test]
+fn too_large(rt: HostRuntime) {
+    let alloc = rt.alloc();
+    assert!(rt; is(refused_by_limit(alloc, 12), Refusal::PacketTooLarge(0)));
+    assert!(rt; is(refused_by_limit(alloc, 13), Refusal::PacketTooLarge(1)));
+    assert!(rt; !matches!(refused_by_limit(alloc, 14), Ok(Some(_))));
+}
+
+fn refused_query(alloc: Global, query: &[u8], value: Value) -> Result<Option<Refusal>, AllocError> {
+    refusal(
+        alloc,
+        query,
+        one(alloc, Value::Int(1))?,
+        one(alloc, value)?,
+        1000,
+    )
+}
+
+#[test]
+fn queries(rt: HostRuntime) {
+    let alloc = rt.alloc();
+    assert!(rt; is(refused_query(alloc, b":a ?", Value::Int(1)), Refusal::Mixed));
+    assert!(rt;
+        is(
+            refused_query(alloc, b"SELECT 1-:a", Value::Int(1)),
+            Refusal::NotAlone(0)
+        )
+    );
+    assert!(rt;
+        is(
+            refused_query(alloc, b"SELECT :a", Value::Float(0)),
+            Refusal::Float(1, 0)
+        )
+    );
+}
+
+fn refused_empty(alloc: Global) -> Result<Option<Refusal>, AllocError> {
+    refusal(
+        alloc,
+        b"SELECT :a",
+        one(alloc, Value::Int(1))?,
+        Params::Empty,
+        1000,
+    )
+}
+
+#[test]
+fn sets(rt: HostRuntime) {
+    let alloc = rt.alloc();
+    assert!(rt; is(refused_empty(alloc), Refusal::WrongCount(1)));
+    assert!(rt;
+        matches!(
+            refused_query(alloc, b"SELECT ?", Value::Int(1)),
+            Ok(Some(Refusal::Params(0, SetError::Params(ParamsError::Confusion(_))))) | Err(_)
+        )
+    );
+    assert!(rt;
+        matches!(
+            refused_query(alloc, b"SELECT :b", Value::Int(1)),
+            Ok(Some(Refusal::Params(0, SetError::Params(ParamsError::Missing(_))))) | Err(_)
+        )
+    );
+}

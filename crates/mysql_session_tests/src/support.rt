@@ -1,0 +1,83 @@
+//! What the tests share.
+
+ghost use Rattle.std.specs.Prelude.{◌≤◌, ◌≡◌, OnErr};
+ghost use Rattle.mysql_session.specs.declared.road.Road.TheVariants as roads;
+
+use mysql_session::{
+    Audit, End, Params, Receiver, Refusal, Road, StreamFault, Value, receive, send,
+};
+use mysql_values::ByteString;
+use std::alloc::{AllocError, Global};
+use std::collections::HashMap;
+
+/// A set that gives one name a value.
+pub fn named(alloc: Global, name: &[u8], value: Value) -> Result<Params, AllocError> {
+    let mut values = HashMap::new(alloc);
+    let key = Vec::from_slice(alloc, name)?;
+    match values.insert(key, value) {
+        Ok(_) => Ok(Params::Named(values)),
+        Err(_) => Err(AllocError),
+    }
+}
+
+/// Bytes as a value.
+pub fn bytes(alloc: Global, bytes: &[u8]) -> Result<Value, AllocError> {
+    Ok(Value::Bytes(ByteString::from_vec(Vec::from_slice(alloc, bytes)?)))
+}
+
+/// What is appended for one set by text, with the id 1; or the refusal, the second one where the first is want of memory.
+pub fn sent(
+    alloc: Global,
+    query: &[u8],
+    sets: &[Params],
+    limit: usize,
+    out: &mut Vec<u8>,
+) -> Result<(), Refusal>
+    requires { 4 ≤ limit }
+    ensures { OnErr result (out.new.items ≡ out.old.items) }
+{
+    match send(alloc, query, sets, Road::Text, 1, limit, out) {
+        Err(Refusal::Memory) => send(alloc, query, sets, Road::Text, 1, limit, out),
+        other => other,
+    }
+}
+
+fn is_memory(audit: &Audit) -> bool {
+    matches!(audit.end, End::Fault(_, StreamFault::Memory))
+}
+
+/// The audit of a stream in one piece.
+pub fn read_whole(alloc: Global, query: &[u8], limit: usize, stream: &[u8]) -> Option<Audit>
+    requires { 4 ≤ limit }
+{
+    for _ in 0..2 {
+        if let Ok(audit) = receive(alloc, query, 1, limit, &[stream]) {
+            if !is_memory(&audit) {
+                return Some(audit);
+            }
+        }
+    }
+    None
+}
+
+/// The audit of a stream that comes byte by byte.
+pub fn read_by_bytes(alloc: Global, query: &[u8], limit: usize, stream: &[u8]) -> Option<Audit>
+    requires { 4 ≤ limit }
+{
+    for _ in 0..2 {
+        if let Ok(receiver) = Receiver::new(alloc, query, 1, limit) {
+            let audit = fed(receiver, stream);
+            if !is_memory(&audit) {
+                return Some(audit);
+            }
+        }
+    }
+    None
+}
+
+fn fed(mut receiver: Receiver, stream: &[u8]) -> Audit {
+    for byte in stream {
+        let _answer = receiver.feed(&[*byte]);
+    }
+    receiver.finish()
+}

@@ -1,0 +1,127 @@
+//! Sets sent by text.
+
+use crate::support::{bytes, named, read_by_bytes, read_whole, sent};
+use mysql_session::{Audit, Content, End, Params, Value};
+use std::alloc::{AllocError, Global};
+
+/// Whether the audit is whole and has one set of one content, and that is the wanted one.
+fn says(audit: Option<Audit>, wanted: &Content) -> bool {
+    match audit {
+        Some(audit) => {
+            matches!(audit.end, End::Whole)
+                && audit.sets.len() == 1
+                && audit.sets[0].len() == 1
+                && audit.sets[0][0] == *wanted
+        }
+        None => false,
+    }
+}
+
+/// Whether one value is sent as this stream, and read back as this content.
+fn goes_round(
+    alloc: Global,
+    value: Value,
+    stream: &[u8],
+    wanted: &Content,
+) -> Result<bool, AllocError> {
+    let mut sets = Vec::new(alloc);
+    sets.push(named(alloc, b"a", value)?)?;
+    let mut out = Vec::new(alloc);
+    if sent(alloc, b"SELECT :a", &sets, 1000, &mut out).is_err() {
+        return Ok(false);
+    }
+    Ok(
+        out.as_slice() == stream
+            && says(read_whole(alloc, b"SELECT :a", 1000, &out), wanted)
+            && says(read_by_bytes(alloc, b"SELECT :a", 1000, &out), wanted),
+    )
+}
+
+/// Tries again once, for the run in which an allocation of the first try is refused.
+fn holds(first: Result<bool, AllocError>, second: Result<bool, AllocError>) -> bool {
+    matches!(first, Ok(true)) || matches!(second, Ok(true))
+}
+
+#[test]
+fn a_number(rt: HostRuntime) {
+    let alloc = rt.alloc();
+    let stream: &[u8] = b"\x09\0\0\0\x03SELECT 1";
+    let wanted = Content::Number(1);
+    assert!(rt;
+        holds(
+            goes_round(alloc, Value::Int(1), stream, &wanted),
+            goes_round(alloc, Value::Int(1), stream, &wanted)
+        )
+    );
+}
+
+#[test]
+fn the_largest_number(rt: HostRuntime) {
+    let alloc = rt.alloc();
+    let stream: &[u8] = b"\x1c\0\0\0\x03SELECT 18446744073709551615";
+    let wanted = Content::Number(18446744073709551615);
+    let value = 18446744073709551615;
+    assert!(rt;
+        holds(
+            goes_round(alloc, Value::UInt(value), stream, &wanted),
+            goes_round(alloc, Value::UInt(value), stream, &wanted)
+        )
+    );
+}
+
+#[test]
+fn null(rt: HostRuntime) {
+    let alloc = rt.alloc();
+    let stream: &[u8] = b"\x0c\0\0\0\x03SELECT NULL";
+    assert!(rt;
+        holds(
+            goes_round(alloc, Value::NULL, stream, &Content::Null),
+            goes_round(alloc, Value::NULL, stream, &Content::Null)
+        )
+    );
+}
+
+/// Whether bytes that look like more of the query stay in their place.
+fn bytes_stay(alloc: Global) -> Result<bool, AllocError> {
+    let value = bytes(alloc, b"x' OR :b")?;
+    let content = match bytes(alloc, b"x' OR :b")? {
+        Value::Bytes(bytes) => Content::Bytes(bytes),
+        _ => Content::Null,
+    };
+    goes_round(alloc, value, b"\x13\0\0\0\x03SELECT 'x\\' OR :b'", &content)
+}
+
+#[test]
+fn bytes_in_quotes(rt: HostRuntime) {
+    assert!(rt; holds(bytes_stay(rt.alloc()), bytes_stay(rt.alloc())));
+}
+
+/// Whether several sets go into commands of their own, each from number 0, behind what stands.
+fn several(alloc: Global) -> Result<bool, AllocError> {
+    let mut sets = Vec::new(alloc);
+    sets.push(named(alloc, b"a", Value::Int(1))?)?;
+    sets.push(named(alloc, b"a", Value::Int(-2))?)?;
+    let mut out = Vec::from_slice(alloc, b"front")?;
+    if sent(alloc, b"SELECT :a", &sets, 1000, &mut out).is_err() {
+        return Ok(false);
+    }
+    let stream: &[u8] = b"front\x09\0\0\0\x03SELECT 1\x0a\0\0\0\x03SELECT -2";
+    Ok(out.as_slice() == stream)
+}
+
+#[test]
+fn several_sets(rt: HostRuntime) {
+    assert!(rt; holds(several(rt.alloc()), several(rt.alloc())));
+}
+
+/// Whether no sets append nothing.
+fn nothing_sent(alloc: Global) -> Result<bool, AllocError> {
+    let none: &[Params] = &[];
+    let mut out = Vec::new(alloc);
+    Ok(sent(alloc, b"SELECT :a", none, 1000, &mut out).is_ok() && out.is_empty())
+}
+
+#[test]
+fn no_sets(rt: HostRuntime) {
+    assert!(rt; holds(nothing_sent(rt.alloc()), nothing_sent(rt.alloc())));
+}
