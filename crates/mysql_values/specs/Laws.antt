@@ -1,4 +1,5 @@
 -- The laws of tokens, literals and queries.
+-- MySQL Reference Manual, "Literal Values" and "Comments".
 use Rattle.std.specs.List.{AllByRecursion}
 use Rattle.mysql_values.specs.Written.{quoted, in_hexadecimal}
 use Rattle.std.specs.Prelude.{◌≡◌, ◌≢◌, ◌⊎◌, ◌<◌, ◌++◌, ℕ, List, [], ◌∷◌, codes, negsuc}

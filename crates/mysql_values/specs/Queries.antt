@@ -1,4 +1,5 @@
 -- Placeholders of a query, the pieces between them, and the texts that a query and contents make.
+-- MySQL Reference Manual, "PREPARE Statement" (parameter markers); names as placeholders are a form of client libraries.
 use Rattle.std.specs.Prelude.{◌≡◌, ℕ, ◌+◌, ◌-◌, Bool, true, false, not, ◌&&◌, ◌||◌, ◌==◌, nat_le, if◌then◌else◌, ◌⊎◌, List, [], ◌∷◌, ◌++◌, length, drop, slice_index, slice_range}
 use Rattle.std.specs.List.{AllByRecursion, list_any, join_with_byte}
 use Rattle.mysql_values.specs.declared.placeholders.Place.{Place}
