@@ -1,0 +1,57 @@
+-- Packets as values, without where they lie in memory (the packets of MySQL: Client/Server Protocol, "Generic Response
+-- Packets" and "Text Resultset").
+use Rattle.std.specs.Prelude.{ℕ, List, map, Option, option_map, Vec}
+use Rattle.std.specs.declared.alloc.Global.{Global}
+use Rattle.mysql_packets.specs.declared.okay.OkPacket.{OkPacket}
+use Rattle.mysql_packets.specs.declared.server_fault.ServerError.{ServerError}
+use Rattle.mysql_packets.specs.declared.server_fault.ProgressReport.{ProgressReport}
+use Rattle.mysql_packets.specs.declared.statement.StmtPacket.{StmtPacket}
+use Rattle.mysql_packets.specs.declared.column.Column.{Column}
+use Rattle.mysql_packets.specs.declared.row.Value.{Value}
+use Rattle.mysql_packets.specs.declared.row.Value.TheVariants as values
+use Rattle.mysql_packets.specs.Packets.{Cell, Null, Text, Whole, Okay, ServerFault, Report, Statement, ColumnDefinition}
+
+-- Bytes, where there are any.
+abbrev pub bytes_view : Option (Vec ℕ Global) → Option (List ℕ)
+bytes_view bytes = option_map (λ v. v.items) bytes
+
+abbrev pub okay_view : OkPacket → Okay
+okay_view p = record {
+  affected_rows = p.affected_rows;
+  last_insert_id = p.last_insert_id;
+  status = p.status_flags.0;
+  warnings = p.warnings;
+  info = bytes_view p.info;
+  session_state = bytes_view p.session_state_info;
+}
+
+abbrev pub server_fault_view : ServerError → ServerFault
+server_fault_view p = record { code = p.code; state = bytes_view p.state; message = p.message.items }
+
+abbrev pub report_view : ProgressReport → Report
+report_view p = record { stage = p.stage; max_stage = p.max_stage; progress = p.progress; info = p.stage_info.items }
+
+abbrev pub statement_view : StmtPacket → Statement
+statement_view p = record { id = p.statement_id; columns = p.num_columns; parameters = p.num_params; warnings = p.warning_count }
+
+abbrev pub column_view : Column → ColumnDefinition
+column_view p = record {
+  schema = p.schema.items;
+  table = p.table.items;
+  org_table = p.org_table.items;
+  name = p.name.items;
+  org_name = p.org_name.items;
+  character_set = p.character_set;
+  column_length = p.column_length;
+  column_type = p.column_type;
+  flags = p.flags;
+  decimals = p.decimals;
+}
+
+abbrev pub cell_view : Value → Cell
+cell_view values.Null = Null
+cell_view (values.Bytes bytes) = Text bytes.items
+cell_view (values.Whole bits unsigned) = Whole bits unsigned
+
+abbrev pub cell_views : List Value → List Cell
+cell_views cells = map cell_view cells

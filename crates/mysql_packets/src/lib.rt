@@ -1,0 +1,19 @@
+//! Packets of a server's reply, read from their payloads: OK, EOF and error packets, progress reports,
+//! prepared statements, columns and text rows.
+#![tactic(auto)]
+
+pub mod column;
+pub mod fields;
+pub mod flags;
+pub mod laws;
+pub mod okay;
+pub mod row;
+pub mod server_fault;
+pub mod statement;
+
+pub use column::Column;
+pub use flags::{CapabilityFlags, StatusFlags};
+pub use okay::OkPacket;
+pub use row::Value;
+pub use server_fault::{ProgressReport, ServerError};
+pub use statement::StmtPacket;

@@ -1,0 +1,223 @@
+-- Pieces fed one after another, and the laws of replies over bytes.
+use Rattle.std.proofs.Common.{◌≡◌, ℕ, ◌+◌, ◌≤◌, List, [], ◌∷◌, ◌++◌, length, Option, Some, None, Result, Ok, Err, refl, ap, sym, subst, arith, ◌∙◌, ◌⊎◌, inl, inr, append_assoc, length-append, take, get_or, ◌<◌}
+use Rattle.std.specs.Prelude.{OnOk, IfErr, IfSome}
+use Rattle.std.specs.List.{AllByRecursion, flat_map}
+use Rattle.std.proofs.lemmas.List.{append-nil, take_more}
+use Rattle.std.proofs.lemmas.Grind.{flat_map-append}
+use Rattle.std.specs.Borrow.{Bor}
+use Rattle.mysql_wire.specs.Framing.{framing}
+use Rattle.mysql_wire.specs.Laws.{AreBytes, HasOneSplit}
+use Rattle.mysql_wire.specs.Stream as stream
+use Rattle.mysql_wire.specs.Stream.{Numbering, Rest, Split, IsSplit, first_number, after, after_all, framings}
+use Rattle.mysql_wire.specs.Stream.Numbering.{OnFrom}
+use Rattle.mysql_replies.specs.declared.context.Context.{Context}
+use Rattle.mysql_replies.specs.declared.fault.ReplyFault.{ReplyFault}
+use Rattle.mysql_replies.specs.declared.fault.ReplyFault.TheVariants as faults
+use Rattle.mysql_replies.specs.Grammar.{Payload}
+use Rattle.mysql_replies.specs.Reply.{Answer, FaultAt, Standing, GoingOn, Answered, IsReply, fresh}
+use Rattle.mysql_replies.specs.Bytes.{numbered, after_numbered, DecidesNumbered, IsReplyOf, IsShortReplyOf, AnyBytesHaveAnswer, CuttingsAgree}
+use Rattle.mysql_replies.specs.Holding.{Held, nothing_held, DecidesOver, DecidesFrom, GoesOnOver, TakesAll, RunsShort, StandsShort, fault_of, count_of, EachHoldingDecides, HoldingsAgree, FreshHoldingDecides}
+use Rattle.mysql_replies.specs.Standings.{UnlessMemory, OnMemory}
+use Rattle.mysql_replies.proofs.GoingOn.{fresh_decides, each_has_answer, answers_agree, each_decides, decisions_agree}
+use Rattle.mysql_replies.proofs.Receiving.{bytes_append}
+
+framings-append : (ps qs : List Payload) (numbering : Numbering) → framings (ps ++ qs) numbering ≡ framings ps numbering ++ framings qs (after_all ps numbering)
+framings-append [] qs numbering = refl
+framings-append (p ∷ ps) qs numbering =
+    ap (λ k. framing p (first_number numbering) ++ k) (framings-append ps qs (after p numbering)) ∙ sym (append_assoc (framing p (first_number numbering)) (framings ps (after p numbering)) (framings qs (after_all ps (after p numbering))))
+
+after_all-append : (ps qs : List Payload) (numbering : Numbering) → after_all (ps ++ qs) numbering ≡ after_all qs (after_all ps numbering)
+after_all-append [] qs numbering = refl
+after_all-append (p ∷ ps) qs numbering = after_all-append ps qs (after p numbering)
+
+within-append : (limit : ℕ) (ps qs : List Payload) → AllByRecursion (λ payload. length payload ≤ limit) ps → AllByRecursion (λ payload. length payload ≤ limit) qs → AllByRecursion (λ payload. length payload ≤ limit) (ps ++ qs)
+within-append limit [] qs one two = two
+within-append limit (p ∷ ps) qs one two = (one.0, within-append limit ps qs one.1 two)
+
+on_from : (payloads : List Payload) (number : ℕ) → after_all payloads (OnFrom number) ≡ OnFrom (first_number (after_all payloads (OnFrom number)))
+on_from [] number = refl
+on_from (p ∷ ps) number = on_from ps _
+
+-- The payloads of the bytes fed were read, what is left of them is held, and that decides what the payloads and others decide.
+pub record Fed (c : Context) (first_id limit : ℕ) (fed : List ℕ) (h : Held) : Type 0 where
+  pub payloads : List Payload
+  pub joined : fed ≡ framings payloads (OnFrom first_id) ++ h.bytes
+  pub within : AllByRecursion (λ payload. length payload ≤ limit) payloads
+  pub number : h.number ≡ first_number (after_all payloads (OnFrom first_id))
+  pub limit_same : h.limit ≡ limit
+  pub count : count_of h.standing ≡ length payloads
+  pub goes_on : (z : List Payload) (rest : Rest) (answer : Answer) → DecidesNumbered h.standing z rest answer → DecidesNumbered (fresh c) (payloads ++ z) rest answer
+
+-- What is held decides what a fresh reader decides over the bytes fed and others.
+abbrev pub Decided : Context → ℕ → ℕ → List ℕ → Held → Type 0
+Decided c first_id limit fed h = (more : List ℕ) (answer : Answer) → AreBytes more → DecidesOver h more answer → DecidesOver (nothing_held c first_id limit) (fed ++ more) answer
+
+abbrev pub IsFed : Option ReplyFault → Context → ℕ → ℕ → List ℕ → Held → Type 0
+IsFed None c first_id limit fed h = Fed c first_id limit fed h × Decided c first_id limit fed h
+IsFed (Some faults.Memory) c first_id limit fed h = (answer : Answer) × (h.standing ≡ Answered answer) × IsShortReplyOf c first_id limit fed answer
+IsFed (Some fault) c first_id limit fed h = Decided c first_id limit fed h
+
+pub fed_nothing : (c : Context) (first_id limit : ℕ) → IsFed None c first_id limit [] (nothing_held c first_id limit)
+fed_nothing c first_id limit = (
+  record { payloads = []; joined = refl; within = tt; number = refl; limit_same = refl; count = refl; goes_on = λ z rest answer h. h },
+  λ more answer are h. h,
+)
+
+-- What follows the payloads fed: other payloads, and what is left.
+joined_next : (first_id number : ℕ) (fed piece held left : List ℕ) (ps qs : List Payload) → fed ≡ framings ps (OnFrom first_id) ++ held → number ≡ first_number (after_all ps (OnFrom first_id)) → held ++ piece ≡ framings qs (OnFrom number) ++ left → fed ++ piece ≡ framings (ps ++ qs) (OnFrom first_id) ++ left
+joined_next first_id number fed piece held left ps qs one same two =
+    let there : framings qs (OnFrom number) ≡ framings qs (after_all ps (OnFrom first_id)) = ap (framings qs) (ap OnFrom same ∙ sym (on_from ps first_id)) in
+    ap (λ k. k ++ piece) one ∙ append_assoc (framings ps (OnFrom first_id)) held piece ∙ ap (λ k. framings ps (OnFrom first_id) ++ k) (two ∙ ap (λ k. k ++ left) there)
+    ∙ sym (append_assoc (framings ps (OnFrom first_id)) (framings qs (after_all ps (OnFrom first_id))) left) ∙ ap (λ k. k ++ left) (sym (framings-append ps qs (OnFrom first_id)))
+
+next_going : (c : Context) (first_id limit : ℕ) (fed piece : List ℕ) (old new : Held) → Fed c first_id limit fed old → TakesAll old (old.bytes ++ piece) new → Fed c first_id limit (fed ++ piece) new
+next_going c first_id limit fed piece old new f t =
+    let ps = f.payloads in
+    let qs = t.split.payloads in
+    let number : first_number (after_all qs (OnFrom old.number)) ≡ first_number (after_all (ps ++ qs) (OnFrom first_id)) =
+    ap (λ k. first_number (after_all qs k)) (ap OnFrom f.number ∙ sym (on_from ps first_id)) ∙ ap first_number (sym (after_all-append ps qs (OnFrom first_id))) in
+    record {
+      payloads = ps ++ qs;
+      joined = joined_next first_id old.number fed piece old.bytes new.bytes ps qs f.joined f.number (t.splits.joined ∙ ap (λ k. framings qs (OnFrom old.number) ++ k) (sym t.left));
+      within = within-append limit ps qs f.within (subst (λ k. AllByRecursion (λ payload. length payload ≤ k) qs) f.limit_same t.splits.within);
+      number = t.number ∙ number;
+      limit_same = t.limit ∙ f.limit_same;
+      count = omega (arith, t.count, f.count, length-append ps qs);
+      goes_on = λ z rest answer k. subst (λ ps'. DecidesNumbered (fresh c) ps' rest answer) (sym (append_assoc ps qs z)) (f.goes_on (qs ++ z) rest answer (t.goes_on z rest answer k));
+    }
+
+next_decided : (c : Context) (first_id limit : ℕ) (fed piece : List ℕ) (old new : Held) → AreBytes piece → Decided c first_id limit fed old → GoesOnOver old piece new → Decided c first_id limit (fed ++ piece) new
+next_decided c first_id limit fed piece old new bytes decided goes more answer are h =
+    subst (λ k. DecidesOver (nothing_held c first_id limit) k answer) (sym (append_assoc fed piece more))
+    (decided (piece ++ more) answer (bytes_append piece more bytes are) (goes more answer are h))
+
+next_short : (c : Context) (first_id limit : ℕ) (fed piece : List ℕ) (old : Held) (answer : Answer) → Fed c first_id limit fed old → RunsShort old (old.bytes ++ piece) answer → IsShortReplyOf c first_id limit (fed ++ piece) answer
+next_short c first_id limit fed piece old answer f r = record {
+  read = f.payloads ++ r.read;
+  first = record {
+    more = r.first.more;
+    joined = joined_next first_id old.number fed piece old.bytes r.first.more f.payloads r.read f.joined f.number r.first.joined;
+    within = within-append limit f.payloads r.read f.within (subst (λ k. AllByRecursion (λ payload. length payload ≤ k) r.read) f.limit_same r.first.within);
+  };
+  whole = r.whole;
+  reply = fresh_decides c (numbered 0 (f.payloads ++ r.read)) (after_numbered 0 (f.payloads ++ r.read) stream.Open) r.whole (f.goes_on r.read stream.Open r.whole r.decided);
+  results = r.results;
+  progress = r.progress;
+  end = r.end ∙ ap (λ n. FaultAt n faults.Memory) (omega (arith, f.count, length-append f.payloads r.read));
+}
+
+short_grows : (c : Context) (first_id limit : ℕ) (fed piece : List ℕ) (answer : Answer) → IsShortReplyOf c first_id limit fed answer → IsShortReplyOf c first_id limit (fed ++ piece) answer
+short_grows c first_id limit fed piece answer s = record {
+  read = s.read;
+  first = record {
+    more = s.first.more ++ piece;
+    joined = ap (λ k. k ++ piece) s.first.joined ∙ append_assoc (framings s.read (OnFrom first_id)) s.first.more piece;
+    within = s.first.within;
+  };
+  whole = s.whole;
+  reply = s.reply;
+  results = s.results;
+  progress = s.progress;
+  end = s.end;
+}
+
+-- What feeding a piece says.
+pub record Feeds (old new : Held) (piece : List ℕ) (r : Result Unit ReplyFault) : Type 0 where
+  pub stays : IfSome (fault_of old.standing) (λ fault. (r ≡ Err fault) × (new ≡ old))
+  pub going : OnOk r (fault_of new.standing ≡ None)
+  pub fault : IfErr r (λ fault. fault_of new.standing ≡ Some fault)
+  pub takes : OnOk r (TakesAll old (old.bytes ++ piece) new)
+  pub goes_on : UnlessMemory r (GoesOnOver old piece new)
+  pub short : fault_of old.standing ≡ None → OnMemory r (StandsShort old (old.bytes ++ piece) new)
+
+step_going : (c : Context) (first_id limit : ℕ) (fed piece : List ℕ) (old new : Held) (r : Result Unit ReplyFault) → AreBytes piece → fault_of old.standing ≡ None → Feeds old new piece r → IsFed None c first_id limit fed old → IsFed (fault_of new.standing) c first_id limit (fed ++ piece) new
+step_going c first_id limit fed piece old new (Ok x) bytes none f h =
+    subst (λ k. IsFed k c first_id limit (fed ++ piece) new) (sym f.going) (next_going c first_id limit fed piece old new h.0 f.takes, next_decided c first_id limit fed piece old new bytes h.1 f.goes_on)
+step_going c first_id limit fed piece old new (Err faults.Memory) bytes none f h =
+    let s = f.short none in
+    subst (λ k. IsFed k c first_id limit (fed ++ piece) new) (sym f.fault) (s.0, s.1, next_short c first_id limit fed piece old s.0 h.0 s.2)
+step_going c first_id limit fed piece old new (Err fault) bytes none f h =
+    subst (λ k. IsFed k c first_id limit (fed ++ piece) new) (sym f.fault) (next_decided c first_id limit fed piece old new bytes h.1 f.goes_on)
+
+step_by : (c : Context) (first_id limit : ℕ) (fed piece : List ℕ) (old new : Held) (r : Result Unit ReplyFault) (met : Option ReplyFault) → AreBytes piece → fault_of old.standing ≡ met → Feeds old new piece r → IsFed met c first_id limit fed old → IsFed (fault_of new.standing) c first_id limit (fed ++ piece) new
+step_by c first_id limit fed piece old new r None bytes is f h = step_going c first_id limit fed piece old new r bytes is f h
+step_by c first_id limit fed piece old new r (Some faults.Memory) bytes is f h =
+    let s = subst (λ k. IfSome k (λ fault. (r ≡ Err fault) × (new ≡ old))) is f.stays in
+    let met : fault_of new.standing ≡ Some faults.Memory = ap (λ (k : Held). fault_of k.standing) s.1 ∙ is in
+    subst (λ k. IsFed k c first_id limit (fed ++ piece) new) (sym met) (h.0, ap (λ (k : Held). k.standing) s.1 ∙ h.1, short_grows c first_id limit fed piece h.0 h.2)
+step_by c first_id limit fed piece old new r (Some fault) bytes is f h =
+    let s = subst (λ k. IfSome k (λ fault. (r ≡ Err fault) × (new ≡ old))) is f.stays in
+    let met : fault_of new.standing ≡ Some fault = ap (λ (k : Held). fault_of k.standing) s.1 ∙ is in
+    let goes = subst (λ q. UnlessMemory q (GoesOnOver old piece new)) s.0 f.goes_on in
+    subst (λ k. IsFed k c first_id limit (fed ++ piece) new) (sym met) (next_decided c first_id limit fed piece old new bytes h goes)
+
+-- One more piece was fed.
+pub fed_next : (c : Context) (first_id limit : ℕ) (fed piece : List ℕ) (old new : Held) (r : Result Unit ReplyFault) → AreBytes piece → Feeds old new piece r → IsFed (fault_of old.standing) c first_id limit fed old → IsFed (fault_of new.standing) c first_id limit (fed ++ piece) new
+fed_next c first_id limit fed piece old new r bytes f h = step_by c first_id limit fed piece old new r (fault_of old.standing) bytes refl f h
+
+-- A fresh reader decides the reply's answer.
+pub fresh_holding : FreshHoldingDecides
+fresh_holding c first_id limit bytes answer h = record {
+  split = h.split;
+  splits = h.splits;
+  reply = fresh_decides c (numbered 0 h.split.payloads) (after_numbered 0 h.split.payloads h.split.rest) answer h.decides;
+}
+
+decided_at_end : (c : Context) (first_id limit : ℕ) (fed : List ℕ) (h : Held) (answer : Answer) → Decided c first_id limit fed h → DecidesOver h [] answer → IsReplyOf c first_id limit fed answer
+decided_at_end c first_id limit fed h answer decided d =
+    subst (λ k. IsReplyOf c first_id limit k answer) (append-nil fed) (fresh_holding c first_id limit (fed ++ []) answer (decided [] answer (λ i. omega arith) d))
+
+-- The answer to all that was fed.
+fed_by : (c : Context) (first_id limit : ℕ) (fed : List ℕ) (h : Held) (answer : Answer) (met : Option ReplyFault) → IsFed met c first_id limit fed h → DecidesOver h [] answer → IsReplyOf c first_id limit fed answer ⊎ IsShortReplyOf c first_id limit fed answer
+fed_by c first_id limit fed h answer None f d = inl (decided_at_end c first_id limit fed h answer f.1 d)
+fed_by c first_id limit fed h answer (Some faults.Memory) f d =
+    let same : answer ≡ f.0 = subst (λ k. DecidesFrom k h [] answer) f.1 d in
+    inr (subst (IsShortReplyOf c first_id limit fed) (sym same) f.2)
+fed_by c first_id limit fed h answer (Some fault) f d = inl (decided_at_end c first_id limit fed h answer f d)
+
+pub fed_answer : (c : Context) (first_id limit : ℕ) (fed : List ℕ) (h : Held) (answer : Answer) → IsFed (fault_of h.standing) c first_id limit fed h → DecidesOver h [] answer → IsReplyOf c first_id limit fed answer ⊎ IsShortReplyOf c first_id limit fed answer
+fed_answer c first_id limit fed h answer f d = fed_by c first_id limit fed h answer (fault_of h.standing) f d
+
+-- The joining of some pieces and the next one.
+pub pieces_more : (pieces : List (Bor (List ℕ))) (i : ℕ) (d : Bor (List ℕ)) → i < length pieces → flat_map (λ p. p.now) (take (i + 1) pieces) ≡ flat_map (λ p. p.now) (take i pieces) ++ (get_or pieces i d).now
+pieces_more pieces i d h =
+    ap (flat_map (λ (p : Bor (List ℕ)). p.now)) (take_more pieces i d h) ∙ flat_map-append (λ (p : Bor (List ℕ)). p.now) (take i pieces) (get_or pieces i d ∷ []) ∙ ap (λ k. flat_map (λ (p : Bor (List ℕ)). p.now) (take i pieces) ++ k) (append-nil (get_or pieces i d).now)
+
+-- Any bytes have an answer.
+pub any_bytes : HasOneSplit → AnyBytesHaveAnswer
+any_bytes law c first_id limit bytes are =
+    let one = law limit (OnFrom first_id) bytes are in
+    let reply = each_has_answer c (numbered 0 one.0.payloads) (after_numbered 0 one.0.payloads one.0.rest) in
+    (reply.0, record { split = one.0; splits = one.1; reply = reply.1 })
+
+one_answer : HasOneSplit → (c : Context) (first_id limit : ℕ) (bytes : List ℕ) (a b : Answer) → AreBytes bytes → IsReplyOf c first_id limit bytes a → IsReplyOf c first_id limit bytes b → a ≡ b
+one_answer law c first_id limit bytes a b are x y =
+    let one = law limit (OnFrom first_id) bytes are in
+    let same : x.split ≡ y.split = one.2 x.split x.splits ∙ sym (one.2 y.split y.splits) in
+    answers_agree c (numbered 0 y.split.payloads) (after_numbered 0 y.split.payloads y.split.rest) a b
+    (subst (λ s. IsReply c (numbered 0 s.payloads) (after_numbered 0 s.payloads s.rest) a) same x.reply) y.reply
+
+pub cuttings : HasOneSplit → CuttingsAgree
+cuttings law c first_id limit pieces others a b are same x y =
+    one_answer law c first_id limit (flat_map (λ piece. piece) pieces) a b are x (subst (λ bytes. IsReplyOf c first_id limit bytes b) (sym same) y)
+
+holding_decides : HasOneSplit → (standing : Standing) (held : Held) (more : List ℕ) → AreBytes (held.bytes ++ more) → (answer : Answer) × DecidesFrom standing held more answer
+holding_decides law (Answered known) held more are = (known, refl)
+holding_decides law (GoingOn s) held more are =
+    let one = law held.limit (OnFrom held.number) (held.bytes ++ more) are in
+    let decided = each_decides (GoingOn s) (numbered s.count one.0.payloads) (after_numbered s.count one.0.payloads one.0.rest) in
+    (decided.0, record { split = one.0; splits = one.1; decides = decided.1 })
+
+pub each_holding_decides : HasOneSplit → EachHoldingDecides
+each_holding_decides law held more are = holding_decides law held.standing held more are
+
+holding_agrees : HasOneSplit → (standing : Standing) (held : Held) (more : List ℕ) (a b : Answer) → AreBytes (held.bytes ++ more) → DecidesFrom standing held more a → DecidesFrom standing held more b → a ≡ b
+holding_agrees law (Answered known) held more a b are x y = x ∙ sym y
+holding_agrees law (GoingOn s) held more a b are x y =
+    let one = law held.limit (OnFrom held.number) (held.bytes ++ more) are in
+    let same : x.split ≡ y.split = one.2 x.split x.splits ∙ sym (one.2 y.split y.splits) in
+    decisions_agree (GoingOn s) (numbered s.count y.split.payloads) (after_numbered s.count y.split.payloads y.split.rest) a b
+    (subst (λ k. DecidesNumbered (GoingOn s) k.payloads k.rest a) same x.decides) y.decides
+
+pub holdings_agree : HasOneSplit → HoldingsAgree
+holdings_agree law held more a b are x y = holding_agrees law held.standing held more a b are x y

@@ -1,0 +1,55 @@
+-- What stands when no more payloads come.
+use Rattle.std.proofs.Common.{◌≡◌, ℕ, zero, suc, ◌+◌, List, [], ◌∷◌, ◌++◌, refl, ap, sym, subst, arith, ◌∙◌}
+use Rattle.std.specs.Prelude.{map}
+use Rattle.std.proofs.lemmas.List.{append-nil}
+use Rattle.mysql_wire.specs.Stream.{Rest}
+use Rattle.mysql_packets.specs.Packets.{ColumnDefinition}
+use Rattle.mysql_packets.specs.Views.{report_view}
+use Rattle.mysql_replies.specs.declared.context.Context.{Context}
+use Rattle.mysql_replies.specs.declared.awaited.Awaited as code
+use Rattle.mysql_replies.specs.declared.awaited.Awaited.TheVariants as awaiting
+use Rattle.mysql_replies.specs.declared.state.ReplyState.{ReplyState}
+use Rattle.mysql_replies.specs.Grammar.{Begun, Ending, Ended, Open, Results, last, begun, next, columns, columns_end, column_group, rows, result_set, one_result}
+use Rattle.mysql_replies.specs.Reply.{Answer, before_end, end_of, Awaited, Columns, Nothing, rest_of, Continues}
+use Rattle.mysql_replies.specs.Views.{outcome_views, awaited_view, column_views}
+use Rattle.mysql_replies.specs.Steps.{IsSettled, listed_of}
+use Rattle.mysql_replies.specs.Standings.{progressing_of}
+
+-- How the results end where no more payloads come.
+abbrev pub ending_at : Awaited → Ending
+ending_at Nothing = Ended []
+ending_at awaited = Open
+
+record AtEnd (c : Context) (a : code.Awaited) : Type 0 where
+  reading : Results c (rest_of c (awaited_view a) []) (listed_of (awaited_view a)) (ending_at (awaited_view a))
+  none : before_end [] (ending_at (awaited_view a)) ≡ []
+
+columns_begun : (c : Context) (n : ℕ) (these : List ColumnDefinition) → IsSettled c (Columns n these) → result_set c n these [] ≡ Begun []
+unfolding result_set column_group columns columns_end next
+columns_begun c zero [] settled = absurd settled
+columns_begun c zero (first ∷ others) settled = rw settled refl
+columns_begun c (suc n) these settled = refl
+
+at_end : (c : Context) (a : code.Awaited) → IsSettled c (awaited_view a) → AtEnd c a
+unfolding one_result rows next
+at_end c awaiting.First settled = record { reading = begun []; none = refl }
+at_end c (awaiting.Columns left these) settled = record {
+  reading = subst (λ p. Results c p [] Open) (sym (columns_begun c left (column_views these.items) settled)) (begun []);
+  none = refl;
+}
+at_end c (awaiting.Rows columns rows) settled = record { reading = begun _; none = refl }
+at_end c awaiting.Nothing settled = record { reading = last [] []; none = refl }
+
+-- What no more payloads decide.
+pub stops : (s : ReplyState) (rest : Rest) (answer : Answer) → IsSettled s.context (awaited_view s.awaited) → answer.results ≡ outcome_views s.results.items ++ listed_of (awaited_view s.awaited) → answer.progress ≡ map report_view s.progress.items → answer.end ≡ end_of s.count rest (ending_at (awaited_view s.awaited)) → Continues (progressing_of s) [] rest answer
+stops s rest answer settled results progress end =
+    let e = at_end s.context s.awaited settled in
+    let n : s.count ≡ s.count + 0 = omega arith in
+    record {
+      others = listed_of (awaited_view s.awaited);
+      ending = ending_at (awaited_view s.awaited);
+      reading = e.reading;
+      results = results;
+      progress = rw e.none (progress ∙ sym (append-nil (map report_view s.progress.items)));
+      end = end ∙ ap (λ k. end_of k rest (ending_at (awaited_view s.awaited))) n;
+    }

@@ -1,0 +1,10 @@
+pub mod Taken
+pub mod Determined
+pub mod Payloads
+pub mod GoingOn
+pub mod Stepping
+pub mod Taking
+pub mod Finishing
+pub mod Numbers
+pub mod Receiving
+pub mod Fed

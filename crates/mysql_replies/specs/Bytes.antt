@@ -1,0 +1,59 @@
+-- A reply over the bytes of a connection, which split into payloads numbered on from the reply's first id.
+-- MySQL: Client/Server Protocol, "MySQL Packets" and "Text Resultset".
+use Rattle.std.specs.Prelude.{◌≡◌, ℕ, ◌-◌, List, length, take, nat_le, if◌then◌else◌}
+use Rattle.std.specs.List.{flat_map}
+use Rattle.mysql_wire.specs.Laws.{AreBytes}
+use Rattle.mysql_wire.specs.Reader.{StandFirst}
+use Rattle.mysql_wire.specs.Stream as stream
+use Rattle.mysql_wire.specs.Stream.{Rest, Split, IsSplit}
+use Rattle.mysql_wire.specs.Stream.Numbering.{OnFrom}
+use Rattle.mysql_wire.specs.Stream.Rest.{TooLarge}
+use Rattle.mysql_replies.specs.declared.context.Context.{Context}
+use Rattle.mysql_replies.specs.declared.fault.ReplyFault.TheVariants.{Memory}
+use Rattle.mysql_replies.specs.Grammar.{Payload}
+use Rattle.mysql_replies.specs.Reply.{Answer, FaultAt, IsReply, Standing, GoingOn, Answered, Continues}
+
+-- How many more payloads can be numbered after so many: numbers are below 2^64 - 1.
+abbrev pub numbers_left : ℕ → ℕ
+numbers_left count = 18446744073709551615 - count
+
+-- The payloads that can be numbered, where so many came before them.
+abbrev pub numbered : ℕ → List Payload → List Payload
+numbered count payloads = take (numbers_left count) payloads
+
+-- What follows those: where there are more payloads, a packet that is too large.
+abbrev pub after_numbered : ℕ → List Payload → Rest → Rest
+after_numbered count payloads rest = if nat_le (length payloads) (numbers_left count) then rest else TooLarge
+
+-- The answer of some bytes: that of the payloads that they split into.
+pub record IsReplyOf (c : Context) (first_id limit : ℕ) (bytes : List ℕ) (answer : Answer) : Type 0 where
+  pub split : Split
+  pub splits : IsSplit limit (OnFrom first_id) bytes split
+  pub reply : IsReply c (numbered 0 split.payloads) (after_numbered 0 split.payloads split.rest) answer
+
+-- The answer where memory ran out: the results and the reports of the first payloads of the bytes, however many
+-- were read, and their number.
+pub record IsShortReplyOf (c : Context) (first_id limit : ℕ) (bytes : List ℕ) (answer : Answer) : Type 0 where
+  pub read : List Payload
+  pub first : StandFirst limit (OnFrom first_id) bytes read
+  pub whole : Answer
+  pub reply : IsReply c (numbered 0 read) (after_numbered 0 read stream.Open) whole
+  pub results : answer.results ≡ whole.results
+  pub progress : answer.progress ≡ whole.progress
+  pub end : answer.end ≡ FaultAt (length read) Memory
+
+-- From what stands, the payloads still to come and the rest after them decide this answer, as far as they can
+-- be numbered.
+abbrev pub DecidesNumbered : Standing → List Payload → Rest → Answer → Type 0
+DecidesNumbered (GoingOn s) payloads rest answer = Continues s (numbered s.count payloads) (after_numbered s.count payloads rest) answer
+DecidesNumbered (Answered known) payloads rest answer = answer ≡ known
+
+-- Any bytes have an answer.
+abbrev pub AnyBytesHaveAnswer : Type 0
+AnyBytesHaveAnswer = (c : Context) (first_id limit : ℕ) (bytes : List ℕ) → AreBytes bytes → (answer : Answer) × IsReplyOf c first_id limit bytes answer
+
+-- Two cuttings of the same bytes have equal answers.
+abbrev pub CuttingsAgree : Type 0
+CuttingsAgree = (c : Context) (first_id limit : ℕ) (pieces others : List (List ℕ)) (a b : Answer) → AreBytes (flat_map (λ piece. piece) pieces) →
+    flat_map (λ piece. piece) pieces ≡ flat_map (λ piece. piece) others →
+    IsReplyOf c first_id limit (flat_map (λ piece. piece) pieces) a → IsReplyOf c first_id limit (flat_map (λ piece. piece) others) b → a ≡ b

@@ -1,0 +1,233 @@
+-- The grammar of a reply, over the list of its payloads.
+-- MySQL: Client/Server Protocol, "COM_QUERY Response", "Text Resultset", "Binary Protocol Resultset" and
+-- "COM_STMT_PREPARE Response"; MariaDB: 'Progress report' of "ERR_Packet".
+use Rattle.std.specs.Prelude.{ℕ, zero, suc, List, [], ◌∷◌, ◌++◌, length, take, drop, Bool, true, false, Option, Some, None, Result, Ok, Err, nat_lt, ◌==◌, ◌&&◌, if◌then◌else◌, is_ok, bytes_eq}
+use Rattle.mysql_packets.specs.Fields.{Reads, lenenc_int_at}
+use Rattle.mysql_packets.specs.Packets.{Okay, ServerFault, Statement, ColumnDefinition, Cell, okay_at, old_eof_at, result_set_terminator_at, server_fault_at, report_at, statement_at, column_at, text_row_at, binary_row_at, deprecate_eof, progress_obsolete, more_results_exist}
+use Rattle.mysql_replies.specs.declared.context.ReplyKind.{ReplyKind}
+use Rattle.mysql_replies.specs.declared.context.ReplyKind.TheVariants.{Binary, Prepare}
+use Rattle.mysql_replies.specs.declared.context.Context.{Context}
+use Rattle.mysql_replies.specs.declared.fault.ReplyFault.{ReplyFault}
+use Rattle.mysql_replies.specs.declared.fault.ReplyFault.TheVariants.{BadHeader, BadCount, BadColumn, BadOk, BadError, BadRow, BadTerminator, BadPrepare}
+
+abbrev pub Payload : Type 0
+Payload = List ℕ
+
+-- A result of a reply. Rows without a terminator ended by an error, or haven't ended.
+pub data Outcome : Type 0 where
+  OkResult : Okay → Outcome
+  RowsResult : List ColumnDefinition → List (List Cell) → Option Okay → Outcome
+  PreparedResult : Statement → List ColumnDefinition → List ColumnDefinition → Outcome
+  ErrorResult : ServerFault → Outcome
+  FileResult : List ℕ → Outcome
+
+-- What a part of the grammar makes of a list of payloads.
+pub data Part (A : Type 0) : Type 0 where
+  -- The part stands, and these payloads follow it.
+  Stands : A → List Payload → Part A
+  -- The payloads end inside the part; of it these results are listed.
+  Begun : List Outcome → Part A
+  -- These results are listed of the part, and then the first of these payloads has no place in it.
+  Misfit : List Outcome → ReplyFault → List Payload → Part A
+
+-- One part after another.
+infixl 10 ◌>>=◌
+abbrev pub ◌>>=◌ : {A B : Type 0} → Part A → (A × List Payload → Part B) → Part B
+(Stands a rest) >>= f = f (a, rest)
+(Begun listed) >>= f = Begun listed
+(Misfit listed fault rest) >>= f = Misfit listed fault rest
+
+-- A payload in the form of a progress report, whether or not it can be read as one.
+abbrev pub has_report_form : Context → Payload → Bool
+has_report_form c payload = progress_obsolete c.capabilities.0 && bytes_eq (take 3 payload) (255 ∷ 255 ∷ 255 ∷ [])
+
+-- A progress report, which may stand in any payload's place.
+abbrev pub is_report : Context → Payload → Bool
+is_report c payload = has_report_form c payload && is_ok (report_at payload)
+
+-- What was read, whatever bytes follow it, or the fault of this name.
+abbrev pub or_fault : {A : Type 0} → ReplyFault → Reads A → Result A ReplyFault
+or_fault fault (Ok x) = Ok x.0
+or_fault fault (Err e) = Err fault
+
+-- What was read, where no bytes follow it, or the fault of this name.
+abbrev pub whole_or_fault : {A : Type 0} → ReplyFault → Reads A → Result A ReplyFault
+whole_or_fault fault (Ok x) = if length x.1 == 0 then Ok x.0 else Err fault
+whole_or_fault fault (Err e) = Err fault
+
+abbrev pub map_ok : {A B : Type 0} → (A → B) → Result A ReplyFault → Result B ReplyFault
+map_ok f (Ok a) = Ok (f a)
+map_ok f (Err fault) = Err fault
+
+-- A payload read so, but for one in the form of a progress report, which has no other reading.
+abbrev pub reading : {A : Type 0} → Context → (Payload → Result A ReplyFault) → Payload → Result A ReplyFault
+reading c read payload = if has_report_form c payload then Err BadError else read payload
+
+-- A payload where it was read, with those that follow it.
+abbrev pub in_place : {A : Type 0} → Result A ReplyFault → Payload → List Payload → Part A
+in_place (Ok a) payload rest = Stands a rest
+in_place (Err fault) payload rest = Misfit [] fault (payload ∷ rest)
+
+-- The next payload, read so; progress reports before it are passed over.
+unfoldable pub next : {A : Type 0} → Context → (Payload → Result A ReplyFault) → List Payload → Part A
+next c read [] = Begun []
+next c read (payload ∷ rest) =
+    if is_report c payload then next c read rest else in_place (reading c read payload) payload rest
+
+-- A column packet.
+abbrev pub column : Payload → Result ColumnDefinition ReplyFault
+column payload = or_fault BadColumn (column_at payload)
+
+-- n more columns after these.
+unfoldable pub columns : Context → ℕ → List ColumnDefinition → List Payload → Part (List ColumnDefinition)
+columns c zero these payloads = Stands these payloads
+columns c (suc n) these payloads = next c column payloads >>= λ x. columns c n (these ++ x.0 ∷ []) x.1
+
+-- The EOF packet: fe, below nine bytes.
+abbrev pub eof : Payload → Result Okay ReplyFault
+eof payload = if nat_lt (length payload) 9 then or_fault BadTerminator (old_eof_at payload) else Err BadTerminator
+
+-- The EOF that is due after columns: none after no columns, and none with DEPRECATE_EOF.
+unfoldable pub columns_end : Context → List ColumnDefinition → List Payload → Part (List ColumnDefinition)
+columns_end c [] payloads = Stands [] payloads
+columns_end c (first ∷ others) payloads =
+    if deprecate_eof c.capabilities.0 then Stands (first ∷ others) payloads
+    else (next c eof payloads >>= λ x. Stands (first ∷ others) x.1)
+
+-- n more columns after these, and the EOF that is due.
+unfoldable pub column_group : Context → ℕ → List ColumnDefinition → List Payload → Part (List ColumnDefinition)
+column_group c n these payloads = do
+  all ← columns c n these payloads
+  columns_end c all.0 all.1
+
+-- What may stand in a row's place.
+pub data Line : Type 0 where
+  RowLine : List Cell → Line
+  TerminatorLine : Okay → Line
+  ErrorLine : ServerFault → Line
+
+abbrev pub is_binary : ReplyKind → Bool
+is_binary Binary = true
+is_binary kind = false
+
+-- A row, by the kind of the command.
+abbrev pub row : Context → List ColumnDefinition → Payload → Result (List Cell) ReplyFault
+row c columns payload =
+    whole_or_fault BadRow (if is_binary c.kind then binary_row_at columns payload else text_row_at columns payload)
+
+-- A terminator: the OK packet with fe with DEPRECATE_EOF, else the EOF packet.
+abbrev pub terminator : Context → Payload → Result Okay ReplyFault
+terminator c payload =
+    or_fault BadTerminator
+    (if deprecate_eof c.capabilities.0 then result_set_terminator_at c.capabilities.0 payload else old_eof_at payload)
+
+-- A payload that begins with fe is a terminator below this length.
+abbrev pub terminator_limit : Context → ℕ
+terminator_limit c = if deprecate_eof c.capabilities.0 then 16777215 else 9
+
+abbrev pub begins_with : ℕ → Payload → Bool
+begins_with b [] = false
+begins_with b (first ∷ rest) = first == b
+
+-- A payload in a row's place: an error, a terminator or a row.
+abbrev pub line : Context → List ColumnDefinition → Payload → Result Line ReplyFault
+line c columns payload =
+    if begins_with 255 payload then map_ok ErrorLine (or_fault BadError (server_fault_at c.capabilities.0 payload))
+    else if begins_with 254 payload && nat_lt (length payload) (terminator_limit c)
+    then map_ok TerminatorLine (terminator c payload)
+    else map_ok RowLine (row c columns payload)
+
+-- One result or two that stand together, and whether another result follows.
+pub record Stretch : Type 0 where
+  pub results : List Outcome
+  pub more : Bool
+
+-- What a line means after these rows: a row goes on, a terminator or an error ends them.
+abbrev pub after_rows : List ColumnDefinition → List (List Cell) → (List Cell → Part Stretch) → Result Line ReplyFault → Payload → List Payload → Part Stretch
+after_rows columns rows on (Ok (RowLine cells)) payload rest = on cells
+after_rows columns rows on (Ok (TerminatorLine ok)) payload rest =
+    Stands (record { results = RowsResult columns rows (Some ok) ∷ []; more = more_results_exist ok.status }) rest
+after_rows columns rows on (Ok (ErrorLine error)) payload rest =
+    Stands (record { results = RowsResult columns rows None ∷ ErrorResult error ∷ []; more = false }) rest
+after_rows columns rows on (Err fault) payload rest =
+    Misfit (RowsResult columns rows None ∷ []) fault (payload ∷ rest)
+
+-- The rows after these, to their terminator or an error.
+unfoldable pub rows : Context → List ColumnDefinition → List (List Cell) → List Payload → Part Stretch
+rows c columns these [] = Begun (RowsResult columns these None ∷ [])
+rows c columns these (payload ∷ rest) =
+    if is_report c payload then rows c columns these rest
+    else after_rows columns these (λ cells. rows c columns (these ++ cells ∷ []) rest) (reading c (line c columns) payload) payload rest
+
+-- A result set after its count: n more columns after these, the EOF that is due, and the rows.
+unfoldable pub result_set : Context → ℕ → List ColumnDefinition → List Payload → Part Stretch
+result_set c n these payloads = do
+  columns ← column_group c n these payloads
+  rows c columns.0 [] columns.1
+
+-- A prepared reply after its parameters: n more columns after these, and the EOF that is due.
+unfoldable pub prepared_columns : Context → Statement → List ColumnDefinition → ℕ → List ColumnDefinition → List Payload → Part Stretch
+prepared_columns c statement parameters n these payloads = do
+  columns ← column_group c n these payloads
+  Stands (record { results = PreparedResult statement parameters columns.0 ∷ []; more = false }) columns.1
+
+-- A prepared reply after its statement packet: n more parameters after these, and then its columns.
+unfoldable pub prepared : Context → Statement → ℕ → List ColumnDefinition → List Payload → Part Stretch
+prepared c statement n these payloads = do
+  parameters ← column_group c n these payloads
+  prepared_columns c statement parameters.0 statement.columns [] parameters.1
+
+-- What the first payload of a result may be.
+pub data Opening : Type 0 where
+  OkOpening : Okay → Opening
+  ErrorOpening : ServerFault → Opening
+  FileOpening : List ℕ → Opening
+  CountOpening : ℕ → Opening
+  StatementOpening : Statement → Opening
+
+abbrev pub is_prepare : ReplyKind → Bool
+is_prepare Prepare = true
+is_prepare kind = false
+
+-- A count of columns: from 1 to 65535, and nothing after it.
+abbrev pub count_within : Reads ℕ → Result ℕ ReplyFault
+count_within (Ok n) = if nat_lt 0 n.0 && nat_lt n.0 65536 && length n.1 == 0 then Ok n.0 else Err BadCount
+count_within (Err e) = Err BadCount
+
+-- The first payload of a result, by its first byte.
+abbrev pub opening : Context → Payload → Result Opening ReplyFault
+opening c payload =
+    if begins_with 255 payload then map_ok ErrorOpening (or_fault BadError (server_fault_at c.capabilities.0 payload))
+    else if is_prepare c.kind then
+    (if begins_with 0 payload then map_ok StatementOpening (or_fault BadPrepare (statement_at payload)) else Err BadHeader)
+    else if begins_with 0 payload then map_ok OkOpening (or_fault BadOk (okay_at c.capabilities.0 payload))
+    else if begins_with 251 payload then Ok (FileOpening (drop 1 payload))
+    else if length payload == 0 then Err BadHeader
+    else map_ok CountOpening (count_within (lenenc_int_at payload))
+
+-- A result after its first payload.
+abbrev pub after_opening : Context → Opening → List Payload → Part Stretch
+after_opening c (OkOpening ok) rest = Stands (record { results = OkResult ok ∷ []; more = more_results_exist ok.status }) rest
+after_opening c (ErrorOpening error) rest = Stands (record { results = ErrorResult error ∷ []; more = false }) rest
+after_opening c (FileOpening name) rest = Stands (record { results = FileResult name ∷ []; more = false }) rest
+after_opening c (CountOpening n) rest = result_set c n [] rest
+after_opening c (StatementOpening statement) rest = prepared c statement statement.parameters [] rest
+
+-- A result.
+unfoldable pub one_result : Context → List Payload → Part Stretch
+one_result c payloads = next c (opening c) payloads >>= λ x. after_opening c x.0 x.1
+
+-- How the results of a reply end: the last one stands, and these payloads follow it; the payloads end before
+-- that; or the first of these payloads has no place.
+pub data Ending : Type 0 where
+  Ended : List Payload → Ending
+  Open : Ending
+  Wrong : ReplyFault → List Payload → Ending
+
+-- Results one after another, by what their first part makes of the payloads: another result follows exactly
+-- where the one before says so.
+pub data Results (c : Context) : Part Stretch → List Outcome → Ending → Type 0 where
+  last : (results : List Outcome) (rest : List Payload) → Results c (Stands (record { results = results; more = false }) rest) results (Ended rest)
+  more : (results : List Outcome) (rest : List Payload) {others : List Outcome} {ending : Ending} → Results c (one_result c rest) others ending → Results c (Stands (record { results = results; more = true }) rest) (results ++ others) ending
+  begun : (results : List Outcome) → Results c (Begun results) results Open
+  misfit : (results : List Outcome) (fault : ReplyFault) (rest : List Payload) → Results c (Misfit results fault rest) results (Wrong fault rest)

@@ -1,0 +1,151 @@
+-- What the code holds of a reply, as what stands of it.
+-- MySQL: Client/Server Protocol, "COM_QUERY Response" and "MySQL Packets".
+use Rattle.std.specs.Prelude.{◌≡◌, ℕ, ◌<◌, List, [], ◌∷◌, ◌++◌, map, Option, Some, None, Result, Err, false, Vec, vec_len, vec_capacity}
+use Rattle.std.specs.declared.alloc.Global.{Global}
+use Rattle.mysql_packets.specs.Views.{report_view}
+use Rattle.mysql_wire.specs.Codec.{Codec, CanGoOn, IsBetween, held, packet_number}
+use Rattle.mysql_wire.specs.Stream.{Rest, IsRest, IsFault}
+use Rattle.mysql_wire.specs.Stream.Rest.{Empty}
+use Rattle.mysql_wire.specs.Laws.{AreBytes, FramingComesFirst, HasOneSplit}
+use Rattle.mysql_wire.specs.GoingOn.{BetweenHoldsSrc, PieceIsHeld, ReaderTakes, ReaderWaits, RefusalWasDecided}
+use Rattle.mysql_wire.specs.declared.codec.PacketCodecError.{PacketCodecError}
+use Rattle.mysql_wire.specs.declared.codec.PacketCodecError.TheVariants.{PacketTooLarge, PacketsOutOfSync}
+use Rattle.mysql_replies.specs.declared.fault.ReplyFault.{ReplyFault}
+use Rattle.mysql_replies.specs.declared.fault.ReplyFault.TheVariants.{TooLarge, OutOfSync, Memory}
+use Rattle.mysql_replies.specs.declared.results.ReplyResult.{ReplyResult}
+use Rattle.mysql_replies.specs.declared.results.Reply.{Reply}
+use Rattle.mysql_replies.specs.declared.results.ReplyEnd.{ReplyEnd}
+use Rattle.mysql_replies.specs.declared.results.ReplyEnd.TheVariants as ends
+use Rattle.mysql_replies.specs.declared.awaited.Awaited.{Awaited}
+use Rattle.mysql_replies.specs.declared.awaited.Awaited.TheVariants as awaiting
+use Rattle.mysql_replies.specs.declared.state.ReplyState.{ReplyState}
+use Rattle.mysql_replies.specs.Grammar.{Payload, is_binary, is_prepare}
+use Rattle.mysql_replies.specs.Reply.{Answer, Decides, Progressing, Standing, GoingOn, Answered, FaultAt, End, Whole, Unfinished}
+use Rattle.mysql_replies.specs.Reply as reply
+use Rattle.mysql_replies.specs.Bytes.{DecidesNumbered}
+use Rattle.mysql_replies.specs.Holding.{Held}
+use Rattle.mysql_replies.specs.Views.{outcome_views, awaited_view}
+use Rattle.mysql_replies.specs.Steps.{IsSettled, listed_of}
+
+abbrev pub progressing_of : ReplyState → Progressing
+progressing_of s = record {
+  context = s.context;
+  results = outcome_views s.results.items;
+  progress = map report_view s.progress.items;
+  count = s.count;
+  awaited = awaited_view s.awaited;
+}
+
+-- The answer where this fault was met.
+abbrev pub faulted_at : Progressing → ReplyFault → Answer
+faulted_at s fault = record { results = s.results ++ listed_of s.awaited; progress = s.progress; end = FaultAt s.count fault }
+
+abbrev pub faulted : Progressing → Option ReplyFault → Standing
+faulted s None = GoingOn s
+faulted s (Some fault) = Answered (faulted_at s fault)
+
+-- What stands: a reply that goes on, or the answer with a fault.
+abbrev pub standing_of : ReplyState → Standing
+standing_of s = faulted (progressing_of s) s.fault
+
+-- Rows that haven't ended can be listed without growing the list.
+abbrev pub HasRoom : Awaited → Vec ReplyResult Global → Type 0
+HasRoom (awaiting.Rows columns rows) results = vec_len results < vec_capacity results
+HasRoom awaited results = Unit {0}
+
+-- What every state of a text reply keeps.
+pub record IsReading (s : ReplyState) : Type 0 where
+  pub text : is_binary s.context.kind ≡ false
+  pub unprepared : is_prepare s.context.kind ≡ false
+  pub settled : IsSettled s.context (awaited_view s.awaited)
+  pub room : HasRoom s.awaited s.results
+
+-- The fact holds where memory didn't run out.
+abbrev pub UnlessMemory : {X : Type 0} → Result X ReplyFault → Type 0 → Type 0
+UnlessMemory (Err Memory) P = Unit {0}
+UnlessMemory r P = P
+
+-- The fact holds where memory ran out.
+abbrev pub OnMemory : {X : Type 0} → Result X ReplyFault → Type 0 → Type 0
+OnMemory (Err Memory) P = P
+OnMemory r P = Unit {0}
+
+-- The state after a payload decides, over all that is still to come, what was decided before over the payload
+-- followed by that.
+abbrev pub GoesOver : ReplyState → Payload → ReplyState → Type 0
+GoesOver before payload after = (z : List Payload) (rest : Rest) (answer : Answer) →
+    Decides (standing_of after) z rest answer → Decides (standing_of before) (payload ∷ z) rest answer
+
+-- The same, as far as the payloads can be numbered.
+abbrev pub GoesOverNumbered : ReplyState → Payload → ReplyState → Type 0
+GoesOverNumbered before payload after = (z : List Payload) (rest : Rest) (answer : Answer) →
+    DecidesNumbered (standing_of after) z rest answer → DecidesNumbered (standing_of before) (payload ∷ z) rest answer
+
+-- What stands where memory ran out over a payload: all that stood, and that fault.
+abbrev pub IsShortOf : ReplyState → ReplyState → Type 0
+IsShortOf before after = standing_of after ≡ Answered (faulted_at (progressing_of before) Memory)
+
+-- The end where no more bytes come.
+abbrev pub end_at : reply.Awaited → End
+end_at reply.Nothing = Whole
+end_at awaited = Unfinished
+
+abbrev pub end_of_state : Progressing → Option ReplyFault → End
+end_of_state s None = end_at s.awaited
+end_of_state s (Some fault) = FaultAt s.count fault
+
+-- The answer where no more bytes come.
+abbrev pub answer_of : ReplyState → Answer
+answer_of s = record {
+  results = outcome_views s.results.items ++ listed_of (awaited_view s.awaited);
+  progress = map report_view s.progress.items;
+  end = end_of_state (progressing_of s) s.fault;
+}
+
+abbrev pub end_view : ReplyEnd → End
+end_view ends.Whole = Whole
+end_view ends.Unfinished = Unfinished
+end_view (ends.Fault count fault) = FaultAt count fault
+
+-- A reply as its results, reports and end.
+abbrev pub answer_view : Reply → Answer
+answer_view r = record { results = outcome_views r.results.items; progress = map report_view r.progress.items; end = end_view r.end }
+
+-- What a reader with this codec, src and dst holds.
+abbrev pub held_of : ReplyState → Codec → List ℕ → List ℕ → Held
+held_of s codec src dst = record { standing = standing_of s; limit = codec.limit; number = packet_number codec dst; bytes = held codec src dst }
+
+-- After the last result nothing was begun.
+abbrev pub NothingBegun : ReplyState → Codec → List ℕ → Type 0
+NothingBegun s codec dst = awaited_view s.awaited ≡ reply.Nothing → IsBetween codec × (codec.number < 256) × (dst ≡ [])
+
+-- What the parts of a reader keep where no fault was met: no payload stands whole in what is held, and no fault.
+pub record IsPaused (s : ReplyState) (codec : Codec) (src dst : List ℕ) : Type 0 where
+  pub refused : codec.refused ≡ None
+  pub can_go_on : CanGoOn codec dst
+  pub rest : Rest
+  pub no_fault : ¬ IsFault rest
+  pub is_rest : IsRest codec.limit (packet_number codec dst) (held codec src dst) rest
+  pub bytes : AreBytes (held codec src dst)
+  pub nothing_begun : NothingBegun s codec dst
+  pub over : awaited_view s.awaited ≡ reply.Nothing → rest ≡ Empty
+
+pub record IsReceiving (s : ReplyState) (codec : Codec) (src dst : List ℕ) : Type 0 where
+  pub reading : IsReading s
+  pub paused : s.fault ≡ None → IsPaused s codec src dst
+
+-- What a codec's error means for a reply; it answers no other than these three.
+abbrev pub fault_named : PacketCodecError → ReplyFault
+fault_named PacketTooLarge = TooLarge
+fault_named PacketsOutOfSync = OutOfSync
+fault_named error = Memory
+
+-- The laws of framing that a reader rests on.
+pub record FramingLaws : Type 0 where
+  pub first : FramingComesFirst
+  pub one : HasOneSplit
+  pub between : BetweenHoldsSrc
+  pub piece : PieceIsHeld
+  pub takes : ReaderTakes
+  pub waits : ReaderWaits
+  pub refused : RefusalWasDecided

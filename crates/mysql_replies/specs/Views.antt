@@ -1,0 +1,73 @@
+-- MySQL: Client/Server Protocol, "COM_QUERY Response", its packets as the code holds them.
+-- What the code holds, as values; and what a function that can run out of memory answers.
+use Rattle.std.specs.Prelude.{◌≡◌, List, map, Result, Ok, Err}
+use Rattle.mysql_wire.specs.declared.error.WireError.{WireError}
+use Rattle.mysql_wire.specs.declared.error.WireError.TheVariants as wire
+use Rattle.mysql_packets.specs.Packets.{ColumnDefinition, Cell}
+use Rattle.mysql_packets.specs.Views.{okay_view, server_fault_view, statement_view, column_view, cell_views}
+use Rattle.mysql_replies.specs.declared.fault.ReplyFault.{ReplyFault}
+use Rattle.mysql_replies.specs.declared.fault.ReplyFault.TheVariants.{Memory}
+use Rattle.mysql_replies.specs.declared.opening.Opening.{Opening}
+use Rattle.mysql_replies.specs.declared.opening.Opening.TheVariants as openings
+use Rattle.mysql_packets.specs.declared.column.Column.{Column}
+use Rattle.mysql_packets.specs.declared.row.Value.{Value}
+use Rattle.std.specs.Prelude.{Vec, option_map}
+use Rattle.std.specs.declared.alloc.Global.{Global}
+use Rattle.mysql_replies.specs.declared.lines.Line.{Line}
+use Rattle.mysql_replies.specs.declared.lines.Line.TheVariants as lines
+use Rattle.mysql_replies.specs.declared.results.ReplyResult.{ReplyResult}
+use Rattle.mysql_replies.specs.declared.results.ReplyResult.TheVariants as results
+use Rattle.mysql_replies.specs.declared.awaited.Awaited.{Awaited}
+use Rattle.mysql_replies.specs.declared.awaited.Awaited.TheVariants as awaiting
+use Rattle.mysql_replies.specs.Grammar as grammar
+use Rattle.mysql_replies.specs.Reply as reply
+
+-- What a function refused is the fault, unless memory ran out.
+abbrev pub Refuses : {Y : Type 0} → ReplyFault → Result Y ReplyFault → Type 0
+Refuses Memory read = Unit {0}
+Refuses fault read = read ≡ Err fault
+
+-- What a function answered, seen by view, is what reading gives, unless memory ran out.
+abbrev pub Gives : {X Y : Type 0} → (X → Y) → Result X ReplyFault → Result Y ReplyFault → Type 0
+Gives view (Ok x) read = read ≡ Ok (view x)
+Gives view (Err e) read = Refuses e read
+
+-- What a packet's reader answered, where a refusal has this name.
+abbrev pub named : {X R : Type 0} → Result (X × R) WireError → ReplyFault → Result X ReplyFault
+named (Ok x) fault = Ok x.0
+named (Err wire.Memory) fault = Err Memory
+named (Err e) fault = Err fault
+
+abbrev pub opening_view : Opening → grammar.Opening
+opening_view (openings.Ok ok) = grammar.OkOpening (okay_view ok)
+opening_view (openings.Error error) = grammar.ErrorOpening (server_fault_view error)
+opening_view (openings.File name) = grammar.FileOpening name.items
+opening_view (openings.Count n) = grammar.CountOpening n
+opening_view (openings.Statement statement) = grammar.StatementOpening (statement_view statement)
+
+abbrev pub column_views : List Column → List ColumnDefinition
+column_views columns = map column_view columns
+
+abbrev pub row_views : List (Vec Value Global) → List (List Cell)
+row_views rows = map (λ row. cell_views row.items) rows
+
+abbrev pub line_view : Line → grammar.Line
+line_view (lines.Row cells) = grammar.RowLine (cell_views cells.items)
+line_view (lines.Terminator ok) = grammar.TerminatorLine (okay_view ok)
+line_view (lines.Error error) = grammar.ErrorLine (server_fault_view error)
+
+abbrev pub outcome_view : ReplyResult → grammar.Outcome
+outcome_view (results.Ok ok) = grammar.OkResult (okay_view ok)
+outcome_view (results.Rows columns rows terminator) = grammar.RowsResult (column_views columns.items) (row_views rows.items) (option_map okay_view terminator)
+outcome_view (results.Prepared stmt params columns) = grammar.PreparedResult (statement_view stmt) (column_views params.items) (column_views columns.items)
+outcome_view (results.Error error) = grammar.ErrorResult (server_fault_view error)
+outcome_view (results.File name) = grammar.FileResult name.items
+
+abbrev pub outcome_views : List ReplyResult → List grammar.Outcome
+outcome_views results = map outcome_view results
+
+abbrev pub awaited_view : Awaited → reply.Awaited
+awaited_view awaiting.First = reply.First
+awaited_view (awaiting.Columns left these) = reply.Columns left (column_views these.items)
+awaited_view (awaiting.Rows columns rows) = reply.Rows (column_views columns.items) (row_views rows.items)
+awaited_view awaiting.Nothing = reply.Nothing

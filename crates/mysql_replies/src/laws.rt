@@ -1,0 +1,43 @@
+//! Laws of the grammar of replies and of what a reader holds. Each function is its law alone.
+
+ghost use Rattle.mysql_replies.specs.Reply.{EachHasAnswer, AnswersAgree, EachDecides, DecisionsAgree, FreshDecides, GoesOn};
+ghost use Rattle.mysql_replies.specs.Bytes.{AnyBytesHaveAnswer, CuttingsAgree};
+ghost use Rattle.mysql_replies.specs.Holding.{EachHoldingDecides, HoldingsAgree, FreshHoldingDecides};
+
+use mysql_wire::laws::one_split;
+
+/// Each list of payloads, with whatever rest, has one answer.
+pub fn each_reply_has_one_answer()
+    ensures some { EachHasAnswer }
+    ensures only { AnswersAgree }
+{}
+
+/// Whatever stands decides one answer over each list of payloads still to come, and a fresh reader the
+/// reply's.
+pub fn each_standing_decides()
+    ensures some { EachDecides }
+    ensures only { DecisionsAgree }
+    ensures fresh { FreshDecides }
+{}
+
+/// What stands after some payloads decides what was decided before over these and those still to come.
+pub fn a_standing_goes_on()
+    ensures { GoesOn }
+{}
+
+/// Any bytes have an answer, and it doesn't depend on how they were cut into pieces.
+pub fn bytes_have_one_answer()
+    ensures some { AnyBytesHaveAnswer }
+    ensures cuttings { CuttingsAgree }
+{
+    one_split();
+}
+
+/// Whatever a reader holds decides one answer over the bytes still to come, and a fresh reader the reply's.
+pub fn each_holding_decides()
+    ensures some { EachHoldingDecides }
+    ensures only { HoldingsAgree }
+    ensures fresh { FreshHoldingDecides }
+{
+    one_split();
+}

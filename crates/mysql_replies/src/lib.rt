@@ -1,0 +1,19 @@
+//! Replies of a server, read from the bytes of a connection however they are cut.
+#![tactic(auto)]
+
+mod awaited;
+pub mod context;
+pub mod fault;
+mod framing;
+pub mod laws;
+mod lines;
+mod opening;
+mod reader;
+pub mod results;
+mod state;
+mod steps;
+
+pub use context::{Context, ReplyKind};
+pub use fault::ReplyFault;
+pub use reader::{ReplyReader, read_reply};
+pub use results::{Reply, ReplyEnd, ReplyResult};

@@ -1,0 +1,141 @@
+//! The first payload of a result.
+
+ghost use Rattle.std.specs.Prelude.{◌≡◌, List, length, Ok, Err};
+ghost use Rattle.mysql_replies.specs.Grammar.{opening, or_fault, begins_with, is_prepare, count_within, map_ok};
+ghost use Rattle.mysql_packets.specs.Packets.{okay_at, server_fault_at, statement_at};
+ghost use Rattle.mysql_packets.specs.Fields.{lenenc_int_at};
+ghost use Rattle.mysql_packets.specs.Views.{okay_view, server_fault_view, statement_view};
+ghost use Rattle.mysql_replies.specs.declared.fault.ReplyFault.TheVariants.{BadOk, BadError, BadPrepare};
+ghost use Rattle.mysql_replies.specs.Grammar as grammar;
+ghost use Rattle.mysql_replies.specs.Views.{Gives, named, opening_view};
+
+use crate::context::{Context, ReplyKind};
+use crate::fault::ReplyFault;
+use mysql_packets::CapabilityFlags;
+use mysql_packets::fields::lenenc_int_of;
+use mysql_packets::okay::{OkPacket, okay_of};
+use mysql_packets::server_fault::{ServerError, server_error_of};
+use mysql_packets::statement::{StmtPacket, statement_of};
+use mysql_wire::WireError;
+use std::alloc::Global;
+
+/// What the first payload of a result says.
+#[derive(Drop)]
+pub enum Opening {
+    Ok(OkPacket),
+    Error(ServerError),
+    File(Vec<u8>),
+    Count(u16),
+    Statement(StmtPacket),
+}
+
+/// What was read, whatever bytes follow it, or the fault of this name.
+pub fn named_of<T: Drop>(
+    read: Result<(T, &[u8]), WireError>,
+    fault: ReplyFault,
+) -> Result<T, ReplyFault>
+    ensures { result ≡ named read.entry fault }
+{
+    match read {
+        Ok((value, _)) => Ok(value),
+        Err(WireError::Memory) => Err(ReplyFault::Memory),
+        Err(_) => Err(fault),
+    }
+}
+
+/// The payload begins with this byte.
+pub fn starts_with(payload: &[u8], byte: u8) -> bool
+    ensures { result ≡ begins_with byte payload.now }
+{
+    match payload {
+        [] => false,
+        [first, ..] => *first == byte,
+    }
+}
+
+/// An OK packet.
+pub fn ok_packet(
+    alloc: Global,
+    capabilities: CapabilityFlags,
+    payload: &[u8],
+) -> Result<OkPacket, ReplyFault>
+    ensures { Gives okay_view result (or_fault BadOk (okay_at capabilities.0 payload.now)) }
+{
+    named_of(okay_of(alloc, capabilities, payload), ReplyFault::BadOk)
+}
+
+/// An error packet.
+pub fn error_packet(
+    alloc: Global,
+    capabilities: CapabilityFlags,
+    payload: &[u8],
+) -> Result<ServerError, ReplyFault>
+    ensures { Gives server_fault_view result (or_fault BadError (server_fault_at capabilities.0 payload.now)) }
+{
+    named_of(
+        server_error_of(alloc, capabilities, payload),
+        ReplyFault::BadError,
+    )
+}
+
+/// A statement packet.
+fn statement_packet(payload: &[u8]) -> Result<StmtPacket, ReplyFault>
+    ensures { Gives statement_view result (or_fault BadPrepare (statement_at payload.now)) }
+{
+    named_of(statement_of(payload), ReplyFault::BadPrepare)
+}
+
+/// A count of columns.
+fn column_count(payload: &[u8]) -> Result<u16, ReplyFault>
+    ensures { Gives (λ n. n) result (count_within (lenenc_int_at payload.now)) }
+{
+    let (count, rest) = match lenenc_int_of(payload) {
+        Ok(read) => read,
+        Err(WireError::Memory) => return Err(ReplyFault::Memory),
+        Err(_) => return Err(ReplyFault::BadCount),
+    };
+    if count > 0 && count < 65536 && rest.is_empty() {
+        Ok(count as u16)
+    } else {
+        Err(ReplyFault::BadCount)
+    }
+}
+
+fn prepares(kind: ReplyKind) -> bool
+    ensures { result ≡ is_prepare kind }
+{
+    match kind {
+        ReplyKind::Prepare => true,
+        _ => false,
+    }
+}
+
+/// The first payload of a result.
+pub fn opening_of(alloc: Global, context: Context, payload: &[u8]) -> Result<Opening, ReplyFault>
+    ensures { Gives opening_view result (opening context payload.now) }
+{
+    if starts_with(payload, 255) {
+        let error = error_packet(alloc, context.capabilities, payload)?;
+        Ok(Opening::Error(error))
+    } else if prepares(context.kind) {
+        if starts_with(payload, 0) {
+            let statement = statement_packet(payload)?;
+            Ok(Opening::Statement(statement))
+        } else {
+            Err(ReplyFault::BadHeader)
+        }
+    } else if starts_with(payload, 0) {
+        let ok = ok_packet(alloc, context.capabilities, payload)?;
+        Ok(Opening::Ok(ok))
+    } else if starts_with(payload, 251) {
+        match Vec::from_slice(alloc, &payload[1..]) {
+            Ok(name) => Ok(Opening::File(name)),
+            Err(_) => Err(ReplyFault::Memory),
+        }
+    } else if payload.is_empty() {
+        Err(ReplyFault::BadHeader)
+    } else {
+        let count = column_count(payload)?;
+        Ok(Opening::Count(count))
+    }
+}

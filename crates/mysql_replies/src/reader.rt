@@ -1,0 +1,191 @@
+//! A reply, read from the bytes of a connection as they come.
+
+ghost use Rattle.std.specs.Prelude.{◌≡◌, ◌⊎◌, ◌∷◌, ◌++◌, [], None, Some, Ok, Err, OnOk, IfErr, IfSome, flat_map, length, ◌<◌, ℕ, List};
+ghost use Rattle.mysql_wire.specs.Laws.{AreBytes};
+ghost use Rattle.mysql_wire.specs.Codec.{CanGoOn, held};
+ghost use Rattle.mysql_replies.specs.Bytes.{IsReplyOf, IsShortReplyOf};
+ghost use Rattle.mysql_replies.specs.Holding.{nothing_held, fault_of, DecidesOver, GoesOnOver, TakesAll, StandsShort};
+ghost use Rattle.mysql_replies.specs.Standings.{standing_of, held_of, answer_view, fault_named, IsReading, IsPaused, NothingBegun, UnlessMemory, OnMemory};
+ghost use Rattle.mysql_replies.specs.Standings as states;
+
+use crate::context::{Context, ReplyKind};
+use crate::fault::ReplyFault;
+use crate::framing::{bytes_are_bytes, framing_laws};
+use crate::results::Reply;
+use crate::state::ReplyState;
+use bytes::{Buf, BytesMut};
+use mysql_packets::CapabilityFlags;
+use mysql_wire::{PacketCodec, PacketCodecError, PartialHeader};
+use std::alloc::Global;
+use std::marker::Model;
+use std::mem;
+
+/// What a codec's error means for a reply.
+fn fault_from(error: PacketCodecError) -> ReplyFault
+    ensures { result ≡ fault_named error }
+{
+    match error {
+        PacketCodecError::PacketTooLarge => ReplyFault::TooLarge,
+        PacketCodecError::PacketsOutOfSync => ReplyFault::OutOfSync,
+        PacketCodecError::Memory => ReplyFault::Memory,
+        PacketCodecError::Io(_) => ReplyFault::Memory,
+    }
+}
+
+// Takes each payload that stands whole.
+fn take_packets<B: Buf>(
+    alloc: Global,
+    state: &mut ReplyState,
+    codec: &mut PacketCodec,
+    src: &mut B,
+    dst: &mut BytesMut,
+) -> Result<(), ReplyFault>
+    requires reading { IsReading state.old }
+    requires going { state.old.fault ≡ None }
+    requires ready { codec.old.refused ≡ None }
+    requires can_go_on { CanGoOn codec.old dst.old.items }
+    requires bytes { AreBytes (held codec.old (B.unread src.old) dst.old.items) }
+    requires nothing_begun { NothingBegun state.old codec.old dst.old.items }
+    ensures reading { IsReading state.new }
+    ensures paused { OnOk result ((state.new.fault ≡ None) × IsPaused state.new codec.new (B.unread src.new) dst.new.items) }
+    ensures moved { OnOk result (length (B.unread src.new) < 4) }
+    ensures fault { IfErr result (λ fault. state.new.fault ≡ Some fault) }
+    ensures took { OnOk result (TakesAll (held_of state.old codec.old (B.unread src.old) dst.old.items) (held codec.old (B.unread src.old) dst.old.items) (held_of state.new codec.new (B.unread src.new) dst.new.items)) }
+    ensures goes_on { UnlessMemory result (GoesOnOver (held_of state.old codec.old (B.unread src.old) dst.old.items) [] (held_of state.new codec.new (B.unread src.new) dst.new.items)) }
+    ensures short { OnMemory result (StandsShort (held_of state.old codec.old (B.unread src.old) dst.old.items) (held codec.old (B.unread src.old) dst.old.items) (held_of state.new codec.new (B.unread src.new) dst.new.items)) }
+{
+    framing_laws();
+    'packets: loop {
+        if state.is_over() {
+            if src.remaining() == 0 {
+                return Ok(());
+            }
+            return Err(state.fail(ReplyFault::AfterEnd));
+        }
+        match codec.decode(src, dst) {
+            Ok(false) => return Ok(()),
+            Ok(true) => {
+                let taken = state.take(alloc, dst.as_slice());
+                dst.clear();
+                if taken.is_err() {
+                    return taken;
+                }
+            }
+            Err(error) => return Err(state.fail(fault_from(error))),
+        }
+    }
+}
+
+/// Reads a server's reply from the bytes of a connection, in whatever pieces they come. What it holds, beside the
+/// results and the reports that it read, is at most one packet within the limit.
+///
+/// MySQL: Client/Server Protocol, "COM_QUERY Response" and "Text Resultset".
+#[derive(Drop)]
+pub struct ReplyReader {
+    alloc: Global,
+    state: ReplyState,
+    codec: PacketCodec,
+    header: PartialHeader,
+    packet: BytesMut,
+}
+
+impl Model for ReplyReader {
+    ghost use Rattle.mysql_replies.specs.Holding.{Held};
+
+    ghost Value = { Held };
+
+    ghost use Rattle.mysql_replies.specs.Standings.{held_of, IsReceiving};
+
+    ghost view = { λ reader. held_of reader.state reader.codec reader.header reader.packet.items };
+
+    ghost invariant = { λ reader. IsReceiving reader.state reader.codec reader.header reader.packet.items };
+}
+
+impl ReplyReader {
+    /// A reader of the reply to a command of this kind, of which nothing came yet. The reply's first chunk has the number
+    /// `first_id`; a packet of more than `limit` bytes (at least 4) is a fault. The kind is `Text`.
+    pub fn new(
+        alloc: Global,
+        kind: ReplyKind,
+        capabilities: CapabilityFlags,
+        first_id: u8,
+        limit: usize,
+    ) -> ReplyReader
+        requires text { kind ≡ ReplyKind.Text }
+        ensures { result ≡ nothing_held (record { kind = kind; capabilities = capabilities }) first_id limit }
+    {
+        framing_laws();
+        let context = Context { kind, capabilities };
+        ReplyReader {
+            alloc,
+            state: ReplyState::new(alloc, context),
+            codec: PacketCodec::at(first_id, limit),
+            header: PartialHeader::new(),
+            packet: BytesMut::new(alloc),
+        }
+    }
+
+    /// Reads the next bytes. Answers the fault of the first payload that has no place, or of the bytes after the payloads;
+    /// from then on it answers that fault and changes nothing. Where memory ran out it answers Memory from then on, and
+    /// what was read of the payloads before stays.
+    pub fn feed(&mut self, piece: &[u8]) -> Result<(), ReplyFault>
+        ensures stays { IfSome (fault_of self.old.standing) (λ fault. (result ≡ Err fault) × (self.new ≡ self.old)) }
+        ensures going { OnOk result (fault_of self.new.standing ≡ None) }
+        ensures fault { IfErr result (λ fault. fault_of self.new.standing ≡ Some fault) }
+        ensures takes { OnOk result (TakesAll self.old (self.old.bytes ++ piece.now) self.new) }
+        ensures goes_on { UnlessMemory result (GoesOnOver self.old piece.now self.new) }
+        ensures short { fault_of self.old.standing ≡ None → OnMemory result (StandsShort self.old (self.old.bytes ++ piece.now) self.new) }
+    {
+        framing_laws();
+        match self.state.fault {
+            Some(fault) => return Err(fault),
+            None => {}
+        }
+        bytes_are_bytes(piece);
+        let header = mem::replace(&mut self.header, PartialHeader::new());
+        let mut src = header.followed_by(piece);
+        if let Err(fault) = take_packets(
+            self.alloc,
+            &mut self.state,
+            &mut self.codec,
+            &mut src,
+            &mut self.packet,
+        ) {
+            return Err(fault);
+        }
+        self.header = PartialHeader::rest_of(&mut src);
+        Ok(())
+    }
+
+    /// What was read, where no more bytes come. Takes no memory.
+    pub fn finish(self) -> Reply
+        ensures { DecidesOver self [] (answer_view result) }
+    {
+        self.state.finish()
+    }
+}
+
+/// The reply of these pieces' bytes, one after another: the answer of a [`ReplyReader`] that is fed them. Where memory ran
+/// out its end is Fault(p, Memory), and it has the results and the reports of the first p payloads.
+///
+/// MySQL: Client/Server Protocol, "COM_QUERY Response" and "Text Resultset".
+pub fn read_reply(
+    alloc: Global,
+    kind: ReplyKind,
+    capabilities: CapabilityFlags,
+    first_id: u8,
+    limit: usize,
+    pieces: &[&[u8]],
+) -> Reply
+    requires text { kind ≡ ReplyKind.Text }
+    ensures { IsReplyOf (record { kind = kind; capabilities = capabilities }) first_id limit (flat_map (λ piece. piece.now) pieces.now) (answer_view result)
+        ⊎ IsShortReplyOf (record { kind = kind; capabilities = capabilities }) first_id limit (flat_map (λ piece. piece.now) pieces.now) (answer_view result) }
+{
+    let mut reader = ReplyReader::new(alloc, kind, capabilities, first_id, limit);
+    // After a fault the reader takes no notice of further pieces.
+    for piece in pieces {
+        bytes_are_bytes(piece);
+        let _answer = reader.feed(piece);
+    }
+    reader.finish()
+}

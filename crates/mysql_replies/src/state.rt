@@ -1,0 +1,265 @@
+//! A reply, read payload by payload.
+
+ghost use Rattle.std.specs.Prelude.{◌≡◌, ℕ, ◌<◌, ◌+◌, ◌-◌, ◌^◌, List, [], ◌∷◌, ◌++◌, true, false, None, Some, vec_len, vec_capacity, ◌≤◌, ◌↔◌, IsTrue, length, map, OnOk, IfErr};
+ghost use Rattle.mysql_packets.specs.Packets.{progress_obsolete, report_at};
+ghost use Rattle.mysql_packets.specs.Views.{report_view};
+ghost use Rattle.mysql_replies.specs.declared.fault.ReplyFault.TheVariants.{BadError};
+ghost use Rattle.mysql_replies.specs.Grammar.{or_fault, is_binary, is_prepare, has_report_form};
+ghost use Rattle.mysql_replies.specs.Reply.{fresh};
+ghost use Rattle.mysql_replies.specs.Reply as reply;
+ghost use Rattle.mysql_replies.specs.Views.{Gives, awaited_view, outcome_views};
+ghost use Rattle.mysql_replies.specs.Steps.{IsSettled, IsAwaiting, listed_views, listed_of};
+ghost use Rattle.mysql_replies.specs.Standings.{standing_of, UnlessMemory, OnMemory, IsReading, IsShortOf, GoesOver, GoesOverNumbered, HasRoom, end_at, end_view, answer_of, answer_view};
+
+use crate::awaited::{Awaited, Listed, Stepped};
+use crate::context::{Context, ReplyKind};
+use crate::fault::ReplyFault;
+use crate::opening::named_of;
+use crate::results::{Reply, ReplyEnd, ReplyResult};
+use crate::steps::step;
+use bitflags::Flags;
+use mysql_packets::CapabilityFlags;
+use mysql_packets::server_fault::{ProgressReport, report_of};
+use std::alloc::Global;
+use std::mem;
+
+/// What stands of a reply.
+#[derive(Drop)]
+pub struct ReplyState {
+    pub context: Context,
+    pub results: Vec<ReplyResult>,
+    pub progress: Vec<ProgressReport>,
+    pub count: u64,
+    pub awaited: Awaited,
+    pub fault: Option<ReplyFault>,
+}
+
+/// Progress is reported.
+#[tactic(auto, unfolding(bitflags::proofs::OnLiterals::bitflags_on_literals))]
+fn reports_progress(capabilities: CapabilityFlags) -> bool
+    ensures { result ≡ progress_obsolete capabilities.0 }
+{
+    capabilities.contains(CapabilityFlags::CLIENT_PROGRESS_OBSOLETE)
+}
+
+/// The payload has the form of a progress report.
+pub fn is_report_like(context: Context, payload: &[u8]) -> bool
+    ensures { result ≡ has_report_form context payload.now }
+{
+    reports_progress(context.capabilities)
+        && payload.len() >= 3
+        && payload[0] == 255
+        && payload[1] == 255
+        && payload[2] == 255
+}
+
+/// A progress report.
+fn progress_packet(alloc: Global, payload: &[u8]) -> Result<ProgressReport, ReplyFault>
+    ensures { Gives report_view result (or_fault BadError (report_at payload.now)) }
+{
+    named_of(report_of(alloc, payload), ReplyFault::BadError)
+}
+
+impl ReplyState {
+    /// What stands before any payload has come.
+    pub fn new(alloc: Global, context: Context) -> ReplyState
+        ensures fresh { standing_of result ≡ fresh context }
+        ensures first { result.awaited ≡ Awaited.First }
+        ensures going { result.fault ≡ None }
+        ensures reading { context.kind ≡ ReplyKind.Text → IsReading result }
+    {
+        ReplyState {
+            context,
+            results: Vec::new(alloc),
+            progress: Vec::new(alloc),
+            count: 0,
+            awaited: Awaited::First,
+            fault: None,
+        }
+    }
+
+    /// The fault of the payload that comes.
+    pub fn fail(&mut self, fault: ReplyFault) -> ReplyFault
+        ensures state { self.new ≡ record self.old { fault = Some fault } }
+        ensures same { result ≡ fault }
+    {
+        self.fault = Some(fault);
+        fault
+    }
+
+    /// Nothing is awaited.
+    pub fn is_over(&self) -> bool
+        ensures over { result ≡ true → self.now.awaited ≡ Awaited.Nothing }
+        ensures awaiting { result ≡ false → IsAwaiting (awaited_view self.now.awaited) }
+    {
+        match self.awaited {
+            Awaited::Nothing => true,
+            _ => false,
+        }
+    }
+
+    /// Reads a payload in the form of a progress report.
+    fn take_report(&mut self, alloc: Global, payload: &[u8]) -> Result<(), ReplyFault>
+        requires reading { IsReading self.old }
+        requires going { self.old.fault ≡ None }
+        requires awaiting { IsAwaiting (awaited_view self.old.awaited) }
+        requires report { has_report_form self.old.context payload.now ≡ true }
+        requires room { self.old.count + 1 < 2 ^ 64 }
+        ensures reading { IsReading self.new }
+        ensures ok { OnOk result ((self.new.fault ≡ None) × (self.new.count ≡ self.old.count + 1)) }
+        ensures fault { IfErr result (λ fault. self.new.fault ≡ Some fault) }
+        ensures goes_on { UnlessMemory result (GoesOver self.old payload.now self.new) }
+        ensures short { OnMemory result (IsShortOf self.old self.new) }
+    {
+        let report = match progress_packet(alloc, payload) {
+            Ok(report) => report,
+            Err(fault) => return Err(self.fail(fault)),
+        };
+        if self.progress.push(report).is_err() {
+            return Err(self.fail(ReplyFault::Memory));
+        }
+        self.count += 1;
+        Ok(())
+    }
+
+    /// Adds results to the list.
+    fn list(&mut self, listed: Listed)
+        requires { vec_len self.old.results + 3 ≤ vec_capacity self.old.results }
+        ensures results { outcome_views self.new.results.items ≡ outcome_views self.old.results.items ++ listed_views listed }
+        ensures rest { self.new ≡ record self.old { results = self.new.results } }
+        ensures room { vec_len self.new.results < vec_capacity self.new.results }
+    {
+        match listed {
+            Listed::None => {}
+            Listed::One(first) => {
+                let Ok(()) = self.results.push(first) else {
+                    unreachable!()
+                };
+            }
+            Listed::Two(first, second) => {
+                let Ok(()) = self.results.push(first) else {
+                    unreachable!()
+                };
+                let Ok(()) = self.results.push(second) else {
+                    unreachable!()
+                };
+            }
+        }
+    }
+
+    /// Reads a payload that is no progress report.
+    fn take_other(&mut self, alloc: Global, payload: &[u8]) -> Result<(), ReplyFault>
+        requires reading { IsReading self.old }
+        requires going { self.old.fault ≡ None }
+        requires awaiting { IsAwaiting (awaited_view self.old.awaited) }
+        requires report { has_report_form self.old.context payload.now ≡ false }
+        requires room { self.old.count + 1 < 2 ^ 64 }
+        ensures reading { IsReading self.new }
+        ensures ok { OnOk result ((self.new.fault ≡ None) × (self.new.count ≡ self.old.count + 1)) }
+        ensures fault { IfErr result (λ fault. self.new.fault ≡ Some fault) }
+        ensures goes_on { UnlessMemory result (GoesOver self.old payload.now self.new) }
+        ensures short { OnMemory result (IsShortOf self.old self.new) }
+    {
+        if self.results.reserve(3).is_err() {
+            return Err(self.fail(ReplyFault::Memory));
+        }
+        let awaited = mem::replace(&mut self.awaited, Awaited::Nothing);
+        match step(alloc, self.context, awaited, payload) {
+            Stepped::Moved(listed, next) => {
+                self.awaited = next;
+                self.list(listed);
+                self.count += 1;
+                Ok(())
+            }
+            Stepped::Failed(same, fault) => {
+                self.awaited = same;
+                Err(self.fail(fault))
+            }
+        }
+    }
+
+    /// Reads the next payload.
+    pub fn take(&mut self, alloc: Global, payload: &[u8]) -> Result<(), ReplyFault>
+        requires reading { IsReading self.old }
+        requires going { self.old.fault ≡ None }
+        requires awaiting { IsAwaiting (awaited_view self.old.awaited) }
+        ensures reading { IsReading self.new }
+        ensures ok { OnOk result ((self.new.fault ≡ None) × (self.new.count ≡ self.old.count + 1)) }
+        ensures fault { IfErr result (λ fault. self.new.fault ≡ Some fault) }
+        ensures goes_on { UnlessMemory result (GoesOverNumbered self.old payload.now self.new) }
+        ensures short { OnMemory result (IsShortOf self.old self.new) }
+    {
+        if self.count == u64::MAX {
+            return Err(self.fail(ReplyFault::TooLarge));
+        }
+        if is_report_like(self.context, payload) {
+            self.take_report(alloc, payload)
+        } else {
+            self.take_other(alloc, payload)
+        }
+    }
+}
+
+/// The results with the one that hasn't ended.
+fn closed(mut results: Vec<ReplyResult>, awaited: Awaited) -> Vec<ReplyResult>
+    requires { HasRoom awaited results }
+    ensures { outcome_views result.items ≡ outcome_views results.items ++ listed_of (awaited_view awaited) }
+{
+    match awaited {
+        Awaited::Rows { columns, rows } => {
+            let terminator = None;
+            let last = ReplyResult::Rows {
+                columns,
+                rows,
+                terminator,
+            };
+            let Ok(()) = results.push(last) else {
+                unreachable!()
+            };
+            results
+        }
+        Awaited::Columns {
+            left: _,
+            these: _these,
+        } => results,
+        Awaited::First => results,
+        Awaited::Nothing => results,
+    }
+}
+
+/// The end of a reply where no fault was met and no more bytes come.
+fn end_after(awaited: &Awaited) -> ReplyEnd
+    ensures { end_view result ≡ end_at (awaited_view awaited.now) }
+{
+    match awaited {
+        Awaited::Nothing => ReplyEnd::Whole,
+        _ => ReplyEnd::Unfinished,
+    }
+}
+
+impl ReplyState {
+    /// The answer where no more bytes come.
+    pub fn finish(self) -> Reply
+        requires reading { IsReading self }
+        ensures { answer_view result ≡ answer_of self }
+    {
+        let end = match self.fault {
+            Some(fault) => ReplyEnd::Fault(self.count, fault),
+            None => end_after(&self.awaited),
+        };
+        let ReplyState {
+            context: _,
+            results,
+            progress,
+            count: _,
+            awaited,
+            fault: _,
+        } = self;
+        let results = closed(results, awaited);
+        Reply {
+            results,
+            progress,
+            end,
+        }
+    }
+}

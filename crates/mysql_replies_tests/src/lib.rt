@@ -1,0 +1,5 @@
+//! Tests of the reply reader: replies of servers, in one piece and byte by byte.
+#![tactic(auto)]
+
+#[cfg(test)]
+mod tests;
