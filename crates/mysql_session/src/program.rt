@@ -60,7 +60,9 @@ impl From<ReceiverError> for Stop {
 
 /// The query of the worked run, the id of its statement and the limit of its packets.
 const QUERY: &[u8] = b"SELECT :a";
+
 const STATEMENT: u32 = 1;
+
 const LIMIT: usize = 1000;
 
 /// The set that gives `a` the number 1.
@@ -137,7 +139,15 @@ fn worked_run<W: Write>(alloc: Global, output: &mut W) -> Result<Status, Stop> {
     let mut sets = Vec::new(alloc);
     sets.push(worked_set(alloc)?)?;
     let mut stream = Vec::new(alloc);
-    send(alloc, QUERY, &sets, Road::Text, STATEMENT, LIMIT, &mut stream)?;
+    send(
+        alloc,
+        QUERY,
+        &sets,
+        Road::Text,
+        STATEMENT,
+        LIMIT,
+        &mut stream,
+    )?;
     write_stream(output, &stream)?;
     let audit = audit_by_bytes(alloc, &stream)?;
     write_audit(output, &audit)?;
