@@ -40,7 +40,7 @@ fn prints(rt: HostRuntime) {
     let mut output = Vec::new(rt.alloc());
     let status = run(rt.alloc(), &[], &mut input, &mut output);
     let lines: &[u8] = b"09 00 00 00 03 53 45 4c 45 43 54 20 31\nset 0: 1\nend: whole\n";
-    let refused = status == Status::Refused && output.as_slice().ends_with(b"refused: Memory\n");
+    let refused = status == Status::Refused && output.as_slice().ends_with(b" Memory\n");
     let printed = status == Status::Whole && output.as_slice() == lines;
     assert!(rt; printed || refused);
 }
