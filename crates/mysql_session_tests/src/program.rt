@@ -42,7 +42,9 @@ fn prints(rt: HostRuntime) {
     let lines: &[u8] = b"09 00 00 00 03 53 45 4c 45 43 54 20 31\nset 0: 1\nend: whole\n";
     let refused = status == Status::Refused && output.as_slice().ends_with(b" Memory\n");
     let printed = status == Status::Whole && output.as_slice() == lines;
-    assert!(rt; printed || refused);
+    // The output's own buffer may be what can't grow.
+    let cut_off = status == Status::Usage && lines.starts_with(output.as_slice());
+    assert!(rt; printed || refused || cut_off);
 }
 
 #[test]
