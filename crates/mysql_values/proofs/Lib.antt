@@ -31,3 +31,5 @@ pub mod SqlTexts
 pub mod Looked
 pub mod TextWritten
 pub mod BindCauses
+pub mod WrittenCells
+pub mod ShortForms

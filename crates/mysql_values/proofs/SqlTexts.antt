@@ -167,7 +167,7 @@ at_both a text c meaning e f h =
 
 pub each_sql_is_literal : (value : Value) → FitsFields value → SqlIsLiteral value
 each_sql_is_literal NULL h text meaning e f = at_both (codes "NULL") text content.Null meaning e f refl
-each_sql_is_literal (Bytes bytes) h text meaning e f = at_both (bytes_sql false bytes) text (content.Bytes bytes) meaning e f (bytes_literal (is_utf8 bytes) bytes refl (all_bytes bytes (λ k l. h k)))
+each_sql_is_literal (Bytes bytes) h text meaning e f = at_both (bytes_sql false bytes) text (content.Bytes bytes) meaning e f (bytes_literal (is_utf8 bytes) bytes refl (all_bytes bytes (λ k l. h.0 k)))
 each_sql_is_literal (Int (pos n)) h text meaning e f = at_both (decimal n) text (content.Number (pos n)) meaning e f (unsigned_number n (omega (arith, h.sfits)))
 each_sql_is_literal (Int (negsuc n)) h text meaning e f = at_both (0x2d ∷ decimal (suc n)) text (content.Number (negsuc n)) meaning e f (negative_number n (omega (arith, h.sfits)))
 each_sql_is_literal (UInt n) h text meaning e f = at_both (decimal n) text (content.Number (pos n)) meaning e f (unsigned_number n h)
@@ -313,7 +313,7 @@ number_is_utf8 n h = plain_is_utf8 (decimal n) (plain_digits (decimal n) (digits
 
 pub sql_is_utf8 : (m : Bool) (value : Value) (text : List ℕ) → FitsFields value → sql_of m value ≡ Some text → IsUtf8 text
 sql_is_utf8 m NULL text h e = let same : codes "NULL" ≡ text = cc in subst IsUtf8 same (ascii_is_utf8 (codes "NULL") (omega arith, (omega arith, (omega arith, (omega arith, tt)))))
-sql_is_utf8 m (Bytes bytes) text h e = let same : bytes_sql m bytes ≡ text = cc in subst IsUtf8 same (bytes_are_utf8 m (is_utf8 bytes) bytes refl (all_bytes bytes (λ k l. h k)))
+sql_is_utf8 m (Bytes bytes) text h e = let same : bytes_sql m bytes ≡ text = cc in subst IsUtf8 same (bytes_are_utf8 m (is_utf8 bytes) bytes refl (all_bytes bytes (λ k l. h.0 k)))
 sql_is_utf8 m (Int (pos n)) text h e = let same : decimal n ≡ text = cc in subst IsUtf8 same (number_is_utf8 n (omega (arith, h.sfits)))
 sql_is_utf8 m (Int (negsuc n)) text h e =
     let same : 0x2d ∷ decimal (suc n) ≡ text = cc in

@@ -39,14 +39,14 @@ abbrev pub byte_in_quotes : Bool → ℕ → List ℕ
 byte_in_quotes no_backslash_escape b =
     if no_backslash_escape then (if b == single_quote then single_quote ∷ single_quote ∷ [] else b ∷ []) else written_byte b
 
--- each number of the value fits its field (nothing is asked of floats)
+-- each number of the value fits its field
 abbrev pub FitsFields : Value → Type 0
 FitsFields NULL = Unit {0}
-FitsFields (Bytes bytes) = AreBytes bytes
+FitsFields (Bytes bytes) = AreBytes bytes × (length bytes < 2 ^ 64)
 FitsFields (Int z) = FitsSigned w64 z
 FitsFields (UInt n) = n < 2 ^ 64
-FitsFields (Float bits) = Unit {0}
-FitsFields (Double bits) = Unit {0}
+FitsFields (Float bits) = bits < 2 ^ 32
+FitsFields (Double bits) = bits < 2 ^ 64
 FitsFields (Date year month day hour minute second micros) =
     (year < 2 ^ 16) × (month < 256) × (day < 256) × (hour < 256) × (minute < 256) × (second < 256) × (micros < 2 ^ 32)
 FitsFields (Time negative days hours minutes seconds micros) =

@@ -12,3 +12,6 @@ pub mod Parsed
 pub mod Params
 pub mod Binding
 pub mod AsSql
+pub mod Reading
+pub mod Cells
+pub mod CellLaws

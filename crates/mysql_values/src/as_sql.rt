@@ -1,12 +1,12 @@
 //! The SQL text of a value.
 
-ghost use Rattle.mysql_values.specs.AsSql.{EachSqlIsLiteral, FitsFields, HasLiteral, PutsSql, SqlIsLiteral};
+ghost use Rattle.mysql_values.specs.AsSql.{EachSqlIsLiteral, HasLiteral, PutsSql, SqlIsLiteral};
 ghost use Rattle.mysql_values.specs.Values.{literal_of, sql_of, without_zero_sign};
 ghost use Rattle.mysql_values.specs.declared.as_sql.AsSqlError.TheVariants as as_sql_error;
-ghost use Rattle.mysql_wire.specs.Laws.{AreBytes};
 ghost use Rattle.std.specs.Prelude.{◌≡◌, ◌++◌, ◌↔◌, Err, IfOk, IsSomeAnd, None, OnErr, OnOk, Some, string_bytes};
 
 use crate::date_text::{is_zero_time, put_date, put_signed, put_time, put_unsigned};
+use crate::laws::fields_fit;
 use crate::quoting::put_bytes;
 use crate::value::Value;
 use std::alloc::{AllocError, AllocFailed, Global};
@@ -62,38 +62,6 @@ fn put_value(out: &mut Vec<u8>, value: &Value, no_backslash_escape: bool) -> Res
 pub fn sql_text_is_a_literal()
     ensures { EachSqlIsLiteral }
 {}
-
-/// A slice holds bytes: a fact that the proofs below use.
-fn are_bytes(bytes: &[u8])
-    ensures { AreBytes bytes.now }
-{
-    let _first = bytes.first();
-}
-
-/// Each number of a value fits its field: a fact that the proofs below use.
-fn fields_fit(value: &Value)
-    ensures { FitsFields value.now }
-{
-    match value {
-        Value::NULL => {}
-        Value::Bytes(bytes) => {
-            are_bytes(bytes.as_slice());
-        }
-        Value::Int(number) => {
-            let _number = *number;
-        }
-        Value::UInt(number) => {
-            let _number = *number;
-        }
-        Value::Float(_) | Value::Double(_) => {}
-        Value::Date(year, month, day, hour, minute, second, micros) => {
-            let _date = (*year, *month, *day, *hour, *minute, *second, *micros);
-        }
-        Value::Time(_, days, hours, minutes, seconds, micros) => {
-            let _time = (*days, *hours, *minutes, *seconds, *micros);
-        }
-    }
-}
 
 /// Appends the literal of a value: its SQL text with backslash escapes, an all-zero time without its sign.
 ///
