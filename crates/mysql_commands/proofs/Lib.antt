@@ -11,3 +11,4 @@ pub mod Progressing
 pub mod Receiving
 pub mod Fronts
 pub mod Cuttings
+pub mod WrittenCells

@@ -1,12 +1,17 @@
 -- The laws of reading a command stream.
 -- MySQL: Client/Server Protocol, "MySQL Packets" and "Command Phase".
-use Rattle.std.specs.Prelude.{◌≡◌, ◌⊎◌, ℕ, ◌+◌, ◌<◌, ◌≤◌, ◌^◌, List, ◌∷◌, ◌++◌, length, take, Option, Some, None}
+use Rattle.std.specs.Prelude.{◌≡◌, ◌⊎◌, ℕ, ◌+◌, ◌<◌, ◌≤◌, ◌^◌, List, ◌∷◌, ◌++◌, length, take, Option, Some, None, Ok}
 use Rattle.std.specs.List.{All, AllByRecursion, flat_map, concat}
 use Rattle.mysql_commands.specs.declared.fault.StreamFault.{StreamFault}
 use Rattle.mysql_commands.specs.Query.{IsQuery}
 use Rattle.mysql_commands.specs.Layout.{Conversation, Types}
 use Rattle.mysql_commands.specs.InForce.{Standing, nothing_yet, standing_after, last_said}
-use Rattle.mysql_commands.specs.Reading.{Set, ReadsAs, Faulty}
+use Rattle.mysql_commands.specs.Reading.{Set, ReadsAs, Faulty, content_at}
+use Rattle.mysql_values.specs.AsSql.{FitsFields}
+use Rattle.mysql_values.specs.Cells.{cell, is_unsigned, type_number}
+use Rattle.mysql_values.specs.Values.{content_of}
+use Rattle.mysql_values.specs.declared.content.Content.{Content}
+use Rattle.mysql_values.specs.declared.value.Value.{Value}
 use Rattle.mysql_wire.specs.Laws.{AreBytes}
 use Rattle.mysql_wire.specs.Stream.{Rest, StandWhole, framings}
 use Rattle.mysql_wire.specs.Stream.Numbering.{EachFromZero}
@@ -91,3 +96,9 @@ WholeStreamsJoin =
     (c : Conversation) (limit : ℕ) (xs ys : List ℕ) (a b : Audit) (first : Audited c limit xs a) (second : Audited c limit ys b)
     → length first.0.payloads + length second.0.payloads < 2 ^ 64 → a.ending ≡ Whole → b.ending ≡ Whole
     → Audited c limit (xs ++ ys) (record { sets = a.sets ++ b.sets; ending = Whole })
+
+-- The cell that is written for a value, read by the type that the value is sent by, holds what the value means, whatever follows it.
+abbrev pub WrittenCellsAreHeld : Type 0
+WrittenCellsAreHeld =
+    (short : StreamFault) (value : Value) (held : Content) (rest : List ℕ) → FitsFields value → content_of value ≡ Some held
+    → content_at short (record { number = type_number value; unsigned = is_unsigned value }) (cell value ++ rest) ≡ Ok (held, rest)

@@ -1,11 +1,11 @@
 -- How commands lie in payloads: what each one says by its own bytes, whatever came before.
 -- MySQL: Client/Server Protocol, "COM_QUERY", "COM_STMT_PREPARE", "COM_STMT_SEND_LONG_DATA", "COM_STMT_EXECUTE"; MariaDB: "COM_STMT_BULK_EXECUTE".
-use Rattle.std.specs.Prelude.{ℕ, zero, suc, ◌+◌, ◌/◌, List, [], ◌∷◌, Option, Some, None, Result, Ok, nat_lt, nat_le, ◌==◌, ◌||◌, if◌then◌else◌}
+use Rattle.std.specs.Prelude.{ℕ, zero, suc, ◌+◌, ◌/◌, Bool, List, [], ◌∷◌, Option, Some, None, Result, Ok, nat_lt, nat_le, ◌==◌, ◌||◌, if◌then◌else◌}
 use Rattle.mysql_commands.specs.declared.fault.StreamFault.{StreamFault}
 use Rattle.mysql_commands.specs.declared.fault.StreamFault.TheVariants.{WrongId, BadExecute, BadType, BadPlace, BadBulk}
 use Rattle.mysql_commands.specs.declared.param_type.ParamType.{ParamType}
 use Rattle.mysql_commands.specs.Fields.{◌>>=◌, must, bytes_at, number_at, byte_at}
-use Rattle.mysql_commands.specs.Cells.{is_type}
+use Rattle.mysql_values.specs.Cells.{is_one_of}
 use Rattle.mysql_commands.specs.Query.{Query, place_count}
 
 -- a conversation: its query, and the id that its statement was given
@@ -30,6 +30,10 @@ command_of b =
     else if b == 23 then Execute
     else if b == 250 then Bulk
     else Other
+
+-- the numbers that are names of types
+abbrev pub is_type : ℕ → Bool
+is_type t = nat_le t 20 || is_one_of (242 ∷ 243 ∷ 245 ∷ 246 ∷ 247 ∷ 248 ∷ 249 ∷ 250 ∷ 251 ∷ 252 ∷ 253 ∷ 254 ∷ 255 ∷ []) t
 
 -- types as they are sent
 abbrev pub Types : Type 0

@@ -1,5 +1,4 @@
 pub mod Fields
-pub mod Cells
 pub mod Query
 pub mod Layout
 pub mod InForce

@@ -8,9 +8,11 @@ use Rattle.mysql_values.specs.declared.content.Content.{Content}
 use Rattle.mysql_values.specs.declared.content.Content.TheVariants as content
 use Rattle.mysql_values.specs.Values.{content_of}
 use Rattle.mysql_values.specs.Queries.{Slices}
+use Rattle.mysql_values.specs.Cells.{is_one_of, cell_at}
+use Rattle.mysql_wire.specs.declared.error.WireError.{WireError}
+use Rattle.mysql_wire.specs.declared.error.WireError.TheVariants.{UnsupportedType}
 use Rattle.mysql_commands.specs.declared.param_type.ParamType.{ParamType}
 use Rattle.mysql_commands.specs.Fields.{◌>>=◌, must, byte_at}
-use Rattle.mysql_commands.specs.Cells.{is_one_of, form_of, value_at}
 use Rattle.mysql_commands.specs.Query.{place_count, all_alone}
 use Rattle.mysql_commands.specs.Layout.{Conversation, Command, command_of, Types, Piece, piece_at, execute_head, bulk_head}
 use Rattle.mysql_commands.specs.Layout as layout
@@ -20,11 +22,20 @@ use Rattle.mysql_commands.specs.InForce.{Standing, standing_after, is_waiting}
 abbrev pub Set : Type 0
 Set = List Content
 
+-- what a refused cell makes of its payload: a type without cells, else the fault of missing bytes
+abbrev pub cell_fault : StreamFault → WireError → StreamFault
+cell_fault short UnsupportedType = BadType
+cell_fault short e = short
+
+abbrev pub or_fault : {X : Type 0} → StreamFault → Result X WireError → Result X StreamFault
+or_fault short (Ok x) = Ok x
+or_fault short (Err e) = Err (cell_fault short e)
+
 -- the content of a cell. A float is refused whatever bytes follow
 unfoldable pub content_at : StreamFault → ParamType → List ℕ → Result (Content × List ℕ) StreamFault
 content_at short t bytes = do
   exact ← must Float (not (is_one_of (4 ∷ 5 ∷ []) t.number))
-  v ← value_at short BadType (form_of t.number) t.unsigned bytes
+  v ← or_fault short (cell_at t.number t.unsigned bytes)
   held ← ok_or (content_of v.0) Float
   Ok (held, v.1)
 

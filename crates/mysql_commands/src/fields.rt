@@ -2,7 +2,7 @@
 
 ghost use Rattle.std.specs.Prelude.{◌≡◌, if◌then◌else◌};
 ghost use Rattle.mysql_commands.specs.Fields.{must as must_hold, byte_at, number_at, bytes_at};
-ghost use Rattle.mysql_commands.specs.Cells.{is_type};
+ghost use Rattle.mysql_commands.specs.Layout.{is_type};
 ghost use Rattle.mysql_commands.specs.Views.{Gives};
 
 use crate::fault::StreamFault;
@@ -71,32 +71,6 @@ pub fn number4(fault: StreamFault, bytes: &[u8]) -> Result<(u32, &[u8]), Refusal
     }
     let (front, rest) = bytes.split_at(4);
     let number = u32::from_le_bytes([front[0], front[1], front[2], front[3]]);
-    Ok((number, rest))
-}
-
-/// The number in the first three bytes.
-pub fn number3(fault: StreamFault, bytes: &[u8]) -> Result<(u32, &[u8]), Refusal>
-    ensures { Gives (λ x. (x.0, x.1.now)) result (number_at fault 3 bytes.now) }
-{
-    if bytes.len() < 3 {
-        return Err(Refusal::Fault(fault));
-    }
-    let (front, rest) = bytes.split_at(3);
-    let number = u32::from_le_bytes([front[0], front[1], front[2], 0]);
-    Ok((number, rest))
-}
-
-/// The number in the first eight bytes.
-pub fn number8(fault: StreamFault, bytes: &[u8]) -> Result<(u64, &[u8]), Refusal>
-    ensures { Gives (λ x. (x.0, x.1.now)) result (number_at fault 8 bytes.now) }
-{
-    if bytes.len() < 8 {
-        return Err(Refusal::Fault(fault));
-    }
-    let (front, rest) = bytes.split_at(8);
-    let number = u64::from_le_bytes([
-        front[0], front[1], front[2], front[3], front[4], front[5], front[6], front[7],
-    ]);
     Ok((number, rest))
 }
 

@@ -1,7 +1,8 @@
 //! Laws of the definitions. Each function has an empty body, or calls the laws below: its contract is the law.
 
-ghost use Rattle.mysql_commands.specs.Laws.{AuditGoesOn, CuttingsAgree, EachPayloadIsJudged, FeedingGoesOn, FrontsReadOn, LastWordCounts, LookingBackGoesOn, PiecesGoOn, StartDecidesTheAudit, StreamHasOneAudit, ThereIsOneAudit, WholeStreamsJoin};
+ghost use Rattle.mysql_commands.specs.Laws.{AuditGoesOn, CuttingsAgree, EachPayloadIsJudged, FeedingGoesOn, FrontsReadOn, LastWordCounts, LookingBackGoesOn, PiecesGoOn, StartDecidesTheAudit, StreamHasOneAudit, ThereIsOneAudit, WholeStreamsJoin, WrittenCellsAreHeld};
 
+use mysql_values::laws::cells_read_back;
 use mysql_wire::laws::fronts_split;
 
 /// Looking back over two lists of payloads, one after the other, is looking back over the second from what is in
@@ -66,3 +67,10 @@ pub fn fronts_read_on()
 pub fn whole_streams_join()
     ensures { WholeStreamsJoin }
 {}
+
+/// The cell that is written for a value is read as what the value means.
+pub fn written_cells_are_held()
+    ensures { WrittenCellsAreHeld }
+{
+    cells_read_back();
+}

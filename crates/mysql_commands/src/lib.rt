@@ -2,7 +2,6 @@
 #![tactic(auto)]
 
 mod audit;
-mod cell_form;
 mod cells;
 mod fault;
 mod fields;
