@@ -1,5 +1,5 @@
 -- Dates and times in their shortest form: the front of the whole form.
-use Rattle.std.proofs.Common.{◌≡◌, ℕ, suc, ◌+◌, Bool, true, false, cond, List, [], ◌∷◌, ◌++◌, get_or, take, refl, ap, ◌∙◌, add-one}
+use Rattle.std.proofs.Common.{◌≡◌, ℕ, ◌+◌, Bool, true, false, cond, List, [], ◌∷◌, ◌++◌, get_or, take, refl, ap, ◌∙◌, add-one}
 use Rattle.std.specs.Int.{w16, w32, from_bool, to_le_bytes}
 use Rattle.mysql_values.specs.Cells.{date_cell, date_size, time_cell, time_size}
 

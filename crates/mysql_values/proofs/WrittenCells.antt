@@ -1,16 +1,15 @@
 -- Cells: their lengths, and reading back what was written.
-use Rattle.std.proofs.Common.{◌≡◌, ℕ, ℤ, zero, suc, pos, negsuc, ◌+◌, ◌*◌, ◌/◌, ◌%◌, ◌^◌, ◌<◌, ◌≤◌, ◌==◌, Bool, true, false, cond, List, [], ◌∷◌, ◌++◌, length, take, drop, refl, sym, ◌∙◌, ap, subst, arith, append_assoc, length-append, Ok, Err}
+use Rattle.std.proofs.Common.{◌≡◌, ℕ, ℤ, zero, suc, pos, ◌+◌, ◌^◌, ◌<◌, ◌==◌, Bool, true, false, cond, List, [], ◌∷◌, ◌++◌, length, take, refl, sym, ◌∙◌, ap, arith, append_assoc, length-append, Ok}
 use Rattle.std.specs.Prelude.{nat_lt, ◌&&◌, not}
-use Rattle.std.specs.Int.{w8, w16, w32, w64, to_le_bytes, cast_signed, cast_unsigned}
+use Rattle.std.specs.Int.{w16, w32, w64, to_le_bytes, cast_signed, cast_unsigned}
 use Rattle.std.proofs.Math.Facts.{Fits-of_z}
 use Rattle.std.proofs.lemmas.Bool.{eqb-true, le-ltb, lt-ltb, ltb-true}
 use Rattle.std.proofs.lemmas.Int.{to_z-of_z}
 use Rattle.std.proofs.lemmas.List.{take_at, drop_at}
 use Rattle.std.proofs.lemmas.Nat.{from_le_bytes-to_le_bytes_4, from_le_bytes-to_le_bytes_8}
-use Rattle.mysql_values.specs.AsSql.{FitsFields}
-use Rattle.mysql_values.specs.CellLaws.{CellLength, CellsReadBack, ReadBackMeansTheSame, read_back}
-use Rattle.mysql_values.specs.Cells.{bin_len, cell, cell_at, date_of, date_size, is_unsigned, lenenc, lenenc_len, time_of, time_size, type_number, unsigned_value, whole_value}
-use Rattle.mysql_values.specs.Reading.{Reading, ◌>>=◌, bytes_at, counted_at, lenenc_at, little, number_at, short_at}
+use Rattle.mysql_values.specs.CellLaws.{CellLength, CellsReadBack, ReadBackMeansTheSame}
+use Rattle.mysql_values.specs.Cells.{cell_at, date_of, date_size, lenenc, lenenc_len, time_of, time_size, unsigned_value}
+use Rattle.mysql_values.specs.Reading.{Reading, ◌>>=◌, bytes_at, counted_at, lenenc_at, little, number_at}
 use Rattle.mysql_values.specs.Values.{content_of, is_zero_time, plain_content}
 use Rattle.mysql_values.specs.declared.value.Value.{Value}
 use Rattle.mysql_values.specs.declared.value.Value.TheVariants.{NULL, Bytes, Int, UInt, Float, Double, Date, Time}

@@ -97,6 +97,7 @@ is_unsigned (Time negative days hours minutes seconds micros) = false
 
 -- READING
 
+-- whether the number is one of these
 abbrev pub is_one_of : List ℕ → ℕ → Bool
 is_one_of numbers t = list_any (λ k. k == t) numbers
 
