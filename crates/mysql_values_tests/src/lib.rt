@@ -4,6 +4,8 @@
 #[cfg(test)]
 mod binding;
 #[cfg(test)]
+mod cells;
+#[cfg(test)]
 mod literals;
 #[cfg(test)]
 mod placeholders;
