@@ -1,8 +1,6 @@
 -- What the cell of a value is read as.
-use Rattle.std.proofs.Common.{◌≡◌, ℕ, Bool, true, false, List, [], ◌∷◌, ◌++◌, Option, Some, None, Result, Ok, Err, refl, ◌∙◌, ap}
+use Rattle.std.proofs.Common.{◌≡◌, ℕ, Bool, true, List, [], ◌∷◌, ◌++◌, Some, Ok, refl, ◌∙◌}
 use Rattle.std.specs.Prelude.{not}
-use Rattle.mysql_wire.specs.declared.error.WireError.{WireError}
-use Rattle.mysql_values.specs.AsSql.{FitsFields}
 use Rattle.mysql_values.specs.CellLaws.{CellsReadBack, ReadBackMeansTheSame, read_back}
 use Rattle.mysql_values.specs.Cells.{cell, cell_at, is_one_of, is_unsigned, type_number}
 use Rattle.mysql_values.specs.Values.{content_of}

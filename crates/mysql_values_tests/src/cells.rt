@@ -1,4 +1,4 @@
-//! Cells of both protocols.
+//! Cells of the binary and of the text protocol.
 
 use mysql_values::{ByteString, Value, put_cell, read_cell, read_text_cell};
 use mysql_wire::WireError;
