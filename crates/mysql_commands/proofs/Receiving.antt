@@ -20,7 +20,7 @@ use Rattle.mysql_commands.specs.declared.receiver.Receiver.TheInside.{Inside}
 use Rattle.mysql_commands.specs.Layout.{Conversation}
 use Rattle.mysql_commands.specs.InForce.{Standing, is_waiting, standing_after, nothing_yet}
 use Rattle.mysql_commands.specs.Audit.{Audit, Ends, Audited, OutOfMemory, end_by_rest}
-use Rattle.mysql_commands.specs.GoingOn.{Held, held_at_start, DecidesBy, Decides, GoesOn, Fed}
+use Rattle.mysql_commands.specs.GoingOn.{Held, held_at_start, DecidesBy, Decides, GoesOn, Fed, Stands, TakesAll}
 use Rattle.mysql_commands.specs.Views.{conversation_of, piece_kept, standing_of, sets_of}
 use Rattle.mysql_commands.specs.Receiving.{StaysOpen, IsMemory, partial_of, holds, end_by}
 use Rattle.mysql_commands.specs.Received.{Received, piece_in, held_by}
@@ -103,6 +103,24 @@ fed_feed r new v piece o view kept none are is fed =
     let d : held_by (received_of new) ≡ after = held_is new ∙ ap (λ (f : Option StreamFault). holds new.progress (partial_of new.incoming) f) is in
     subst (λ (x : Received). GoesOn x.conversation x.limit (held_by x) piece (held_by (received_of new))) view
     (subst (λ (x : Held). GoesOn c limit x piece (held_by (received_of new))) (sym e) (subst (λ (x : Held). GoesOn c limit old piece x) (sym d) on))
+
+-- a piece without a fault
+pub fed_takes : (r new : Inside) (v : Received) (piece : List ℕ) → received_of r ≡ v
+    → Fed (conversation_of r.conversation) r.incoming.codec.limit (holds r.progress (partial_of r.incoming) None) piece (holds new.progress (partial_of new.incoming) None)
+    → TakesAll v.limit (held_by v) piece (held_by (received_of new))
+fed_takes r new v piece view fed = subst (λ (x : Received). TakesAll x.limit (held_by x) piece (held_by (received_of new))) view (by fed.stands)
+  where
+    by : Stands (conversation_of r.conversation) (holds r.progress (partial_of r.incoming) None) fed.split (length fed.reads) (holds new.progress (partial_of new.incoming) None)
+        → TakesAll r.incoming.codec.limit (held_by (received_of r)) piece (held_by (received_of new))
+    by (inl k) = absurd cc
+    by (inr (inl k)) = absurd cc
+    by (inr (inr k)) = record {
+      split = fed.split;
+      is_split = fed.is_split;
+      no_fault = sym k.1;
+      partial = (k.2 refl).0;
+      count = fed.count ∙ ap (λ (n : ℕ). r.progress.count + n) k.0;
+    }
 
 -- ---- the end
 

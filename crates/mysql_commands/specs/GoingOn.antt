@@ -69,3 +69,11 @@ pub record Fed (c : Conversation) (limit : ℕ) (old : Held) (piece : List ℕ) 
   pub sets : new.sets ≡ old.sets ++ flat_map (λ sets. sets) reads
   pub count : new.count ≡ old.count + length reads
   pub stands : Stands c old split (length reads) new
+
+-- Each payload that stands whole in what was held of a packet followed by the piece was read; what is held then is what is left, and no fault.
+pub record TakesAll (limit : ℕ) (old : Held) (piece : List ℕ) (new : Held) : Type 0 where
+  pub split : Split
+  pub is_split : IsSplit limit EachFromZero (old.partial ++ piece) split
+  pub no_fault : fault_of_rest split.rest ≡ None
+  pub partial : new.partial ≡ split.rest_bytes
+  pub count : new.count ≡ old.count + length split.payloads

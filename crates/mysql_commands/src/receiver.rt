@@ -6,7 +6,7 @@ ghost use Rattle.mysql_values.specs.Queries.{HasMixed, IsParsed};
 ghost use Rattle.mysql_commands.specs.declared.receiver.ReceiverError.TheVariants as receiver_error;
 ghost use Rattle.mysql_commands.specs.Query.{IsQuery};
 ghost use Rattle.mysql_commands.specs.Audit.{IsAbout};
-ghost use Rattle.mysql_commands.specs.GoingOn.{GoesOn, Decides, held_at_start};
+ghost use Rattle.mysql_commands.specs.GoingOn.{GoesOn, Decides, TakesAll, held_at_start};
 ghost use Rattle.mysql_commands.specs.Receiving.{answer_by, audit_of, end_by, fault_from, holds};
 ghost use Rattle.mysql_commands.specs.Received.{held_by};
 ghost use Rattle.mysql_commands.specs.Views.{conversation_of};
@@ -201,6 +201,7 @@ impl Receiver {
     /// Follows the MySQL Client/Server Protocol, "MySQL Packets" and "Command Phase".
     pub fn feed(&mut self, piece: &[u8]) -> Result<(), StreamFault>
         ensures goes_on { GoesOn self.old.conversation self.old.limit (held_by self.old) piece.now (held_by self.new) }
+        ensures takes { OnOk result (TakesAll self.old.limit (held_by self.old) piece.now (held_by self.new)) }
         ensures after_fault { IfSome self.old.fault (λ fault. (result ≡ Err fault) × (self.new ≡ self.old)) }
         ensures answer { result ≡ answer_by self.new.fault }
         ensures bytes { OnOk result (AreBytes self.new.partial) }
@@ -225,7 +226,8 @@ impl Receiver {
 
     /// The audit of what was fed. It takes no memory.
     ///
-    /// After [`StreamFault::Memory`] its sets are those of the payloads that were read before, as many as its end counts.
+    /// After [`StreamFault::Memory`] its sets are those of the stream's first payloads, as many as its end counts: at least
+    /// those that stood whole before the `feed` that answered it.
     pub fn finish(self) -> Audit
         ensures { Decides self.conversation self.limit (held_by self) [] (audit_of result) }
     {

@@ -4,6 +4,8 @@
 #![tactic(auto)]
 
 #[cfg(test)]
+mod large;
+#[cfg(test)]
 mod program;
 #[cfg(test)]
 mod refusals;

@@ -1,4 +1,7 @@
 //! Tests of `mysql_values` from outside: worked rows of placeholders, literals, parameters and texts.
+//!
+//! At most one allocation of a run is refused. A call that answers that memory was refused is looked at for what has to stand
+//! then, and the test is tried once more.
 #![tactic(auto)]
 
 #[cfg(test)]
@@ -8,6 +11,12 @@ mod cells;
 #[cfg(test)]
 mod literals;
 #[cfg(test)]
+mod params;
+#[cfg(test)]
 mod placeholders;
 #[cfg(test)]
 mod reading;
+#[cfg(test)]
+mod sql_texts;
+#[cfg(test)]
+mod support;

@@ -1,10 +1,47 @@
 //! Literals at the front of a text.
 
+use crate::support::holds;
 use mysql_values::{Literal, read_literal};
 use mysql_wire::WireError;
 use std::test::Fail;
 
-/// What is read with a buffer that has room: the literal, its bytes and how much is left.
+/// Texts, the literal that stands first, its bytes, and how many bytes are left behind it.
+const LITERALS: [(&[u8], Literal, &[u8], usize); 9] = [
+    (b"null)", Literal::Null, b"", 1),
+    (b"nUlL", Literal::Null, b"", 0),
+    (b"007", Literal::Number(7), b"", 0),
+    (
+        b"18446744073709551615",
+        Literal::Number(18446744073709551615),
+        b"",
+        0,
+    ),
+    (
+        b"-9223372036854775808",
+        Literal::Number(-9223372036854775808),
+        b"",
+        0,
+    ),
+    (b"'a'b", Literal::Bytes, b"a", 1),
+    (b"'a''b\\x'", Literal::Bytes, b"a'bx", 0),
+    (b"'\\%\\_\\n\\0'", Literal::Bytes, b"\\%\\_\n\0", 0),
+    (b"0x4a6B,", Literal::Bytes, b"Jk", 1),
+];
+
+/// Texts that begin with no literal.
+const OTHERS: [&[u8]; 9] = [
+    b"0x4",
+    b"0xg",
+    b"-",
+    b"+5",
+    b"-9223372036854775809",
+    b"18446744073709551616",
+    b"'open",
+    b"\"a\"",
+    b"",
+];
+
+/// What is read with a buffer that has room.
 fn reads(
     rt: &HostRuntime,
     text: &[u8],
@@ -28,95 +65,16 @@ fn refuses(rt: &HostRuntime, text: &[u8]) -> Result<bool, WireError> {
 
 #[test]
 fn literals(rt: HostRuntime) -> Result<(), Fail> {
-    assert!(rt;
-        matches!(
-            reads(&rt, b"null)", Literal::Null, b"", 1),
-            Ok(true) | Err(WireError::Memory)
-        )
-    );
-    assert!(rt;
-        matches!(
-            reads(&rt, b"nUlL", Literal::Null, b"", 0),
-            Ok(true) | Err(WireError::Memory)
-        )
-    );
-    assert!(rt;
-        matches!(
-            reads(&rt, b"007", Literal::Number(7), b"", 0),
-            Ok(true) | Err(WireError::Memory)
-        )
-    );
-    assert!(rt;
-        matches!(
-            reads(
-                &rt,
-                b"18446744073709551615",
-                Literal::Number(18446744073709551615),
-                b"",
-                0
-            ),
-            Ok(true) | Err(WireError::Memory)
-        )
-    );
-    assert!(rt;
-        matches!(
-            reads(
-                &rt,
-                b"-9223372036854775808",
-                Literal::Number(-9223372036854775808),
-                b"",
-                0
-            ),
-            Ok(true) | Err(WireError::Memory)
-        )
-    );
-    assert!(rt;
-        matches!(
-            reads(&rt, b"'a'b", Literal::Bytes, b"a", 1),
-            Ok(true) | Err(WireError::Memory)
-        )
-    );
-    assert!(rt;
-        matches!(
-            reads(&rt, b"'a''b\\x'", Literal::Bytes, b"a'bx", 0),
-            Ok(true) | Err(WireError::Memory)
-        )
-    );
-    assert!(rt;
-        matches!(
-            reads(&rt, b"'\\%\\_\\n\\0'", Literal::Bytes, b"\\%\\_\n\0", 0),
-            Ok(true) | Err(WireError::Memory)
-        )
-    );
-    assert!(rt;
-        matches!(
-            reads(&rt, b"0x4a6B,", Literal::Bytes, b"Jk", 1),
-            Ok(true) | Err(WireError::Memory)
-        )
-    );
+    for (text, literal, bytes, left) in LITERALS {
+        assert!(rt; holds(|| reads(&rt, text, literal, bytes, left)));
+    }
     Ok(())
 }
 
 #[test]
 fn no_literals(rt: HostRuntime) -> Result<(), Fail> {
-    assert!(rt; matches!(refuses(&rt, b"0x4"), Ok(true) | Err(WireError::Memory)));
-    assert!(rt; matches!(refuses(&rt, b"0xg"), Ok(true) | Err(WireError::Memory)));
-    assert!(rt; matches!(refuses(&rt, b"-"), Ok(true) | Err(WireError::Memory)));
-    assert!(rt; matches!(refuses(&rt, b"+5"), Ok(true) | Err(WireError::Memory)));
-    assert!(rt;
-        matches!(
-            refuses(&rt, b"-9223372036854775809"),
-            Ok(true) | Err(WireError::Memory)
-        )
-    );
-    assert!(rt;
-        matches!(
-            refuses(&rt, b"18446744073709551616"),
-            Ok(true) | Err(WireError::Memory)
-        )
-    );
-    assert!(rt; matches!(refuses(&rt, b"'open"), Ok(true) | Err(WireError::Memory)));
-    assert!(rt; matches!(refuses(&rt, b"\"a\""), Ok(true) | Err(WireError::Memory)));
-    assert!(rt; matches!(refuses(&rt, b""), Ok(true) | Err(WireError::Memory)));
+    for text in OTHERS {
+        assert!(rt; holds(|| refuses(&rt, text)));
+    }
     Ok(())
 }

@@ -1,67 +1,79 @@
 //! Texts of a query, read back as contents.
 
+use crate::support::holds;
 use mysql_values::{ByteString, Content, first_not_alone, places, read_text};
 use mysql_wire::WireError;
 use std::test::Fail;
 
-/// What a text is read as, over a query whose placeholders stand alone; None also where they don't.
-fn read(rt: &HostRuntime, query: &[u8], text: &[u8]) -> Result<Option<Vec<Content>>, WireError> {
-    let found = places(rt.alloc(), query)?;
+const QUERY: &[u8] = b"SELECT :a, :b";
+
+/// Texts that carry no two literals of the query.
+const OTHERS: [&[u8]; 6] = [
+    b"SELECT +5, 1",
+    b"SELECT  1, 2",
+    b"SELECT 18446744073709551616, 1",
+    b"SELECT 1, 2 ",
+    b"SELECT 1, ",
+    b"",
+];
+
+/// What a text is read as; None also where a placeholder doesn't stand alone.
+fn read(rt: &HostRuntime, text: &[u8]) -> Result<Option<Vec<Content>>, WireError> {
+    let found = places(rt.alloc(), QUERY)?;
     if first_not_alone(&found).is_some() {
         return Ok(None);
     }
-    read_text(rt.alloc(), query, &found, text)
+    read_text(rt.alloc(), QUERY, &found, text)
+}
+
+fn reads_two(
+    rt: &HostRuntime,
+    text: &[u8],
+    first: &Content,
+    second: &Content,
+) -> Result<bool, WireError> {
+    match read(rt, text)? {
+        Some(contents) => {
+            Ok(contents.len() == 2 && contents[0] == *first && contents[1] == *second)
+        }
+        None => Ok(false),
+    }
 }
 
 fn bytes(rt: &HostRuntime, bytes: &[u8]) -> Result<Content, WireError> {
     Ok(Content::Bytes(ByteString::copy(rt.alloc(), bytes)?))
 }
 
-fn reads_two(
-    rt: &HostRuntime,
-    query: &[u8],
-    text: &[u8],
-    first: &Content,
-    second: &Content,
-) -> bool {
-    match read(rt, query, text) {
-        Ok(Some(contents)) => {
-            contents.len() == 2 && contents[0] == *first && contents[1] == *second
-        }
-        Ok(None) => false,
-        Err(e) => e == WireError::Memory,
-    }
+fn strings(rt: &HostRuntime) -> Result<bool, WireError> {
+    let (x, y) = (bytes(rt, b"x, ")?, bytes(rt, b"y")?);
+    reads_two(rt, b"SELECT 'x, ', 'y'", &x, &y)
 }
 
-fn refuses(rt: &HostRuntime, query: &[u8], text: &[u8]) -> bool {
-    match read(rt, query, text) {
-        Ok(found) => found.is_none(),
-        Err(e) => e == WireError::Memory,
-    }
+fn hexadecimal(rt: &HostRuntime) -> Result<bool, WireError> {
+    let j = bytes(rt, b"J")?;
+    reads_two(rt, b"SELECT nUlL, 0x4a", &Content::Null, &j)
+}
+
+fn numbers(rt: &HostRuntime) -> Result<bool, WireError> {
+    reads_two(rt, b"SELECT 1, 2", &Content::Number(1), &Content::Number(2))
 }
 
 #[test]
 fn foreign_texts(rt: HostRuntime) -> Result<(), Fail> {
-    let query = b"SELECT :a, :b".as_slice();
-    let (Ok(x), Ok(y), Ok(j)) = (bytes(&rt, b"x, "), bytes(&rt, b"y"), bytes(&rt, b"J")) else {
-        return Ok(());
-    };
-    assert!(rt; reads_two(&rt, query, b"SELECT 'x, ', 'y'", &x, &y));
-    assert!(rt; reads_two(&rt, query, b"SELECT nUlL, 0x4a", &Content::Null, &j));
-    assert!(rt;
-        reads_two(
-            &rt,
-            query,
-            b"SELECT 1, 2",
-            &Content::Number(1),
-            &Content::Number(2)
-        )
-    );
-    assert!(rt; refuses(&rt, query, b"SELECT +5, 1"));
-    assert!(rt; refuses(&rt, query, b"SELECT  1, 2"));
-    assert!(rt; refuses(&rt, query, b"SELECT 18446744073709551616, 1"));
-    assert!(rt; refuses(&rt, query, b"SELECT 1, 2 "));
-    assert!(rt; refuses(&rt, query, b"SELECT 1, "));
-    assert!(rt; refuses(&rt, query, b""));
+    assert!(rt; holds(|| strings(&rt)));
+    assert!(rt; holds(|| hexadecimal(&rt)));
+    assert!(rt; holds(|| numbers(&rt)));
+    Ok(())
+}
+
+fn refuses(rt: &HostRuntime, text: &[u8]) -> Result<bool, WireError> {
+    Ok(read(rt, text)?.is_none())
+}
+
+#[test]
+fn other_texts(rt: HostRuntime) -> Result<(), Fail> {
+    for text in OTHERS {
+        assert!(rt; holds(|| refuses(&rt, text)));
+    }
     Ok(())
 }

@@ -1,0 +1,59 @@
+//! SQL texts of values.
+
+use crate::support::{bytes, holds};
+use mysql_values::{AsSqlError, Value};
+use mysql_wire::WireError;
+use std::test::Fail;
+
+/// Whether the value has this text: with backslash escapes, and without.
+fn has_texts(
+    rt: &HostRuntime,
+    value: &Value,
+    escaped: &str,
+    doubled: &str,
+) -> Result<bool, WireError> {
+    for (no_backslash_escape, text) in [(false, escaped), (true, doubled)] {
+        match value.as_sql(rt.alloc(), no_backslash_escape) {
+            Ok(sql) => {
+                if sql.as_str() != text {
+                    return Ok(false);
+                }
+            }
+            Err(AsSqlError::Memory) => return Err(WireError::Memory),
+            Err(AsSqlError::Float) => return Ok(false),
+        }
+    }
+    Ok(true)
+}
+
+fn of_quotes(rt: &HostRuntime) -> Result<bool, WireError> {
+    let value = bytes(rt, b"a'b\\")?;
+    has_texts(rt, &value, "'a\\'b\\\\'", "'a''b\\'")
+}
+
+fn of_bytes(rt: &HostRuntime) -> Result<bool, WireError> {
+    let value = bytes(rt, b"\xfe\x01")?.clone(rt.alloc())?;
+    has_texts(rt, &value, "0xFE01", "0xFE01")
+}
+
+/// `as_sql` keeps the sign of an all-zero time.
+fn of_zero(rt: &HostRuntime) -> Result<bool, WireError> {
+    let value = Value::Time(true, 0, 0, 0, 0, 0);
+    has_texts(rt, &value, "'-000:00:00'", "'-000:00:00'")
+}
+
+fn of_a_float(rt: &HostRuntime) -> Result<bool, WireError> {
+    match Value::Double(0).as_sql(rt.alloc(), false) {
+        Err(AsSqlError::Memory) => Err(WireError::Memory),
+        answer => Ok(answer == Err(AsSqlError::Float)),
+    }
+}
+
+#[test]
+fn sql_texts(rt: HostRuntime) -> Result<(), Fail> {
+    assert!(rt; holds(|| of_quotes(&rt)));
+    assert!(rt; holds(|| of_bytes(&rt)));
+    assert!(rt; holds(|| of_zero(&rt)));
+    assert!(rt; holds(|| of_a_float(&rt)));
+    Ok(())
+}
