@@ -9,8 +9,7 @@ use Rattle.mysql_wire.specs.Laws.{AreBytes}
 use Rattle.mysql_wire.specs.Stream.{Rest, Split, IsSplit, IsFault, with_payloads}
 use Rattle.mysql_wire.specs.Stream.Rest.{Empty as EmptyRest, TooLarge as TooLargeRest, OutOfSync as OutOfSyncRest, Open as OpenRest}
 use Rattle.mysql_wire.specs.Stream.Numbering.{EachFromZero}
-use Rattle.mysql_wire.proofs.GoingOn.{fault_stays}
-use Rattle.mysql_wire.proofs.Unique.{at_most_one}
+use Rattle.mysql_wire.specs.GoingOn.{ReaderLaws}
 use Rattle.mysql_commands.proofs.Readable.{IsReadable}
 use Rattle.mysql_commands.specs.Layout.{Conversation}
 use Rattle.mysql_commands.specs.InForce.{Standing, standing_after, nothing_yet}
@@ -20,14 +19,14 @@ use Rattle.mysql_commands.specs.GoingOn.{Held, held_at_start, AnswersFrom, Decid
 use Rattle.mysql_commands.proofs.Splits.{split_append, some_split, rest_are_bytes, bytes_append}
 use Rattle.mysql_commands.proofs.Auditing.{some_audit, one_audit, answers_append, audits_faulty, read_longer}
 
-module _ (c : Conversation) (limit : ℕ) where
+module _ (wire : ReaderLaws) (c : Conversation) (limit : ℕ) where
   -- the next bytes go on where all payloads read and the rest is no fault
   on_open : (old new : Held) (piece z : List ℕ) (a : Audit) (fed : Fed c limit old piece new) → length fed.reads ≡ length fed.split.payloads → new.partial ≡ fed.split.rest_bytes
       → new.standing ≡ standing_after c old.standing fed.split.payloads → DecidesBy c limit new None z a → DecidesBy c limit old None (piece ++ z) a
   on_open old new piece z a fed all left standing d =
       let next : Split = d.0 in
       let more : IsSplit limit EachFromZero (fed.split.rest_bytes ++ z) next = subst (λ (l : List ℕ). IsSplit limit EachFromZero (l ++ z) next) left d.2 in
-      let joined = split_append limit (old.partial ++ piece) z fed.split next fed.is_split more in
+      let joined = split_append wire limit (old.partial ++ piece) z fed.split next fed.is_split more in
       let b : Audit = record { sets = d.1; ending = a.ending } in
       let count : new.count ≡ old.count + length fed.split.payloads = fed.count ∙ ap (λ (n : ℕ). old.count + n) all in
       let on : AnswersFrom c (standing_after c old.standing fed.split.payloads) (old.count + length fed.split.payloads) next.payloads next.rest b =
@@ -45,7 +44,7 @@ module _ (c : Conversation) (limit : ℕ) where
       → ((st : Standing) (n : ℕ) → end_by_rest c st n fed.split.rest ≡ ends.Fault n f)
       → DecidesBy c limit new (Some f) z a → DecidesBy c limit old None (piece ++ z) a
   on_fault_rest old new piece z a fed f all is_fault by d =
-      let stays = fault_stays limit EachFromZero (old.partial ++ piece) z fed.split is_fault fed.is_split in (
+      let stays = wire.fault_stays limit EachFromZero (old.partial ++ piece) z fed.split is_fault fed.is_split in (
         record fed.split { rest_bytes = fed.split.rest_bytes ++ z },
         flat_map (λ sets. sets) fed.reads,
         subst (λ (l : List ℕ). IsSplit limit EachFromZero l (record fed.split { rest_bytes = fed.split.rest_bytes ++ z })) (append_assoc old.partial piece z) stays,
@@ -62,8 +61,8 @@ module _ (c : Conversation) (limit : ℕ) where
   longer : (old new : Held) (piece z : List ℕ) (fed : Fed c limit old piece new) → AreBytes (old.partial ++ piece) → AreBytes z
       → (next : Split) × IsSplit limit EachFromZero (old.partial ++ (piece ++ z)) (with_payloads fed.split.payloads next)
   longer old new piece z fed bytes more =
-      let s = some_split limit (fed.split.rest_bytes ++ z) (bytes_append fed.split.rest_bytes z (rest_are_bytes limit (old.partial ++ piece) fed.split fed.is_split bytes) more) in
-      let joined = split_append limit (old.partial ++ piece) z fed.split s.0 fed.is_split s.1 in
+      let s = some_split wire limit (fed.split.rest_bytes ++ z) (bytes_append fed.split.rest_bytes z (rest_are_bytes limit (old.partial ++ piece) fed.split fed.is_split bytes) more) in
+      let joined = split_append wire limit (old.partial ++ piece) z fed.split s.0 fed.is_split s.1 in
       (s.0, subst (λ (l : List ℕ). IsSplit limit EachFromZero l (with_payloads fed.split.payloads s.0)) (append_assoc old.partial piece z) joined)
 
   -- and so does a fault of a payload
@@ -110,12 +109,13 @@ module _ (c : Conversation) (limit : ℕ) where
 
   pub one_of_stream : IsReadable c.query → (bytes : List ℕ) → AreBytes bytes → (a : Audit) × Audited c limit bytes a × ((b : Audit) → Audited c limit bytes b → b ≡ a)
   one_of_stream readable bytes are =
-      let s = some_split limit bytes are in
+      let split = wire.one_split limit EachFromZero bytes are in
+      let s : (split : Split) × IsSplit limit EachFromZero bytes split = (split.0, split.1) in
       let a = some_audit c readable s.0.payloads nothing_yet 0 s.0.rest in (
         a.0,
         (s.0, s.1, a.1),
         λ b q.
-            let same : q.0 ≡ s.0 = at_most_one limit EachFromZero bytes q.0 s.0 q.1 s.1 in
+            let same : q.0 ≡ s.0 = split.2 q.0 q.1 ∙ sym (split.2 s.0 s.1) in
             one_audit c readable nothing_yet 0 s.0.payloads s.0.rest b a.0 (subst (λ (p : Split). Audits c nothing_yet 0 p.payloads p.rest b) same q.2) a.1,
       )
 

@@ -15,7 +15,9 @@ use Rattle.mysql_commands.specs.Layout.{Conversation, Command, command_of, Types
 use Rattle.mysql_commands.specs.Layout as layout
 use Rattle.mysql_commands.specs.InForce.{Standing, standing_after, nothing_yet, last_said, said_by, speaks_of_prepared, speaks_of_types, speaks_of_place, is_end, since, waiting_for, joined, is_waiting}
 use Rattle.mysql_commands.specs.Reading.{Set, ReadsAs, CommandReadsAs, PayloadReadsAs, execute_at, bulk_at, prepared_piece, long_data_at, types_in_force, set_at, rows_at}
+use Rattle.mysql_values.specs.Laws.{TextIsDecided, OneReading, OnePlaces}
 use Rattle.mysql_wire.specs.Laws.{FrontsSplit}
+use Rattle.mysql_wire.specs.GoingOn.{ReaderLaws}
 use Rattle.mysql_wire.specs.Stream.{Rest, IsSplit, IsRest, IsFault, with_payloads, after_all, first_number}
 use Rattle.mysql_wire.specs.Stream.Rest.{Empty as EmptyRest, TooLarge as TooLargeRest, OutOfSync as OutOfSyncRest, Open as OpenRest}
 use Rattle.mysql_wire.specs.Stream.Numbering.{EachFromZero}
@@ -24,7 +26,7 @@ use Rattle.mysql_commands.specs.Audit.{Audit, Read, Ends, Audits, end_by_rest, I
 use Rattle.mysql_commands.specs.declared.audit.End.{End}
 use Rattle.mysql_commands.specs.declared.audit.End.TheVariants as ends
 use Rattle.mysql_commands.proofs.Auditing.{one_audit, audits_append}
-use Rattle.mysql_commands.proofs.Splits.{split_append, empty_rest}
+use Rattle.mysql_commands.proofs.Splits.{split_append}
 
 -- ---- cut off
 
@@ -53,8 +55,8 @@ read_front c s first payloads reads k r len =
           (subst (λ (sets : List Set). ReadsAs c s first (take i payloads) (get_or payloads i []) sets) (sym (get_or-take k reads i [] small)) (r.each i there)));
     }
 
-pub fronts : FrontsSplit → FrontsReadOn
-fronts cut c limit payloads reads front back a readable within e r len h =
+pub fronts : FrontsSplit → TextIsDecided → OneReading → OnePlaces → FrontsReadOn
+fronts cut decided once one_places c limit payloads reads front back a readable within e r len h =
     let split = h.0 in
     let f = cut limit EachFromZero payloads front back split within e h.1 in
     let k : ℕ = length split.payloads in
@@ -67,7 +69,7 @@ fronts cut c limit payloads reads front back a readable within e r len h =
       sets = refl;
       ending = inr (omega (arith, length-take k payloads, length-take k reads, len, ap length is), refl);
     } in
-    let same : a ≡ mine = one_audit c (is_readable c.query readable) nothing_yet 0 split.payloads split.rest a mine h.2 audits in (
+    let same : a ≡ mine = one_audit c (is_readable decided once one_places c.query readable) nothing_yet 0 split.payloads split.rest a mine h.2 audits in (
       k,
       f.1,
       ap (λ (x : Audit). x.sets) same,
@@ -266,8 +268,8 @@ whole_reads : (c : Conversation) (s : Standing) (first : ℕ) (payloads : List (
 whole_reads c s first payloads rest n e (inl h) w = let bad : ends.Fault (first + n) h.0 ≡ ends.Whole = sym h.3 ∙ w in absurd cc
 whole_reads c s first payloads rest n e (inr h) w = let r = whole_by_rest c (standing_after c s payloads) (first + n) rest (sym w ∙ h.1) in (h.0, r.0, r.1)
 
-pub joins : WholeStreamsJoin
-joins c limit xs ys a b h k few whole_a whole_b =
+pub joins : ReaderLaws → WholeStreamsJoin
+joins wire c limit xs ys a b h k few whole_a whole_b =
     let ps : List (List ℕ) = h.0.payloads in
     let qs : List (List ℕ) = k.0.payloads in
     let wa = whole_reads c nothing_yet 0 ps h.0.rest (length h.2.reads) a.ending h.2.ending whole_a in
@@ -285,9 +287,9 @@ joins c limit xs ys a b h k few whole_a whole_b =
     sym (ap (λ (x : Bool). cond x ends.WaitingPieces ends.Whole) waits) ∙ ap (λ (r : Rest). end_by_rest c (standing_after c s qs) ((0 + length ps) + length k.2.reads) r) (sym wb.2) in
     let on : Audits c s (0 + length ps) qs k.0.rest (record { sets = b.sets; ending = ends.Whole }) = record { reads = k.2.reads; each = reads; sets = k.2.sets; ending = inr (wb.0, last) } in
     let both = audits_append c nothing_yet 0 ps qs k.0.rest h.2.reads (record { sets = b.sets; ending = ends.Whole }) h.2.each wa.0 on in
-    let nothing : h.0.rest_bytes ≡ [] = empty_rest limit (first_number (after_all ps EachFromZero)) h.0.rest_bytes (subst (λ (r : Rest). IsRest limit (first_number (after_all ps EachFromZero)) h.0.rest_bytes r) wa.2 h.1.ends) in
+    let nothing : h.0.rest_bytes ≡ [] = ((wire.rests limit (first_number (after_all ps EachFromZero))).1 h.0.rest_bytes).0 (subst (λ (r : Rest). IsRest limit (first_number (after_all ps EachFromZero)) h.0.rest_bytes r) wa.2 h.1.ends) in
     let split : IsSplit limit EachFromZero (h.0.rest_bytes ++ ys) k.0 = subst (λ (l : List ℕ). IsSplit limit EachFromZero (l ++ ys) k.0) (sym nothing) k.1 in (
       with_payloads ps k.0,
-      split_append limit xs ys h.0 k.0 h.1 split,
+      split_append wire limit xs ys h.0 k.0 h.1 split,
       subst (λ (l : List Set). Audits c nothing_yet 0 (ps ++ qs) k.0.rest (record { sets = l ++ b.sets; ending = ends.Whole })) (sym h.2.sets) both,
     )

@@ -15,8 +15,7 @@ use Rattle.mysql_wire.specs.Stream.Numbering.{EachFromZero}
 use Rattle.mysql_wire.specs.declared.codec.Refusal.{Refusal as CodecRefusal}
 use Rattle.mysql_wire.specs.declared.codec.Refusal.TheVariants as codec_refusal
 use Rattle.mysql_wire.specs.declared.codec.PacketCodecError.{PacketCodecError}
-use Rattle.mysql_wire.proofs.Reading.{takes_reset, held_more, held_between, feeds}
-use Rattle.mysql_wire.proofs.GoingOn.{framed_come_first, framing_length}
+use Rattle.mysql_wire.specs.GoingOn.{ReaderLaws}
 use Rattle.mysql_commands.specs.declared.fault.StreamFault.TheVariants.{Memory}
 use Rattle.mysql_commands.specs.declared.refusal.Refusal.{Refusal}
 use Rattle.mysql_commands.specs.declared.refusal.Refusal.TheVariants as refusal
@@ -51,7 +50,7 @@ pub record Behind (c : Conversation) (limit : ℕ) (old : Progress) (bytes : Lis
   pub count : now.count ≡ old.count + length reads
   pub standing : standing_of now.standing ≡ standing_after c (standing_of old.standing) payloads
 
-module _ (c : Conversation) (limit : ℕ) (old : Progress) (bytes : List ℕ) where
+module _ (wire : ReaderLaws) (c : Conversation) (limit : ℕ) (old : Progress) (bytes : List ℕ) where
   pub behind_none : (codec : Codec) (src packet : List ℕ) → HasRead limit EachFromZero bytes [] codec src packet → Behind c limit old bytes codec src packet old
   behind_none codec src packet h =
       record {
@@ -78,7 +77,7 @@ module _ (c : Conversation) (limit : ℕ) (old : Progress) (bytes : List ℕ) wh
   behind_more codec src packet next after payload mid new b h one =
       record {
         payloads = b.payloads ++ payload ∷ [];
-        taken = takes_reset limit bytes b.payloads codec src packet next after payload b.taken h;
+        taken = (wire.takes limit bytes b.payloads codec next src packet after payload h).1 b.taken;
         reads = b.reads ++ one.sets ∷ [];
         each = read_append c (standing_of old.standing) old.count b.payloads (payload ∷ []) b.reads (one.sets ∷ []) b.each b.all (next_read codec src packet payload mid new b one);
         all = omega (arith, b.all, length-append b.reads (one.sets ∷ []), length-append b.payloads (payload ∷ []));
@@ -142,8 +141,8 @@ module _ (c : Conversation) (limit : ℕ) (old : Progress) (bytes : List ℕ) wh
   pub memory_fed : (codec : Codec) (src packet partial : List ℕ) (mid now : Progress) → AreBytes bytes → Behind c limit old bytes codec src packet mid → sets_of now.sets.items ≡ sets_of mid.sets.items → now.count ≡ mid.count
       → Fed c limit (holds old [] None) bytes (holds now partial (Some Memory))
   memory_fed codec src packet partial mid now are b sets count =
-      let s = some_split limit bytes are in
-      let f = framed_come_first limit EachFromZero b.payloads bytes (held codec src packet) s.0 b.taken.within b.taken.joined s.1 in
+      let s = some_split wire limit bytes are in
+      let f = wire.come_first limit EachFromZero b.payloads bytes (held codec src packet) s.0 b.taken.within b.taken.joined s.1 in
       record {
         split = s.0;
         is_split = s.1;
@@ -189,9 +188,9 @@ module _ (c : Conversation) (limit : ℕ) (old : Progress) (bytes : List ℕ) wh
       → Fed c limit (holds old [] None) bytes (holds now partial (fault_by (Err r)))
   payload_fed codec src packet next after payload partial mid now refusal.Memory are b h one sets count = memory_fed codec src packet partial mid now are b sets count
   payload_fed codec src packet next after payload partial mid now (refusal.Fault f) are b h one sets count =
-      let s = some_split limit bytes are in
-      let taken = takes_reset limit bytes b.payloads codec src packet next after payload b.taken h in
-      let found = framed_come_first limit EachFromZero (b.payloads ++ payload ∷ []) bytes (held (record next { number = 0 }) after []) s.0 taken.within taken.joined s.1 in
+      let s = some_split wire limit bytes are in
+      let taken = (wire.takes limit bytes b.payloads codec next src packet after payload h).1 b.taken in
+      let found = wire.come_first limit EachFromZero (b.payloads ++ payload ∷ []) bytes (held (record next { number = 0 }) after []) s.0 taken.within taken.joined s.1 in
       let is : s.0.payloads ≡ b.payloads ++ (payload ∷ found.0) = found.1 ∙ append_assoc b.payloads (payload ∷ []) found.0 in
       let moved : Faulty c (standing_after c (standing_of old.standing) b.payloads) (old.count + length b.payloads) [] payload f =
       subst (λ (k : ℕ). Faulty c (standing_after c (standing_of old.standing) b.payloads) k [] payload f) (omega (arith, b.count, b.all))
@@ -219,13 +218,14 @@ module _ (c : Conversation) (limit : ℕ) (old : Progress) (bytes : List ℕ) wh
       }
 
 -- what is held behind a payload that was handed out
-pub taken_held : (codec : Codec) (src packet : List ℕ) (next : Codec) (after payload front : List ℕ) → HandsOut codec src packet next after payload → front ≡ [] → held (record next { number = 0 }) after front ≡ after
-taken_held codec src packet next after payload front h empty = held_between (record next { number = 0 }) after front h.between.0 empty
+pub taken_held : ReaderLaws → (codec : Codec) (src packet : List ℕ) (next : Codec) (after payload front : List ℕ) → HandsOut codec src packet next after payload → front ≡ [] → held (record next { number = 0 }) after front ≡ after
+taken_held wire codec src packet next after payload front h empty =
+    ap (held (record next { number = 0 }) after) empty ∙ (wire.between (record next { number = 0 }) after h.between (omega arith)).0
 
-pub taken_smaller : (codec : Codec) (src packet : List ℕ) (next : Codec) (after payload front : List ℕ) → HandsOut codec src packet next after payload → front ≡ []
+pub taken_smaller : ReaderLaws → (codec : Codec) (src packet : List ℕ) (next : Codec) (after payload front : List ℕ) → HandsOut codec src packet next after payload → front ≡ []
     → length (held (record next { number = 0 }) after front) < length (held codec src packet)
-taken_smaller codec src packet next after payload front h empty =
-    omega (arith, ap length (taken_held codec src packet next after payload front h empty), ap length h.framed, framing_length payload after (packet_number codec packet))
+taken_smaller wire codec src packet next after payload front h empty =
+    omega (arith, ap length (taken_held wire codec src packet next after payload front h empty), ap length h.framed, wire.takes_bytes payload after (packet_number codec packet))
 
 not_not : (b : Bool) → not (not b) ≡ b
 not_not true = refl
@@ -254,15 +254,15 @@ fed_partial c limit old piece now x y r h = record { split = h.split; is_split =
     by (inr (inr k)) = inr (inr (k.0, k.1, λ e. absurd cc))
 
 -- a piece comes behind what is held
-module _ (codec : Codec) (header packet piece src : List ℕ) (e : src ≡ header ++ piece) where
+module _ (wire : ReaderLaws) (codec : Codec) (header packet piece src : List ℕ) (e : src ≡ header ++ piece) where
   pub is_held : held codec src packet ≡ held codec header packet ++ piece
-  is_held = ap (λ (l : List ℕ). held codec l packet) e ∙ held_more codec header packet piece
+  is_held = ap (λ (l : List ℕ). held codec l packet) e ∙ wire.held codec header packet piece
 
   pub piece_reads : HasRead codec.limit EachFromZero (held codec header packet) [] codec header packet → HasRead codec.limit EachFromZero (held codec src packet) [] codec src packet
   piece_reads h =
       subst (λ (l : List ℕ). HasRead codec.limit EachFromZero (held codec l packet) [] codec l packet) (sym e)
-      (subst (λ (l : List ℕ). HasRead codec.limit EachFromZero l [] codec (header ++ piece) packet) (sym (held_more codec header packet piece))
-      (feeds codec.limit EachFromZero (held codec header packet) [] codec header packet piece h))
+      (subst (λ (l : List ℕ). HasRead codec.limit EachFromZero l [] codec (header ++ piece) packet) (sym (wire.held codec header packet piece))
+      (wire.feeds codec.limit EachFromZero (held codec header packet) [] codec header packet piece h))
 
   pub piece_bytes : AreBytes (held codec header packet) → AreBytes piece → AreBytes (held codec src packet)
   piece_bytes p q = subst AreBytes (sym is_held) (bytes_append (held codec header packet) piece p q)

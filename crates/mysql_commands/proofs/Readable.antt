@@ -5,8 +5,7 @@ use Rattle.std.specs.List.{AllByRecursion, list_all}
 use Rattle.mysql_values.specs.declared.content.Content.{Content}
 use Rattle.mysql_values.specs.declared.placeholders.Place.{Place}
 use Rattle.mysql_values.specs.Queries.{Slices, AllAlone}
-use Rattle.mysql_values.proofs.TextDecided.{text_is_decided}
-use Rattle.mysql_values.proofs.Readings.{one_places, read_once}
+use Rattle.mysql_values.specs.Laws.{TextIsDecided, OneReading, OnePlaces}
 use Rattle.mysql_commands.specs.Query.{Query, IsQuery, all_alone}
 
 -- where each placeholder stands alone, a text has one list of contents or none
@@ -22,11 +21,11 @@ pub each_alone : (places : List Place) → list_all (λ place. place.alone) plac
 each_alone [] h = tt
 each_alone (x ∷ xs) h = let p = and_both x.alone (list_all (λ place. place.alone) xs) h in (p.0, each_alone xs p.1)
 
-all_are_alone : (q : Query) → IsQuery q → all_alone q ≡ true → AllAlone q.text
-all_are_alone q is h places has = subst (λ (ps : List Place). AllByRecursion (λ place. place.alone ≡ true) ps) (one_places q.text q.places places is.places has) (each_alone q.places h)
+all_are_alone : OnePlaces → (q : Query) → IsQuery q → all_alone q ≡ true → AllAlone q.text
+all_are_alone one_places q is h places has = subst (λ (ps : List Place). AllByRecursion (λ place. place.alone ≡ true) ps) (one_places q.text q.places places is.places has) (each_alone q.places h)
 
-pub readable : (q : Query) → IsQuery q → IsReadable q
-readable q is = record {
-  decided = λ h text. text_is_decided q.text (all_are_alone q is h) text;
-  one = λ h text xs ys p r. read_once q.text text xs ys (all_are_alone q is h) p r;
+pub readable : TextIsDecided → OneReading → OnePlaces → (q : Query) → IsQuery q → IsReadable q
+readable decided one places q is = record {
+  decided = λ h text. decided q.text (all_are_alone places q is h) text;
+  one = λ h text xs ys p r. one q.text text xs ys (all_are_alone places q is h) p r;
 }

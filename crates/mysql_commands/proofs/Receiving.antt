@@ -1,16 +1,17 @@
 -- From a receiver's fields to what it holds and decides.
-use Rattle.std.proofs.Common.{◌≡◌, ℕ, zero, suc, ◌+◌, ◌<◌, ◌⊎◌, Bool, true, false, cond, List, [], ◌∷◌, ◌++◌, length, Option, Some, None, refl, sym, ap, subst, ◌∙◌, arith, inl, inr, append_assoc}
+use Rattle.std.proofs.Common.{◌≡◌, ℕ, zero, suc, ◌+◌, ◌<◌, ◌⊎◌, Bool, true, false, cond, List, [], ◌∷◌, ◌++◌, length, Option, Some, None, refl, sym, ap, subst, ◌∙◌, arith, inl, inr, append_assoc, take, get_or}
 use Rattle.std.specs.Prelude.{◌==◌, not, if◌then◌else◌}
 use Rattle.std.specs.Global.{Vec}
 use Rattle.std.proofs.lemmas.Bool.{ne_eqb}
-use Rattle.std.proofs.lemmas.List.{append-nil}
+use Rattle.std.specs.List.{flat_map}
+use Rattle.std.proofs.lemmas.List.{append-nil, take_more}
+use Rattle.std.proofs.lemmas.List.Concat.{flat_map-append}
 use Rattle.mysql_wire.specs.Laws.{AreBytes}
 use Rattle.mysql_wire.specs.Codec.{Codec, codec_at, held}
 use Rattle.mysql_wire.specs.Stream.{Rest, Split, IsSplit, IsRest, IsFault}
 use Rattle.mysql_wire.specs.Stream.Rest.{Empty as EmptyRest, TooLarge as TooLargeRest, OutOfSync as OutOfSyncRest, Open as OpenRest}
 use Rattle.mysql_wire.specs.Stream.Numbering.{EachFromZero}
-use Rattle.mysql_wire.proofs.Reading.{held_between}
-use Rattle.mysql_wire.proofs.GoingOn as wire
+use Rattle.mysql_wire.specs.GoingOn.{ReaderLaws}
 use Rattle.mysql_values.specs.declared.content.Content.{Content}
 use Rattle.mysql_commands.specs.declared.fault.StreamFault.{StreamFault}
 use Rattle.mysql_commands.specs.declared.fault.StreamFault.TheVariants.{Memory}
@@ -26,7 +27,7 @@ use Rattle.mysql_commands.specs.Receiving.{StaysOpen, IsMemory, partial_of, hold
 use Rattle.mysql_commands.specs.Received.{Received, piece_in, held_by}
 use Rattle.mysql_commands.specs.Inside.{pieces_of, received_of, IsKept}
 use Rattle.mysql_commands.proofs.Looking.{standing_after_nil}
-use Rattle.mysql_commands.proofs.Splits.{bytes_append, empty_rest, open_rest}
+use Rattle.mysql_commands.proofs.Splits.{bytes_append}
 use Rattle.mysql_commands.proofs.Feeding.{goes_on, start_decides}
 
 kept_pieces : (xs : List (Option (Vec ℕ))) (k : ℕ) → piece_in (pieces_of xs) k ≡ piece_kept xs k
@@ -54,26 +55,26 @@ no_bytes : AreBytes []
 no_bytes zero = omega arith
 no_bytes (suc i) = omega arith
 
-nothing_held : (limit : ℕ) → held (codec_at 0 limit) [] [] ≡ []
-nothing_held limit = held_between (codec_at 0 limit) [] [] refl refl
+nothing_held : ReaderLaws → (limit : ℕ) → held (codec_at 0 limit) [] [] ≡ []
+nothing_held wire limit = (wire.between (codec_at 0 limit) [] (refl, refl) (omega arith)).0
 
-at_start : (limit : ℕ) → StaysOpen (codec_at 0 limit) [] []
-at_start limit = record {
+at_start : ReaderLaws → (limit : ℕ) → StaysOpen (codec_at 0 limit) [] []
+at_start wire limit = record {
   reading = record { joined = refl; within = tt; number = refl; limit_same = refl; refused = refl; goes_on = λ _. (omega arith, refl) };
-  bytes = subst AreBytes (sym (nothing_held limit)) no_bytes;
+  bytes = subst AreBytes (sym (nothing_held wire limit)) no_bytes;
   rest = EmptyRest;
   no_fault = λ f. f;
-  is_rest = subst (λ (l : List ℕ). IsRest limit 0 l EmptyRest) (sym (nothing_held limit)) (wire.empty_rest limit 0);
+  is_rest = subst (λ (l : List ℕ). IsRest limit 0 l EmptyRest) (sym (nothing_held wire limit)) (wire.rests limit 0).0;
 }
 
-module _ (codec : Codec) (limit : ℕ) (header packet : List ℕ) (a : codec ≡ codec_at 0 limit) (h : header ≡ []) (p : packet ≡ []) where
+module _ (wire : ReaderLaws) (codec : Codec) (limit : ℕ) (header packet : List ℕ) (a : codec ≡ codec_at 0 limit) (h : header ≡ []) (p : packet ≡ []) where
   pub start_stays : StaysOpen codec header packet
   start_stays =
       subst (λ (k : Codec). StaysOpen k header packet) (sym a)
-      (subst (λ (l : List ℕ). StaysOpen (codec_at 0 limit) l packet) (sym h) (subst (λ (l : List ℕ). StaysOpen (codec_at 0 limit) [] l) (sym p) (at_start limit)))
+      (subst (λ (l : List ℕ). StaysOpen (codec_at 0 limit) l packet) (sym h) (subst (λ (l : List ℕ). StaysOpen (codec_at 0 limit) [] l) (sym p) (at_start wire limit)))
 
   pub start_held : held codec header packet ≡ []
-  start_held = ap (λ (k : Codec). held k header packet) a ∙ ap (λ (l : List ℕ). held (codec_at 0 limit) l packet) h ∙ ap (λ (l : List ℕ). held (codec_at 0 limit) [] l) p ∙ nothing_held limit
+  start_held = ap (λ (k : Codec). held k header packet) a ∙ ap (λ (l : List ℕ). held (codec_at 0 limit) l packet) h ∙ ap (λ (l : List ℕ). held (codec_at 0 limit) [] l) p ∙ nothing_held wire limit
 
   pub start_begun : (length (held codec header packet) == 0) ≡ not false
   start_begun = ap (λ (l : List ℕ). length l == 0) start_held
@@ -90,15 +91,15 @@ holds_start pieces sets partial p s h = λ i. record {
 
 -- ---- a piece
 
-pub fed_feed : (r new : Inside) (v : Received) (piece : List ℕ) (o : Option StreamFault) → received_of r ≡ v → IsKept r → r.fault ≡ None → AreBytes piece → new.fault ≡ o
+pub fed_feed : ReaderLaws → (r new : Inside) (v : Received) (piece : List ℕ) (o : Option StreamFault) → received_of r ≡ v → IsKept r → r.fault ≡ None → AreBytes piece → new.fault ≡ o
     → Fed (conversation_of r.conversation) r.incoming.codec.limit (holds r.progress (partial_of r.incoming) None) piece (holds new.progress (partial_of new.incoming) o)
     → GoesOn v.conversation v.limit (held_by v) piece (held_by (received_of new))
-fed_feed r new v piece o view kept none are is fed =
+fed_feed wire r new v piece o view kept none are is fed =
     let c = conversation_of r.conversation in
     let limit = r.incoming.codec.limit in
     let old : Held = holds r.progress (partial_of r.incoming) None in
     let after : Held = holds new.progress (partial_of new.incoming) o in
-    let on : GoesOn c limit old piece after = goes_on c limit old after piece (bytes_append (partial_of r.incoming) piece (kept.stays none).stays.bytes are) refl fed in
+    let on : GoesOn c limit old piece after = goes_on wire c limit old after piece (bytes_append (partial_of r.incoming) piece (kept.stays none).stays.bytes are) refl fed in
     let e : held_by (received_of r) ≡ old = held_is r ∙ ap (λ (f : Option StreamFault). holds r.progress (partial_of r.incoming) f) none in
     let d : held_by (received_of new) ≡ after = held_is new ∙ ap (λ (f : Option StreamFault). holds new.progress (partial_of new.incoming) f) is in
     subst (λ (x : Received). GoesOn x.conversation x.limit (held_by x) piece (held_by (received_of new))) view
@@ -132,23 +133,23 @@ begun_some : (b : Bool) → false ≡ not b → b ≡ true
 begun_some true e = refl
 begun_some false e = absurd cc
 
-ends_now : (c : Conversation) (s : Standing) (n limit : ℕ) (rest : Rest) (begun : Bool) (bytes : List ℕ) → ¬ IsFault rest → IsRest limit 0 bytes rest → (length bytes == 0) ≡ not begun
+ends_now : ReaderLaws → (c : Conversation) (s : Standing) (n limit : ℕ) (rest : Rest) (begun : Bool) (bytes : List ℕ) → ¬ IsFault rest → IsRest limit 0 bytes rest → (length bytes == 0) ≡ not begun
     → (if is_waiting c s then ends.WaitingPieces else if begun then ends.UnfinishedPacket else ends.Whole) ≡ end_by_rest c s n rest
-ends_now c s n limit EmptyRest begun bytes none r b =
-    let nothing : bytes ≡ [] = empty_rest limit 0 bytes r in
+ends_now wire c s n limit EmptyRest begun bytes none r b =
+    let nothing : bytes ≡ [] = ((wire.rests limit 0).1 bytes).0 r in
     let test : begun ≡ false = begun_none begun (sym (ap (λ (l : List ℕ). length l == 0) nothing) ∙ b) in
     ap (λ (x : Bool). cond (is_waiting c s) ends.WaitingPieces (cond x ends.UnfinishedPacket ends.Whole)) test
-ends_now c s n limit OpenRest begun bytes none r b =
-    let some : 0 < length bytes = open_rest limit 0 bytes r in
+ends_now wire c s n limit OpenRest begun bytes none r b =
+    let some : 0 < length bytes = ((wire.rests limit 0).1 bytes).1 r in
     let test : begun ≡ true = begun_some begun (sym (ne_eqb (length bytes) 0 (λ z. omega (arith, some, z))) ∙ b) in
     ap (λ (x : Bool). cond (is_waiting c s) ends.WaitingPieces (cond x ends.UnfinishedPacket ends.Whole)) test
-ends_now c s n limit TooLargeRest begun bytes none r b = absurd (none tt)
-ends_now c s n limit OutOfSyncRest begun bytes none r b = absurd (none tt)
+ends_now wire c s n limit TooLargeRest begun bytes none r b = absurd (none tt)
+ends_now wire c s n limit OutOfSyncRest begun bytes none r b = absurd (none tt)
 
-decides_now : (c : Conversation) (r : Inside) → IsKept r → (ending : End) → ending ≡ end_by c (holds r.progress [] r.fault) r.incoming.begun r.fault → (o : Option StreamFault) → r.fault ≡ o
+decides_now : ReaderLaws → (c : Conversation) (r : Inside) → IsKept r → (ending : End) → ending ≡ end_by c (holds r.progress [] r.fault) r.incoming.begun r.fault → (o : Option StreamFault) → r.fault ≡ o
     → DecidesBy c r.incoming.codec.limit (holds r.progress (partial_of r.incoming) r.fault) o [] (record { sets = sets_of r.progress.sets.items; ending = ending })
-decides_now c r kept ending is (Some f) e = (refl, is ∙ ap (λ (o : Option StreamFault). end_by c (holds r.progress [] r.fault) r.incoming.begun o) e)
-decides_now c r kept ending is None e =
+decides_now wire c r kept ending is (Some f) e = (refl, is ∙ ap (λ (o : Option StreamFault). end_by c (holds r.progress [] r.fault) r.incoming.begun o) e)
+decides_now wire c r kept ending is None e =
     let k = kept.stays e in
     let s : Standing = standing_of r.progress.standing in
     let n : ℕ = r.progress.count in
@@ -156,7 +157,7 @@ decides_now c r kept ending is None e =
     let is_split : IsSplit r.incoming.codec.limit EachFromZero (partial_of r.incoming ++ []) split = record { joined = append-nil (partial_of r.incoming); within = tt; ends = k.stays.is_rest } in
     let last : ending ≡ end_by_rest c (standing_after c s []) (n + 0) k.stays.rest =
     is ∙ ap (λ (o : Option StreamFault). end_by c (holds r.progress [] r.fault) r.incoming.begun o) e
-    ∙ ends_now c s (n + 0) r.incoming.codec.limit k.stays.rest r.incoming.begun (partial_of r.incoming) k.stays.no_fault k.stays.is_rest k.begun
+    ∙ ends_now wire c s (n + 0) r.incoming.codec.limit k.stays.rest r.incoming.begun (partial_of r.incoming) k.stays.no_fault k.stays.is_rest k.begun
     ∙ ap (λ (x : Standing). end_by_rest c x (n + 0) k.stays.rest) (sym (standing_after_nil c s)) in (
       split,
       [],
@@ -165,15 +166,18 @@ decides_now c r kept ending is None e =
       inl (record { reads = []; each = record { there = omega arith; each = λ i lt. absurd (omega arith) }; sets = refl; ending = inr (refl, last) }),
     )
 
-pub finished : (r : Inside) (v : Received) (ending : End) → received_of r ≡ v → IsKept r → ending ≡ end_by (conversation_of r.conversation) (holds r.progress [] r.fault) r.incoming.begun r.fault
+pub finished : ReaderLaws → (r : Inside) (v : Received) (ending : End) → received_of r ≡ v → IsKept r → ending ≡ end_by (conversation_of r.conversation) (holds r.progress [] r.fault) r.incoming.begun r.fault
     → Decides v.conversation v.limit (held_by v) [] (record { sets = sets_of r.progress.sets.items; ending = ending })
-finished r v ending view kept is =
+finished wire r v ending view kept is =
     let c = conversation_of r.conversation in
     let a : Audit = record { sets = sets_of r.progress.sets.items; ending = ending } in
     subst (λ (x : Received). Decides x.conversation x.limit (held_by x) [] a) view
-    (subst (λ (h : Held). Decides c r.incoming.codec.limit h [] a) (sym (held_is r)) (decides_now c r kept ending is r.fault refl))
+    (subst (λ (h : Held). Decides c r.incoming.codec.limit h [] a) (sym (held_is r)) (decides_now wire c r kept ending is r.fault refl))
 
 -- ---- all pieces
+
+pub pieces_more : {X : Type 0} (f : X → List ℕ) (xs : List X) (i : ℕ) (d : X) → i < length xs → flat_map f (take (i + 1) xs) ≡ flat_map f (take i xs) ++ f (get_or xs i d)
+pieces_more f xs i d h = ap (flat_map f) (take_more xs i d h) ∙ flat_map-append f (take i xs) (get_or xs i d ∷ []) ∙ ap (λ (l : List ℕ). flat_map f (take i xs) ++ l) (append-nil (f (get_or xs i d)))
 
 pub pieces_on : (c : Conversation) (limit : ℕ) (old mid new : Held) (front back : List ℕ) → AreBytes back → GoesOn c limit old front mid → GoesOn c limit mid back new → GoesOn c limit old (front ++ back) new
 pieces_on c limit old mid new front back are p q z a more d =

@@ -4,13 +4,10 @@ use Rattle.std.proofs.lemmas.Bool.{cases_lt}
 use Rattle.std.proofs.lemmas.List.{length-append, get_or-append-add}
 use Rattle.std.proofs.Math.ListN.{get_or-append}
 use Rattle.mysql_wire.specs.Laws.{AreBytes}
-use Rattle.mysql_wire.specs.Framing.{chunks}
 use Rattle.mysql_wire.specs.Stream.{Numbering, Split, IsSplit, IsRest, with_payloads, after_all, framings}
 use Rattle.mysql_wire.specs.Stream.Rest.{Empty as EmptyRest, Open as OpenRest}
 use Rattle.mysql_wire.specs.Stream.Numbering.{EachFromZero}
-use Rattle.mysql_wire.proofs.GoingOn as wire
-use Rattle.mysql_wire.proofs.Exists as exists
-use Rattle.mysql_wire.proofs.Chunks.{chunks_first, length-chunk}
+use Rattle.mysql_wire.specs.GoingOn.{ReaderLaws}
 
 -- ---- lists of bytes
 
@@ -33,35 +30,13 @@ pub each_stays : (payloads : List (List ℕ)) → after_all payloads EachFromZer
 each_stays [] = refl
 each_stays (p ∷ ps) = each_stays ps
 
-pub split_append : (limit : ℕ) (front back : List ℕ) (s t : Split) → IsSplit limit EachFromZero front s → IsSplit limit EachFromZero (s.rest_bytes ++ back) t → IsSplit limit EachFromZero (front ++ back) (with_payloads s.payloads t)
-split_append limit front back s t p q =
-    wire.split_goes_on limit EachFromZero front back s t p (subst (λ (n : Numbering). IsSplit limit n (s.rest_bytes ++ back) t) (sym (each_stays s.payloads)) q)
+pub split_append : ReaderLaws → (limit : ℕ) (front back : List ℕ) (s t : Split) → IsSplit limit EachFromZero front s → IsSplit limit EachFromZero (s.rest_bytes ++ back) t → IsSplit limit EachFromZero (front ++ back) (with_payloads s.payloads t)
+split_append wire limit front back s t p q =
+    wire.goes_on limit EachFromZero front back s t p (subst (λ (n : Numbering). IsSplit limit n (s.rest_bytes ++ back) t) (sym (each_stays s.payloads)) q)
 
-pub some_split : (limit : ℕ) (bytes : List ℕ) → AreBytes bytes → (split : Split) × IsSplit limit EachFromZero bytes split
-some_split limit bytes h = exists.some_split limit EachFromZero bytes h
+pub some_split : ReaderLaws → (limit : ℕ) (bytes : List ℕ) → AreBytes bytes → (split : Split) × IsSplit limit EachFromZero bytes split
+some_split wire limit bytes h = let s = wire.one_split limit EachFromZero bytes h in (s.0, s.1)
 
 -- the bytes of the rest
 pub rest_are_bytes : (limit : ℕ) (bytes : List ℕ) (s : Split) → IsSplit limit EachFromZero bytes s → AreBytes bytes → AreBytes s.rest_bytes
 rest_are_bytes limit bytes s p h = bytes_behind (framings s.payloads EachFromZero) s.rest_bytes bytes p.joined h
-
--- ---- rests
-
-pub empty_rest : (limit id : ℕ) (bytes : List ℕ) → IsRest limit id bytes EmptyRest → bytes ≡ []
-unfolding chunks
-empty_rest limit id bytes r =
-    let none : r.count ≡ 0 = omega (arith, r.full, r.ends.0) in
-    let tail : r.tail ≡ [] = nil r.tail r.ends.1 in
-    r.joined ∙ ap (λ (l : List ℕ). chunks r.body id r.count ++ l) tail ∙ ap (λ (n : ℕ). chunks r.body id n ++ []) none
-  where
-    nil : (xs : List ℕ) → length xs ≡ 0 → xs ≡ []
-    nil [] e = refl
-    nil (x ∷ xs) e = absurd (omega (arith, e))
-
-pub open_rest : (limit id : ℕ) (bytes : List ℕ) → IsRest limit id bytes OpenRest → 0 < length bytes
-open_rest limit id bytes r = by_count r.count refl
-  where
-    by_count : (n : ℕ) → r.count ≡ n → 0 < length bytes
-    by_count zero e = omega (arith, ap length r.joined, length-append (chunks r.body id r.count) r.tail, r.ends.0, r.full, e)
-    by_count (suc n) e =
-        let first : bytes ≡ _ = r.joined ∙ ap (λ (k : ℕ). chunks r.body id k ++ r.tail) e ∙ chunks_first r.body id n r.tail in
-        omega (arith, ap length first, length-chunk id (take 16777215 r.body) (chunks (drop 16777215 r.body) (id + 1) n ++ r.tail))

@@ -15,6 +15,7 @@ use crate::progress::Progress;
 use crate::refusal::Refusal;
 use crate::statement::Conversation;
 use bytes::{Buf, BytesMut};
+use mysql_wire::laws::reader_laws;
 use mysql_wire::{PacketCodec, PacketCodecError, PartialHeader};
 use std::alloc::Global;
 
@@ -51,6 +52,7 @@ fn read_whole<B: Buf>(
     ensures moved { OnOk result (length (B.unread src.new) < 4) }
     ensures limit { codec.new.limit ≡ codec.old.limit }
 {
+    reader_laws();
     'packets: loop {
         match codec.decode(src, packet) {
             Ok(false) => return Ok(()),
@@ -91,6 +93,7 @@ impl Incoming {
         ensures open { OnOk result (IsOpen self.new) }
         ensures limit { self.new.codec.limit ≡ self.old.codec.limit }
     {
+        reader_laws();
         let came = !piece.is_empty();
         self.begun |= came;
         let mut src = self.header.followed_by(piece);

@@ -3,7 +3,8 @@
 ghost use Rattle.mysql_commands.specs.Laws.{AuditGoesOn, CuttingsAgree, EachPayloadIsJudged, FeedingGoesOn, FrontsReadOn, LastWordCounts, LookingBackGoesOn, PiecesGoOn, StartDecidesTheAudit, StreamHasOneAudit, ThereIsOneAudit, WholeStreamsJoin, WrittenCellsAreHeld};
 
 use mysql_values::laws::cells_read_back;
-use mysql_wire::laws::fronts_split;
+use mysql_values::laws::{one_reading, texts_are_decided, tokens_of_a_text};
+use mysql_wire::laws::{fronts_split, reader_laws};
 
 /// Looking back over two lists of payloads, one after the other, is looking back over the second from what is in
 /// force behind the first.
@@ -19,12 +20,20 @@ pub fn last_word_counts()
 /// Each payload reads as one list of sets or has one fault, and never both.
 pub fn each_payload_is_judged()
     ensures { EachPayloadIsJudged }
-{}
+{
+    texts_are_decided();
+    one_reading();
+    tokens_of_a_text();
+}
 
 /// There is exactly one audit of any payloads and rest, from any standing on.
 pub fn there_is_one_audit()
     ensures { ThereIsOneAudit }
-{}
+{
+    texts_are_decided();
+    one_reading();
+    tokens_of_a_text();
+}
 
 /// Behind payloads that all read, the audit goes on from the standing that they leave.
 pub fn audit_goes_on()
@@ -34,12 +43,22 @@ pub fn audit_goes_on()
 /// There is exactly one audit of any bytes.
 pub fn stream_has_one_audit()
     ensures { StreamHasOneAudit }
-{}
+{
+    reader_laws();
+    texts_are_decided();
+    one_reading();
+    tokens_of_a_text();
+}
 
 /// Two cuttings of the same bytes have equal audits.
 pub fn cuttings_agree()
     ensures { CuttingsAgree }
-{}
+{
+    reader_laws();
+    texts_are_decided();
+    one_reading();
+    tokens_of_a_text();
+}
 
 /// What a new receiver holds decides the audit of the bytes to come.
 pub fn start_decides_the_audit()
@@ -49,7 +68,9 @@ pub fn start_decides_the_audit()
 /// What is held after a piece decides what was decided before it over the piece and the bytes still to come.
 pub fn feeding_goes_on()
     ensures { FeedingGoesOn }
-{}
+{
+    reader_laws();
+}
 
 /// Pieces one after another are one piece.
 pub fn pieces_go_on()
@@ -61,12 +82,17 @@ pub fn fronts_read_on()
     ensures { FrontsReadOn }
 {
     fronts_split();
+    texts_are_decided();
+    one_reading();
+    tokens_of_a_text();
 }
 
 /// Two streams that audit whole make one that does, with their sets joined.
 pub fn whole_streams_join()
     ensures { WholeStreamsJoin }
-{}
+{
+    reader_laws();
+}
 
 /// The cell that is written for a value is read as what the value means.
 pub fn written_cells_are_held()

@@ -20,6 +20,7 @@ use crate::refusal::Refusal;
 use crate::statement::{Conversation, Standing};
 use bytes::BytesMut;
 use mysql_values::{NamedParamsError, ParsedNamedParams, places};
+use mysql_wire::laws::reader_laws;
 use mysql_wire::{PacketCodec, PartialHeader, WireError};
 use std::alloc::{AllocError, Global};
 use std::marker::Model;
@@ -167,6 +168,7 @@ impl Receiver {
         ensures conversation { result.conversation ≡ conversation_of conversation }
         ensures limit { result.limit ≡ limit }
     {
+        reader_laws();
         Receiver {
             alloc,
             conversation,
@@ -208,6 +210,7 @@ impl Receiver {
         ensures conversation { self.new.conversation ≡ self.old.conversation }
         ensures limit { self.new.limit ≡ self.old.limit }
     {
+        reader_laws();
         if let Some(fault) = self.fault {
             return Err(fault);
         }
@@ -231,6 +234,7 @@ impl Receiver {
     pub fn finish(self) -> Audit
         ensures { Decides self.conversation self.limit (held_by self) [] (audit_of result) }
     {
+        reader_laws();
         let end = end_now(
             &self.conversation,
             &self.progress,

@@ -1,5 +1,9 @@
 //! The program, as one function over its words, its input and its output.
 
+ghost use Rattle.std.specs.Prelude.{◌≡◌};
+ghost use Rattle.mysql_session.specs.declared.program.Stop.TheVariants as stop;
+ghost use Rattle.mysql_session.specs.declared.refusal.Refusal.TheVariants as refusal;
+
 use crate::refusal::Refusal;
 use crate::road::Road;
 use crate::sender::send;
@@ -29,30 +33,40 @@ enum Stop {
 }
 
 impl From<AllocError> for Stop {
+    ghost from_gives = { λ _ s. s ≡ stop.Sending refusal.Memory };
+
     fn from(_e: AllocError) -> Stop {
         Stop::Sending(Refusal::Memory)
     }
 }
 
 impl<T: Drop> From<AllocFailed<T>> for Stop {
+    ghost from_gives = { λ _ s. s ≡ stop.Sending refusal.Memory };
+
     fn from(_e: AllocFailed<T>) -> Stop {
         Stop::Sending(Refusal::Memory)
     }
 }
 
 impl From<io::Error> for Stop {
+    ghost from_gives = { λ _ s. s ≡ stop.Writing };
+
     fn from(_e: io::Error) -> Stop {
         Stop::Writing
     }
 }
 
 impl From<Refusal> for Stop {
+    ghost from_gives = { λ refusal s. s ≡ stop.Sending refusal };
+
     fn from(refusal: Refusal) -> Stop {
         Stop::Sending(refusal)
     }
 }
 
 impl From<ReceiverError> for Stop {
+    ghost from_gives = { λ error s. s ≡ stop.Receiving error };
+
     fn from(error: ReceiverError) -> Stop {
         Stop::Receiving(error)
     }

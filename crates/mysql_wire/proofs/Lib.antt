@@ -10,4 +10,5 @@ pub mod Writing
 pub mod Packet
 pub mod Steps
 mod Decides
+mod Rests
 mod Fronts

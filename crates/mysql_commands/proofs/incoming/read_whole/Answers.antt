@@ -8,7 +8,7 @@ use Rattle.mysql_commands.proofs.incoming.read_whole.Goals as goal
 
 pub packets-init : goal.packets-init
 packets-init g c = record {
-  behind = behind_none (conversation_of c.args.conversation.now) c.args.codec.now.limit c.args.progress.now (held c.args.codec.now (g.B.Buf.unread c.args.src.now) c.args.packet.now.items)
+  behind = behind_none c.reader_laws.ensures (conversation_of c.args.conversation.now) c.args.codec.now.limit c.args.progress.now (held c.args.codec.now (g.B.Buf.unread c.args.src.now) c.args.packet.now.items)
       c.args.codec.now (g.B.Buf.unread c.args.src.now) c.args.packet.now.items c.requires.reading;
   limit = search rules;
   begun = c.requires.begun;
@@ -18,7 +18,7 @@ pub packets-smaller : goal.packets-smaller
 packets-smaller g c =
     let h = rw c.in-Ok-true.field-0-test at c.in-Ok-true.ensures.ok in
     rw c.reset_seq_id.ensures
-    (taken_smaller c.packets.codec (g.B.Buf.unread c.packets.src) c.packets.packet.items c.decode.new.self (g.B.Buf.unread c.decode.new.src) c.decode.new.dst.items c.clear.new.self.items h c.clear.ensures.items)
+    (taken_smaller c.reader_laws.ensures c.packets.codec (g.B.Buf.unread c.packets.src) c.packets.packet.items c.decode.new.self (g.B.Buf.unread c.decode.new.src) c.decode.new.dst.items c.clear.new.self.items h c.clear.ensures.items)
 
 pub packets-preserved : goal.packets-preserved
 packets-preserved g c =
@@ -28,12 +28,12 @@ packets-preserved g c =
     subst (λ l. ReadOne k c.packets.progress l c.read_one.new.self) c.as_slice.ensures c.in_ok-read_one-in-Ok-true.ensures.by in
     record {
       behind = rw (c.reset_seq_id.ensures, c.clear.ensures.items)
-          (behind_more k c.args.codec.now.limit c.args.progress.now (held c.args.codec.now (g.B.Buf.unread c.args.src.now) c.args.packet.now.items)
+          (behind_more c.reader_laws.ensures k c.args.codec.now.limit c.args.progress.now (held c.args.codec.now (g.B.Buf.unread c.args.src.now) c.args.packet.now.items)
           c.packets.codec (g.B.Buf.unread c.packets.src) c.packets.packet.items c.decode.new.self (g.B.Buf.unread c.decode.new.src) c.decode.new.dst.items c.packets.progress c.read_one.new.self
           c.packets.invariant.behind h one);
       limit = rw c.reset_seq_id.ensures (h.limit ∙ c.packets.invariant.limit);
       begun = still_begun (held c.reset_seq_id.new.self (g.B.Buf.unread c.decode.new.src) c.clear.new.self.items) (g.B.Buf.unread c.decode.new.src) c.remaining.result
-          (rw c.reset_seq_id.ensures (taken_held c.packets.codec (g.B.Buf.unread c.packets.src) c.packets.packet.items c.decode.new.self (g.B.Buf.unread c.decode.new.src) c.decode.new.dst.items c.clear.new.self.items h c.clear.ensures.items))
+          (rw c.reset_seq_id.ensures (taken_held c.reader_laws.ensures c.packets.codec (g.B.Buf.unread c.packets.src) c.packets.packet.items c.decode.new.self (g.B.Buf.unread c.decode.new.src) c.decode.new.dst.items c.clear.new.self.items h c.clear.ensures.items))
           c.remaining.ensures;
     }
 
@@ -46,7 +46,7 @@ returns-in_err-read_one-in-Ok-true-clause-fed g c =
     let one : OneBy k c.packets.progress c.decode.new.dst.items c.read_one.new.self (Err e) =
     subst (λ l. OneBy k c.packets.progress l c.read_one.new.self (Err e)) c.as_slice.ensures c.in_err-read_one-in-Ok-true.ensures.by in
     rw (p.1, p.2)
-    (payload_fed k c.args.codec.now.limit c.args.progress.now (held c.args.codec.now (g.B.Buf.unread c.args.src.now) c.args.packet.now.items)
+    (payload_fed c.reader_laws.ensures k c.args.codec.now.limit c.args.progress.now (held c.args.codec.now (g.B.Buf.unread c.args.src.now) c.args.packet.now.items)
     c.packets.codec (g.B.Buf.unread c.packets.src) c.packets.packet.items c.decode.new.self (g.B.Buf.unread c.decode.new.src) c.decode.new.dst.items
     (held c.decode.new.self (g.B.Buf.unread c.decode.new.src) c.decode.new.dst.items) c.packets.progress c.read_one.new.self e c.requires.bytes
     c.packets.invariant.behind h one c.in_err-read_one-in-Ok-true.ensures.sets c.in_err-read_one-in-Ok-true.ensures.count)
@@ -54,18 +54,18 @@ returns-in_err-read_one-in-Ok-true-clause-fed g c =
 pub returns-in-Ok-false-clause-fed : goal.returns-in-Ok-false-clause-fed
 returns-in-Ok-false-clause-fed g c =
     let w = rw c.in-Ok-false.field-0-test at c.in-Ok-false.ensures.ok in
-    waits_fed (conversation_of c.args.conversation.now) c.args.codec.now.limit c.args.progress.now (held c.args.codec.now (g.B.Buf.unread c.args.src.now) c.args.packet.now.items)
+    waits_fed c.reader_laws.ensures (conversation_of c.args.conversation.now) c.args.codec.now.limit c.args.progress.now (held c.args.codec.now (g.B.Buf.unread c.args.src.now) c.args.packet.now.items)
     _ _ _ _ _ _ c.packets.progress c.packets.invariant.behind w
 
 pub returns-in-Ok-false-clause-open : goal.returns-in-Ok-false-clause-open
 returns-in-Ok-false-clause-open g c =
     let w = rw c.in-Ok-false.field-0-test at c.in-Ok-false.ensures.ok in
-    waits_open (conversation_of c.args.conversation.now) c.args.codec.now.limit c.args.progress.now (held c.args.codec.now (g.B.Buf.unread c.args.src.now) c.args.packet.now.items)
+    waits_open c.reader_laws.ensures (conversation_of c.args.conversation.now) c.args.codec.now.limit c.args.progress.now (held c.args.codec.now (g.B.Buf.unread c.args.src.now) c.args.packet.now.items)
     _ _ _ _ _ _ c.packets.progress c.requires.bytes c.packets.invariant.behind w
 
 pub returns-in-Err-clause-fed : goal.returns-in-Err-clause-fed
 returns-in-Err-clause-fed g c =
     rw c.refusal_of.ensures
-    (refused_fed (conversation_of c.args.conversation.now) c.args.codec.now.limit c.args.progress.now (held c.args.codec.now (g.B.Buf.unread c.args.src.now) c.args.packet.now.items)
+    (refused_fed c.reader_laws.ensures (conversation_of c.args.conversation.now) c.args.codec.now.limit c.args.progress.now (held c.args.codec.now (g.B.Buf.unread c.args.src.now) c.args.packet.now.items)
     c.packets.codec c.decode.new.self (g.B.Buf.unread c.packets.src) c.packets.packet.items (held c.decode.new.self (g.B.Buf.unread c.decode.new.src) c.decode.new.dst.items)
     c.in-Err.error c.packets.progress c.requires.bytes c.packets.invariant.behind c.in-Err.ensures.refused)

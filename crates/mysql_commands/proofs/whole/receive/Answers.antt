@@ -1,10 +1,9 @@
 use Rattle.std.proofs.Common.{◌+◌, ◌∙◌, ap, sym, subst, take, [], arith}
 use Rattle.std.specs.List.{flat_map}
 use Rattle.std.proofs.lemmas.List.{take_all}
-use Rattle.mysql_wire.proofs.Reading.{pieces_more}
 use Rattle.mysql_commands.specs.Audit.{IsAbout}
 use Rattle.mysql_commands.specs.Receiving.{audit_of}
-use Rattle.mysql_commands.proofs.Receiving.{received, received_next, audit_by, memory_of}
+use Rattle.mysql_commands.proofs.Receiving.{pieces_more, received, received_next, audit_by, memory_of}
 use Rattle.mysql_commands.proofs.whole.receive.Goals as goal
 
 pub pieces-preserved : goal.pieces-preserved

@@ -7,8 +7,8 @@ pub invariant_of-result : goal.invariant_of-result
 invariant_of-result c = record {
   query = c.requires;
   stays = λ e. record {
-    stays = start_stays c.at.result c.args.limit c.new.result c.new-2.result.items c.at.ensures c.new.ensures c.new-2.ensures.items;
-    begun = start_begun c.at.result c.args.limit c.new.result c.new-2.result.items c.at.ensures c.new.ensures c.new-2.ensures.items;
+    stays = start_stays c.reader_laws.ensures c.at.result c.args.limit c.new.result c.new-2.result.items c.at.ensures c.new.ensures c.new-2.ensures.items;
+    begun = start_begun c.reader_laws.ensures c.at.result c.args.limit c.new.result c.new-2.result.items c.at.ensures c.new.ensures c.new-2.ensures.items;
   };
 }
 
@@ -22,4 +22,4 @@ returns-clause-held c =
       fault = None;
     })
     ∙ holds_start c.new-3.result c.new-4.result (held c.at.result c.new.result c.new-2.result.items) c.new-3.ensures.items c.new-4.ensures.items
-    (start_held c.at.result c.args.limit c.new.result c.new-2.result.items c.at.ensures c.new.ensures c.new-2.ensures.items)
+    (start_held c.reader_laws.ensures c.at.result c.args.limit c.new.result c.new-2.result.items c.at.ensures c.new.ensures c.new-2.ensures.items)
