@@ -1,0 +1,40 @@
+-- The capability flags. All 32 bits have names.
+-- MySQL: Client/Server Protocol, "Capabilities Flags"; bit 29 is the progress reports of old MariaDB servers.
+use Rattle.std.specs.Prelude.{ℕ, List, [], ◌∷◌, codes}
+
+-- the table: each flag's name and bit
+abbrev pub capability_flags : List (List ℕ × ℕ)
+capability_flags =
+    (codes "CLIENT_LONG_PASSWORD", 1)
+    ∷ (codes "CLIENT_FOUND_ROWS", 2)
+    ∷ (codes "CLIENT_LONG_FLAG", 4)
+    ∷ (codes "CLIENT_CONNECT_WITH_DB", 8)
+    ∷ (codes "CLIENT_NO_SCHEMA", 0x10)
+    ∷ (codes "CLIENT_COMPRESS", 0x20)
+    ∷ (codes "CLIENT_ODBC", 0x40)
+    ∷ (codes "CLIENT_LOCAL_FILES", 0x80)
+    ∷ (codes "CLIENT_IGNORE_SPACE", 0x100)
+    ∷ (codes "CLIENT_PROTOCOL_41", 0x200)
+    ∷ (codes "CLIENT_INTERACTIVE", 0x400)
+    ∷ (codes "CLIENT_SSL", 0x800)
+    ∷ (codes "CLIENT_IGNORE_SIGPIPE", 0x1000)
+    ∷ (codes "CLIENT_TRANSACTIONS", 0x2000)
+    ∷ (codes "CLIENT_RESERVED", 0x4000)
+    ∷ (codes "CLIENT_SECURE_CONNECTION", 0x8000)
+    ∷ (codes "CLIENT_MULTI_STATEMENTS", 0x10000)
+    ∷ (codes "CLIENT_MULTI_RESULTS", 0x20000)
+    ∷ (codes "CLIENT_PS_MULTI_RESULTS", 0x40000)
+    ∷ (codes "CLIENT_PLUGIN_AUTH", 0x80000)
+    ∷ (codes "CLIENT_CONNECT_ATTRS", 0x100000)
+    ∷ (codes "CLIENT_PLUGIN_AUTH_LENENC_CLIENT_DATA", 0x200000)
+    ∷ (codes "CLIENT_CAN_HANDLE_EXPIRED_PASSWORDS", 0x400000)
+    ∷ (codes "CLIENT_SESSION_TRACK", 0x800000)
+    ∷ (codes "CLIENT_DEPRECATE_EOF", 0x1000000)
+    ∷ (codes "CLIENT_OPTIONAL_RESULTSET_METADATA", 0x2000000)
+    ∷ (codes "CLIENT_ZSTD_COMPRESSION_ALGORITHM", 0x4000000)
+    ∷ (codes "CLIENT_QUERY_ATTRIBUTES", 0x8000000)
+    ∷ (codes "MULTI_FACTOR_AUTHENTICATION", 0x10000000)
+    ∷ (codes "CLIENT_PROGRESS_OBSOLETE", 0x20000000)
+    ∷ (codes "CLIENT_SSL_VERIFY_SERVER_CERT", 0x40000000)
+    ∷ (codes "CLIENT_REMEMBER_OPTIONS", 0x80000000)
+    ∷ []

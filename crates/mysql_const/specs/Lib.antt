@@ -1,0 +1,15 @@
+pub mod BinlogDumpFlags
+pub mod BulkFlags
+pub mod BulkIndicators
+pub mod CapabilityFlags
+pub mod ColumnFlags
+pub mod ColumnTypes
+pub mod Commands
+pub mod CursorTypes
+pub mod ExecuteFlags
+pub mod Geometries
+pub mod ItemResults
+pub mod MariadbCapabilities
+pub mod SessionStates
+pub mod StatusFlags
+pub mod Tables

@@ -1,0 +1,63 @@
+//! Types of results of expressions.
+
+ghost use Rattle.std.specs.Prelude.{◌≡◌};
+ghost use Rattle.mysql_const.specs.Tables.{ReadsAs};
+ghost use Rattle.mysql_const.specs.ItemResults.{item_result_number, item_result_named};
+
+use thiserror::Error;
+
+/// The type of the value that an expression or a loadable function gives.
+///
+/// MySQL: Extending MySQL, "Adding a Loadable Function" (Item_result); -1 is the server's own mark for no result.
+#[allow(non_camel_case_types)]
+#[derive(Clone, Copy, PartialEq, Eq, Hash, Debug)]
+pub enum ItemResult {
+    INVALID_RESULT = -1,
+    STRING_RESULT = 0,
+    REAL_RESULT = 1,
+    INT_RESULT = 2,
+    ROW_RESULT = 3,
+    DECIMAL_RESULT = 4,
+}
+
+/// A number that no [`ItemResult`] has.
+#[derive(Clone, Copy, PartialEq, Eq, Hash, Debug, Error)]
+#[error("unknown item result type {0}")]
+pub struct UnknownItemResultType(pub i8);
+
+/// The number of a [`ItemResult`].
+impl From<ItemResult> for i8 {
+    ghost from_gives = { λ result_type number. number ≡ item_result_number result_type };
+
+    fn from(result_type: ItemResult) -> i8 {
+        result_type as i8
+    }
+}
+
+/// The [`ItemResult`] of a number. A number without a name is refused, and the refusal carries it.
+impl TryFrom<i8> for ItemResult {
+    type Error = UnknownItemResultType;
+
+    ghost try_from_gives = { λ number answer. ReadsAs (item_result_named number) (λ unknown. unknown.0) number answer };
+
+    fn try_from(number: i8) -> Result<ItemResult, UnknownItemResultType> {
+        match number {
+            -1 => Ok(ItemResult::INVALID_RESULT),
+            0 => Ok(ItemResult::STRING_RESULT),
+            1 => Ok(ItemResult::REAL_RESULT),
+            2 => Ok(ItemResult::INT_RESULT),
+            3 => Ok(ItemResult::ROW_RESULT),
+            4 => Ok(ItemResult::DECIMAL_RESULT),
+            _ => Err(UnknownItemResultType(number)),
+        }
+    }
+}
+
+/// The number that was refused.
+impl From<UnknownItemResultType> for i8 {
+    ghost from_gives = { λ unknown number. number ≡ unknown.0 };
+
+    fn from(unknown: UnknownItemResultType) -> i8 {
+        unknown.0
+    }
+}
