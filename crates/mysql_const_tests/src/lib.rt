@@ -1,0 +1,7 @@
+//! Tests of `mysql_const` from outside: numbers, names, bits and texts.
+#![tactic(auto)]
+
+#[cfg(test)]
+mod flags;
+#[cfg(test)]
+mod names;
