@@ -1,8 +1,13 @@
 -- The packets of a server's reply, each as read from its payload.
 -- MySQL: Client/Server Protocol, "OK_Packet", "EOF_Packet", "ERR_Packet", "Column Definition", "Text Resultset Row",
 -- "Binary Protocol Resultset Row" and "COM_STMT_PREPARE Response"; MariaDB: 'Progress report' of "ERR_Packet".
-use Rattle.std.specs.Prelude.{ℕ, zero, suc, ◌+◌, ◌/◌, List, [], ◌∷◌, length, Bool, Option, Some, None, Ok, Err, nat_le, ◌==◌, ◌||◌, if◌then◌else◌}
+use Rattle.std.specs.Prelude.{ℕ, zero, suc, ◌+◌, ◌/◌, List, [], ◌∷◌, length, Bool, Option, Some, None, Ok, Err, ◌==◌, if◌then◌else◌}
 use Rattle.std.specs.Int.RustNames.{bit_and}
+use Rattle.bitflags.specs.Sets.{known_bits}
+use Rattle.mysql_const.specs.declared.column_type.ColumnType.{ColumnType}
+use Rattle.mysql_const.specs.declared.column_type.ColumnType.TheVariants.{MYSQL_TYPE_DECIMAL, MYSQL_TYPE_LONGLONG, MYSQL_TYPE_VARCHAR, MYSQL_TYPE_BIT, MYSQL_TYPE_VECTOR, MYSQL_TYPE_JSON, MYSQL_TYPE_NEWDECIMAL, MYSQL_TYPE_ENUM, MYSQL_TYPE_SET, MYSQL_TYPE_TINY_BLOB, MYSQL_TYPE_MEDIUM_BLOB, MYSQL_TYPE_LONG_BLOB, MYSQL_TYPE_BLOB, MYSQL_TYPE_VAR_STRING, MYSQL_TYPE_STRING, MYSQL_TYPE_GEOMETRY}
+use Rattle.mysql_const.specs.ColumnTypes.{column_type_named, is_among}
+use Rattle.mysql_const.specs.StatusFlags.{status_flags}
 use Rattle.mysql_wire.specs.declared.error.WireError.TheVariants.{UnexpectedEof, UnknownValue, BadLength, UnsupportedType}
 use Rattle.mysql_packets.specs.Fields.{Reads, ◌>>=◌, bytes_at, number_at, constant_at, constants_at, little_endian, lenenc_int_at, lenenc_bytes_at, has_flag, unless_empty}
 
@@ -34,7 +39,7 @@ session_state_changed status = contains status 0x4000
 unfoldable pub status_at : List ℕ → Reads ℕ
 status_at bytes = do
   n ← number_at 2 bytes
-  if bit_and n.0 0x7ffb == n.0 then Ok n else Err UnknownValue
+  if bit_and n.0 (known_bits status_flags) == n.0 then Ok n else Err UnknownValue
 
 -- What an OK packet says.
 pub record Okay : Type 0 where
@@ -182,13 +187,20 @@ pub record ColumnDefinition : Type 0 where
   pub org_name : List ℕ
   pub character_set : ℕ
   pub column_length : ℕ
-  pub column_type : ℕ
+  pub column_type : ColumnType
   pub flags : ℕ
   pub decimals : ℕ
 
--- The type numbers that have a name.
-abbrev pub is_column_type : ℕ → Bool
-is_column_type n = nat_le n 20 || n == 242 || n == 243 || nat_le 245 n
+-- The type that stands beside a number in the table; a number without one is refused.
+abbrev pub named_or_refused : Option ColumnType → List ℕ → Reads ColumnType
+named_or_refused (Some column_type) rest = Ok (column_type, rest)
+named_or_refused None rest = Err UnknownValue
+
+-- A type, whose number is one byte.
+unfoldable pub column_type_at : List ℕ → Reads ColumnType
+column_type_at bytes = do
+  number ← number_at 1 bytes
+  named_or_refused (column_type_named number.0) number.1
 
 -- A column packet; its last 13 bytes are there together or not at all.
 unfoldable pub column_at : List ℕ → Reads ColumnDefinition
@@ -203,9 +215,8 @@ column_at bytes = do
   size ← constant_at 12 block.0
   character_set ← number_at 2 size.1
   column_length ← number_at 4 character_set.1
-  column_type ← number_at 1 column_length.1
-  known ← (if is_column_type column_type.0 then Ok column_type else Err UnknownValue)
-  flags ← number_at 2 known.1
+  column_type ← column_type_at column_length.1
+  flags ← number_at 2 column_type.1
   decimals ← number_at 1 flags.1
   Ok (
     record {
@@ -216,7 +227,7 @@ column_at bytes = do
       org_name = org_name.0;
       character_set = character_set.0;
       column_length = column_length.0;
-      column_type = known.0;
+      column_type = column_type.0;
       flags = flags.0;
       decimals = decimals.0;
     },
@@ -252,16 +263,19 @@ abbrev pub text_row_at : List ColumnDefinition → List ℕ → Reads (List Cell
 text_row_at columns bytes = text_cells_at (length columns) bytes
 
 -- The types whose cells are length-encoded bytes.
-abbrev pub is_bytes_type : ℕ → Bool
-is_bytes_type n = n == 0 || n == 15 || n == 16 || n == 242 || nat_le 245 n
+abbrev pub bytes_types : List ColumnType
+bytes_types =
+    MYSQL_TYPE_DECIMAL ∷ MYSQL_TYPE_VARCHAR ∷ MYSQL_TYPE_BIT ∷ MYSQL_TYPE_VECTOR ∷ MYSQL_TYPE_JSON ∷ MYSQL_TYPE_NEWDECIMAL
+    ∷ MYSQL_TYPE_ENUM ∷ MYSQL_TYPE_SET ∷ MYSQL_TYPE_TINY_BLOB ∷ MYSQL_TYPE_MEDIUM_BLOB ∷ MYSQL_TYPE_LONG_BLOB
+    ∷ MYSQL_TYPE_BLOB ∷ MYSQL_TYPE_VAR_STRING ∷ MYSQL_TYPE_STRING ∷ MYSQL_TYPE_GEOMETRY ∷ []
 
 -- A cell of a binary row, of a type with length-encoded bytes or of eight bytes.
 unfoldable pub binary_cell_at : ColumnDefinition → List ℕ → Reads Cell
 binary_cell_at column bytes =
-    if column.column_type == 8 then (do
+    if is_among (MYSQL_TYPE_LONGLONG ∷ []) column.column_type then (do
       n ← number_at 8 bytes
       Ok (Whole n.0 (has_flag 5 column.flags), n.1))
-    else if is_bytes_type column.column_type then (do
+    else if is_among bytes_types column.column_type then (do
       text ← lenenc_bytes_at bytes
       Ok (Text text.0, text.1))
     else Err UnsupportedType

@@ -44,7 +44,7 @@ column_view p = record {
   character_set = p.character_set;
   column_length = p.column_length;
   column_type = p.column_type;
-  flags = p.flags;
+  flags = p.flags.0;
   decimals = p.decimals;
 }
 

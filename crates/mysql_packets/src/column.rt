@@ -2,10 +2,12 @@
 
 ghost use Rattle.std.specs.Prelude.{◌≡◌, List, [], ◌∷◌, Ok};
 ghost use Rattle.mysql_packets.specs.Fields.{Gives, constants_at};
-ghost use Rattle.mysql_packets.specs.Packets.{column_at, is_column_type};
+ghost use Rattle.mysql_packets.specs.Packets.{column_type_at, column_at};
 ghost use Rattle.mysql_packets.specs.Views.{column_view};
 
 use crate::fields::{bytes_of, constant_of, constants_of, lenenc_bytes_of, u8_of, u16_of, u32_of};
+use bitflags::Flags;
+use mysql_const::{ColumnFlags, ColumnType};
 use mysql_wire::WireError;
 use std::alloc::Global;
 
@@ -21,8 +23,8 @@ pub struct Column {
     org_name: Vec<u8>,
     character_set: u16,
     column_length: u32,
-    column_type: u8,
-    flags: u16,
+    column_type: ColumnType,
+    flags: ColumnFlags,
     decimals: u8,
 }
 
@@ -76,16 +78,16 @@ impl Column {
         self.column_length
     }
 
-    /// The number of its type.
-    pub fn column_type(&self) -> u8
+    /// Its type.
+    pub fn column_type(&self) -> ColumnType
         ensures { result ≡ (column_view self.now).column_type }
     {
         self.column_type
     }
 
-    /// The bits of its flags.
-    pub fn flags(&self) -> u16
-        ensures { result ≡ (column_view self.now).flags }
+    /// Its flags.
+    pub fn flags(&self) -> ColumnFlags
+        ensures { result.0 ≡ (column_view self.now).flags }
     {
         self.flags
     }
@@ -100,10 +102,16 @@ impl Column {
 
 const CATALOG: [u8; 4] = [3, 100, 101, 102];
 
-fn names_type(n: u8) -> bool
-    ensures { result ≡ is_column_type n }
+/// A type, by its number.
+#[tactic(auto, unfolding(crate::specs::Packets::column_type_at))]
+fn column_type_of(bytes: &[u8]) -> Result<(ColumnType, &[u8]), WireError>
+    ensures { Gives (λ x. (x.0, x.1.now)) result (column_type_at bytes.now) }
 {
-    n <= 20 || n == 242 || n == 243 || n >= 245
+    let (number, rest) = u8_of(bytes)?;
+    match ColumnType::try_from(number) {
+        Ok(column_type) => Ok((column_type, rest)),
+        Err(_) => Err(WireError::UnknownValue),
+    }
 }
 
 /// A column packet. Refuses, from the left, UnexpectedEof, BadConstant for another catalog than `def` or another length
@@ -124,10 +132,7 @@ pub fn column_of(alloc: Global, bytes: &[u8]) -> Result<(Column, &[u8]), WireErr
     let (_, block) = constant_of(block, 12)?;
     let (character_set, block) = u16_of(block)?;
     let (column_length, block) = u32_of(block)?;
-    let (column_type, block) = u8_of(block)?;
-    if !names_type(column_type) {
-        return Err(WireError::UnknownValue);
-    }
+    let (column_type, block) = column_type_of(block)?;
     let (flags, block) = u16_of(block)?;
     let (decimals, _) = u8_of(block)?;
     let schema = Vec::from_slice(alloc, schema)?;
@@ -144,7 +149,7 @@ pub fn column_of(alloc: Global, bytes: &[u8]) -> Result<(Column, &[u8]), WireErr
         character_set,
         column_length,
         column_type,
-        flags,
+        flags: ColumnFlags::from_bits_retain(flags),
         decimals,
     };
     Ok((column, rest))

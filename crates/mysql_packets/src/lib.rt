@@ -4,7 +4,6 @@
 
 pub mod column;
 pub mod fields;
-pub mod flags;
 pub mod laws;
 pub mod okay;
 pub mod row;
@@ -12,7 +11,6 @@ pub mod server_fault;
 pub mod statement;
 
 pub use column::Column;
-pub use flags::{CapabilityFlags, StatusFlags};
 pub use okay::OkPacket;
 pub use row::Value;
 pub use server_fault::{ProgressReport, ServerError};

@@ -6,8 +6,8 @@ ghost use Rattle.mysql_packets.specs.Packets.{status_at, session_track, more_res
 ghost use Rattle.mysql_packets.specs.Views.{bytes_view, okay_view};
 
 use crate::fields::{bytes_of, constant_of, lenenc_bytes_of, lenenc_int_of, u16_of};
-use crate::flags::{CapabilityFlags, StatusFlags};
 use bitflags::Flags;
+use mysql_const::{CapabilityFlags, StatusFlags};
 use mysql_wire::WireError;
 use std::alloc::Global;
 

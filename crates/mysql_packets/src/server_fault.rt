@@ -6,8 +6,8 @@ ghost use Rattle.mysql_packets.specs.Packets.{protocol_41, server_fault_at, repo
 ghost use Rattle.mysql_packets.specs.Views.{server_fault_view, report_view};
 
 use crate::fields::{bytes_of, constant_of, lenenc_bytes_of, u8_of, u16_of, u24_of};
-use crate::flags::CapabilityFlags;
 use bitflags::Flags;
+use mysql_const::CapabilityFlags;
 use mysql_wire::WireError;
 use std::alloc::Global;
 

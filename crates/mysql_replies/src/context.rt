@@ -1,6 +1,6 @@
 //! What a reply is read by.
 
-use mysql_packets::CapabilityFlags;
+use mysql_const::CapabilityFlags;
 
 /// The kind of command that a reply answers.
 ///

@@ -10,7 +10,7 @@ use crate::context::{Context, ReplyKind};
 use crate::fault::ReplyFault;
 use crate::opening::{error_packet, named_of, starts_with};
 use bitflags::Flags;
-use mysql_packets::CapabilityFlags;
+use mysql_const::{CapabilityFlags, MAX_PAYLOAD_LEN};
 use mysql_packets::column::{Column, column_of};
 use mysql_packets::okay::{OkPacket, old_eof_of, result_set_terminator_of};
 use mysql_packets::row::{Value, text_cells_of};
@@ -74,7 +74,7 @@ fn limit_of_terminators(context: Context) -> usize
     ensures { result ≡ terminator_limit context }
 {
     if deprecates_eof(context.capabilities) {
-        16777215
+        MAX_PAYLOAD_LEN
     } else {
         9
     }

@@ -11,7 +11,7 @@ ghost use Rattle.mysql_replies.specs.Views.{Gives, named, opening_view};
 
 use crate::context::{Context, ReplyKind};
 use crate::fault::ReplyFault;
-use mysql_packets::CapabilityFlags;
+use mysql_const::CapabilityFlags;
 use mysql_packets::fields::lenenc_int_of;
 use mysql_packets::okay::{OkPacket, okay_of};
 use mysql_packets::server_fault::{ServerError, server_error_of};

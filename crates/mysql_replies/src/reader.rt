@@ -14,7 +14,7 @@ use crate::framing::{bytes_are_bytes, framing_laws};
 use crate::results::Reply;
 use crate::state::ReplyState;
 use bytes::{Buf, BytesMut};
-use mysql_packets::CapabilityFlags;
+use mysql_const::CapabilityFlags;
 use mysql_wire::{PacketCodec, PacketCodecError, PartialHeader};
 use std::alloc::Global;
 use std::marker::Model;

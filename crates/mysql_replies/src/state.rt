@@ -18,7 +18,7 @@ use crate::opening::named_of;
 use crate::results::{Reply, ReplyEnd, ReplyResult};
 use crate::steps::step;
 use bitflags::Flags;
-use mysql_packets::CapabilityFlags;
+use mysql_const::CapabilityFlags;
 use mysql_packets::server_fault::{ProgressReport, report_of};
 use std::alloc::Global;
 use std::mem;
