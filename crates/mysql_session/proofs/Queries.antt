@@ -1,5 +1,5 @@
 -- The steps of sending sets one after another.
-use Rattle.std.proofs.Common.{◌≡◌, ℕ, suc, ◌+◌, ◌-◌, ◌<◌, ◌≤◌, List, [], ◌∷◌, ◌++◌, length, take, drop, get_or, Option, Some, None, Result, Ok, Err, refl, sym, ◌∙◌, ap, subst, arith, inl, inr, append_assoc, add-one, drop-cons, zero-add, length-take}
+use Rattle.std.proofs.Common.{◌≡◌, ℕ, suc, ◌+◌, ◌-◌, ◌<◌, ◌≤◌, List, [], ◌∷◌, ◌++◌, length, take, drop, get_or, Option, Some, None, refl, sym, ◌∙◌, ap, subst, arith, inl, inr, append_assoc, add-one, drop-cons, length-take}
 use Rattle.std.specs.Option.{option_or}
 use Rattle.std.proofs.lemmas.List.{append-nil, take-append-le, take_all, drop_all}
 use Rattle.mysql_wire.specs.Framing.{framing}
@@ -12,15 +12,14 @@ use Rattle.mysql_values.specs.Laws.{OneTokens}
 use Rattle.mysql_values.specs.Tokens.{HasTokens}
 use Rattle.mysql_values.specs.Queries.{HasPlaces, places_from, Slices}
 use Rattle.mysql_session.specs.declared.refusal.Refusal.{Refusal}
-use Rattle.mysql_session.specs.declared.refusal.Refusal.TheVariants as refusals
 use Rattle.mysql_session.specs.Commands.{query_command}
 use Rattle.mysql_session.specs.Sent.{sent_as_text, text_of, values_of}
 use Rattle.mysql_session.specs.Cause.{first_of_sets, places_cause, text_cause, text_set_cause}
-use Rattle.mysql_session.specs.Sending.{RefusesText, SendsText}
-use Rattle.mysql_session.specs.Sets.{AppendsQuery, AreRead, IsSetCause, QueriesSent, RefusesSet}
+use Rattle.mysql_session.specs.Sending.{RefusesText}
+use Rattle.mysql_session.specs.Sets.{AppendsQuery, AreRead, QueriesSent, RefusesSet}
 
 -- a front that is kept is no longer than the whole
-front_length : (old out : List ℕ) → take (length old) out ≡ old → length old ≤ length out
+pub front_length : (old out : List ℕ) → take (length old) out ≡ old → length old ≤ length out
 front_length old out same = omega (arith, length-take (length old) out, ap length same)
 
 -- so many sets were sent, each with no cause: what is left to send goes on from what stands

@@ -1,6 +1,6 @@
 -- Text queries that were sent are read back as the meanings of their sets.
-use Rattle.std.proofs.Common.{◌≡◌, ℕ, zero, suc, ◌+◌, ◌-◌, ◌^◌, ◌<◌, ◌≤◌, ◌==◌, not, Bool, true, false, List, [], ◌∷◌, ◌++◌, length, map, take, get_or, Option, Some, None, Result, Ok, Err, refl, sym, ◌∙◌, ap, subst, arith, inl, inr, is_some, nat_lt, length-take, cond}
-use Rattle.std.specs.Prelude.{IsTrue}
+use Rattle.std.proofs.Common.{◌≡◌, ℕ, zero, suc, ◌+◌, ◌-◌, ◌^◌, ◌<◌, ◌≤◌, ◌==◌, not, Bool, true, false, List, [], ◌∷◌, length, map, take, get_or, Option, Some, None, Result, Ok, Err, refl, sym, ap, subst, arith, inr, is_some, nat_lt, length-take, cond}
+use Rattle.std.specs.Prelude.{IsTrue, OnOk}
 use Rattle.std.specs.List.{AllByRecursion, flat_map, filter_map, join_with_byte, list_any, list_all, position_from, range_with_len}
 use Rattle.mysql_values.specs.declared.placeholders.Place.{Place}
 use Rattle.std.specs.Option.{option_map, option_or}
@@ -8,7 +8,7 @@ use Rattle.std.specs.Result.{result_unwrap_or}
 use Rattle.std.proofs.lemmas.List.{append-nil}
 use Rattle.std.proofs.lemmas.Bool.{ltb-false}
 use Rattle.mysql_wire.specs.Framing.{chunks}
-use Rattle.mysql_wire.specs.Stream.{framings, Split, IsSplit, IsRest, Rest}
+use Rattle.mysql_wire.specs.Stream.{framings, IsSplit}
 use Rattle.mysql_wire.specs.Stream.Rest.{Empty}
 use Rattle.mysql_wire.specs.Stream.Numbering.{EachFromZero}
 use Rattle.mysql_values.specs.declared.value.Value.{Value}
@@ -24,7 +24,7 @@ use Rattle.mysql_commands.specs.Query.{all_alone, place_count}
 use Rattle.mysql_commands.specs.Layout.{Conversation}
 use Rattle.mysql_commands.specs.InForce.{Standing, nothing_yet, standing_after, is_end, is_waiting, said_by, since, speaks_of_place, waiting_for}
 use Rattle.mysql_commands.specs.Reading.{Set, PayloadReadsAs}
-use Rattle.mysql_commands.specs.Audit.{Audits, Read}
+use Rattle.mysql_commands.specs.Audit.{Audits}
 use Rattle.mysql_session.specs.declared.refusal.Refusal.{Refusal}
 use Rattle.mysql_session.specs.declared.refusal.Refusal.TheVariants as refusals
 use Rattle.mysql_session.specs.Commands.{query_command}
@@ -32,6 +32,11 @@ use Rattle.mysql_session.specs.Sent.{sent_as_text, text_of, values_of}
 use Rattle.mysql_session.specs.Cause.{cause_if, first_of_sets, over_cause, places_cause, text_set_cause, values_cause}
 use Rattle.mysql_session.specs.Sending.{AreMeanings, ReadsBack}
 use Rattle.mysql_session.specs.Sets.{AreRead, QueriesSent}
+
+-- what holds where a call succeeds is taken on
+pub on_ok : {E P Q : Type 0} (answer : Result (Unit {0}) E) → (P → Q) → OnOk answer P → OnOk answer Q
+on_ok (Ok done) step holds = step holds
+on_ok (Err error) step holds = tt
 
 -- what is read of one query
 abbrev one : List Content → List Set
@@ -104,12 +109,12 @@ audits c alone tokens sets contents read few =
     }
 
 -- where neither is a cause, neither is
-neither : (first second : Option Refusal) → option_or first second ≡ None → (first ≡ None) × (second ≡ None)
+pub neither : (first second : Option Refusal) → option_or first second ≡ None → (first ≡ None) × (second ≡ None)
 neither None second none = (refl, none)
 neither (Some cause) second none = cc
 
 -- a command that is no cause is within the limit
-short_command : (command : List Value → List ℕ) (count room set : ℕ) (values : List Value) → values_cause command count room set values ≡ None → length (command values) ≤ room
+pub short_command : (command : List Value → List ℕ) (count room set : ℕ) (values : List Value) → values_cause command count room set values ≡ None → length (command values) ≤ room
 short_command command count room set values none =
     let behind = neither (cause_if (not (length values == count)) (refusals.WrongCount set)) _ none in
     let last = neither (option_map (λ place. refusals.Float set place) (first_float values)) _ behind.1 in

@@ -1,25 +1,23 @@
 -- From a text that is bound to the query that is sent, and from why none is bound to the refusal.
-use Rattle.std.proofs.Common.{◌≡◌, ◌⊎◌, ℕ, ◌-◌, ◌<◌, ◌≤◌, ◌==◌, Bool, true, false, not, nat_lt, List, [], ◌∷◌, ◌++◌, length, map, Option, Some, None, Result, Ok, Err, refl, sym, ◌∙◌, ap, subst, arith, inl, inr, if◌then◌else◌, unwrap_or}
+use Rattle.std.proofs.Common.{◌≡◌, ◌⊎◌, ℕ, ◌-◌, ◌<◌, ◌≤◌, ◌==◌, Bool, true, false, not, nat_lt, List, [], ◌∷◌, ◌++◌, length, map, Option, Some, None, Result, Ok, Err, refl, sym, ◌∙◌, ap, subst, inl, inr, if◌then◌else◌, unwrap_or}
 use Rattle.std.proofs.lemmas.Bool.{le-ltb, lt-ltb}
 use Rattle.std.specs.Option.{option_map, option_or}
 use Rattle.std.specs.Result.{result_unwrap_or}
 use Rattle.mysql_values.specs.declared.value.Value.{Value}
 use Rattle.mysql_values.specs.declared.params.Params.{Params}
 use Rattle.mysql_values.specs.declared.params.ParamsError.{ParamsError}
-use Rattle.mysql_values.specs.declared.params.SetError.TheVariants as set_error
 use Rattle.mysql_values.specs.declared.bind.BindError.{BindError}
 use Rattle.mysql_values.specs.declared.bind.BindError.TheVariants as bind_error
-use Rattle.mysql_values.specs.Tokens.{HasTokens}
 use Rattle.mysql_values.specs.Queries.{is_mixed, places_from, pieces_of}
 use Rattle.mysql_values.specs.declared.content.Content.{Content}
 use Rattle.mysql_values.specs.Params.{names_of, values_over, IsMeaning}
 use Rattle.mysql_values.specs.Values.{literal_of}
-use Rattle.mysql_values.specs.Binding.{IsBound, IsBindCause, bind_cause, alone_cause, float_cause, first_float, first_not_alone, interleaved, values_cause as bind_values_cause}
+use Rattle.mysql_values.specs.Binding.{IsBound, IsBindCause, alone_cause, float_cause, first_float, first_not_alone, interleaved, values_cause as bind_values_cause}
 use Rattle.mysql_session.specs.declared.refusal.Refusal.{Refusal}
 use Rattle.mysql_session.specs.declared.refusal.Refusal.TheVariants as refusals
 use Rattle.mysql_session.specs.Commands.{query_command}
 use Rattle.mysql_session.specs.Sent.{text_of, values_of, literal_text}
-use Rattle.mysql_session.specs.Cause.{cause_if, first_some, values_cause, over_cause, places_cause, text_set_cause}
+use Rattle.mysql_session.specs.Cause.{cause_if, values_cause, over_cause, text_set_cause}
 use Rattle.mysql_wire.specs.Framing.{framing}
 use Rattle.mysql_values.specs.Queries.{Lexes, Slices}
 use Rattle.mysql_session.specs.Sets.{refusal_by, IsSetCause, RefusesSet, AppendsQuery}

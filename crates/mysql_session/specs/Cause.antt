@@ -1,19 +1,19 @@
 -- Why parameter sets of a query are not sent: the first cause that holds, in the order of the refusals.
--- MySQL: Client/Server Protocol, "COM_QUERY"; `max_allowed_packet` of the MySQL Reference Manual, "Server System Variables".
-use Rattle.std.specs.Prelude.{ℕ, ◌+◌, ◌-◌, ◌==◌, Bool, true, false, not, nat_lt, ◌&&◌, List, [], ◌∷◌, length, Option, None, Some, Result, Ok, Err, if◌then◌else◌}
+-- MySQL: Client/Server Protocol, "COM_QUERY", "COM_STMT_PREPARE", "COM_STMT_EXECUTE"; `max_allowed_packet` of the MySQL Reference Manual, "Server System Variables".
+use Rattle.std.specs.Prelude.{ℕ, ◌+◌, ◌-◌, ◌==◌, Bool, not, nat_lt, List, [], ◌∷◌, length, Option, None, Some, Result, Ok, Err, if◌then◌else◌}
 use Rattle.std.specs.Option.{option_map, option_or}
 use Rattle.mysql_values.specs.declared.value.Value.{Value}
 use Rattle.mysql_values.specs.declared.params.Params.{Params as ParamSet}
 use Rattle.mysql_values.specs.declared.params.ParamsError.{ParamsError}
 use Rattle.mysql_values.specs.declared.params.SetError.TheVariants as set_error
 use Rattle.mysql_values.specs.declared.placeholders.Place.{Place}
-use Rattle.mysql_values.specs.Queries.{is_mixed, places_from}
+use Rattle.mysql_values.specs.Queries.{is_mixed}
 use Rattle.mysql_values.specs.Params.{names_of, values_over}
 use Rattle.mysql_values.specs.Binding.{first_not_alone, first_float}
 use Rattle.mysql_session.specs.declared.refusal.Refusal.{Refusal}
 use Rattle.mysql_session.specs.declared.refusal.Refusal.TheVariants as refusal
-use Rattle.mysql_session.specs.Commands.{query_command}
-use Rattle.mysql_session.specs.Sent.{text_of}
+use Rattle.mysql_session.specs.Commands.{execute_command, prepare_command, query_command}
+use Rattle.mysql_session.specs.Sent.{parsed_of, text_of}
 
 -- the first cause in a list
 abbrev pub first_some : List (Option Refusal) → Option Refusal
@@ -54,3 +54,24 @@ places_cause places = option_or (cause_if (is_mixed places) refusal.Mixed) (opti
 abbrev pub text_cause : List (List ℕ) → List Place → ℕ → List ParamSet → Option Refusal
 text_cause tokens places limit sets =
     option_or (places_cause places) (first_of_sets (text_set_cause tokens (length places) (limit - 4)) 0 sets)
+
+-- the most placeholders that a statement can have
+abbrev pub max_places : ℕ
+max_places = 65535
+
+-- what speaks against preparing a query with these placeholders, parsed like this: both kinds occur, they are too many, the prepare is too long
+abbrev pub prepare_cause : List Place → List ℕ → ℕ → Option Refusal
+prepare_cause places parsed room = first_some (
+    cause_if (is_mixed places) refusal.Mixed ∷
+    cause_if (nat_lt max_places (length places)) refusal.TooManyPlaces ∷
+    cause_if (nat_lt room (length (prepare_command parsed))) refusal.PrepareTooLarge ∷ [])
+
+-- what speaks against executing a query with these names and so many placeholders with a set
+abbrev pub execution_cause : List (List ℕ) → ℕ → ℕ → ℕ → ℕ → ParamSet → Option Refusal
+execution_cause names id count room set params = over_cause (execute_command id) count room set (values_over names params)
+
+-- what speaks against sending sets of a query with these tokens and placeholders by execute
+abbrev pub executions_cause : List (List ℕ) → List Place → ℕ → ℕ → List ParamSet → Option Refusal
+executions_cause tokens places id limit sets =
+    option_or (prepare_cause places (parsed_of tokens) (limit - 4))
+    (first_of_sets (execution_cause (names_of tokens) id (length places) (limit - 4)) 0 sets)

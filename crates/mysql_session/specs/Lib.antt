@@ -3,3 +3,4 @@ pub mod Sent
 pub mod Cause
 pub mod Sending
 pub mod Sets
+pub mod Executions

@@ -1,10 +1,13 @@
 //! Parameter sets of one query as streams of commands, and back.
 #![tactic(auto)]
 
+mod execute_command;
+mod executions;
 mod program;
 mod refusal;
 mod road;
 mod sender;
+mod text_queries;
 
 pub use mysql_commands::{Audit, End, Receiver, ReceiverError, StreamFault, receive};
 pub use mysql_values::{Content, Params, ParamsError, SetError, Value};

@@ -1,101 +1,15 @@
 //! Parameter sets as commands.
 
-ghost use Rattle.std.specs.Prelude.{◌≡◌, ◌<◌, ◌≤◌, ◌-◌, ◌^◌, IfErr, IfOk, List, None, OnErr, OnOk, Option, Some, false, length, take, vec_len, ℕ};
-ghost use Rattle.mysql_values.specs.Queries.{HasPlaces};
-ghost use Rattle.mysql_values.specs.Binding.{first_not_alone as not_alone};
-ghost use Rattle.mysql_session.specs.Cause.{places_cause};
-ghost use Rattle.mysql_session.specs.Sending.{ReadsBack, RefusesText, SendsText};
-ghost use Rattle.mysql_session.specs.Sets.{AppendsQuery, QueriesSent, RefusesSet, refusal_by};
-ghost use Rattle.mysql_session.specs.declared.road.Road.TheVariants.{Text};
+ghost use Rattle.std.specs.Prelude.{◌≡◌, ◌≤◌, IfErr, OnErr, OnOk, length};
+ghost use Rattle.mysql_session.specs.Sending.{CanBeSent, ReadsBack, Refuses, Sends};
 
+use crate::executions::put_executions;
 use crate::refusal::Refusal;
 use crate::road::Road;
-use mysql_values::laws::tokens_of_a_text;
-use mysql_values::{
-    BindError, Params, Place, SetError, bind_text, first_not_alone, is_mixed, places,
-};
-use mysql_wire::packet_to_chunks;
+use crate::text_queries::put_queries;
+use mysql_commands::laws::written_cells_are_held;
+use mysql_values::Params;
 use std::alloc::Global;
-
-/// Whether a text query can carry literals in these placeholders.
-fn check_places(places: &[Place]) -> Result<(), Refusal>
-    ensures ok { OnOk result (places_cause places.now ≡ None) }
-    ensures err { IfErr result (λ refusal. places_cause places.now ≡ Some refusal) }
-{
-    if is_mixed(places) {
-        return Err(Refusal::Mixed);
-    }
-    match first_not_alone(places) {
-        Some(place) => Err(Refusal::NotAlone(place)),
-        None => Ok(()),
-    }
-}
-
-/// The refusal of a set for which no text is bound.
-fn refusal_of(set: usize, error: BindError) -> Refusal
-    ensures { result ≡ refusal_by set error }
-{
-    match error {
-        BindError::Mixed => Refusal::Mixed,
-        BindError::NotAlone(place) => Refusal::NotAlone(place),
-        BindError::Params(error) => Refusal::Params(set, SetError::Params(error)),
-        BindError::WrongCount => Refusal::WrongCount(set),
-        BindError::Float(place) => Refusal::Float(set, place),
-        BindError::Memory => Refusal::Memory,
-    }
-}
-
-/// Appends the text query of one set.
-fn put_query(
-    alloc: Global,
-    query: &[u8],
-    set: usize,
-    params: &Params,
-    limit: usize,
-    command: &mut Vec<u8>,
-    out: &mut Vec<u8>,
-) -> Result<(), Refusal>
-    requires { 4 ≤ limit }
-    ensures ok { OnOk result (AppendsQuery query.now params.now set limit out.old.items out.new.items) }
-    ensures err { IfErr result (RefusesSet query.now params.now set limit) }
-    ensures kept { OnErr result (out.new.items ≡ out.old.items) }
-{
-    command.clear();
-    command.push(3)?;
-    if let Err(error) = bind_text(alloc, query, params, command) {
-        return Err(refusal_of(set, error));
-    }
-    if command.len() > limit - 4 {
-        return Err(Refusal::PacketTooLarge(set));
-    }
-    packet_to_chunks(0, command, out)?;
-    Ok(())
-}
-
-/// Appends the text query of each set. After a refusal what stood before stands in front.
-fn put_queries(
-    alloc: Global,
-    query: &[u8],
-    sets: &[Params],
-    limit: usize,
-    out: &mut Vec<u8>,
-) -> Result<(), Refusal>
-    requires { 4 ≤ limit }
-    ensures ok { OnOk result (QueriesSent query.now sets.now limit out.old.items out.new.items) }
-    ensures err { IfErr result (RefusesText query.now sets.now limit) }
-    ensures kept { take (vec_len out.old) out.new.items ≡ out.old.items }
-{
-    tokens_of_a_text();
-    let Ok(places) = places(alloc, query) else {
-        return Err(Refusal::Memory);
-    };
-    check_places(&places)?;
-    let mut command = Vec::new(alloc);
-    'sets: for (set, params) in sets.iter().enumerate() {
-        put_query(alloc, query, set, params, limit, &mut command, out)?;
-    }
-    Ok(())
-}
 
 /// How many sets there are: a number that fits, as the proof below uses.
 fn counted(sets: &[Params]) -> usize
@@ -105,14 +19,20 @@ fn counted(sets: &[Params]) -> usize
 }
 
 /// Appends to `out` the commands that carry parameter sets of a query to a server, as framed packets, each numbered from 0:
-/// by [`Road::Text`] a query for each set, its values as literals in the places of the placeholders. Sets and places count
+/// by [`Road::Text`] a query for each set, its values as literals in the places of the placeholders; by [`Road::Execute`] one
+/// prepare, also where there are no sets, and an execution of the statement `stmt_id` for each set. Sets and places count
 /// from 0; a payload has at most `limit - 4` bytes. `receive` with the same query, id and limit reads the sets back.
 ///
-/// # Errors
-/// The first cause that holds, in the order of [`Refusal`]: `Mixed`, `NotAlone`; set by set `Params`, `WrongCount`, `Float`,
-/// `PacketTooLarge`; `Memory` where a growth was refused. `out` is then as it was.
+/// A stream of both roads reads as the sets one after another, by the law `mysql_commands::laws::whole_streams_join`.
 ///
-/// (MySQL: Client/Server Protocol, "COM_QUERY".)
+/// The limit is at least 4, and by execute at most 16777219; the road is not [`Road::Bulk`].
+///
+/// # Errors
+/// The first cause that holds, in the order of [`Refusal`]: `Mixed`; by text `NotAlone`; by execute `TooManyPlaces`,
+/// `PrepareTooLarge`; set by set `Params`, `WrongCount`, `Float`, `PacketTooLarge`; `Memory` where a growth was refused. `out`
+/// is then as it was.
+///
+/// (MySQL: Client/Server Protocol, "COM_QUERY", "COM_STMT_PREPARE", "COM_STMT_EXECUTE".)
 pub fn send(
     alloc: Global,
     query: &[u8],
@@ -123,20 +43,22 @@ pub fn send(
     out: &mut Vec<u8>,
 ) -> Result<(), Refusal>
     requires limit { 4 ≤ limit }
-    requires road { road ≡ Text }
-    ensures refused { IfErr result (RefusesText query.now sets.now limit) }
+    requires road { CanBeSent road limit }
+    ensures refused { IfErr result (Refuses road query.now sets.now stmt_id limit) }
     ensures kept { OnErr result (out.new.items ≡ out.old.items) }
-    ensures sent { OnOk result (SendsText query.now sets.now limit out.old.items out.new.items) }
+    ensures sent { OnOk result (Sends road query.now sets.now stmt_id limit out.old.items out.new.items) }
     ensures read_back { OnOk result (ReadsBack query.now sets.now stmt_id limit out.old.items out.new.items) }
 {
-    let _ = (road, stmt_id);
+    written_cells_are_held();
     let _count = counted(sets);
     let start = out.len();
-    match put_queries(alloc, query, sets, limit, out) {
-        Ok(()) => Ok(()),
-        Err(refusal) => {
-            out.truncate(start);
-            Err(refusal)
-        }
+    let sent = match road {
+        Road::Text => put_queries(alloc, query, sets, limit, out),
+        Road::Execute => put_executions(alloc, query, sets, stmt_id, limit, out),
+        Road::Bulk => unreachable!(),
+    };
+    if sent.is_err() {
+        out.truncate(start);
     }
+    sent
 }

@@ -1,7 +1,7 @@
-use Rattle.std.proofs.Common.{◌≡◌, ◌++◌, ◌∷◌, [], ℕ, List, ap, ◌∙◌, arith}
+use Rattle.std.proofs.Common.{◌≡◌, ◌++◌, ◌∷◌, [], ap, ◌∙◌, arith}
 use Rattle.mysql_wire.specs.Framing.{framing}
 use Rattle.mysql_session.proofs.Texts.{bound_to, refused, refused_long, sent_query}
-use Rattle.mysql_session.proofs.sender.put_query.Goals as goal
+use Rattle.mysql_session.proofs.text_queries.put_query.Goals as goal
 
 pub returns-in-Err-clause-err : goal.returns-in-Err-clause-err
 returns-in-Err-clause-err c = rw c.refusal_of.ensures (refused c.args.query.now c.args.params.now c.args.set c.args.limit c.in-Err.error c.in-Err.ensures.err)

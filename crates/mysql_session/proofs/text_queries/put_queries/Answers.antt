@@ -1,7 +1,7 @@
-use Rattle.std.proofs.Common.{◌≡◌, ◌+◌, ℕ, List, get_or, drop, ap, ◌∙◌, sym, arith, drop-cons, ◌∷◌, suc}
+use Rattle.std.proofs.Common.{arith}
 use Rattle.std.proofs.lemmas.Result.{err_from_is_err_and}
 use Rattle.mysql_session.proofs.Queries.{sent_next, refused_at, all_sent, next_set}
-use Rattle.mysql_session.proofs.sender.put_queries.Goals as goal
+use Rattle.mysql_session.proofs.text_queries.put_queries.Goals as goal
 
 pub returns-in_err-put_query-clause-err : goal.returns-in_err-put_query-clause-err
 returns-in_err-put_query-clause-err c =
