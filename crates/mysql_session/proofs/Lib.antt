@@ -6,3 +6,5 @@ pub mod ExecuteBack
 pub mod SentSets
 pub mod PutTogether
 pub mod StreamBack
+pub mod JoinedStreams
+pub mod OneMeaning

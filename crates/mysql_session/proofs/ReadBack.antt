@@ -39,7 +39,7 @@ on_ok (Ok done) step holds = step holds
 on_ok (Err error) step holds = tt
 
 -- what is read of one query
-abbrev one : List Content → List Set
+abbrev pub one : List Content → List Set
 one contents = contents ∷ []
 
 -- no text query ends pieces
@@ -59,7 +59,7 @@ no_piece c place tokens (params ∷ sets) = no_piece c place tokens sets
 nothing_waits : (c : Conversation) (place : ℕ) (tokens : List (List ℕ)) (sets : List Params) → waiting_for c None (sent_as_text tokens sets) place ≡ None
 nothing_waits c place tokens sets = rw (no_end tokens sets, since_all tokens sets, no_piece c place tokens sets) refl
 
-any_false : (test : ℕ → Bool) (xs : List ℕ) → ((k : ℕ) → test k ≡ false) → list_any test xs ≡ false
+pub any_false : (test : ℕ → Bool) (xs : List ℕ) → ((k : ℕ) → test k ≡ false) → list_any test xs ≡ false
 any_false test [] fails = refl
 any_false test (x ∷ xs) fails = rw (fails x) (any_false test xs fails)
 
@@ -82,7 +82,7 @@ as_many query tokens [] (contents ∷ others) read = absurd read
 as_many query tokens (params ∷ sets) [] read = absurd read
 as_many query tokens (params ∷ sets) (contents ∷ others) read = ap (λ n. suc n) (as_many query tokens sets others read.1.1)
 
-joined_ones : (contents : List (List Content)) → flat_map (λ sets. sets) (map one contents) ≡ contents
+pub joined_ones : (contents : List (List Content)) → flat_map (λ sets. sets) (map one contents) ≡ contents
 joined_ones [] = refl
 joined_ones (contents ∷ others) = ap (λ l. contents ∷ l) (joined_ones others)
 

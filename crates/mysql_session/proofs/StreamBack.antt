@@ -1,6 +1,6 @@
 -- A prepare and executions that were sent are read back as the meanings of their sets.
 use Rattle.std.proofs.Common.{◌≡◌, ℕ, zero, suc, ◌+◌, ◌-◌, ◌^◌, ◌<◌, ◌≤◌, ◌==◌, not, Bool, true, false, List, [], ◌∷◌, length, map, filter, take, get_or, Option, Some, None, Result, Ok, Err, refl, sym, ◌∙◌, ap, subst, arith, inr, is_some, is_none, nat_lt, length-take, cond, unwrap_or}
-use Rattle.std.specs.List.{AllByRecursion, flat_map, filter_map, list_any, position_from, range_with_len}
+use Rattle.std.specs.List.{AllByRecursion, filter_map, position_from, range_with_len}
 use Rattle.std.specs.Option.{option_map, option_or}
 use Rattle.std.specs.Result.{result_unwrap_or}
 use Rattle.std.proofs.lemmas.Bool.{eqb-true, ltb-false}
@@ -24,7 +24,7 @@ use Rattle.mysql_commands.specs.Audit.{Audits}
 use Rattle.mysql_commands.specs.InForce.{Standing, is_end, is_waiting, nothing_yet, said_by, since, speaks_of_prepared, standing_after, waiting_for}
 use Rattle.mysql_commands.specs.Layout.{Conversation}
 use Rattle.mysql_commands.specs.Query.{place_count}
-use Rattle.mysql_commands.specs.Reading.{PayloadReadsAs, ReadsAs, Set}
+use Rattle.mysql_commands.specs.Reading.{PayloadReadsAs, ReadsAs}
 use Rattle.mysql_session.specs.declared.refusal.Refusal.TheVariants as refusals
 use Rattle.mysql_values.specs.AsSql.{FitsFields}
 use Rattle.mysql_commands.specs.Laws.{WrittenCellsAreHeld}
@@ -34,7 +34,7 @@ use Rattle.mysql_session.specs.Cause.{cause_if, execution_cause, first_of_sets, 
 use Rattle.mysql_session.specs.Sending.{AreMeanings, ReadsBack}
 use Rattle.mysql_session.specs.Executions.{ExecutionsSent}
 use Rattle.mysql_session.proofs.ExecuteBack.{execution_reads}
-use Rattle.mysql_session.proofs.ReadBack.{neither, short_command, splits}
+use Rattle.mysql_session.proofs.ReadBack.{any_false, joined_ones, neither, one, short_command, splits}
 
 -- ---- what is in force
 
@@ -53,10 +53,6 @@ all_end id tokens (params ∷ sets) = all_end id tokens sets
 
 no_pieces : (c : Conversation) (place : ℕ) (parsed : List ℕ) (id : ℕ) (tokens : List (List ℕ)) (sets : List Params) → waiting_for c None (prepare_command parsed ∷ executions id tokens sets) place ≡ None
 no_pieces c place parsed id tokens sets = rw (all_end id tokens sets) refl
-
-any_false : (test : ℕ → Bool) (xs : List ℕ) → ((k : ℕ) → test k ≡ false) → list_any test xs ≡ false
-any_false test [] fails = refl
-any_false test (x ∷ xs) fails = rw (fails x) (any_false test xs fails)
 
 not_waiting : (c : Conversation) (parsed : List ℕ) (id : ℕ) (tokens : List (List ℕ)) (sets : List Params) → is_waiting c (standing_after c nothing_yet (prepare_command parsed ∷ executions id tokens sets)) ≡ false
 not_waiting c parsed id tokens sets =
@@ -129,15 +125,8 @@ good names id count room set params none = good_over names id count room set par
 abbrev contents_of_set : List (List ℕ) → Params → List Content
 contents_of_set tokens params = map held (values_of tokens params)
 
-abbrev one : List Content → List Set
-one contents = contents ∷ []
-
 abbrev Fit : List (List ℕ) → Params → Type 0
 Fit tokens params = AllByRecursion (λ value. FitsFields value) (values_of tokens params)
-
-joined_ones : (contents : List (List Content)) → flat_map (λ sets. sets) (map one contents) ≡ contents
-joined_ones [] = refl
-joined_ones (contents ∷ others) = ap (λ l. contents ∷ l) (joined_ones others)
 
 module _ (query : List ℕ) (tokens : List (List ℕ)) (has : HasTokens query tokens) (id limit : ℕ) where
   abbrev names : List (List ℕ)

@@ -27,6 +27,7 @@ query_command text = com_query ∷ text
 abbrev pub prepare_command : List ℕ → List ℕ
 prepare_command parsed = com_stmt_prepare ∷ parsed
 
+-- whether nothing is sent for the value but its bit
 abbrev pub is_null : Value → Bool
 is_null NULL = true
 is_null (Bytes bytes) = false

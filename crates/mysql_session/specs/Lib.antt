@@ -4,3 +4,4 @@ pub mod Cause
 pub mod Sending
 pub mod Sets
 pub mod Executions
+pub mod Laws

@@ -51,7 +51,7 @@ pub record SendsExecutions (query : List ℕ) (sets : List Params) (id limit : �
   pub none : executions_cause tokens (places_from query 0 tokens) id limit sets ≡ None
   pub appended : new ≡ old ++ framings (sent_as_executions id tokens sets) EachFromZero
 
--- The roads that can be sent: by text any limit, by execute one that leaves each execution in one chunk.
+-- The roads that are sent: by text with any limit, by execute with one that leaves no execution longer than the bytes that a chunk carries.
 abbrev pub CanBeSent : Road → ℕ → Type 0
 CanBeSent Text limit = Unit {0}
 CanBeSent Execute limit = limit ≤ max_payload_len + 4

@@ -3,6 +3,7 @@
 
 mod execute_command;
 mod executions;
+pub mod laws;
 mod program;
 mod refusal;
 mod road;

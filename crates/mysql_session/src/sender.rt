@@ -23,7 +23,8 @@ fn counted(sets: &[Params]) -> usize
 /// prepare, also where there are no sets, and an execution of the statement `stmt_id` for each set. Sets and places count
 /// from 0; a payload has at most `limit - 4` bytes. `receive` with the same query, id and limit reads the sets back.
 ///
-/// A stream of both roads reads as the sets one after another, by the law `mysql_commands::laws::whole_streams_join`.
+/// What is appended behind another stream of the same query, id and limit, by whichever road, reads behind its sets: the law
+/// `laws::sent_streams_join`, which stands on `mysql_commands::laws::whole_streams_join`.
 ///
 /// The limit is at least 4, and by execute at most 16777219; the road is not [`Road::Bulk`].
 ///

@@ -1,7 +1,7 @@
 //! Why sets are not sent.
 
 use crate::support::{named, sent};
-use mysql_session::{Params, ParamsError, Refusal, SetError, Value};
+use mysql_session::{Params, ParamsError, Refusal, Road, SetError, Value};
 use std::alloc::{AllocError, Global};
 
 /// The refusal of two sets over a query, behind five bytes that have to stay; None where they are sent.
@@ -10,14 +10,19 @@ fn refusal(
     query: &[u8],
     first: Params,
     second: Params,
+    road: Road,
     limit: usize,
 ) -> Result<Option<Refusal>, AllocError> {
     let mut sets = Vec::new(alloc);
     sets.push(first)?;
     sets.push(second)?;
     let mut out = Vec::from_slice(alloc, b"front")?;
-    let limit = limit.max(4);
-    match sent(alloc, query, &sets, limit, &mut out) {
+    let limit = limit.max(4).min(16777219);
+    let answer = match road {
+        Road::Execute => sent(alloc, query, &sets, Road::Execute, limit, &mut out),
+        _ => sent(alloc, query, &sets, Road::Text, limit, &mut out),
+    };
+    match answer {
         Ok(()) => Ok(None),
         Err(refusal) => {
             if out.as_slice() == b"front".as_slice() {
@@ -42,12 +47,17 @@ fn is(answer: Result<Option<Refusal>, AllocError>, wanted: Refusal) -> bool {
     }
 }
 
-fn refused_by_limit(alloc: Global, limit: usize) -> Result<Option<Refusal>, AllocError> {
+fn refused_by_limit(
+    alloc: Global,
+    road: Road,
+    limit: usize,
+) -> Result<Option<Refusal>, AllocError> {
     refusal(
         alloc,
         b"SELECT :a",
         one(alloc, Value::Int(1))?,
         one(alloc, Value::Int(10))?,
+        road,
         limit,
     )
 }
@@ -55,17 +65,33 @@ fn refused_by_limit(alloc: Global, limit: usize) -> Result<Option<Refusal>, Allo
 #[test]
 fn too_large(rt: HostRuntime) {
     let alloc = rt.alloc();
-    assert!(rt; is(refused_by_limit(alloc, 12), Refusal::PacketTooLarge(0)));
-    assert!(rt; is(refused_by_limit(alloc, 13), Refusal::PacketTooLarge(1)));
-    assert!(rt; !matches!(refused_by_limit(alloc, 14), Ok(Some(_))));
+    assert!(rt;
+        is(
+            refused_by_limit(alloc, Road::Text, 12),
+            Refusal::PacketTooLarge(0)
+        )
+    );
+    assert!(rt;
+        is(
+            refused_by_limit(alloc, Road::Text, 13),
+            Refusal::PacketTooLarge(1)
+        )
+    );
+    assert!(rt; !matches!(refused_by_limit(alloc, Road::Text, 14), Ok(Some(_))));
 }
 
-fn refused_query(alloc: Global, query: &[u8], value: Value) -> Result<Option<Refusal>, AllocError> {
+fn refused_query(
+    alloc: Global,
+    query: &[u8],
+    value: Value,
+    road: Road,
+) -> Result<Option<Refusal>, AllocError> {
     refusal(
         alloc,
         query,
         one(alloc, Value::Int(1))?,
         one(alloc, value)?,
+        road,
         1000,
     )
 }
@@ -73,16 +99,21 @@ fn refused_query(alloc: Global, query: &[u8], value: Value) -> Result<Option<Ref
 #[test]
 fn queries(rt: HostRuntime) {
     let alloc = rt.alloc();
-    assert!(rt; is(refused_query(alloc, b":a ?", Value::Int(1)), Refusal::Mixed));
     assert!(rt;
         is(
-            refused_query(alloc, b"SELECT 1-:a", Value::Int(1)),
+            refused_query(alloc, b":a ?", Value::Int(1), Road::Text),
+            Refusal::Mixed
+        )
+    );
+    assert!(rt;
+        is(
+            refused_query(alloc, b"SELECT 1-:a", Value::Int(1), Road::Text),
             Refusal::NotAlone(0)
         )
     );
     assert!(rt;
         is(
-            refused_query(alloc, b"SELECT :a", Value::Float(0)),
+            refused_query(alloc, b"SELECT :a", Value::Float(0), Road::Text),
             Refusal::Float(1, 0)
         )
     );
@@ -94,6 +125,7 @@ fn refused_empty(alloc: Global) -> Result<Option<Refusal>, AllocError> {
         b"SELECT :a",
         one(alloc, Value::Int(1))?,
         Params::Empty,
+        Road::Text,
         1000,
     )
 }
@@ -104,13 +136,60 @@ fn sets(rt: HostRuntime) {
     assert!(rt; is(refused_empty(alloc), Refusal::WrongCount(1)));
     assert!(rt;
         matches!(
-            refused_query(alloc, b"SELECT ?", Value::Int(1)),
+            refused_query(alloc, b"SELECT ?", Value::Int(1), Road::Text),
             Ok(Some(Refusal::Params(0, SetError::Params(ParamsError::Confusion(_))))) | Err(_)
         )
     );
     assert!(rt;
         matches!(
-            refused_query(alloc, b"SELECT :b", Value::Int(1)),
+            refused_query(alloc, b"SELECT :b", Value::Int(1), Road::Text),
+            Ok(Some(Refusal::Params(0, SetError::Params(ParamsError::Missing(_))))) | Err(_)
+        )
+    );
+}
+
+#[test]
+fn executions_too_large(rt: HostRuntime) {
+    let alloc = rt.alloc();
+    assert!(rt;
+        is(
+            refused_by_limit(alloc, Road::Execute, 12),
+            Refusal::PrepareTooLarge
+        )
+    );
+    assert!(rt;
+        is(
+            refused_by_limit(alloc, Road::Execute, 25),
+            Refusal::PacketTooLarge(0)
+        )
+    );
+    assert!(rt; !matches!(refused_by_limit(alloc, Road::Execute, 26), Ok(Some(_))));
+}
+
+#[test]
+fn executions(rt: HostRuntime) {
+    let alloc = rt.alloc();
+    assert!(rt;
+        is(
+            refused_query(alloc, b":a ?", Value::Int(1), Road::Execute),
+            Refusal::Mixed
+        )
+    );
+    assert!(rt;
+        is(
+            refused_query(alloc, b"SELECT :a", Value::Float(0), Road::Execute),
+            Refusal::Float(1, 0)
+        )
+    );
+    assert!(rt;
+        matches!(
+            refused_query(alloc, b"SELECT ?", Value::Int(1), Road::Execute),
+            Ok(Some(Refusal::Params(0, SetError::Params(ParamsError::Confusion(_))))) | Err(_)
+        )
+    );
+    assert!(rt;
+        matches!(
+            refused_query(alloc, b"SELECT :b", Value::Int(1), Road::Execute),
             Ok(Some(Refusal::Params(0, SetError::Params(ParamsError::Missing(_))))) | Err(_)
         )
     );

@@ -1,7 +1,7 @@
 //! What the tests share.
 
 ghost use Rattle.std.specs.Prelude.{◌≤◌, ◌≡◌, OnErr};
-ghost use Rattle.mysql_session.specs.declared.road.Road.TheVariants as roads;
+ghost use Rattle.mysql_session.specs.Sending.{CanBeSent};
 
 use mysql_session::{
     Audit, End, Params, Receiver, Refusal, Road, StreamFault, Value, receive, send,
@@ -25,21 +25,28 @@ pub fn bytes(alloc: Global, bytes: &[u8]) -> Result<Value, AllocError> {
     Ok(Value::Bytes(ByteString::from_vec(Vec::from_slice(alloc, bytes)?)))
 }
 
-/// What is appended for one set by text, with the id 1; or the refusal, the second one where the first is want of memory.
+/// What is appended for sets by a road, with the id 1; or the refusal, the second one where the first is want of memory.
 pub fn sent(
     alloc: Global,
     query: &[u8],
     sets: &[Params],
+    road: Road,
     limit: usize,
     out: &mut Vec<u8>,
 ) -> Result<(), Refusal>
-    requires { 4 ≤ limit }
+    requires limit { 4 ≤ limit }
+    requires road { CanBeSent road limit }
     ensures { OnErr result (out.new.items ≡ out.old.items) }
 {
-    match send(alloc, query, sets, Road::Text, 1, limit, out) {
-        Err(Refusal::Memory) => send(alloc, query, sets, Road::Text, 1, limit, out),
+    match send(alloc, query, sets, road, 1, limit, out) {
+        Err(Refusal::Memory) => send(alloc, query, sets, road, 1, limit, out),
         other => other,
     }
+}
+
+/// Tries again once, for the run in which an allocation of the first try is refused.
+pub fn holds(first: Result<bool, AllocError>, second: Result<bool, AllocError>) -> bool {
+    matches!(first, Ok(true)) || matches!(second, Ok(true))
 }
 
 fn is_memory(audit: &Audit) -> bool {

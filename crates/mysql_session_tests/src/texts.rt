@@ -1,7 +1,7 @@
 //! Sets sent by text.
 
-use crate::support::{bytes, named, read_by_bytes, read_whole, sent};
-use mysql_session::{Audit, Content, End, Params, Value};
+use crate::support::{bytes, holds, named, read_by_bytes, read_whole, sent};
+use mysql_session::{Audit, Content, End, Params, Road, Value};
 use std::alloc::{AllocError, Global};
 
 /// Whether the audit is whole and has one set of one content, and that is the wanted one.
@@ -27,7 +27,7 @@ fn goes_round(
     let mut sets = Vec::new(alloc);
     sets.push(named(alloc, b"a", value)?)?;
     let mut out = Vec::new(alloc);
-    if sent(alloc, b"SELECT :a", &sets, 1000, &mut out).is_err() {
+    if sent(alloc, b"SELECT :a", &sets, Road::Text, 1000, &mut out).is_err() {
         return Ok(false);
     }
     Ok(
@@ -35,11 +35,6 @@ fn goes_round(
             && says(read_whole(alloc, b"SELECT :a", 1000, &out), wanted)
             && says(read_by_bytes(alloc, b"SELECT :a", 1000, &out), wanted),
     )
-}
-
-/// Tries again once, for the run in which an allocation of the first try is refused.
-fn holds(first: Result<bool, AllocError>, second: Result<bool, AllocError>) -> bool {
-    matches!(first, Ok(true)) || matches!(second, Ok(true))
 }
 
 #[test]
@@ -102,7 +97,7 @@ fn several(alloc: Global) -> Result<bool, AllocError> {
     sets.push(named(alloc, b"a", Value::Int(1))?)?;
     sets.push(named(alloc, b"a", Value::Int(-2))?)?;
     let mut out = Vec::from_slice(alloc, b"front")?;
-    if sent(alloc, b"SELECT :a", &sets, 1000, &mut out).is_err() {
+    if sent(alloc, b"SELECT :a", &sets, Road::Text, 1000, &mut out).is_err() {
         return Ok(false);
     }
     let stream: &[u8] = b"front\x09\0\0\0\x03SELECT 1\x0a\0\0\0\x03SELECT -2";
@@ -118,7 +113,7 @@ fn several_sets(rt: HostRuntime) {
 fn nothing_sent(alloc: Global) -> Result<bool, AllocError> {
     let none: &[Params] = &[];
     let mut out = Vec::new(alloc);
-    Ok(sent(alloc, b"SELECT :a", none, 1000, &mut out).is_ok() && out.is_empty())
+    Ok(sent(alloc, b"SELECT :a", none, Road::Text, 1000, &mut out).is_ok() && out.is_empty())
 }
 
 #[test]

@@ -1,0 +1,87 @@
+-- Streams that were sent one behind the other.
+use Rattle.std.proofs.Common.{◌≡◌, ℕ, suc, ◌+◌, ◌<◌, ◌≤◌, List, [], ◌∷◌, ◌++◌, length, refl, sym, ◌∙◌, ap, subst, arith, append_assoc, add-one, length-append}
+use Rattle.std.specs.List.{join_with_byte}
+use Rattle.mysql_wire.specs.Framing.{chunk, chunks, framing, slice}
+use Rattle.mysql_wire.specs.Stream.{Split, framings}
+use Rattle.mysql_wire.specs.Stream.Numbering.{EachFromZero}
+use Rattle.mysql_values.specs.declared.content.Content.{Content}
+use Rattle.mysql_values.specs.declared.params.Params.{Params}
+use Rattle.mysql_values.specs.declared.placeholders.Place.{Place}
+use Rattle.mysql_values.specs.Laws.{OneTokens}
+use Rattle.mysql_values.specs.Queries.{pieces_of, places_from}
+use Rattle.mysql_values.specs.Tokens.{HasTokens, question}
+use Rattle.mysql_commands.specs.Audit.{Audited, IsAbout}
+use Rattle.mysql_commands.specs.declared.audit.End.TheVariants.{Whole}
+use Rattle.mysql_commands.specs.Laws.{WholeStreamsJoin}
+use Rattle.mysql_commands.specs.Layout.{Conversation}
+use Rattle.mysql_session.specs.Laws.{SentStreamsJoin}
+use Rattle.mysql_session.specs.Sending.{AreMeanings}
+
+-- a conversation by its parts
+conversation : List ℕ → List ℕ → List Place → ℕ → Conversation
+conversation text parsed places id = record { query = record { text = text; parsed = parsed; places = places }; id = id }
+
+-- a query and an id are those of one conversation
+one_conversation : OneTokens → (query : List ℕ) (id : ℕ) (c d : Conversation) → IsAbout c query id → IsAbout d query id → c ≡ d
+unfolding conversation
+one_conversation once query id c d first second =
+    let text : c.query.text ≡ d.query.text = first.text ∙ sym second.text in
+    let parsed_tokens : first.is_query.parsed.0 ≡ second.is_query.parsed.0 =
+    once d.query.text first.is_query.parsed.0 second.is_query.parsed.0 (subst (λ (t : List ℕ). HasTokens t first.is_query.parsed.0) text first.is_query.parsed.1) second.is_query.parsed.1 in
+    let parsed : c.query.parsed ≡ d.query.parsed = first.is_query.parsed.2 ∙ ap (λ tokens. join_with_byte question (pieces_of tokens)) parsed_tokens ∙ sym second.is_query.parsed.2 in
+    let places_tokens : first.is_query.places.0 ≡ second.is_query.places.0 =
+    once d.query.text first.is_query.places.0 second.is_query.places.0 (subst (λ (t : List ℕ). HasTokens t first.is_query.places.0) text first.is_query.places.1) second.is_query.places.1 in
+    let places : c.query.places ≡ d.query.places =
+    first.is_query.places.2 ∙ ap (λ t. places_from t 0 first.is_query.places.0) text ∙ ap (λ tokens. places_from d.query.text 0 tokens) places_tokens ∙ sym second.is_query.places.2 in
+    ap (λ t. conversation t c.query.parsed c.query.places c.id) text
+    ∙ ap (λ p. conversation d.query.text p c.query.places c.id) parsed
+    ∙ ap (λ l. conversation d.query.text d.query.parsed l c.id) places
+    ∙ ap (λ n. conversation d.query.text d.query.parsed d.query.places n) (first.id_is ∙ sym second.id_is)
+
+-- a chunk has bytes
+chunk_some : (number : ℕ) (bytes rest : List ℕ) → 0 < length (chunk number bytes ++ rest)
+chunk_some number bytes rest = omega arith
+
+chunks_some : (payload : List ℕ) (count n : ℕ) → n ≡ suc count → 0 < length (chunks payload 0 n)
+unfolding chunks
+chunks_some payload count n is = rw is (chunk_some (0 + 0) (slice payload 0) _)
+
+framing_some : (payload : List ℕ) → 0 < length (framing payload 0)
+unfolding framing
+framing_some payload = chunks_some payload _ _ (add-one _)
+
+-- a stream has at least a byte for each payload
+as_long : (payloads : List (List ℕ)) → length payloads ≤ length (framings payloads EachFromZero)
+as_long [] = omega arith
+as_long (payload ∷ payloads) = omega (arith, framing_some payload, as_long payloads, length-append (framing payload 0) (framings payloads EachFromZero))
+
+few : (split : Split) (bytes : List ℕ) → bytes ≡ framings split.payloads EachFromZero ++ split.rest_bytes → length split.payloads ≤ length bytes
+few split bytes is = omega (arith, ap length is, as_long split.payloads, length-append (framings split.payloads EachFromZero) split.rest_bytes)
+
+-- the meanings of sets and of others behind them
+meanings_join : (query : List ℕ) (sets others : List Params) (contents later : List (List Content)) → AreMeanings query sets contents → AreMeanings query others later → AreMeanings query (sets ++ others) (contents ++ later)
+meanings_join query [] others [] later first second = second
+meanings_join query [] others (held ∷ contents) later first second = absurd first
+meanings_join query (params ∷ sets) others [] later first second = absurd first
+meanings_join query (params ∷ sets) others (held ∷ contents) later first second = (first.0, meanings_join query sets others contents later first.1 second)
+
+pub joined : OneTokens → WholeStreamsJoin → SentStreamsJoin
+joined once join query sets others id limit old mid new short r q =
+    let same : q.audit.0 ≡ r.audit.0 = one_conversation once query id q.audit.0 r.audit.0 q.audit.1 r.audit.1 in
+    let appended : new ≡ old ++ (r.stream ++ q.stream) = q.appended ∙ ap (λ l. l ++ q.stream) r.appended ∙ append_assoc old r.stream q.stream in
+    let behind : Audited r.audit.0 limit q.stream (record { sets = q.contents; ending = Whole }) =
+    subst (λ (c : Conversation). Audited c limit q.stream (record { sets = q.contents; ending = Whole })) same q.audit.2 in
+    let lengths : length r.stream + length q.stream ≤ length new =
+    omega (arith, ap length appended, length-append old (r.stream ++ q.stream), length-append r.stream q.stream) in
+    record {
+      stream = r.stream ++ q.stream;
+      appended = appended;
+      contents = r.contents ++ q.contents;
+      meanings = meanings_join query sets others r.contents q.contents r.meanings q.meanings;
+      audit = (
+        r.audit.0,
+        r.audit.1,
+        join r.audit.0 limit r.stream q.stream (record { sets = r.contents; ending = Whole }) (record { sets = q.contents; ending = Whole }) r.audit.2 behind
+            (omega (arith, few r.audit.2.0 r.stream r.audit.2.1.joined, few behind.0 q.stream behind.1.joined)) refl refl,
+      );
+    }
