@@ -1,7 +1,7 @@
 //! A command of two chunks.
 
 use crate::support::{named, read_by_bytes, read_whole, sent};
-use mysql_session::{Audit, Content, End, Value};
+use mysql_session::{Audit, Content, End, Road, Value};
 use mysql_values::ByteString;
 use std::alloc::{AllocError, Global};
 
@@ -18,7 +18,7 @@ fn stream(alloc: Global) -> Result<Vec<u8>, AllocError> {
     let value = Value::Bytes(ByteString::from_vec(text));
     sets.push(named(alloc, b"a", value)?)?;
     let mut out = Vec::new(alloc);
-    match sent(alloc, b"SELECT :a", &sets, LIMIT, &mut out) {
+    match sent(alloc, b"SELECT :a", &sets, Road::Text, LIMIT, &mut out) {
         Ok(()) => Ok(out),
         Err(_) => Err(AllocError),
     }
