@@ -1,102 +1,65 @@
 //! Sets sent by prepared execution.
 
+use crate::support;
 use crate::support::{bytes, holds, named, read_by_bytes, read_whole, sent};
 use mysql_session::{Audit, Content, End, Params, Refusal, Road, Value};
 use std::alloc::{AllocError, Global};
 
 const QUERY: &[u8] = b"SELECT :a";
 
-/// Whether the audit is whole and its sets have one content each, which is the wanted one.
-fn says(audit: Option<Audit>, wanted: &[Content]) -> bool {
-    match audit {
-        Some(audit) => {
-            matches!(audit.end, End::Whole)
-                && audit.sets.len() == wanted.len()
-                && audit
-                    .sets
-                    .iter()
-                    .zip(wanted)
-                    .all(|(set, content)| set.len() == 1 && set[0] == *content)
-        }
-        None => false,
-    }
-}
-
-/// Whether sets of the query are sent as this stream, and read back as these contents.
-fn go_round(
-    alloc: Global,
-    query: &[u8],
-    sets: &[Params],
-    stream: &[u8],
-    wanted: &[Content],
-) -> bool {
-    let mut out = Vec::new(alloc);
-    sent(alloc, query, sets, Road::Execute, 1000, &mut out).is_ok()
-        && out.as_slice() == stream
-        && says(read_whole(alloc, query, 1000, &out), wanted)
-        && says(read_by_bytes(alloc, query, 1000, &out), wanted)
-}
-
-/// The same for one value of the name `a`.
+/// Whether one value is sent as this stream, and read back as this content.
 fn goes_round(
     alloc: Global,
-    query: &[u8],
     value: Value,
     stream: &[u8],
-    wanted: Content,
+    wanted: &Content,
 ) -> Result<bool, AllocError> {
-    let mut sets = Vec::new(alloc);
-    sets.push(named(alloc, b"a", value)?)?;
-    Ok(go_round(alloc, query, &sets, stream, &[wanted]))
-}
-
-fn a_number_goes_round(alloc: Global) -> Result<bool, AllocError> {
-    let stream: &[u8] =
-        b"\x09\0\0\0\x16SELECT ?\x16\0\0\0\x17\x01\0\0\0\0\x01\0\0\0\0\x01\x08\0\x01\0\0\0\0\0\0\0";
-    goes_round(alloc, QUERY, Value::Int(1), stream, Content::Number(1))
+    support::goes_round(alloc, QUERY, Road::Execute, value, stream, wanted)
 }
 
 #[test]
 fn a_number(rt: HostRuntime) {
+    let alloc = rt.alloc();
+    let stream: &[u8] =
+        b"\x09\0\0\0\x16SELECT ?\x16\0\0\0\x17\x01\0\0\0\0\x01\0\0\0\0\x01\x08\0\x01\0\0\0\0\0\0\0";
+    let wanted = Content::Number(1);
     assert!(rt;
         holds(
-            a_number_goes_round(rt.alloc()),
-            a_number_goes_round(rt.alloc())
+            goes_round(alloc, Value::Int(1), stream, &wanted),
+            goes_round(alloc, Value::Int(1), stream, &wanted)
         )
     );
 }
 
-fn null_goes_round(alloc: Global) -> Result<bool, AllocError> {
-    let stream: &[u8] = b"\x09\0\0\0\x16SELECT ?\x0e\0\0\0\x17\x01\0\0\0\0\x01\0\0\0\x01\x01\x06\0";
-    goes_round(alloc, QUERY, Value::NULL, stream, Content::Null)
-}
-
 #[test]
 fn null(rt: HostRuntime) {
-    assert!(rt; holds(null_goes_round(rt.alloc()), null_goes_round(rt.alloc())));
+    let alloc = rt.alloc();
+    let stream: &[u8] = b"\x09\0\0\0\x16SELECT ?\x0e\0\0\0\x17\x01\0\0\0\0\x01\0\0\0\x01\x01\x06\0";
+    assert!(rt;
+        holds(
+            goes_round(alloc, Value::NULL, stream, &Content::Null),
+            goes_round(alloc, Value::NULL, stream, &Content::Null)
+        )
+    );
 }
 
 /// A placeholder that does not stand alone is executed.
-fn not_alone_goes_round(alloc: Global) -> Result<bool, AllocError> {
+fn minus(alloc: Global) -> Result<bool, AllocError> {
     let stream: &[u8] =
         b"\x0b\0\0\0\x16SELECT 1-?\x16\0\0\0\x17\x01\0\0\0\0\x01\0\0\0\0\x01\x08\0\x05\0\0\0\0\0\0\0";
-    goes_round(
+    support::goes_round(
         alloc,
         b"SELECT 1-:a",
+        Road::Execute,
         Value::Int(5),
         stream,
-        Content::Number(5),
+        &Content::Number(5),
     )
 }
 
 #[test]
 fn not_alone(rt: HostRuntime) {
-    assert!(rt;
-        holds(
-            not_alone_goes_round(rt.alloc()),
-            not_alone_goes_round(rt.alloc())
-        )
-    );
+    assert!(rt; holds(minus(rt.alloc()), minus(rt.alloc())));
 }
 
 fn text(alloc: Global, text: &[u8]) -> Result<Content, AllocError> {
@@ -106,125 +69,110 @@ fn text(alloc: Global, text: &[u8]) -> Result<Content, AllocError> {
     }
 }
 
-fn a_date_goes_round(alloc: Global) -> Result<bool, AllocError> {
+fn date(alloc: Global) -> Result<bool, AllocError> {
     let stream: &[u8] =
         b"\x09\0\0\0\x16SELECT ?\x13\0\0\0\x17\x01\0\0\0\0\x01\0\0\0\0\x01\x0c\0\x04\xe8\x07\x02\x1d";
-    let wanted = text(alloc, b"2024-02-29")?;
     goes_round(
         alloc,
-        QUERY,
         Value::Date(2024, 2, 29, 0, 0, 0, 0),
         stream,
-        wanted,
+        &text(alloc, b"2024-02-29")?,
     )
 }
 
-/// The sign of a time of all zeros is sent, and does not count.
-fn a_time_goes_round(alloc: Global) -> Result<bool, AllocError> {
+/// The sign of a time of all zeros does not count.
+fn time(alloc: Global) -> Result<bool, AllocError> {
     let stream: &[u8] = b"\x09\0\0\0\x16SELECT ?\x0f\0\0\0\x17\x01\0\0\0\0\x01\0\0\0\0\x01\x0b\0\0";
-    let wanted = text(alloc, b"000:00:00")?;
     goes_round(
         alloc,
-        QUERY,
         Value::Time(true, 0, 0, 0, 0, 0),
         stream,
-        wanted,
+        &text(alloc, b"000:00:00")?,
     )
 }
 
 #[test]
 fn dates_and_times(rt: HostRuntime) {
-    assert!(rt; holds(a_date_goes_round(rt.alloc()), a_date_goes_round(rt.alloc())));
-    assert!(rt; holds(a_time_goes_round(rt.alloc()), a_time_goes_round(rt.alloc())));
+    assert!(rt; holds(date(rt.alloc()), date(rt.alloc())));
+    assert!(rt; holds(time(rt.alloc()), time(rt.alloc())));
 }
 
-/// One prepare, and two executions, of which one has an unsigned number.
-fn two_sets_go_round(alloc: Global) -> Result<bool, AllocError> {
+/// Whether the audit is whole and has two sets of one number each, which are the wanted ones.
+fn says_two(audit: Option<Audit>, first: i128, second: i128) -> bool {
+    match audit {
+        Some(audit) => {
+            matches!(audit.end, End::Whole)
+                && audit.sets.len() == 2
+                && audit.sets[0].len() == 1
+                && audit.sets[1].len() == 1
+                && audit.sets[0][0] == Content::Number(first)
+                && audit.sets[1][0] == Content::Number(second)
+        }
+        None => false,
+    }
+}
+
+fn read_as_two(alloc: Global, out: &[u8], first: i128, second: i128) -> bool {
+    says_two(read_whole(alloc, QUERY, 1000, out), first, second)
+        && says_two(read_by_bytes(alloc, QUERY, 1000, out), first, second)
+}
+
+/// One prepare, and two executions, of which the first has an unsigned number.
+fn two(alloc: Global) -> Result<bool, AllocError> {
     let mut sets = Vec::new(alloc);
     sets.push(named(alloc, b"a", Value::UInt(255))?)?;
-    sets.push(named(alloc, b"a", bytes(alloc, b"x")?)?)?;
+    sets.push(named(alloc, b"a", Value::Int(-1))?)?;
+    let mut out = Vec::new(alloc);
     let stream: &[u8] =
-        b"\x09\0\0\0\x16SELECT ?\x16\0\0\0\x17\x01\0\0\0\0\x01\0\0\0\0\x01\x08\x80\xff\0\0\0\0\0\0\0\x10\0\0\0\x17\x01\0\0\0\0\x01\0\0\0\0\x01\xfd\0\x01x";
-    let second = text(alloc, b"x")?;
-    Ok(go_round(alloc, QUERY, &sets, stream, &[Content::Number(255), second]))
+        b"\x09\0\0\0\x16SELECT ?\x16\0\0\0\x17\x01\0\0\0\0\x01\0\0\0\0\x01\x08\x80\xff\0\0\0\0\0\0\0\x16\0\0\0\x17\x01\0\0\0\0\x01\0\0\0\0\x01\x08\0\xff\xff\xff\xff\xff\xff\xff\xff";
+    Ok(
+        sent(alloc, QUERY, &sets, Road::Execute, 1000, &mut out).is_ok()
+            && out.as_slice() == stream
+            && read_as_two(alloc, &out, 255, -1),
+    )
 }
 
 #[test]
 fn two_sets(rt: HostRuntime) {
-    assert!(rt; holds(two_sets_go_round(rt.alloc()), two_sets_go_round(rt.alloc())));
+    assert!(rt; holds(two(rt.alloc()), two(rt.alloc())));
 }
 
-/// What is appended for no sets: the prepare.
-fn no_sets_go_round(alloc: Global) -> Result<bool, AllocError> {
-    Ok(go_round(alloc, QUERY, &[], b"\x09\0\0\0\x16SELECT ?", &[]))
-}
-
-fn too_large(alloc: Global) -> Result<bool, AllocError> {
+/// Whether the prepare is sent for no sets, and refused where it is too large.
+fn prepared(alloc: Global) -> Result<bool, AllocError> {
+    let none: &[Params] = &[];
     let mut out = Vec::new(alloc);
-    Ok(matches!(
-        sent(alloc, QUERY, &[], Road::Execute, 4, &mut out),
-        Err(Refusal::PrepareTooLarge)
-    ))
+    let refused = sent(alloc, QUERY, none, Road::Execute, 4, &mut out);
+    Ok(
+        matches!(refused, Err(Refusal::PrepareTooLarge))
+            && sent(alloc, QUERY, none, Road::Execute, 1000, &mut out).is_ok()
+            && out.as_slice() == b"\x09\0\0\0\x16SELECT ?".as_slice(),
+    )
 }
 
 #[test]
 fn no_sets(rt: HostRuntime) {
-    assert!(rt; holds(no_sets_go_round(rt.alloc()), no_sets_go_round(rt.alloc())));
-    assert!(rt; holds(too_large(rt.alloc()), too_large(rt.alloc())));
+    assert!(rt; holds(prepared(rt.alloc()), prepared(rt.alloc())));
+}
+
+fn numbers(alloc: Global, number: i64) -> Result<Vec<Params>, AllocError> {
+    let mut sets = Vec::new(alloc);
+    sets.push(named(alloc, b"a", Value::Int(number))?)?;
+    Ok(sets)
 }
 
 /// Whether a set by text, and one by execute behind it, read as both.
-fn both_roads_go_round(alloc: Global) -> Result<bool, AllocError> {
-    let mut first = Vec::new(alloc);
-    first.push(named(alloc, b"a", Value::Int(1))?)?;
-    let mut second = Vec::new(alloc);
-    second.push(named(alloc, b"a", Value::Int(2))?)?;
+fn both(alloc: Global) -> Result<bool, AllocError> {
+    let first = numbers(alloc, 1)?;
+    let second = numbers(alloc, 2)?;
     let mut out = Vec::new(alloc);
-    let wanted: &[Content] = &[Content::Number(1), Content::Number(2)];
     Ok(
         sent(alloc, QUERY, &first, Road::Text, 1000, &mut out).is_ok()
             && sent(alloc, QUERY, &second, Road::Execute, 1000, &mut out).is_ok()
-            && says(read_whole(alloc, QUERY, 1000, &out), wanted)
-            && says(read_by_bytes(alloc, QUERY, 1000, &out), wanted),
+            && read_as_two(alloc, &out, 1, 2),
     )
 }
 
 #[test]
 fn both_roads(rt: HostRuntime) {
-    assert!(rt;
-        holds(
-            both_roads_go_round(rt.alloc()),
-            both_roads_go_round(rt.alloc())
-        )
-    );
-}
-
-/// Whether the ninth of nine values is the one that is NULL, over a bitmap of two bytes.
-fn the_ninth_is_null(alloc: Global) -> Result<bool, AllocError> {
-    let mut values = Vec::new(alloc);
-    for _ in 0..8 {
-        values.push(Value::Int(7))?;
-    }
-    values.push(Value::NULL)?;
-    let mut sets = Vec::new(alloc);
-    sets.push(Params::Positional(values))?;
-    let query: &[u8] = b"VALUES (?,?,?,?,?,?,?,?,?)";
-    let mut out = Vec::new(alloc);
-    if sent(alloc, query, &sets, Road::Execute, 1000, &mut out).is_err() {
-        return Ok(false);
-    }
-    match read_whole(alloc, query, 1000, &out) {
-        Some(audit) => Ok(
-            audit.sets.len() == 1
-                && audit.sets[0].len() == 9
-                && audit.sets[0][7] == Content::Number(7)
-                && audit.sets[0][8] == Content::Null,
-        ),
-        None => Ok(false),
-    }
-}
-
-#[test]
-fn ninth_value(rt: HostRuntime) {
-    assert!(rt; holds(the_ninth_is_null(rt.alloc()), the_ninth_is_null(rt.alloc())));
+    assert!(rt; holds(both(rt.alloc()), both(rt.alloc())));
 }

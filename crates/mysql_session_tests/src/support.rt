@@ -4,7 +4,7 @@ ghost use Rattle.std.specs.Prelude.{◌≤◌, ◌≡◌, OnErr};
 ghost use Rattle.mysql_session.specs.Sending.{CanBeSent};
 
 use mysql_session::{
-    Audit, End, Params, Receiver, Refusal, Road, StreamFault, Value, receive, send,
+    Audit, Content, End, Params, Receiver, Refusal, Road, StreamFault, Value, receive, send,
 };
 use mysql_values::ByteString;
 use std::alloc::{AllocError, Global};
@@ -47,6 +47,43 @@ pub fn sent(
 /// Tries again once, for the run in which an allocation of the first try is refused.
 pub fn holds(first: Result<bool, AllocError>, second: Result<bool, AllocError>) -> bool {
     matches!(first, Ok(true)) || matches!(second, Ok(true))
+}
+
+/// Whether the audit is whole and has one set of one content, and that is the wanted one.
+pub fn says(audit: Option<Audit>, wanted: &Content) -> bool {
+    match audit {
+        Some(audit) => {
+            matches!(audit.end, End::Whole)
+                && audit.sets.len() == 1
+                && audit.sets[0].len() == 1
+                && audit.sets[0][0] == *wanted
+        }
+        None => false,
+    }
+}
+
+/// Whether one value of the name `a` is sent as this stream, and read back as this content.
+pub fn goes_round(
+    alloc: Global,
+    query: &[u8],
+    road: Road,
+    value: Value,
+    stream: &[u8],
+    wanted: &Content,
+) -> Result<bool, AllocError>
+    requires { CanBeSent road 1000 }
+{
+    let mut sets = Vec::new(alloc);
+    sets.push(named(alloc, b"a", value)?)?;
+    let mut out = Vec::new(alloc);
+    if sent(alloc, query, &sets, road, 1000, &mut out).is_err() {
+        return Ok(false);
+    }
+    Ok(
+        out.as_slice() == stream
+            && says(read_whole(alloc, query, 1000, &out), wanted)
+            && says(read_by_bytes(alloc, query, 1000, &out), wanted),
+    )
 }
 
 fn is_memory(audit: &Audit) -> bool {

@@ -1,21 +1,9 @@
 //! Sets sent by text.
 
-use crate::support::{bytes, holds, named, read_by_bytes, read_whole, sent};
-use mysql_session::{Audit, Content, End, Params, Road, Value};
+use crate::support;
+use crate::support::{bytes, holds, named, sent};
+use mysql_session::{Content, Params, Road, Value};
 use std::alloc::{AllocError, Global};
-
-/// Whether the audit is whole and has one set of one content, and that is the wanted one.
-fn says(audit: Option<Audit>, wanted: &Content) -> bool {
-    match audit {
-        Some(audit) => {
-            matches!(audit.end, End::Whole)
-                && audit.sets.len() == 1
-                && audit.sets[0].len() == 1
-                && audit.sets[0][0] == *wanted
-        }
-        None => false,
-    }
-}
 
 /// Whether one value is sent as this stream, and read back as this content.
 fn goes_round(
@@ -24,17 +12,7 @@ fn goes_round(
     stream: &[u8],
     wanted: &Content,
 ) -> Result<bool, AllocError> {
-    let mut sets = Vec::new(alloc);
-    sets.push(named(alloc, b"a", value)?)?;
-    let mut out = Vec::new(alloc);
-    if sent(alloc, b"SELECT :a", &sets, Road::Text, 1000, &mut out).is_err() {
-        return Ok(false);
-    }
-    Ok(
-        out.as_slice() == stream
-            && says(read_whole(alloc, b"SELECT :a", 1000, &out), wanted)
-            && says(read_by_bytes(alloc, b"SELECT :a", 1000, &out), wanted),
-    )
+    support::goes_round(alloc, b"SELECT :a", Road::Text, value, stream, wanted)
 }
 
 #[test]
