@@ -5,7 +5,9 @@ use mysql_wire::WireError;
 use std::collections::HashMap;
 
 /// Whether a test holds. Where a growth was refused in it, it is tried once more: of a run at most one is refused.
-pub fn holds<F: Fn() -> Result<bool, WireError>>(test: F) -> bool {
+pub fn holds<F: Fn() -> Result<bool, WireError>>(test: F) -> bool
+    requires { F.IsAlwaysCallable test }
+{
     match test() {
         Ok(found) => found,
         Err(_) => matches!(test(), Ok(true)),
