@@ -2,8 +2,7 @@
 
 ghost use Rattle.mysql_commands.specs.Laws.{AuditGoesOn, CuttingsAgree, EachPayloadIsJudged, FeedingGoesOn, FrontsReadOn, LastWordCounts, LookingBackGoesOn, PiecesGoOn, StartDecidesTheAudit, StreamHasOneAudit, ThereIsOneAudit, WholeStreamsJoin, WrittenCellsAreHeld};
 
-use mysql_values::laws::cells_read_back;
-use mysql_values::laws::{one_reading, texts_are_decided, tokens_of_a_text};
+use mysql_values::laws::{cells_read_back, one_reading, texts_are_decided, tokens_of_a_text};
 use mysql_wire::laws::{fronts_split, reader_laws};
 
 /// Looking back over two lists of payloads, one after the other, is looking back over the second from what is in
