@@ -1,0 +1,26 @@
+//! How many bytes length-encoded numbers and texts take.
+
+ghost use Rattle.std.specs.Prelude.{◌≡◌, length};
+ghost use Rattle.mysql_buf.specs.Writing.{lenenc_int, lenenc_str};
+
+/// How many bytes the shortest spelling of a length-encoded number takes: 1, 3, 4 or 9.
+/// (MySQL: Client/Server Protocol, "Protocol::LengthEncodedInteger".)
+pub fn lenenc_int_len(number: u64) -> u64
+    ensures { result ≡ length (lenenc_int number) }
+{
+    match number {
+        0..=250 => 1,
+        251..=0xffff => 3,
+        0x1_0000..=0xff_ffff => 4,
+        _ => 9,
+    }
+}
+
+/// How many bytes a text takes after its length, the length included.
+/// (MySQL: Client/Server Protocol, "Protocol::LengthEncodedString".)
+pub fn lenenc_str_len(text: &[u8]) -> u64
+    ensures { result ≡ length (lenenc_str text.now) }
+{
+    let count = text.len() as u64;
+    lenenc_int_len(count) + count
+}
