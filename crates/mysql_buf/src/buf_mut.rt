@@ -6,7 +6,7 @@ ghost use Rattle.byteorder.specs.Endian.{little_bytes};
 ghost use Rattle.bytes.specs.Filled.{UsesSpare};
 ghost use Rattle.mysql_buf.specs.Writing.{lenenc_int, lenenc_str, u8_str, u32_str};
 
-use crate::lengths::{lenenc_int_len, lenenc_str_len};
+use crate::lengths::{front_of, lenenc_int_len, lenenc_str_len};
 use bytes::BufMut;
 use std::alloc::AllocError;
 

@@ -1,7 +1,7 @@
 //! How many bytes length-encoded numbers and texts take.
 
-ghost use Rattle.std.specs.Prelude.{◌≡◌, length};
-ghost use Rattle.mysql_buf.specs.Writing.{lenenc_int, lenenc_str};
+ghost use Rattle.std.specs.Prelude.{◌≡◌, ◌≤◌, length};
+ghost use Rattle.mysql_buf.specs.Writing.{front, lenenc_int, lenenc_str};
 
 /// How many bytes the shortest spelling of a length-encoded number takes: 1, 3, 4 or 9.
 /// (MySQL: Client/Server Protocol, "Protocol::LengthEncodedInteger".)
@@ -23,4 +23,16 @@ pub fn lenenc_str_len(text: &[u8]) -> u64
 {
     let count = text.len() as u64;
     lenenc_int_len(count) + count
+}
+
+// The front of a text, at most `most` bytes.
+#[tactic(auto, unfolding(crate::specs::Writing::front))]
+pub fn front_of(text: &[u8], most: usize) -> &[u8]
+    ensures value { result.now ≡ front text.now most }
+    ensures bound { length result.now ≤ most }
+{
+    if text.len() <= most {
+        return text;
+    }
+    &text[..most]
 }
