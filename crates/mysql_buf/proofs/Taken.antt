@@ -1,17 +1,12 @@
 -- What is read of a stream in steps stands there as one.
 use Rattle.std.proofs.Common.{◌≡◌, ℕ, ◌≤◌, IfOk, List, [], ◌∷◌, length, take, drop, Option, Some, None, Result, Ok, Err, Vec, refl, sym, ap, arith, length-append}
-use Rattle.std.proofs.lemmas.Bool.{le-ltb}
 use Rattle.std.proofs.lemmas.List.{take_at, drop_at}
 use Rattle.std.specs.declared.alloc.Global.{Global}
 use Rattle.std.specs.Io.KnownBytes.{Consumes}
 use Rattle.byteorder.specs.Endian.{ReadsNumber, big_number, little_number}
-use Rattle.mysql_buf.specs.Reading.{first, le_at}
+use Rattle.mysql_buf.proofs.Stands.{first-enough}
+use Rattle.mysql_buf.specs.Reading.{le_at}
 use Rattle.mysql_buf.specs.Streams.{Takes, begun_lenenc_int_at, begun_lenenc_str_at}
-
--- where n bytes are there, the number in them stands first
-pub first-enough : {X : Type 0} (n : ℕ) (value : List ℕ → X) (bytes : List ℕ) → n ≤ length bytes → first n value bytes ≡ Some (value bytes, drop n bytes)
-unfolding first
-first-enough n value bytes h = rw (le-ltb (length bytes) n h) refl
 
 -- a first byte that says how many bytes follow, and these
 pub takes_marked : (b n : ℕ) → ((bs : List ℕ) → begun_lenenc_int_at (b ∷ bs) ≡ le_at n bs) → (old mid new : Option (List ℕ)) (x : ℕ)

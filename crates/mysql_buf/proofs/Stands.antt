@@ -1,0 +1,44 @@
+-- What stands in the first bytes of a list.
+use Rattle.std.proofs.Common.{◌≡◌, ℕ, ◌+◌, ◌/◌, ◌^◌, ◌<◌, ◌≤◌, Bool, false, nat_eq, inl, inr, List, [], ◌∷◌, length, take, drop, Option, Some, None, refl, sym, ap, ◌∙◌, arith}
+use Rattle.std.proofs.lemmas.Bool.{cases_lt, le-ltb, lt-ltb, ne_eqb}
+use Rattle.std.specs.Int.{w8, trailing_ones}
+use Rattle.byteorder.specs.Endian.{little_number}
+use Rattle.byteorder.specs.Numbers.{little_from-take}
+use Rattle.mysql_buf.specs.Reading.{first, le_at, slice_at}
+use Rattle.mysql_buf.specs.Varlen.{varlen_at}
+
+-- where n bytes are there, what they hold stands first
+pub first-enough : {X : Type 0} (n : ℕ) (value : List ℕ → X) (bytes : List ℕ) → n ≤ length bytes → first n value bytes ≡ Some (value bytes, drop n bytes)
+unfolding first
+first-enough n value bytes h = rw (le-ltb (length bytes) n h) refl
+
+-- where fewer bytes are there, nothing stands
+pub first-short : {X : Type 0} (n : ℕ) (value : List ℕ → X) (bytes : List ℕ) → length bytes < n → first n value bytes ≡ None
+unfolding first
+first-short n value bytes h = rw (lt-ltb (length bytes) n h) refl
+
+-- what stands first is what the n bytes hold
+pub first-some : {X : Type 0} (n : ℕ) (value : List ℕ → X) (bytes : List ℕ) (p : X × List ℕ) → first n value bytes ≡ Some p
+    → (n ≤ length bytes) × (p ≡ (value bytes, drop n bytes))
+first-some n value bytes p h = elim (cases_lt (length bytes) n) [
+  | inl less ↦ let none = first-short n value bytes less in absurd (cc)
+  | inr enough ↦ let some = first-enough n value bytes enough in (enough, cc)
+]
+
+-- a short number of variable length, read as its first byte says
+pub varlen_at-short : (old rest bytes new : List ℕ) (b ones number : ℕ) → (b ≡ 255 → ⊥) → ones ≡ trailing_ones w8 b
+    → le_at 1 old ≡ Some (b, rest) → slice_at (ones + 1) old ≡ Some (bytes, new) → number ≡ little_number (ones + 1) bytes
+    → varlen_at old ≡ Some (number / 2 ^ (ones + 1), new)
+varlen_at-short [] rest bytes new b ones number short count one all is =
+    absurd (omega (arith, (first-some 1 (little_number 1) [] (b, rest) one).0))
+varlen_at-short (y ∷ ys) rest bytes new b ones number short count one all is =
+    let head = first-some 1 (little_number 1) (y ∷ ys) (b, rest) one in
+    let same : y ≡ b = omega (arith, ap (λ p. p.0) head.1) in
+    let part = first-some (ones + 1) (take (ones + 1)) (y ∷ ys) (bytes, new) all in
+    let taken : bytes ≡ take (ones + 1) (y ∷ ys) = ap (λ p. p.0) part.1 in
+    let left : new ≡ drop (ones + 1) (y ∷ ys) = ap (λ p. p.1) part.1 in
+    let whole : number ≡ little_number (ones + 1) (y ∷ ys) = is ∙ ap (little_number (ones + 1)) taken ∙ little_from-take 0 (ones + 1) (ones + 1) (y ∷ ys) (omega arith) in
+    let there = first-enough (ones + 1) (λ bytes. little_number (ones + 1) bytes / 2 ^ (ones + 1)) (y ∷ ys) part.0 in
+    let test : nat_eq y 255 ≡ false = ne_eqb y 255 (λ e. short (sym same ∙ e)) in
+    let size : trailing_ones w8 y ≡ ones = ap (trailing_ones w8) same ∙ sym count in
+    rw (test, size, there, whole, left) refl
