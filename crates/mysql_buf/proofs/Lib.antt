@@ -1,2 +1,5 @@
+pub mod NumberLaws
 pub mod Stands
 pub mod Taken
+pub mod TextLaws
+pub mod VarlenLaws

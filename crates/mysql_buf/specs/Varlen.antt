@@ -1,6 +1,6 @@
 -- Numbers of variable length, as the tags of transaction ids have them: each byte of a short one holds seven bits of the number.
 -- (MySQL: Source Code Documentation, "mysql::serialization", "Variable-length integer".)
-use Rattle.std.specs.Prelude.{◌≡◌, ℕ, ◌+◌, ◌-◌, ◌*◌, ◌/◌, ◌^◌, ◌==◌, nat_lt, if◌then◌else◌, List, [], ◌∷◌, Option, None}
+use Rattle.std.specs.Prelude.{ℕ, ◌+◌, ◌-◌, ◌*◌, ◌/◌, ◌^◌, ◌==◌, nat_lt, if◌then◌else◌, List, [], ◌∷◌, Option, None}
 use Rattle.std.specs.Int.{w8, trailing_ones}
 use Rattle.byteorder.specs.Endian.{little_bytes, little_number}
 use Rattle.mysql_buf.specs.Reading.{first, le_at}

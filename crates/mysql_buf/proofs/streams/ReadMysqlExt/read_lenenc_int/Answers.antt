@@ -1,4 +1,4 @@
-use Rattle.std.proofs.Common.{◌≡◌, refl}
+use Rattle.std.proofs.Common.{refl}
 use Rattle.mysql_buf.proofs.Taken.{takes_marked, takes_marked_if_ok}
 use Rattle.mysql_buf.proofs.streams.ReadMysqlExt.read_lenenc_int.Goals as goal
 

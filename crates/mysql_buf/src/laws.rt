@@ -1,0 +1,40 @@
+//! Laws of what is written and read, over the definitions alone.
+
+ghost use Rattle.mysql_buf.specs.Laws.{BigReadsBack, BigSignedReadsBack, CountedReadsBack, LenencIntIsShortest, LenencIntReadsBack, LenencStrReadsBack, LittleReadsBack, LittleSignedReadsBack, NullReadsBack, VarlenIsShortest, VarlenReadsBack};
+
+/// Numbers of any width, in either order of their bytes, read back with anything following.
+pub fn numbers_read_back()
+    ensures little { LittleReadsBack }
+    ensures big { BigReadsBack }
+{}
+
+/// Signed numbers of any width, in either order of their bytes, read back with anything
+/// following.
+pub fn signed_numbers_read_back()
+    ensures little { LittleSignedReadsBack }
+    ensures big { BigSignedReadsBack }
+{}
+
+/// Length-encoded numbers and texts read back with anything following.
+pub fn lenenc_reads_back()
+    ensures number { LenencIntReadsBack }
+    ensures text { LenencStrReadsBack }
+{}
+
+/// Texts after a length of one byte or four, and texts before a zero, read back with anything
+/// following.
+pub fn texts_read_back()
+    ensures counted { CountedReadsBack }
+    ensures null { NullReadsBack }
+{}
+
+/// Numbers of variable length read back with anything following.
+pub fn varlen_reads_back()
+    ensures { VarlenReadsBack }
+{}
+
+/// No shorter spelling than the written one reads as a number.
+pub fn shortest_spellings()
+    ensures lenenc { LenencIntIsShortest }
+    ensures varlen { VarlenIsShortest }
+{}
