@@ -1,0 +1,12 @@
+//! Tests of `mysql_buf` from outside: worked rows of numbers and texts, written and read.
+//!
+//! At most one allocation of a run is refused. So a call that answers that memory was refused is
+//! looked at for what has to stand then, and made once more.
+#![tactic(auto)]
+
+#[cfg(test)]
+mod reading;
+#[cfg(test)]
+mod streams;
+#[cfg(test)]
+mod writing;
