@@ -1,5 +1,2 @@
-pub mod NumberLaws
-pub mod Stands
+pub mod ShortVarlen
 pub mod Taken
-pub mod TextLaws
-pub mod VarlenLaws

@@ -4,7 +4,7 @@ use Rattle.std.proofs.lemmas.List.{take_at, drop_at}
 use Rattle.std.specs.declared.alloc.Global.{Global}
 use Rattle.std.specs.Io.KnownBytes.{Consumes}
 use Rattle.byteorder.specs.Endian.{ReadsNumber, big_number, little_number}
-use Rattle.mysql_buf.proofs.Stands.{first-enough}
+use Rattle.mysql_buf.specs.FirstBytes.{first-enough}
 use Rattle.mysql_buf.specs.Reading.{le_at}
 use Rattle.mysql_buf.specs.Streams.{Takes, begun_lenenc_int_at, begun_lenenc_str_at}
 

@@ -1,4 +1,4 @@
-use Rattle.mysql_buf.proofs.NumberLaws.{big-reads_back, little-reads_back}
+use Rattle.mysql_buf.specs.NumberLaws.{big-reads_back, little-reads_back}
 use Rattle.mysql_buf.proofs.laws.numbers_read_back.Goals as goal
 
 pub returns-clause-little : goal.returns-clause-little

@@ -1,5 +1,5 @@
-use Rattle.mysql_buf.proofs.TextLaws.{lenenc_int-shortest}
-use Rattle.mysql_buf.proofs.VarlenLaws.{varlen-shortest}
+use Rattle.mysql_buf.specs.TextLaws.{lenenc_int-shortest}
+use Rattle.mysql_buf.specs.VarlenLaws.{varlen-shortest}
 use Rattle.mysql_buf.proofs.laws.shortest_spellings.Goals as goal
 
 pub returns-clause-lenenc : goal.returns-clause-lenenc

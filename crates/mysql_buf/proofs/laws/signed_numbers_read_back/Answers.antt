@@ -1,4 +1,4 @@
-use Rattle.mysql_buf.proofs.NumberLaws.{big-signed-reads_back, little-signed-reads_back}
+use Rattle.mysql_buf.specs.NumberLaws.{big-signed-reads_back, little-signed-reads_back}
 use Rattle.mysql_buf.proofs.laws.signed_numbers_read_back.Goals as goal
 
 pub returns-clause-little : goal.returns-clause-little

@@ -1,4 +1,4 @@
-use Rattle.mysql_buf.proofs.TextLaws.{null-reads_back, u8_str-reads_back, u32_str-reads_back}
+use Rattle.mysql_buf.specs.TextLaws.{null-reads_back, u8_str-reads_back, u32_str-reads_back}
 use Rattle.mysql_buf.proofs.laws.texts_read_back.Goals as goal
 
 pub returns-clause-counted : goal.returns-clause-counted

@@ -1,4 +1,4 @@
-use Rattle.mysql_buf.proofs.Stands.{varlen_at-short}
+use Rattle.mysql_buf.proofs.ShortVarlen.{varlen_at-short}
 use Rattle.mysql_buf.proofs.varlen.read_varlen_uint.Goals as goal
 
 pub returns : goal.returns

@@ -1,29 +1,12 @@
--- What stands in the first bytes of a list.
-use Rattle.std.proofs.Common.{◌≡◌, ℕ, ◌+◌, ◌/◌, ◌^◌, ◌<◌, ◌≤◌, false, nat_eq, inl, inr, List, [], ◌∷◌, length, take, drop, Some, None, refl, sym, ap, ◌∙◌, arith}
-use Rattle.std.proofs.lemmas.Bool.{cases_lt, le-ltb, lt-ltb, ne_eqb}
+-- A number of variable length, read as its first byte says.
+use Rattle.std.proofs.Common.{◌≡◌, ℕ, ◌+◌, ◌/◌, ◌^◌, false, nat_eq, List, [], ◌∷◌, take, drop, Some, refl, sym, ap, ◌∙◌, arith}
+use Rattle.std.proofs.lemmas.Bool.{ne_eqb}
 use Rattle.std.specs.Int.{w8, trailing_ones}
 use Rattle.byteorder.specs.Endian.{little_number}
 use Rattle.byteorder.specs.Numbers.{little_from-take}
-use Rattle.mysql_buf.specs.Reading.{first, le_at, slice_at}
+use Rattle.mysql_buf.specs.FirstBytes.{first-enough, first-some}
+use Rattle.mysql_buf.specs.Reading.{le_at, slice_at}
 use Rattle.mysql_buf.specs.Varlen.{varlen_at}
-
--- where n bytes are there, what they hold stands first
-pub first-enough : {X : Type 0} (n : ℕ) (value : List ℕ → X) (bytes : List ℕ) → n ≤ length bytes → first n value bytes ≡ Some (value bytes, drop n bytes)
-unfolding first
-first-enough n value bytes h = rw (le-ltb (length bytes) n h) refl
-
--- where fewer bytes are there, nothing stands
-pub first-short : {X : Type 0} (n : ℕ) (value : List ℕ → X) (bytes : List ℕ) → length bytes < n → first n value bytes ≡ None
-unfolding first
-first-short n value bytes h = rw (lt-ltb (length bytes) n h) refl
-
--- what stands first is what the n bytes hold
-pub first-some : {X : Type 0} (n : ℕ) (value : List ℕ → X) (bytes : List ℕ) (p : X × List ℕ) → first n value bytes ≡ Some p
-    → (n ≤ length bytes) × (p ≡ (value bytes, drop n bytes))
-first-some n value bytes p h = elim (cases_lt (length bytes) n) [
-  | inl less ↦ let none = first-short n value bytes less in absurd (cc)
-  | inr enough ↦ let some = first-enough n value bytes enough in (enough, cc)
-]
 
 -- a short number of variable length, read as its first byte says
 pub varlen_at-short : (old rest bytes new : List ℕ) (b ones number : ℕ) → (b ≡ 255 → ⊥) → ones ≡ trailing_ones w8 b

@@ -10,9 +10,9 @@ use Rattle.std.specs.Int.{w8, trailing_ones}
 use Rattle.std.specs.Int.Count.{count_trailing_zeros}
 use Rattle.byteorder.specs.Endian.{little_bytes, little_number}
 use Rattle.byteorder.specs.Numbers.{length-bytes_low_first, little_from-lt, little_number-reads_back}
-use Rattle.mysql_buf.proofs.NumberLaws.{first-append, little-reads_back, pow-bytes}
-use Rattle.mysql_buf.proofs.Stands.{first-some}
-use Rattle.mysql_buf.proofs.TextLaws.{left-of}
+use Rattle.mysql_buf.specs.NumberLaws.{first-append, little-reads_back, pow-bytes}
+use Rattle.mysql_buf.specs.FirstBytes.{first-some}
+use Rattle.mysql_buf.specs.TextLaws.{left-of}
 use Rattle.mysql_buf.specs.Laws.{AreBytes}
 use Rattle.mysql_buf.specs.Reading.{first, le_at}
 use Rattle.mysql_buf.specs.Varlen.{marked, varlen, varlen_at, varlen_size}

@@ -9,7 +9,7 @@ use Rattle.std.specs.Int.{Width, w8, w16, w32, w64, w128, byte_len, cast_unsigne
 use mir.Val.{bits}
 use Rattle.byteorder.specs.Endian.{big_bytes, big_number, little_bytes, little_number, twos_complement}
 use Rattle.byteorder.specs.Numbers.{big_from-bytes, big_number-reads_back, length-bytes_high_first, length-bytes_low_first, little_from-bytes, little_number-reads_back}
-use Rattle.mysql_buf.proofs.Stands.{first-enough}
+use Rattle.mysql_buf.specs.FirstBytes.{first-enough}
 use Rattle.mysql_buf.specs.Laws.{FitsBytes}
 use Rattle.mysql_buf.specs.Reading.{be_at, be_signed_at, first, le_at, le_signed_at, slice_at}
 
