@@ -36,7 +36,7 @@ drop-past [] rest = refl
 drop-past (b ∷ text) rest = drop-past text rest
 
 -- a front has no more bytes than asked for
-front-bound : (text : List ℕ) (most : ℕ) → length (front text most) ≤ most
+pub front-bound : (text : List ℕ) (most : ℕ) → length (front text most) ≤ most
 unfolding front
 front-bound text most = omega (arith, length-take most text)
 
