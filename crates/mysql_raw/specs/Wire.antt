@@ -1,0 +1,59 @@
+-- What a read answers and what a write appends.
+-- (MySQL: Client/Server Protocol, "Protocol Basics: Basic Data Types".)
+use Rattle.std.specs.Prelude.{◌≡◌, ◌≢◌, ℕ, ◌≤◌, nat_lt, ⊤, Bool, true, false, List, ◌++◌, length, drop, Option, Some, None, Result, Ok, Err}
+use Rattle.mysql_raw.specs.declared.error.WireError.{WireError}
+use Rattle.mysql_raw.specs.declared.error.WireError.TheVariants.{UnexpectedEof, Memory}
+
+-- the value that stands first in a list of bytes and the bytes after it, or why none stands there
+abbrev pub Reading : Type 0 → Type 0
+Reading X = Result (X × List ℕ) WireError
+
+-- a call refused with e where reading does; want of memory may stand in place of any answer
+abbrev pub Refuses : {Y : Type 0} → WireError → Reading Y → Type 0
+Refuses e reading = e ≢ Memory → reading ≡ Err e
+
+-- a call gave what reading gives, the value seen by view and what is left; or the same refusal
+abbrev pub GivesPart : {X Y : Type 0} → (X → Y) → List ℕ → Result X WireError → Reading Y → Type 0
+GivesPart view new (Ok x) reading = reading ≡ Ok (view x, new)
+GivesPart view new (Err e) reading = Refuses e reading
+
+-- a call gave what reading gives: the value, seen by view, and what is left; or the same refusal, and all is left
+abbrev pub Gives : {X Y : Type 0} → (X → Y) → List ℕ → List ℕ → Result X WireError → Reading Y → Type 0
+Gives view old new (Ok x) reading = reading ≡ Ok (view x, new)
+Gives view old new (Err e) reading = Refuses e reading × (new ≡ old)
+
+-- the same of a call that asks for no memory: its refusal is the reading's
+abbrev pub Tells : {X Y : Type 0} → (X → Y) → List ℕ → List ℕ → Result X WireError → Reading Y → Type 0
+Tells view old new (Ok x) reading = reading ≡ Ok (view x, new)
+Tells view old new (Err e) reading = (reading ≡ Err e) × (new ≡ old)
+
+-- these are too few bytes for a value of that size, where there is one
+abbrev pub lacks : Option ℕ → ℕ → Bool
+lacks None len = false
+lacks (Some n) len = nat_lt len n
+
+-- these are enough bytes for a value of that size, where there is one
+abbrev pub Suffices : Option ℕ → ℕ → Type 0
+Suffices None len = ⊤
+Suffices (Some n) len = n ≤ len
+
+-- where there is a size, so many bytes are needed and eaten
+pub record IsSized {X : Type 0} (size : Option ℕ) (read_at : List ℕ → Reading X) : Type 0 where
+  pub needed : (bytes : List ℕ) → lacks size (length bytes) ≡ true → read_at bytes ≡ Err UnexpectedEof
+  pub eaten : (n : ℕ) (bytes rest : List ℕ) (x : X) → size ≡ Some n → read_at bytes ≡ Ok (x, rest) → rest ≡ drop n bytes
+
+-- a call appended exactly these bytes, or refused and left the buffer as it was
+abbrev pub Appends : {E : Type 0} → Result (Unit {0}) E → List ℕ → List ℕ → List ℕ → Type 0
+Appends (Ok _) old new bytes = new ≡ old ++ bytes
+Appends (Err _) old new bytes = new ≡ old
+
+-- one reading after another
+infixl 10 ◌>>=◌
+abbrev pub ◌>>=◌ : {A B : Type 0} → Result A WireError → (A → Result B WireError) → Result B WireError
+(Ok x) >>= f = f x
+(Err e) >>= f = Err e
+
+-- what stands first, or the end of the bytes
+abbrev pub or_end : {X : Type 0} → Option X → Result X WireError
+or_end None = Err UnexpectedEof
+or_end (Some x) = Ok x

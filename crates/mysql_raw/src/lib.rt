@@ -1,0 +1,13 @@
+//! Wire representations: how values are written as bytes and read from them.
+#![tactic(auto)]
+
+mod error;
+mod int;
+mod io;
+
+pub use crate::error::WireError;
+pub use crate::int::{
+    IntRepr, LeI16, LeI24, LeI32, LeI56, LeI64, LeU16, LeU24, LeU32, LeU32LowerHalf,
+    LeU32UpperHalf, LeU48, LeU56, LeU64, LenEnc, RawInt, VarLen,
+};
+pub use crate::io::{MyDeserialize, MySerialize, ParseExt, Readable, ReadsBack};
