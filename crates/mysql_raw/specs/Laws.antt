@@ -5,8 +5,8 @@ use Rattle.std.specs.Int.{Width, w8, w16, w32, w64, byte_len, cast_unsigned}
 use Rattle.byteorder.specs.Endian.{little_bytes, little_number, twos_complement}
 use Rattle.mysql_buf.specs.FirstBytes.{first-enough, first-short}
 use Rattle.mysql_buf.specs.Laws.{FitsBytes}
-use Rattle.mysql_buf.specs.NumberLaws.{little-reads_back, little-signed-reads_back}
-use Rattle.mysql_buf.specs.Reading.{first}
+use Rattle.mysql_buf.specs.NumberLaws.{little-reads_back, little-signed-reads_back, slice_at-append}
+use Rattle.mysql_buf.specs.Reading.{first, slice_at}
 use Rattle.mysql_buf.specs.TextLaws.{lenenc_int-reads_back}
 use Rattle.mysql_buf.specs.VarlenLaws.{varlen-reads_back}
 use Rattle.mysql_buf.specs.Varlen.{varlen}
@@ -74,6 +74,10 @@ raised_rest x y e = sym (ap (λ (z : ℕ × List ℕ). z.1) (ok_same (x.0 * 2 ^ 
 
 pub upper_half_at-sized : IsSized (Some 2) upper_half_at
 upper_half_at-sized = sized-then (Some 2) (little_at 2) raised (little_at-sized 2) raised_rest
+
+-- the slice of a text's length is the text
+pub slice_at-back : (n : ℕ) (text rest : List ℕ) → n ≡ length text → slice_at n (text ++ rest) ≡ Some (text, rest)
+slice_at-back n text rest h = ap (λ (k : ℕ). slice_at k (text ++ rest)) h ∙ slice_at-append text rest
 
 -- a number that was written is read again, whatever follows
 pub little_at-back : (n x : ℕ) (rest : List ℕ) → x < 256 ^ n → little_at n (little_bytes n x ++ rest) ≡ Ok (x, rest)

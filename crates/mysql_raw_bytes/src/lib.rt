@@ -1,0 +1,9 @@
+//! Wire representations of texts.
+#![tactic(auto)]
+
+mod texts;
+
+pub use crate::texts::{
+    BareBytes, BareU8Bytes, BareU16Bytes, BytesRepr, EofBytes, FixedLengthText, NullBytes,
+    RawBytes, U8Bytes, U32Bytes,
+};

@@ -1,0 +1,3 @@
+pub mod ConstantLaws
+pub mod Constants
+pub mod Either

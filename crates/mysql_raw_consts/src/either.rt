@@ -1,0 +1,64 @@
+//! One of two values.
+
+ghost use Rattle.std.specs.Prelude.{◌⊎◌, None};
+ghost use Rattle.mysql_raw_consts.specs.Either.{EitherIsReadBack, either_at, either_shown, either_written};
+ghost use Rattle.mysql_raw.specs.Laws.{unsized};
+
+use mysql_buf::ParseBuf;
+use mysql_raw::{MyDeserialize, MySerialize, ParseExt, Readable, WireError};
+use std::alloc::{AllocError, Global};
+
+/// One of two values, which writes what it holds. The context says which of the two is read.
+#[derive(Drop)]
+pub enum Either<T, U> {
+    /// The first.
+    Left(T),
+    /// The second.
+    Right(U),
+}
+
+impl<T: MySerialize, U: MySerialize> MySerialize for Either<T, U> {
+    ghost written = { λ x. either_written T.written U.written x };
+
+    fn serialize(&self, buf: &mut Vec<u8>) -> Result<(), AllocError> {
+        match self {
+            Either::Left(x) => x.serialize(buf),
+            Either::Right(y) => y.serialize(buf),
+        }
+    }
+}
+
+impl<T: Readable, U: Readable> Readable for Either<T, U> {
+    type Ctx = Either<T::Ctx, U::Ctx>;
+
+    ghost SIZE = { None };
+
+    ghost Shown = { T.Shown ⊎ U.Shown };
+
+    ghost shown = { either_shown T.shown U.shown };
+
+    ghost read_at = { either_at T.read_at U.read_at };
+
+    ghost kept = { either_shown T.kept U.kept };
+
+    ghost IsReadBack = { EitherIsReadBack T.IsReadBack U.IsReadBack };
+
+    ghost sized = { λ ctx. unsized (either_at T.read_at U.read_at ctx) };
+
+    fn size() -> Option<usize> {
+        None
+    }
+}
+
+impl<'de, T: MyDeserialize<'de>, U: MyDeserialize<'de>> MyDeserialize<'de> for Either<T, U> {
+    fn deserialize(
+        alloc: Global,
+        ctx: Either<T::Ctx, U::Ctx>,
+        buf: &mut ParseBuf<'de>,
+    ) -> Result<Either<T, U>, WireError> {
+        match ctx {
+            Either::Left(ctx) => Ok(Either::Left(buf.parse(alloc, ctx)?)),
+            Either::Right(ctx) => Ok(Either::Right(buf.parse(alloc, ctx)?)),
+        }
+    }
+}
