@@ -1,0 +1,18 @@
+-- The forms in which lists are read.
+-- (MySQL: Client/Server Protocol, "Protocol Basics: Basic Data Types".)
+use Rattle.std.specs.Prelude.{ℕ, zero, suc, List, [], ◌∷◌, Ok}
+use Rattle.mysql_raw.specs.Wire.{Reading, ◌>>=◌}
+
+-- so many elements, one after another
+unfoldable pub elements_at : {Y : Type 0} → (List ℕ → Reading Y) → ℕ → List ℕ → Reading (List Y)
+elements_at read_at zero bytes = Ok ([], bytes)
+elements_at read_at (suc n) bytes = do
+  first ← read_at bytes
+  others ← elements_at read_at n first.1
+  Ok (first.0 ∷ others.0, others.1)
+
+-- a count, and so many elements
+unfoldable pub counted_at : {Y : Type 0} → (List ℕ → Reading ℕ) → (List ℕ → Reading Y) → List ℕ → Reading (List Y)
+counted_at count_at read_at bytes = do
+  count ← count_at bytes
+  elements_at read_at count.0 count.1

@@ -1,0 +1,6 @@
+//! Wire representations of lists.
+#![tactic(auto)]
+
+mod lists;
+
+pub use crate::lists::{Seq, SeqRepr, Unknown};
