@@ -1,0 +1,109 @@
+//! Texts in their representations.
+
+use crate::support::{first_of, written};
+use mysql_buf::ParseBuf;
+use mysql_raw::{LenEnc, ParseExt, VarLen, WireError};
+use mysql_raw_bytes::{
+    BareBytes, BytesRepr, EofBytes, FixedLengthText, NullBytes, RawBytes, U8Bytes, U32Bytes,
+};
+use std::alloc::Global;
+use std::borrow::CowSlice;
+use std::process::Abort;
+
+// The bytes of a text in a representation, through its bound.
+fn text<T: BytesRepr>(rt: &impl Abort, alloc: Global, bytes: &[u8]) -> Vec<u8> {
+    let value: RawBytes<T> = RawBytes::new(CowSlice::Borrowed(bytes));
+    written(rt, alloc, &value)
+}
+
+#[test]
+fn texts_after_a_length(rt: HostRuntime) {
+    let alloc = rt.alloc();
+    assert_eq!(rt;
+        text::<LenEnc>(&rt, alloc, b"ab").as_slice(),
+        b"\x02ab".as_slice()
+    );
+    assert_eq!(rt;
+        text::<U8Bytes>(&rt, alloc, b"ab").as_slice(),
+        b"\x02ab".as_slice()
+    );
+    assert_eq!(rt;
+        text::<U32Bytes>(&rt, alloc, b"a").as_slice(),
+        b"\x01\x00\x00\x00a".as_slice()
+    );
+    assert_eq!(rt;
+        text::<VarLen>(&rt, alloc, b"app").as_slice(),
+        b"\x06app".as_slice()
+    );
+}
+
+#[test]
+fn texts_without_a_length(rt: HostRuntime) {
+    let alloc = rt.alloc();
+    assert_eq!(rt;
+        text::<NullBytes>(&rt, alloc, b"a\x00b").as_slice(),
+        b"a\x00".as_slice()
+    );
+    assert_eq!(rt;
+        text::<EofBytes>(&rt, alloc, b"ab").as_slice(),
+        b"ab".as_slice()
+    );
+    assert_eq!(rt;
+        text::<BareBytes<3>>(&rt, alloc, b"abcd").as_slice(),
+        b"abc".as_slice()
+    );
+    assert_eq!(rt;
+        text::<FixedLengthText<4>>(&rt, alloc, b"ab").as_slice(),
+        b"ab\x00\x00".as_slice()
+    );
+    assert_eq!(rt;
+        text::<FixedLengthText<1>>(&rt, alloc, b"ab").as_slice(),
+        b"a".as_slice()
+    );
+}
+
+#[test]
+fn texts_read(rt: HostRuntime) {
+    let mut buf = ParseBuf(b"\x02ab\x01c\x06appde\x00f");
+    match first_of::<RawBytes<LenEnc>>(rt.alloc(), &mut buf) {
+        Ok(value) => assert_eq!(rt; value.as_bytes(), b"ab".as_slice()),
+        Err(_) => assert!(rt; false),
+    }
+    match first_of::<RawBytes<U8Bytes>>(rt.alloc(), &mut buf) {
+        Ok(value) => assert_eq!(rt; value.as_bytes(), b"c".as_slice()),
+        Err(_) => assert!(rt; false),
+    }
+    match first_of::<RawBytes<VarLen>>(rt.alloc(), &mut buf) {
+        Ok(value) => assert_eq!(rt; value.as_bytes(), b"app".as_slice()),
+        Err(_) => assert!(rt; false),
+    }
+    match first_of::<RawBytes<NullBytes>>(rt.alloc(), &mut buf) {
+        Ok(value) => assert_eq!(rt; value.len(), 2),
+        Err(_) => assert!(rt; false),
+    }
+    assert_eq!(rt; buf.len(), 1);
+}
+
+#[test]
+fn texts_refused(rt: HostRuntime) {
+    let mut buf = ParseBuf(b"abcd");
+    assert!(rt;
+        matches!(
+            buf.parse::<RawBytes<BareBytes<3>>>(rt.alloc(), 4),
+            Err(WireError::TooManyBytes)
+        )
+    );
+    assert!(rt;
+        matches!(
+            first_of::<RawBytes<NullBytes>>(rt.alloc(), &mut buf),
+            Err(WireError::UnexpectedEof)
+        )
+    );
+    assert!(rt;
+        matches!(
+            first_of::<RawBytes<FixedLengthText<5>>>(rt.alloc(), &mut buf),
+            Err(WireError::UnexpectedEof)
+        )
+    );
+    assert_eq!(rt; buf.len(), 4);
+}
