@@ -1,5 +1,5 @@
 -- The forms of constants have their sizes, and what is written in them reads back.
-use Rattle.std.proofs.Common.{◌≡◌, ◌==◌, ◌^◌, ◌<◌, Bool, true, false, cond, ℕ, List, [], ◌∷◌, ◌++◌, length, take, replicate, Option, Some, None, Ok, Err, refl, sym, ap, eq-eqb, arith}
+use Rattle.std.proofs.Common.{◌≡◌, ◌==◌, ◌^◌, ◌<◌, Bool, true, false, cond, ℕ, List, [], ◌∷◌, ◌++◌, length, take, replicate, Option, Some, None, Ok, Err, refl, sym, ap, eq-eqb}
 use Rattle.std.proofs.lemmas.List.{length-replicate}
 use Rattle.std.specs.Str.{bytes_eq}
 use Rattle.byteorder.specs.Endian.{little_bytes}
@@ -7,7 +7,7 @@ use Rattle.mysql_buf.specs.Reading.{slice_at}
 use Rattle.mysql_raw_consts.specs.Constants.{constant_at, ignored, is_constant, is_text, named_at, or_unknown, text_constant_at, zeros_at}
 use Rattle.mysql_raw.specs.Forms.{little_at}
 use Rattle.mysql_raw.specs.Laws.{done, first-sized, little_at-back, little_at-sized, ok_same, sized-then, slice_at-back}
-use Rattle.mysql_raw.specs.Wire.{IsSized, Reading, or_end, ◌>>=◌}
+use Rattle.mysql_raw.specs.Wire.{IsSized, Reading, or_end}
 use Rattle.mysql_raw.specs.declared.error.WireError.TheVariants.{BadConstant}
 
 constant_rest : (n : ℕ) (x y : ℕ × List ℕ) → is_constant n x ≡ Ok y → y.1 ≡ x.1

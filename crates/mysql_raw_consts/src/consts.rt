@@ -285,6 +285,13 @@ impl<'de, T: ConstBytesValue<LEN>, const LEN: usize> MyDeserialize<'de> for Cons
 }
 
 impl<T: Flags, U: IntRepr<Primitive = T::Bits>> RawFlags<T, U> {
+    /// A set that is to be written, its unknown bits too.
+    pub fn new(bits: T::Bits) -> RawFlags<T, U>
+        ensures { result.0 ≡ bits }
+    {
+        RawFlags(bits, PhantomData)
+    }
+
     /// The known flags; unknown bits are dropped.
     pub fn get(&self) -> T
         ensures { T.exact → T.set_of result ≡ bit_and (T.Bits.pattern self.now.0) (known_bits T.table) }

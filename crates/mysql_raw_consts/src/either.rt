@@ -2,10 +2,11 @@
 
 ghost use Rattle.std.specs.Prelude.{◌⊎◌, None};
 ghost use Rattle.mysql_raw_consts.specs.Either.{EitherIsReadBack, either_at, either_shown, either_written};
+ghost use Rattle.mysql_raw_consts.specs.EitherLaws.{either-back};
 ghost use Rattle.mysql_raw.specs.Laws.{unsized};
 
 use mysql_buf::ParseBuf;
-use mysql_raw::{MyDeserialize, MySerialize, ParseExt, Readable, WireError};
+use mysql_raw::{MyDeserialize, MySerialize, ParseExt, Readable, ReadsBack, WireError};
 use std::alloc::{AllocError, Global};
 
 /// One of two values, which writes what it holds. The context says which of the two is read.
@@ -48,6 +49,10 @@ impl<T: Readable, U: Readable> Readable for Either<T, U> {
     fn size() -> Option<usize> {
         None
     }
+}
+
+impl<T: ReadsBack, U: ReadsBack> ReadsBack for Either<T, U> {
+    ghost reads_back = { either-back T.IsReadBack U.IsReadBack T.written U.written T.read_at U.read_at T.kept U.kept T.reads_back U.reads_back };
 }
 
 impl<'de, T: MyDeserialize<'de>, U: MyDeserialize<'de>> MyDeserialize<'de> for Either<T, U> {
