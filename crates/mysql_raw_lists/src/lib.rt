@@ -2,5 +2,7 @@
 #![tactic(auto)]
 
 mod lists;
+mod raw_seq;
 
 pub use crate::lists::{Seq, SeqRepr, Unknown};
+pub use crate::raw_seq::RawSeq;

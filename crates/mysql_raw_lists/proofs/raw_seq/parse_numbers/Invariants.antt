@@ -1,0 +1,8 @@
+use Rattle.std.proofs.Common.{◌≡◌, ◌-◌}
+use Rattle.mysql_raw_lists.specs.Lists.{elements_at}
+use Rattle.mysql_raw_lists.proofs.Elements.{with_front}
+use Rattle.mysql_raw_lists.proofs.raw_seq.parse_numbers.Given as goal
+
+abbrev pub invariant-loop : goal.invariant-loop
+invariant-loop g l =
+    with_front l.numbers.items (elements_at g.T.IntRepr.read_at (l.count - l.counter) l.rest.0.now) ≡ elements_at g.T.IntRepr.read_at l.count l.initial.rest.0.now
