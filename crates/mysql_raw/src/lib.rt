@@ -4,6 +4,7 @@
 mod error;
 mod int;
 mod io;
+mod protocol;
 
 pub use crate::error::WireError;
 pub use crate::int::{
@@ -11,3 +12,4 @@ pub use crate::int::{
     LeU32UpperHalf, LeU48, LeU56, LeU64, LenEnc, RawInt, VarLen,
 };
 pub use crate::io::{MyDeserialize, MySerialize, ParseExt, Readable, ReadsBack};
+pub use crate::protocol::{Binary, Text};
