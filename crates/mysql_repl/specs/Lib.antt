@@ -1,1 +1,4 @@
 pub mod Tags
+pub mod Refusals
+pub mod Intervals
+pub mod Sids
