@@ -56,7 +56,7 @@ tag_before_none front (field ∷ fields) fault some h = rw h refl
 is_colon : (c : ℕ) → not (c == 58) ≡ false → c ≡ 58
 is_colon c h = grind (arith, nat_tests)
 
-colon_at : (text : List ℕ) → position_or_len (λ (c : ℕ). c == 58) text < length text → get_or text (position_or_len (λ (c : ℕ). c == 58) text) 0 ≡ 58
+pub colon_at : (text : List ℕ) → position_or_len (λ (c : ℕ). c == 58) text < length text → get_or text (position_or_len (λ (c : ℕ). c == 58) text) 0 ≡ 58
 colon_at text within =
     let stops = prefix_len_stops (λ (c : ℕ). not (c == 58)) text 0 within in
     is_colon _ stops

@@ -2,3 +2,4 @@ pub mod Tags
 pub mod Refusals
 pub mod Intervals
 pub mod Sids
+pub mod Laws

@@ -3,6 +3,7 @@
 
 pub mod error;
 pub mod interval;
+pub mod laws;
 pub mod sid;
 pub mod tag;
 
