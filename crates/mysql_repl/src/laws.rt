@@ -1,6 +1,12 @@
-//! Laws of texts of sets. The functions do nothing: their contracts are the laws.
+//! Laws of texts of sets. Functions without a result do nothing: their contracts are the laws.
 
+ghost use Rattle.std.specs.Prelude.{◌≡◌, ◌↔◌, IsTrue};
+ghost use Rattle.std.specs.Ordering.{nat_cmp};
+ghost use Rattle.std.specs.Cmp.Lexicographic.{slice_cmp};
 ghost use Rattle.mysql_repl.specs.Laws.{ParsedEqualByText, ParsedReadsBack};
+
+use crate::tag::Tag;
+use std::cmp::Ordering;
 
 /// A set that a text writes is read from its own text.
 #[tactic(auto, using(crate::proofs::ReadBack::parsed_reads_back))]
@@ -13,3 +19,17 @@ pub fn parsed_sets_read_back()
 pub fn parsed_sets_are_equal_by_their_texts()
     ensures { ParsedEqualByText }
 {}
+
+/// Tags are equal exactly where their texts are.
+pub fn tags_are_equal_by_their_texts(a: &Tag<'_>, b: &Tag<'_>) -> bool
+    ensures { IsTrue result ↔ (a.now ≡ b.now) }
+{
+    a == b
+}
+
+/// Tags are ordered as the bytes of their texts.
+pub fn tags_are_ordered_by_their_bytes(a: &Tag<'_>, b: &Tag<'_>) -> Ordering
+    ensures { result ≡ slice_cmp nat_cmp a.now b.now }
+{
+    a.cmp(b)
+}

@@ -89,6 +89,19 @@ impl<'a> Sid<'a> {
         self
     }
 
+    /// A copy of the set, which borrows nothing.
+    pub fn clone(&self, alloc: Global) -> Result<Sid<'static>, AllocError>
+        ensures { IfOk result (λ sid. sid_view sid ≡ sid_view self.now) }
+    {
+        let tag = copied(alloc, &self.tag)?;
+        let intervals = Vec::from_slice(alloc, self.intervals.as_slice())?;
+        Ok(Sid {
+            uuid: self.uuid,
+            tag,
+            intervals,
+        })
+    }
+
     /// The bytes of the source's UUID.
     pub fn uuid(&self) -> [u8; UUID_LEN]
         ensures { result ≡ (sid_view self.now).uuid }
@@ -188,5 +201,15 @@ fn owned(alloc: Global, tag: Option<Tag<'_>>) -> Result<Option<Tag<'static>>, Al
     match tag {
         None => Ok(None),
         Some(tag) => Ok(Some(tag.into_owned(alloc)?)),
+    }
+}
+
+/// A copy of a tag, which borrows nothing.
+fn copied(alloc: Global, tag: &Option<Tag<'_>>) -> Result<Option<Tag<'static>>, AllocError>
+    ensures { IfOk result (λ own. own ≡ tag.now) }
+{
+    match tag {
+        None => Ok(None),
+        Some(tag) => Ok(Some(tag.clone(alloc)?)),
     }
 }
