@@ -2,7 +2,7 @@
 -- (MySQL: Client/Server Protocol, "Protocol Basics: Integer Types".)
 use Rattle.std.specs.Prelude.{ℕ, ℤ, ◌*◌, ◌/◌, ◌^◌, List, Ok}
 use Rattle.byteorder.specs.Endian.{little_bytes}
-use Rattle.mysql_buf.specs.Reading.{le_at, le_signed_at, lenenc_int_at}
+use Rattle.mysql_buf.specs.Reading.{le_at, le_signed_at, lenenc_int_at, slice_at}
 use Rattle.mysql_buf.specs.Varlen.{varlen_at}
 use Rattle.mysql_raw.specs.Wire.{Reading, or_end, ◌>>=◌}
 
@@ -32,3 +32,7 @@ raised p = Ok (p.0 * 2 ^ 16, p.1)
 
 abbrev pub upper_half_at : List ℕ → Reading ℕ
 upper_half_at bytes = little_at 2 bytes >>= raised
+
+-- n bytes as they stand
+abbrev pub bytes_at : ℕ → List ℕ → Reading (List ℕ)
+bytes_at n bytes = or_end (slice_at n bytes)

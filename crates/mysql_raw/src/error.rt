@@ -4,6 +4,7 @@ ghost use Rattle.std.specs.Prelude.{◌≡◌};
 ghost use Rattle.mysql_raw.specs.declared.error.WireError.TheVariants.{Memory};
 
 use std::alloc::{AllocError, AllocFailed};
+use thiserror::Error;
 
 /// Why bytes could not be read as a field, or a field not be written.
 /// (MySQL: Client/Server Protocol, "Protocol Basics: Basic Data Types".)
@@ -24,6 +25,12 @@ pub enum WireError {
     /// A growth of a buffer was refused.
     Memory = 7,
 }
+
+/// A length-encoded number that begins with a byte which no such number has.
+/// (MySQL: Client/Server Protocol, "Protocol::LengthEncodedInteger".)
+#[derive(Clone, Copy, Debug, PartialEq, Eq, Error)]
+#[error("invalid length-encoded number")]
+pub struct InvalidLengthEncodedInteger;
 
 impl From<AllocError> for WireError {
     ghost from_gives = { λ _ e. e ≡ Memory };

@@ -1,10 +1,11 @@
 -- The forms in which constants and named values are read.
 -- (MySQL: Client/Server Protocol, "Protocol Basics: Basic Data Types".)
-use Rattle.std.specs.Prelude.{◌==◌, ℕ, if◌then◌else◌, List, Option, Some, None, Ok, Err}
+use Rattle.std.specs.Prelude.{◌==◌, ℕ, if◌then◌else◌, List, Option, Some, None, Result, Ok, Err}
 use Rattle.std.specs.Str.{bytes_eq}
 use Rattle.mysql_buf.specs.Reading.{slice_at}
 use Rattle.mysql_raw.specs.Forms.{little_at}
 use Rattle.mysql_raw.specs.Wire.{Reading, or_end, ◌>>=◌}
+use Rattle.mysql_raw.specs.declared.error.WireError.{WireError}
 use Rattle.mysql_raw.specs.declared.error.WireError.TheVariants.{BadConstant, UnknownValue}
 
 -- a number that is the constant
@@ -35,6 +36,11 @@ text_constant_at n text bytes = or_end (slice_at n bytes) >>= is_text text
 abbrev pub or_unknown : {Y : Type 0} → Option Y → List ℕ → Reading Y
 or_unknown None rest = Err UnknownValue
 or_unknown (Some y) rest = Ok (y, rest)
+
+-- the value that a number names, or the refusal
+abbrev pub known : {Y : Type 0} → Option Y → Result Y WireError
+known None = Err UnknownValue
+known (Some y) = Ok y
 
 -- a value by its number
 abbrev pub named_at : {X Y : Type 0} → (X → Option Y) → (List ℕ → Reading X) → List ℕ → Reading Y

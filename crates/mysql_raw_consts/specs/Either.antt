@@ -1,10 +1,20 @@
 -- What is written and read of one of two values.
 -- (MySQL: Client/Server Protocol, "Protocol Basics: Basic Data Types".)
-use Rattle.std.specs.Prelude.{ℕ, List, Ok, ◌⊎◌}
+use Rattle.std.specs.Prelude.{ℕ, List, Ok, ◌⊎◌, ⊤}
 use Rattle.std.proofs.Common.{inl, inr}
 use Rattle.mysql_raw.specs.Wire.{Reading, ◌>>=◌}
 use Rattle.mysql_raw_consts.specs.declared.either.Either.{Either}
 use Rattle.mysql_raw_consts.specs.declared.either.Either.TheVariants.{Left, Right}
+
+-- the first is held
+abbrev pub IsLeft : {X Y : Type 0} → Either X Y → Type 0
+IsLeft (Left x) = ⊤
+IsLeft (Right y) = ⊥
+
+-- the second is held
+abbrev pub IsRight : {X Y : Type 0} → Either X Y → Type 0
+IsRight (Left x) = ⊥
+IsRight (Right y) = ⊤
 
 abbrev pub either_written : {X Y : Type 0} → (X → List ℕ) → (Y → List ℕ) → Either X Y → List ℕ
 either_written left right (Left x) = left x

@@ -2,3 +2,4 @@ pub mod ConstantLaws
 pub mod Constants
 pub mod Either
 pub mod EitherLaws
+pub mod NamedLaws

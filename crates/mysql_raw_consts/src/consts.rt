@@ -5,7 +5,7 @@ ghost use Rattle.std.specs.Int.RustNames.{bit_and};
 ghost use Rattle.bitflags.specs.Sets.{known_bits};
 ghost use Rattle.byteorder.specs.Endian.{little_bytes};
 ghost use Rattle.mysql_raw_consts.specs.ConstantLaws.{constant_at-back, constant_at-sized, named_at-back, named_at-sized, text_constant_at-back, text_constant_at-sized, zeros_at-back, zeros_at-sized};
-ghost use Rattle.mysql_raw_consts.specs.Constants.{constant_at, named_at, text_constant_at, zeros_at};
+ghost use Rattle.mysql_raw_consts.specs.Constants.{constant_at, known, named_at, text_constant_at, zeros_at};
 
 use bitflags::Flags;
 use bytes::BufMut;
@@ -285,7 +285,7 @@ impl<'de, T: ConstBytesValue<LEN>, const LEN: usize> MyDeserialize<'de> for Cons
 }
 
 impl<T: Flags, U: IntRepr<Primitive = T::Bits>> RawFlags<T, U> {
-    /// A set that is to be written, its unknown bits too.
+    /// Bits that are to be written.
     pub fn new(bits: T::Bits) -> RawFlags<T, U>
         ensures { result.0 ≡ bits }
     {
@@ -420,5 +420,73 @@ impl<'de, T: ConstValue, U: IntRepr<Primitive = T::Number>> MyDeserialize<'de> f
             }
             None => Err(WireError::UnknownValue),
         }
+    }
+}
+
+/// The number of a constant in the representation `T`. Any number is held; `U` are the values that
+/// are meant.
+#[derive(Drop)]
+pub struct RawConst<T: IntRepr, U>(pub T::Primitive, PhantomData<U>);
+
+impl<T: IntRepr, U> RawConst<T, U> {
+    /// A number that is to be written.
+    pub fn new(number: T::Primitive) -> RawConst<T, U>
+        ensures { result.0 ≡ number }
+    {
+        RawConst(number, PhantomData)
+    }
+}
+
+impl<T: IntRepr, U: ConstValue<Number = T::Primitive>> RawConst<T, U> {
+    /// The value that has this number. Refused by `UnknownValue` where there is none.
+    pub fn get(&self) -> Result<U, WireError>
+        ensures { result ≡ known (U.named self.now.0) }
+    {
+        U::from_number(self.0).ok_or(WireError::UnknownValue)
+    }
+}
+
+impl<T: IntRepr, U> MySerialize for RawConst<T, U> {
+    ghost written = { λ x. T.written x.0 };
+
+    fn serialize(&self, buf: &mut Vec<u8>) -> Result<(), AllocError> {
+        T::serialize(self.0, buf)
+    }
+}
+
+impl<T: IntRepr, U> Readable for RawConst<T, U> {
+    type Ctx = ();
+
+    ghost SIZE = { T.SIZE };
+
+    ghost Shown = { T.Primitive };
+
+    ghost shown = { λ x. x.0 };
+
+    ghost read_at = { λ _ bytes. T.read_at bytes };
+
+    ghost kept = { λ x. x.0 };
+
+    ghost IsReadBack = { λ _ x _. T.IsKept x.0 };
+
+    ghost sized = { λ _. T.sized };
+
+    fn size() -> Option<usize> {
+        T::size()
+    }
+}
+
+impl<T: IntRepr, U> ReadsBack for RawConst<T, U> {
+    ghost reads_back = { λ _ x rest. T.reads_back x.0 rest };
+}
+
+impl<'de, T: IntRepr, U> MyDeserialize<'de> for RawConst<T, U> {
+    fn deserialize(
+        _alloc: Global,
+        _ctx: (),
+        buf: &mut ParseBuf<'de>,
+    ) -> Result<RawConst<T, U>, WireError> {
+        let number = T::deserialize(buf)?;
+        Ok(RawConst(number, PhantomData))
     }
 }

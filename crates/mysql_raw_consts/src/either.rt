@@ -1,8 +1,9 @@
 //! One of two values.
 
-ghost use Rattle.std.specs.Prelude.{◌⊎◌, None};
-ghost use Rattle.mysql_raw_consts.specs.Either.{EitherIsReadBack, either_at, either_shown, either_written};
-ghost use Rattle.mysql_raw_consts.specs.EitherLaws.{either-back};
+ghost use Rattle.std.specs.Prelude.{◌≡◌, ◌⊎◌, None};
+ghost use Rattle.mysql_raw_consts.specs.Either.{EitherIsReadBack, IsLeft, IsRight, either_at, either_shown, either_written};
+ghost use Rattle.mysql_raw_consts.specs.EitherLaws.{either_at-back};
+ghost use Rattle.mysql_raw_consts.specs.declared.either.Either.TheVariants.{Left, Right};
 ghost use Rattle.mysql_raw.specs.Laws.{unsized};
 
 use mysql_buf::ParseBuf;
@@ -16,6 +17,30 @@ pub enum Either<T, U> {
     Left(T),
     /// The second.
     Right(U),
+}
+
+impl<T: Drop, U: Drop> Either<T, U> {
+    /// The first. It has to be held.
+    pub fn unwrap_left(self) -> T
+        requires { IsLeft self }
+        ensures { self ≡ Left result }
+    {
+        match self {
+            Either::Left(x) => x,
+            Either::Right(_) => unreachable!(),
+        }
+    }
+
+    /// The second. It has to be held.
+    pub fn unwrap_right(self) -> U
+        requires { IsRight self }
+        ensures { self ≡ Right result }
+    {
+        match self {
+            Either::Left(_) => unreachable!(),
+            Either::Right(y) => y,
+        }
+    }
 }
 
 impl<T: MySerialize, U: MySerialize> MySerialize for Either<T, U> {
@@ -52,7 +77,7 @@ impl<T: Readable, U: Readable> Readable for Either<T, U> {
 }
 
 impl<T: ReadsBack, U: ReadsBack> ReadsBack for Either<T, U> {
-    ghost reads_back = { either-back T.IsReadBack U.IsReadBack T.written U.written T.read_at U.read_at T.kept U.kept T.reads_back U.reads_back };
+    ghost reads_back = { either_at-back T.IsReadBack U.IsReadBack T.written U.written T.kept U.kept T.read_at U.read_at T.reads_back U.reads_back };
 }
 
 impl<'de, T: MyDeserialize<'de>, U: MyDeserialize<'de>> MyDeserialize<'de> for Either<T, U> {

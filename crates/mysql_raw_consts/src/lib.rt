@@ -3,10 +3,9 @@
 
 mod consts;
 mod either;
-mod raw_const;
+mod named;
 
 pub use crate::consts::{
-    Const, ConstBytes, ConstBytesValue, ConstU8, ConstU32, ConstValue, RawFlags, Skip,
+    Const, ConstBytes, ConstBytesValue, ConstU8, ConstU32, ConstValue, RawConst, RawFlags, Skip,
 };
 pub use crate::either::Either;
-pub use crate::raw_const::RawConst;

@@ -1,6 +1,7 @@
 -- The forms in which lists are read.
 -- (MySQL: Client/Server Protocol, "Protocol Basics: Basic Data Types".)
-use Rattle.std.specs.Prelude.{ℕ, zero, suc, List, [], ◌∷◌, Ok}
+use Rattle.std.specs.Prelude.{◌≡◌, ◌⊎◌, ◌++◌, ℕ, zero, suc, List, [], ◌∷◌, Ok}
+use Rattle.std.specs.List.{AllZip}
 use Rattle.mysql_raw.specs.Wire.{Reading, ◌>>=◌}
 
 -- so many elements, one after another
@@ -16,3 +17,11 @@ unfoldable pub counted_at : {Y : Type 0} → (List ℕ → Reading ℕ) → (Lis
 counted_at count_at read_at bytes = do
   count ← count_at bytes
   elements_at read_at count.0 count.1
+
+-- the same elements, or a clone of each in its place
+abbrev pub IsCopied : {X : Type 0} → (X → X → Type 0) → List X → List X → Type 0
+IsCopied is_clone old new = (new ≡ old) ⊎ AllZip is_clone old new
+
+-- these elements, or a clone of each, and one more at the end
+abbrev pub IsGrown : {X : Type 0} → (X → X → Type 0) → List X → X → List X → Type 0
+IsGrown {X} is_clone old last new = (front : List X) × IsCopied is_clone old front × (new ≡ front ++ last ∷ [])

@@ -1,14 +1,14 @@
 //! Lists of values.
 
-ghost use Rattle.std.specs.Prelude.{◌≡◌, ◌<◌, ◌≤◌, ◌-◌, ◌^◌, List, None, Ok, Option, Some, [], ◌++◌, length, map, take, ℕ};
+ghost use Rattle.std.specs.Prelude.{◌≡◌, ◌==◌, ◌<◌, ◌≤◌, ◌-◌, ◌^◌, List, None, Ok, Option, Some, [], ◌∷◌, ◌++◌, IfErr, IfOk, length, map, take, ℕ};
 ghost use Rattle.std.proofs.Common.{ap};
-ghost use Rattle.std.specs.Cow.{cow_slice_items};
+ghost use Rattle.std.specs.Cow.{IsOwnedSlice, cow_slice_items};
 ghost use Rattle.std.specs.List.{AllByRecursion, flat_map};
 ghost use Rattle.byteorder.specs.Endian.{little_bytes};
 ghost use Rattle.mysql_buf.specs.Writing.{lenenc_int};
 ghost use Rattle.mysql_raw.specs.Forms.{lenenc_number_at, little_at};
 ghost use Rattle.mysql_raw.specs.Laws.{lenenc_number_at-back, little_at-back, unsized};
-ghost use Rattle.mysql_raw_lists.specs.Lists.{counted_at, elements_at};
+ghost use Rattle.mysql_raw_lists.specs.Lists.{IsCopied, IsGrown, counted_at, elements_at};
 ghost use Rattle.mysql_raw_lists.specs.ListLaws.{counted, counted_at-back};
 ghost use Rattle.mysql_raw.specs.Wire.{Appends, GivesPart, IsSized, Reading, Suffices, Tells};
 
@@ -260,6 +260,66 @@ impl<'a, T, U> Seq<'a, T, U> {
         ensures { cow_slice_items result.0 ≡ cow_slice_items all.entry }
     {
         Seq(all, PhantomData)
+    }
+
+    /// The number of its elements.
+    pub fn len(&self) -> usize
+        ensures { result ≡ length (cow_slice_items self.now.0) }
+    {
+        self.0.len()
+    }
+
+    /// Whether it has no elements.
+    pub fn is_empty(&self) -> bool
+        ensures { result ≡ (length (cow_slice_items self.now.0) == 0) }
+    {
+        self.len() == 0
+    }
+}
+
+impl<T, U> Seq<'static, T, U> {
+    /// A list without elements.
+    pub fn empty() -> Seq<'static, T, U>
+        ensures { cow_slice_items result.0 ≡ [] }
+    {
+        Seq(CowSlice::Borrowed(&[]), PhantomData)
+    }
+}
+
+impl<'a, T: Clone, U> Seq<'a, T, U> {
+    /// Appends an element; borrowed ones are cloned first. Refused for want of memory alone, and
+    /// the list is then as it was.
+    pub fn push(&mut self, alloc: Global, element: T) -> Result<(), AllocError>
+        ensures grown { IfOk result (λ _. IsGrown T.is_clone (cow_slice_items self.old.0) element (cow_slice_items self.new.0)) }
+        ensures grown_if_clones_equal { IfOk result (λ _. ((x y : T) → T.is_clone x y → y ≡ x) → cow_slice_items self.new.0 ≡ cow_slice_items self.old.0 ++ element ∷ []) }
+        ensures grown_if_owned { IfOk result (λ _. IsOwnedSlice self.old.0 → cow_slice_items self.new.0 ≡ cow_slice_items self.old.0 ++ element ∷ []) }
+        ensures refused { IfErr result (λ _. cow_slice_items self.new.0 ≡ cow_slice_items self.old.0) }
+    {
+        match &mut self.0 {
+            CowSlice::Owned(all) => all.push(element)?,
+            CowSlice::Borrowed(all) => {
+                let mut owned = Vec::from_clones(alloc, all)?;
+                owned.push(element)?;
+                self.0 = CowSlice::Owned(owned);
+            }
+        }
+        Ok(())
+    }
+}
+
+impl<'a, T: Clone, U> Seq<'a, T, U> {
+    /// The same list, owned; borrowed elements are cloned. Refused for want of memory alone.
+    pub fn into_owned<'b>(self, alloc: Global) -> Result<Seq<'b, T, U>, AllocError>
+        ensures same { IfOk result (λ owned. IsCopied T.is_clone (cow_slice_items self.entry.0) (cow_slice_items owned.0)) }
+        ensures same_if_clones_equal { IfOk result (λ owned. ((x y : T) → T.is_clone x y → y ≡ x) → cow_slice_items owned.0 ≡ cow_slice_items self.entry.0) }
+        ensures same_if_owned { IfOk result (λ owned. IsOwnedSlice self.entry.0 → cow_slice_items owned.0 ≡ cow_slice_items self.entry.0) }
+        ensures owned { IfOk result (λ owned. IsOwnedSlice owned.0) }
+    {
+        let all = match self.0 {
+            CowSlice::Borrowed(all) => Vec::from_clones(alloc, all)?,
+            CowSlice::Owned(all) => all,
+        };
+        Ok(Seq(CowSlice::Owned(all), PhantomData))
     }
 }
 

@@ -1,12 +1,12 @@
 //! Lists of numbers.
 
-ghost use Rattle.std.specs.Prelude.{◌≡◌, ◌↔◌, ◌+◌, ◌<◌, ◌==◌, ◌∷◌, ◌++◌, IfSome, IsSome, List, None, drop, length, take};
-ghost use Rattle.std.specs.Cow.{cow_slice_items};
-ghost use Rattle.std.specs.List.{AllByRecursion, flat_map};
+ghost use Rattle.std.specs.Prelude.{◌≡◌, ◌==◌, List, None, Ok, Option, [], ◌++◌, IfOk, length, take, ℕ};
+ghost use Rattle.std.specs.Cow.{IsOwnedSlice, cow_slice_items};
+ghost use Rattle.std.specs.List.{AllByRecursion, flat_map, slice_get};
 ghost use Rattle.mysql_raw.specs.Laws.{unsized};
-ghost use Rattle.mysql_raw.specs.Wire.{Appends, GivesPart};
-ghost use Rattle.mysql_raw_lists.specs.ListLaws.{numbers_at-back};
 ghost use Rattle.mysql_raw_lists.specs.Lists.{counted_at, elements_at};
+ghost use Rattle.mysql_raw_lists.specs.ListLaws.{counted, counted_numbers_at-back};
+ghost use Rattle.mysql_raw.specs.Wire.{Appends, GivesPart};
 
 use crate::lists::SeqRepr;
 use mysql_buf::ParseBuf;
@@ -17,20 +17,52 @@ use std::alloc::{AllocError, Global};
 use std::borrow::CowSlice;
 use std::marker::PhantomData;
 
-// Reads so many numbers; the list grows as they come.
-fn parse_numbers<T: IntRepr>(
-    alloc: Global,
-    count: usize,
-    rest: &mut ParseBuf,
-) -> Result<Vec<T::Primitive>, WireError>
-    ensures { GivesPart (λ v. v.items) rest.new.0.now result (elements_at T.read_at count rest.old.0.now) }
-{
-    let mut numbers = Vec::new(alloc);
-    for _ in 0..count {
-        let number: RawInt<T> = rest.parse(alloc, ())?;
-        numbers.push(number.0)?;
+/// A list of numbers in the representation `T`, counted in the representation `U`. At most as many
+/// numbers as `U` counts are written.
+/// (MySQL: Client/Server Protocol, "Protocol Basics: Integer Types".)
+#[derive(Drop)]
+pub struct RawSeq<'a, T: IntRepr, U>(pub CowSlice<'a, T::Primitive>, PhantomData<U>);
+
+impl<'a, T: IntRepr, U> RawSeq<'a, T, U> {
+    /// A list that is to be written.
+    pub fn new(all: CowSlice<'a, T::Primitive>) -> RawSeq<'a, T, U>
+        ensures { cow_slice_items result.0 ≡ cow_slice_items all.entry }
+    {
+        RawSeq(all, PhantomData)
     }
-    Ok(numbers)
+
+    /// The number of its elements.
+    pub fn len(&self) -> usize
+        ensures { result ≡ length (cow_slice_items self.now.0) }
+    {
+        self.0.len()
+    }
+
+    /// Whether it has no elements.
+    pub fn is_empty(&self) -> bool
+        ensures { result ≡ (length (cow_slice_items self.now.0) == 0) }
+    {
+        self.len() == 0
+    }
+
+    /// The number at this place, counted from 0, where there is one.
+    pub fn get(&self, index: usize) -> Option<T::Primitive>
+        ensures { result ≡ slice_get (cow_slice_items self.now.0) index }
+    {
+        self.0.as_slice().get(index).copied()
+    }
+
+    /// The same list, owned. Refused for want of memory alone.
+    pub fn into_owned<'b>(self, alloc: Global) -> Result<RawSeq<'b, T, U>, AllocError>
+        ensures same { IfOk result (λ owned. cow_slice_items owned.0 ≡ cow_slice_items self.entry.0) }
+        ensures owned { IfOk result (λ owned. IsOwnedSlice owned.0) }
+    {
+        let all = match self.0 {
+            CowSlice::Borrowed(all) => Vec::from_slice(alloc, all)?,
+            CowSlice::Owned(all) => all,
+        };
+        Ok(RawSeq(CowSlice::Owned(all), PhantomData))
+    }
 }
 
 // Appends all numbers or none.
@@ -47,41 +79,20 @@ fn put_numbers<T: IntRepr>(all: &[T::Primitive], buf: &mut Vec<u8>) -> Result<()
     Ok(())
 }
 
-/// Numbers in the representation `T`, counted in the representation `U`. At most as many numbers
-/// as `U` counts are written.
-/// (MySQL: Client/Server Protocol, "Protocol Basics: Integer Types".)
-#[derive(Drop)]
-pub struct RawSeq<'a, T: IntRepr, U>(pub CowSlice<'a, T::Primitive>, PhantomData<U>);
-
-impl<'a, T: IntRepr, U> RawSeq<'a, T, U> {
-    /// Numbers that are to be written.
-    pub fn new(numbers: CowSlice<'a, T::Primitive>) -> RawSeq<'a, T, U>
-        ensures { cow_slice_items result.0 ≡ cow_slice_items numbers.entry }
-    {
-        RawSeq(numbers, PhantomData)
+// Reads so many numbers; the list grows as they come.
+fn parse_numbers<T: IntRepr>(
+    alloc: Global,
+    count: usize,
+    rest: &mut ParseBuf,
+) -> Result<Vec<T::Primitive>, WireError>
+    ensures { GivesPart (λ v. v.items) rest.new.0.now result (elements_at T.read_at count rest.old.0.now) }
+{
+    let mut items = Vec::new(alloc);
+    for _ in 0..count {
+        let item: RawInt<T> = rest.parse(alloc, ())?;
+        items.push(item.0)?;
     }
-
-    /// How many numbers there are.
-    pub fn len(&self) -> usize
-        ensures { result ≡ length (cow_slice_items self.now.0) }
-    {
-        self.0.as_slice().len()
-    }
-
-    /// Whether there is none.
-    pub fn is_empty(&self) -> bool
-        ensures { result ≡ (length (cow_slice_items self.now.0) == 0) }
-    {
-        self.0.as_slice().is_empty()
-    }
-
-    /// The number at a place, or `None` where there is no such place.
-    pub fn get(&self, place: usize) -> Option<T::Primitive>
-        ensures some { IsSome result ↔ (place < length (cow_slice_items self.now.0)) }
-        ensures value { IfSome result (λ number. drop place (cow_slice_items self.now.0) ≡ number ∷ drop (place + 1) (cow_slice_items self.now.0)) }
-    {
-        self.0.as_slice().get(place).copied()
-    }
+    Ok(items)
 }
 
 impl<'a, T: IntRepr, U: SeqRepr> MySerialize for RawSeq<'a, T, U> {
@@ -126,7 +137,7 @@ impl<'a, T: IntRepr, U: SeqRepr> Readable for RawSeq<'a, T, U> {
 }
 
 impl<'a, T: IntRepr, U: SeqRepr> ReadsBack for RawSeq<'a, T, U> {
-    ghost reads_back = { λ ctx x rest h. numbers_at-back T.IsKept T.written T.read_at T.reads_back U.written (U.read_at ctx) (U.IsReadBack ctx) U.MAX_LEN (U.reads_back ctx) (cow_slice_items x.0) rest h.0 h.1 };
+    ghost reads_back = { λ ctx x rest h. counted_numbers_at-back T.IsKept T.written T.read_at T.reads_back U.written (U.read_at ctx) U.MAX_LEN (cow_slice_items x.0) rest (λ n after small is. U.reads_back ctx n after small (counted (U.IsReadBack ctx) is h.0)) h.1 };
 }
 
 #[tactic(auto, unfolding(crate::specs::Lists::counted_at))]
@@ -138,8 +149,8 @@ impl<'de, T: IntRepr, U: SeqRepr> MyDeserialize<'de> for RawSeq<'de, T, U> {
     ) -> Result<RawSeq<'de, T, U>, WireError> {
         let mut rest = *buf;
         let count = U::deserialize_count(ctx, &mut rest)?;
-        let numbers = parse_numbers::<T>(alloc, count, &mut rest)?;
+        let all = parse_numbers::<T>(alloc, count, &mut rest)?;
         *buf = rest;
-        Ok(RawSeq(CowSlice::Owned(numbers), PhantomData))
+        Ok(RawSeq(CowSlice::Owned(all), PhantomData))
     }
 }

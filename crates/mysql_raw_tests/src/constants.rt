@@ -5,8 +5,11 @@ ghost use Rattle.std.specs.Prelude.{[], refl, ◌∷◌};
 
 use crate::support::{first_of, written};
 use mysql_buf::ParseBuf;
+use mysql_const::{Command, StatusFlags};
 use mysql_raw::{LeU16, ParseExt, RawInt, WireError};
-use mysql_raw_consts::{ConstBytes, ConstBytesValue, ConstU8, ConstU32, Either, Skip};
+use mysql_raw_consts::{
+    Const, ConstBytes, ConstBytesValue, ConstU8, ConstU32, Either, RawConst, RawFlags, Skip,
+};
 use std::process::Abort;
 
 /// The catalog's name after its length.
@@ -89,4 +92,59 @@ fn one_of_two(rt: HostRuntime) {
         _ => assert!(rt; false),
     }
     assert_eq!(rt; buf.len(), 1);
+}
+
+#[test]
+fn the_held_of_two(rt: HostRuntime) {
+    let left: Either<u8, u16> = Either::Left(1);
+    assert_eq!(rt; left.unwrap_left(), 1);
+    let right: Either<u8, u16> = Either::Right(2);
+    assert_eq!(rt; right.unwrap_right(), 2);
+}
+
+#[test]
+fn flags_with_an_unknown_bit(rt: HostRuntime) {
+    let mut buf = ParseBuf(&[2, 0x80, 9]);
+    match first_of::<RawFlags<StatusFlags, LeU16>>(rt.alloc(), &mut buf) {
+        Ok(flags) => {
+            assert_eq!(rt; flags.0, 0x8002);
+            assert_eq!(rt; flags.get(), StatusFlags::SERVER_STATUS_AUTOCOMMIT);
+            let bytes = written(&rt, rt.alloc(), &flags);
+            assert_eq!(rt; bytes.as_slice(), [2, 0x80].as_slice());
+        }
+        Err(_) => assert!(rt; false),
+    }
+    assert_eq!(rt; buf.len(), 1);
+}
+
+#[test]
+fn commands_by_their_numbers(rt: HostRuntime) {
+    let ping: Const<Command, u8> = Const::new(Command::COM_PING);
+    assert_eq!(rt; written(&rt, rt.alloc(), &ping).as_slice(), [14].as_slice());
+    let mut buf = ParseBuf(&[14, 33]);
+    match first_of::<Const<Command, u8>>(rt.alloc(), &mut buf) {
+        Ok(value) => assert_eq!(rt; value.0, Command::COM_PING),
+        Err(_) => assert!(rt; false),
+    }
+    assert!(rt;
+        matches!(
+            first_of::<Const<Command, u8>>(rt.alloc(), &mut buf),
+            Err(WireError::UnknownValue)
+        )
+    );
+    assert_eq!(rt; buf.len(), 1);
+}
+
+#[test]
+fn a_number_without_a_command(rt: HostRuntime) {
+    let mut buf = ParseBuf(&[33]);
+    match first_of::<RawConst<u8, Command>>(rt.alloc(), &mut buf) {
+        Ok(value) => {
+            assert_eq!(rt; value.0, 33);
+            assert!(rt; matches!(value.get(), Err(WireError::UnknownValue)));
+        }
+        Err(_) => assert!(rt; false),
+    }
+    let ping: RawConst<u8, Command> = RawConst::new(14);
+    assert!(rt; matches!(ping.get(), Ok(Command::COM_PING)));
 }

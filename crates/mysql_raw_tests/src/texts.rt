@@ -107,3 +107,24 @@ fn texts_refused(rt: HostRuntime) {
     );
     assert_eq!(rt; buf.len(), 4);
 }
+
+#[test]
+fn bytes_as_they_stand(rt: HostRuntime) {
+    let three: [u8; 3] = [1, 2, 3];
+    assert_eq!(rt;
+        written(&rt, rt.alloc(), &three).as_slice(),
+        [1, 2, 3].as_slice()
+    );
+    let mut buf = ParseBuf(b"abc");
+    match buf.parse::<&[u8]>(rt.alloc(), 2) {
+        Ok(bytes) => assert_eq!(rt; bytes, b"ab".as_slice()),
+        Err(_) => assert!(rt; false),
+    }
+    assert!(rt;
+        matches!(
+            buf.parse::<&[u8]>(rt.alloc(), 2),
+            Err(WireError::UnexpectedEof)
+        )
+    );
+    assert_eq!(rt; buf.len(), 1);
+}
