@@ -4,13 +4,10 @@ use Rattle.std.specs.Prelude.{◌≡◌, ℕ, ℤ, pos, negsuc, ◌+◌, ◌-◌
 use Rattle.std.specs.Int.{Width, byte_len, cast_unsigned}
 use Rattle.std.specs.List.{AllByRecursion, after_first, before_first}
 use Rattle.byteorder.specs.Endian.{big_bytes, little_bytes}
+use Rattle.mysql_buf.specs.Bytes.{AreBytes}
 use Rattle.mysql_buf.specs.Reading.{be_at, be_signed_at, is_zero, le_at, le_signed_at, lenenc_int_at, lenenc_str_at, u8_str_at, u32_str_at}
 use Rattle.mysql_buf.specs.Varlen.{varlen, varlen_at}
 use Rattle.mysql_buf.specs.Writing.{front, lenenc_int, lenenc_str, u8_str, u32_str}
-
--- each number of the list is a byte
-abbrev pub AreBytes : List ℕ → Type 0
-AreBytes bytes = (i : ℕ) → slice_index bytes i < 256
 
 -- a signed number fits n bytes
 abbrev pub FitsBytes : ℕ → ℤ → Type 0

@@ -9,7 +9,7 @@ use Rattle.byteorder.specs.Endian.{little_bytes, little_number}
 use Rattle.byteorder.specs.Numbers.{little_from-lt}
 use Rattle.mysql_buf.specs.NumberLaws.{little-reads_back, slice_at-append}
 use Rattle.mysql_buf.specs.FirstBytes.{first-some}
-use Rattle.mysql_buf.specs.Laws.{AreBytes}
+use Rattle.mysql_buf.specs.Bytes.{AreBytes}
 use Rattle.mysql_buf.specs.Reading.{is_zero, le_at, lenenc_int_at, lenenc_str_at, slice_at, then_at, u8_str_at, u32_str_at}
 use Rattle.mysql_buf.specs.Writing.{front, lenenc_int, lenenc_str, u8_str, u32_str}
 

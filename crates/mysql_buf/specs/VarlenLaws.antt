@@ -13,7 +13,7 @@ use Rattle.byteorder.specs.Numbers.{length-bytes_low_first, little_from-lt, litt
 use Rattle.mysql_buf.specs.NumberLaws.{first-append, little-reads_back, pow-bytes}
 use Rattle.mysql_buf.specs.FirstBytes.{first-some}
 use Rattle.mysql_buf.specs.TextLaws.{left-of}
-use Rattle.mysql_buf.specs.Laws.{AreBytes}
+use Rattle.mysql_buf.specs.Bytes.{AreBytes}
 use Rattle.mysql_buf.specs.Reading.{first, le_at}
 use Rattle.mysql_buf.specs.Varlen.{marked, varlen, varlen_at, varlen_size}
 

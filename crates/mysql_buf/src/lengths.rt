@@ -16,7 +16,7 @@ pub fn lenenc_int_len(number: u64) -> u64
     }
 }
 
-/// How many bytes a text takes after its length, the length included.
+/// How many bytes a length-encoded text takes: those of its length, and its own.
 /// (MySQL: Client/Server Protocol, "Protocol::LengthEncodedString".)
 pub fn lenenc_str_len(text: &[u8]) -> u64
     ensures { result ≡ length (lenenc_str text.now) }
@@ -25,7 +25,7 @@ pub fn lenenc_str_len(text: &[u8]) -> u64
     lenenc_int_len(count) + count
 }
 
-// The front of a text, at most `most` bytes.
+/// The first `most` bytes of a text, or all of it where it is shorter.
 #[tactic(auto, unfolding(crate::specs::Writing::front))]
 pub fn front_of(text: &[u8], most: usize) -> &[u8]
     ensures value { result.now ≡ front text.now most }

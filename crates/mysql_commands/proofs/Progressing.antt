@@ -6,7 +6,7 @@ use Rattle.std.proofs.lemmas.Bool.{ne_eqb}
 use Rattle.std.proofs.lemmas.List.{append-nil, length-append, get_or-append-add}
 use Rattle.std.proofs.lemmas.List.Concat.{flat_map-append}
 use Rattle.std.proofs.Math.Seq.{take-append_seam}
-use Rattle.mysql_wire.specs.Laws.{AreBytes}
+use Rattle.mysql_wire.specs.Bytes.{AreBytes}
 use Rattle.mysql_wire.specs.Codec.{Codec, HandsOut, Waits, RefusesBy, IsDue, held, packet_number, error_of}
 use Rattle.mysql_wire.specs.Reader.{HasRead}
 use Rattle.mysql_wire.specs.Stream.{Rest, IsSplit, IsRest, IsFault, framings, first_number}

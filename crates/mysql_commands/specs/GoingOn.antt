@@ -7,7 +7,7 @@ use Rattle.mysql_commands.specs.declared.fault.StreamFault.TheVariants.{Memory, 
 use Rattle.mysql_commands.specs.Layout.{Conversation}
 use Rattle.mysql_commands.specs.InForce.{Standing, nothing_yet, standing_after}
 use Rattle.mysql_commands.specs.Reading.{Set, Faulty}
-use Rattle.mysql_wire.specs.Laws.{AreBytes}
+use Rattle.mysql_wire.specs.Bytes.{AreBytes}
 use Rattle.mysql_wire.specs.Stream.{Rest, Split, IsSplit}
 use Rattle.mysql_wire.specs.Stream.Rest.{Empty as EmptyRest, TooLarge as TooLargeRest, OutOfSync as OutOfSyncRest, Open as OpenRest}
 use Rattle.mysql_wire.specs.Stream.Numbering.{EachFromZero}

@@ -12,7 +12,7 @@ use Rattle.mysql_values.specs.Cells.{cell, is_unsigned, type_number}
 use Rattle.mysql_values.specs.Values.{content_of}
 use Rattle.mysql_values.specs.declared.content.Content.{Content}
 use Rattle.mysql_values.specs.declared.value.Value.{Value}
-use Rattle.mysql_wire.specs.Laws.{AreBytes}
+use Rattle.mysql_wire.specs.Bytes.{AreBytes}
 use Rattle.mysql_wire.specs.Stream.{Rest, StandWhole, framings}
 use Rattle.mysql_wire.specs.Stream.Numbering.{EachFromZero}
 use Rattle.mysql_commands.specs.declared.audit.End.TheVariants.{Whole}

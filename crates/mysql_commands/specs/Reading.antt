@@ -9,8 +9,8 @@ use Rattle.mysql_values.specs.declared.content.Content.TheVariants as content
 use Rattle.mysql_values.specs.Values.{content_of}
 use Rattle.mysql_values.specs.Queries.{Slices}
 use Rattle.mysql_values.specs.Cells.{is_one_of, cell_at}
-use Rattle.mysql_wire.specs.declared.error.WireError.{WireError}
-use Rattle.mysql_wire.specs.declared.error.WireError.TheVariants.{UnsupportedType}
+use Rattle.mysql_wire.specs.WireError.{WireError}
+use Rattle.mysql_wire.specs.WireError.TheVariants.{UnsupportedType}
 use Rattle.mysql_commands.specs.declared.param_type.ParamType.{ParamType}
 use Rattle.mysql_commands.specs.Fields.{◌>>=◌, must, byte_at}
 use Rattle.mysql_commands.specs.Query.{place_count, all_alone}

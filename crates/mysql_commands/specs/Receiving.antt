@@ -1,7 +1,7 @@
 -- What a receiver's parts stand for.
 -- MySQL: Client/Server Protocol, "MySQL Packets" and "Command Phase".
 use Rattle.std.specs.Prelude.{◌≡◌, ℕ, Bool, List, [], Option, Some, None, Result, Ok, Err, ◌==◌, if◌then◌else◌, length, not}
-use Rattle.mysql_wire.specs.Laws.{AreBytes}
+use Rattle.mysql_wire.specs.Bytes.{AreBytes}
 use Rattle.mysql_wire.specs.Codec.{Codec, held}
 use Rattle.mysql_wire.specs.Reader.{HasRead}
 use Rattle.mysql_wire.specs.Stream.{Rest, IsRest, IsFault}

@@ -2,7 +2,7 @@
 
 ghost use Rattle.std.specs.Prelude.{◌≡◌, ◌<◌, ◌==◌, not, OnOk, [], None, length};
 ghost use Rattle.mysql_wire.specs.Codec.{held};
-ghost use Rattle.mysql_wire.specs.Laws.{AreBytes};
+ghost use Rattle.mysql_wire.specs.Bytes.{AreBytes};
 ghost use Rattle.mysql_wire.specs.Reader.{HasRead};
 ghost use Rattle.mysql_wire.specs.Stream.Numbering.{EachFromZero};
 ghost use Rattle.mysql_commands.specs.Query.{IsQuery};

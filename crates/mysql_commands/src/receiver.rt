@@ -1,7 +1,7 @@
 //! Reading a stream of commands back.
 
 ghost use Rattle.std.specs.Prelude.{◌≡◌, ◌≤◌, ◌⊎◌, [], true, false, Err, IfErr, IfOk, IfSome, OnOk};
-ghost use Rattle.mysql_wire.specs.Laws.{AreBytes};
+ghost use Rattle.mysql_wire.specs.Bytes.{AreBytes};
 ghost use Rattle.mysql_values.specs.Queries.{HasMixed, IsParsed};
 ghost use Rattle.mysql_commands.specs.declared.receiver.ReceiverError.TheVariants as receiver_error;
 ghost use Rattle.mysql_commands.specs.Query.{IsQuery};

@@ -1,7 +1,7 @@
 //! A whole stream of commands.
 
 ghost use Rattle.std.specs.Prelude.{◌≡◌, ◌≤◌, ◌⊎◌, true, false, IfErr, IfOk, OnOk, flat_map};
-ghost use Rattle.mysql_wire.specs.Laws.{AreBytes};
+ghost use Rattle.mysql_wire.specs.Bytes.{AreBytes};
 ghost use Rattle.mysql_values.specs.Queries.{HasMixed};
 ghost use Rattle.mysql_commands.specs.declared.receiver.ReceiverError.TheVariants as receiver_error;
 ghost use Rattle.mysql_commands.specs.Audit.{AuditOf, OutOfMemoryIn};

@@ -5,6 +5,7 @@ use Rattle.std.specs.Ordering.{int_eq}
 use Rattle.std.specs.Bool.{Decides}
 use Rattle.std.proofs.lemmas.Bool.Decides.{Decides-eqb, Decides-int_eq}
 use Rattle.std.proofs.lemmas.Option.{none-some, cond_some}
+use Rattle.mysql_const.specs.NamedLaws.{bulk_indicator-names_back, column_type-names_back, command-names_back, geometry-names_back, item_result-names_back, session_state-names_back}
 use Rattle.mysql_const.specs.Tables.{numbered, entry_of, IsTable}
 use Rattle.mysql_const.specs.Commands.{command_number, command_named}
 use Rattle.mysql_const.specs.declared.command.Command.{Command}
@@ -39,124 +40,20 @@ only_its_number same tells number (first ∷ others) n name h =
     (only_its_number same tells number others n name)
     h
 
-command_back : (name : Command) → command_named (command_number name) ≡ Some name
-command_back COM_SLEEP = refl
-command_back COM_QUIT = refl
-command_back COM_INIT_DB = refl
-command_back COM_QUERY = refl
-command_back COM_FIELD_LIST = refl
-command_back COM_CREATE_DB = refl
-command_back COM_DROP_DB = refl
-command_back COM_REFRESH = refl
-command_back COM_DEPRECATED_1 = refl
-command_back COM_STATISTICS = refl
-command_back COM_PROCESS_INFO = refl
-command_back COM_CONNECT = refl
-command_back COM_PROCESS_KILL = refl
-command_back COM_DEBUG = refl
-command_back COM_PING = refl
-command_back COM_TIME = refl
-command_back COM_DELAYED_INSERT = refl
-command_back COM_CHANGE_USER = refl
-command_back COM_BINLOG_DUMP = refl
-command_back COM_TABLE_DUMP = refl
-command_back COM_CONNECT_OUT = refl
-command_back COM_REGISTER_SLAVE = refl
-command_back COM_STMT_PREPARE = refl
-command_back COM_STMT_EXECUTE = refl
-command_back COM_STMT_SEND_LONG_DATA = refl
-command_back COM_STMT_CLOSE = refl
-command_back COM_STMT_RESET = refl
-command_back COM_SET_OPTION = refl
-command_back COM_STMT_FETCH = refl
-command_back COM_DAEMON = refl
-command_back COM_BINLOG_DUMP_GTID = refl
-command_back COM_RESET_CONNECTION = refl
-command_back COM_END = refl
-command_back COM_STMT_BULK_EXECUTE = refl
-
 pub commands_are_a_table : IsTable command_number command_named
-commands_are_a_table = (command_back, only_its_number nat_eq Decides-eqb command_number (COM_SLEEP ∷ COM_QUIT ∷ COM_INIT_DB ∷ COM_QUERY ∷ COM_FIELD_LIST ∷ COM_CREATE_DB ∷ COM_DROP_DB ∷ COM_REFRESH ∷ COM_DEPRECATED_1 ∷ COM_STATISTICS ∷ COM_PROCESS_INFO ∷ COM_CONNECT ∷ COM_PROCESS_KILL ∷ COM_DEBUG ∷ COM_PING ∷ COM_TIME ∷ COM_DELAYED_INSERT ∷ COM_CHANGE_USER ∷ COM_BINLOG_DUMP ∷ COM_TABLE_DUMP ∷ COM_CONNECT_OUT ∷ COM_REGISTER_SLAVE ∷ COM_STMT_PREPARE ∷ COM_STMT_EXECUTE ∷ COM_STMT_SEND_LONG_DATA ∷ COM_STMT_CLOSE ∷ COM_STMT_RESET ∷ COM_SET_OPTION ∷ COM_STMT_FETCH ∷ COM_DAEMON ∷ COM_BINLOG_DUMP_GTID ∷ COM_RESET_CONNECTION ∷ COM_END ∷ COM_STMT_BULK_EXECUTE ∷ []))
-
-column_type_back : (name : ColumnType) → column_type_named (column_type_number name) ≡ Some name
-column_type_back MYSQL_TYPE_DECIMAL = refl
-column_type_back MYSQL_TYPE_TINY = refl
-column_type_back MYSQL_TYPE_SHORT = refl
-column_type_back MYSQL_TYPE_LONG = refl
-column_type_back MYSQL_TYPE_FLOAT = refl
-column_type_back MYSQL_TYPE_DOUBLE = refl
-column_type_back MYSQL_TYPE_NULL = refl
-column_type_back MYSQL_TYPE_TIMESTAMP = refl
-column_type_back MYSQL_TYPE_LONGLONG = refl
-column_type_back MYSQL_TYPE_INT24 = refl
-column_type_back MYSQL_TYPE_DATE = refl
-column_type_back MYSQL_TYPE_TIME = refl
-column_type_back MYSQL_TYPE_DATETIME = refl
-column_type_back MYSQL_TYPE_YEAR = refl
-column_type_back MYSQL_TYPE_NEWDATE = refl
-column_type_back MYSQL_TYPE_VARCHAR = refl
-column_type_back MYSQL_TYPE_BIT = refl
-column_type_back MYSQL_TYPE_TIMESTAMP2 = refl
-column_type_back MYSQL_TYPE_DATETIME2 = refl
-column_type_back MYSQL_TYPE_TIME2 = refl
-column_type_back MYSQL_TYPE_TYPED_ARRAY = refl
-column_type_back MYSQL_TYPE_VECTOR = refl
-column_type_back MYSQL_TYPE_UNKNOWN = refl
-column_type_back MYSQL_TYPE_JSON = refl
-column_type_back MYSQL_TYPE_NEWDECIMAL = refl
-column_type_back MYSQL_TYPE_ENUM = refl
-column_type_back MYSQL_TYPE_SET = refl
-column_type_back MYSQL_TYPE_TINY_BLOB = refl
-column_type_back MYSQL_TYPE_MEDIUM_BLOB = refl
-column_type_back MYSQL_TYPE_LONG_BLOB = refl
-column_type_back MYSQL_TYPE_BLOB = refl
-column_type_back MYSQL_TYPE_VAR_STRING = refl
-column_type_back MYSQL_TYPE_STRING = refl
-column_type_back MYSQL_TYPE_GEOMETRY = refl
+commands_are_a_table = (command-names_back, only_its_number nat_eq Decides-eqb command_number (COM_SLEEP ∷ COM_QUIT ∷ COM_INIT_DB ∷ COM_QUERY ∷ COM_FIELD_LIST ∷ COM_CREATE_DB ∷ COM_DROP_DB ∷ COM_REFRESH ∷ COM_DEPRECATED_1 ∷ COM_STATISTICS ∷ COM_PROCESS_INFO ∷ COM_CONNECT ∷ COM_PROCESS_KILL ∷ COM_DEBUG ∷ COM_PING ∷ COM_TIME ∷ COM_DELAYED_INSERT ∷ COM_CHANGE_USER ∷ COM_BINLOG_DUMP ∷ COM_TABLE_DUMP ∷ COM_CONNECT_OUT ∷ COM_REGISTER_SLAVE ∷ COM_STMT_PREPARE ∷ COM_STMT_EXECUTE ∷ COM_STMT_SEND_LONG_DATA ∷ COM_STMT_CLOSE ∷ COM_STMT_RESET ∷ COM_SET_OPTION ∷ COM_STMT_FETCH ∷ COM_DAEMON ∷ COM_BINLOG_DUMP_GTID ∷ COM_RESET_CONNECTION ∷ COM_END ∷ COM_STMT_BULK_EXECUTE ∷ []))
 
 pub column_types_are_a_table : IsTable column_type_number column_type_named
-column_types_are_a_table = (column_type_back, only_its_number nat_eq Decides-eqb column_type_number (MYSQL_TYPE_DECIMAL ∷ MYSQL_TYPE_TINY ∷ MYSQL_TYPE_SHORT ∷ MYSQL_TYPE_LONG ∷ MYSQL_TYPE_FLOAT ∷ MYSQL_TYPE_DOUBLE ∷ MYSQL_TYPE_NULL ∷ MYSQL_TYPE_TIMESTAMP ∷ MYSQL_TYPE_LONGLONG ∷ MYSQL_TYPE_INT24 ∷ MYSQL_TYPE_DATE ∷ MYSQL_TYPE_TIME ∷ MYSQL_TYPE_DATETIME ∷ MYSQL_TYPE_YEAR ∷ MYSQL_TYPE_NEWDATE ∷ MYSQL_TYPE_VARCHAR ∷ MYSQL_TYPE_BIT ∷ MYSQL_TYPE_TIMESTAMP2 ∷ MYSQL_TYPE_DATETIME2 ∷ MYSQL_TYPE_TIME2 ∷ MYSQL_TYPE_TYPED_ARRAY ∷ MYSQL_TYPE_VECTOR ∷ MYSQL_TYPE_UNKNOWN ∷ MYSQL_TYPE_JSON ∷ MYSQL_TYPE_NEWDECIMAL ∷ MYSQL_TYPE_ENUM ∷ MYSQL_TYPE_SET ∷ MYSQL_TYPE_TINY_BLOB ∷ MYSQL_TYPE_MEDIUM_BLOB ∷ MYSQL_TYPE_LONG_BLOB ∷ MYSQL_TYPE_BLOB ∷ MYSQL_TYPE_VAR_STRING ∷ MYSQL_TYPE_STRING ∷ MYSQL_TYPE_GEOMETRY ∷ []))
-
-bulk_indicator_back : (name : MariadbBulkIndicator) → bulk_indicator_named (bulk_indicator_number name) ≡ Some name
-bulk_indicator_back BULK_INDICATOR_NONE = refl
-bulk_indicator_back BULK_INDICATOR_NULL = refl
-bulk_indicator_back BULK_INDICATOR_DEFAULT = refl
-bulk_indicator_back BULK_INDICATOR_IGNORE = refl
+column_types_are_a_table = (column_type-names_back, only_its_number nat_eq Decides-eqb column_type_number (MYSQL_TYPE_DECIMAL ∷ MYSQL_TYPE_TINY ∷ MYSQL_TYPE_SHORT ∷ MYSQL_TYPE_LONG ∷ MYSQL_TYPE_FLOAT ∷ MYSQL_TYPE_DOUBLE ∷ MYSQL_TYPE_NULL ∷ MYSQL_TYPE_TIMESTAMP ∷ MYSQL_TYPE_LONGLONG ∷ MYSQL_TYPE_INT24 ∷ MYSQL_TYPE_DATE ∷ MYSQL_TYPE_TIME ∷ MYSQL_TYPE_DATETIME ∷ MYSQL_TYPE_YEAR ∷ MYSQL_TYPE_NEWDATE ∷ MYSQL_TYPE_VARCHAR ∷ MYSQL_TYPE_BIT ∷ MYSQL_TYPE_TIMESTAMP2 ∷ MYSQL_TYPE_DATETIME2 ∷ MYSQL_TYPE_TIME2 ∷ MYSQL_TYPE_TYPED_ARRAY ∷ MYSQL_TYPE_VECTOR ∷ MYSQL_TYPE_UNKNOWN ∷ MYSQL_TYPE_JSON ∷ MYSQL_TYPE_NEWDECIMAL ∷ MYSQL_TYPE_ENUM ∷ MYSQL_TYPE_SET ∷ MYSQL_TYPE_TINY_BLOB ∷ MYSQL_TYPE_MEDIUM_BLOB ∷ MYSQL_TYPE_LONG_BLOB ∷ MYSQL_TYPE_BLOB ∷ MYSQL_TYPE_VAR_STRING ∷ MYSQL_TYPE_STRING ∷ MYSQL_TYPE_GEOMETRY ∷ []))
 
 pub bulk_indicators_are_a_table : IsTable bulk_indicator_number bulk_indicator_named
-bulk_indicators_are_a_table = (bulk_indicator_back, only_its_number nat_eq Decides-eqb bulk_indicator_number (BULK_INDICATOR_NONE ∷ BULK_INDICATOR_NULL ∷ BULK_INDICATOR_DEFAULT ∷ BULK_INDICATOR_IGNORE ∷ []))
-
-session_state_back : (name : SessionStateType) → session_state_named (session_state_number name) ≡ Some name
-session_state_back SESSION_TRACK_SYSTEM_VARIABLES = refl
-session_state_back SESSION_TRACK_SCHEMA = refl
-session_state_back SESSION_TRACK_STATE_CHANGE = refl
-session_state_back SESSION_TRACK_GTIDS = refl
-session_state_back SESSION_TRACK_TRANSACTION_CHARACTERISTICS = refl
-session_state_back SESSION_TRACK_TRANSACTION_STATE = refl
+bulk_indicators_are_a_table = (bulk_indicator-names_back, only_its_number nat_eq Decides-eqb bulk_indicator_number (BULK_INDICATOR_NONE ∷ BULK_INDICATOR_NULL ∷ BULK_INDICATOR_DEFAULT ∷ BULK_INDICATOR_IGNORE ∷ []))
 
 pub session_states_are_a_table : IsTable session_state_number session_state_named
-session_states_are_a_table = (session_state_back, only_its_number nat_eq Decides-eqb session_state_number (SESSION_TRACK_SYSTEM_VARIABLES ∷ SESSION_TRACK_SCHEMA ∷ SESSION_TRACK_STATE_CHANGE ∷ SESSION_TRACK_GTIDS ∷ SESSION_TRACK_TRANSACTION_CHARACTERISTICS ∷ SESSION_TRACK_TRANSACTION_STATE ∷ []))
-
-geometry_back : (name : GeometryType) → geometry_named (geometry_number name) ≡ Some name
-geometry_back GEOM_GEOMETRY = refl
-geometry_back GEOM_POINT = refl
-geometry_back GEOM_LINESTRING = refl
-geometry_back GEOM_POLYGON = refl
-geometry_back GEOM_MULTIPOINT = refl
-geometry_back GEOM_MULTILINESTRING = refl
-geometry_back GEOM_MULTIPOLYGON = refl
-geometry_back GEOM_GEOMETRYCOLLECTION = refl
+session_states_are_a_table = (session_state-names_back, only_its_number nat_eq Decides-eqb session_state_number (SESSION_TRACK_SYSTEM_VARIABLES ∷ SESSION_TRACK_SCHEMA ∷ SESSION_TRACK_STATE_CHANGE ∷ SESSION_TRACK_GTIDS ∷ SESSION_TRACK_TRANSACTION_CHARACTERISTICS ∷ SESSION_TRACK_TRANSACTION_STATE ∷ []))
 
 pub geometries_are_a_table : IsTable geometry_number geometry_named
-geometries_are_a_table = (geometry_back, only_its_number nat_eq Decides-eqb geometry_number (GEOM_GEOMETRY ∷ GEOM_POINT ∷ GEOM_LINESTRING ∷ GEOM_POLYGON ∷ GEOM_MULTIPOINT ∷ GEOM_MULTILINESTRING ∷ GEOM_MULTIPOLYGON ∷ GEOM_GEOMETRYCOLLECTION ∷ []))
-
-item_result_back : (name : ItemResult) → item_result_named (item_result_number name) ≡ Some name
-item_result_back INVALID_RESULT = refl
-item_result_back STRING_RESULT = refl
-item_result_back REAL_RESULT = refl
-item_result_back INT_RESULT = refl
-item_result_back ROW_RESULT = refl
-item_result_back DECIMAL_RESULT = refl
+geometries_are_a_table = (geometry-names_back, only_its_number nat_eq Decides-eqb geometry_number (GEOM_GEOMETRY ∷ GEOM_POINT ∷ GEOM_LINESTRING ∷ GEOM_POLYGON ∷ GEOM_MULTIPOINT ∷ GEOM_MULTILINESTRING ∷ GEOM_MULTIPOLYGON ∷ GEOM_GEOMETRYCOLLECTION ∷ []))
 
 pub item_results_are_a_table : IsTable item_result_number item_result_named
-item_results_are_a_table = (item_result_back, only_its_number int_eq Decides-int_eq item_result_number (INVALID_RESULT ∷ STRING_RESULT ∷ REAL_RESULT ∷ INT_RESULT ∷ ROW_RESULT ∷ DECIMAL_RESULT ∷ []))
+item_results_are_a_table = (item_result-names_back, only_its_number int_eq Decides-int_eq item_result_number (INVALID_RESULT ∷ STRING_RESULT ∷ REAL_RESULT ∷ INT_RESULT ∷ ROW_RESULT ∷ DECIMAL_RESULT ∷ []))

@@ -10,6 +10,7 @@ pub mod ExecuteFlags
 pub mod Geometries
 pub mod ItemResults
 pub mod MariadbCapabilities
+pub mod NamedLaws
 pub mod SessionStates
 pub mod StatusFlags
 pub mod Tables

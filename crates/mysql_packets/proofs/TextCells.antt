@@ -1,8 +1,8 @@
 -- Reading text cells one after the other, as a loop does.
 use Rattle.std.proofs.Common.{◌≡◌, ℕ, suc, ◌-◌, ◌+◌, ◌≤◌, ◌<◌, List, [], ◌∷◌, ◌++◌, Result, Ok, Err, refl, sym, ap, ◌∙◌, append_assoc, arith}
 use Rattle.std.proofs.lemmas.List.{append-nil}
-use Rattle.mysql_wire.specs.declared.error.WireError.{WireError}
-use Rattle.mysql_wire.specs.declared.error.WireError.TheVariants as errors
+use Rattle.mysql_wire.specs.WireError.{WireError}
+use Rattle.mysql_wire.specs.WireError.TheVariants as errors
 use Rattle.mysql_packets.specs.Fields.{◌>>=◌, Reads, Refuses}
 use Rattle.mysql_packets.specs.Packets.{Cell, text_cell_at, text_cells_at}
 

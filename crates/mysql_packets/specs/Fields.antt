@@ -1,8 +1,8 @@
 -- Fields, as bytes and as read from left to right. A refusal is the first one that is met.
 -- MySQL: Client/Server Protocol, "Integer Types" and "String Types".
 use Rattle.std.specs.Prelude.{◌≡◌, ℕ, ◌+◌, ◌*◌, ◌/◌, ◌%◌, ◌^◌, List, [], ◌∷◌, length, take, drop, Bool, Option, Some, None, Result, Ok, Err, nat_lt, ◌==◌, if◌then◌else◌, bytes_eq}
-use Rattle.mysql_wire.specs.declared.error.WireError.{WireError}
-use Rattle.mysql_wire.specs.declared.error.WireError.TheVariants.{UnexpectedEof, BadConstant, Memory}
+use Rattle.mysql_wire.specs.WireError.{WireError}
+use Rattle.mysql_wire.specs.WireError.TheVariants.{UnexpectedEof, BadConstant, Memory}
 
 -- A reader answers the value that stands first with the bytes after it, or a refusal.
 abbrev pub Reads : Type 0 → Type 0

@@ -8,7 +8,7 @@ use Rattle.mysql_const.specs.declared.column_type.ColumnType.{ColumnType}
 use Rattle.mysql_const.specs.declared.column_type.ColumnType.TheVariants.{MYSQL_TYPE_DECIMAL, MYSQL_TYPE_LONGLONG, MYSQL_TYPE_VARCHAR, MYSQL_TYPE_BIT, MYSQL_TYPE_VECTOR, MYSQL_TYPE_JSON, MYSQL_TYPE_NEWDECIMAL, MYSQL_TYPE_ENUM, MYSQL_TYPE_SET, MYSQL_TYPE_TINY_BLOB, MYSQL_TYPE_MEDIUM_BLOB, MYSQL_TYPE_LONG_BLOB, MYSQL_TYPE_BLOB, MYSQL_TYPE_VAR_STRING, MYSQL_TYPE_STRING, MYSQL_TYPE_GEOMETRY}
 use Rattle.mysql_const.specs.ColumnTypes.{column_type_named, is_among}
 use Rattle.mysql_const.specs.StatusFlags.{status_flags}
-use Rattle.mysql_wire.specs.declared.error.WireError.TheVariants.{UnexpectedEof, UnknownValue, BadLength, UnsupportedType}
+use Rattle.mysql_wire.specs.WireError.TheVariants.{UnexpectedEof, UnknownValue, BadLength, UnsupportedType}
 use Rattle.mysql_packets.specs.Fields.{Reads, ◌>>=◌, bytes_at, number_at, constant_at, constants_at, little_endian, lenenc_int_at, lenenc_bytes_at, has_flag, unless_empty}
 
 -- These flags stand in a set of flags.

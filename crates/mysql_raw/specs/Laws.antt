@@ -1,5 +1,5 @@
 -- The forms of numbers have their sizes, and what is written in them reads back.
-use Rattle.std.proofs.Common.{◌≡◌, ◌*◌, ◌/◌, ◌%◌, ◌^◌, ◌<◌, ◌≤◌, nat_lt, true, ℕ, ℤ, List, ◌++◌, length, drop, Result, Ok, Err, Option, Some, None, refl, sym, ap, ◌∙◌, inl, inr, arith}
+use Rattle.std.proofs.Common.{◌≡◌, ◌*◌, ◌/◌, ◌%◌, ◌^◌, ◌<◌, ◌≤◌, nat_lt, true, ℕ, ℤ, List, ◌++◌, length, take, drop, Result, Ok, Err, Option, Some, None, refl, sym, ap, ◌∙◌, inl, inr, arith}
 use Rattle.std.proofs.lemmas.Bool.{cases_lt, ltb-true}
 use Rattle.std.specs.Int.{Width, w8, w16, w32, w64, byte_len, cast_unsigned}
 use Rattle.byteorder.specs.Endian.{little_bytes, little_number, twos_complement}
@@ -11,7 +11,7 @@ use Rattle.mysql_buf.specs.TextLaws.{lenenc_int-reads_back}
 use Rattle.mysql_buf.specs.VarlenLaws.{varlen-reads_back}
 use Rattle.mysql_buf.specs.Varlen.{varlen}
 use Rattle.mysql_buf.specs.Writing.{lenenc_int}
-use Rattle.mysql_raw.specs.Forms.{lenenc_number_at, little_at, raised, signed_at, upper_half, upper_half_at, varlen_number_at}
+use Rattle.mysql_raw.specs.Forms.{bytes_at, lenenc_number_at, little_at, raised, signed_at, upper_half, upper_half_at, varlen_number_at}
 use Rattle.mysql_raw.specs.Wire.{IsSized, Reading, or_end, ◌>>=◌}
 use Rattle.mysql_raw.specs.declared.error.WireError.{WireError}
 use Rattle.mysql_raw.specs.declared.error.WireError.TheVariants.{UnexpectedEof}
@@ -51,6 +51,9 @@ little_at-sized n = first-sized n (little_number n)
 
 pub signed_at-sized : (n : ℕ) → IsSized (Some n) (signed_at n)
 signed_at-sized n = first-sized n (λ b. twos_complement n (little_number n b))
+
+pub bytes_at-sized : (n : ℕ) → IsSized (Some n) (bytes_at n)
+bytes_at-sized n = first-sized n (take n)
 
 -- the value of a step that did not fail
 pub bind_ok : {A B : Type 0} (r : Result A WireError) (f : A → Result B WireError) (y : B) → (r >>= f) ≡ Ok y → (x : A) × (r ≡ Ok x) × (f x ≡ Ok y)
@@ -115,3 +118,6 @@ pub upper_half_at-back : (n : ℕ) (rest : List ℕ) → (n < 2 ^ 32) × (n % 2 
 upper_half_at-back n rest h =
     let whole : n / 2 ^ 16 * 2 ^ 16 ≡ n = omega (arith, h.1) in
     rw (little_at-back 2 (n / 2 ^ 16) rest (omega (arith, h.0))) (ap (λ (k : ℕ). Ok (k, rest)) whole)
+
+pub bytes_at-back : (n : ℕ) (bytes rest : List ℕ) → length bytes ≡ n → bytes_at n (bytes ++ rest) ≡ Ok (bytes, rest)
+bytes_at-back n bytes rest len = ap or_end (slice_at-back n bytes rest (sym len))

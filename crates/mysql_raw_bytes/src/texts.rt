@@ -13,7 +13,7 @@ ghost use Rattle.mysql_raw_bytes.specs.Texts.{bare_at, fixed_text, fixed_text_at
 ghost use Rattle.mysql_raw.specs.Wire.{Appends, IsSized, Reading, Suffices, Tells};
 
 use bstr::ByteSlice;
-use mysql_buf::{BufMutExt, ParseBuf, read_varlen_uint, write_varlen_uint};
+use mysql_buf::{BufMutExt, ParseBuf, front_of, read_varlen_uint, write_varlen_uint};
 use mysql_raw::{LenEnc, MyDeserialize, MySerialize, Readable, ReadsBack, VarLen, WireError};
 use std::alloc::{AllocError, Global};
 use std::borrow::{CowSlice, CowStr};
@@ -116,17 +116,6 @@ impl<'a, T: BytesRepr> RawBytes<'a, T> {
         let bytes = self.0.into_owned(alloc)?;
         Ok(RawBytes(CowSlice::Owned(bytes), PhantomData))
     }
-}
-
-// The front of a text, at most `most` bytes.
-#[tactic(auto, unfolding(mysql_buf::specs::Writing::front))]
-fn front_of(text: &[u8], most: usize) -> &[u8]
-    ensures { result.now ≡ front text.now most }
-{
-    if text.len() <= most {
-        return text;
-    }
-    &text[..most]
 }
 
 impl<'a, T: BytesRepr> MySerialize for RawBytes<'a, T> {

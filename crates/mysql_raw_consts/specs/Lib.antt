@@ -2,4 +2,3 @@ pub mod ConstantLaws
 pub mod Constants
 pub mod Either
 pub mod EitherLaws
-pub mod NamedLaws

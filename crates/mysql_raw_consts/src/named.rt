@@ -6,7 +6,7 @@ ghost use Rattle.mysql_const.specs.Commands.{command_named, command_number};
 ghost use Rattle.mysql_const.specs.Geometries.{geometry_named, geometry_number};
 ghost use Rattle.mysql_const.specs.ItemResults.{item_result_named, item_result_number};
 ghost use Rattle.mysql_const.specs.SessionStates.{session_state_named, session_state_number};
-ghost use Rattle.mysql_raw_consts.specs.NamedLaws.{bulk_indicator-names_back, column_type-names_back, command-names_back, geometry-names_back, item_result-names_back, session_state-names_back};
+ghost use Rattle.mysql_const.specs.NamedLaws.{bulk_indicator-names_back, column_type-names_back, command-names_back, geometry-names_back, item_result-names_back, session_state-names_back};
 
 use crate::consts::ConstValue;
 use mysql_const::{

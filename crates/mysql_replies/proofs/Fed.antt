@@ -6,7 +6,8 @@ use Rattle.std.proofs.lemmas.List.{append-nil, take_more}
 use Rattle.std.proofs.lemmas.Grind.{flat_map-append}
 use Rattle.std.specs.Borrow.{Bor}
 use Rattle.mysql_wire.specs.Framing.{framing}
-use Rattle.mysql_wire.specs.Laws.{AreBytes, HasOneSplit}
+use Rattle.mysql_wire.specs.Bytes.{AreBytes}
+use Rattle.mysql_wire.specs.Laws.{HasOneSplit}
 use Rattle.mysql_wire.specs.Stream as stream
 use Rattle.mysql_wire.specs.Stream.{Numbering, Rest, Split, IsSplit, first_number, after, after_all, framings}
 use Rattle.mysql_wire.specs.Stream.Numbering.{OnFrom}

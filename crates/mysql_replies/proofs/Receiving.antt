@@ -6,7 +6,8 @@ use Rattle.std.proofs.lemmas.List.{append-nil, nil_from_length}
 use Rattle.std.proofs.Math.Dec.{leb-suc-zero}
 use Rattle.std.proofs.lemmas.Bool.Decides.{nat_tests}
 use Rattle.mysql_wire.specs.Framing.{chunks, framing}
-use Rattle.mysql_wire.specs.Laws.{AreBytes, FramingComesFirst}
+use Rattle.mysql_wire.specs.Bytes.{AreBytes}
+use Rattle.mysql_wire.specs.Laws.{FramingComesFirst}
 use Rattle.mysql_wire.specs.Codec.{Codec, IsBetween, CanGoOn, HandsOut, Waits, IsOfPacket, held, packet_number, IsDue, error_of}
 use Rattle.mysql_wire.specs.Reader.{HasRead, StandFirst}
 use Rattle.mysql_wire.specs.Stream as stream

@@ -2,7 +2,7 @@
 -- MySQL: Client/Server Protocol, "MySQL Packets" and "Text Resultset".
 use Rattle.std.specs.Prelude.{◌≡◌, ℕ, ◌-◌, List, length, take, nat_le, if◌then◌else◌}
 use Rattle.std.specs.List.{flat_map}
-use Rattle.mysql_wire.specs.Laws.{AreBytes}
+use Rattle.mysql_wire.specs.Bytes.{AreBytes}
 use Rattle.mysql_wire.specs.Reader.{StandFirst}
 use Rattle.mysql_wire.specs.Stream as stream
 use Rattle.mysql_wire.specs.Stream.{Rest, Split, IsSplit}

@@ -1,7 +1,7 @@
 -- What a reader of a reply holds, and what that decides over the bytes still to come.
 -- MySQL: Client/Server Protocol, "MySQL Packets" and "COM_QUERY Response".
 use Rattle.std.specs.Prelude.{◌≡◌, ℕ, ◌+◌, List, [], ◌++◌, length, Option, Some, None}
-use Rattle.mysql_wire.specs.Laws.{AreBytes}
+use Rattle.mysql_wire.specs.Bytes.{AreBytes}
 use Rattle.mysql_wire.specs.Reader.{StandFirst}
 use Rattle.mysql_wire.specs.Stream as stream
 use Rattle.mysql_wire.specs.Stream.{Rest, Split, IsSplit, IsFault, first_number, after_all}

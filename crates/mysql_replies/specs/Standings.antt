@@ -6,7 +6,8 @@ use Rattle.mysql_packets.specs.Views.{report_view}
 use Rattle.mysql_wire.specs.Codec.{Codec, CanGoOn, IsBetween, held, packet_number}
 use Rattle.mysql_wire.specs.Stream.{Rest, IsRest, IsFault}
 use Rattle.mysql_wire.specs.Stream.Rest.{Empty}
-use Rattle.mysql_wire.specs.Laws.{AreBytes, FramingComesFirst, HasOneSplit}
+use Rattle.mysql_wire.specs.Bytes.{AreBytes}
+use Rattle.mysql_wire.specs.Laws.{FramingComesFirst, HasOneSplit}
 use Rattle.mysql_wire.specs.GoingOn.{BetweenHoldsSrc, PieceIsHeld, ReaderTakes, ReaderWaits, RefusalWasDecided}
 use Rattle.mysql_wire.specs.declared.codec.PacketCodecError.{PacketCodecError}
 use Rattle.mysql_wire.specs.declared.codec.PacketCodecError.TheVariants.{PacketTooLarge, PacketsOutOfSync}

@@ -1,8 +1,8 @@
 -- MySQL: Client/Server Protocol, "COM_QUERY Response", its packets as the code holds them.
 -- What the code holds, as values; and what a function that can run out of memory answers.
 use Rattle.std.specs.Prelude.{◌≡◌, List, map, Result, Ok, Err}
-use Rattle.mysql_wire.specs.declared.error.WireError.{WireError}
-use Rattle.mysql_wire.specs.declared.error.WireError.TheVariants as wire
+use Rattle.mysql_wire.specs.WireError.{WireError}
+use Rattle.mysql_wire.specs.WireError.TheVariants as wire
 use Rattle.mysql_packets.specs.Packets.{ColumnDefinition, Cell}
 use Rattle.mysql_packets.specs.Views.{okay_view, server_fault_view, statement_view, column_view, cell_views}
 use Rattle.mysql_replies.specs.declared.fault.ReplyFault.{ReplyFault}

@@ -1,6 +1,6 @@
 //! Laws of framing, brought together for the proofs of the reader. They do nothing when they run.
 
-ghost use Rattle.mysql_wire.specs.Laws.{AreBytes};
+ghost use Rattle.mysql_wire.specs.Bytes.{AreBytes};
 ghost use Rattle.mysql_replies.specs.Standings.{FramingLaws};
 
 use mysql_wire::laws;

@@ -1,7 +1,7 @@
 //! A reply, read from the bytes of a connection as they come.
 
 ghost use Rattle.std.specs.Prelude.{◌≡◌, ◌⊎◌, ◌∷◌, ◌++◌, [], None, Some, Ok, Err, OnOk, IfErr, IfSome, flat_map, length, ◌<◌, ℕ, List};
-ghost use Rattle.mysql_wire.specs.Laws.{AreBytes};
+ghost use Rattle.mysql_wire.specs.Bytes.{AreBytes};
 ghost use Rattle.mysql_wire.specs.Codec.{CanGoOn, held};
 ghost use Rattle.mysql_replies.specs.Bytes.{IsReplyOf, IsShortReplyOf};
 ghost use Rattle.mysql_replies.specs.Holding.{nothing_held, fault_of, DecidesOver, GoesOnOver, TakesAll, StandsShort};

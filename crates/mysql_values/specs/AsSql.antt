@@ -2,7 +2,7 @@
 -- MySQL Reference Manual, "Literal Values": "String Literals" (escape sequences), "Hexadecimal Literals", "Date and Time Literals".
 use Rattle.std.specs.Prelude.{◌≡◌, ℕ, ◌^◌, ◌<◌, ◌==◌, FitsSigned, Bool, false, if◌then◌else◌, List, [], ◌∷◌, ◌++◌, length, take, Option, Some, None, Result, Ok, Err}
 use Rattle.std.specs.Int.{w64}
-use Rattle.mysql_wire.specs.Laws.{AreBytes}
+use Rattle.mysql_wire.specs.Bytes.{AreBytes}
 use Rattle.mysql_values.specs.Tokens.{single_quote}
 use Rattle.mysql_values.specs.Literals.{IsLiteral}
 use Rattle.mysql_values.specs.Written.{written_byte}

@@ -3,7 +3,7 @@
 use Rattle.std.specs.Prelude.{ℕ, pos, ◌+◌, ◌^◌, Bool, true, false, List, [], ◌∷◌, ◌++◌, length, take, drop, Ok, Err, nat_lt, ◌==◌, if◌then◌else◌}
 use Rattle.std.specs.Int.{Width, w8, w16, w32, w64, cast_signed, cast_unsigned, to_le_bytes}
 use Rattle.std.specs.List.{list_any}
-use Rattle.mysql_wire.specs.declared.error.WireError.TheVariants.{UnexpectedEof, BadLength, UnsupportedType}
+use Rattle.mysql_wire.specs.WireError.TheVariants.{UnexpectedEof, BadLength, UnsupportedType}
 use Rattle.mysql_values.specs.declared.value.Value.{Value}
 use Rattle.mysql_values.specs.declared.value.Value.TheVariants.{NULL, Bytes, Int, UInt, Float, Double, Date, Time}
 use Rattle.mysql_values.specs.declared.cell_form.CellForm.{CellForm}

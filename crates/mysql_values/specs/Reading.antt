@@ -1,8 +1,8 @@
 -- Reading bytes from left to right, field by field, up to the first refusal.
 -- MySQL: Client/Server Protocol, "Protocol::FixedLengthInteger" and "Protocol::LengthEncodedInteger".
 use Rattle.std.specs.Prelude.{◌≡◌, ℕ, ◌+◌, ◌*◌, List, [], ◌∷◌, length, take, drop, Result, Ok, Err, nat_lt, ◌==◌, if◌then◌else◌}
-use Rattle.mysql_wire.specs.declared.error.WireError.{WireError}
-use Rattle.mysql_wire.specs.declared.error.WireError.TheVariants.{UnexpectedEof, Memory}
+use Rattle.mysql_wire.specs.WireError.{WireError}
+use Rattle.mysql_wire.specs.WireError.TheVariants.{UnexpectedEof, Memory}
 
 -- What stands first, with the bytes after it, or a refusal.
 abbrev pub Reading : Type 0 → Type 0

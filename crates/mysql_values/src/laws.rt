@@ -2,7 +2,7 @@
 
 ghost use Rattle.mysql_values.specs.AsSql.{FitsFields};
 ghost use Rattle.mysql_values.specs.CellLaws.{CellLength, CellsReadBack, ReadBackMeansTheSame};
-ghost use Rattle.mysql_wire.specs.Laws.{AreBytes};
+ghost use Rattle.mysql_wire.specs.Bytes.{AreBytes};
 ghost use Rattle.std.specs.List.{AllByRecursion};
 ghost use Rattle.std.specs.Prelude.{◌<◌, ◌^◌, length};
 ghost use Rattle.mysql_values.specs.Laws.{SomeTokens, OneTokens, OneContent, LexedIsSliced, SlicedIsLexed, OneReading, OnePlaces, LiteralIsRun, WorkedSpellings, OneRead, WrittenIsRead, PiecesAreSlices, TextIsDecided};

@@ -3,7 +3,7 @@
 ghost use Rattle.mysql_values.specs.LiteralRuns.{IsLiteralRun, begins_hex};
 ghost use Rattle.mysql_values.specs.LiteralViews.{IsNoLiteral, literal_content};
 ghost use Rattle.mysql_values.specs.Literals.{IsLiteral, lower};
-ghost use Rattle.mysql_wire.specs.declared.error.WireError.TheVariants as wire;
+ghost use Rattle.mysql_wire.specs.WireError.TheVariants as wire;
 ghost use Rattle.std.specs.Prelude.{
   ◌<◌,
   IsOkUnless,

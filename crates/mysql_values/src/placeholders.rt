@@ -1,7 +1,7 @@
 //! The placeholders of a query.
 
 ghost use Rattle.mysql_values.specs.Queries.{HasPlaces, is_joining, is_mixed as has_both_kinds, is_name, is_place, place_at, stands_alone};
-ghost use Rattle.mysql_wire.specs.declared.error.WireError.TheVariants as wire;
+ghost use Rattle.mysql_wire.specs.WireError.TheVariants as wire;
 ghost use Rattle.mysql_values.specs.Binding.{first_not_alone as first_apart};
 ghost use Rattle.std.specs.List.{AllByRecursion, list_any};
 ghost use Rattle.std.specs.Prelude.{◌+◌, ◌<◌, ◌≡◌, ◌≤◌, IfNone, IfOk, IfSome, IsOkUnless, drop, false, length, not, take, true};

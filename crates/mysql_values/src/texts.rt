@@ -5,7 +5,7 @@ ghost use Rattle.mysql_values.specs.LiteralViews.{IsNoLiteral};
 ghost use Rattle.mysql_values.specs.Literals.{IsLiteral};
 ghost use Rattle.mysql_values.specs.Queries.{HasPlaces, Lexes, Slices};
 ghost use Rattle.mysql_values.specs.declared.content.Content.{Content as ContentOf};
-ghost use Rattle.mysql_wire.specs.declared.error.WireError.TheVariants as wire;
+ghost use Rattle.mysql_wire.specs.WireError.TheVariants as wire;
 ghost use Rattle.std.specs.List.{AllByRecursion};
 ghost use Rattle.std.specs.Prelude.{◌++◌, ◌≡◌, IfNone, IfOk, IfSome, IsOkUnless, List, true, ℕ};
 

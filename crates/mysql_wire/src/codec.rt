@@ -6,6 +6,7 @@ ghost use Rattle.mysql_wire.specs.Codec.{CanGoOn, Decodes, RefusesBy, codec_at, 
 ghost use Rattle.mysql_wire.specs.Framing.{framing, number_after};
 
 use bytes::{Buf, BytesMut};
+use mysql_const::DEFAULT_MAX_ALLOWED_PACKET;
 use packet::{BegunChunk, take_packet};
 use std::io;
 use std::marker::Model;
@@ -17,14 +18,10 @@ mod header;
 mod packet;
 mod writing;
 
-pub use chunk::{ChunkDecoder, ChunkInfo, MAX_PAYLOAD_LEN};
+pub use chunk::{ChunkDecoder, ChunkInfo};
 pub use feed::{Packets, feed_all};
 pub use header::PartialHeader;
 pub use writing::packet_to_chunks;
-
-/// The limit of a codec that is given none, in payload bytes of one packet.
-/// (MySQL: Server System Variables, "max_allowed_packet".)
-pub const DEFAULT_MAX_ALLOWED_PACKET: usize = 4194304;
 
 /// Why a codec refuses.
 #[derive(Debug, Drop, Error)]

@@ -1,12 +1,31 @@
-//! The wire layer: packets in chunks, and the codec that reads and writes them.
+//! The wire layer: packets in chunks and the codec that reads and writes them, over constants, numbers
+//! and the representations of fields.
 #![tactic(auto)]
 
 pub mod codec;
-pub mod error;
 pub mod laws;
 
 pub use codec::{
-    ChunkDecoder, ChunkInfo, DEFAULT_MAX_ALLOWED_PACKET, MAX_PAYLOAD_LEN, PacketCodec,
-    PacketCodecError, Packets, PartialHeader, feed_all, packet_to_chunks,
+    ChunkDecoder, ChunkInfo, PacketCodec, PacketCodecError, Packets, PartialHeader, feed_all,
+    packet_to_chunks,
 };
-pub use error::WireError;
+pub use mysql_buf::{
+    BufMutExt, ParseBuf, ReadMysqlExt, WriteMysqlExt, lenenc_int_len, lenenc_str_len,
+    read_varlen_uint, varlen_uint_size, write_varlen_uint,
+};
+pub use mysql_const as constants;
+pub use mysql_const::{DEFAULT_MAX_ALLOWED_PACKET, MAX_PAYLOAD_LEN};
+pub use mysql_raw::{
+    Binary, IntRepr, InvalidLengthEncodedInteger, LeI16, LeI24, LeI32, LeI56, LeI64, LeU16, LeU24,
+    LeU32, LeU32LowerHalf, LeU32UpperHalf, LeU48, LeU56, LeU64, LenEnc, MyDeserialize, MySerialize,
+    ParseExt, RawInt, Readable, ReadsBack, Text, VarLen, WireError,
+};
+pub use mysql_raw_bytes::{
+    BareBytes, BareU8Bytes, BareU16Bytes, BytesRepr, EofBytes, FixedLengthText, NullBytes,
+    RawBytes, U8Bytes, U32Bytes,
+};
+pub use mysql_raw_consts::{
+    Const, ConstBytes, ConstBytesValue, ConstU8, ConstU32, ConstValue, Either, RawConst, RawFlags,
+    Skip,
+};
+pub use mysql_raw_lists::{RawSeq, Seq, SeqRepr, Unknown};

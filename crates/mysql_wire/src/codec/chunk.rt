@@ -3,14 +3,11 @@
 ghost use Rattle.std.specs.Prelude.{◌≡◌, ◌≤◌, IfErr, IfOk, MatchOption, None, Ok, OnErr, length};
 ghost use Rattle.mysql_wire.specs.Chunk.{IsTooLargeOrMemory, LacksChunk, PassesLimit, StillAwaits, TakesChunk, info_number, is_last};
 ghost use Rattle.mysql_wire.specs.Framing.{announced, max_payload_len, number_at};
-ghost use Rattle.mysql_wire.specs.Laws.{AreBytes};
+ghost use Rattle.mysql_buf.specs.Bytes.{AreBytes};
 
 use super::PacketCodecError;
 use bytes::BytesMut;
-
-/// The most payload bytes that one chunk carries: what three bytes of length can say.
-/// (MySQL: Client/Server Protocol, "Sending More Than 16Mb".)
-pub const MAX_PAYLOAD_LEN: usize = 16777215;
+use mysql_const::MAX_PAYLOAD_LEN;
 
 /// A chunk that was taken: its number, and whether more chunks of its packet follow.
 /// (MySQL: Client/Server Protocol, "Sequence ID" and "Sending More Than 16Mb".)

@@ -7,8 +7,9 @@ ghost use Rattle.mysql_wire.specs.Framing.{max_payload_len};
 ghost use Rattle.mysql_wire.specs.Moving.{NextChunk, begun_of, codec_of};
 
 use super::Refusal;
-use super::chunk::{MAX_PAYLOAD_LEN, header_of};
+use super::chunk::header_of;
 use bytes::{Buf, BytesMut};
+use mysql_const::MAX_PAYLOAD_LEN;
 use std::alloc::AllocError;
 
 /// A chunk whose header was taken while its bytes still come.

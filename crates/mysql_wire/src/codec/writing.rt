@@ -3,8 +3,8 @@
 ghost use Rattle.std.specs.Prelude.{◌≡◌, ◌+◌, ◌++◌, ◌≤◌, IfOk, OnErr, OnOk, length};
 ghost use Rattle.mysql_wire.specs.Framing.{chunk, framing, max_payload_len, number_after};
 
-use super::chunk::MAX_PAYLOAD_LEN;
 use bytes::BufMut;
+use mysql_const::MAX_PAYLOAD_LEN;
 use std::alloc::AllocError;
 
 // Writes a chunk, where there is room.

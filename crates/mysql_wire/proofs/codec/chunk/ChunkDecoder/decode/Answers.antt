@@ -1,6 +1,6 @@
 use Rattle.std.proofs.Common.{rules, ◌≡◌, ◌++◌, ◌∙◌, ap, subst, take, drop, ◌+◌, ◌-◌, arith}
 use Rattle.mysql_wire.specs.Framing.{announced, number_at}
-use Rattle.mysql_wire.specs.Laws.{AreBytes}
+use Rattle.mysql_buf.specs.Bytes.{AreBytes}
 use Rattle.mysql_wire.specs.Chunk.{Awaits}
 use Rattle.mysql_wire.proofs.Taken.{takes_front}
 use Rattle.mysql_wire.proofs.codec.chunk.ChunkDecoder.decode.Goals as goal
