@@ -11,7 +11,7 @@ use Rattle.mysql_commands.specs.Fields.{◌>>=◌}
 use Rattle.mysql_commands.specs.Layout.{Types, type_at, types_at}
 use Rattle.mysql_commands.specs.declared.fault.StreamFault.TheVariants.{BadExecute, BadBulk}
 use Rattle.mysql_commands.specs.declared.param_type.ParamType.{ParamType}
-use Rattle.mysql_values.specs.declared.content.Content.{Content}
+use Rattle.mysql_values.specs.Content.{Content}
 use Rattle.mysql_commands.specs.Reading.{Set, held_at, set_at, column_at, row_at, rows_at}
 use Rattle.mysql_commands.specs.Views.{Fails}
 

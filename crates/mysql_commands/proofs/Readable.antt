@@ -2,8 +2,8 @@
 use Rattle.std.proofs.Common.{◌≡◌, ℕ, Bool, true, false, ◌⊎◌, List, [], ◌∷◌, refl, subst}
 use Rattle.std.specs.Prelude.{◌&&◌}
 use Rattle.std.specs.List.{AllByRecursion, list_all}
-use Rattle.mysql_values.specs.declared.content.Content.{Content}
-use Rattle.mysql_values.specs.declared.placeholders.Place.{Place}
+use Rattle.mysql_values.specs.Content.{Content}
+use Rattle.mysql_values.specs.Place.{Place}
 use Rattle.mysql_values.specs.Queries.{Slices, AllAlone}
 use Rattle.mysql_values.specs.Laws.{TextIsDecided, OneReading, OnePlaces}
 use Rattle.mysql_commands.specs.Query.{Query, IsQuery, all_alone}

@@ -12,7 +12,7 @@ use Rattle.mysql_wire.specs.Stream.{Rest, Split, IsSplit, IsRest, IsFault}
 use Rattle.mysql_wire.specs.Stream.Rest.{Empty as EmptyRest, TooLarge as TooLargeRest, OutOfSync as OutOfSyncRest, Open as OpenRest}
 use Rattle.mysql_wire.specs.Stream.Numbering.{EachFromZero}
 use Rattle.mysql_wire.specs.GoingOn.{ReaderLaws}
-use Rattle.mysql_values.specs.declared.content.Content.{Content}
+use Rattle.mysql_values.specs.Content.{Content}
 use Rattle.mysql_commands.specs.declared.fault.StreamFault.{StreamFault}
 use Rattle.mysql_commands.specs.declared.fault.StreamFault.TheVariants.{Memory}
 use Rattle.mysql_commands.specs.declared.audit.End.{End}

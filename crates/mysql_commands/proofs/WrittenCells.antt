@@ -4,9 +4,9 @@ use Rattle.std.specs.Prelude.{not}
 use Rattle.mysql_values.specs.CellLaws.{CellsReadBack, ReadBackMeansTheSame, read_back}
 use Rattle.mysql_values.specs.Cells.{cell, cell_at, is_one_of, is_unsigned, type_number}
 use Rattle.mysql_values.specs.Values.{content_of}
-use Rattle.mysql_values.specs.declared.content.Content.{Content}
-use Rattle.mysql_values.specs.declared.value.Value.{Value}
-use Rattle.mysql_values.specs.declared.value.Value.TheVariants.{NULL, Bytes, Int, UInt, Float, Double, Date, Time}
+use Rattle.mysql_values.specs.Content.{Content}
+use Rattle.mysql_values.specs.Value.{Value}
+use Rattle.mysql_values.specs.Value.TheVariants.{NULL, Bytes, Int, UInt, Float, Double, Date, Time}
 use Rattle.mysql_commands.specs.declared.fault.StreamFault.{StreamFault}
 use Rattle.mysql_commands.specs.Laws.{WrittenCellsAreHeld}
 use Rattle.mysql_commands.specs.Reading.{content_at}

@@ -10,8 +10,8 @@ use Rattle.mysql_commands.specs.Reading.{Set, ReadsAs, Faulty, content_at}
 use Rattle.mysql_values.specs.AsSql.{FitsFields}
 use Rattle.mysql_values.specs.Cells.{cell, is_unsigned, type_number}
 use Rattle.mysql_values.specs.Values.{content_of}
-use Rattle.mysql_values.specs.declared.content.Content.{Content}
-use Rattle.mysql_values.specs.declared.value.Value.{Value}
+use Rattle.mysql_values.specs.Content.{Content}
+use Rattle.mysql_values.specs.Value.{Value}
 use Rattle.mysql_wire.specs.Bytes.{AreBytes}
 use Rattle.mysql_wire.specs.Stream.{Rest, StandWhole, framings}
 use Rattle.mysql_wire.specs.Stream.Numbering.{EachFromZero}

@@ -2,7 +2,7 @@
 -- MySQL: Client/Server Protocol, "COM_QUERY" and "COM_STMT_PREPARE".
 use Rattle.std.specs.Prelude.{ℕ, Bool, List, length}
 use Rattle.std.specs.List.{list_all}
-use Rattle.mysql_values.specs.declared.placeholders.Place.{Place}
+use Rattle.mysql_values.specs.Place.{Place}
 use Rattle.mysql_values.specs.Queries.{HasPlaces, IsParsed}
 
 -- the query's text, the text with a question mark for each placeholder, and the placeholders

@@ -4,8 +4,8 @@ use Rattle.std.specs.Prelude.{◌≡◌, ◌≢◌, ℕ, zero, suc, ◌+◌, ◌
 use Rattle.std.specs.Option.{ok_or, option_or}
 use Rattle.mysql_commands.specs.declared.fault.StreamFault.{StreamFault}
 use Rattle.mysql_commands.specs.declared.fault.StreamFault.TheVariants.{TooLarge, EmptyCommand, OtherCommand, TextMismatch, NotAlone, PrepareMismatch, TooManyPlaces, NotPrepared, BadExecute, NoTypes, BadType, Float, BadBulk, Indicator, NoRows, PiecesBeforeBulk}
-use Rattle.mysql_values.specs.declared.content.Content.{Content}
-use Rattle.mysql_values.specs.declared.content.Content.TheVariants as content
+use Rattle.mysql_values.specs.Content.{Content}
+use Rattle.mysql_values.specs.Content.TheVariants as content
 use Rattle.mysql_values.specs.Values.{content_of}
 use Rattle.mysql_values.specs.Queries.{Slices}
 use Rattle.mysql_values.specs.Cells.{is_one_of, cell_at}

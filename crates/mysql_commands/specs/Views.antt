@@ -3,7 +3,7 @@
 use Rattle.std.specs.Global.{Vec}
 use Rattle.std.specs.Prelude.{◌≡◌, ℕ, List, map, Option, Result, Ok, Err, slice_get}
 use Rattle.std.specs.Option.{option_map, option_and_then}
-use Rattle.mysql_values.specs.declared.content.Content.{Content}
+use Rattle.mysql_values.specs.Content.{Content}
 use Rattle.mysql_commands.specs.declared.fault.StreamFault.{StreamFault}
 use Rattle.mysql_commands.specs.declared.refusal.Refusal.{Refusal}
 use Rattle.mysql_commands.specs.declared.refusal.Refusal.TheVariants as refusal

@@ -1,7 +1,7 @@
 //! Cells of the binary protocol, and what they mean.
 
 ghost use Rattle.std.specs.Prelude.{◌≡◌, List, ℕ, IfOk, Some, false};
-ghost use Rattle.mysql_values.specs.declared.content.Content.TheVariants as held;
+ghost use Rattle.mysql_values.specs.Content.TheVariants as held;
 ghost use Rattle.mysql_values.specs.Cells.{cell_at};
 ghost use Rattle.mysql_values.specs.Values.{content_of as meaning_of, in_quotes, is_zero_time, sql_of};
 ghost use Rattle.mysql_commands.specs.Reading.{content_at, or_fault};

@@ -4,9 +4,9 @@ use Rattle.std.specs.List.{join_with_byte}
 use Rattle.mysql_wire.specs.Framing.{chunk, chunks, framing, slice}
 use Rattle.mysql_wire.specs.Stream.{Split, framings}
 use Rattle.mysql_wire.specs.Stream.Numbering.{EachFromZero}
-use Rattle.mysql_values.specs.declared.content.Content.{Content}
+use Rattle.mysql_values.specs.Content.{Content}
 use Rattle.mysql_values.specs.declared.params.Params.{Params}
-use Rattle.mysql_values.specs.declared.placeholders.Place.{Place}
+use Rattle.mysql_values.specs.Place.{Place}
 use Rattle.mysql_values.specs.Laws.{OneTokens}
 use Rattle.mysql_values.specs.Queries.{pieces_of, places_from}
 use Rattle.mysql_values.specs.Tokens.{HasTokens, question}

@@ -6,8 +6,8 @@ use Rattle.std.specs.List.{range_with_len}
 use Rattle.std.proofs.Math.Nat.{div-div-eq-div-mul, pow-succ'}
 use Rattle.std.proofs.lemmas.List.{drop-map, get_or-drop, length-drop, length-map, take_rest}
 use Rattle.std.proofs.lemmas.List.FromFn.{get_or-map-range_with_len, length-map-range_with_len, map-range_with_len_more}
-use Rattle.mysql_values.specs.declared.value.Value.{Value}
-use Rattle.mysql_values.specs.declared.value.Value.TheVariants.{NULL}
+use Rattle.mysql_values.specs.Value.{Value}
+use Rattle.mysql_values.specs.Value.TheVariants.{NULL}
 use Rattle.mysql_commands.specs.Reading.{is_null_at}
 use Rattle.mysql_session.specs.Commands.{is_null, null_bits, null_bitmap}
 

@@ -1,9 +1,10 @@
 -- Sets have one meaning.
 use Rattle.std.proofs.Common.{◌≡◌, ℕ, List, [], ◌∷◌, map, Some, Ok, refl, sym, ◌∙◌, ap}
-use Rattle.mysql_values.specs.declared.content.Content.{Content}
+use Rattle.mysql_values.specs.Content.{Content}
 use Rattle.mysql_values.specs.declared.params.Params.{Params}
 use Rattle.mysql_values.specs.Laws.{OneTokens}
-use Rattle.mysql_values.specs.Params.{IsMeaning, names_of, values_over}
+use Rattle.mysql_values.specs.Params.{IsMeaning, values_over}
+use Rattle.mysql_values.specs.Parsed.{names_of}
 use Rattle.mysql_values.specs.Values.{content_of}
 use Rattle.mysql_session.specs.Laws.{RoadsReadEqually}
 use Rattle.mysql_session.specs.Sending.{AreMeanings}

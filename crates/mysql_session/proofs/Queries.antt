@@ -5,9 +5,9 @@ use Rattle.std.proofs.lemmas.List.{append-nil, take-append-le, take_all, drop_al
 use Rattle.mysql_wire.specs.Framing.{framing}
 use Rattle.mysql_wire.specs.Stream.{framings}
 use Rattle.mysql_wire.specs.Stream.Numbering.{EachFromZero}
-use Rattle.mysql_values.specs.declared.content.Content.{Content}
+use Rattle.mysql_values.specs.Content.{Content}
 use Rattle.mysql_values.specs.declared.params.Params.{Params}
-use Rattle.mysql_values.specs.declared.placeholders.Place.{Place}
+use Rattle.mysql_values.specs.Place.{Place}
 use Rattle.mysql_values.specs.Laws.{OneTokens}
 use Rattle.mysql_values.specs.Tokens.{HasTokens}
 use Rattle.mysql_values.specs.Queries.{HasPlaces, places_from, Slices}

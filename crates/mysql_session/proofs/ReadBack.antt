@@ -2,7 +2,7 @@
 use Rattle.std.proofs.Common.{◌≡◌, ℕ, zero, suc, ◌+◌, ◌-◌, ◌^◌, ◌<◌, ◌≤◌, ◌==◌, not, Bool, true, false, List, [], ◌∷◌, length, map, take, get_or, Option, Some, None, Result, Ok, Err, refl, sym, ap, subst, arith, inr, is_some, nat_lt, length-take, cond}
 use Rattle.std.specs.Prelude.{IsTrue, OnOk}
 use Rattle.std.specs.List.{AllByRecursion, flat_map, filter_map, join_with_byte, list_any, list_all, position_from, range_with_len}
-use Rattle.mysql_values.specs.declared.placeholders.Place.{Place}
+use Rattle.mysql_values.specs.Place.{Place}
 use Rattle.std.specs.Option.{option_map, option_or}
 use Rattle.std.specs.Result.{result_unwrap_or}
 use Rattle.std.proofs.lemmas.List.{append-nil}
@@ -11,14 +11,16 @@ use Rattle.mysql_wire.specs.Framing.{chunks}
 use Rattle.mysql_wire.specs.Stream.{framings, IsSplit}
 use Rattle.mysql_wire.specs.Stream.Rest.{Empty}
 use Rattle.mysql_wire.specs.Stream.Numbering.{EachFromZero}
-use Rattle.mysql_values.specs.declared.value.Value.{Value}
+use Rattle.mysql_values.specs.Value.{Value}
 use Rattle.mysql_values.specs.declared.params.Params.{Params}
-use Rattle.mysql_values.specs.declared.content.Content.{Content}
+use Rattle.mysql_values.specs.Content.{Content}
 use Rattle.mysql_values.specs.declared.params.ParamsError.{ParamsError}
-use Rattle.mysql_values.specs.Params.{names_of, values_over}
+use Rattle.mysql_values.specs.Params.{values_over}
+use Rattle.mysql_values.specs.Parsed.{names_of}
 use Rattle.mysql_values.specs.Tokens.{question}
 use Rattle.mysql_values.specs.Queries.{is_mixed, pieces_of, places_from}
-use Rattle.mysql_values.specs.Binding.{first_float, first_not_alone}
+use Rattle.mysql_values.specs.Binding.{first_float}
+use Rattle.mysql_values.specs.Queries.{first_not_alone}
 use Rattle.mysql_commands.specs.declared.audit.End.TheVariants.{Whole}
 use Rattle.mysql_commands.specs.Query.{all_alone, place_count}
 use Rattle.mysql_commands.specs.Layout.{Conversation}

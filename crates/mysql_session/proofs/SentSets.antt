@@ -9,9 +9,10 @@ use Rattle.mysql_wire.specs.Framing.{framing}
 use Rattle.mysql_wire.specs.Stream.{framings}
 use Rattle.mysql_wire.specs.Stream.Numbering.{EachFromZero}
 use Rattle.mysql_values.specs.declared.params.Params.{Params}
-use Rattle.mysql_values.specs.declared.value.Value.{Value}
+use Rattle.mysql_values.specs.Value.{Value}
 use Rattle.mysql_values.specs.Binding.{first_float}
-use Rattle.mysql_values.specs.Params.{names_of, values_over}
+use Rattle.mysql_values.specs.Params.{values_over}
+use Rattle.mysql_values.specs.Parsed.{names_of}
 use Rattle.mysql_values.specs.Parsed.{Parsed}
 use Rattle.mysql_values.specs.Queries.{is_mixed, places_from}
 use Rattle.mysql_session.specs.declared.refusal.Refusal.{Refusal}

@@ -8,14 +8,15 @@ use Rattle.std.proofs.lemmas.List.{take-map, length-map}
 use Rattle.mysql_wire.specs.Stream.{framings}
 use Rattle.mysql_wire.specs.Stream.Rest.{Empty}
 use Rattle.mysql_wire.specs.Stream.Numbering.{EachFromZero}
-use Rattle.mysql_values.specs.declared.content.Content.{Content}
-use Rattle.mysql_values.specs.declared.content.Content.TheVariants as content
+use Rattle.mysql_values.specs.Content.{Content}
+use Rattle.mysql_values.specs.Content.TheVariants as content
 use Rattle.mysql_values.specs.declared.params.Params.{Params}
 use Rattle.mysql_values.specs.declared.params.ParamsError.{ParamsError}
-use Rattle.mysql_values.specs.declared.placeholders.Place.{Place}
-use Rattle.mysql_values.specs.declared.value.Value.{Value}
+use Rattle.mysql_values.specs.Place.{Place}
+use Rattle.mysql_values.specs.Value.{Value}
 use Rattle.mysql_values.specs.Binding.{first_float}
-use Rattle.mysql_values.specs.Params.{names_of, values_over}
+use Rattle.mysql_values.specs.Params.{values_over}
+use Rattle.mysql_values.specs.Parsed.{names_of}
 use Rattle.mysql_values.specs.Queries.{is_mixed, is_place, place_at, places_from}
 use Rattle.mysql_values.specs.Tokens.{HasTokens}
 use Rattle.mysql_values.specs.Values.{content_of}

@@ -3,16 +3,18 @@ use Rattle.std.proofs.Common.{◌≡◌, ◌⊎◌, ℕ, ◌-◌, ◌<◌, ◌�
 use Rattle.std.proofs.lemmas.Bool.{le-ltb, lt-ltb}
 use Rattle.std.specs.Option.{option_map, option_or}
 use Rattle.std.specs.Result.{result_unwrap_or}
-use Rattle.mysql_values.specs.declared.value.Value.{Value}
+use Rattle.mysql_values.specs.Value.{Value}
 use Rattle.mysql_values.specs.declared.params.Params.{Params}
 use Rattle.mysql_values.specs.declared.params.ParamsError.{ParamsError}
 use Rattle.mysql_values.specs.declared.bind.BindError.{BindError}
 use Rattle.mysql_values.specs.declared.bind.BindError.TheVariants as bind_error
 use Rattle.mysql_values.specs.Queries.{is_mixed, places_from, pieces_of}
-use Rattle.mysql_values.specs.declared.content.Content.{Content}
-use Rattle.mysql_values.specs.Params.{names_of, values_over, IsMeaning}
+use Rattle.mysql_values.specs.Content.{Content}
+use Rattle.mysql_values.specs.Params.{values_over, IsMeaning}
+use Rattle.mysql_values.specs.Parsed.{names_of}
 use Rattle.mysql_values.specs.Values.{literal_of}
-use Rattle.mysql_values.specs.Binding.{IsBound, IsBindCause, alone_cause, float_cause, first_float, first_not_alone, interleaved, values_cause as bind_values_cause}
+use Rattle.mysql_values.specs.Binding.{IsBound, IsBindCause, alone_cause, float_cause, first_float, values_cause as bind_values_cause}
+use Rattle.mysql_values.specs.Queries.{first_not_alone, interleaved}
 use Rattle.mysql_session.specs.declared.refusal.Refusal.{Refusal}
 use Rattle.mysql_session.specs.declared.refusal.Refusal.TheVariants as refusals
 use Rattle.mysql_session.specs.Commands.{query_command}

@@ -2,14 +2,16 @@
 -- MySQL: Client/Server Protocol, "COM_QUERY", "COM_STMT_PREPARE", "COM_STMT_EXECUTE"; `max_allowed_packet` of the MySQL Reference Manual, "Server System Variables".
 use Rattle.std.specs.Prelude.{ℕ, ◌+◌, ◌-◌, ◌==◌, Bool, not, nat_lt, List, [], ◌∷◌, length, Option, None, Some, Result, Ok, Err, if◌then◌else◌}
 use Rattle.std.specs.Option.{option_map, option_or}
-use Rattle.mysql_values.specs.declared.value.Value.{Value}
+use Rattle.mysql_values.specs.Value.{Value}
 use Rattle.mysql_values.specs.declared.params.Params.{Params as ParamSet}
 use Rattle.mysql_values.specs.declared.params.ParamsError.{ParamsError}
 use Rattle.mysql_values.specs.declared.params.SetError.TheVariants as set_error
-use Rattle.mysql_values.specs.declared.placeholders.Place.{Place}
+use Rattle.mysql_values.specs.Place.{Place}
 use Rattle.mysql_values.specs.Queries.{is_mixed}
-use Rattle.mysql_values.specs.Params.{names_of, values_over}
-use Rattle.mysql_values.specs.Binding.{first_not_alone, first_float}
+use Rattle.mysql_values.specs.Params.{values_over}
+use Rattle.mysql_values.specs.Parsed.{names_of}
+use Rattle.mysql_values.specs.Binding.{first_float}
+use Rattle.mysql_values.specs.Queries.{first_not_alone}
 use Rattle.mysql_session.specs.declared.refusal.Refusal.{Refusal}
 use Rattle.mysql_session.specs.declared.refusal.Refusal.TheVariants as refusal
 use Rattle.mysql_session.specs.Commands.{execute_command, prepare_command, query_command}

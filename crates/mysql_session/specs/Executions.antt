@@ -8,10 +8,11 @@ use Rattle.mysql_values.specs.declared.params.Params.{Params}
 use Rattle.mysql_values.specs.declared.params.ParamsError.{ParamsError}
 use Rattle.mysql_values.specs.declared.params.ParamsError.TheVariants as params_error
 use Rattle.mysql_values.specs.declared.params.SetError.TheVariants as set_error
-use Rattle.mysql_values.specs.declared.value.Value.{Value}
+use Rattle.mysql_values.specs.Value.{Value}
 use Rattle.mysql_values.specs.AsSql.{FitsFields}
 use Rattle.mysql_values.specs.Binding.{first_float}
-use Rattle.mysql_values.specs.Params.{names_of, values_over}
+use Rattle.mysql_values.specs.Params.{values_over}
+use Rattle.mysql_values.specs.Parsed.{names_of}
 use Rattle.mysql_values.specs.Parsed.{Parsed}
 use Rattle.mysql_values.specs.Queries.{is_mixed, places_from}
 use Rattle.mysql_values.specs.Tokens.{HasTokens}

@@ -4,12 +4,13 @@ use Rattle.std.specs.Prelude.{ℕ, List, map, unwrap_or, [], ◌∷◌}
 use Rattle.std.specs.List.{join_with_byte}
 use Rattle.std.specs.Result.{result_unwrap_or}
 use Rattle.mysql_values.specs.Tokens.{question}
-use Rattle.mysql_values.specs.declared.value.Value.{Value}
+use Rattle.mysql_values.specs.Value.{Value}
 use Rattle.mysql_values.specs.declared.params.Params.{Params}
 use Rattle.mysql_values.specs.Queries.{pieces_of}
-use Rattle.mysql_values.specs.Params.{names_of, values_over}
+use Rattle.mysql_values.specs.Params.{values_over}
+use Rattle.mysql_values.specs.Parsed.{names_of}
 use Rattle.mysql_values.specs.Values.{literal_of}
-use Rattle.mysql_values.specs.Binding.{interleaved}
+use Rattle.mysql_values.specs.Queries.{interleaved}
 use Rattle.mysql_session.specs.Commands.{execute_command, prepare_command, query_command}
 
 -- the values that a set gives a query with these tokens, none where it gives none

@@ -2,7 +2,7 @@
 
 ghost use Rattle.std.specs.Prelude.{◌≡◌, ◌≤◌, IfErr, None, OnErr, OnOk, Some, take, vec_len};
 ghost use Rattle.mysql_values.specs.Queries.{HasPlaces};
-ghost use Rattle.mysql_values.specs.Binding.{first_not_alone as not_alone};
+ghost use Rattle.mysql_values.specs.Queries.{first_not_alone as not_alone};
 ghost use Rattle.mysql_session.specs.Cause.{places_cause};
 ghost use Rattle.mysql_session.specs.Sending.{RefusesText};
 ghost use Rattle.mysql_session.specs.Sets.{AppendsQuery, QueriesSent, RefusesSet, refusal_by};

@@ -1,40 +1,39 @@
 -- What binding a text gives, and why it is refused.
-use Rattle.std.proofs.Common.{◌≡◌, ℕ, ◌+◌, Bool, true, false, not, ◌==◌, if◌then◌else◌, List, [], ◌∷◌, ◌++◌, length, map, filter, refl, sym, ap, ◌∙◌, inl, inr, arith, subst, Option, Some, None, Result, Ok, Err, IsSomeAnd, IfNone}
-use Rattle.std.specs.List.{AllByRecursion, position_from}
+use Rattle.std.proofs.Common.{◌≡◌, ℕ, ◌+◌, true, false, ◌==◌, if◌then◌else◌, List, [], ◌∷◌, ◌++◌, length, filter, refl, sym, ap, ◌∙◌, inl, inr, arith, subst, Option, Some, None, Result, Ok, IsSomeAnd}
+use Rattle.std.specs.List.{AllByRecursion}
+use Rattle.std.proofs.lemmas.Bool.{cases_Bool}
 use Rattle.std.proofs.lemmas.Bool.Decides.{nat_tests}
-use Rattle.mysql_values.specs.Tokens.{HasTokens}
-use Rattle.mysql_values.specs.Queries.{HasPlaces, Slices, Lexes, Alternates, is_place, is_mixed, places_from, pieces_of, slices_between}
-use Rattle.mysql_values.specs.Params.{IsMeaning, names_of, names_at, values_over}
-use Rattle.mysql_values.specs.Binding.{IsBindCause, IsBound, IsFilled, bind_cause, values_cause, alone_cause, interleaved, float_cause, first_float, first_not_alone}
-use Rattle.mysql_values.specs.declared.content.Content.{Content}
-use Rattle.mysql_values.specs.declared.value.Value.{Value}
+use Rattle.mysql_queries.specs.Queries.{HasPlaces, Slices, Lexes, first_not_alone, interleaved, is_place, is_mixed, places_from, pieces_of, slices_between}
+use Rattle.mysql_queries.specs.Laws.{FilledIsRead, NamesAreSlices, PiecesAreSlices}
+use Rattle.mysql_queries.specs.Parsed.{names_at, names_of}
+use Rattle.mysql_values.specs.Params.{IsMeaning, values_over}
+use Rattle.mysql_values.specs.Binding.{IsBindCause, IsBound, IsFilled, bind_cause, values_cause, alone_cause, float_cause, first_float}
+use Rattle.mysql_queries.specs.declared.content.Content.{Content}
+use Rattle.mysql_cells.specs.declared.value.Value.{Value}
 use Rattle.mysql_values.specs.declared.params.Params.{Params}
 use Rattle.mysql_values.specs.declared.params.ParamsError.{ParamsError}
 use Rattle.mysql_values.specs.declared.bind.BindError.{BindError}
 use Rattle.mysql_values.specs.declared.bind.BindError.TheVariants as bind_error
-use Rattle.mysql_values.specs.declared.placeholders.Place.{Place}
-use Rattle.mysql_values.proofs.FirstBytes.{bool_tells}
-use Rattle.mysql_values.proofs.QuerySlices.{names_there, pieces_at}
-use Rattle.mysql_values.proofs.TextReading.{sliced, lexed_too}
-use Rattle.mysql_values.proofs.TextWritten.{Contents, contents_of, no_floats, filled_alternates}
+use Rattle.mysql_queries.specs.declared.placeholders.Place.{Place}
+use Rattle.mysql_values.proofs.TextWritten.{Contents, contents_of, no_floats}
 
 pub some_and : {A : Type 0} → (P : A → Type 0) (o : Option A) → IsSomeAnd o P → (x : A) × (o ≡ Some x) × P x
 some_and P None h = absurd h
 some_and P (Some x) h = (x, refl, h)
 
-names_are : (query : List ℕ) (places : List Place) → (h : HasPlaces query places) → names_at query places ≡ names_of h.0
-names_are query places h = ap (names_at query) h.2 ∙ sym (names_there [] query h.0 (sym h.1.joined) h.1.each)
+names_are : NamesAreSlices → (query : List ℕ) (places : List Place) → (h : HasPlaces query places) → names_at query places ≡ names_of h.0
+names_are law query places h = ap (names_at query) h.2 ∙ sym (law query h.0 h.1)
 
-pub is_cause : (query : List ℕ) (params : Params) (places : List Place) (e : BindError) → HasPlaces query places → bind_cause places (values_over (names_at query places) params) ≡ Some e → IsBindCause query params e
-is_cause query params places e h k =
-    (h.0, h.1, ap (λ ps. bind_cause ps (values_over (names_of h.0) params)) (sym h.2) ∙ ap (λ ns. bind_cause places (values_over ns params)) (sym (names_are query places h)) ∙ k)
+pub is_cause : NamesAreSlices → (query : List ℕ) (params : Params) (places : List Place) (e : BindError) → HasPlaces query places → bind_cause places (values_over (names_at query places) params) ≡ Some e → IsBindCause query params e
+is_cause law query params places e h k =
+    (h.0, h.1, ap (λ ps. bind_cause ps (values_over (names_of h.0) params)) (sym h.2) ∙ ap (λ ns. bind_cause places (values_over ns params)) (sym (names_are law query places h)) ∙ k)
 
 cause_later : (places : List Place) (over : Result (List Value) ParamsError) → is_mixed places ≡ false → first_not_alone places ≡ None → bind_cause places over ≡ values_cause (length places) over
 cause_later places over m a = ap (λ b. if b then Some bind_error.Mixed else alone_cause (first_not_alone places) (values_cause (length places) over)) m ∙ ap (λ o. alone_cause o (values_cause (length places) over)) a
 
-pub values_are_cause : (query : List ℕ) (params : Params) (places : List Place) (e : BindError) → HasPlaces query places → is_mixed places ≡ false → first_not_alone places ≡ None
+pub values_are_cause : NamesAreSlices → (query : List ℕ) (params : Params) (places : List Place) (e : BindError) → HasPlaces query places → is_mixed places ≡ false → first_not_alone places ≡ None
     → values_cause (length places) (values_over (names_at query places) params) ≡ Some e → IsBindCause query params e
-values_are_cause query params places e h m a k = is_cause query params places e h (cause_later places (values_over (names_at query places) params) m a ∙ k)
+values_are_cause law query params places e h m a k = is_cause law query params places e h (cause_later places (values_over (names_at query places) params) m a ∙ k)
 
 same_numbers : (a b : ℕ) → a ≡ b → (a == b) ≡ true
 same_numbers a b h = grind (arith, nat_tests)
@@ -42,45 +41,34 @@ same_numbers a b h = grind (arith, nat_tests)
 counted_cause : (count : ℕ) (values : List Value) → length values ≡ count → values_cause count (Ok values) ≡ float_cause (first_float values)
 counted_cause count values n = ap (λ b. if b then float_cause (first_float values) else Some bind_error.WrongCount) (same_numbers (length values) count n)
 
-pub float_is_cause : (query : List ℕ) (params : Params) (places : List Place) (values : List Value) (place : ℕ) → HasPlaces query places → is_mixed places ≡ false → first_not_alone places ≡ None
+pub float_is_cause : NamesAreSlices → (query : List ℕ) (params : Params) (places : List Place) (values : List Value) (place : ℕ) → HasPlaces query places → is_mixed places ≡ false → first_not_alone places ≡ None
     → values_over (names_at query places) params ≡ Ok values → length values ≡ length places → first_float values ≡ Some place → IsBindCause query params (bind_error.Float place)
-float_is_cause query params places values place h m a o n f =
-    values_are_cause query params places (bind_error.Float place) h m a (ap (values_cause (length places)) o ∙ counted_cause (length places) values n ∙ ap float_cause f)
-
-all_alone_from : (i : ℕ) (places : List Place) → position_from (λ place. not place.alone) i places ≡ None → AllByRecursion (λ place. place.alone ≡ true) places
-all_alone_from i [] h = tt
-all_alone_from i (p ∷ places) h = elim (bool_tells p.alone) [
-  | inl a ↦ (let k : position_from (λ place. not place.alone) (i + 1) places ≡ None = rw a at h in (a, all_alone_from (i + 1) places k))
-  | inr a ↦ (let k : Some i ≡ None = rw a at h in cc)
-]
-
-pub none_apart : (found : Option ℕ) (places : List Place) → found ≡ first_not_alone places → IfNone found (AllByRecursion (λ place. place.alone ≡ true) places)
-none_apart None places h = all_alone_from 0 places (sym h)
-none_apart (Some place) places h = tt
+float_is_cause law query params places values place h m a o n f =
+    values_are_cause law query params places (bind_error.Float place) h m a (ap (values_cause (length places)) o ∙ counted_cause (length places) values n ∙ ap float_cause f)
 
 places_count : (query : List ℕ) (at : ℕ) (ts : List (List ℕ)) → length (places_from query at ts) ≡ length (filter is_place ts)
 places_count query at [] = refl
 places_count query at (t ∷ ts) =
     let k : length (places_from query (at + length t) ts) ≡ length (filter is_place ts) = places_count query (at + length t) ts in
-    elim (bool_tells (is_place t)) [ inl p ↦ (rw p (omega (arith, k))) | inr p ↦ (rw p (omega (arith, k))) ]
+    elim (cases_Bool (is_place t)) [ inl p ↦ (rw p (omega (arith, k))) | inr p ↦ (rw p (omega (arith, k))) ]
 
-pieces_here : (query : List ℕ) (places : List Place) → (h : HasPlaces query places) → slices_between query 0 places ≡ pieces_of h.0
-pieces_here query places h = ap (slices_between query 0) h.2 ∙ sym (pieces_at [] query h.0 (sym h.1.joined) h.1.each)
+pieces_here : PiecesAreSlices → (query : List ℕ) (places : List Place) → (h : HasPlaces query places) → slices_between query 0 places ≡ pieces_of h.0
+pieces_here law query places h = ap (slices_between query 0) h.2 ∙ sym (law query h.0 h.1)
 
 -- what is appended where nothing speaks against it
-pub bind_ok : (query : List ℕ) (params : Params) (places : List Place) (values : List Value) (before after : List ℕ) → HasPlaces query places → is_mixed places ≡ false → first_not_alone places ≡ None
-    → values_over (names_at query places) params ≡ Ok values → length values ≡ length places → (text : List ℕ) → after ≡ before ++ text → IsFilled query places values text
+pub bind_ok : NamesAreSlices → PiecesAreSlices → FilledIsRead → (query : List ℕ) (params : Params) (places : List Place) (values : List Value) (before after : List ℕ) → HasPlaces query places → is_mixed places ≡ false → first_not_alone places ≡ None
+    → AllByRecursion (λ place. place.alone ≡ true) places → values_over (names_at query places) params ≡ Ok values → length values ≡ length places → (text : List ℕ) → after ≡ before ++ text → IsFilled query places values text
     → (bound : List ℕ) × (contents : List Content) × (after ≡ before ++ bound) × IsBound query params bound × IsMeaning query params contents × Slices query bound contents × Lexes query bound contents
-bind_ok query params places values before after h m a o n text e f =
+bind_ok names pieces read query params places values before after h m a each o n text e f =
     let c : Contents values f.literals = contents_of values f.literals f.each f.have in
-    let over : values_over (names_of h.0) params ≡ Ok values = ap (λ ns. values_over ns params) (sym (names_are query places h)) ∙ o in
+    let over : values_over (names_of h.0) params ≡ Ok values = ap (λ ns. values_over ns params) (sym (names_are names query places h)) ∙ o in
     let none : bind_cause places (Ok values) ≡ None = cause_later places (Ok values) m a ∙ counted_cause (length places) values n ∙ ap float_cause (no_floats values f.literals 0 f.each) in
-    let slices : Slices query text c.contents = sliced query text places c.contents h (subst (λ y. Alternates (slices_between query 0 places) c.contents y) (sym f.spelled) (filled_alternates query 0 places f.literals c.contents (c.count ∙ n) c.are)) in (
+    let r : Slices query text c.contents × Lexes query text c.contents = subst (λ y. Slices query y c.contents × Lexes query y c.contents) (sym f.spelled) (read query places f.literals c.contents h each (c.count ∙ n) c.are) in (
       text,
       c.contents,
       e,
-      record { tokens = h.0; has = h.1; values = values; over = over; none = subst (λ ps. bind_cause ps (Ok values) ≡ None) h.2 none; literals = f.literals; each = f.each; spelled = f.spelled ∙ ap (λ ps. interleaved ps f.literals) (pieces_here query places h) },
+      record { tokens = h.0; has = h.1; values = values; over = over; none = subst (λ ps. bind_cause ps (Ok values) ≡ None) h.2 none; literals = f.literals; each = f.each; spelled = f.spelled ∙ ap (λ ps. interleaved ps f.literals) (pieces_here pieces query places h) },
       record { tokens = h.0; has = h.1; values = values; over = over; count = n ∙ ap length h.2 ∙ places_count query 0 h.0; each = c.each },
-      slices,
-      lexed_too query text places c.contents h (all_alone_from 0 places a) slices,
+      r.0,
+      r.1,
     )

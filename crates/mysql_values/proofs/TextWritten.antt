@@ -1,19 +1,20 @@
 -- Writing a text of a query piece by piece and literal by literal.
-use Rattle.std.proofs.Common.{◌≡◌, ◌≢◌, ℕ, zero, suc, ◌+◌, ◌≤◌, ◌<◌, Bool, true, false, List, [], ◌∷◌, ◌++◌, length, take, drop, get_or, map, slice_range, refl, sym, ap, ◌∙◌, append_assoc, append-nil, arith, subst, Option, Some, None, Result, Ok, Err, is_none}
+use Rattle.std.proofs.Common.{◌≡◌, ℕ, zero, suc, ◌+◌, ◌≤◌, ◌<◌, Bool, true, false, List, [], ◌∷◌, ◌++◌, length, take, drop, get_or, map, slice_range, refl, sym, ap, ◌∙◌, append_assoc, append-nil, arith, subst, Some, None, is_none}
 use Rattle.std.specs.List.{AllByRecursion, position_from}
-use Rattle.std.proofs.lemmas.List.{map-append}
-use Rattle.mysql_values.specs.Tokens.{HasTokens}
-use Rattle.mysql_values.specs.Literals.{IsLiteral}
-use Rattle.mysql_values.specs.Queries.{pieces_of, Alternates, Slices, HasPlaces, places_from, slices_between}
-use Rattle.mysql_values.specs.Values.{content_of, literal_of, plain_content, sql_of, without_zero_sign}
-use Rattle.mysql_values.specs.AsSql.{HasLiteral}
-use Rattle.mysql_values.specs.Binding.{interleaved, IsFilled}
-use Rattle.mysql_values.specs.declared.content.Content.{Content}
-use Rattle.mysql_values.specs.declared.value.Value.{Value}
-use Rattle.mysql_values.specs.declared.value.Value.TheVariants.{NULL, Bytes, Int, UInt, Float, Double, Date, Time}
-use Rattle.mysql_values.specs.declared.placeholders.Place.{Place}
-use Rattle.mysql_values.proofs.QuerySlices.{InOrder, Next, next_place, next_in_order, no_place, no_places_left, places_in_order, take_all_front}
-use Rattle.mysql_values.proofs.TextReading.{read_before}
+use Rattle.std.proofs.lemmas.List.{map-append, take_at}
+use Rattle.mysql_queries.specs.Queries.{AreLiterals, InOrder, interleaved, slices_between}
+use Rattle.mysql_cells.specs.Values.{content_of, literal_of}
+use Rattle.mysql_cells.specs.AsSql.{HasLiteral}
+use Rattle.mysql_values.specs.Binding.{IsFilled}
+use Rattle.mysql_queries.specs.declared.content.Content.{Content}
+use Rattle.mysql_cells.specs.declared.value.Value.{Value}
+use Rattle.mysql_cells.specs.declared.value.Value.TheVariants.{NULL, Bytes, Int, UInt, Float, Double, Date, Time}
+use Rattle.mysql_queries.specs.declared.placeholders.Place.{Place}
+use Rattle.mysql_values.proofs.Looked.{from_place, none_left}
+
+-- what stands where the code looks past the last placeholder
+abbrev pub no_place : Place
+no_place = record { start = 0; end = 0; name = false; alone = false }
 
 -- slices with literals between them
 abbrev pub filled : List ℕ → ℕ → List Place → List (List ℕ) → List ℕ
@@ -22,7 +23,7 @@ filled query at places literals = interleaved (slices_between query at places) l
 -- one piece and one literal more
 pub filled_more : (query : List ℕ) (at : ℕ) (places : List Place) (k : ℕ) (literal : List ℕ) (literals : List (List ℕ)) → k < length places
     → filled query at (drop k places) (literal ∷ literals) ≡ slice_range query at (get_or places k no_place).start ++ (literal ++ filled query (get_or places k no_place).end (drop (k + 1) places) literals)
-filled_more query at places k literal literals h = ap (λ ps. filled query at ps (literal ∷ literals)) (next_place places k h)
+filled_more query at places k literal literals h = ap (λ ps. filled query at ps (literal ∷ literals)) (from_place places k no_place h)
 
 -- How far a text is written: the literals so far, and what goes on with others behind them.
 pub record WrittenTo (query : List ℕ) (places : List Place) (values : List Value) (at : ℕ) (left : List Place) (k : ℕ) (before after : List ℕ) : Type 0 where
@@ -35,9 +36,9 @@ pub record WrittenTo (query : List ℕ) (places : List Place) (values : List Val
   pub appended : after ≡ before ++ written
   pub onward : (others : List (List ℕ)) → filled query 0 places (literals ++ others) ≡ written ++ filled query at left others
 
-pub written_none : (query : List ℕ) (places : List Place) (values : List Value) (before : List ℕ) → HasPlaces query places → WrittenTo query places values 0 places 0 before before
+pub written_none : (query : List ℕ) (places : List Place) (values : List Value) (before : List ℕ) → InOrder query 0 places → WrittenTo query places values 0 places 0 before before
 written_none query places values before h = record {
-  order = places_in_order query places h;
+  order = h;
   in_range = omega arith;
   literals = [];
   written = [];
@@ -62,12 +63,12 @@ pub written_more : {A : Type 0} → (f : A → Value) (query : List ℕ) (places
     → WrittenTo query places (map f xs) (get_or places k no_place).end (drop (k + 1) places) (k + 1) before next
 written_more f query places xs at k before after next text x w h l e t has n =
     let p = get_or places k no_place in
-    let o : Next query at p (drop (k + 1) places) = next_in_order query at places k h w.order in
+    let o : InOrder query at (p ∷ drop (k + 1) places) = subst (InOrder query at) (from_place places k no_place h) w.order in
     let piece : List ℕ = slice_range query at p.start in
     let more : take (k + 1) (map f xs) ≡ take k (map f xs) ++ f x ∷ [] = taken_more f xs k x e l in
     record {
-      order = o.rest;
-      in_range = o.in_range;
+      order = o.5;
+      in_range = o.2;
       literals = w.literals ++ text ∷ [];
       written = (w.written ++ piece) ++ text;
       each = ap (map literal_of) more ∙ map-append literal_of (take k (map f xs)) (f x ∷ []) ∙ ap (λ ys. ys ++ literal_of (f x) ∷ []) w.each ∙ ap (λ y. map Some w.literals ++ y ∷ []) t ∙ sym (map-append Some w.literals (text ∷ []));
@@ -88,7 +89,7 @@ pub written_end : (query : List ℕ) (places : List Place) (values : List Value)
 written_end query places values at k before after next w h l n =
     let all : take k values ≡ values = taken_all values k (omega (arith, h, l)) in
     let onward : filled query 0 places w.literals ≡ w.written ++ drop at query =
-    ap (filled query 0 places) (sym (append-nil w.literals)) ∙ w.onward [] ∙ ap (λ ps. w.written ++ filled query at ps []) (no_places_left places k h) ∙ ap (λ y. w.written ++ y) (append-nil (drop at query)) in (
+    ap (filled query 0 places) (sym (append-nil w.literals)) ∙ w.onward [] ∙ ap (λ ps. w.written ++ filled query at ps []) (none_left places k h) ∙ ap (λ y. w.written ++ y) (append-nil (drop at query)) in (
       w.written ++ drop at query,
       n ∙ ap (λ y. y ++ drop at query) w.appended ∙ append_assoc before w.written (drop at query),
       record {
@@ -100,7 +101,7 @@ written_end query places values at k before after next w h l n =
     )
 
 pub written_front : (query : List ℕ) (places : List Place) (values : List Value) (at : ℕ) (left : List Place) (k : ℕ) (before after : List ℕ) → WrittenTo query places values at left k before after → (piece : List ℕ) → take (length before) (after ++ piece) ≡ before
-written_front query places values at left k before after w piece = ap (λ y. take (length before) (y ++ piece)) w.appended ∙ ap (take (length before)) (append_assoc before w.written piece) ∙ take_all_front before (w.written ++ piece)
+written_front query places values at left k before after w piece = ap (λ y. take (length before) (y ++ piece)) w.appended ∙ ap (take (length before)) (append_assoc before w.written piece) ∙ take_at before (w.written ++ piece) (length before) refl
 
 -- a value with a literal has a content
 has_content : (value : Value) (text : List ℕ) → literal_of value ≡ Some text → (content : Content) × (content_of value ≡ Some content)
@@ -122,13 +123,6 @@ no_literal_no_content (Float bits) h = refl
 no_literal_no_content (Double bits) h = refl
 no_literal_no_content (Date year month day hour minute second micros) h = cc
 no_literal_no_content (Time negative days hours minutes seconds micros) h = cc
-
--- each of these is a literal of the content beside it
-abbrev pub AreLiterals : List (List ℕ) → List Content → Type 0
-AreLiterals [] [] = Unit {0}
-AreLiterals [] (content ∷ contents) = ⊥
-AreLiterals (literal ∷ literals) [] = ⊥
-AreLiterals (literal ∷ literals) (content ∷ contents) = IsLiteral literal content × AreLiterals literals contents
 
 abbrev is_float : Value → Bool
 is_float value = is_none (content_of value)
@@ -178,12 +172,3 @@ float_at f (y ∷ xs) (suc k) i x (l ∷ literals) e h g n =
     let some : is_float (f y) ≡ false = ap is_none c.1 in
     let j : i + 1 + k ≡ i + suc k = omega arith in
     rw some (float_at f xs k (i + 1) x literals later (omega arith) g n ∙ ap Some j)
-
-pub filled_alternates : (query : List ℕ) (at : ℕ) (places : List Place) (literals : List (List ℕ)) (contents : List Content) → length literals ≡ length places → AreLiterals literals contents → Alternates (slices_between query at places) contents (filled query at places literals)
-filled_alternates query at [] [] [] n h = append-nil (drop at query)
-filled_alternates query at [] [] (c ∷ contents) n h = elim h [ ]
-filled_alternates query at [] (l ∷ literals) contents n h = absurd (omega (arith, n))
-filled_alternates query at (p ∷ places) [] contents n h = absurd (omega (arith, n))
-filled_alternates query at (p ∷ places) (l ∷ literals) [] n h = elim h [ ]
-filled_alternates query at (p ∷ places) (l ∷ literals) (c ∷ contents) n h =
-    read_before query at p places c contents (filled query at (p ∷ places) (l ∷ literals)) l (filled query p.end places literals) h.0 refl (filled_alternates query p.end places literals contents (omega (arith, n)) h.1)

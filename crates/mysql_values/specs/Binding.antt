@@ -1,14 +1,15 @@
 -- The text that a query and a parameter set make, and why there is none.
 -- MySQL Reference Manual, "Literal Values" and "PREPARE Statement" (parameter markers).
-use Rattle.std.specs.Prelude.{◌≡◌, ℕ, ◌==◌, not, List, [], ◌∷◌, ◌++◌, map, length, is_none, Option, Some, None, Result, Ok, Err, if◌then◌else◌}
-use Rattle.std.specs.List.{concat, position_from, AllByRecursion}
-use Rattle.mysql_values.specs.Tokens.{HasTokens}
-use Rattle.mysql_values.specs.Queries.{is_mixed, pieces_of, places_from, slices_between}
-use Rattle.mysql_values.specs.Values.{content_of, literal_of}
-use Rattle.mysql_values.specs.AsSql.{HasLiteral}
-use Rattle.mysql_values.specs.Params.{names_of, values_over}
-use Rattle.mysql_values.specs.declared.value.Value.{Value}
-use Rattle.mysql_values.specs.declared.placeholders.Place.{Place}
+use Rattle.std.specs.Prelude.{◌≡◌, ℕ, ◌==◌, List, map, length, is_none, Option, Some, None, Result, Ok, Err, if◌then◌else◌}
+use Rattle.std.specs.List.{position_from, AllByRecursion}
+use Rattle.mysql_queries.specs.Tokens.{HasTokens}
+use Rattle.mysql_queries.specs.Queries.{first_not_alone, interleaved, is_mixed, pieces_of, places_from, slices_between}
+use Rattle.mysql_queries.specs.Parsed.{names_of}
+use Rattle.mysql_cells.specs.Values.{content_of, literal_of}
+use Rattle.mysql_cells.specs.AsSql.{HasLiteral}
+use Rattle.mysql_values.specs.Params.{values_over}
+use Rattle.mysql_cells.specs.declared.value.Value.{Value}
+use Rattle.mysql_queries.specs.declared.placeholders.Place.{Place}
 use Rattle.mysql_values.specs.declared.params.Params.{Params}
 use Rattle.mysql_values.specs.declared.params.ParamsError.{ParamsError}
 use Rattle.mysql_values.specs.declared.params.ParamsError.TheVariants.{Missing, Confusion, Memory}
@@ -20,10 +21,6 @@ abbrev pub bind_error_of : ParamsError → BindError
 bind_error_of (Missing name) = bind_error.Params (Missing name)
 bind_error_of (Confusion confusion) = bind_error.Params (Confusion confusion)
 bind_error_of Memory = bind_error.Memory
-
--- the first placeholder that doesn't stand alone
-abbrev pub first_not_alone : List Place → Option ℕ
-first_not_alone places = position_from (λ place. not place.alone) 0 places
 
 -- the first value that is a float
 abbrev pub first_float : List Value → Option ℕ
@@ -47,12 +44,6 @@ alone_cause (Some place) other = Some (bind_error.NotAlone place)
 -- The first cause, in the order of the errors, for which no text is bound to these placeholders and the values over them.
 abbrev pub bind_cause : List Place → Result (List Value) ParamsError → Option BindError
 bind_cause places over = if is_mixed places then Some bind_error.Mixed else alone_cause (first_not_alone places) (values_cause (length places) over)
-
--- pieces with literals between them
-abbrev pub interleaved : List (List ℕ) → List (List ℕ) → List ℕ
-interleaved pieces [] = concat pieces
-interleaved [] (literal ∷ literals) = []
-interleaved (piece ∷ pieces) (literal ∷ literals) = piece ++ (literal ++ interleaved pieces literals)
 
 -- no text is bound, for this cause
 abbrev pub IsBindCause : List ℕ → Params → BindError → Type 0

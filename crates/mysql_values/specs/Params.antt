@@ -1,31 +1,19 @@
 -- The values that a parameter set gives a query, and what they mean.
 -- MySQL Reference Manual, "PREPARE Statement" (parameter markers); names as placeholders are a form of client libraries.
-use Rattle.std.specs.Prelude.{◌≡◌, ℕ, slice_range, List, [], ◌∷◌, map, filter, length, drop, Option, Some, None, Result, Ok, Err, nat_eq, if◌then◌else◌, Vec}
+use Rattle.std.specs.Prelude.{◌≡◌, ℕ, List, [], ◌∷◌, map, filter, length, Option, Some, None, Result, Ok, Err, nat_eq, if◌then◌else◌, Vec}
 use Rattle.std.specs.Cmp.Lexicographic.{pointwise}
 use Rattle.std.specs.declared.alloc.Global.{Global}
-use Rattle.mysql_values.specs.Tokens.{HasTokens}
-use Rattle.mysql_values.specs.Queries.{is_name, is_place}
-use Rattle.mysql_values.specs.Values.{content_of}
-use Rattle.mysql_values.specs.declared.content.Content.{Content}
-use Rattle.mysql_values.specs.declared.placeholders.Place.{Place}
-use Rattle.mysql_values.specs.declared.value.Value.{Value}
+use Rattle.mysql_queries.specs.Tokens.{HasTokens}
+use Rattle.mysql_queries.specs.Queries.{is_place}
+use Rattle.mysql_queries.specs.Parsed.{names_of}
+use Rattle.mysql_cells.specs.Values.{content_of}
+use Rattle.mysql_queries.specs.declared.content.Content.{Content}
+use Rattle.mysql_cells.specs.declared.value.Value.{Value}
 use Rattle.mysql_values.specs.declared.params.Params.{Params}
 use Rattle.mysql_values.specs.declared.params.Params.TheVariants.{Empty, Named, Positional}
 use Rattle.mysql_values.specs.declared.params.ParamsError.{ParamsError}
 use Rattle.mysql_values.specs.declared.params.ParamsError.TheVariants.{Missing, Confusion}
 use Rattle.mysql_values.specs.declared.params.ParamsConfusionError.TheVariants.{NamedParamsForPositionalQuery, PositionalParamsForNamedQuery}
-
--- the names of a query with these tokens, without their colons
-abbrev pub names_of : List (List ℕ) → List (List ℕ)
-names_of tokens = map (drop 1) (filter is_name tokens)
-
--- the names of the query are these, in order
-abbrev pub HasNames : List ℕ → List (List ℕ) → Type 0
-HasNames query names = (tokens : List (List ℕ)) × HasTokens query tokens × (names ≡ names_of tokens)
-
--- the names at placeholders of a query, without their colons
-abbrev pub names_at : List ℕ → List Place → List (List ℕ)
-names_at query places = map (λ place. drop 1 (slice_range query place.start place.end)) (filter (λ place. place.name) places)
 
 -- the value beside the first entry of this name
 abbrev pub value_named : List ℕ → List (Vec ℕ Global × Value) → Option Value

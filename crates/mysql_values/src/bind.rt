@@ -1,13 +1,15 @@
 //! A query's text with literals in the places of its placeholders.
 
-ghost use Rattle.mysql_values.specs.AsSql.{HasLiteral};
-ghost use Rattle.mysql_values.specs.Binding.{IsBindCause, IsBound, IsFilled, bind_cause, bind_error_of, first_float, first_not_alone as first_apart, values_cause};
-ghost use Rattle.mysql_values.specs.Params.{IsMeaning, names_at, values_over};
-ghost use Rattle.mysql_values.specs.Queries.{HasPlaces, Lexes, Slices, is_mixed as has_both_kinds};
-ghost use Rattle.mysql_values.specs.Values.{literal_of};
-ghost use Rattle.mysql_values.specs.declared.content.Content.{Content};
+ghost use Rattle.mysql_cells.specs.AsSql.{HasLiteral};
+ghost use Rattle.mysql_values.specs.Binding.{IsBindCause, IsBound, IsFilled, bind_cause, bind_error_of, first_float, values_cause};
+ghost use Rattle.mysql_values.specs.Params.{IsMeaning, values_over};
+ghost use Rattle.mysql_queries.specs.Parsed.{names_at};
+ghost use Rattle.mysql_queries.specs.Queries.{HasPlaces, Lexes, Slices, first_not_alone as first_apart, is_mixed as has_both_kinds};
+ghost use Rattle.mysql_cells.specs.Values.{literal_of};
+ghost use Rattle.mysql_queries.specs.declared.content.Content.{Content};
 ghost use Rattle.mysql_values.specs.declared.params.ParamsError.{ParamsError as ParamsErrorOf};
-ghost use Rattle.mysql_values.specs.declared.value.Value.{Value as ValueOf};
+ghost use Rattle.mysql_cells.specs.declared.value.Value.{Value as ValueOf};
+ghost use Rattle.std.specs.List.{AllByRecursion};
 ghost use Rattle.std.specs.Prelude.{
   ◌++◌,
   ◌≡◌,
@@ -27,15 +29,18 @@ ghost use Rattle.std.specs.Prelude.{
   length,
   map,
   take,
+  true,
   ℕ,
 };
 ghost use Rattle.mysql_values.specs.declared.bind.BindError.TheVariants as bind_error;
 
-use crate::as_sql::{AsSqlError, push_literal};
-use crate::named_params::names_among;
 use crate::params::{Params, ParamsError, values_over_names};
-use crate::placeholders::{Place, find_places, first_not_alone, is_mixed};
-use crate::value::Value;
+use mysql_cells::Value;
+use mysql_cells::as_sql::{AsSqlError, push_literal};
+use mysql_queries::laws::{filled_text_is_read, pieces_of_a_query};
+use mysql_queries::named_params::names_among;
+use mysql_queries::placeholders::find_places;
+use mysql_queries::{Place, first_not_alone, is_mixed};
 use std::alloc::{AllocError, AllocFailed, Global};
 use thiserror::Error;
 
@@ -95,6 +100,7 @@ impl From<ParamsError> for BindError {
 fn check_places(places: &[Place]) -> Result<(), BindError>
     ensures one_kind { OnOk result (has_both_kinds places.now ≡ false) }
     ensures alone { OnOk result (first_apart places.now ≡ None) }
+    ensures each { OnOk result (AllByRecursion (λ place. place.alone ≡ true) places.now) }
     ensures err { IfErr result (λ e. (over : Result (List ValueOf) ParamsErrorOf) → bind_cause places.now over ≡ Some e) }
 {
     if is_mixed(places) {
@@ -154,6 +160,7 @@ fn put_text(
     ensures err { IfErr result (λ e. (e ≡ bind_error.Memory) ⊎ ((place : ℕ) × (e ≡ bind_error.Float place) × (first_float (map (λ value. value.now) values.now) ≡ Some place))) }
     ensures kept { take (length out.old.items) out.new.items ≡ out.old.items }
 {
+    pieces_of_a_query();
     let mut at = 0;
     for i in 0..places.len() {
         let place = places[i];
@@ -183,6 +190,8 @@ pub fn bind_text(
     ensures err { IfErr result (λ e. (e ≡ bind_error.Memory) ⊎ IsBindCause query.now params.now e) }
     ensures kept { OnErr result (out.new.items ≡ out.old.items) }
 {
+    pieces_of_a_query();
+    filled_text_is_read();
     let places = find_places(alloc, query)?;
     check_places(&places)?;
     let values = values_to_bind(alloc, query, &places, params)?;

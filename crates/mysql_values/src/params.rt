@@ -5,9 +5,8 @@ ghost use Rattle.std.specs.Prelude.{◌≡◌, ◌⊎◌, Err, IfErr, IfOk, Ok, 
 ghost use Rattle.mysql_values.specs.declared.params.ParamsError.TheVariants as params_error;
 ghost use Rattle.mysql_values.specs.declared.params.SetError.TheVariants as set_error;
 
-use crate::byte_string::ByteString;
-use crate::named_params::ParsedNamedParams;
-use crate::value::Value;
+use mysql_cells::Value;
+use mysql_queries::{ByteString, ParsedNamedParams};
 use std::alloc::{AllocError, AllocFailed, Global};
 use std::collections::HashMap;
 use std::convert::AsSlice;

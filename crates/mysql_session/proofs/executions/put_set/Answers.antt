@@ -1,6 +1,6 @@
 use Rattle.std.proofs.Common.{◌≡◌, ◌++◌, ◌∙◌, List, ap, subst, map, arith, Bor}
 use Rattle.std.specs.List.{AllByRecursion}
-use Rattle.mysql_values.specs.declared.value.Value.{Value}
+use Rattle.mysql_values.specs.Value.{Value}
 use Rattle.mysql_wire.specs.Framing.{framing}
 use Rattle.mysql_values.specs.AsSql.{FitsFields}
 use Rattle.mysql_session.specs.Commands.{execute_command}

@@ -1,14 +1,13 @@
-use Rattle.std.proofs.Common.{◌≡◌, ◌+◌, ◌++◌, ℕ, List, Some, None, length, map, drop, get_or, slice_range, arith, sym, ap, ◌∙◌, inl, inr}
+use Rattle.std.proofs.Common.{◌++◌, Some, length, map, drop, arith, take_all, length-drop, ◌-◌, ap, ◌∙◌, inl, inr}
 use Rattle.std.proofs.lemmas.List.{length-map}
 use Rattle.std.proofs.lemmas.Result.{err_from_is_err_and}
-use Rattle.mysql_values.specs.Values.{literal_of}
-use Rattle.mysql_values.proofs.PlaceLists.{to_end}
+use Rattle.mysql_cells.specs.Values.{literal_of}
 use Rattle.mysql_values.proofs.BindCauses.{some_and}
 use Rattle.mysql_values.proofs.TextWritten.{written_none, written_more, written_end, float_at}
 use Rattle.mysql_values.proofs.bind.put_text.Goals as goal
 
 pub loop-i-init : goal.loop-i-init
-loop-i-init c = written_none c.args.query.now c.args.places.now (map (λ value. value.now) c.args.values.now) c.args.out.now.items c.requires.places
+loop-i-init c = written_none c.args.query.now c.args.places.now (map (λ value. value.now) c.args.values.now) c.args.out.now.items (c.pieces_of_a_query.ensures.order c.args.query.now c.args.places.now c.requires.places)
 
 pub returns-in_err-put_literal-clause-err : goal.returns-in_err-put_literal-clause-err
 returns-in_err-put_literal-clause-err c = let p = err_from_is_err_and c.from_residual-in_err-put_literal.result c.from_residual-in_err-put_literal.ensures.1 in rw (p.1, p.2) (elim c.in_err-put_literal.ensures.err [
@@ -24,4 +23,4 @@ loop-i-preserved c =
 
 pub returns-clause-ok : goal.returns-clause-ok
 returns-clause-ok c = written_end c.args.query.now c.args.places.now (map (λ value. value.now) c.args.values.now) c.loop-i.at c.loop-i.i c.args.out.now.items c.loop-i.out.items c.extend_from_slice-2.new.self.items c.loop-i.invariant c.loop-i-test.false
-    (length-map c.args.values.now (λ value. value.now) ∙ c.requires.count) (c.in_ok-extend_from_slice-2.ensures.items ∙ ap (λ y. c.loop-i.out.items ++ y) (to_end c.args.query.now c.loop-i.at))
+    (length-map c.args.values.now (λ value. value.now) ∙ c.requires.count) (c.in_ok-extend_from_slice-2.ensures.items ∙ ap (λ y. c.loop-i.out.items ++ y) (take_all (length c.args.query.now - c.loop-i.at) (drop c.loop-i.at c.args.query.now) (omega (arith, length-drop c.loop-i.at c.args.query.now))))

@@ -1,4 +1,4 @@
-use Rattle.std.proofs.Common.{◌≡◌, ◌+◌, ◌++◌, [], ◌∷◌, List, map, drop, length, get_or, ap, sym, ◌∙◌, inr, refl, Ok, Err, append-nil}
+use Rattle.std.proofs.Common.{◌+◌, [], ◌∷◌, map, drop, ap, sym, ◌∙◌, inr, Ok, Err, append-nil}
 use Rattle.std.proofs.lemmas.List.{map-append}
 use Rattle.mysql_values.specs.Params.{value_named, values_named, value_missing}
 use Rattle.mysql_values.proofs.Looked.{behind, behind_none, from_place, looked_more, looked_missing, none_left}

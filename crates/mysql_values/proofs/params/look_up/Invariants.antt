@@ -1,4 +1,4 @@
-use Rattle.std.proofs.Common.{◌≡◌, ◌++◌, map, drop}
+use Rattle.std.proofs.Common.{◌≡◌, map, drop}
 use Rattle.mysql_values.specs.Params.{values_named}
 use Rattle.mysql_values.proofs.Looked.{behind}
 use Rattle.mysql_values.proofs.params.look_up.Given as goal

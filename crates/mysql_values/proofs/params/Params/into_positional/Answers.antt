@@ -1,5 +1,5 @@
-use Rattle.std.proofs.Common.{◌≡◌, List, map, ap, sym, ◌∙◌, Ok, refl, subst}
-use Rattle.mysql_values.specs.Params.{IsPositional, values_named}
+use Rattle.std.proofs.Common.{map, ap, sym, ◌∙◌, Ok, refl, subst}
+use Rattle.mysql_values.specs.Params.{IsPositional}
 use Rattle.mysql_values.specs.declared.params.Params.TheVariants.{Positional}
 use Rattle.mysql_values.proofs.params.Params.into_positional.Goals as goal
 

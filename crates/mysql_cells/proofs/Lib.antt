@@ -1,0 +1,5 @@
+pub mod Appended
+pub mod Escapes
+pub mod SqlTexts
+pub mod WrittenCells
+pub mod ShortForms

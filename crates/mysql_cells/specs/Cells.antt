@@ -1,0 +1,177 @@
+-- Cells of the binary protocol, as they are written and read, and cells of the text protocol.
+-- MySQL: Client/Server Protocol, "Binary Protocol Value", "Protocol::LengthEncodedInteger", "Text Resultset Row".
+use Rattle.std.specs.Prelude.{ℕ, pos, ◌+◌, ◌^◌, Bool, true, false, List, [], ◌∷◌, ◌++◌, length, take, drop, Ok, Err, nat_lt, ◌==◌, if◌then◌else◌}
+use Rattle.std.specs.Int.{Width, w8, w16, w32, w64, cast_signed, cast_unsigned, to_le_bytes}
+use Rattle.std.specs.List.{list_any}
+use Rattle.mysql_raw.specs.declared.error.WireError.TheVariants.{UnexpectedEof, BadLength, UnsupportedType}
+use Rattle.mysql_cells.specs.declared.value.Value.{Value}
+use Rattle.mysql_cells.specs.declared.value.Value.TheVariants.{NULL, Bytes, Int, UInt, Float, Double, Date, Time}
+use Rattle.mysql_cells.specs.declared.cell_form.CellForm.{CellForm}
+use Rattle.mysql_cells.specs.declared.cell_form.CellForm.TheVariants.{Nothing, Whole1, Whole2, Whole4, Whole8, FloatBits, DoubleBits, Counted, DateAndTime, Duration, Without}
+use Rattle.mysql_cells.specs.Reading.{Reading, ◌>>=◌, little, number_at, counted_at, short_at}
+
+-- WRITING
+
+-- a length-encoded number, in its shortest form
+abbrev pub lenenc : ℕ → List ℕ
+lenenc n =
+    if nat_lt n 251 then n ∷ []
+    else if nat_lt n 0x1_0000 then 0xfc ∷ to_le_bytes w16 n
+    else if nat_lt n 0x100_0000 then 0xfd ∷ take 3 (to_le_bytes w32 n)
+    else 0xfe ∷ to_le_bytes w64 n
+
+-- the bytes of a length-encoded number
+abbrev pub lenenc_len : ℕ → ℕ
+lenenc_len n = if nat_lt n 251 then 1 else if nat_lt n 0x1_0000 then 3 else if nat_lt n 0x100_0000 then 4 else 9
+
+-- the fewest bytes that keep a date: none for all zeros, 4 for a day, 7 with a time of day, 11 with microseconds
+abbrev pub date_size : (year month day hour minute second micros : ℕ) → ℕ
+date_size year month day hour minute second micros =
+    if nat_lt 0 micros then 11
+    else if nat_lt 0 (hour + minute + second) then 7
+    else if nat_lt 0 (year + month + day) then 4
+    else 0
+
+-- the fewest bytes that keep a time: none for all zeros, 8 for whole seconds, 12 with microseconds
+abbrev pub time_size : (days hours minutes seconds micros : ℕ) → ℕ
+time_size days hours minutes seconds micros =
+    if nat_lt 0 micros then 12
+    else if nat_lt 0 (days + hours + minutes + seconds) then 8
+    else 0
+
+-- the cell of a date: how many bytes follow, and so many of its fields
+abbrev pub date_cell : (year month day hour minute second micros : ℕ) → List ℕ
+date_cell year month day hour minute second micros =
+    let size = date_size year month day hour minute second micros in
+    size ∷ take size (to_le_bytes w16 year ++ month ∷ day ∷ hour ∷ minute ∷ second ∷ to_le_bytes w32 micros)
+
+-- the cell of a time: how many bytes follow, and so many of its fields, of which the first is 1 for a negative one
+abbrev pub time_cell : Bool → (days hours minutes seconds micros : ℕ) → List ℕ
+time_cell negative days hours minutes seconds micros =
+    let size = time_size days hours minutes seconds micros in
+    size ∷ take size ((if negative then 1 else 0) ∷ to_le_bytes w32 days ++ hours ∷ minutes ∷ seconds ∷ to_le_bytes w32 micros)
+
+-- the cell of a value by its own type
+abbrev pub cell : Value → List ℕ
+cell NULL = []
+cell (Bytes bytes) = lenenc (length bytes) ++ bytes
+cell (Int z) = to_le_bytes w64 (cast_unsigned w64 z)
+cell (UInt n) = to_le_bytes w64 n
+cell (Float bits) = to_le_bytes w32 bits
+cell (Double bits) = to_le_bytes w64 bits
+cell (Date year month day hour minute second micros) = date_cell year month day hour minute second micros
+cell (Time negative days hours minutes seconds micros) = time_cell negative days hours minutes seconds micros
+
+-- the bytes of a value's cell
+abbrev pub bin_len : Value → ℕ
+bin_len NULL = 0
+bin_len (Bytes bytes) = lenenc_len (length bytes) + length bytes
+bin_len (Int z) = 8
+bin_len (UInt n) = 8
+bin_len (Float bits) = 4
+bin_len (Double bits) = 8
+bin_len (Date year month day hour minute second micros) = 1 + date_size year month day hour minute second micros
+bin_len (Time negative days hours minutes seconds micros) = 1 + time_size days hours minutes seconds micros
+
+-- the number of the type that a value is sent by: NULL, VAR_STRING, LONGLONG, FLOAT, DOUBLE, DATETIME or TIME
+abbrev pub type_number : Value → ℕ
+type_number NULL = 6
+type_number (Bytes bytes) = 253
+type_number (Int z) = 8
+type_number (UInt n) = 8
+type_number (Float bits) = 4
+type_number (Double bits) = 5
+type_number (Date year month day hour minute second micros) = 12
+type_number (Time negative days hours minutes seconds micros) = 11
+
+-- whether a value is sent by a type without a sign
+abbrev pub is_unsigned : Value → Bool
+is_unsigned NULL = false
+is_unsigned (Bytes bytes) = false
+is_unsigned (Int z) = false
+is_unsigned (UInt n) = true
+is_unsigned (Float bits) = false
+is_unsigned (Double bits) = false
+is_unsigned (Date year month day hour minute second micros) = false
+is_unsigned (Time negative days hours minutes seconds micros) = false
+
+-- READING
+
+-- whether the number is one of these
+abbrev pub is_one_of : List ℕ → ℕ → Bool
+is_one_of numbers t = list_any (λ k. k == t) numbers
+
+-- the form of a type's cells
+abbrev pub form_of : ℕ → CellForm
+form_of t =
+    if t == 6 then Nothing
+    else if t == 1 then Whole1
+    else if is_one_of (2 ∷ 13 ∷ []) t then Whole2
+    else if is_one_of (3 ∷ 9 ∷ []) t then Whole4
+    else if t == 8 then Whole8
+    else if t == 4 then FloatBits
+    else if t == 5 then DoubleBits
+    else if is_one_of (0 ∷ 246 ∷ 15 ∷ 253 ∷ 254 ∷ 249 ∷ 250 ∷ 251 ∷ 252 ∷ 247 ∷ 248 ∷ 16 ∷ 245 ∷ 255 ∷ 242 ∷ []) t then Counted
+    else if is_one_of (10 ∷ 12 ∷ 7 ∷ []) t then DateAndTime
+    else if t == 11 then Duration
+    else Without
+
+-- Int where it fits, else UInt
+abbrev pub unsigned_value : ℕ → Value
+unsigned_value n = if nat_lt n (2 ^ 63) then Int (pos n) else UInt n
+
+-- a whole number of this width, with or without a sign
+abbrev pub whole_value : Width → Bool → ℕ → Value
+whole_value w unsigned n = if unsigned then unsigned_value n else Int (cast_signed w n)
+
+-- the n bytes from i on, as a number; 0 where the cell has fewer bytes than a part of this kind asks for
+abbrev pub part : List ℕ → ℕ → ℕ → ℕ → ℕ
+part held least i n = if nat_lt (length held) least then 0 else little (take n (drop i held))
+
+-- a date from 4 bytes on, with a time of day from 7 on and microseconds from 11 on
+abbrev pub date_of : List ℕ → Value
+date_of held = Date (part held 4 0 2) (part held 4 2 1) (part held 4 3 1) (part held 7 4 1) (part held 7 5 1) (part held 7 6 1) (part held 11 7 4)
+
+-- a time from 8 bytes on, with microseconds from 12 on; a sign of 1 is negative
+abbrev pub time_of : List ℕ → Value
+time_of held = Time (part held 8 0 1 == 1) (part held 8 1 4) (part held 8 5 1) (part held 8 6 1) (part held 8 7 1) (part held 12 8 4)
+
+-- a number of so many bytes, as a value
+abbrev pub number_value_at : ℕ → (ℕ → Value) → List ℕ → Reading Value
+number_value_at n made bytes = do
+  x ← number_at n bytes
+  Ok (made x.0, x.1)
+
+-- the value that a form's cell holds, and the bytes after it
+abbrev pub value_at : CellForm → Bool → List ℕ → Reading Value
+value_at Nothing unsigned bytes = Ok (NULL, bytes)
+value_at Whole1 unsigned bytes = number_value_at 1 (whole_value w8 unsigned) bytes
+value_at Whole2 unsigned bytes = number_value_at 2 (whole_value w16 unsigned) bytes
+value_at Whole4 unsigned bytes = number_value_at 4 (whole_value w32 unsigned) bytes
+value_at Whole8 unsigned bytes = number_value_at 8 (whole_value w64 unsigned) bytes
+value_at FloatBits unsigned bytes = number_value_at 4 (λ n. Float n) bytes
+value_at DoubleBits unsigned bytes = number_value_at 8 (λ n. Double n) bytes
+value_at Counted unsigned bytes = do
+  held ← counted_at bytes
+  Ok (Bytes held.0, held.1)
+value_at DateAndTime unsigned bytes = do
+  held ← short_at bytes
+  Ok (date_of held.0, held.1)
+value_at Duration unsigned bytes = do
+  held ← short_at bytes
+  Ok (time_of held.0, held.1)
+value_at Without unsigned bytes = Err UnsupportedType
+
+-- By a type's number and whether it is unsigned, the value of the cell that stands first, and the bytes after it.
+unfoldable pub cell_at : ℕ → Bool → List ℕ → Reading Value
+cell_at t unsigned bytes = value_at (form_of t) unsigned bytes
+
+-- The value of the text protocol's cell that stands first: fb for NULL, else length-encoded bytes, whose length ff can't begin.
+unfoldable pub text_cell_at : List ℕ → Reading Value
+text_cell_at [] = Err UnexpectedEof
+text_cell_at (b ∷ bytes) =
+    if b == 251 then Ok (NULL, bytes)
+    else if b == 255 then Err BadLength
+    else do
+      held ← counted_at (b ∷ bytes)
+      Ok (Bytes held.0, held.1)

@@ -1,0 +1,117 @@
+//! The SQL text of a value.
+
+ghost use Rattle.mysql_cells.specs.AsSql.{EachSqlIsLiteral, HasLiteral, PutsSql, SqlIsLiteral};
+ghost use Rattle.mysql_cells.specs.Values.{literal_of, sql_of, without_zero_sign};
+ghost use Rattle.mysql_cells.specs.declared.as_sql.AsSqlError.TheVariants as as_sql_error;
+ghost use Rattle.std.specs.Prelude.{◌≡◌, ◌++◌, ◌↔◌, Err, IfOk, IsSomeAnd, None, OnErr, OnOk, Some, string_bytes};
+
+use crate::date_text::{is_zero_time, put_date, put_signed, put_time, put_unsigned};
+use crate::laws::fields_fit;
+use crate::quoting::put_bytes;
+use crate::value::Value;
+use mysql_queries::laws::content_of_a_spelling;
+use std::alloc::{AllocError, AllocFailed, Global};
+use thiserror::Error;
+
+/// Why a value has no SQL text, in the order in which the causes are looked for.
+#[derive(Clone, Copy, Debug, PartialEq, Eq, Hash, Error)]
+pub enum AsSqlError {
+    /// The value is a float.
+    #[error("a float has no text here")]
+    Float,
+    #[error("out of memory")]
+    Memory,
+}
+
+impl From<AllocError> for AsSqlError {
+    ghost from_gives = { λ _ e. e ≡ as_sql_error.Memory };
+
+    fn from(_e: AllocError) -> AsSqlError {
+        AsSqlError::Memory
+    }
+}
+
+impl<T: Drop> From<AllocFailed<T>> for AsSqlError {
+    ghost from_gives = { λ _ e. e ≡ as_sql_error.Memory };
+
+    fn from(_e: AllocFailed<T>) -> AsSqlError {
+        AsSqlError::Memory
+    }
+}
+
+/// Appends the SQL text of a value; a refusal may leave a part of it behind.
+fn put_value(out: &mut Vec<u8>, value: &Value, no_backslash_escape: bool) -> Result<(), AsSqlError>
+    ensures { PutsSql (sql_of no_backslash_escape value.now) out.old.items out.new.items result }
+{
+    match value {
+        Value::NULL => out.extend_from_slice(b"NULL")?,
+        Value::Bytes(bytes) => put_bytes(out, bytes.as_slice(), no_backslash_escape)?,
+        Value::Int(number) => put_signed(out, *number)?,
+        Value::UInt(number) => put_unsigned(out, *number)?,
+        Value::Float(_) | Value::Double(_) => return Err(AsSqlError::Float),
+        Value::Date(year, month, day, hour, minute, second, micros) => {
+            put_date(out, *year, *month, *day, *hour, *minute, *second, *micros)?
+        }
+        Value::Time(negative, days, hours, minutes, seconds, micros) => {
+            put_time(out, *negative, *days, *hours, *minutes, *seconds, *micros)?
+        }
+    }
+    Ok(())
+}
+
+/// With backslash escapes the SQL text of a value is a literal of what the value means.
+pub fn sql_text_is_a_literal()
+    ensures { EachSqlIsLiteral }
+{
+    content_of_a_spelling();
+}
+
+/// Appends the literal of a value: its SQL text with backslash escapes, an all-zero time without its sign.
+///
+/// Refuses `Float` for a float, then `Memory`; `out` is then as it was.
+///
+/// Follows the MySQL Reference Manual, "Literal Values".
+pub fn push_literal(out: &mut Vec<u8>, value: &Value) -> Result<(), AsSqlError>
+    ensures ok { OnOk result (IsSomeAnd (literal_of value.now) (λ text. out.new.items ≡ out.old.items ++ text)) }
+    ensures float { (result ≡ Err AsSqlError.Float) ↔ (literal_of value.now ≡ None) }
+    ensures err { OnErr result (out.new.items ≡ out.old.items) }
+    ensures literal { HasLiteral value.now }
+{
+    sql_text_is_a_literal();
+    fields_fit(value);
+    let start = out.len();
+    let put = match value {
+        Value::Time(negative, days, hours, minutes, seconds, micros) => {
+            let signed = *negative && !is_zero_time(*days, *hours, *minutes, *seconds, *micros);
+            put_time(out, signed, *days, *hours, *minutes, *seconds, *micros).map_err(
+                AsSqlError::from,
+            )
+        }
+        _ => put_value(out, value, false),
+    };
+    if put.is_err() {
+        out.truncate(start);
+    }
+    put
+}
+
+impl Value {
+    /// The SQL text of the value: `NULL`, digits, a date or a time in quotes, UTF-8 in quotes, other bytes in hexadecimal.
+    ///
+    /// With `no_backslash_escape` it is for a server in the SQL mode NO_BACKSLASH_ESCAPES: single quotes are doubled, and no other byte is escaped.
+    ///
+    /// Refuses `Float` for a float, then `Memory`.
+    ///
+    /// Follows the MySQL Reference Manual, "Literal Values".
+    pub fn as_sql(&self, alloc: Global, no_backslash_escape: bool) -> Result<String, AsSqlError>
+        ensures ok { IfOk result (λ text. sql_of no_backslash_escape self.now ≡ Some (string_bytes text)) }
+        ensures float { (result ≡ Err AsSqlError.Float) ↔ (sql_of no_backslash_escape self.now ≡ None) }
+        ensures literal { SqlIsLiteral self.now }
+    {
+        sql_text_is_a_literal();
+        fields_fit(self);
+        let mut text = Vec::new(alloc);
+        put_value(&mut text, self, no_backslash_escape)?;
+        Ok(unsafe { String::from_utf8_unchecked(text) })
+    }
+}

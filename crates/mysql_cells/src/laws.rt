@@ -1,0 +1,69 @@
+//! Laws of cells and of values. The functions change nothing: their contracts are the laws.
+
+ghost use Rattle.mysql_cells.specs.AsSql.{FitsFields};
+ghost use Rattle.mysql_cells.specs.CellLaws.{CellLength, CellsReadBack, ReadBackMeansTheSame};
+ghost use Rattle.mysql_buf.specs.Bytes.{AreBytes};
+ghost use Rattle.std.specs.List.{AllByRecursion};
+ghost use Rattle.std.specs.Prelude.{◌<◌, ◌^◌, length};
+
+use crate::value::Value;
+
+/// A cell has the length that `Value::bin_len` counts.
+pub fn cells_have_lengths()
+    ensures { CellLength }
+{}
+
+/// A value's cell, read by the type that the value is sent by, is the value, whatever follows it; but an unsigned number below 2^63 comes as `Int`,
+/// and a negative time of all zeros as positive. What is read means what was written.
+pub fn cells_read_back()
+    ensures same { CellsReadBack }
+    ensures content { ReadBackMeansTheSame }
+{}
+
+/// A slice holds bytes, fewer than 2^64.
+fn are_bytes(bytes: &[u8])
+    ensures bytes { AreBytes bytes.now }
+    ensures length { length bytes.now < 2 ^ 64 }
+{
+    let _first = bytes.first();
+    let _length = bytes.len();
+}
+
+/// Each number of a value fits its field.
+pub fn fields_fit(value: &Value)
+    ensures { FitsFields value.now }
+{
+    match value {
+        Value::NULL => {}
+        Value::Bytes(bytes) => {
+            are_bytes(bytes.as_slice());
+        }
+        Value::Int(number) => {
+            let _number = *number;
+        }
+        Value::UInt(number) => {
+            let _number = *number;
+        }
+        Value::Float(bits) => {
+            let _bits = *bits;
+        }
+        Value::Double(bits) => {
+            let _bits = *bits;
+        }
+        Value::Date(year, month, day, hour, minute, second, micros) => {
+            let _date = (*year, *month, *day, *hour, *minute, *second, *micros);
+        }
+        Value::Time(_, days, hours, minutes, seconds, micros) => {
+            let _time = (*days, *hours, *minutes, *seconds, *micros);
+        }
+    }
+}
+
+/// Each number of each value fits its field.
+pub fn all_fields_fit(values: &[Value])
+    ensures { AllByRecursion (λ value. FitsFields value) values.now }
+{
+    for value in values {
+        fields_fit(value);
+    }
+}

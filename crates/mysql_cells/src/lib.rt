@@ -1,0 +1,17 @@
+//! Values of the client/server protocol: their cells, and their texts in a query.
+#![tactic(auto)]
+
+pub mod as_sql;
+mod cell_form;
+mod cell_values;
+mod cell_writing;
+pub mod cells;
+mod date_text;
+mod fields;
+pub mod laws;
+mod quoting;
+pub mod value;
+
+pub use as_sql::AsSqlError;
+pub use cells::{put_cell, read_cell, read_text_cell};
+pub use value::Value;

@@ -1,0 +1,49 @@
+//! Values of the client/server protocol.
+
+ghost use Rattle.std.specs.Prelude.{◌≡◌, IfOk};
+
+use mysql_queries::ByteString;
+use std::alloc::{AllocError, Global};
+
+/// A value as the protocol carries it.
+///
+/// Two values are equal where their fields are, floats by their bits. No field is checked: a date may have month 13.
+///
+/// Follows "Binary Protocol Value" of the client/server protocol documentation.
+#[derive(Debug, PartialEq, Eq, Hash, Drop)]
+pub enum Value {
+    NULL,
+    Bytes(ByteString),
+    Int(i64),
+    UInt(u64),
+    /// A float's bits.
+    Float(u32),
+    /// A double's bits.
+    Double(u64),
+    /// Year, month, day, hour, minute, second, microseconds.
+    Date(u16, u8, u8, u8, u8, u8, u32),
+    /// Whether negative, days, hours, minutes, seconds, microseconds.
+    Time(bool, u32, u8, u8, u8, u32),
+}
+
+impl Value {
+    /// The same value again.
+    pub fn clone(&self, alloc: Global) -> Result<Value, AllocError>
+        ensures { IfOk result (λ copy. copy ≡ self.now) }
+    {
+        match self {
+            Value::NULL => Ok(Value::NULL),
+            Value::Bytes(bytes) => Ok(Value::Bytes(bytes.clone(alloc)?)),
+            Value::Int(number) => Ok(Value::Int(*number)),
+            Value::UInt(number) => Ok(Value::UInt(*number)),
+            Value::Float(bits) => Ok(Value::Float(*bits)),
+            Value::Double(bits) => Ok(Value::Double(*bits)),
+            Value::Date(year, month, day, hour, minute, second, micros) => {
+                Ok(Value::Date(*year, *month, *day, *hour, *minute, *second, *micros))
+            }
+            Value::Time(negative, days, hours, minutes, seconds, micros) => {
+                Ok(Value::Time(*negative, *days, *hours, *minutes, *seconds, *micros))
+            }
+        }
+    }
+}

@@ -1,0 +1,108 @@
+-- Which literal stands at the front of a text.
+use Rattle.std.proofs.Common.{◌≡◌, ◌≢◌, ℕ, ◌≤◌, ◌<◌, true, false, List, [], ◌∷◌, ◌++◌, length, take, get_or, map, codes, refl, sym, ap, ◌∙◌, inl, inr, arith, subst, ℤ}
+use Rattle.mysql_queries.specs.Tokens.{IsQuoted, single_quote, dash}
+use Rattle.mysql_queries.specs.Literals.{lower, is_digit, AreDigits, IsNumber, IsString, IsHexLiteral, IsLiteral}
+use Rattle.mysql_queries.specs.declared.content.Content.{Content}
+use Rattle.mysql_queries.specs.declared.content.Content.TheVariants.{Null, Number, Bytes}
+use Rattle.mysql_queries.specs.LiteralRuns.{begins_hex, IsDigitRun, IsHexRun, IsLiteralRun}
+use Rattle.mysql_queries.specs.LiteralViews.{IsNoLiteral}
+use Rattle.mysql_queries.proofs.OneContent.{sort_of, second_sort, null_sort, string_sort, hex_sort, number_sort, digits_sort, dash_sort}
+use Rattle.mysql_queries.proofs.HexDigits.{IsNoHex}
+use Rattle.mysql_queries.proofs.StringParts.{IsNoString}
+
+quoted_sort : (run rest : List ℕ) → IsQuoted single_quote run rest → sort_of run ≡ 0
+unfolding sort_of
+quoted_sort run rest q = rw q.spelled refl
+
+hex_run_sort : (run rest : List ℕ) → IsHexRun run rest → sort_of run ≡ 2
+unfolding sort_of second_sort
+hex_run_sort run rest h = rw h.spelled refl
+
+digit_run_sort : (run rest : List ℕ) → IsDigitRun run rest → sort_of run ≡ 3
+digit_run_sort run rest h = elim h.spelled [
+  | inl k ↦ subst (λ y. sort_of y ≡ 3) (sym k) (digits_sort h.digits h.each)
+  | inr k ↦ subst (λ y. sort_of y ≡ 3) (sym k) (dash_sort h.digits h.each)
+]
+
+-- a run and the literal that it is
+pub data Front : List ℕ → List ℕ → Type 0 where
+  null : {run rest : List ℕ} → map lower run ≡ codes "null" → Front run rest
+  string : {run rest : List ℕ} (bytes : List ℕ) → IsQuoted single_quote run rest → IsString run bytes → Front run rest
+  hexadecimal : {run rest : List ℕ} (bytes : List ℕ) → IsHexRun run rest → IsHexLiteral run bytes → Front run rest
+  number : {run rest : List ℕ} (z : ℤ) → IsDigitRun run rest → IsNumber run z → Front run rest
+
+apart : {run rest : List ℕ} (m n : ℕ) → sort_of run ≡ m → sort_of run ≡ n → m ≢ n → Front run rest
+apart m n e f k = absurd (k (sym e ∙ f))
+
+pub front : (run rest : List ℕ) (content : Content) → IsLiteralRun run rest → IsLiteral run content → Front run rest
+front run rest Null h l = null l
+front run rest (Number z) (inl h) l = apart 1 3 (null_sort run h) (number_sort run z l) (λ e. absurd (omega arith))
+front run rest (Number z) (inr (inl h)) l = apart 0 3 (quoted_sort run rest h) (number_sort run z l) (λ e. absurd (omega arith))
+front run rest (Number z) (inr (inr (inl h))) l = apart 2 3 (hex_run_sort run rest h) (number_sort run z l) (λ e. absurd (omega arith))
+front run rest (Number z) (inr (inr (inr h))) l = number z h l
+front run rest (Bytes b) (inl h) (inl l) = apart 1 0 (null_sort run h) (string_sort run b l) (λ e. absurd (omega arith))
+front run rest (Bytes b) (inl h) (inr l) = apart 1 2 (null_sort run h) (hex_sort run b l) (λ e. absurd (omega arith))
+front run rest (Bytes b) (inr (inl h)) (inl l) = string b h l
+front run rest (Bytes b) (inr (inl h)) (inr l) = apart 0 2 (quoted_sort run rest h) (hex_sort run b l) (λ e. absurd (omega arith))
+front run rest (Bytes b) (inr (inr (inl h))) (inl l) = apart 2 0 (hex_run_sort run rest h) (string_sort run b l) (λ e. absurd (omega arith))
+front run rest (Bytes b) (inr (inr (inl h))) (inr l) = hexadecimal b h l
+front run rest (Bytes b) (inr (inr (inr h))) (inl l) = apart 3 0 (digit_run_sort run rest h) (string_sort run b l) (λ e. absurd (omega arith))
+front run rest (Bytes b) (inr (inr (inr h))) (inr l) = apart 3 2 (digit_run_sort run rest h) (hex_sort run b l) (λ e. absurd (omega arith))
+
+-- the four letters come first
+null_text : (t run rest : List ℕ) → t ≡ run ++ rest → map lower run ≡ codes "null" → (4 ≤ length t) × (map lower (take 4 t) ≡ codes "null")
+null_text t [] rest e h = cc
+null_text t (a ∷ []) rest e h = cc
+null_text t (a ∷ b ∷ []) rest e h = cc
+null_text t (a ∷ b ∷ c ∷ []) rest e h = cc
+null_text t (a ∷ b ∷ c ∷ d ∷ []) rest e h = subst (λ y. (4 ≤ length y) × (map lower (take 4 y) ≡ codes "null")) (sym e) (omega arith, h)
+null_text t (a ∷ b ∷ c ∷ d ∷ f ∷ x) rest e h = cc
+
+quoted_text : (t run rest : List ℕ) → t ≡ run ++ rest → IsQuoted single_quote run rest → (0 < length t) × (get_or t 0 0 ≡ single_quote)
+quoted_text t run rest e q = subst (λ y. (0 < length y) × (get_or y 0 0 ≡ single_quote)) (sym (e ∙ ap (λ y. y ++ rest) q.spelled)) (omega arith, refl)
+
+hex_text : (t run rest : List ℕ) → t ≡ run ++ rest → IsHexRun run rest → begins_hex t ≡ true
+hex_text t run rest e h = subst (λ y. begins_hex y ≡ true) (sym (e ∙ ap (λ y. y ++ rest) h.spelled)) refl
+
+number_text : (t run rest : List ℕ) (z : ℤ) → t ≡ run ++ rest → IsNumber run z → get_or t 0 0 ≡ single_quote → ⊥
+number_text t run rest z e h q = elim h.value [
+  | inl k ↦ first h.digits h.are (subst (λ y. get_or y 0 0 ≡ single_quote) (e ∙ ap (λ y. y ++ rest) k.0) q)
+  | inr k ↦ (let f : get_or (dash ∷ (h.digits ++ rest)) 0 0 ≡ single_quote = subst (λ y. get_or y 0 0 ≡ single_quote) (e ∙ ap (λ y. y ++ rest) k.0) q in absurd (omega (arith, f)))
+]
+  where
+    first : (digits : List ℕ) → AreDigits digits → get_or (digits ++ rest) 0 0 ≡ single_quote → ⊥
+    first [] d f = d.some refl
+    first (b ∷ digits) d f = let g : true ≡ false = sym d.each.0 ∙ ap is_digit f in cc
+
+hex_no_quote : (t : List ℕ) → begins_hex t ≡ true → get_or t 0 0 ≡ single_quote → ⊥
+hex_no_quote [] h q = cc
+hex_no_quote (a ∷ []) h q = cc
+hex_no_quote (a ∷ b ∷ x) h q = let e : begins_hex (single_quote ∷ b ∷ x) ≡ true = subst (λ c. begins_hex (c ∷ b ∷ x) ≡ true) q h in cc
+
+-- the four letters of NULL do not come first
+abbrev pub IsNoNull : List ℕ → Type 0
+IsNoNull t = (4 ≤ length t) × (map lower (take 4 t) ≡ codes "null") → ⊥
+
+pub no_quoted : (t : List ℕ) → IsNoNull t → get_or t 0 0 ≡ single_quote → IsNoString t → IsNoLiteral t
+no_quoted t n q h run rest content e r l = elim (front run rest content r l) [
+  | null k ↦ n (null_text t run rest e k)
+  | string bytes k s ↦ h run rest bytes e k s
+  | hexadecimal bytes k s ↦ hex_no_quote t (hex_text t run rest e k) q
+  | number z k s ↦ number_text t run rest z e s q
+]
+
+pub no_hexadecimal : (t : List ℕ) → IsNoNull t → (0 < length t → get_or t 0 0 ≢ single_quote) → begins_hex t ≡ true → IsNoHex t → IsNoLiteral t
+no_hexadecimal t n q b h run rest content e r l = elim (front run rest content r l) [
+  | null k ↦ n (null_text t run rest e k)
+  | string bytes k s ↦ q (quoted_text t run rest e k).0 (quoted_text t run rest e k).1
+  | hexadecimal bytes k s ↦ h run rest bytes e k s
+  | number z k s ↦ (let f : true ≡ false = sym b ∙ ap begins_hex e ∙ k.other in cc)
+]
+
+pub no_number : (t : List ℕ) → IsNoNull t → (0 < length t → get_or t 0 0 ≢ single_quote) → begins_hex t ≡ false → ((run rest : List ℕ) (z : ℤ) → t ≡ run ++ rest → IsDigitRun run rest → IsNumber run z → ⊥) → IsNoLiteral t
+no_number t n q b h run rest content e r l = elim (front run rest content r l) [
+  | null k ↦ n (null_text t run rest e k)
+  | string bytes k s ↦ q (quoted_text t run rest e k).0 (quoted_text t run rest e k).1
+  | hexadecimal bytes k s ↦ (let f : true ≡ false = sym (hex_text t run rest e k) ∙ b in cc)
+  | number z k s ↦ h run rest z e k s
+]

@@ -1,0 +1,201 @@
+-- Each text begins with a literal or with none.
+use Rattle.std.proofs.Common.{◌≡◌, ◌≢◌, ℕ, ◌+◌, ◌*◌, ◌^◌, ◌≤◌, ◌<◌, Bool, true, false, ◌⊎◌, List, [], ◌∷◌, ◌++◌, length, take, drop, map, flat_map, codes, refl, sym, ap, ◌∙◌, inl, inr, append_assoc, arith, subst, take-append-drop, ℤ, pos, neg_ℤ, nat_lt, nat_eq, get_or}
+use Rattle.std.specs.List.{AllByRecursion}
+use Rattle.std.specs.Cmp.Lexicographic.{pointwise, same_text, other_text}
+use Rattle.std.proofs.lemmas.Bool.Decides.{nat_tests, eqb_tells}
+use Rattle.mysql_queries.specs.Tokens.{inside_bytes, single_quote, backslash, dash}
+use Rattle.mysql_queries.specs.Literals.{lower, is_digit, is_hex, hex_value, digits_value, inside_content, AreDigits, IsNumber, IsHexLiteral, SpellsInHex, IsLiteral}
+use Rattle.mysql_queries.specs.LiteralRuns.{EndsBefore, begins_hex, IsDigitRun, IsHexRun, IsLiteralRun}
+use Rattle.mysql_queries.specs.LiteralViews.{IsNoLiteral}
+use Rattle.mysql_queries.specs.declared.content.Content.{Content}
+use Rattle.mysql_queries.specs.declared.content.Content.TheVariants.{Null, Number, Bytes}
+use Rattle.mysql_queries.proofs.FirstBytes.{bool_tells}
+use Rattle.mysql_queries.proofs.SomeToken.{InsideOf, some_inside, RunOf, some_run, Begins}
+use Rattle.mysql_queries.proofs.Runs.{one_run}
+use Rattle.mysql_queries.proofs.Decimals.{ends_run}
+use Rattle.mysql_queries.proofs.HexDigits.{hex_front, IsNoHex}
+use Rattle.mysql_queries.proofs.StringParts.{StringTo, IsNoString, no_string}
+use Rattle.mysql_queries.proofs.Fronts.{IsNoNull, no_quoted, no_hexadecimal, no_number}
+use Rattle.mysql_queries.proofs.OneRead.{one_hex_run}
+use Rattle.mysql_queries.proofs.QuerySlices.{drop_front, take_all_front}
+
+-- the literal at the front of a text
+pub record LiteralAt (text : List ℕ) : Type 0 where
+  pub run : List ℕ
+  pub rest : List ℕ
+  pub content : Content
+  pub joined : text ≡ run ++ rest
+  pub is_run : IsLiteralRun run rest
+  pub literal : IsLiteral run content
+
+pub list_tells : (x y : List ℕ) → (x ≡ y) ⊎ (x ≢ y)
+list_tells x y = elim (bool_tells (pointwise nat_eq x y)) [ inl h ↦ inl (same_text x y (sym h)) | inr h ↦ inr (other_text x y (sym h)) ]
+
+below_tells : (a b : ℕ) → (a < b) ⊎ (b ≤ a)
+below_tells a b = elim (bool_tells (nat_lt a b)) [ inl h ↦ inl (grind (arith, nat_tests)) | inr h ↦ inr (grind (arith, nat_tests)) ]
+
+ends_before : (test : ℕ → Bool) (r : List ℕ) → Begins (λ b. test b ≡ false) r → EndsBefore test r
+ends_before test [] h = tt
+ends_before test (b ∷ r) h = h
+
+-- a text that begins with a single quote
+string_tells : (x : List ℕ) → LiteralAt (single_quote ∷ x) ⊎ IsNoString (single_quote ∷ x)
+string_tells x =
+    let o : InsideOf single_quote x = some_inside single_quote (length x) x (omega arith) in
+    let body : List ℕ = flat_map (inside_bytes single_quote) o.parts in
+    let front : List ℕ = single_quote ∷ body in
+    let text : single_quote ∷ x ≡ front ++ (o.closing ++ o.rest) = ap (λ y. single_quote ∷ y) o.joined in
+    let read : StringTo (single_quote ∷ x) (length front) (flat_map inside_content o.parts) = record {
+      parts = o.parts;
+      inside = o.inside;
+      front = ap (take (length front)) text ∙ take_all_front front (o.closing ++ o.rest);
+      read = refl;
+    } in
+    elim o.closes [
+      | inl k ↦ inl (record {
+        run = single_quote ∷ (body ++ single_quote ∷ []);
+        rest = o.rest;
+        content = Bytes (flat_map inside_content o.parts);
+        joined = text ∙ ap (λ y. front ++ (y ++ o.rest)) k.0 ∙ ap (λ y. single_quote ∷ y) (sym (append_assoc body (single_quote ∷ []) o.rest));
+        is_run = inr (inl (record { parts = o.parts; closing = single_quote ∷ []; inside = o.inside; spelled = refl; closes = inl (refl, k.1) }));
+        literal = inl (record { parts = o.parts; inside = o.inside; spelled = refl; read = refl });
+      })
+      | inr k ↦ inr (no_string (single_quote ∷ x) (length front) (flat_map inside_content o.parts) read o.closing
+          (ap (drop (length front)) text ∙ drop_front front (o.closing ++ o.rest) ∙ ap (λ y. o.closing ++ y) k.0)
+          (inr (refl, k.1))
+          (λ e. elim k.1 [ inl c ↦ (let f : [] ≡ single_quote ∷ [] = sym c ∙ e in cc) | inr c ↦ (let f : backslash ∷ [] ≡ single_quote ∷ [] = sym c.0 ∙ e in let g : backslash ≡ single_quote = cc in absurd (omega (arith, g))) ]))
+    ]
+
+-- digits in pairs
+pairs_tell : (digits : List ℕ) → AllByRecursion (λ b. is_hex b ≡ true) digits → ((bytes : List ℕ) × SpellsInHex digits bytes) ⊎ ((bytes : List ℕ) → SpellsInHex digits bytes → ⊥)
+pairs_tell [] h = inl ([], tt)
+pairs_tell (a ∷ []) h = inr (λ bytes k. k)
+pairs_tell (a ∷ b ∷ digits) h = elim (pairs_tell digits h.1.1) [
+  | inl k ↦ inl ((16 * hex_value a + hex_value b) ∷ k.0, (h.0, h.1.0, refl, k.1))
+  | inr k ↦ inr (none a b digits k)
+]
+  where
+    none : (a b : ℕ) (digits : List ℕ) → ((bytes : List ℕ) → SpellsInHex digits bytes → ⊥) → (bytes : List ℕ) → SpellsInHex (a ∷ b ∷ digits) bytes → ⊥
+    none a b digits k [] s = s
+    none a b digits k (c ∷ bytes) s = k bytes s.3
+
+-- a text that begins with `0x`
+hex_tells : (t : List ℕ) → begins_hex t ≡ true → LiteralAt t ⊎ IsNoHex t
+hex_tells t b =
+    let o : RunOf (λ c. is_hex c ≡ true) (λ c. is_hex c ≡ false) (drop 2 t) = some_run _ _ (λ c. bool_tells (is_hex c)) (drop 2 t) in
+    let run : List ℕ = 0x30 ∷ 0x78 ∷ o.run in
+    let text : t ≡ run ++ o.rest = (hex_front t b).0 ∙ ap (λ y. 0x30 ∷ 0x78 ∷ y) o.joined in
+    let here : IsHexRun run o.rest = record { digits = o.run; each = o.each; spelled = refl; ends = ends_before is_hex o.rest o.ends } in
+    elim (pairs_tell o.run o.each) [
+      | inl k ↦ elim (list_tells k.0 []) [
+        | inl e ↦ inr (λ other rest bytes j r h. same run other o.rest rest here r (sym text ∙ j) h (λ ds s. h.some (empty o.run k.0 bytes k.1 e (subst (λ d. SpellsInHex d bytes) ds s))))
+        | inr e ↦ inl (record { run = run; rest = o.rest; content = Bytes k.0; joined = text; is_run = inr (inr (inl here)); literal = inr (record { digits = o.run; spelled = refl; spells = k.1; some = e }) })
+      ]
+      | inr k ↦ inr (λ other rest bytes j r h. same run other o.rest rest here r (sym text ∙ j) h (λ ds s. k bytes (subst (λ d. SpellsInHex d bytes) ds s)))
+    ]
+  where
+    -- the digits of a literal there are the run's
+    same : (run other rest after : List ℕ) → {bytes : List ℕ} → (h : IsHexRun run rest) → IsHexRun other after → run ++ rest ≡ other ++ after → (l : IsHexLiteral other bytes) → ((l.digits ≡ h.digits) → SpellsInHex l.digits bytes → ⊥) → ⊥
+    same run other rest after h k e l n =
+        let f : run ≡ other = one_hex_run run rest other after e h k in
+        let g : 0x30 ∷ 0x78 ∷ l.digits ≡ 0x30 ∷ 0x78 ∷ h.digits = sym l.spelled ∙ sym f ∙ h.spelled in
+        n (cc) l.spells
+
+    empty : (digits bytes others : List ℕ) → SpellsInHex digits bytes → bytes ≡ [] → SpellsInHex digits others → others ≡ []
+    empty [] bytes [] h e k = refl
+    empty [] bytes (c ∷ others) h e k = elim k [ ]
+    empty (x ∷ []) bytes others h e k = elim h [ ]
+    empty (x ∷ y ∷ digits) [] others h e k = elim h [ ]
+    empty (x ∷ y ∷ digits) (b ∷ bytes) others h e k = cc
+
+-- no row of digits there is a number
+abbrev pub IsNoNumber : List ℕ → Type 0
+IsNoNumber t = (run rest : List ℕ) (z : ℤ) → t ≡ run ++ rest → IsDigitRun run rest → IsNumber run z → ⊥
+
+same_digits : (digits rest others after : List ℕ) → AllByRecursion (λ b. is_digit b ≡ true) digits → EndsBefore is_digit rest → AllByRecursion (λ b. is_digit b ≡ true) others → EndsBefore is_digit after → digits ++ rest ≡ others ++ after → others ≡ digits
+same_digits digits rest others after h k i j e = sym (one_run (λ b. is_digit b ≡ true) digits others rest after h i (ends_run rest k) (ends_run after j) e).0
+
+no_dash_digit : (others after x : List ℕ) → AreDigits others → dash ∷ x ≡ others ++ after → ⊥
+no_dash_digit [] after x h e = h.some refl
+no_dash_digit (b ∷ others) after x h e = let f : b ≡ dash = cc in let g : true ≡ false = sym h.each.0 ∙ ap is_digit f in cc
+
+negative_tells : (x : List ℕ) → begins_hex (dash ∷ x) ≡ false → LiteralAt (dash ∷ x) ⊎ IsNoNumber (dash ∷ x)
+negative_tells x b =
+    let o : RunOf (λ c. is_digit c ≡ true) (λ c. is_digit c ≡ false) x = some_run _ _ (λ c. bool_tells (is_digit c)) x in
+    let ends : EndsBefore is_digit o.rest = ends_before is_digit o.rest o.ends in
+    let text : dash ∷ x ≡ (dash ∷ o.run) ++ o.rest = ap (λ y. dash ∷ y) o.joined in
+    let only : (run rest : List ℕ) (z : ℤ) → dash ∷ x ≡ run ++ rest → IsDigitRun run rest → IsNumber run z → (o.run ≢ []) × (digits_value o.run ≤ 2 ^ 63) = λ run rest z e r h. elim h.value [
+      | inl v ↦ absurd (no_dash_digit h.digits rest x h.are (e ∙ ap (λ y. y ++ rest) v.0))
+      | inr v ↦ (let f : dash ∷ (o.run ++ o.rest) ≡ dash ∷ (h.digits ++ rest) = sym text ∙ e ∙ ap (λ y. y ++ rest) v.0 in
+          let g : o.run ++ o.rest ≡ h.digits ++ rest = cc in
+          let s : h.digits ≡ o.run = same_digits o.run o.rest h.digits rest o.each ends h.are.each r.ends g in
+          ((λ n. h.are.some (s ∙ n)), subst (λ d. digits_value d ≤ 2 ^ 63) s v.2))
+    ] in
+    elim (list_tells o.run []) [
+      | inl e ↦ inr (λ run rest z j r h. (only run rest z j r h).0 e)
+      | inr e ↦ elim (below_tells (2 ^ 63) (digits_value o.run)) [
+        | inl k ↦ inr (λ run rest z j r h. let m : digits_value o.run ≤ 2 ^ 63 = (only run rest z j r h).1 in absurd (omega (arith, m, k)))
+        | inr k ↦ inl (record {
+          run = dash ∷ o.run;
+          rest = o.rest;
+          content = Number (neg_ℤ (pos (digits_value o.run)));
+          joined = text;
+          is_run = inr (inr (inr (record { digits = o.run; each = o.each; spelled = inr refl; ends = ends; other = subst (λ y. begins_hex y ≡ false) text b })));
+          literal = record { digits = o.run; are = record { each = o.each; some = e }; value = inr (refl, refl, k) };
+        })
+      ]
+    ]
+
+positive_tells : (t : List ℕ) → begins_hex t ≡ false → ((x : List ℕ) → t ≡ dash ∷ x → ⊥) → LiteralAt t ⊎ IsNoNumber t
+positive_tells t b d =
+    let o : RunOf (λ c. is_digit c ≡ true) (λ c. is_digit c ≡ false) t = some_run _ _ (λ c. bool_tells (is_digit c)) t in
+    let ends : EndsBefore is_digit o.rest = ends_before is_digit o.rest o.ends in
+    let only : (run rest : List ℕ) (z : ℤ) → t ≡ run ++ rest → IsDigitRun run rest → IsNumber run z → (o.run ≢ []) × (digits_value o.run < 2 ^ 64) = λ run rest z e r h. elim h.value [
+      | inl v ↦ (let s : h.digits ≡ o.run = same_digits o.run o.rest h.digits rest o.each ends h.are.each r.ends (sym o.joined ∙ e ∙ ap (λ y. y ++ rest) v.0) in
+          ((λ n. h.are.some (s ∙ n)), subst (λ y. digits_value y < 2 ^ 64) s v.2))
+      | inr v ↦ absurd (d (h.digits ++ rest) (e ∙ ap (λ y. y ++ rest) v.0))
+    ] in
+    elim (list_tells o.run []) [
+      | inl e ↦ inr (λ run rest z j r h. (only run rest z j r h).0 e)
+      | inr e ↦ elim (below_tells (digits_value o.run) (2 ^ 64)) [
+        | inl k ↦ inl (record {
+          run = o.run;
+          rest = o.rest;
+          content = Number (pos (digits_value o.run));
+          joined = o.joined;
+          is_run = inr (inr (inr (record { digits = o.run; each = o.each; spelled = inl refl; ends = ends; other = subst (λ y. begins_hex y ≡ false) o.joined b })));
+          literal = record { digits = o.run; are = record { each = o.each; some = e }; value = inl (refl, refl, k) };
+        })
+        | inr k ↦ inr (λ run rest z j r h. let m : digits_value o.run < 2 ^ 64 = (only run rest z j r h).1 in absurd (omega (arith, m, k)))
+      ]
+    ]
+
+number_tells : (t : List ℕ) → begins_hex t ≡ false → LiteralAt t ⊎ IsNoNumber t
+number_tells [] b = positive_tells [] b (λ x e. cc)
+number_tells (c ∷ x) b = elim (eqb_tells c dash) [
+  | inl e ↦ subst (λ y. LiteralAt (y ∷ x) ⊎ IsNoNumber (y ∷ x)) (sym e.1) (negative_tells x (subst (λ y. begins_hex (y ∷ x) ≡ false) e.1 b))
+  | inr e ↦ positive_tells (c ∷ x) b (λ y f. e.1 (cc))
+]
+
+other_tells : (t : List ℕ) → IsNoNull t → (0 < length t → get_or t 0 0 ≢ single_quote) → LiteralAt t ⊎ IsNoLiteral t
+other_tells t n q = elim (bool_tells (begins_hex t)) [
+  | inl b ↦ elim (hex_tells t b) [ inl k ↦ inl k | inr k ↦ inr (no_hexadecimal t n q b k) ]
+  | inr b ↦ elim (number_tells t b) [ inl k ↦ inl k | inr k ↦ inr (no_number t n q b k) ]
+]
+
+no_null_tells : (t : List ℕ) → IsNoNull t → LiteralAt t ⊎ IsNoLiteral t
+no_null_tells [] n = other_tells [] n (λ h. absurd (omega arith))
+no_null_tells (c ∷ x) n = elim (eqb_tells c single_quote) [
+  | inl e ↦ elim (string_tells x) [
+    | inl k ↦ inl (subst (λ y. LiteralAt (y ∷ x)) (sym e.1) k)
+    | inr k ↦ inr (no_quoted (c ∷ x) n e.1 (subst (λ y. IsNoString (y ∷ x)) (sym e.1) k))
+  ]
+  | inr e ↦ other_tells (c ∷ x) n (λ _. e.1)
+]
+
+-- what stands at the front of a text is a literal, or none is
+pub literal_tells : (t : List ℕ) → LiteralAt t ⊎ IsNoLiteral t
+literal_tells t = elim (list_tells (map lower (take 4 t)) (codes "null")) [
+  | inl e ↦ inl (record { run = take 4 t; rest = drop 4 t; content = Null; joined = sym (take-append-drop 4 t); is_run = inl e; literal = e })
+  | inr e ↦ no_null_tells t (λ h. e h.1)
+]

@@ -1,0 +1,185 @@
+-- What a literal's spelling is made of, and that it is read in one way.
+use Rattle.std.proofs.Common.{◌≡◌, ◌≢◌, ℕ, Bool, true, false, ◌||◌, ◌==◌, ◌⊎◌, List, [], ◌∷◌, ◌++◌, map, refl, sym, ap, ◌∙◌, inl, inr, append-nil, arith, subst, flat_map, codes, ℤ}
+use Rattle.std.specs.List.{concat, AllByRecursion}
+use Rattle.std.proofs.lemmas.Bool.Decides.{nat_tests}
+use Rattle.mysql_queries.specs.Tokens.{Quoted, Plain, kind_of, is_within, IsQuoted, HasShape, IsToken, AreTokens, HasTokens, BeginsOtherwise, single_quote, star, dash, inside_bytes}
+use Rattle.mysql_queries.specs.Literals.{lower, is_digit, IsNumber, IsString, is_hex, SpellsInHex, IsHexLiteral, IsLiteral}
+use Rattle.mysql_queries.specs.declared.content.Content.{Content}
+use Rattle.mysql_queries.specs.declared.content.Content.TheVariants.{Null, Number, Bytes}
+use Rattle.mysql_queries.specs.Queries.{is_joining}
+use Rattle.mysql_queries.proofs.FirstBytes.{bool_tells}
+use Rattle.mysql_queries.proofs.Follow.{BeginsApart, or_true, or_first, not_equal}
+
+-- a digit or a letter
+abbrev pub is_word : ℕ → Bool
+is_word b = is_within 0x30 0x39 b || is_within 0x41 0x5a b || is_within 0x61 0x7a b
+
+abbrev pub AreWord : List ℕ → Type 0
+AreWord run = AllByRecursion (λ b. is_word b ≡ true) run
+
+-- digits and letters, behind a dash or not
+pub record IsWord (spelling : List ℕ) : Type 0 where
+  pub run : List ℕ
+  pub each : AreWord run
+  pub some : run ≢ []
+  pub spelled : (spelling ≡ run) ⊎ (spelling ≡ dash ∷ run)
+
+pub digit_word : (b : ℕ) → is_digit b ≡ true → is_word b ≡ true
+digit_word b h = or_first _ _ (or_first _ _ h)
+
+-- one of the letters is a letter in lower case or in upper case
+pub lower_word : (b l : ℕ) → is_within 0x61 0x7a l ≡ true → lower b ≡ l → is_word b ≡ true
+lower_word b l h e = elim (bool_tells (is_within 0x41 0x5a b)) [
+  | inl k ↦ or_first _ _ (or_true (is_within 0x30 0x39 b) _ k)
+  | inr k ↦ let f : lower b ≡ b = rw k refl in or_true _ (is_within 0x61 0x7a b) (subst (λ c. is_within 0x61 0x7a c ≡ true) (sym e ∙ f) h)
+]
+
+pub hex_word : (b : ℕ) → is_hex b ≡ true → is_word b ≡ true
+hex_word b h = grind (arith, nat_tests)
+
+all_map : (P Q : ℕ → Type 0) → ((b : ℕ) → P b → Q b) → (xs : List ℕ) → AllByRecursion P xs → AllByRecursion Q xs
+all_map P Q f [] h = tt
+all_map P Q f (x ∷ xs) h = (f x h.0, all_map P Q f xs h.1)
+
+null_word : (spelling : List ℕ) → map lower spelling ≡ codes "null" → IsWord spelling
+null_word [] h = cc
+null_word (a ∷ []) h = cc
+null_word (a ∷ b ∷ []) h = cc
+null_word (a ∷ b ∷ c ∷ []) h = cc
+null_word (a ∷ b ∷ c ∷ d ∷ []) h = record {
+  run = a ∷ b ∷ c ∷ d ∷ [];
+  each = (lower_word a 0x6e refl (cc), (lower_word b 0x75 refl (cc), (lower_word c 0x6c refl (cc), (lower_word d 0x6c refl (cc), tt))));
+  some = λ e. cc;
+  spelled = inl refl;
+}
+null_word (a ∷ b ∷ c ∷ d ∷ e ∷ x) h = cc
+
+number_word : (spelling : List ℕ) (z : ℤ) → IsNumber spelling z → IsWord spelling
+number_word spelling z h = record {
+  run = h.digits;
+  each = all_map (λ b. is_digit b ≡ true) (λ b. is_word b ≡ true) digit_word h.digits h.are.each;
+  some = h.are.some;
+  spelled = elim h.value [ inl k ↦ inl k.0 | inr k ↦ inr k.0 ];
+}
+
+pub spells_word : (digits bytes : List ℕ) → SpellsInHex digits bytes → AreWord digits
+spells_word [] [] h = tt
+spells_word [] (b ∷ bytes) h = elim h [ ]
+spells_word (a ∷ []) bytes h = elim h [ ]
+spells_word (a ∷ c ∷ digits) [] h = elim h [ ]
+spells_word (a ∷ c ∷ digits) (b ∷ bytes) h = (hex_word a h.0, (hex_word c h.1, spells_word digits bytes h.3))
+
+hex_literal_word : (spelling bytes : List ℕ) → IsHexLiteral spelling bytes → IsWord spelling
+hex_literal_word spelling bytes h = record { run = 0x30 ∷ 0x78 ∷ h.digits; each = (refl, (refl, spells_word h.digits bytes h.spells)); some = λ e. cc; spelled = inl h.spelled }
+
+-- a literal is a quoted string, or a word
+pub literal_form : (spelling : List ℕ) (content : Content) → IsLiteral spelling content → ((bytes : List ℕ) × IsString spelling bytes) ⊎ IsWord spelling
+literal_form spelling Null h = inr (null_word spelling h)
+literal_form spelling (Number z) h = inr (number_word spelling z h)
+literal_form spelling (Bytes bytes) (inl h) = inl (bytes, h)
+literal_form spelling (Bytes bytes) (inr h) = inr (hex_literal_word spelling bytes h)
+
+-- a byte in the set is none outside it
+pub apart_bytes : (p : ℕ → Bool) (b c : ℕ) → p b ≡ true → p c ≡ false → b ≢ c
+apart_bytes p b c h k e = let f : true ≡ false = sym h ∙ ap p e ∙ k in cc
+
+-- what a literal begins with
+pub record LiteralStart (spelling : List ℕ) : Type 0 where
+  pub first : ℕ
+  pub others : List ℕ
+  pub joined : spelling ≡ first ∷ others
+  pub no_star : first ≢ star
+  pub no_mark : first ≢ 0x21
+  pub no_plus : first ≢ 0x2b
+
+word_start : (spelling : List ℕ) → IsWord spelling → LiteralStart spelling
+word_start spelling w = elim w.spelled [ inl e ↦ of_run spelling w.run w.each w.some e | inr e ↦ record { first = dash; others = w.run; joined = e; no_star = λ k. absurd (omega arith); no_mark = λ k. absurd (omega arith); no_plus = λ k. absurd (omega arith) } ]
+  where
+    of_run : (spelling run : List ℕ) → AreWord run → run ≢ [] → spelling ≡ run → LiteralStart spelling
+    of_run spelling [] h n e = absurd (n refl)
+    of_run spelling (b ∷ run) h n e = record { first = b; others = run; joined = e; no_star = apart_bytes is_word b star h.0 refl; no_mark = apart_bytes is_word b 0x21 h.0 refl; no_plus = apart_bytes is_word b 0x2b h.0 refl }
+
+pub literal_start : (spelling : List ℕ) (content : Content) → IsLiteral spelling content → LiteralStart spelling
+literal_start spelling content h = elim (literal_form spelling content h) [
+  | inl s ↦ record { first = single_quote; others = flat_map (inside_bytes single_quote) s.1.parts ++ single_quote ∷ []; joined = s.1.spelled; no_star = λ k. absurd (omega arith); no_mark = λ k. absurd (omega arith); no_plus = λ k. absurd (omega arith) }
+  | inr w ↦ word_start spelling w
+]
+
+-- each byte of a word is a token
+word_kind : (b : ℕ) (x : List ℕ) → is_word b ≡ true → kind_of (b ∷ x) ≡ Plain
+word_kind b x h =
+    let e1 : (b == 0x27) ≡ false = not_equal b 0x27 (apart_bytes is_word b 0x27 h refl) in
+    let e2 : (b == 0x22) ≡ false = not_equal b 0x22 (apart_bytes is_word b 0x22 h refl) in
+    let e3 : (b == 0x60) ≡ false = not_equal b 0x60 (apart_bytes is_word b 0x60 h refl) in
+    let e4 : (b == 0x23) ≡ false = not_equal b 0x23 (apart_bytes is_word b 0x23 h refl) in
+    let e5 : (b == 0x2d) ≡ false = not_equal b 0x2d (apart_bytes is_word b 0x2d h refl) in
+    let e6 : (b == 0x2f) ≡ false = not_equal b 0x2f (apart_bytes is_word b 0x2f h refl) in
+    let e7 : (b == 0x3a) ≡ false = not_equal b 0x3a (apart_bytes is_word b 0x3a h refl) in
+    let e8 : (b == 0x3f) ≡ false = not_equal b 0x3f (apart_bytes is_word b 0x3f h refl) in
+    rw (e1, e2, e3, e4, e5, e6, e7, e8) refl
+
+dash_kind : (b : ℕ) (x : List ℕ) → is_word b ≡ true → kind_of (dash ∷ b ∷ x) ≡ Plain
+dash_kind b [] h = let e : (b == dash) ≡ false = not_equal b dash (apart_bytes is_word b dash h refl) in rw e refl
+dash_kind b (c ∷ x) h = let e : (b == dash) ≡ false = not_equal b dash (apart_bytes is_word b dash h refl) in rw e refl
+
+-- one slice for each byte
+abbrev pub singles : List ℕ → List (List ℕ)
+singles [] = []
+singles (b ∷ x) = (b ∷ []) ∷ singles x
+
+pub concat_singles : (x : List ℕ) (us : List (List ℕ)) → concat (singles x ++ us) ≡ x ++ concat us
+concat_singles [] us = refl
+concat_singles (b ∷ x) us = ap (λ y. b ∷ y) (concat_singles x us)
+
+plain_token : (b : ℕ) (x : List ℕ) → kind_of (b ∷ x) ≡ Plain → IsToken (b ∷ []) x
+plain_token b x e = subst (λ k. HasShape k (b ∷ []) x) (sym e) (b, refl)
+
+word_tokens : (run : List ℕ) → AreWord run → (us : List (List ℕ)) → AreTokens us → AreTokens (singles run ++ us)
+word_tokens [] h us k = k
+word_tokens (b ∷ run) h us k = (plain_token b (concat (singles run ++ us)) (word_kind b (concat (singles run ++ us)) h.0), word_tokens run h.1 us k)
+
+dash_tokens : (run : List ℕ) → AreWord run → run ≢ [] → (us : List (List ℕ)) → AreTokens us → AreTokens (singles (dash ∷ run) ++ us)
+dash_tokens [] h n us k = absurd (n refl)
+dash_tokens (b ∷ run) h n us k = (plain_token dash (b ∷ concat (singles run ++ us)) (dash_kind b (concat (singles run ++ us)) h.0), word_tokens (b ∷ run) h us k)
+
+-- the tokens of a literal, which stay its tokens before what begins apart
+pub record LiteralTokens (spelling : List ℕ) : Type 0 where
+  pub tokens : List (List ℕ)
+  pub has : HasTokens spelling tokens
+  pub stay : (us : List (List ℕ)) → AreTokens us → BeginsApart (concat us) → AreTokens (tokens ++ us)
+
+append_nil_lists : (xs : List (List ℕ)) → xs ++ [] ≡ xs
+append_nil_lists xs = append-nil xs
+
+singles_tokens : (spelling : List ℕ) → ((us : List (List ℕ)) → AreTokens us → AreTokens (singles spelling ++ us)) → LiteralTokens spelling
+singles_tokens spelling h = record {
+  tokens = singles spelling;
+  has = record { joined = ap concat (sym (append_nil_lists (singles spelling))) ∙ concat_singles spelling [] ∙ append-nil spelling; each = subst AreTokens (append_nil_lists (singles spelling)) (h [] tt) };
+  stay = λ us k _. h us k;
+}
+
+word_literal : (spelling : List ℕ) → IsWord spelling → LiteralTokens spelling
+word_literal spelling w = elim w.spelled [
+  | inl e ↦ subst LiteralTokens (sym e) (singles_tokens w.run (word_tokens w.run w.each))
+  | inr e ↦ subst LiteralTokens (sym e) (singles_tokens (dash ∷ w.run) (dash_tokens w.run w.each w.some))
+]
+
+pub apart_otherwise : (r : List ℕ) → BeginsApart r → BeginsOtherwise single_quote r
+apart_otherwise [] h = tt
+apart_otherwise (b ∷ r) h = λ e. let f : true ≡ false = sym (ap is_joining e) ∙ h in cc
+
+string_token : (spelling bytes : List ℕ) → IsString spelling bytes → (r : List ℕ) → BeginsOtherwise single_quote r → IsToken spelling r
+string_token spelling bytes s r h =
+    let q : IsQuoted single_quote spelling r = record { parts = s.parts; closing = single_quote ∷ []; inside = s.inside; spelled = s.spelled; closes = inl (refl, h) } in
+    let e : kind_of (spelling ++ r) ≡ Quoted single_quote = ap (λ y. kind_of (y ++ r)) s.spelled in
+    subst (λ k. HasShape k spelling r) (sym e) q
+
+string_literal : (spelling bytes : List ℕ) → IsString spelling bytes → LiteralTokens spelling
+string_literal spelling bytes s = record {
+  tokens = spelling ∷ [];
+  has = record { joined = append-nil spelling; each = (string_token spelling bytes s [] tt, tt) };
+  stay = λ us k a. (string_token spelling bytes s (concat us) (apart_otherwise (concat us) a), k);
+}
+
+pub literal_tokens : (spelling : List ℕ) (content : Content) → IsLiteral spelling content → LiteralTokens spelling
+literal_tokens spelling content h = elim (literal_form spelling content h) [ inl s ↦ string_literal spelling s.0 s.1 | inr w ↦ word_literal spelling w ]

@@ -1,0 +1,26 @@
+use Rattle.std.proofs.Common.{◌≡◌, List, [], map, refl, sym, ap, ◌∙◌, subst, length, arith, ◌∷◌}
+use Rattle.std.specs.Cow.{cow_slice_items}
+use Rattle.mysql_queries.specs.Queries.{IsParsed}
+use Rattle.mysql_queries.specs.Parsed.{names_at}
+use Rattle.mysql_queries.proofs.FirstBytes.{same_number}
+use Rattle.mysql_queries.proofs.QueryWritten.{parsed_marked, parsed_as_it_is, has_names, marked}
+use Rattle.mysql_queries.proofs.named_params.ParsedNamedParams.parse.Goals as goal
+use Rattle.mysql_queries.proofs.named_params.ParsedNamedParams.parse.Goals.{then-is_empty, else-is_empty+in_ok-with_marks}
+
+none_left : {A : Type 0} → (xs : List A) → length xs ≡ 0 → xs ≡ []
+none_left [] h = refl
+none_left (x ∷ xs) h = absurd (omega (arith, h))
+
+pub returns-clause-names : goal.returns-clause-names
+returns-clause-names c = has_names c.args.query.now (map cow_slice_items c.in_ok-params.params.items) c.in_ok-places.places.items c.in_ok-places.ensures
+    (c.in_ok-params.ensures ∙ ap (names_at c.args.query.now) c.deref-2.ensures.value)
+
+pub returns-clause-query : goal.returns-clause-query
+returns-clause-query c = elim c.if-is_empty.branch [
+  | then-is_empty w ↦ (let empty = none_left c.in_ok-params.params.items (sym c.in_ok-params.params.ok.0 ∙ same_number _ 0 (sym w.if-is_empty.ensures)) in
+      subst (IsParsed c.args.query.now) (sym (ap cow_slice_items w.parsed-is))
+      (parsed_as_it_is c.args.query.now c.in_ok-places.places.items c.in_ok-places.ensures
+      (sym (c.in_ok-params.ensures ∙ ap (names_at c.args.query.now) c.deref-2.ensures.value) ∙ ap (map cow_slice_items) empty)))
+  | else-is_empty+in_ok-with_marks w ↦ parsed_marked c.args.query.now (cow_slice_items c.if-is_empty.parsed) c.in_ok-places.places.items c.in_ok-places.ensures
+      (ap cow_slice_items w.parsed-is ∙ w.in_ok-with_marks.ensures ∙ ap (marked c.args.query.now 0) w.deref-else-is_empty.ensures.value)
+]

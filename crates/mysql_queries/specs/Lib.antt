@@ -1,0 +1,11 @@
+pub mod Tokens
+pub mod Literals
+pub mod Queries
+pub mod Written
+pub mod Laws
+pub mod Scanning
+pub mod TokenKinds
+pub mod LiteralRuns
+pub mod LiteralViews
+pub mod Parsed
+pub use Rattle.mysql_raw.specs.declared.error.WireError

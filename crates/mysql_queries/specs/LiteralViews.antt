@@ -1,0 +1,19 @@
+-- A literal that was read, as the definitions have it.
+-- MySQL Reference Manual, "Literal Values".
+use Rattle.std.specs.Prelude.{◌≡◌, ◌++◌, ℕ, List}
+use Rattle.mysql_queries.specs.LiteralRuns.{IsLiteralRun}
+use Rattle.mysql_queries.specs.Literals.{IsLiteral}
+use Rattle.mysql_queries.specs.declared.content.Content.{Content}
+use Rattle.mysql_queries.specs.declared.content.Content.TheVariants as content
+use Rattle.mysql_queries.specs.declared.literals.Literal.{Literal}
+use Rattle.mysql_queries.specs.declared.literals.Literal.TheVariants.{Null, Number, Bytes}
+
+-- its content, with what lies in the buffer
+abbrev pub literal_content : Literal → List ℕ → Content
+literal_content Null items = content.Null
+literal_content (Number z) items = content.Number z
+literal_content Bytes items = content.Bytes items
+
+-- no run at the front of the text is a literal
+abbrev pub IsNoLiteral : List ℕ → Type 0
+IsNoLiteral text = (run rest : List ℕ) (content : Content) → text ≡ run ++ rest → IsLiteralRun run rest → IsLiteral run content → ⊥

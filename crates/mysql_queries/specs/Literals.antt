@@ -1,0 +1,81 @@
+-- The literals of a SQL text and their contents.
+-- MySQL Reference Manual, "Literal Values": "String Literals", "Numeric Literals", "Hexadecimal Literals", "NULL Values".
+use Rattle.std.specs.Prelude.{◌≡◌, ◌≢◌, ℕ, ◌+◌, ◌-◌, ◌*◌, ◌^◌, ◌<◌, ◌≤◌, Bool, true, ◌||◌, ◌==◌, nat_le, if◌then◌else◌, ◌⊎◌, List, [], ◌∷◌, ◌++◌, map, fold, flat_map, codes, ℤ, pos, neg_ℤ}
+use Rattle.std.specs.List.{AllByRecursion}
+use Rattle.mysql_queries.specs.declared.content.Content.{Content}
+use Rattle.mysql_queries.specs.declared.content.Content.TheVariants.{Null, Number, Bytes}
+use Rattle.mysql_queries.specs.Tokens.{is_within, single_quote, backslash, dash, Inside, Byte, Escape, Doubled, inside_bytes, IsInside}
+
+-- an ASCII letter in lower case
+abbrev pub lower : ℕ → ℕ
+lower b = if is_within 0x41 0x5a b then b + 0x20 else b
+
+abbrev pub is_digit : ℕ → Bool
+is_digit b = is_within 0x30 0x39 b
+
+-- the number of a row of digits
+abbrev pub digits_value : List ℕ → ℕ
+digits_value digits = fold (λ n d. n * 10 + (d - 0x30)) 0 digits
+
+-- at least one digit
+pub record AreDigits (digits : List ℕ) : Type 0 where
+  pub each : AllByRecursion (λ b. is_digit b ≡ true) digits
+  pub some : digits ≢ []
+
+-- digits, behind a dash for a negative number; from -2^63 to 2^64-1
+pub record IsNumber (spelling : List ℕ) (z : ℤ) : Type 0 where
+  pub digits : List ℕ
+  pub are : AreDigits digits
+  pub value : ((spelling ≡ digits) × (z ≡ pos (digits_value digits)) × (digits_value digits < 2 ^ 64)) ⊎ ((spelling ≡ dash ∷ digits) × (z ≡ neg_ℤ (pos (digits_value digits))) × (digits_value digits ≤ 2 ^ 63))
+
+-- what a backslash makes of the byte after it
+abbrev pub escaped : ℕ → List ℕ
+escaped b =
+    if b == 0x30 then 0x00 ∷ []
+    else (if b == 0x62 then 0x08 ∷ []
+    else (if b == 0x6e then 0x0a ∷ []
+    else (if b == 0x72 then 0x0d ∷ []
+    else (if b == 0x74 then 0x09 ∷ []
+    else (if b == 0x5a then 0x1a ∷ []
+    else (if (b == 0x25) || (b == 0x5f) then backslash ∷ b ∷ []
+    else b ∷ []))))))
+
+-- what stands inside a literal's single quotes, read
+abbrev pub inside_content : Inside → List ℕ
+inside_content (Byte b) = b ∷ []
+inside_content (Escape b) = escaped b
+inside_content Doubled = single_quote ∷ []
+
+-- bytes between single quotes
+pub record IsString (spelling bytes : List ℕ) : Type 0 where
+  pub parts : List Inside
+  pub inside : AllByRecursion (IsInside single_quote) parts
+  pub spelled : spelling ≡ single_quote ∷ (flat_map (inside_bytes single_quote) parts ++ single_quote ∷ [])
+  pub read : bytes ≡ flat_map inside_content parts
+
+abbrev pub is_hex : ℕ → Bool
+is_hex b = is_digit b || is_within 0x41 0x46 b || is_within 0x61 0x66 b
+
+abbrev pub hex_value : ℕ → ℕ
+hex_value b = if is_digit b then b - 0x30 else (if nat_le b 0x46 then b - 0x37 else b - 0x57)
+
+-- two hexadecimal digits for each byte
+abbrev pub SpellsInHex : List ℕ → List ℕ → Type 0
+SpellsInHex [] [] = Unit {0}
+SpellsInHex [] (byte ∷ bytes) = ⊥
+SpellsInHex (high ∷ []) bytes = ⊥
+SpellsInHex (high ∷ low ∷ digits) [] = ⊥
+SpellsInHex (high ∷ low ∷ digits) (byte ∷ bytes) = (is_hex high ≡ true) × (is_hex low ≡ true) × (byte ≡ 16 * hex_value high + hex_value low) × SpellsInHex digits bytes
+
+-- `0x` and the digits of at least one byte
+pub record IsHexLiteral (spelling bytes : List ℕ) : Type 0 where
+  pub digits : List ℕ
+  pub spelled : spelling ≡ 0x30 ∷ 0x78 ∷ digits
+  pub spells : SpellsInHex digits bytes
+  pub some : bytes ≢ []
+
+-- the spellings of each content: NULL in any case, a number, bytes in quotes or in hexadecimal
+abbrev pub IsLiteral : List ℕ → Content → Type 0
+IsLiteral spelling Null = map lower spelling ≡ codes "null"
+IsLiteral spelling (Number z) = IsNumber spelling z
+IsLiteral spelling (Bytes bytes) = IsString spelling bytes ⊎ IsHexLiteral spelling bytes

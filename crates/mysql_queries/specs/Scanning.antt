@@ -1,0 +1,26 @@
+-- What stands at a place of a text.
+-- MySQL Reference Manual, "String Literals".
+use Rattle.std.specs.Prelude.{◌≡◌, ℕ, ◌+◌, ◌≤◌, List, [], ◌∷◌, ◌++◌, length, drop, slice_index}
+use Rattle.mysql_queries.specs.Tokens.{Inside, Byte, Escape, Doubled, inside_bytes, IsInside, Closes, single_quote}
+use Rattle.mysql_queries.specs.declared.strings.Part.{Part}
+use Rattle.mysql_queries.specs.declared.strings.Part.TheVariants as parts
+
+-- between quotes, at this place, one part of so many bytes
+abbrev pub PartAt : ℕ → List ℕ → ℕ → ℕ → Type 0
+PartAt quote text at n = (part : Inside) × IsInside quote part × (n ≡ length (inside_bytes quote part)) × (drop at text ≡ inside_bytes quote part ++ drop (at + n) text) × (at + n ≤ length text)
+
+-- the byte at this place closes a quoted token
+abbrev pub ClosesAt : ℕ → List ℕ → ℕ → Type 0
+ClosesAt quote text at = Closes quote (slice_index text at ∷ []) (drop (at + 1) text)
+
+-- a part between single quotes as the definitions have it
+abbrev pub part_view : Part → Inside
+part_view (parts.Byte b) = Byte b
+part_view (parts.Escape b) = Escape b
+part_view parts.Doubled = Doubled
+
+-- between single quotes, at this place, this part
+abbrev pub IsPartAt : List ℕ → ℕ → Inside → Type 0
+IsPartAt text at part =
+    let n = length (inside_bytes single_quote part) in
+    IsInside single_quote part × (drop at text ≡ inside_bytes single_quote part ++ drop (at + n) text) × (at + n ≤ length text)

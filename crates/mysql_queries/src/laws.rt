@@ -1,0 +1,60 @@
+//! Laws of tokens, literals and queries. The functions change nothing: their contracts are the laws.
+
+ghost use Rattle.mysql_queries.specs.Laws.{
+  FilledIsRead,
+  LexedIsSliced,
+  LiteralIsRun,
+  NamesAreSlices,
+  OneContent,
+  OnePlaces,
+  OneRead,
+  OneReading,
+  OneTokens,
+  PiecesAreSlices,
+  PlacesInOrder,
+  SlicedIsLexed,
+  SomeTokens,
+  TextIsDecided,
+  WorkedSpellings,
+  WrittenIsRead,
+};
+
+/// The tokens of a text exist, and are one list.
+pub fn tokens_of_a_text()
+    ensures some { SomeTokens }
+    ensures one { OneTokens }
+    ensures places { OnePlaces }
+{}
+
+/// The pieces and the names of a query are its slices between and at its placeholders, which stand in order.
+pub fn pieces_of_a_query()
+    ensures pieces { PiecesAreSlices }
+    ensures names { NamesAreSlices }
+    ensures order { PlacesInOrder }
+{}
+
+/// A spelling has at most one content.
+pub fn content_of_a_spelling()
+    ensures one { OneContent }
+    ensures run { LiteralIsRun }
+    ensures worked { WorkedSpellings }
+    ensures read { OneRead }
+    ensures written { WrittenIsRead }
+{}
+
+/// Where each placeholder of a query stands alone, the two ways to read a text agree, and there is at most one reading.
+pub fn one_reading()
+    ensures at_most_one { OneReading }
+    ensures lexed { LexedIsSliced }
+    ensures sliced { SlicedIsLexed }
+{}
+
+/// Where each placeholder of a query stands alone, each text is read as contents or as none.
+pub fn texts_are_decided()
+    ensures { TextIsDecided }
+{}
+
+/// Where each placeholder of a query stands alone, the query with a literal in each place is read as the literals' contents.
+pub fn filled_text_is_read()
+    ensures { FilledIsRead }
+{}

@@ -1,0 +1,126 @@
+//! Literals at the front of a text.
+
+ghost use Rattle.mysql_queries.specs.LiteralRuns.{IsLiteralRun, begins_hex};
+ghost use Rattle.mysql_queries.specs.LiteralViews.{IsNoLiteral, literal_content};
+ghost use Rattle.mysql_queries.specs.Literals.{IsLiteral, lower};
+ghost use Rattle.mysql_raw.specs.declared.error.WireError.TheVariants as wire;
+ghost use Rattle.std.specs.Prelude.{
+  ◌<◌,
+  IsOkUnless,
+  OnErr,
+  vec_capacity,
+  ◌++◌,
+  ◌≡◌,
+  ◌≤◌,
+  ◌↔◌,
+  IfNone,
+  IfOk,
+  IfSome,
+  IsTrue,
+  List,
+  codes,
+  drop,
+  length,
+  map,
+  take,
+  ℕ,
+};
+
+use crate::hexadecimal::read_hex;
+use crate::numbers::read_number;
+use crate::strings::read_string;
+use mysql_raw::WireError;
+use std::alloc::AllocError;
+
+/// A literal that was read. Bytes lie in the buffer that was lent.
+#[derive(Clone, Copy, Debug, PartialEq, Eq)]
+pub enum Literal {
+    Null,
+    Number(i128),
+    Bytes,
+}
+
+fn lower_of(b: u8) -> u8
+    ensures { result ≡ lower b }
+{
+    if b'A' <= b && b <= b'Z' { b + 32 } else { b }
+}
+
+/// Whether the four letters of NULL come first.
+fn null_first(text: &[u8]) -> bool
+    ensures { IsTrue result ↔ ((4 ≤ length text.now) × (map lower (take 4 text.now) ≡ codes "null")) }
+{
+    match text {
+        [a, b, c, d, ..] => {
+            lower_of(*a) == b'n'
+                && lower_of(*b) == b'u'
+                && lower_of(*c) == b'l'
+                && lower_of(*d) == b'l'
+        }
+        _ => false,
+    }
+}
+
+fn hex_first(text: &[u8]) -> bool
+    ensures { result ≡ begins_hex text.now }
+{
+    match text {
+        [a, b, ..] => *a == b'0' && *b == b'x',
+        [_] => false,
+        [] => false,
+    }
+}
+
+/// The literal at the front of a text, and how many bytes it takes.
+fn literal_len(text: &[u8], buf: &mut Vec<u8>) -> Result<Option<(Literal, usize)>, AllocError>
+    ensures in_range { IfOk result (λ found. IfSome found (λ x. x.1 ≤ length text.now)) }
+    ensures run { IfOk result (λ found. IfSome found (λ x. IsLiteralRun (take x.1 text.now) (drop x.1 text.now))) }
+    ensures content { IfOk result (λ found. IfSome found (λ x. IsLiteral (take x.1 text.now) (literal_content x.0 buf.new.items))) }
+    ensures none { IfOk result (λ found. IfNone found (IsNoLiteral text.now)) }
+    ensures full { OnErr result (vec_capacity buf.old < length text.now) }
+{
+    buf.clear();
+    if null_first(text) {
+        return Ok(Some((Literal::Null, 4)));
+    }
+    if !text.is_empty() && text[0] == b'\'' {
+        return match read_string(text, buf)? {
+            Some(len) => Ok(Some((Literal::Bytes, len))),
+            None => Ok(None),
+        };
+    }
+    if hex_first(text) {
+        return match read_hex(text, buf)? {
+            Some(len) => Ok(Some((Literal::Bytes, len))),
+            None => Ok(None),
+        };
+    }
+    match read_number(text) {
+        Some((n, len)) => Ok(Some((Literal::Number(n), len))),
+        None => Ok(None),
+    }
+}
+
+/// Reads the literal at the front of a text, and gives what follows it. The buffer is cleared, and a literal's bytes are put into it.
+///
+/// All that stands there of the literal's form is read: all digits, `0x` with all hexadecimal digits, a body in single quotes to its closing quote. None where that is no literal.
+///
+/// # Errors
+/// `Memory`, only where the buffer has no room for as many bytes as the text.
+pub fn read_literal<'a>(
+    text: &'a [u8],
+    buf: &mut Vec<u8>,
+) -> Result<Option<(Literal, &'a [u8])>, WireError>
+    // What is read is all of its form that stands there, and spells the content.
+    ensures found { IfOk result (λ found. IfSome found (λ x. (run : List ℕ) × (text.entry.now ≡ run ++ x.1.now)
+        × IsLiteralRun run x.1.now × IsLiteral run (literal_content x.0 buf.new.items))) }
+    // Nothing is read only where that is no literal.
+    ensures none { IfOk result (λ found. IfNone found (IsNoLiteral text.entry.now)) }
+    ensures memory { IsOkUnless result wire.Memory }
+    ensures full { OnErr result (vec_capacity buf.old < length text.entry.now) }
+{
+    match literal_len(text, buf)? {
+        Some((literal, len)) => Ok(Some((literal, &text[len..]))),
+        None => Ok(None),
+    }
+}

@@ -1,0 +1,140 @@
+//! A query with named placeholders, parsed.
+
+ghost use Rattle.mysql_queries.specs.Parsed.{HasNames, names_at};
+ghost use Rattle.mysql_queries.specs.Queries.{HasMixed, HasPlaces, IsParsed, slices_between};
+ghost use Rattle.mysql_queries.specs.Tokens.{question};
+ghost use Rattle.std.specs.Cow.{cow_slice_items};
+ghost use Rattle.std.specs.List.{join_with_byte};
+ghost use Rattle.std.specs.Prelude.{◌≡◌, ◌⊎◌, IfErr, IfOk, OnOk, false, map, true};
+ghost use Rattle.mysql_queries.specs.declared.named_params.NamedParamsError.TheVariants as named_params_error;
+
+use crate::placeholders::{Place, find_places, is_mixed};
+use std::alloc::{AllocError, AllocFailed, Global};
+use std::borrow::CowSlice;
+use std::marker::Model;
+use thiserror::Error;
+
+/// A query has both names and question marks as placeholders.
+#[derive(Clone, Copy, Debug, PartialEq, Eq, Hash, Error)]
+#[error("the query has both named and positional parameters")]
+pub struct MixedParamsError;
+
+/// Why a query is not parsed.
+#[derive(Clone, Copy, Debug, PartialEq, Eq, Hash, Error)]
+pub enum NamedParamsError {
+    #[error("{0}")]
+    Mixed(MixedParamsError),
+    #[error("out of memory")]
+    Memory,
+}
+
+impl From<AllocError> for NamedParamsError {
+    ghost from_gives = { λ _ e. e ≡ named_params_error.Memory };
+
+    fn from(_e: AllocError) -> NamedParamsError {
+        NamedParamsError::Memory
+    }
+}
+
+impl<T: Drop> From<AllocFailed<T>> for NamedParamsError {
+    ghost from_gives = { λ _ e. e ≡ named_params_error.Memory };
+
+    fn from(_e: AllocFailed<T>) -> NamedParamsError {
+        NamedParamsError::Memory
+    }
+}
+
+/// A query whose placeholders are names, with question marks in their places, and the names.
+///
+/// A query without names is parsed too: it stays as it is.
+#[derive(Debug, Drop)]
+pub struct ParsedNamedParams<'a> {
+    query: CowSlice<'a, u8>,
+    params: Vec<CowSlice<'a, u8>>,
+}
+
+impl<'a> Model for ParsedNamedParams<'a> {
+    ghost use Rattle.std.specs.Cow.{cow_slice_items};
+    ghost use Rattle.std.specs.Prelude.{map};
+    ghost use Rattle.mysql_queries.specs.Parsed.{Parsed};
+
+    ghost Value = { Parsed };
+
+    ghost view = { λ it. record { query = cow_slice_items it.query; names = map cow_slice_items it.params.items } };
+}
+
+impl<'a> ParsedNamedParams<'a> {
+    /// Parses a query.
+    ///
+    /// # Errors
+    /// `Mixed` where both names and question marks occur, `Memory`.
+    pub fn parse(alloc: Global, query: &'a [u8]) -> Result<ParsedNamedParams<'a>, NamedParamsError>
+        ensures query { IfOk result (λ parsed. IsParsed query.entry.now parsed.query) }
+        ensures names { IfOk result (λ parsed. HasNames query.entry.now parsed.names) }
+        ensures one_kind { OnOk result (HasMixed query.entry.now false) }
+        ensures mixed { IfErr result (λ e. (e ≡ named_params_error.Memory) ⊎ ((e ≡ named_params_error.Mixed (record {})) × HasMixed query.entry.now true)) }
+    {
+        let places = find_places(alloc, query)?;
+        if is_mixed(&places) {
+            return Err(NamedParamsError::Mixed(MixedParamsError));
+        }
+        let params = names_among(alloc, query, &places)?;
+        let parsed = if params.is_empty() {
+            CowSlice::Borrowed(query)
+        } else {
+            CowSlice::Owned(with_marks(alloc, query, &places)?)
+        };
+        Ok(ParsedNamedParams {
+            query: parsed,
+            params,
+        })
+    }
+
+    /// The query with a question mark for each name.
+    pub fn query(&self) -> &[u8]
+        ensures { result.now ≡ self.now.query }
+    {
+        self.query.as_slice()
+    }
+
+    /// The names in order, one for each place, without their colons.
+    pub fn params(&self) -> &[CowSlice<'a, u8>]
+        ensures { map cow_slice_items result.now ≡ self.now.names }
+    {
+        self.params.as_slice()
+    }
+}
+
+/// The names among the placeholders of a query, without their colons.
+pub fn names_among<'a>(
+    alloc: Global,
+    query: &'a [u8],
+    places: &[Place],
+) -> Result<Vec<CowSlice<'a, u8>>, AllocError>
+    requires { HasPlaces query.now places.now }
+    ensures { IfOk result (λ names. map cow_slice_items names.items ≡ names_at query.entry.now places.now) }
+{
+    let mut names = Vec::new(alloc);
+    for place in places {
+        if place.name {
+            names.push(CowSlice::Borrowed(&query[place.start..place.end][1..]))?;
+        }
+    }
+    Ok(names)
+}
+
+/// The query with a question mark for each placeholder.
+fn with_marks(alloc: Global, query: &[u8], places: &[Place]) -> Result<Vec<u8>, AllocError>
+    requires { HasPlaces query.now places.now }
+    ensures { IfOk result (λ parsed. parsed.items ≡ join_with_byte question (slices_between query.now 0 places.now)) }
+{
+    let mut parsed = Vec::with_capacity(alloc, query.len())?;
+    let mut at = 0;
+    for place in places {
+        parsed.extend_from_slice(&query[at..place.start])?;
+        parsed.push(b'?')?;
+        at = place.end;
+    }
+    parsed.extend_from_slice(&query[at..])?;
+    Ok(parsed)
+}

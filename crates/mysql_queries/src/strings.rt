@@ -1,0 +1,142 @@
+//! Literals in single quotes.
+
+ghost use Rattle.mysql_queries.specs.Literals.{IsString, escaped, inside_content};
+ghost use Rattle.mysql_queries.specs.Scanning.{ClosesAt, IsPartAt, part_view};
+ghost use Rattle.mysql_queries.specs.Tokens.{IsQuoted, inside_bytes, single_quote};
+ghost use Rattle.std.specs.Prelude.{
+  OnErr,
+  vec_capacity,
+  vec_len,
+  ◌+◌,
+  ◌++◌,
+  ◌<◌,
+  ◌≡◌,
+  ◌≤◌,
+  IfNone,
+  IfOk,
+  IfSome,
+  List,
+  OnOk,
+  drop,
+  length,
+  slice_index,
+  take,
+  ℕ,
+};
+
+use std::alloc::AllocError;
+
+/// What stands between single quotes: a byte for itself, a backslash with the byte after it, the quote doubled.
+#[derive(Clone, Copy, Debug, PartialEq, Eq)]
+pub enum Part {
+    Byte(u8),
+    Escape(u8),
+    Doubled,
+}
+
+/// How many bytes it takes.
+fn part_len(part: Part) -> usize
+    ensures { result ≡ length (inside_bytes single_quote (part_view part)) }
+{
+    match part {
+        Part::Byte(_) => 1,
+        Part::Escape(_) => 2,
+        Part::Doubled => 2,
+    }
+}
+
+/// The part at a place; None where the literal closes there.
+fn part_at(text: &[u8], at: usize) -> Option<Part>
+    requires { at < length text.now }
+    ensures part { IfSome result (λ part. IsPartAt text.now at (part_view part)) }
+    ensures closed { IfNone result (ClosesAt single_quote text.now at) }
+{
+    let b = text[at];
+    if b == b'\'' {
+        if at + 1 < text.len() && text[at + 1] == b'\'' {
+            Some(Part::Doubled)
+        } else {
+            None
+        }
+    } else if b == b'\\' {
+        if at + 1 < text.len() {
+            Some(Part::Escape(text[at + 1]))
+        } else {
+            None
+        }
+    } else {
+        Some(Part::Byte(b))
+    }
+}
+
+/// Appends what a backslash makes of the byte after it.
+fn push_escaped(out: &mut Vec<u8>, b: u8) -> Result<(), AllocError>
+    ensures ok { OnOk result (out.new.items ≡ out.old.items ++ escaped b) }
+    ensures len { OnOk result (vec_len out.new ≤ vec_len out.old + 2) }
+    ensures capacity { vec_capacity out.old ≤ vec_capacity out.new }
+    ensures full { OnErr result (vec_capacity out.old < vec_len out.old + 2) }
+{
+    if b == b'0' {
+        out.push(0)?;
+    } else if b == b'b' {
+        out.push(8)?;
+    } else if b == b'n' {
+        out.push(b'\n')?;
+    } else if b == b'r' {
+        out.push(b'\r')?;
+    } else if b == b't' {
+        out.push(b'\t')?;
+    } else if b == b'Z' {
+        out.push(26)?;
+    } else if b == b'%' || b == b'_' {
+        out.push(b'\\')?;
+        out.push(b)?;
+    } else {
+        out.push(b)?;
+    }
+    Ok(())
+}
+
+/// Appends what a part is read as.
+fn push_content(out: &mut Vec<u8>, part: Part) -> Result<(), AllocError>
+    ensures ok { OnOk result (out.new.items ≡ out.old.items ++ inside_content (part_view part)) }
+    ensures len { OnOk result (vec_len out.new ≤ vec_len out.old + length (inside_bytes single_quote (part_view part))) }
+    ensures capacity { vec_capacity out.old ≤ vec_capacity out.new }
+    ensures full { OnErr result (vec_capacity out.old < vec_len out.old + length (inside_bytes single_quote (part_view part))) }
+{
+    match part {
+        Part::Byte(b) => out.push(b)?,
+        Part::Escape(b) => push_escaped(out, b)?,
+        Part::Doubled => out.push(b'\'')?,
+    }
+    Ok(())
+}
+
+/// Reads a literal that begins with a single quote: how many bytes it takes, and its content into the buffer; None where nothing closes it.
+pub fn read_string(text: &[u8], buf: &mut Vec<u8>) -> Result<Option<usize>, AllocError>
+    requires some { 0 < length text.now }
+    requires begins { slice_index text.now 0 ≡ single_quote }
+    ensures in_range { IfOk result (λ found. IfSome found (λ n. n ≤ length text.now)) }
+    ensures run { IfOk result (λ found. IfSome found (λ n. IsQuoted single_quote (take n text.now) (drop n text.now))) }
+    ensures content { IfOk result (λ found. IfSome found (λ n. IsString (take n text.now) buf.new.items)) }
+    ensures none { IfOk result (λ found. IfNone found ((run rest bytes : List ℕ) → text.now ≡ run ++ rest → IsQuoted single_quote run rest → IsString run bytes → ⊥)) }
+    ensures full { OnErr result (vec_capacity buf.old < length text.now) }
+{
+    buf.clear();
+    let mut i = 1;
+    while i < text.len() {
+        match part_at(text, i) {
+            Some(part) => {
+                push_content(buf, part)?;
+                i += part_len(part);
+            }
+            None => {
+                if text[i] == b'\'' {
+                    return Ok(Some(i + 1));
+                }
+                return Ok(None);
+            }
+        }
+    }
+    Ok(None)
+}

@@ -1,0 +1,75 @@
+//! Texts of a query with literals in the places of its placeholders.
+
+ghost use Rattle.mysql_queries.specs.LiteralRuns.{IsLiteralRun};
+ghost use Rattle.mysql_queries.specs.LiteralViews.{IsNoLiteral};
+ghost use Rattle.mysql_queries.specs.Literals.{IsLiteral};
+ghost use Rattle.mysql_queries.specs.Queries.{HasPlaces, Lexes, Slices};
+ghost use Rattle.mysql_queries.specs.declared.content.Content.{Content as ContentOf};
+ghost use Rattle.mysql_raw.specs.declared.error.WireError.TheVariants as wire;
+ghost use Rattle.std.specs.List.{AllByRecursion};
+ghost use Rattle.std.specs.Prelude.{◌++◌, ◌≡◌, IfNone, IfOk, IfSome, IsOkUnless, List, true, ℕ};
+
+use crate::byte_string::ByteString;
+use crate::content::Content;
+use crate::literals::{Literal, read_literal};
+use crate::placeholders::Place;
+use mysql_raw::WireError;
+use std::alloc::Global;
+
+/// The content of the literal at the front of a text, and what follows it; None where no literal stands there.
+fn read_content<'a>(alloc: Global, text: &'a [u8]) -> Result<Option<(Content, &'a [u8])>, WireError>
+    ensures found { IfOk result (λ found. IfSome found (λ x. (run : List ℕ) × (text.entry.now ≡ run ++ x.1.now)
+        × IsLiteralRun run x.1.now × IsLiteral run x.0)) }
+    ensures none { IfOk result (λ found. IfNone found (IsNoLiteral text.entry.now)) }
+    ensures memory { IsOkUnless result wire.Memory }
+{
+    let mut buf = Vec::new(alloc);
+    match read_literal(text, &mut buf)? {
+        Some((Literal::Null, rest)) => Ok(Some((Content::Null, rest))),
+        Some((Literal::Number(number), rest)) => Ok(Some((Content::Number(number), rest))),
+        Some((Literal::Bytes, rest)) => {
+            Ok(Some((Content::Bytes(ByteString::from_vec(buf)), rest)))
+        }
+        None => Ok(None),
+    }
+}
+
+/// Reads a text as the query with literals in the places of its placeholders, and gives the literals' contents in order.
+///
+/// `places` are the query's placeholders, as [`places`](crate::placeholders::places) lists them, and each of them stands alone. None where the text is not the query's pieces with literals between them.
+///
+/// # Errors
+/// `Memory`.
+pub fn read_text(
+    alloc: Global,
+    query: &[u8],
+    places: &[Place],
+    text: &[u8],
+) -> Result<Option<Vec<Content>>, WireError>
+    requires places { HasPlaces query.now places.now }
+    requires alone { AllByRecursion (λ place. place.alone ≡ true) places.now }
+    ensures sliced { IfOk result (λ found. IfSome found (λ contents. Slices query.now text.now contents.items)) }
+    ensures lexed { IfOk result (λ found. IfSome found (λ contents. Lexes query.now text.now contents.items)) }
+    ensures none { IfOk result (λ found. IfNone found ((contents : List ContentOf) → Slices query.now text.now contents → ⊥)) }
+    ensures memory { IsOkUnless result wire.Memory }
+{
+    let mut contents = Vec::new(alloc);
+    let mut at = 0;
+    let mut rest = text;
+    for place in places {
+        let Some(behind) = rest.strip_prefix(&query[at..place.start]) else {
+            return Ok(None);
+        };
+        let Some((content, after)) = read_content(alloc, behind)? else {
+            return Ok(None);
+        };
+        contents.push(content)?;
+        rest = after;
+        at = place.end;
+    }
+    if rest == &query[at..] {
+        Ok(Some(contents))
+    } else {
+        Ok(None)
+    }
+}

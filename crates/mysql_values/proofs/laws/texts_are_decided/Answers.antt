@@ -1,5 +1,0 @@
-use Rattle.mysql_values.proofs.TextDecided.{text_is_decided}
-use Rattle.mysql_values.proofs.laws.texts_are_decided.Goals as goal
-
-pub returns : goal.returns
-returns c = text_is_decided

@@ -1,5 +1,0 @@
-use Rattle.mysql_values.proofs.BindCauses.{none_apart}
-use Rattle.mysql_values.proofs.placeholders.first_not_alone.Goals as goal
-
-pub returns-clause-none : goal.returns-clause-none
-returns-clause-none c = none_apart c.apart_at.result c.args.places.now c.apart_at.ensures
