@@ -7,12 +7,11 @@ use mysql_raw_bytes::{
     BareBytes, BytesRepr, EofBytes, FixedLengthText, NullBytes, RawBytes, U8Bytes, U32Bytes,
 };
 use std::alloc::Global;
-use std::borrow::CowSlice;
 use std::process::Abort;
 
 // The bytes of a text in a representation, through its bound.
 fn text<T: BytesRepr>(rt: &impl Abort, alloc: Global, bytes: &[u8]) -> Vec<u8> {
-    let value: RawBytes<T> = RawBytes::new(CowSlice::Borrowed(bytes));
+    let value: RawBytes<T> = RawBytes::from(bytes);
     written(rt, alloc, &value)
 }
 
