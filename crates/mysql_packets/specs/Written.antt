@@ -1,16 +1,14 @@
 -- Packets as their bytes.
 -- MySQL: Client/Server Protocol, "COM_STMT_PREPARE Response".
-use Rattle.std.specs.Prelude.{◌≡◌, ℕ, zero, suc, ◌/◌, ◌%◌, ◌^◌, ◌<◌, List, [], ◌∷◌, ◌++◌, Ok}
+use Rattle.std.specs.Prelude.{◌≡◌, ℕ, ◌^◌, ◌<◌, List, ◌++◌, replicate, Ok}
+use Rattle.byteorder.specs.Endian.{little_bytes}
 use Rattle.mysql_packets.specs.Packets.{Statement, statement_at}
-
--- The k lowest bytes of a number, the lowest first.
-abbrev pub le_bytes : ℕ → ℕ → List ℕ
-le_bytes zero n = []
-le_bytes (suc k) n = n % 256 ∷ le_bytes k (n / 256)
 
 -- A statement packet.
 unfoldable pub statement : Statement → List ℕ
-statement s = 0 ∷ (le_bytes 4 s.id ++ (le_bytes 2 s.columns ++ (le_bytes 2 s.parameters ++ (0 ∷ le_bytes 2 s.warnings))))
+statement s =
+    little_bytes 1 0 ++ little_bytes 4 s.id ++ little_bytes 2 s.columns ++ little_bytes 2 s.parameters ++ replicate 1 0
+    ++ little_bytes 2 s.warnings
 
 -- What has a spelling.
 pub record Fits (s : Statement) : Type 0 where

@@ -1,15 +1,34 @@
 //! Column packets.
 
-ghost use Rattle.std.specs.Prelude.{◌≡◌, List, [], ◌∷◌, Ok};
-ghost use Rattle.mysql_packets.specs.Fields.{Gives, constants_at};
-ghost use Rattle.mysql_packets.specs.Packets.{column_type_at, column_at};
+ghost use Rattle.std.specs.Prelude.{◌≡◌, List, refl};
+ghost use Rattle.std.proofs.Common.{lit<};
+ghost use Rattle.mysql_wire.specs.Wire.{GivesPart};
+ghost use Rattle.mysql_packets.specs.Packets.{catalog, column_at};
 ghost use Rattle.mysql_packets.specs.Views.{column_view};
 
-use crate::fields::{bytes_of, constant_of, constants_of, lenenc_bytes_of, u8_of, u16_of, u32_of};
 use bitflags::Flags;
 use mysql_const::{ColumnFlags, ColumnType};
-use mysql_wire::WireError;
+use mysql_wire::{
+    Const, ConstBytes, ConstBytesValue, ConstU8, LeU16, LeU32, LenEnc, ParseBuf, ParseExt,
+    RawBytes, RawInt, WireError,
+};
 use std::alloc::Global;
+
+/// The catalog of every column, `def`, after its length.
+///
+/// MySQL: Client/Server Protocol, "Column Definition".
+#[derive(Clone, Copy, Debug, Default, PartialEq, Eq, Hash)]
+pub struct ColumnDefinitionCatalog;
+
+impl ConstBytesValue<4> for ColumnDefinitionCatalog {
+    const VALUE: [u8; 4] = [3, 100, 101, 102];
+
+    ghost VALUE = { catalog };
+
+    ghost value_len = { refl };
+
+    ghost fits = { lit< tt };
+}
 
 /// A column of a result set, or a parameter or a column of a prepared statement.
 ///
@@ -100,57 +119,41 @@ impl Column {
     }
 }
 
-const CATALOG: [u8; 4] = [3, 100, 101, 102];
-
-/// A type, by its number.
-#[tactic(auto, unfolding(crate::specs::Packets::column_type_at))]
-fn column_type_of(bytes: &[u8]) -> Result<(ColumnType, &[u8]), WireError>
-    ensures { Gives (λ x. (x.0, x.1.now)) result (column_type_at bytes.now) }
-{
-    let (number, rest) = u8_of(bytes)?;
-    match ColumnType::try_from(number) {
-        Ok(column_type) => Ok((column_type, rest)),
-        Err(_) => Err(WireError::UnknownValue),
-    }
-}
+/// Another byte than 0c counts the fixed fields of a column.
+#[derive(Clone, Copy, Debug, Default, PartialEq, Eq, Hash)]
+pub struct FixedLengthFieldsLen;
 
 /// A column packet. Refuses, from the left, UnexpectedEof, BadConstant for another catalog than `def` or another length
 /// of the fixed fields than 12, UnknownValue for a type without a name, and Memory.
 ///
 /// MySQL: Client/Server Protocol, "Column Definition".
 #[tactic(auto, unfolding(crate::specs::Packets::column_at))]
-pub fn column_of(alloc: Global, bytes: &[u8]) -> Result<(Column, &[u8]), WireError>
-    ensures { Gives (λ x. (column_view x.0, x.1.now)) result (column_at bytes.now) }
+pub fn column_of(alloc: Global, buf: &mut ParseBuf) -> Result<Column, WireError>
+    ensures { GivesPart column_view buf.new.0.now result (column_at buf.old.0.now) }
 {
-    let (_, rest) = constants_of(bytes, &CATALOG)?;
-    let (schema, rest) = lenenc_bytes_of(rest)?;
-    let (table, rest) = lenenc_bytes_of(rest)?;
-    let (org_table, rest) = lenenc_bytes_of(rest)?;
-    let (name, rest) = lenenc_bytes_of(rest)?;
-    let (org_name, rest) = lenenc_bytes_of(rest)?;
-    let (block, rest) = bytes_of(rest, 13)?;
-    let (_, block) = constant_of(block, 12)?;
-    let (character_set, block) = u16_of(block)?;
-    let (column_length, block) = u32_of(block)?;
-    let (column_type, block) = column_type_of(block)?;
-    let (flags, block) = u16_of(block)?;
-    let (decimals, _) = u8_of(block)?;
-    let schema = Vec::from_slice(alloc, schema)?;
-    let table = Vec::from_slice(alloc, table)?;
-    let org_table = Vec::from_slice(alloc, org_table)?;
-    let name = Vec::from_slice(alloc, name)?;
-    let org_name = Vec::from_slice(alloc, org_name)?;
-    let column = Column {
-        schema,
-        table,
-        org_table,
-        name,
-        org_name,
-        character_set,
-        column_length,
-        column_type,
-        flags: ColumnFlags::from_bits_retain(flags),
-        decimals,
-    };
-    Ok((column, rest))
+    buf.parse::<ConstBytes<ColumnDefinitionCatalog, 4>>(alloc, ())?;
+    let schema = buf.parse::<RawBytes<LenEnc>>(alloc, ())?;
+    let table = buf.parse::<RawBytes<LenEnc>>(alloc, ())?;
+    let org_table = buf.parse::<RawBytes<LenEnc>>(alloc, ())?;
+    let name = buf.parse::<RawBytes<LenEnc>>(alloc, ())?;
+    let org_name = buf.parse::<RawBytes<LenEnc>>(alloc, ())?;
+    let mut block = buf.parse::<ParseBuf>(alloc, 13)?;
+    block.parse::<ConstU8<FixedLengthFieldsLen, 12>>(alloc, ())?;
+    let character_set = block.parse::<RawInt<LeU16>>(alloc, ())?;
+    let column_length = block.parse::<RawInt<LeU32>>(alloc, ())?;
+    let column_type = block.parse::<Const<ColumnType, u8>>(alloc, ())?;
+    let flags = block.parse::<RawInt<LeU16>>(alloc, ())?;
+    let decimals = block.parse::<RawInt<u8>>(alloc, ())?;
+    Ok(Column {
+        schema: Vec::from_slice(alloc, schema.0.as_slice())?,
+        table: Vec::from_slice(alloc, table.0.as_slice())?,
+        org_table: Vec::from_slice(alloc, org_table.0.as_slice())?,
+        name: Vec::from_slice(alloc, name.0.as_slice())?,
+        org_name: Vec::from_slice(alloc, org_name.0.as_slice())?,
+        character_set: character_set.0,
+        column_length: column_length.0,
+        column_type: column_type.0,
+        flags: ColumnFlags::from_bits_retain(flags.0),
+        decimals: decimals.0,
+    })
 }

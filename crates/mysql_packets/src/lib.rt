@@ -3,7 +3,6 @@
 #![tactic(auto)]
 
 pub mod column;
-pub mod fields;
 pub mod laws;
 pub mod okay;
 pub mod row;

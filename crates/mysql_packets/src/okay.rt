@@ -1,15 +1,20 @@
 //! OK packets.
 
-ghost use Rattle.std.specs.Prelude.{◌≡◌, ℕ, List, Ok, option_map};
-ghost use Rattle.mysql_packets.specs.Fields.{Gives, unless_empty};
-ghost use Rattle.mysql_packets.specs.Packets.{status_at, session_track, more_results_exist, session_state_changed, info_at, unless_zero, status_and_info_at, okay_at, result_set_terminator_at, old_eof_at};
+ghost use Rattle.std.specs.Prelude.{◌≡◌, ℕ, List, [], IfOk, option_map};
+ghost use Rattle.std.specs.Cow.{cow_slice_items};
+ghost use Rattle.mysql_wire.specs.Wire.{GivesPart};
+ghost use Rattle.mysql_packets.specs.Packets.{unless_empty, status_at, session_track, more_results_exist, session_state_changed, info_at, unless_zero, status_and_info_at, okay_at, result_set_terminator_at, old_eof_at};
 ghost use Rattle.mysql_packets.specs.Views.{bytes_view, okay_view};
 
-use crate::fields::{bytes_of, constant_of, lenenc_bytes_of, lenenc_int_of, u16_of};
 use bitflags::Flags;
 use mysql_const::{CapabilityFlags, StatusFlags};
-use mysql_wire::WireError;
-use std::alloc::Global;
+use mysql_wire::{ConstU8, LeU16, LenEnc, ParseBuf, ParseExt, RawBytes, RawInt, WireError};
+use std::alloc::{AllocError, Global};
+use std::borrow::CowSlice;
+
+/// Another byte than the one that is due begins an OK or EOF packet.
+#[derive(Clone, Copy, Debug, Default, PartialEq, Eq, Hash)]
+pub struct InvalidOkPacketHeader;
 
 /// An OK packet: what a server answers to a command that gives no rows, and what ends a result set where EOF
 /// packets are deprecated.
@@ -100,49 +105,56 @@ fn has_session_state(status: StatusFlags) -> bool
 
 /// Server status: two bytes, whose bits all have a name.
 #[tactic(auto, unfolding(crate::specs::Packets::status_at, bitflags::proofs::OnLiterals::bitflags_on_literals))]
-fn status_of(bytes: &[u8]) -> Result<(StatusFlags, &[u8]), WireError>
-    ensures { Gives (λ x. (x.0.0, x.1.now)) result (status_at bytes.now) }
+fn status_of(alloc: Global, buf: &mut ParseBuf) -> Result<StatusFlags, WireError>
+    ensures { GivesPart (λ status. status.0) buf.new.0.now result (status_at buf.old.0.now) }
 {
-    let (bits, rest) = u16_of(bytes)?;
-    match StatusFlags::from_bits(bits) {
-        Some(status) => Ok((status, rest)),
+    let bits = buf.parse::<RawInt<LeU16>>(alloc, ())?;
+    match StatusFlags::from_bits(bits.0) {
+        Some(status) => Ok(status),
         None => Err(WireError::UnknownValue),
     }
 }
 
+type LenEncText<'a> = RawBytes<'a, LenEnc>;
+
+/// No text.
+fn no_text<'a>() -> LenEncText<'a>
+    ensures { cow_slice_items result.0 ≡ [] }
+{
+    RawBytes::new(CowSlice::Borrowed(&[]))
+}
+
 /// The info and the session state of an OK packet.
 #[tactic(auto, unfolding(crate::specs::Packets::info_at))]
-fn info_of(
+fn info_of<'a>(
+    alloc: Global,
     capabilities: CapabilityFlags,
     status: StatusFlags,
-    bytes: &[u8],
-) -> Result<(&[u8], &[u8], &[u8]), WireError>
-    ensures { Gives (λ x. ((x.0.now, x.1.now), x.2.now)) result (info_at capabilities.0 status.0 bytes.now) }
+    buf: &mut ParseBuf<'a>,
+) -> Result<(LenEncText<'a>, LenEncText<'a>), WireError>
+    ensures { GivesPart (λ x. (cow_slice_items x.0.0, cow_slice_items x.1.0)) buf.new.0.now result (info_at capabilities.0 status.0 buf.old.0.now) }
 {
-    match bytes {
-        [] => Ok((&[], &[], bytes)),
-        [first, ..] => {
-            if tracks_session(capabilities) {
-                let (info, rest) = lenenc_bytes_of(bytes)?;
-                if has_session_state(status) {
-                    let (state, rest) = lenenc_bytes_of(rest)?;
-                    Ok((info, state, rest))
-                } else {
-                    Ok((info, &[], rest))
-                }
-            } else if *first == 0 {
-                Ok((&[], &[], bytes))
-            } else {
-                let (info, rest) = lenenc_bytes_of(bytes)?;
-                Ok((info, &[], rest))
-            }
+    let Some(first) = buf.0.first() else {
+        return Ok((no_text(), no_text()));
+    };
+    if tracks_session(capabilities) {
+        let info = buf.parse(alloc, ())?;
+        if has_session_state(status) {
+            let state = buf.parse(alloc, ())?;
+            return Ok((info, state));
         }
+        return Ok((info, no_text()));
     }
+    if *first == 0 {
+        return Ok((no_text(), no_text()));
+    }
+    let info = buf.parse(alloc, ())?;
+    Ok((info, no_text()))
 }
 
 /// A copy of the bytes, where there are any.
-fn unless_empty_of(alloc: Global, bytes: &[u8]) -> Result<Option<Vec<u8>>, WireError>
-    ensures { Gives bytes_view result (Ok (unless_empty bytes.now)) }
+fn unless_empty_of(alloc: Global, bytes: &[u8]) -> Result<Option<Vec<u8>>, AllocError>
+    ensures { IfOk result (λ copy. bytes_view copy ≡ unless_empty bytes.now) }
 {
     if bytes.is_empty() {
         return Ok(None);
@@ -165,29 +177,27 @@ fn status_and_info_of(
     capabilities: CapabilityFlags,
     affected_rows: u64,
     id: u64,
-    bytes: &[u8],
-) -> Result<(OkPacket, &[u8]), WireError>
-    ensures { Gives (λ x. (okay_view x.0, x.1.now)) result (status_and_info_at capabilities.0 affected_rows id bytes.now) }
+    buf: &mut ParseBuf,
+) -> Result<OkPacket, WireError>
+    ensures { GivesPart okay_view buf.new.0.now result (status_and_info_at capabilities.0 affected_rows id buf.old.0.now) }
 {
-    let (block, rest) = bytes_of(bytes, 4)?;
-    let (status_flags, block) = status_of(block)?;
-    let (warnings, _) = u16_of(block)?;
-    let (info, state, rest) = info_of(capabilities, status_flags, rest)?;
-    let info = unless_empty_of(alloc, info)?;
-    let session_state_info = unless_empty_of(alloc, state)?;
-    let last_insert_id = unless_zero_of(id);
-    let packet = OkPacket {
+    let mut block = buf.parse::<ParseBuf>(alloc, 4)?;
+    let status_flags = status_of(alloc, &mut block)?;
+    let warnings = block.parse::<RawInt<LeU16>>(alloc, ())?;
+    let (info, state) = info_of(alloc, capabilities, status_flags, buf)?;
+    let info = unless_empty_of(alloc, info.0.as_slice())?;
+    let session_state_info = unless_empty_of(alloc, state.0.as_slice())?;
+    Ok(OkPacket {
         affected_rows,
-        last_insert_id,
+        last_insert_id: unless_zero_of(id),
         status_flags,
-        warnings,
+        warnings: warnings.0,
         info,
         session_state_info,
-    };
-    Ok((packet, rest))
+    })
 }
 
-/// An OK packet at the front of the bytes, and what follows it. Refuses UnexpectedEof, BadConstant for another first
+/// An OK packet at the front of the bytes. Refuses UnexpectedEof, BadConstant for another first
 /// byte than 00, UnknownValue for a status bit without a name, and Memory.
 ///
 /// MySQL: Client/Server Protocol, "OK_Packet".
@@ -195,14 +205,14 @@ fn status_and_info_of(
 pub fn okay_of(
     alloc: Global,
     capabilities: CapabilityFlags,
-    bytes: &[u8],
-) -> Result<(OkPacket, &[u8]), WireError>
-    ensures { Gives (λ x. (okay_view x.0, x.1.now)) result (okay_at capabilities.0 bytes.now) }
+    buf: &mut ParseBuf,
+) -> Result<OkPacket, WireError>
+    ensures { GivesPart okay_view buf.new.0.now result (okay_at capabilities.0 buf.old.0.now) }
 {
-    let (_, rest) = constant_of(bytes, 0)?;
-    let (affected, rest) = lenenc_int_of(rest)?;
-    let (id, rest) = lenenc_int_of(rest)?;
-    status_and_info_of(alloc, capabilities, affected, id, rest)
+    buf.parse::<ConstU8<InvalidOkPacketHeader, 0>>(alloc, ())?;
+    let affected = buf.parse::<RawInt<LenEnc>>(alloc, ())?;
+    let id = buf.parse::<RawInt<LenEnc>>(alloc, ())?;
+    status_and_info_of(alloc, capabilities, affected.0, id.0, buf)
 }
 
 /// The OK packet that ends a result set: it begins with fe, and its two numbers are passed over. Refuses as `okay_of`.
@@ -212,34 +222,33 @@ pub fn okay_of(
 pub fn result_set_terminator_of(
     alloc: Global,
     capabilities: CapabilityFlags,
-    bytes: &[u8],
-) -> Result<(OkPacket, &[u8]), WireError>
-    ensures { Gives (λ x. (okay_view x.0, x.1.now)) result (result_set_terminator_at capabilities.0 bytes.now) }
+    buf: &mut ParseBuf,
+) -> Result<OkPacket, WireError>
+    ensures { GivesPart okay_view buf.new.0.now result (result_set_terminator_at capabilities.0 buf.old.0.now) }
 {
-    let (_, rest) = constant_of(bytes, 254)?;
-    let (_, rest) = lenenc_int_of(rest)?;
-    let (_, rest) = lenenc_int_of(rest)?;
-    status_and_info_of(alloc, capabilities, 0, 0, rest)
+    buf.parse::<ConstU8<InvalidOkPacketHeader, 254>>(alloc, ())?;
+    buf.parse::<RawInt<LenEnc>>(alloc, ())?;
+    buf.parse::<RawInt<LenEnc>>(alloc, ())?;
+    status_and_info_of(alloc, capabilities, 0, 0, buf)
 }
 
 /// The EOF packet that ends columns or rows: fe, warnings and status. Refuses as `okay_of`.
 ///
 /// MySQL: Client/Server Protocol, "EOF_Packet".
 #[tactic(auto, unfolding(crate::specs::Packets::old_eof_at))]
-pub fn old_eof_of(bytes: &[u8]) -> Result<(OkPacket, &[u8]), WireError>
-    ensures { Gives (λ x. (okay_view x.0, x.1.now)) result (old_eof_at bytes.now) }
+pub fn old_eof_of(alloc: Global, buf: &mut ParseBuf) -> Result<OkPacket, WireError>
+    ensures { GivesPart okay_view buf.new.0.now result (old_eof_at buf.old.0.now) }
 {
-    let (_, rest) = constant_of(bytes, 254)?;
-    let (block, rest) = bytes_of(rest, 4)?;
-    let (warnings, block) = u16_of(block)?;
-    let (status_flags, _) = status_of(block)?;
-    let packet = OkPacket {
+    buf.parse::<ConstU8<InvalidOkPacketHeader, 254>>(alloc, ())?;
+    let mut block = buf.parse::<ParseBuf>(alloc, 4)?;
+    let warnings = block.parse::<RawInt<LeU16>>(alloc, ())?;
+    let status_flags = status_of(alloc, &mut block)?;
+    Ok(OkPacket {
         affected_rows: 0,
         last_insert_id: None,
         status_flags,
-        warnings,
+        warnings: warnings.0,
         info: None,
         session_state_info: None,
-    };
-    Ok((packet, rest))
+    })
 }

@@ -1,12 +1,12 @@
 //! Rows.
 
 ghost use Rattle.std.specs.Prelude.{◌≡◌, List, length, Ok};
-ghost use Rattle.mysql_packets.specs.Fields.{Gives};
-ghost use Rattle.mysql_packets.specs.Packets.{text_cell_at, text_cells_at};
+ghost use Rattle.mysql_wire.specs.Wire.{GivesPart};
+ghost use Rattle.mysql_wire.specs.Lists.{elements_at};
+ghost use Rattle.mysql_packets.specs.Packets.{text_cell_at};
 ghost use Rattle.mysql_packets.specs.Views.{cell_view, cell_views};
 
-use crate::fields::lenenc_bytes_of;
-use mysql_wire::WireError;
+use mysql_wire::{LenEnc, ParseBuf, ParseExt, RawBytes, WireError};
 use std::alloc::Global;
 
 /// What a cell holds.
@@ -20,17 +20,19 @@ pub enum Value {
 
 /// A cell of a text row.
 #[tactic(auto, unfolding(crate::specs::Packets::text_cell_at))]
-fn text_cell_of(alloc: Global, bytes: &[u8]) -> Result<(Value, &[u8]), WireError>
-    ensures { Gives (λ x. (cell_view x.0, x.1.now)) result (text_cell_at bytes.now) }
+fn text_cell_of(alloc: Global, buf: &mut ParseBuf) -> Result<Value, WireError>
+    ensures { GivesPart cell_view buf.new.0.now result (text_cell_at buf.old.0.now) }
 {
-    match bytes {
-        [] => Err(WireError::UnexpectedEof),
-        [251, rest @ ..] => Ok((Value::Null, rest)),
+    match buf.0 {
+        [251, rest @ ..] => {
+            *buf = ParseBuf(rest);
+            Ok(Value::Null)
+        }
         [255, ..] => Err(WireError::BadLength),
-        [_, ..] => {
-            let (text, rest) = lenenc_bytes_of(bytes)?;
-            let copy = Vec::from_slice(alloc, text)?;
-            Ok((Value::Bytes(copy), rest))
+        _ => {
+            let text = buf.parse::<RawBytes<LenEnc>>(alloc, ())?;
+            let copy = Vec::from_slice(alloc, text.0.as_slice())?;
+            Ok(Value::Bytes(copy))
         }
     }
 }
@@ -42,16 +44,14 @@ fn text_cell_of(alloc: Global, bytes: &[u8]) -> Result<(Value, &[u8]), WireError
 pub fn text_cells_of(
     alloc: Global,
     count: usize,
-    bytes: &[u8],
-) -> Result<(Vec<Value>, &[u8]), WireError>
-    ensures { Gives (λ x. (cell_views x.0.items, x.1.now)) result (text_cells_at count bytes.now) }
+    buf: &mut ParseBuf,
+) -> Result<Vec<Value>, WireError>
+    ensures { GivesPart (λ cells. cell_views cells.items) buf.new.0.now result (elements_at text_cell_at count buf.old.0.now) }
 {
     let mut cells = Vec::new(alloc);
-    let mut rest = bytes;
     for _ in 0..count {
-        let (cell, after) = text_cell_of(alloc, rest)?;
+        let cell = text_cell_of(alloc, buf)?;
         cells.push(cell)?;
-        rest = after;
     }
-    Ok((cells, rest))
+    Ok(cells)
 }

@@ -1,15 +1,24 @@
 //! Error packets and progress reports.
 
 ghost use Rattle.std.specs.Prelude.{◌≡◌, List, Ok, option_map};
-ghost use Rattle.mysql_packets.specs.Fields.{Gives};
+ghost use Rattle.mysql_wire.specs.Wire.{GivesPart};
 ghost use Rattle.mysql_packets.specs.Packets.{protocol_41, server_fault_at, report_at};
 ghost use Rattle.mysql_packets.specs.Views.{server_fault_view, report_view};
 
-use crate::fields::{bytes_of, constant_of, lenenc_bytes_of, u8_of, u16_of, u24_of};
 use bitflags::Flags;
 use mysql_const::CapabilityFlags;
-use mysql_wire::WireError;
+use mysql_wire::{
+    ConstU8, LeU16, LeU24, LenEnc, ParseBuf, ParseExt, RawBytes, RawInt, WireError,
+};
 use std::alloc::Global;
+
+/// Another byte than ff begins an error packet.
+#[derive(Clone, Copy, Debug, Default, PartialEq, Eq, Hash)]
+pub struct ErrPacketHeader;
+
+/// Another byte than `#` stands before the SQL state.
+#[derive(Clone, Copy, Debug, Default, PartialEq, Eq, Hash)]
+pub struct SqlStateMarker;
 
 /// An error that the server reports.
 ///
@@ -103,38 +112,26 @@ fn speaks_protocol_41(capabilities: CapabilityFlags) -> bool
 pub fn server_error_of(
     alloc: Global,
     capabilities: CapabilityFlags,
-    bytes: &[u8],
-) -> Result<(ServerError, &[u8]), WireError>
-    ensures { Gives (λ x. (server_fault_view x.0, x.1.now)) result (server_fault_at capabilities.0 bytes.now) }
+    buf: &mut ParseBuf,
+) -> Result<ServerError, WireError>
+    ensures { GivesPart server_fault_view buf.new.0.now result (server_fault_at capabilities.0 buf.old.0.now) }
 {
-    let (block, rest) = bytes_of(bytes, 3)?;
-    let (_, block) = constant_of(block, 255)?;
-    let (code, _) = u16_of(block)?;
-    if speaks_protocol_41(capabilities) {
-        let (_, rest) = constant_of(rest, 35)?;
-        let (state, rest) = bytes_of(rest, 5)?;
-        let state = Some(Vec::from_slice(alloc, state)?);
-        let message = Vec::from_slice(alloc, rest)?;
-        Ok((
-            ServerError {
-                code,
-                state,
-                message,
-            },
-            &[],
-        ))
+    let mut block = buf.parse::<ParseBuf>(alloc, 3)?;
+    block.parse::<ConstU8<ErrPacketHeader, 255>>(alloc, ())?;
+    let code = block.parse::<RawInt<LeU16>>(alloc, ())?;
+    let state = if speaks_protocol_41(capabilities) {
+        buf.parse::<ConstU8<SqlStateMarker, 35>>(alloc, ())?;
+        let state = buf.parse::<&[u8]>(alloc, 5)?;
+        Some(Vec::from_slice(alloc, state)?)
     } else {
-        let message = Vec::from_slice(alloc, rest)?;
-        let state = None;
-        Ok((
-            ServerError {
-                code,
-                state,
-                message,
-            },
-            &[],
-        ))
-    }
+        None
+    };
+    let message = Vec::from_slice(alloc, buf.eat_all())?;
+    Ok(ServerError {
+        code: code.0,
+        state,
+        message,
+    })
 }
 
 /// A progress report, whose first three bytes are ff ff ff: a count that is passed over, stage, number of stages,
@@ -142,22 +139,20 @@ pub fn server_error_of(
 ///
 /// MariaDB: Client/Server Protocol, "ERR_Packet", 'Progress report'.
 #[tactic(auto, unfolding(crate::specs::Packets::report_at))]
-pub fn report_of(alloc: Global, bytes: &[u8]) -> Result<(ProgressReport, &[u8]), WireError>
-    ensures { Gives (λ x. (report_view x.0, x.1.now)) result (report_at bytes.now) }
+pub fn report_of(alloc: Global, buf: &mut ParseBuf) -> Result<ProgressReport, WireError>
+    ensures { GivesPart report_view buf.new.0.now result (report_at buf.old.0.now) }
 {
-    let (_, rest) = bytes_of(bytes, 3)?;
-    let (block, rest) = bytes_of(rest, 6)?;
-    let (_, block) = u8_of(block)?;
-    let (stage, block) = u8_of(block)?;
-    let (max_stage, block) = u8_of(block)?;
-    let (progress, _) = u24_of(block)?;
-    let (info, rest) = lenenc_bytes_of(rest)?;
-    let stage_info = Vec::from_slice(alloc, info)?;
-    let report = ProgressReport {
-        stage,
-        max_stage,
-        progress,
-        stage_info,
-    };
-    Ok((report, rest))
+    buf.parse::<&[u8]>(alloc, 3)?;
+    let mut block = buf.parse::<ParseBuf>(alloc, 6)?;
+    block.parse::<RawInt<u8>>(alloc, ())?;
+    let stage = block.parse::<RawInt<u8>>(alloc, ())?;
+    let max_stage = block.parse::<RawInt<u8>>(alloc, ())?;
+    let progress = block.parse::<RawInt<LeU24>>(alloc, ())?;
+    let info = buf.parse::<RawBytes<LenEnc>>(alloc, ())?;
+    Ok(ProgressReport {
+        stage: stage.0,
+        max_stage: max_stage.0,
+        progress: progress.0,
+        stage_info: Vec::from_slice(alloc, info.0.as_slice())?,
+    })
 }

@@ -1,12 +1,16 @@
 //! Statement packets.
 
 ghost use Rattle.std.specs.Prelude.{◌≡◌, List, Ok};
-ghost use Rattle.mysql_packets.specs.Fields.{Gives};
-ghost use Rattle.mysql_packets.specs.Packets.{statement_at};
+ghost use Rattle.mysql_wire.specs.Wire.{GivesPart};
+ghost use Rattle.mysql_packets.specs.Packets.{statement_at, statement_fields_at};
 ghost use Rattle.mysql_packets.specs.Views.{statement_view};
 
-use crate::fields::{bytes_of, constant_of, u16_of, u32_of};
-use mysql_wire::WireError;
+use mysql_wire::{ConstU8, LeU16, LeU32, ParseBuf, ParseExt, RawInt, Skip, WireError};
+use std::alloc::Global;
+
+/// Another byte than 00 begins a statement packet.
+#[derive(Clone, Copy, Debug, Default, PartialEq, Eq, Hash)]
+pub struct InvalidStmtPacketStatus;
 
 /// A prepared statement: the first packet of the answer to COM_STMT_PREPARE.
 ///
@@ -49,25 +53,34 @@ impl StmtPacket {
     }
 }
 
-/// A statement packet. Refuses UnexpectedEof below twelve bytes, then BadConstant for another first byte than 00.
+#[tactic(auto, unfolding(crate::specs::Packets::statement_fields_at))]
+fn statement_fields(alloc: Global, buf: &mut ParseBuf) -> Result<StmtPacket, WireError>
+    ensures { GivesPart statement_view buf.new.0.now result (statement_fields_at buf.old.0.now) }
+{
+    buf.parse::<ConstU8<InvalidStmtPacketStatus, 0>>(alloc, ())?;
+    let statement_id = buf.parse::<RawInt<LeU32>>(alloc, ())?;
+    let num_columns = buf.parse::<RawInt<LeU16>>(alloc, ())?;
+    let num_params = buf.parse::<RawInt<LeU16>>(alloc, ())?;
+    buf.parse::<Skip<1>>(alloc, ())?;
+    let warning_count = buf.parse::<RawInt<LeU16>>(alloc, ())?;
+    Ok(StmtPacket {
+        statement_id: statement_id.0,
+        num_columns: num_columns.0,
+        num_params: num_params.0,
+        warning_count: warning_count.0,
+    })
+}
+
+/// A statement packet at the front of the bytes. Refuses UnexpectedEof below twelve bytes, then BadConstant for another
+/// first byte than 00.
 ///
 /// MySQL: Client/Server Protocol, "COM_STMT_PREPARE Response".
 #[tactic(auto, unfolding(crate::specs::Packets::statement_at))]
-pub fn statement_of(bytes: &[u8]) -> Result<(StmtPacket, &[u8]), WireError>
-    ensures { Gives (λ x. (statement_view x.0, x.1.now)) result (statement_at bytes.now) }
+pub fn statement_of(alloc: Global, buf: &mut ParseBuf) -> Result<StmtPacket, WireError>
+    ensures { GivesPart statement_view buf.new.0.now result (statement_at buf.old.0.now) }
 {
-    let (block, rest) = bytes_of(bytes, 12)?;
-    let (_, block) = constant_of(block, 0)?;
-    let (statement_id, block) = u32_of(block)?;
-    let (num_columns, block) = u16_of(block)?;
-    let (num_params, block) = u16_of(block)?;
-    let (_, block) = bytes_of(block, 1)?;
-    let (warning_count, _) = u16_of(block)?;
-    let packet = StmtPacket {
-        statement_id,
-        num_columns,
-        num_params,
-        warning_count,
-    };
-    Ok((packet, rest))
+    if buf.len() < 12 {
+        return Err(WireError::UnexpectedEof);
+    }
+    statement_fields(alloc, buf)
 }

@@ -51,21 +51,29 @@ impl<const N: usize> Readable for [u8; N] {
     {
         Some(N)
     }
+
+    fn is_too_short(len: usize) -> bool {
+        len < N
+    }
 }
 
 impl<const N: usize> ReadsBack for [u8; N] {
     ghost reads_back = { λ _ x rest is. bytes_at-back N x rest is };
 }
 
+#[tactic(auto, unfolding(mysql_buf::specs::Reading::first))]
 impl<'de, const N: usize> MyDeserialize<'de> for [u8; N] {
     fn deserialize(
         _alloc: Global,
         _ctx: (),
         buf: &mut ParseBuf<'de>,
     ) -> Result<[u8; N], WireError> {
-        match <[u8; N]>::try_from(buf.eat(N)) {
-            Ok(bytes) => Ok(bytes),
-            Err(_) => Err(WireError::UnexpectedEof),
+        match buf.0.split_first_chunk::<N>() {
+            Some((bytes, rest)) => {
+                *buf = ParseBuf(rest);
+                Ok(*bytes)
+            }
+            None => Err(WireError::UnexpectedEof),
         }
     }
 }

@@ -1,6 +1,7 @@
 //! Wire representations of texts.
 #![tactic(auto)]
 
+mod compared;
 mod texts;
 
 pub use crate::texts::{

@@ -118,6 +118,24 @@ impl<'a, T: BytesRepr> RawBytes<'a, T> {
     }
 }
 
+/// A borrowed text.
+impl<'a, T: BytesRepr> From<&'a [u8]> for RawBytes<'a, T> {
+    ghost from_gives = { λ text x. cow_slice_items x.0 ≡ text.now };
+
+    fn from(text: &'a [u8]) -> RawBytes<'a, T> {
+        RawBytes::new(CowSlice::Borrowed(text))
+    }
+}
+
+/// A text that is handed over.
+impl<T: BytesRepr> From<Vec<u8>> for RawBytes<'static, T> {
+    ghost from_gives = { λ text x. cow_slice_items x.0 ≡ text.items };
+
+    fn from(text: Vec<u8>) -> RawBytes<'static, T> {
+        RawBytes::new(CowSlice::Owned(text))
+    }
+}
+
 impl<'a, T: BytesRepr> MySerialize for RawBytes<'a, T> {
     ghost written = { λ x. T.written (cow_slice_items x.0) };
 

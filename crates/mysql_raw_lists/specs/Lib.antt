@@ -1,2 +1,3 @@
+pub mod ElementLaws
 pub mod ListLaws
 pub mod Lists

@@ -7,12 +7,11 @@ use mysql_raw_bytes::{
     BareBytes, BytesRepr, EofBytes, FixedLengthText, NullBytes, RawBytes, U8Bytes, U32Bytes,
 };
 use std::alloc::Global;
-use std::borrow::CowSlice;
 use std::process::Abort;
 
 // The bytes of a text in a representation, through its bound.
 fn text<T: BytesRepr>(rt: &impl Abort, alloc: Global, bytes: &[u8]) -> Vec<u8> {
-    let value: RawBytes<T> = RawBytes::new(CowSlice::Borrowed(bytes));
+    let value: RawBytes<T> = RawBytes::from(bytes);
     written(rt, alloc, &value)
 }
 
@@ -127,4 +126,17 @@ fn bytes_as_they_stand(rt: HostRuntime) {
         )
     );
     assert_eq!(rt; buf.len(), 1);
+}
+
+#[test]
+fn bytes_of_a_given_length(rt: HostRuntime) {
+    let alloc = rt.alloc();
+    let mut buf = ParseBuf(b"abcde");
+    let array = first_of::<[u8; 2]>(alloc, &mut buf);
+    assert!(rt; matches!(array, Ok([b'a', b'b'])));
+    let inner = buf.parse::<ParseBuf>(alloc, 2);
+    assert!(rt; matches!(inner, Ok(ParseBuf(b"cd"))));
+    assert!(rt; matches!(first_of::<[u8; 2]>(alloc, &mut buf), Err(WireError::UnexpectedEof)));
+    assert!(rt; matches!(buf.parse::<ParseBuf>(alloc, 2), Err(WireError::UnexpectedEof)));
+    assert_eq!(rt; buf.0, b"e".as_slice());
 }

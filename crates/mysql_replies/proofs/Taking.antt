@@ -12,7 +12,7 @@ use Rattle.mysql_replies.specs.declared.awaited.Awaited as code
 use Rattle.mysql_replies.specs.declared.awaited.Awaited.TheVariants as awaiting
 use Rattle.mysql_replies.specs.Grammar.{Payload, Outcome, Misfit, Wrong, Results, last, misfit, has_report_form, is_report, next, columns, columns_end, column_group, rows, result_set, one_result}
 use Rattle.mysql_replies.specs.Reply.{FaultAt, report_of, Columns, Nothing, rest_of, Progressing, GoingOn, Answered, Decides}
-use Rattle.mysql_packets.specs.Fields.{Reads}
+use Rattle.mysql_wire.specs.Wire.{Reading}
 use Rattle.mysql_packets.specs.Views.{report_view}
 use Rattle.mysql_replies.specs.declared.fault.ReplyFault.TheVariants.{Memory}
 use Rattle.mysql_replies.specs.declared.awaited.Stepped.TheVariants.{Failed}
@@ -103,7 +103,7 @@ pub step_failed : (before after : ReplyState) (same : code.Awaited) (payload : P
 step_failed before after same payload Memory going is step = tt
 step_failed before after same payload fault going is step = state_wrong before after same payload fault going is step.0 step.1
 
-or_fault_err : {A : Type 0} (fault name : ReplyFault) (read : Reads A) → or_fault name read ≡ Err fault → (is_ok read ≡ false) × (fault ≡ name)
+or_fault_err : {A : Type 0} (fault name : ReplyFault) (read : Reading A) → or_fault name read ≡ Err fault → (is_ok read ≡ false) × (fault ≡ name)
 or_fault_err fault name (Ok x) h = cc
 or_fault_err fault name (Err e) h = (refl, cc)
 
@@ -125,7 +125,7 @@ state_over before after payload going is none z rest answer h =
     subst (λ f. Decides (faulted (progressing_of before) f) (payload ∷ z) rest answer) (sym going)
     (went_over (progressing_of before) payload (ap awaited_view none) z rest answer k)
 
-or_fault_ok : (report : Report) (name : ReplyFault) (read : Reads Report) → or_fault name read ≡ Ok report → (is_ok read ≡ true) × (read_report read ≡ report ∷ [])
+or_fault_ok : (report : Report) (name : ReplyFault) (read : Reading Report) → or_fault name read ≡ Ok report → (is_ok read ≡ true) × (read_report read ≡ report ∷ [])
 or_fault_ok report name (Ok x) h = (refl, cc)
 or_fault_ok report name (Err e) h = cc
 

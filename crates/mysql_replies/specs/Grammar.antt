@@ -2,7 +2,8 @@
 -- MySQL: Client/Server Protocol, "COM_QUERY Response", "Text Resultset", "Binary Protocol Resultset" and
 -- "COM_STMT_PREPARE Response"; MariaDB: 'Progress report' of "ERR_Packet".
 use Rattle.std.specs.Prelude.{ℕ, zero, suc, List, [], ◌∷◌, ◌++◌, length, take, drop, Bool, true, false, Option, Some, None, Result, Ok, Err, nat_lt, ◌==◌, ◌&&◌, if◌then◌else◌, is_ok, bytes_eq}
-use Rattle.mysql_packets.specs.Fields.{Reads, lenenc_int_at}
+use Rattle.mysql_wire.specs.Forms.{lenenc_number_at}
+use Rattle.mysql_wire.specs.Wire.{Reading}
 use Rattle.mysql_packets.specs.Packets.{Okay, ServerFault, Statement, ColumnDefinition, Cell, okay_at, old_eof_at, result_set_terminator_at, server_fault_at, report_at, statement_at, column_at, text_row_at, binary_row_at, deprecate_eof, progress_obsolete, more_results_exist}
 use Rattle.mysql_replies.specs.declared.context.ReplyKind.{ReplyKind}
 use Rattle.mysql_replies.specs.declared.context.ReplyKind.TheVariants.{Binary, Prepare}
@@ -46,12 +47,12 @@ abbrev pub is_report : Context → Payload → Bool
 is_report c payload = has_report_form c payload && is_ok (report_at payload)
 
 -- What was read, whatever bytes follow it, or the fault of this name.
-abbrev pub or_fault : {A : Type 0} → ReplyFault → Reads A → Result A ReplyFault
+abbrev pub or_fault : {A : Type 0} → ReplyFault → Reading A → Result A ReplyFault
 or_fault fault (Ok x) = Ok x.0
 or_fault fault (Err e) = Err fault
 
 -- What was read, where no bytes follow it, or the fault of this name.
-abbrev pub whole_or_fault : {A : Type 0} → ReplyFault → Reads A → Result A ReplyFault
+abbrev pub whole_or_fault : {A : Type 0} → ReplyFault → Reading A → Result A ReplyFault
 whole_or_fault fault (Ok x) = if length x.1 == 0 then Ok x.0 else Err fault
 whole_or_fault fault (Err e) = Err fault
 
@@ -190,7 +191,7 @@ is_prepare Prepare = true
 is_prepare kind = false
 
 -- A count of columns: from 1 to 65535, and nothing after it.
-abbrev pub count_within : Reads ℕ → Result ℕ ReplyFault
+abbrev pub count_within : Reading ℕ → Result ℕ ReplyFault
 count_within (Ok n) = if nat_lt 0 n.0 && nat_lt n.0 65536 && length n.1 == 0 then Ok n.0 else Err BadCount
 count_within (Err e) = Err BadCount
 
@@ -203,7 +204,7 @@ opening c payload =
     else if begins_with 0 payload then map_ok OkOpening (or_fault BadOk (okay_at c.capabilities.0 payload))
     else if begins_with 251 payload then Ok (FileOpening (drop 1 payload))
     else if length payload == 0 then Err BadHeader
-    else map_ok CountOpening (count_within (lenenc_int_at payload))
+    else map_ok CountOpening (count_within (lenenc_number_at payload))
 
 -- A result after its first payload.
 abbrev pub after_opening : Context → Opening → List Payload → Part Stretch

@@ -2,7 +2,7 @@
 -- MySQL: Client/Server Protocol, "COM_QUERY Response" and "COM_STMT_PREPARE Response"; MariaDB: 'Progress report' of
 -- "ERR_Packet".
 use Rattle.std.specs.Prelude.{◌≡◌, ℕ, ◌+◌, ◌-◌, List, [], ◌∷◌, ◌++◌, length, take, false, Ok, Err, if◌then◌else◌}
-use Rattle.mysql_packets.specs.Fields.{Reads}
+use Rattle.mysql_wire.specs.Wire.{Reading}
 use Rattle.mysql_packets.specs.Packets.{Report, Statement, ColumnDefinition, Cell, report_at}
 use Rattle.mysql_replies.specs.declared.fault.ReplyFault.{ReplyFault}
 use Rattle.mysql_replies.specs.declared.fault.ReplyFault.TheVariants as faults
@@ -24,7 +24,7 @@ pub record Answer : Type 0 where
   pub end : End
 
 -- The progress report that a payload is.
-abbrev pub read_report : Reads Report → List Report
+abbrev pub read_report : Reading Report → List Report
 read_report (Ok x) = x.0 ∷ []
 read_report (Err e) = []
 

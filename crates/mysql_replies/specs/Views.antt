@@ -33,8 +33,8 @@ Gives view (Ok x) read = read ≡ Ok (view x)
 Gives view (Err e) read = Refuses e read
 
 -- What a packet's reader answered, where a refusal has this name.
-abbrev pub named : {X R : Type 0} → Result (X × R) WireError → ReplyFault → Result X ReplyFault
-named (Ok x) fault = Ok x.0
+abbrev pub named : {X : Type 0} → Result X WireError → ReplyFault → Result X ReplyFault
+named (Ok x) fault = Ok x
 named (Err wire.Memory) fault = Err Memory
 named (Err e) fault = Err fault
 

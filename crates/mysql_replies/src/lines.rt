@@ -15,7 +15,7 @@ use mysql_packets::column::{Column, column_of};
 use mysql_packets::okay::{OkPacket, old_eof_of, result_set_terminator_of};
 use mysql_packets::row::{Value, text_cells_of};
 use mysql_packets::server_fault::ServerError;
-use mysql_wire::WireError;
+use mysql_wire::{ParseBuf, WireError};
 use std::alloc::Global;
 
 /// What may stand in a row's place.
@@ -30,15 +30,21 @@ pub enum Line {
 pub fn column_packet(alloc: Global, payload: &[u8]) -> Result<Column, ReplyFault>
     ensures { Gives column_view result (column payload.now) }
 {
-    named_of(column_of(alloc, payload), ReplyFault::BadColumn)
+    named_of(
+        column_of(alloc, &mut ParseBuf(payload)),
+        ReplyFault::BadColumn,
+    )
 }
 
 /// The EOF packet.
-pub fn eof_packet(payload: &[u8]) -> Result<OkPacket, ReplyFault>
+pub fn eof_packet(alloc: Global, payload: &[u8]) -> Result<OkPacket, ReplyFault>
     ensures { Gives okay_view result (eof payload.now) }
 {
     if payload.len() < 9 {
-        named_of(old_eof_of(payload), ReplyFault::BadTerminator)
+        named_of(
+            old_eof_of(alloc, &mut ParseBuf(payload)),
+            ReplyFault::BadTerminator,
+        )
     } else {
         Err(ReplyFault::BadTerminator)
     }
@@ -62,11 +68,14 @@ fn terminator_packet(
 {
     if deprecates_eof(context.capabilities) {
         named_of(
-            result_set_terminator_of(alloc, context.capabilities, payload),
+            result_set_terminator_of(alloc, context.capabilities, &mut ParseBuf(payload)),
             ReplyFault::BadTerminator,
         )
     } else {
-        named_of(old_eof_of(payload), ReplyFault::BadTerminator)
+        named_of(
+            old_eof_of(alloc, &mut ParseBuf(payload)),
+            ReplyFault::BadTerminator,
+        )
     }
 }
 
@@ -90,9 +99,10 @@ fn text_row(
     requires { is_binary context.kind ≡ false }
     ensures { Gives (λ cells. cell_views cells.items) result (row context (column_views columns.now) payload.now) }
 {
-    match text_cells_of(alloc, columns.len(), payload) {
-        Ok((cells, rest)) => {
-            if rest.is_empty() {
+    let mut buf = ParseBuf(payload);
+    match text_cells_of(alloc, columns.len(), &mut buf) {
+        Ok(cells) => {
+            if buf.is_empty() {
                 Ok(cells)
             } else {
                 Err(ReplyFault::BadRow)

@@ -3,7 +3,7 @@
 ghost use Rattle.std.specs.Prelude.{◌≡◌, List, length, Ok, Err};
 ghost use Rattle.mysql_replies.specs.Grammar.{opening, or_fault, begins_with, is_prepare, count_within, map_ok};
 ghost use Rattle.mysql_packets.specs.Packets.{okay_at, server_fault_at, statement_at};
-ghost use Rattle.mysql_packets.specs.Fields.{lenenc_int_at};
+ghost use Rattle.mysql_wire.specs.Forms.{lenenc_number_at};
 ghost use Rattle.mysql_packets.specs.Views.{okay_view, server_fault_view, statement_view};
 ghost use Rattle.mysql_replies.specs.declared.fault.ReplyFault.TheVariants.{BadOk, BadError, BadPrepare};
 ghost use Rattle.mysql_replies.specs.Grammar as grammar;
@@ -12,11 +12,10 @@ ghost use Rattle.mysql_replies.specs.Views.{Gives, named, opening_view};
 use crate::context::{Context, ReplyKind};
 use crate::fault::ReplyFault;
 use mysql_const::CapabilityFlags;
-use mysql_packets::fields::lenenc_int_of;
 use mysql_packets::okay::{OkPacket, okay_of};
 use mysql_packets::server_fault::{ServerError, server_error_of};
 use mysql_packets::statement::{StmtPacket, statement_of};
-use mysql_wire::WireError;
+use mysql_wire::{ParseBuf, WireError};
 use std::alloc::Global;
 
 /// What the first payload of a result says.
@@ -30,14 +29,11 @@ pub enum Opening {
 }
 
 /// What was read, whatever bytes follow it, or the fault of this name.
-pub fn named_of<T: Drop>(
-    read: Result<(T, &[u8]), WireError>,
-    fault: ReplyFault,
-) -> Result<T, ReplyFault>
+pub fn named_of<T: Drop>(read: Result<T, WireError>, fault: ReplyFault) -> Result<T, ReplyFault>
     ensures { result ≡ named read.entry fault }
 {
     match read {
-        Ok((value, _)) => Ok(value),
+        Ok(value) => Ok(value),
         Err(WireError::Memory) => Err(ReplyFault::Memory),
         Err(_) => Err(fault),
     }
@@ -61,7 +57,10 @@ pub fn ok_packet(
 ) -> Result<OkPacket, ReplyFault>
     ensures { Gives okay_view result (or_fault BadOk (okay_at capabilities.0 payload.now)) }
 {
-    named_of(okay_of(alloc, capabilities, payload), ReplyFault::BadOk)
+    named_of(
+        okay_of(alloc, capabilities, &mut ParseBuf(payload)),
+        ReplyFault::BadOk,
+    )
 }
 
 /// An error packet.
@@ -73,28 +72,30 @@ pub fn error_packet(
     ensures { Gives server_fault_view result (or_fault BadError (server_fault_at capabilities.0 payload.now)) }
 {
     named_of(
-        server_error_of(alloc, capabilities, payload),
+        server_error_of(alloc, capabilities, &mut ParseBuf(payload)),
         ReplyFault::BadError,
     )
 }
 
 /// A statement packet.
-fn statement_packet(payload: &[u8]) -> Result<StmtPacket, ReplyFault>
+fn statement_packet(alloc: Global, payload: &[u8]) -> Result<StmtPacket, ReplyFault>
     ensures { Gives statement_view result (or_fault BadPrepare (statement_at payload.now)) }
 {
-    named_of(statement_of(payload), ReplyFault::BadPrepare)
+    named_of(
+        statement_of(alloc, &mut ParseBuf(payload)),
+        ReplyFault::BadPrepare,
+    )
 }
 
 /// A count of columns.
 fn column_count(payload: &[u8]) -> Result<u16, ReplyFault>
-    ensures { Gives (λ n. n) result (count_within (lenenc_int_at payload.now)) }
+    ensures { Gives (λ n. n) result (count_within (lenenc_number_at payload.now)) }
 {
-    let (count, rest) = match lenenc_int_of(payload) {
-        Ok(read) => read,
-        Err(WireError::Memory) => return Err(ReplyFault::Memory),
-        Err(_) => return Err(ReplyFault::BadCount),
+    let mut buf = ParseBuf(payload);
+    let Some(count) = buf.checked_eat_lenenc_int() else {
+        return Err(ReplyFault::BadCount);
     };
-    if count > 0 && count < 65536 && rest.is_empty() {
+    if count > 0 && count < 65536 && buf.is_empty() {
         Ok(count as u16)
     } else {
         Err(ReplyFault::BadCount)
@@ -119,7 +120,7 @@ pub fn opening_of(alloc: Global, context: Context, payload: &[u8]) -> Result<Ope
         Ok(Opening::Error(error))
     } else if prepares(context.kind) {
         if starts_with(payload, 0) {
-            let statement = statement_packet(payload)?;
+            let statement = statement_packet(alloc, payload)?;
             Ok(Opening::Statement(statement))
         } else {
             Err(ReplyFault::BadHeader)

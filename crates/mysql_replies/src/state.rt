@@ -20,6 +20,7 @@ use crate::steps::step;
 use bitflags::Flags;
 use mysql_const::CapabilityFlags;
 use mysql_packets::server_fault::{ProgressReport, report_of};
+use mysql_wire::ParseBuf;
 use std::alloc::Global;
 use std::mem;
 
@@ -57,7 +58,10 @@ pub fn is_report_like(context: Context, payload: &[u8]) -> bool
 fn progress_packet(alloc: Global, payload: &[u8]) -> Result<ProgressReport, ReplyFault>
     ensures { Gives report_view result (or_fault BadError (report_at payload.now)) }
 {
-    named_of(report_of(alloc, payload), ReplyFault::BadError)
+    named_of(
+        report_of(alloc, &mut ParseBuf(payload)),
+        ReplyFault::BadError,
+    )
 }
 
 impl ReplyState {

@@ -86,7 +86,7 @@ fn eof_step(alloc: Global, context: Context, these: Vec<Column>, payload: &[u8])
     requires settled { IsSettled context (reply.Columns 0 (column_views these.items)) }
     ensures { IsStep context (reply.Columns 0 (column_views these.items)) payload.now result }
 {
-    let _eof = match eof_packet(payload) {
+    let _eof = match eof_packet(alloc, payload) {
         Ok(eof) => eof,
         Err(fault) => return Stepped::Failed(Awaited::Columns { left: 0, these }, fault),
     };

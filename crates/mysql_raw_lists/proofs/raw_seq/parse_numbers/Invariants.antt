@@ -1,6 +1,6 @@
 use Rattle.std.proofs.Common.{◌≡◌, ◌-◌}
 use Rattle.mysql_raw_lists.specs.Lists.{elements_at}
-use Rattle.mysql_raw_lists.proofs.Elements.{with_front}
+use Rattle.mysql_raw_lists.specs.ElementLaws.{with_front}
 use Rattle.mysql_raw_lists.proofs.raw_seq.parse_numbers.Given as goal
 
 abbrev pub invariant-loop : goal.invariant-loop
