@@ -1,6 +1,7 @@
 -- Dates and times in their shortest form: the front of the whole form.
-use Rattle.std.proofs.Common.{◌≡◌, ℕ, ◌+◌, Bool, true, false, cond, List, [], ◌∷◌, ◌++◌, get_or, take, refl, ap, ◌∙◌, add-one}
+use Rattle.std.proofs.Common.{◌≡◌, ℕ, ◌+◌, Bool, true, false, cond, List, [], ◌∷◌, ◌++◌, get_or, take, refl, ap, ◌∙◌, add-one, if◌then◌else◌, is_ok, Result, Ok, Err}
 use Rattle.std.specs.Int.{w16, w32, from_bool, to_le_bytes}
+use Rattle.mysql_raw.specs.Wire.{Appends}
 use Rattle.mysql_cells.specs.Cells.{date_cell, date_size, time_cell, time_size}
 
 front_of : (n size : ℕ) (xs : List ℕ) → n ≡ size → take (n + 1) (size ∷ xs) ≡ size ∷ take size xs
@@ -25,3 +26,8 @@ time_front sign days hours minutes seconds micros n size negative ds us e is s d
     (λ i. take (n + 1) (size ∷ s i ∷ get_or (d i) 0 0 ∷ get_or (d i) 1 0 ∷ get_or (d i) 2 0 ∷ get_or (d i) 3 0 ∷ hours ∷ minutes ∷ seconds ∷ get_or (u i) 0 0 ∷ get_or (u i) 1 0 ∷ get_or (u i) 2 0 ∷ get_or (u i) 3 0 ∷ []))
     ∙ front_of n size (cond negative 1 0 ∷ to_le_bytes w32 days ++ hours ∷ minutes ∷ seconds ∷ to_le_bytes w32 micros) e
     ∙ ap (λ (k : ℕ). k ∷ take k (cond negative 1 0 ∷ to_le_bytes w32 days ++ hours ∷ minutes ∷ seconds ∷ to_le_bytes w32 micros)) is
+
+-- what is appended or refused
+pub appended : {E : Type 0} (r : Result (Unit {0}) E) (old new bytes : List ℕ) → new ≡ (if is_ok r then old ++ bytes else old) → Appends r old new bytes
+appended (Ok _) old new bytes e = e
+appended (Err _) old new bytes e = e

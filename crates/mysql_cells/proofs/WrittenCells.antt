@@ -1,43 +1,39 @@
 -- Cells: their lengths, and reading back what was written.
-use Rattle.std.proofs.Common.{◌≡◌, ℕ, ℤ, zero, suc, pos, ◌+◌, ◌^◌, ◌<◌, ◌==◌, Bool, true, false, cond, List, [], ◌∷◌, ◌++◌, length, take, refl, sym, ◌∙◌, ap, arith, append_assoc, length-append, Ok}
+use Rattle.std.proofs.Common.{◌≡◌, ℕ, ℤ, zero, suc, pos, ◌+◌, ◌^◌, ◌<◌, ◌==◌, Bool, true, false, cond, List, [], ◌∷◌, ◌++◌, length, take, refl, sym, ◌∙◌, ap, arith, Option, Ok}
 use Rattle.std.specs.Prelude.{nat_lt, ◌&&◌, not}
-use Rattle.std.specs.Int.{w16, w32, w64, to_le_bytes, cast_signed, cast_unsigned}
+use Rattle.std.specs.Int.{w64, cast_signed, cast_unsigned}
 use Rattle.std.proofs.Math.Facts.{Fits-of_z}
-use Rattle.std.proofs.lemmas.Bool.{eqb-true, le-ltb, lt-ltb, ltb-true}
+use Rattle.std.proofs.lemmas.Bool.{eqb-true, lt-ltb, ltb-true}
 use Rattle.std.proofs.lemmas.Int.{to_z-of_z}
-use Rattle.std.proofs.lemmas.List.{take_at, drop_at}
-use Rattle.std.proofs.lemmas.Nat.{from_le_bytes-to_le_bytes_4, from_le_bytes-to_le_bytes_8}
+use Rattle.byteorder.specs.Endian.{little_bytes, little_number}
+use Rattle.byteorder.specs.Numbers.{little_number-reads_back}
+use Rattle.mysql_buf.specs.FirstBytes.{first-enough}
+use Rattle.mysql_buf.specs.NumberLaws.{slice_at-append}
+use Rattle.mysql_buf.specs.Reading.{u8_str_at}
+use Rattle.mysql_buf.specs.TextLaws.{lenenc_str-reads_back}
+use Rattle.mysql_raw.specs.Laws.{little_at-back}
+use Rattle.mysql_raw.specs.Wire.{Reading, ◌>>=◌, or_end}
 use Rattle.mysql_cells.specs.CellLaws.{CellLength, CellsReadBack, ReadBackMeansTheSame}
-use Rattle.mysql_cells.specs.Cells.{cell_at, date_of, date_size, lenenc, lenenc_len, time_of, time_size, unsigned_value}
-use Rattle.mysql_cells.specs.Reading.{Reading, ◌>>=◌, bytes_at, counted_at, lenenc_at, little, number_at}
+use Rattle.mysql_cells.specs.Cells.{cell_at, date_of, date_size, time_of, time_size, unsigned_value}
 use Rattle.mysql_cells.specs.Values.{content_of, is_zero_time, plain_content}
 use Rattle.mysql_cells.specs.declared.value.Value.{Value}
 use Rattle.mysql_cells.specs.declared.value.Value.TheVariants.{NULL, Bytes, Int, UInt, Float, Double, Date, Time}
 
 -- LENGTHS
 
-lenenc_length : (n : ℕ) → length (lenenc n) ≡ lenenc_len n
-lenenc_length n = by (nat_lt n 251) (nat_lt n 0x1_0000) (nat_lt n 0x100_0000)
-  where
-    by : (a b c : Bool) → length (cond a (n ∷ []) (cond b (0xfc ∷ to_le_bytes w16 n) (cond c (0xfd ∷ take 3 (to_le_bytes w32 n)) (0xfe ∷ to_le_bytes w64 n)))) ≡ cond a 1 (cond b 3 (cond c 4 9))
-    by true b c = refl
-    by false true c = refl
-    by false false true = refl
-    by false false false = refl
-
 -- a date's fields
 date_fields : (year month day hour minute second micros : ℕ) → List ℕ
-date_fields year month day hour minute second micros = to_le_bytes w16 year ++ month ∷ day ∷ hour ∷ minute ∷ second ∷ to_le_bytes w32 micros
+date_fields year month day hour minute second micros = little_bytes 2 year ++ month ∷ day ∷ hour ∷ minute ∷ second ∷ little_bytes 4 micros
 
 -- a time's fields behind its sign
 time_fields : (sign days hours minutes seconds micros : ℕ) → List ℕ
-time_fields sign days hours minutes seconds micros = sign ∷ to_le_bytes w32 days ++ hours ∷ minutes ∷ seconds ∷ to_le_bytes w32 micros
+time_fields sign days hours minutes seconds micros = sign ∷ little_bytes 4 days ++ hours ∷ minutes ∷ seconds ∷ little_bytes 4 micros
 
 date_length : (year month day hour minute second micros : ℕ) → length (take (date_size year month day hour minute second micros) (date_fields year month day hour minute second micros)) ≡ date_size year month day hour minute second micros
 unfolding date_fields
 date_length year month day hour minute second micros = by (nat_lt 0 micros) (nat_lt 0 (hour + minute + second)) (nat_lt 0 (year + month + day))
   where
-    by : (a b c : Bool) → length (take (cond a 11 (cond b 7 (cond c 4 0))) (to_le_bytes w16 year ++ month ∷ day ∷ hour ∷ minute ∷ second ∷ to_le_bytes w32 micros)) ≡ cond a 11 (cond b 7 (cond c 4 0))
+    by : (a b c : Bool) → length (take (cond a 11 (cond b 7 (cond c 4 0))) (little_bytes 2 year ++ month ∷ day ∷ hour ∷ minute ∷ second ∷ little_bytes 4 micros)) ≡ cond a 11 (cond b 7 (cond c 4 0))
     by true b c = refl
     by false true c = refl
     by false false true = refl
@@ -47,7 +43,7 @@ time_length : (sign days hours minutes seconds micros : ℕ) → length (take (t
 unfolding time_fields
 time_length sign days hours minutes seconds micros = by (nat_lt 0 micros) (nat_lt 0 (days + hours + minutes + seconds))
   where
-    by : (a b : Bool) → length (take (cond a 12 (cond b 8 0)) (sign ∷ to_le_bytes w32 days ++ hours ∷ minutes ∷ seconds ∷ to_le_bytes w32 micros)) ≡ cond a 12 (cond b 8 0)
+    by : (a b : Bool) → length (take (cond a 12 (cond b 8 0)) (sign ∷ little_bytes 4 days ++ hours ∷ minutes ∷ seconds ∷ little_bytes 4 micros)) ≡ cond a 12 (cond b 8 0)
     by true b = refl
     by false true = refl
     by false false = refl
@@ -55,7 +51,7 @@ time_length sign days hours minutes seconds micros = by (nat_lt 0 micros) (nat_l
 pub cell_length : CellLength
 unfolding date_fields time_fields
 cell_length NULL = refl
-cell_length (Bytes bytes) = length-append (lenenc (length bytes)) bytes ∙ ap (λ (n : ℕ). n + length bytes) (lenenc_length (length bytes))
+cell_length (Bytes bytes) = refl
 cell_length (Int z) = refl
 cell_length (UInt n) = refl
 cell_length (Float bits) = refl
@@ -65,48 +61,22 @@ cell_length (Time negative days hours minutes seconds micros) = let e = time_len
 
 -- NUMBERS
 
-little_2 : (n : ℕ) → n < 2 ^ 16 → little (to_le_bytes w16 n) ≡ n
-little_2 n h = omega arith
+little_2 : (n : ℕ) → n < 2 ^ 16 → little_number 2 (little_bytes 2 n) ≡ n
+little_2 n h = little_number-reads_back 2 n [] (omega arith)
 
-little_4 : (n : ℕ) → n < 2 ^ 32 → little (to_le_bytes w32 n) ≡ n
-little_4 n h = omega (arith, from_le_bytes-to_le_bytes_4 n h)
+little_4 : (n : ℕ) → n < 2 ^ 32 → little_number 4 (little_bytes 4 n) ≡ n
+little_4 n h = little_number-reads_back 4 n [] (omega arith)
 
-little_3 : (n : ℕ) → n < 2 ^ 24 → little (take 3 (to_le_bytes w32 n)) ≡ n
-little_3 n h = omega (arith, little_4 n (omega arith))
-
-little_8 : (n : ℕ) → n < 2 ^ 64 → little (to_le_bytes w64 n) ≡ n
-little_8 n h = omega (arith, from_le_bytes-to_le_bytes_8 n h)
-
-enough : (k : ℕ) (xs rest : List ℕ) → length xs ≡ k → nat_lt (length (xs ++ rest)) k ≡ false
-enough k xs rest e = le-ltb (length (xs ++ rest)) k (omega (arith, length-append xs rest))
-
--- a number that stands first
-number_back : (k n : ℕ) (xs rest : List ℕ) → length xs ≡ k → little xs ≡ n → number_at k (xs ++ rest) ≡ Ok (n, rest)
-number_back k n xs rest e is = rw (enough k xs rest e, take_at xs rest k e, drop_at xs rest k e, is) refl
-
--- bytes that stand first
-bytes_back : (k : ℕ) (xs rest : List ℕ) → length xs ≡ k → bytes_at k (xs ++ rest) ≡ Ok (xs, rest)
-bytes_back k xs rest e = rw (enough k xs rest e, take_at xs rest k e, drop_at xs rest k e) refl
-
-lenenc_back : (n : ℕ) (rest : List ℕ) → n < 2 ^ 64 → lenenc_at (lenenc n ++ rest) ≡ Ok (n, rest)
-lenenc_back n rest h = by (nat_lt n 251) (nat_lt n 0x1_0000) (nat_lt n 0x100_0000) refl refl refl
-  where
-    by : (a b c : Bool) → nat_lt n 251 ≡ a → nat_lt n 0x1_0000 ≡ b → nat_lt n 0x100_0000 ≡ c →
-        lenenc_at (cond a (n ∷ []) (cond b (0xfc ∷ to_le_bytes w16 n) (cond c (0xfd ∷ take 3 (to_le_bytes w32 n)) (0xfe ∷ to_le_bytes w64 n))) ++ rest) ≡ Ok (n, rest)
-    by true b c e f g = rw e refl
-    by false true c e f g = number_back 2 n (to_le_bytes w16 n) rest refl (little_2 n (ltb-true n 0x1_0000 f))
-    by false false true e f g = number_back 3 n (take 3 (to_le_bytes w32 n)) rest refl (little_3 n (ltb-true n 0x100_0000 g))
-    by false false false e f g = number_back 8 n (to_le_bytes w64 n) rest refl (little_8 n h)
-
-counted_back : (bytes rest : List ℕ) → length bytes < 2 ^ 64 → counted_at ((lenenc (length bytes) ++ bytes) ++ rest) ≡ Ok (bytes, rest)
-counted_back bytes rest h =
-    ap (λ (xs : List ℕ). counted_at xs) (append_assoc (lenenc (length bytes)) bytes rest)
-    ∙ ap (λ (r : Reading ℕ). r >>= (λ (n : ℕ × List ℕ). bytes_at n.0 n.1)) (lenenc_back (length bytes) (bytes ++ rest) h)
-    ∙ bytes_back (length bytes) bytes rest refl
+-- a length byte, and so many bytes
+counted_back : (size : ℕ) (text rest : List ℕ) → length text ≡ size → or_end (u8_str_at (size ∷ (text ++ rest))) ≡ Ok (text, rest)
+counted_back size text rest e =
+    let one = first-enough 1 (little_number 1) (size ∷ (text ++ rest)) (omega arith) in
+    let n : little_number 1 (size ∷ (text ++ rest)) ≡ length text = omega (arith, e) in
+    rw (one, n) (ap or_end (slice_at-append text rest))
 
 -- DATES AND TIMES
 
-one_byte : (b : ℕ) → little (b ∷ []) ≡ b
+one_byte : (b : ℕ) → little_number 1 (b ∷ []) ≡ b
 one_byte b = omega arith
 
 not_above : (n : ℕ) → nat_lt 0 n ≡ false → n ≡ 0
@@ -119,7 +89,7 @@ unfolding date_fields
 date_back year month day hour minute second micros hy hm = by (nat_lt 0 micros) (nat_lt 0 (hour + minute + second)) (nat_lt 0 (year + month + day)) refl refl refl
   where
     by : (a b c : Bool) → nat_lt 0 micros ≡ a → nat_lt 0 (hour + minute + second) ≡ b → nat_lt 0 (year + month + day) ≡ c →
-        date_of (take (cond a 11 (cond b 7 (cond c 4 0))) (to_le_bytes w16 year ++ month ∷ day ∷ hour ∷ minute ∷ second ∷ to_le_bytes w32 micros)) ≡ Date year month day hour minute second micros
+        date_of (take (cond a 11 (cond b 7 (cond c 4 0))) (little_bytes 2 year ++ month ∷ day ∷ hour ∷ minute ∷ second ∷ little_bytes 4 micros)) ≡ Date year month day hour minute second micros
     by true b c e f g = λ i. Date (little_2 year hy i) (one_byte month i) (one_byte day i) (one_byte hour i) (one_byte minute i) (one_byte second i) (little_4 micros hm i)
     by false true c e f g =
         let m : 0 ≡ micros = sym (not_above micros e) in
@@ -154,7 +124,7 @@ some_part days hours minutes seconds micros some = by (days == 0) (hours == 0) (
     by true true true true false p q r s t = refl
     by true true true true true p q r s t = absurd (omega (arith, eqb-true days 0 p, eqb-true hours 0 q, eqb-true minutes 0 r, eqb-true seconds 0 s, eqb-true micros 0 t, some))
 
-sign_kept : (negative z : Bool) → z ≡ false → (little (cond negative 1 0 ∷ []) == 1) ≡ (negative && not z)
+sign_kept : (negative z : Bool) → z ≡ false → (little_number 1 (cond negative 1 0 ∷ []) == 1) ≡ (negative && not z)
 sign_kept true z e = rw e refl
 sign_kept false z e = refl
 
@@ -171,7 +141,7 @@ time_back negative days hours minutes seconds micros hd hm = by (nat_lt 0 micros
     zero_time = is_zero_time days hours minutes seconds micros
 
     by : (a b : Bool) → nat_lt 0 micros ≡ a → nat_lt 0 (days + hours + minutes + seconds) ≡ b →
-        time_of (take (cond a 12 (cond b 8 0)) (cond negative 1 0 ∷ to_le_bytes w32 days ++ hours ∷ minutes ∷ seconds ∷ to_le_bytes w32 micros)) ≡ Time (negative && not (is_zero_time days hours minutes seconds micros)) days hours minutes seconds micros
+        time_of (take (cond a 12 (cond b 8 0)) (cond negative 1 0 ∷ little_bytes 4 days ++ hours ∷ minutes ∷ seconds ∷ little_bytes 4 micros)) ≡ Time (negative && not (is_zero_time days hours minutes seconds micros)) days hours minutes seconds micros
     by true b e f =
         let z = some_part days hours minutes seconds micros (omega (arith, ltb-true 0 micros e)) in
         let sign = sign_kept negative (is_zero_time days hours minutes seconds micros) z in
@@ -197,19 +167,19 @@ time_back negative days hours minutes seconds micros hd hm = by (nat_lt 0 micros
 pub cells_read_back : CellsReadBack
 unfolding cell_at date_fields time_fields
 cells_read_back NULL rest h = refl
-cells_read_back (Bytes bytes) rest h = ap (λ (r : Reading (List ℕ)). r >>= (λ (x : List ℕ × List ℕ). Ok (Bytes x.0, x.1))) (counted_back bytes rest h.1)
+cells_read_back (Bytes bytes) rest h = ap (λ (r : Option (List ℕ × List ℕ)). or_end r >>= (λ (x : List ℕ × List ℕ). Ok (Bytes x.0, x.1))) (lenenc_str-reads_back bytes rest h.1)
 cells_read_back (Int z) rest h =
-    let below : cast_unsigned w64 z < 2 ^ 64 = omega (arith, Fits-of_z {w = w64} {z = z} h) in
-    ap (λ (r : Reading ℕ). r >>= (λ (x : ℕ × List ℕ). Ok (Int (cast_signed w64 x.0), x.1))) (number_back 8 (cast_unsigned w64 z) (to_le_bytes w64 (cast_unsigned w64 z)) rest refl (little_8 (cast_unsigned w64 z) below))
+    let below : cast_unsigned w64 z < 256 ^ 8 = omega (arith, Fits-of_z {w = w64} {z = z} h) in
+    ap (λ (r : Reading ℕ). r >>= (λ (x : ℕ × List ℕ). Ok (Int (cast_signed w64 x.0), x.1))) (little_at-back 8 (cast_unsigned w64 z) rest below)
     ∙ ap (λ (n : ℤ). Ok (Int n, rest)) (to_z-of_z w64 z h)
-cells_read_back (UInt n) rest h = ap (λ (r : Reading ℕ). r >>= (λ (x : ℕ × List ℕ). Ok (unsigned_value x.0, x.1))) (number_back 8 n (to_le_bytes w64 n) rest refl (little_8 n h))
-cells_read_back (Float bits) rest h = ap (λ (r : Reading ℕ). r >>= (λ (x : ℕ × List ℕ). Ok (Float x.0, x.1))) (number_back 4 bits (to_le_bytes w32 bits) rest refl (little_4 bits h))
-cells_read_back (Double bits) rest h = ap (λ (r : Reading ℕ). r >>= (λ (x : ℕ × List ℕ). Ok (Double x.0, x.1))) (number_back 8 bits (to_le_bytes w64 bits) rest refl (little_8 bits h))
+cells_read_back (UInt n) rest h = ap (λ (r : Reading ℕ). r >>= (λ (x : ℕ × List ℕ). Ok (unsigned_value x.0, x.1))) (little_at-back 8 n rest (omega (arith, h)))
+cells_read_back (Float bits) rest h = ap (λ (r : Reading ℕ). r >>= (λ (x : ℕ × List ℕ). Ok (Float x.0, x.1))) (little_at-back 4 bits rest (omega (arith, h)))
+cells_read_back (Double bits) rest h = ap (λ (r : Reading ℕ). r >>= (λ (x : ℕ × List ℕ). Ok (Double x.0, x.1))) (little_at-back 8 bits rest (omega (arith, h)))
 cells_read_back (Date year month day hour minute second micros) rest h =
-    ap (λ (r : Reading (List ℕ)). r >>= (λ (x : List ℕ × List ℕ). Ok (date_of x.0, x.1))) (bytes_back (date_size year month day hour minute second micros) (take (date_size year month day hour minute second micros) (date_fields year month day hour minute second micros)) rest (date_length year month day hour minute second micros))
+    ap (λ (r : Reading (List ℕ)). r >>= (λ (x : List ℕ × List ℕ). Ok (date_of x.0, x.1))) (counted_back (date_size year month day hour minute second micros) (take (date_size year month day hour minute second micros) (date_fields year month day hour minute second micros)) rest (date_length year month day hour minute second micros))
     ∙ ap (λ (v : Value). Ok (v, rest)) (date_back year month day hour minute second micros h.0 h.6)
 cells_read_back (Time negative days hours minutes seconds micros) rest h =
-    ap (λ (r : Reading (List ℕ)). r >>= (λ (x : List ℕ × List ℕ). Ok (time_of x.0, x.1))) (bytes_back (time_size days hours minutes seconds micros) (take (time_size days hours minutes seconds micros) (time_fields (cond negative 1 0) days hours minutes seconds micros)) rest (time_length (cond negative 1 0) days hours minutes seconds micros))
+    ap (λ (r : Reading (List ℕ)). r >>= (λ (x : List ℕ × List ℕ). Ok (time_of x.0, x.1))) (counted_back (time_size days hours minutes seconds micros) (take (time_size days hours minutes seconds micros) (time_fields (cond negative 1 0) days hours minutes seconds micros)) rest (time_length (cond negative 1 0) days hours minutes seconds micros))
     ∙ ap (λ (v : Value). Ok (v, rest)) (time_back negative days hours minutes seconds micros h.0 h.4)
 
 without_sign : (n : ℕ) (b : Bool) → content_of (cond b (Int (pos n)) (UInt n)) ≡ content_of (UInt n)

@@ -1,28 +1,24 @@
 -- Cells of the binary protocol, as they are written and read, and cells of the text protocol.
--- MySQL: Client/Server Protocol, "Binary Protocol Value", "Protocol::LengthEncodedInteger", "Text Resultset Row".
+-- MySQL: Client/Server Protocol, "Binary Protocol Value", "Protocol::LengthEncodedInteger", "Text Resultset Row", "Column Definition Flags".
 use Rattle.std.specs.Prelude.{ℕ, pos, ◌+◌, ◌^◌, Bool, true, false, List, [], ◌∷◌, ◌++◌, length, take, drop, Ok, Err, nat_lt, ◌==◌, if◌then◌else◌}
-use Rattle.std.specs.Int.{Width, w8, w16, w32, w64, cast_signed, cast_unsigned, to_le_bytes}
+use Rattle.std.specs.Int.{Width, w8, w16, w32, w64, cast_signed, cast_unsigned}
+use Rattle.std.specs.Int.RustNames.{bit_and}
 use Rattle.std.specs.List.{list_any}
+use Rattle.byteorder.specs.Endian.{little_bytes, little_number}
+use Rattle.mysql_buf.specs.Reading.{lenenc_str_at, u8_str_at}
+use Rattle.mysql_buf.specs.Writing.{lenenc_str}
+use Rattle.mysql_const.specs.ColumnTypes.{column_type_number}
+use Rattle.mysql_const.specs.declared.column_flags.ColumnFlags.{ColumnFlags}
+use Rattle.mysql_const.specs.declared.column_type.ColumnType.{ColumnType}
+use Rattle.mysql_raw.specs.Forms.{little_at}
+use Rattle.mysql_raw.specs.Wire.{Reading, ◌>>=◌, or_end}
 use Rattle.mysql_raw.specs.declared.error.WireError.TheVariants.{UnexpectedEof, BadLength, UnsupportedType}
 use Rattle.mysql_cells.specs.declared.value.Value.{Value}
 use Rattle.mysql_cells.specs.declared.value.Value.TheVariants.{NULL, Bytes, Int, UInt, Float, Double, Date, Time}
 use Rattle.mysql_cells.specs.declared.cell_form.CellForm.{CellForm}
 use Rattle.mysql_cells.specs.declared.cell_form.CellForm.TheVariants.{Nothing, Whole1, Whole2, Whole4, Whole8, FloatBits, DoubleBits, Counted, DateAndTime, Duration, Without}
-use Rattle.mysql_cells.specs.Reading.{Reading, ◌>>=◌, little, number_at, counted_at, short_at}
 
 -- WRITING
-
--- a length-encoded number, in its shortest form
-abbrev pub lenenc : ℕ → List ℕ
-lenenc n =
-    if nat_lt n 251 then n ∷ []
-    else if nat_lt n 0x1_0000 then 0xfc ∷ to_le_bytes w16 n
-    else if nat_lt n 0x100_0000 then 0xfd ∷ take 3 (to_le_bytes w32 n)
-    else 0xfe ∷ to_le_bytes w64 n
-
--- the bytes of a length-encoded number
-abbrev pub lenenc_len : ℕ → ℕ
-lenenc_len n = if nat_lt n 251 then 1 else if nat_lt n 0x1_0000 then 3 else if nat_lt n 0x100_0000 then 4 else 9
 
 -- the fewest bytes that keep a date: none for all zeros, 4 for a day, 7 with a time of day, 11 with microseconds
 abbrev pub date_size : (year month day hour minute second micros : ℕ) → ℕ
@@ -43,29 +39,29 @@ time_size days hours minutes seconds micros =
 abbrev pub date_cell : (year month day hour minute second micros : ℕ) → List ℕ
 date_cell year month day hour minute second micros =
     let size = date_size year month day hour minute second micros in
-    size ∷ take size (to_le_bytes w16 year ++ month ∷ day ∷ hour ∷ minute ∷ second ∷ to_le_bytes w32 micros)
+    size ∷ take size (little_bytes 2 year ++ month ∷ day ∷ hour ∷ minute ∷ second ∷ little_bytes 4 micros)
 
 -- the cell of a time: how many bytes follow, and so many of its fields, of which the first is 1 for a negative one
 abbrev pub time_cell : Bool → (days hours minutes seconds micros : ℕ) → List ℕ
 time_cell negative days hours minutes seconds micros =
     let size = time_size days hours minutes seconds micros in
-    size ∷ take size ((if negative then 1 else 0) ∷ to_le_bytes w32 days ++ hours ∷ minutes ∷ seconds ∷ to_le_bytes w32 micros)
+    size ∷ take size ((if negative then 1 else 0) ∷ little_bytes 4 days ++ hours ∷ minutes ∷ seconds ∷ little_bytes 4 micros)
 
 -- the cell of a value by its own type
 abbrev pub cell : Value → List ℕ
 cell NULL = []
-cell (Bytes bytes) = lenenc (length bytes) ++ bytes
-cell (Int z) = to_le_bytes w64 (cast_unsigned w64 z)
-cell (UInt n) = to_le_bytes w64 n
-cell (Float bits) = to_le_bytes w32 bits
-cell (Double bits) = to_le_bytes w64 bits
+cell (Bytes bytes) = lenenc_str bytes
+cell (Int z) = little_bytes 8 (cast_unsigned w64 z)
+cell (UInt n) = little_bytes 8 n
+cell (Float bits) = little_bytes 4 bits
+cell (Double bits) = little_bytes 8 bits
 cell (Date year month day hour minute second micros) = date_cell year month day hour minute second micros
 cell (Time negative days hours minutes seconds micros) = time_cell negative days hours minutes seconds micros
 
 -- the bytes of a value's cell
 abbrev pub bin_len : Value → ℕ
 bin_len NULL = 0
-bin_len (Bytes bytes) = lenenc_len (length bytes) + length bytes
+bin_len (Bytes bytes) = length (lenenc_str bytes)
 bin_len (Int z) = 8
 bin_len (UInt n) = 8
 bin_len (Float bits) = 4
@@ -126,7 +122,7 @@ whole_value w unsigned n = if unsigned then unsigned_value n else Int (cast_sign
 
 -- the n bytes from i on, as a number; 0 where the cell has fewer bytes than a part of this kind asks for
 abbrev pub part : List ℕ → ℕ → ℕ → ℕ → ℕ
-part held least i n = if nat_lt (length held) least then 0 else little (take n (drop i held))
+part held least i n = if nat_lt (length held) least then 0 else little_number n (drop i held)
 
 -- a date from 4 bytes on, with a time of day from 7 on and microseconds from 11 on
 abbrev pub date_of : List ℕ → Value
@@ -139,7 +135,7 @@ time_of held = Time (part held 8 0 1 == 1) (part held 8 1 4) (part held 8 5 1) (
 -- a number of so many bytes, as a value
 abbrev pub number_value_at : ℕ → (ℕ → Value) → List ℕ → Reading Value
 number_value_at n made bytes = do
-  x ← number_at n bytes
+  x ← little_at n bytes
   Ok (made x.0, x.1)
 
 -- the value that a form's cell holds, and the bytes after it
@@ -152,19 +148,27 @@ value_at Whole8 unsigned bytes = number_value_at 8 (whole_value w64 unsigned) by
 value_at FloatBits unsigned bytes = number_value_at 4 (λ n. Float n) bytes
 value_at DoubleBits unsigned bytes = number_value_at 8 (λ n. Double n) bytes
 value_at Counted unsigned bytes = do
-  held ← counted_at bytes
+  held ← or_end (lenenc_str_at bytes)
   Ok (Bytes held.0, held.1)
 value_at DateAndTime unsigned bytes = do
-  held ← short_at bytes
+  held ← or_end (u8_str_at bytes)
   Ok (date_of held.0, held.1)
 value_at Duration unsigned bytes = do
-  held ← short_at bytes
+  held ← or_end (u8_str_at bytes)
   Ok (time_of held.0, held.1)
 value_at Without unsigned bytes = Err UnsupportedType
 
 -- By a type's number and whether it is unsigned, the value of the cell that stands first, and the bytes after it.
 unfoldable pub cell_at : ℕ → Bool → List ℕ → Reading Value
 cell_at t unsigned bytes = value_at (form_of t) unsigned bytes
+
+-- whether a column's whole numbers have no sign
+abbrev pub has_no_sign : ColumnFlags → Bool
+has_no_sign flags = bit_and flags.0 0x20 == 0x20
+
+-- the value of the cell that stands first, by its column's type and flags
+abbrev pub column_cell_at : ColumnType × ColumnFlags → List ℕ → Reading Value
+column_cell_at column bytes = cell_at (column_type_number column.0) (has_no_sign column.1) bytes
 
 -- The value of the text protocol's cell that stands first: fb for NULL, else length-encoded bytes, whose length ff can't begin.
 unfoldable pub text_cell_at : List ℕ → Reading Value
@@ -173,5 +177,5 @@ text_cell_at (b ∷ bytes) =
     if b == 251 then Ok (NULL, bytes)
     else if b == 255 then Err BadLength
     else do
-      held ← counted_at (b ∷ bytes)
+      held ← or_end (lenenc_str_at (b ∷ bytes))
       Ok (Bytes held.0, held.1)

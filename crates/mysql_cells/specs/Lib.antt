@@ -1,6 +1,9 @@
 pub use Rattle.mysql_buf.specs.Bytes
+pub use Rattle.mysql_buf.specs.Reading
+pub use Rattle.mysql_buf.specs.Writing
+pub use Rattle.mysql_raw.specs.Forms
+pub use Rattle.mysql_raw.specs.Wire
 pub mod Values
 pub mod AsSql
-pub mod Reading
 pub mod Cells
 pub mod CellLaws

@@ -6,6 +6,7 @@ ghost use Rattle.mysql_cells.specs.Cells.{date_of, form_of, part, time_of, unsig
 
 use crate::cell_form::CellForm;
 use crate::value::Value;
+use byteorder::{ByteOrder, LittleEndian};
 
 /// The form of a type's cells.
 pub fn form(number: u8) -> CellForm
@@ -95,11 +96,7 @@ fn part1(cell: &[u8], least: usize, at: usize) -> u8
     if cell.len() < least {
         return 0;
     }
-    let (_, from) = cell.split_at(at);
-    match from {
-        [first, ..] => *first,
-        [] => 0,
-    }
+    cell[at..][0]
 }
 
 /// The two bytes at a place of a cell.
@@ -110,9 +107,7 @@ fn part2(cell: &[u8], least: usize, at: usize) -> u16
     if cell.len() < least {
         return 0;
     }
-    let (_, from) = cell.split_at(at);
-    let (number, _) = from.split_at(2);
-    u16::from_le_bytes([number[0], number[1]])
+    LittleEndian::read_u16(&cell[at..])
 }
 
 /// The four bytes at a place of a cell.
@@ -123,9 +118,7 @@ fn part4(cell: &[u8], least: usize, at: usize) -> u32
     if cell.len() < least {
         return 0;
     }
-    let (_, from) = cell.split_at(at);
-    let (number, _) = from.split_at(4);
-    u32::from_le_bytes([number[0], number[1], number[2], number[3]])
+    LittleEndian::read_u32(&cell[at..])
 }
 
 /// The date in a cell.

@@ -1,24 +1,10 @@
 //! Cells as they are written.
 
-ghost use Rattle.mysql_cells.specs.Cells.{date_cell, date_size, lenenc, lenenc_len, time_cell, time_size};
-ghost use Rattle.std.specs.Prelude.{◌≡◌, ◌++◌, if◌then◌else◌, is_ok, length};
+ghost use Rattle.mysql_cells.specs.Cells.{date_cell, date_size, time_cell, time_size};
+ghost use Rattle.mysql_raw.specs.Wire.{Appends};
+ghost use Rattle.std.specs.Prelude.{◌≡◌};
 
 use std::alloc::AllocError;
-
-/// The bytes of a length-encoded number.
-pub fn lenenc_len(number: u64) -> u64
-    ensures { result ≡ lenenc_len number }
-{
-    if number < 251 {
-        1
-    } else if number < 0x1_0000 {
-        3
-    } else if number < 0x100_0000 {
-        4
-    } else {
-        9
-    }
-}
 
 /// The fewest bytes that keep a date.
 pub fn date_size(year: u16, month: u8, day: u8, hour: u8, minute: u8, second: u8, micros: u32) -> u8
@@ -48,38 +34,6 @@ pub fn time_size(days: u32, hours: u8, minutes: u8, seconds: u8, micros: u32) ->
     }
 }
 
-/// Appends a length-encoded number in its shortest form.
-fn put_lenenc(number: u64, out: &mut Vec<u8>) -> Result<(), AllocError>
-    ensures { out.new.items ≡ (if is_ok result then out.old.items ++ lenenc number else out.old.items) }
-{
-    if number < 251 {
-        out.extend_from_slice(&[number as u8])
-    } else if number < 0x1_0000 {
-        let [low, high] = (number as u16).to_le_bytes();
-        out.extend_from_slice(&[0xfc, low, high])
-    } else if number < 0x100_0000 {
-        let [low, middle, high, _] = (number as u32).to_le_bytes();
-        out.extend_from_slice(&[0xfd, low, middle, high])
-    } else {
-        let [a, b, c, d, e, f, g, h] = number.to_le_bytes();
-        out.extend_from_slice(&[0xfe, a, b, c, d, e, f, g, h])
-    }
-}
-
-/// Appends bytes behind their length.
-#[tactic(auto, using(crate::proofs::Appended::kept_behind))]
-pub fn put_counted(bytes: &[u8], out: &mut Vec<u8>) -> Result<(), AllocError>
-    ensures { out.new.items ≡ (if is_ok result then out.old.items ++ (lenenc (length bytes.now) ++ bytes.now) else out.old.items) }
-{
-    let start = out.len();
-    put_lenenc(bytes.len() as u64, out)?;
-    let put = out.extend_from_slice(bytes);
-    if put.is_err() {
-        out.truncate(start);
-    }
-    put
-}
-
 /// Appends a date in its shortest form.
 pub fn put_date(
     year: u16,
@@ -91,7 +45,7 @@ pub fn put_date(
     micros: u32,
     out: &mut Vec<u8>,
 ) -> Result<(), AllocError>
-    ensures { out.new.items ≡ (if is_ok result then out.old.items ++ date_cell year month day hour minute second micros else out.old.items) }
+    ensures { Appends result out.old.items out.new.items (date_cell year month day hour minute second micros) }
 {
     let size = date_size(year, month, day, hour, minute, second, micros);
     let [y0, y1] = year.to_le_bytes();
@@ -113,7 +67,7 @@ pub fn put_time(
     micros: u32,
     out: &mut Vec<u8>,
 ) -> Result<(), AllocError>
-    ensures { out.new.items ≡ (if is_ok result then out.old.items ++ time_cell negative days hours minutes seconds micros else out.old.items) }
+    ensures { Appends result out.old.items out.new.items (time_cell negative days hours minutes seconds micros) }
 {
     let size = time_size(days, hours, minutes, seconds, micros);
     let [d0, d1, d2, d3] = days.to_le_bytes();

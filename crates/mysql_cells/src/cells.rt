@@ -1,76 +1,60 @@
 //! Cells: values as the binary protocol carries them, and as rows of the text protocol do.
 
-ghost use Rattle.std.specs.Prelude.{◌≡◌, ◌++◌, if◌then◌else◌, is_ok};
 ghost use Rattle.mysql_cells.specs.Cells.{bin_len, cell, cell_at, is_unsigned as is_sent_unsigned, text_cell_at, type_number, value_at};
-ghost use Rattle.mysql_cells.specs.Reading.{Gives};
+ghost use Rattle.mysql_raw.specs.Wire.{Gives, GivesPart, or_end};
+ghost use Rattle.std.specs.Prelude.{◌≡◌};
 
 use crate::cell_form::CellForm;
 use crate::cell_values::{date, form, time, whole1, whole2, whole4, whole8};
-use crate::cell_writing::{date_size, lenenc_len, put_counted, put_date, put_time, time_size};
-use crate::fields::{counted, number1, number2, number4, number8, short_cell};
+use crate::cell_writing::{date_size, put_date, put_time, time_size};
 use crate::value::Value;
+use mysql_buf::{BufMutExt, ParseBuf, lenenc_str_len};
 use mysql_queries::ByteString;
-use mysql_raw::WireError;
+use mysql_raw::{IntRepr, LeI64, LeU32, LeU64, MySerialize, WireError};
 use std::alloc::{AllocError, Global};
 
-/// The value of the cell that stands first, by its form.
+/// The value of the cell that stands first, by its form. What is left after a refusal isn't said.
 fn cell_value(
     alloc: Global,
     form: CellForm,
     unsigned: bool,
-    bytes: &[u8],
-) -> Result<(Value, &[u8]), WireError>
-    ensures { Gives (λ x. (x.0, x.1.now)) result (value_at form unsigned bytes.now) }
+    buf: &mut ParseBuf,
+) -> Result<Value, WireError>
+    ensures { GivesPart (λ x. x) buf.new.0.now result (value_at form unsigned buf.old.0.now) }
 {
     match form {
-        CellForm::Nothing => Ok((Value::NULL, bytes)),
-        CellForm::Whole1 => {
-            let (number, rest) = number1(bytes)?;
-            Ok((whole1(unsigned, number), rest))
-        }
-        CellForm::Whole2 => {
-            let (number, rest) = number2(bytes)?;
-            Ok((whole2(unsigned, number), rest))
-        }
-        CellForm::Whole4 => {
-            let (number, rest) = number4(bytes)?;
-            Ok((whole4(unsigned, number), rest))
-        }
-        CellForm::Whole8 => {
-            let (number, rest) = number8(bytes)?;
-            Ok((whole8(unsigned, number), rest))
-        }
-        CellForm::FloatBits => {
-            let (number, rest) = number4(bytes)?;
-            Ok((Value::Float(number), rest))
-        }
-        CellForm::DoubleBits => {
-            let (number, rest) = number8(bytes)?;
-            Ok((Value::Double(number), rest))
-        }
+        CellForm::Nothing => Ok(Value::NULL),
+        CellForm::Whole1 => Ok(whole1(unsigned, there(buf.checked_eat_u8())?)),
+        CellForm::Whole2 => Ok(whole2(unsigned, there(buf.checked_eat_u16_le())?)),
+        CellForm::Whole4 => Ok(whole4(unsigned, there(buf.checked_eat_u32_le())?)),
+        CellForm::Whole8 => Ok(whole8(unsigned, there(buf.checked_eat_u64_le())?)),
+        CellForm::FloatBits => Ok(Value::Float(there(buf.checked_eat_u32_le())?)),
+        CellForm::DoubleBits => Ok(Value::Double(there(buf.checked_eat_u64_le())?)),
         CellForm::Counted => {
-            let (held, rest) = counted(bytes)?;
-            Ok((Value::Bytes(ByteString::copy(alloc, held)?), rest))
+            let held = there(buf.checked_eat_lenenc_str())?;
+            Ok(Value::Bytes(ByteString::copy(alloc, held)?))
         }
-        CellForm::DateAndTime => {
-            let (cell, rest) = short_cell(bytes)?;
-            Ok((date(cell), rest))
-        }
-        CellForm::Duration => {
-            let (cell, rest) = short_cell(bytes)?;
-            Ok((time(cell), rest))
-        }
+        CellForm::DateAndTime => Ok(date(there(buf.checked_eat_u8_str())?)),
+        CellForm::Duration => Ok(time(there(buf.checked_eat_u8_str())?)),
         CellForm::Without => Err(WireError::UnsupportedType),
     }
 }
 
-/// Reads the cell of the binary protocol that stands first: its value, and the bytes after it.
+/// What stands first, or the end of the bytes.
+fn there<T>(first: Option<T>) -> Result<T, WireError>
+    ensures { result ≡ or_end first }
+{
+    first.ok_or(WireError::UnexpectedEof)
+}
+
+/// Reads the cell of the binary protocol that stands first.
 ///
 /// `column_type` is the number of the cell's type, and `unsigned` whether the type's whole numbers have no sign. A whole number comes as
 /// `Int` where it fits, else as `UInt`. An overlong length is read. Of a date or a time the fields that its length leaves out are 0,
 /// and bytes behind its last field are skipped.
 ///
-/// Refuses `UnsupportedType` for a type without cells, `UnexpectedEof` where the bytes end before the cell does, then `Memory`.
+/// # Errors
+/// `UnsupportedType` for a type without cells, `UnexpectedEof` where the bytes end before the cell does, then `Memory`. All bytes are then left.
 ///
 /// Follows "Binary Protocol Value" of the client/server protocol documentation.
 #[tactic(auto, unfolding(crate::specs::Cells::cell_at))]
@@ -78,69 +62,76 @@ pub fn read_cell(
     alloc: Global,
     column_type: u8,
     unsigned: bool,
-    bytes: &[u8],
-) -> Result<(Value, &[u8]), WireError>
-    ensures { Gives (λ x. (x.0, x.1.now)) result (cell_at column_type unsigned bytes.now) }
+    buf: &mut ParseBuf,
+) -> Result<Value, WireError>
+    ensures { Gives (λ x. x) buf.old.0.now buf.new.0.now result (cell_at column_type unsigned buf.old.0.now) }
 {
-    cell_value(alloc, form(column_type), unsigned, bytes)
+    let mut rest = *buf;
+    let value = cell_value(alloc, form(column_type), unsigned, &mut rest)?;
+    *buf = rest;
+    Ok(value)
 }
 
-/// Reads the cell of the text protocol that stands first: NULL or bytes, and the bytes after it.
+/// Reads the cell of the text protocol that stands first: NULL or bytes.
 ///
-/// Refuses `UnexpectedEof` where the bytes end before the cell does, `BadLength` where the first one is ff, then `Memory`.
+/// # Errors
+/// `UnexpectedEof` where the bytes end before the cell does, `BadLength` where the first one is ff, then `Memory`. All bytes are then left.
 ///
 /// Follows "Text Resultset Row" of the client/server protocol documentation.
 #[tactic(auto, unfolding(crate::specs::Cells::text_cell_at))]
-pub fn read_text_cell(alloc: Global, bytes: &[u8]) -> Result<(Value, &[u8]), WireError>
-    ensures { Gives (λ x. (x.0, x.1.now)) result (text_cell_at bytes.now) }
+pub fn read_text_cell(alloc: Global, buf: &mut ParseBuf) -> Result<Value, WireError>
+    ensures { Gives (λ x. x) buf.old.0.now buf.new.0.now result (text_cell_at buf.old.0.now) }
 {
-    match bytes {
+    match buf.0 {
         [] => Err(WireError::UnexpectedEof),
-        [251, rest @ ..] => Ok((Value::NULL, rest)),
+        [251, rest @ ..] => {
+            *buf = ParseBuf(rest);
+            Ok(Value::NULL)
+        }
         [255, ..] => Err(WireError::BadLength),
         _ => {
-            let (held, rest) = counted(bytes)?;
-            Ok((Value::Bytes(ByteString::copy(alloc, held)?), rest))
+            let mut rest = *buf;
+            let held = there(rest.checked_eat_lenenc_str())?;
+            let value = Value::Bytes(ByteString::copy(alloc, held)?);
+            *buf = rest;
+            Ok(value)
         }
     }
 }
 
-/// Appends the cell of a value by the type that the value is sent by: whole numbers in 8 bytes, bytes behind their length, dates and times in the
+/// The cell of the value by the type that the value is sent by: whole numbers in 8 bytes, bytes behind their length, dates and times in the
 /// shortest form that keeps them. NULL has no byte.
 ///
-/// Refuses where memory is wanting; `out` is then as it was.
-///
 /// Follows "Binary Protocol Value" of the client/server protocol documentation.
-pub fn put_cell(value: &Value, out: &mut Vec<u8>) -> Result<(), AllocError>
-    ensures { out.new.items ≡ (if is_ok result then out.old.items ++ cell value.now else out.old.items) }
-{
-    match value {
-        Value::NULL => Ok(()),
-        Value::Bytes(bytes) => put_counted(bytes.as_slice(), out),
-        Value::Int(number) => out.extend_from_slice(&number.to_le_bytes()),
-        Value::UInt(number) => out.extend_from_slice(&number.to_le_bytes()),
-        Value::Float(bits) => out.extend_from_slice(&bits.to_le_bytes()),
-        Value::Double(bits) => out.extend_from_slice(&bits.to_le_bytes()),
-        Value::Date(year, month, day, hour, minute, second, micros) => {
-            put_date(*year, *month, *day, *hour, *minute, *second, *micros, out)
-        }
-        Value::Time(negative, days, hours, minutes, seconds, micros) => {
-            put_time(*negative, *days, *hours, *minutes, *seconds, *micros, out)
+impl MySerialize for Value {
+    ghost written = { cell };
+
+    fn serialize(&self, buf: &mut Vec<u8>) -> Result<(), AllocError> {
+        match self {
+            Value::NULL => Ok(()),
+            Value::Bytes(bytes) => buf.put_lenenc_str(bytes.as_slice()),
+            Value::Int(number) => LeI64::serialize(*number, buf),
+            Value::UInt(number) => LeU64::serialize(*number, buf),
+            Value::Float(bits) => LeU32::serialize(*bits, buf),
+            Value::Double(bits) => LeU64::serialize(*bits, buf),
+            Value::Date(year, month, day, hour, minute, second, micros) => {
+                put_date(*year, *month, *day, *hour, *minute, *second, *micros, buf)
+            }
+            Value::Time(negative, days, hours, minutes, seconds, micros) => {
+                put_time(*negative, *days, *hours, *minutes, *seconds, *micros, buf)
+            }
         }
     }
 }
 
 impl Value {
-    /// The bytes of the value's cell, as `put_cell` writes it.
+    /// How many bytes `serialize` writes.
     pub fn bin_len(&self) -> u64
         ensures { result ≡ bin_len self.now }
     {
         match self {
             Value::NULL => 0,
-            Value::Bytes(bytes) => {
-                let count = bytes.as_slice().len() as u64;
-                lenenc_len(count) + count
-            }
+            Value::Bytes(bytes) => lenenc_str_len(bytes.as_slice()),
             Value::Int(_) | Value::UInt(_) | Value::Double(_) => 8,
             Value::Float(_) => 4,
             Value::Date(year, month, day, hour, minute, second, micros) => {

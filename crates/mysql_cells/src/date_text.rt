@@ -108,6 +108,43 @@ fn put_time_of_day(
     Ok(())
 }
 
+/// Appends the text of a date.
+pub fn put_date_text(
+    out: &mut Vec<u8>,
+    year: u16,
+    month: u8,
+    day: u8,
+    hour: u8,
+    minute: u8,
+    second: u8,
+    micros: u32,
+) -> Result<(), AllocError>
+    ensures { Puts (date_text year month day hour minute second micros) out.old.items out.new.items result }
+{
+    put_day(out, year, month, day)?;
+    put_time_of_day(out, hour, minute, second, micros)?;
+    Ok(())
+}
+
+/// Appends the text of a time, its days as hours.
+pub fn put_time_text(
+    out: &mut Vec<u8>,
+    negative: bool,
+    days: u32,
+    hours: u8,
+    minutes: u8,
+    seconds: u8,
+    micros: u32,
+) -> Result<(), AllocError>
+    ensures { Puts (time_text negative days hours minutes seconds micros) out.old.items out.new.items result }
+{
+    let sign: &[u8] = if negative { b"-" } else { b"" };
+    out.extend_from_slice(sign)?;
+    let all_hours = u64::from(days) * 24 + u64::from(hours);
+    put_clock(out, 3, all_hours, minutes, seconds, micros)?;
+    Ok(())
+}
+
 /// Appends the text of a date between single quotes.
 pub fn put_date(
     out: &mut Vec<u8>,
@@ -122,13 +159,12 @@ pub fn put_date(
     ensures { Puts (in_quotes (date_text year month day hour minute second micros)) out.old.items out.new.items result }
 {
     out.push(b'\'')?;
-    put_day(out, year, month, day)?;
-    put_time_of_day(out, hour, minute, second, micros)?;
+    put_date_text(out, year, month, day, hour, minute, second, micros)?;
     out.push(b'\'')?;
     Ok(())
 }
 
-/// Appends the text of a time between single quotes, its days as hours.
+/// Appends the text of a time between single quotes.
 pub fn put_time(
     out: &mut Vec<u8>,
     negative: bool,
@@ -140,10 +176,8 @@ pub fn put_time(
 ) -> Result<(), AllocError>
     ensures { Puts (in_quotes (time_text negative days hours minutes seconds micros)) out.old.items out.new.items result }
 {
-    let start: &[u8] = if negative { b"'-" } else { b"'" };
-    out.extend_from_slice(start)?;
-    let all_hours = u64::from(days) * 24 + u64::from(hours);
-    put_clock(out, 3, all_hours, minutes, seconds, micros)?;
+    out.push(b'\'')?;
+    put_time_text(out, negative, days, hours, minutes, seconds, micros)?;
     out.push(b'\'')?;
     Ok(())
 }

@@ -7,11 +7,15 @@ mod cell_values;
 mod cell_writing;
 pub mod cells;
 mod date_text;
-mod fields;
+pub mod deserializer;
+mod into_content;
 pub mod laws;
 mod quoting;
 pub mod value;
 
 pub use as_sql::AsSqlError;
-pub use cells::{put_cell, read_cell, read_text_cell};
+pub use cells::{read_cell, read_text_cell};
+pub use deserializer::{
+    BinValue, ClientSide, SerializationSide, ServerSide, TextValue, ValueDeserializer,
+};
 pub use value::Value;

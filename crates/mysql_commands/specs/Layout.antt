@@ -4,7 +4,7 @@ use Rattle.std.specs.Prelude.{ℕ, zero, suc, ◌+◌, ◌/◌, Bool, List, [], 
 use Rattle.mysql_commands.specs.declared.fault.StreamFault.{StreamFault}
 use Rattle.mysql_commands.specs.declared.fault.StreamFault.TheVariants.{WrongId, BadExecute, BadType, BadPlace, BadBulk}
 use Rattle.mysql_commands.specs.declared.param_type.ParamType.{ParamType}
-use Rattle.mysql_commands.specs.Fields.{◌>>=◌, must, bytes_at, number_at, byte_at}
+use Rattle.mysql_commands.specs.Fields.{◌>>=◌, must, bytes_at, number_at}
 use Rattle.mysql_values.specs.Cells.{is_one_of}
 use Rattle.mysql_commands.specs.Query.{Query, place_count}
 
@@ -49,9 +49,9 @@ id_at c bytes = do
 -- a pair of a type and a flag
 abbrev pub type_at : StreamFault → List ℕ → Result (ParamType × List ℕ) StreamFault
 type_at short bytes = do
-  t ← byte_at short bytes
+  t ← number_at short 1 bytes
   named ← must BadType (is_type t.0)
-  flags ← byte_at short t.1
+  flags ← number_at short 1 t.1
   known ← must BadType (flags.0 == 0 || flags.0 == 128)
   Ok (record { number = t.0; unsigned = flags.0 == 128 }, flags.1)
 
@@ -86,7 +86,7 @@ pub record ExecuteHead : Type 0 where
 unfoldable pub binding_at : ℕ → List ℕ → Result ExecuteHead StreamFault
 binding_at n bytes = do
   nulls ← bytes_at BadExecute ((n + 7) / 8) bytes
-  bound ← byte_at BadExecute nulls.1
+  bound ← number_at BadExecute 1 nulls.1
   known ← must BadExecute (nat_le bound.0 1)
   if bound.0 == 0 then Ok (record { nulls = nulls.0; own = None; cells = bound.1 })
       else do

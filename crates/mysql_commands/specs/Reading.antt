@@ -12,7 +12,7 @@ use Rattle.mysql_values.specs.Cells.{is_one_of, cell_at}
 use Rattle.mysql_wire.specs.WireError.{WireError}
 use Rattle.mysql_wire.specs.WireError.TheVariants.{UnsupportedType}
 use Rattle.mysql_commands.specs.declared.param_type.ParamType.{ParamType}
-use Rattle.mysql_commands.specs.Fields.{◌>>=◌, must, byte_at}
+use Rattle.mysql_commands.specs.Fields.{◌>>=◌, must, number_at}
 use Rattle.mysql_commands.specs.Query.{place_count, all_alone}
 use Rattle.mysql_commands.specs.Layout.{Conversation, Command, command_of, Types, Piece, piece_at, execute_head, bulk_head}
 use Rattle.mysql_commands.specs.Layout as layout
@@ -76,7 +76,7 @@ execute_at c s body = do
 -- a column of a row: an indicator, 0 and a cell or 1 for nothing
 abbrev pub column_at : ParamType → List ℕ → Result (Content × List ℕ) StreamFault
 column_at t bytes = do
-  indicator ← byte_at BadBulk bytes
+  indicator ← number_at BadBulk 1 bytes
   known ← must Indicator (nat_le indicator.0 1)
   if indicator.0 == 1 then Ok (content.Null, indicator.1) else content_at BadBulk t indicator.1
 

@@ -7,7 +7,7 @@ ghost use Rattle.mysql_commands.specs.Query.{place_count};
 ghost use Rattle.mysql_commands.specs.Views.{Gives, conversation_of, execute_head_of, bulk_head_of, piece_of};
 
 use crate::fault::StreamFault;
-use crate::fields::{byte, front, is_type_number, must, number1, number2, number4};
+use crate::fields::{front, is_type_number, must, number1, number2, number4};
 use crate::param_type::ParamType;
 use crate::refusal::Refusal;
 use crate::statement::Conversation;
@@ -39,9 +39,9 @@ pub struct Piece<'a> {
 pub fn type_pair(short: StreamFault, bytes: &[u8]) -> Result<(ParamType, &[u8]), Refusal>
     ensures { Gives (λ x. (x.0, x.1.now)) result (type_at short bytes.now) }
 {
-    let (number, rest) = byte(short, bytes)?;
+    let (number, rest) = number1(short, bytes)?;
     must(StreamFault::BadType, is_type_number(number))?;
-    let (flags, rest) = byte(short, rest)?;
+    let (flags, rest) = number1(short, rest)?;
     must(StreamFault::BadType, flags == 0 || flags == 128)?;
     Ok((
         ParamType {
@@ -109,7 +109,7 @@ fn binding(alloc: Global, places: usize, bytes: &[u8]) -> Result<ExecuteHead<'_>
     ensures { Gives execute_head_of result (binding_at places bytes.now) }
 {
     let (nulls, rest) = front(StreamFault::BadExecute, bitmap_len(places), bytes)?;
-    let (bound, rest) = byte(StreamFault::BadExecute, rest)?;
+    let (bound, rest) = number1(StreamFault::BadExecute, rest)?;
     must(StreamFault::BadExecute, bound <= 1)?;
     if bound == 0 {
         return Ok(ExecuteHead {

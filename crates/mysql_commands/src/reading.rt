@@ -9,7 +9,7 @@ ghost use Rattle.mysql_commands.specs.Views.{Gives, sets_of, types_kept, piece_k
 
 use crate::cells::cell_content;
 use crate::fault::StreamFault;
-use crate::fields::{byte, must};
+use crate::fields::{must, number1};
 use crate::layout::{BulkHead, ExecuteHead, bulk_front, execute_front};
 use crate::param_type::ParamType;
 use crate::refusal::Refusal;
@@ -117,7 +117,7 @@ fn column<'a>(
 ) -> Result<(Content, &'a [u8]), Refusal>
     ensures { Gives (λ x. (x.0, x.1.now)) result (column_at (kind) bytes.now) }
 {
-    let (indicator, rest) = byte(StreamFault::BadBulk, bytes)?;
+    let (indicator, rest) = number1(StreamFault::BadBulk, bytes)?;
     must(StreamFault::Indicator, indicator <= 1)?;
     if indicator == 1 {
         return Ok((Content::Null, rest));

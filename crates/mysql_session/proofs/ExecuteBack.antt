@@ -1,21 +1,24 @@
 -- An execution reads as the contents of its values.
-use Rattle.std.proofs.Common.{◌≡◌, ℕ, suc, ◌+◌, ◌/◌, ◌^◌, ◌<◌, ◌==◌, Bool, true, false, cond, List, [], ◌∷◌, ◌++◌, length, get_or, take, drop, map, Option, Some, None, Result, Ok, Err, refl, sym, ◌∙◌, ap, arith, length-append}
-use Rattle.std.specs.Prelude.{if◌then◌else◌, nat_lt}
+use Rattle.std.proofs.Common.{◌≡◌, ℕ, suc, ◌+◌, ◌/◌, ◌^◌, ◌<◌, ◌==◌, Bool, true, false, List, [], ◌∷◌, ◌++◌, length, get_or, map, Option, Some, None, Result, Ok, Err, refl, sym, ◌∙◌, ap, arith}
+use Rattle.std.specs.Prelude.{if◌then◌else◌, ◌||◌}
 use Rattle.std.specs.Int.{w32, to_le_bytes}
 use Rattle.std.specs.List.{AllByRecursion, flat_map}
-use Rattle.std.proofs.Math.Seq.{take-append_seam, drop-append_seam}
-use Rattle.std.proofs.lemmas.Bool.{le-ltb, eq-eqb, ne_eqb}
+use Rattle.std.specs.Option.{ok_or}
+use Rattle.std.proofs.lemmas.Bool.{eq-eqb, ne_eqb}
+use Rattle.byteorder.specs.Endian.{little_bytes, little_number}
+use Rattle.mysql_buf.specs.FirstBytes.{first-enough}
+use Rattle.mysql_buf.specs.NumberLaws.{little-reads_back, slice_at-append}
 use Rattle.mysql_values.specs.Content.{Content}
 use Rattle.mysql_values.specs.Content.TheVariants as content
 use Rattle.mysql_values.specs.Value.{Value}
 use Rattle.mysql_values.specs.Value.TheVariants.{NULL, Bytes, Int, UInt, Float, Double, Date, Time}
 use Rattle.mysql_values.specs.Values.{content_of}
 use Rattle.mysql_commands.specs.declared.fault.StreamFault.{StreamFault}
-use Rattle.mysql_commands.specs.declared.fault.StreamFault.TheVariants.{BadExecute, NotPrepared, WrongId}
+use Rattle.mysql_commands.specs.declared.fault.StreamFault.TheVariants.{BadExecute, BadType, NotPrepared, WrongId}
 use Rattle.mysql_commands.specs.declared.param_type.ParamType.{ParamType}
-use Rattle.mysql_commands.specs.Fields.{◌>>=◌, must, little, bytes_at, number_at}
+use Rattle.mysql_commands.specs.Fields.{◌>>=◌, must, bytes_at, number_at}
 use Rattle.mysql_commands.specs.Query.{place_count}
-use Rattle.mysql_commands.specs.Layout.{Conversation, ExecuteHead, id_at, type_at, types_at, binding_at, execute_head}
+use Rattle.mysql_commands.specs.Layout.{Conversation, ExecuteHead, id_at, is_type, type_at, types_at, binding_at, execute_head}
 use Rattle.mysql_commands.specs.InForce.{Standing}
 use Rattle.mysql_commands.specs.Reading.{PayloadReadsAs, content_at, execute_at, held_at, is_null_at, set_at, types_in_force}
 use Rattle.mysql_values.specs.AsSql.{FitsFields}
@@ -30,36 +33,36 @@ bind_from r f x y e h = ap (λ q. q >>= f) e ∙ h
 -- ---- fields
 
 bytes_front : (f : StreamFault) (n : ℕ) (xs ys : List ℕ) → length xs ≡ n → bytes_at f n (xs ++ ys) ≡ Ok (xs, ys)
-bytes_front f n xs ys is = by (nat_lt (length (xs ++ ys)) n) (le-ltb (length (xs ++ ys)) n (omega (arith, length-append xs ys)))
-  where
-    by : (b : Bool) → b ≡ false → cond {A = Result (List ℕ × List ℕ) StreamFault} b (Err f) (Ok (take n (xs ++ ys), drop n (xs ++ ys))) ≡ Ok (xs, ys)
-    by true none = cc
-    by false none = ap (λ k. Ok (take k (xs ++ ys), drop k (xs ++ ys))) (sym is) ∙ ap (λ l. Ok (l, drop (length xs) (xs ++ ys))) (take-append_seam xs ys) ∙ ap (λ l. Ok (xs, l)) (drop-append_seam xs ys)
+bytes_front f n xs ys is = ap (λ k. bytes_at f k (xs ++ ys)) (sym is) ∙ ap (λ o. ok_or o f) (slice_at-append xs ys)
 
-number_front : (f : StreamFault) (n : ℕ) (xs ys : List ℕ) → length xs ≡ n → number_at f n (xs ++ ys) ≡ Ok (little xs, ys)
-number_front f n xs ys is = by (nat_lt (length (xs ++ ys)) n) (le-ltb (length (xs ++ ys)) n (omega (arith, length-append xs ys)))
-  where
-    by : (b : Bool) → b ≡ false → cond {A = Result (ℕ × List ℕ) StreamFault} b (Err f) (Ok (little (take n (xs ++ ys)), drop n (xs ++ ys))) ≡ Ok (little xs, ys)
-    by true none = cc
-    by false none = ap (λ k. Ok (little (take k (xs ++ ys)), drop k (xs ++ ys))) (sym is) ∙ ap (λ l. Ok (little l, drop (length xs) (xs ++ ys))) (take-append_seam xs ys) ∙ ap (λ l. Ok (little xs, l)) (drop-append_seam xs ys)
+number_front : (f : StreamFault) (n x : ℕ) (ys : List ℕ) → x < 256 ^ n → number_at f n (little_bytes n x ++ ys) ≡ Ok (x, ys)
+number_front f n x ys small = ap (λ o. ok_or o f) (little-reads_back n x ys small)
 
-little_4 : (n : ℕ) → n < 2 ^ 32 → little (to_le_bytes w32 n) ≡ n
-little_4 n small = omega arith
+byte_front : (f : StreamFault) (b : ℕ) (ys : List ℕ) → number_at f 1 (b ∷ ys) ≡ Ok (b, ys)
+byte_front f b ys =
+    let n : little_number 1 (b ∷ ys) ≡ b = omega arith in
+    ap (λ o. ok_or o f) (first-enough 1 (little_number 1) (b ∷ ys) (omega arith)) ∙ ap (λ k. Ok (k, ys)) n
 
 -- ---- types
 
 type_of : Value → ParamType
 type_of value = record { number = type_number value; unsigned = is_unsigned value }
 
+-- a pair of a type and a flag
+pair_front : (number flags : ℕ) (rest : List ℕ) (y : Result (ParamType × List ℕ) StreamFault)
+    → (must BadType (is_type number) >>= λ named. must BadType (flags == 0 || flags == 128) >>= λ known. Ok (record { number = number; unsigned = flags == 128 }, rest)) ≡ y
+    → type_at BadExecute (number ∷ flags ∷ rest) ≡ y
+pair_front number flags rest y h = rw (byte_front BadExecute number (flags ∷ rest), byte_front BadExecute flags rest) h
+
 one_type : (value : Value) (rest : List ℕ) → type_at BadExecute (type_bytes value ++ rest) ≡ Ok (record { number = type_number value; unsigned = is_unsigned value }, rest)
-one_type NULL rest = refl
-one_type (Bytes bytes) rest = refl
-one_type (Int z) rest = refl
-one_type (UInt n) rest = refl
-one_type (Float bits) rest = refl
-one_type (Double bits) rest = refl
-one_type (Date year month day hour minute second micros) rest = refl
-one_type (Time negative days hours minutes seconds micros) rest = refl
+one_type NULL rest = pair_front 6 0 rest _ refl
+one_type (Bytes bytes) rest = pair_front 253 0 rest _ refl
+one_type (Int z) rest = pair_front 8 0 rest _ refl
+one_type (UInt n) rest = pair_front 8 128 rest _ refl
+one_type (Float bits) rest = pair_front 4 0 rest _ refl
+one_type (Double bits) rest = pair_front 5 0 rest _ refl
+one_type (Date year month day hour minute second micros) rest = pair_front 12 0 rest _ refl
+one_type (Time negative days hours minutes seconds micros) rest = pair_front 11 0 rest _ refl
 
 types_read : (values : List Value) (rest : List ℕ) → types_at BadExecute (length values) (flat_map type_bytes values ++ rest) ≡ Ok (map type_of values, rest)
 unfolding types_at type_of
@@ -120,6 +123,7 @@ unfolding binding_at
 binding_reads values =
     rw (
       bytes_front BadExecute ((length values + 7) / 8) (null_bitmap values) (1 ∷ (flat_map type_bytes values ++ flat_map cell values)) (bitmap_length values),
+      byte_front BadExecute 1 (flat_map type_bytes values ++ flat_map cell values),
       types_read values (flat_map cell values),
     ) refl
 
@@ -138,9 +142,9 @@ unfolding execute_head
 head_reads c id values small same count =
     let behind : List ℕ = to_le_bytes w32 1 ++ parameters values in
     let id_is : id_at c (to_le_bytes w32 id ++ 0 ∷ behind) ≡ Ok (0 ∷ behind) =
-    bind_from (number_at WrongId 4 (to_le_bytes w32 id ++ 0 ∷ behind)) (λ n. must WrongId (n.0 == c.id) >>= λ known. Ok n.1) (little (to_le_bytes w32 id), 0 ∷ behind) (Ok (0 ∷ behind))
-    (number_front WrongId 4 (to_le_bytes w32 id) (0 ∷ behind) refl)
-    (ap (λ b. must WrongId b >>= λ known. Ok (0 ∷ behind)) (eq-eqb (little (to_le_bytes w32 id)) c.id (little_4 id small ∙ sym same))) in
+    bind_from (number_at WrongId 4 (to_le_bytes w32 id ++ 0 ∷ behind)) (λ n. must WrongId (n.0 == c.id) >>= λ known. Ok n.1) (id, 0 ∷ behind) (Ok (0 ∷ behind))
+    (number_front WrongId 4 id (0 ∷ behind) (omega (arith, small)))
+    (ap (λ b. must WrongId b >>= λ known. Ok (0 ∷ behind)) (eq-eqb id c.id (sym same))) in
     bind_from (id_at c (to_le_bytes w32 id ++ 0 ∷ behind))
     (λ rest. number_at BadExecute 1 rest >>= λ cursor. must BadExecute (cursor.0 == 0) >>= λ none. number_at BadExecute 4 cursor.1 >>= λ count. must BadExecute (count.0 == 1) >>= λ one.
     if place_count c.query == 0 then Ok (record { nulls = []; own = None; cells = count.1 }) else binding_at (place_count c.query) count.1)
@@ -148,10 +152,10 @@ head_reads c id values small same count =
     (bind_from (number_at BadExecute 1 (0 ∷ behind))
     (λ cursor. must BadExecute (cursor.0 == 0) >>= λ none. number_at BadExecute 4 cursor.1 >>= λ count. must BadExecute (count.0 == 1) >>= λ one.
     if place_count c.query == 0 then Ok (record { nulls = []; own = None; cells = count.1 }) else binding_at (place_count c.query) count.1)
-    (0, behind) (Ok (head_of values)) (number_front BadExecute 1 (0 ∷ []) behind refl)
+    (0, behind) (Ok (head_of values)) (byte_front BadExecute 0 behind)
     (bind_from (number_at BadExecute 4 behind)
     (λ count. must BadExecute (count.0 == 1) >>= λ one. if place_count c.query == 0 then Ok (record { nulls = []; own = None; cells = count.1 }) else binding_at (place_count c.query) count.1)
-    (1, parameters values) (Ok (head_of values)) (number_front BadExecute 4 (to_le_bytes w32 1) (parameters values) refl)
+    (1, parameters values) (Ok (head_of values)) (number_front BadExecute 4 1 (parameters values) (omega arith))
     (head_by values (place_count c.query) count)))
 
 -- ---- an execution

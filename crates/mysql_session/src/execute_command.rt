@@ -8,8 +8,9 @@ ghost use Rattle.mysql_session.specs.Commands.{execute_command, is_null as is_no
 ghost use Rattle.mysql_session.specs.declared.refusal.Refusal.TheVariants.{Memory};
 
 use crate::refusal::Refusal;
+use mysql_values::Value;
 use mysql_values::laws::fields_fit;
-use mysql_values::{Value, put_cell};
+use mysql_wire::MySerialize;
 
 fn is_null(value: &Value) -> bool
     ensures { result ≡ is_no_value value.now }
@@ -64,7 +65,7 @@ fn put_cells(values: &[&Value], command: &mut Vec<u8>) -> Result<(), Refusal>
 {
     for value in values {
         fields_fit(*value);
-        put_cell(*value, command)?;
+        value.serialize(command)?;
     }
     Ok(())
 }

@@ -14,7 +14,6 @@ pub use Rattle.mysql_queries.specs.declared.named_params.NamedParamsError
 pub use Rattle.mysql_queries.specs.declared.placeholders.Place
 pub use Rattle.mysql_cells.specs.Values
 pub use Rattle.mysql_cells.specs.AsSql
-pub use Rattle.mysql_cells.specs.Reading
 pub use Rattle.mysql_cells.specs.Cells
 pub use Rattle.mysql_cells.specs.CellLaws
 pub use Rattle.mysql_cells.specs.declared.value.Value

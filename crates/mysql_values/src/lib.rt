@@ -6,7 +6,10 @@ pub mod laws;
 pub mod params;
 
 pub use bind::{BindError, bind_text};
-pub use mysql_cells::{AsSqlError, Value, put_cell, read_cell, read_text_cell};
+pub use mysql_cells::{
+    AsSqlError, BinValue, ClientSide, SerializationSide, ServerSide, TextValue, Value,
+    ValueDeserializer, read_cell, read_text_cell,
+};
 pub use mysql_queries::{
     ByteString, Content, Literal, MixedParamsError, NamedParamsError, ParsedNamedParams, Place,
     first_not_alone, is_mixed, places, read_literal, read_text,

@@ -1,7 +1,7 @@
 //! SQL texts of values.
 
 use crate::support::{bytes, holds};
-use mysql_values::{AsSqlError, Value};
+use mysql_values::{AsSqlError, Content, Value};
 use mysql_wire::WireError;
 use std::test::Fail;
 
@@ -47,6 +47,41 @@ fn of_a_float(rt: &HostRuntime) -> Result<bool, WireError> {
         Err(AsSqlError::Memory) => Err(WireError::Memory),
         answer => Ok(answer == Err(AsSqlError::Float)),
     }
+}
+
+/// Whether the value means these bytes.
+fn means(rt: &HostRuntime, value: Value, text: &[u8]) -> Result<bool, WireError> {
+    match value.into_content(rt.alloc())? {
+        Some(Content::Bytes(bytes)) => Ok(bytes.as_slice() == text),
+        Some(_) | None => Ok(false),
+    }
+}
+
+fn of_dates(rt: &HostRuntime) -> Result<bool, WireError> {
+    let day = Value::Date(2024, 2, 29, 0, 0, 0, 0);
+    let moment = Value::Date(2024, 2, 29, 1, 2, 3, 4);
+    Ok(means(rt, day, b"2024-02-29")? && means(rt, moment, b"2024-02-29 01:02:03.000004")?)
+}
+
+/// An all-zero time means the positive one.
+fn of_times(rt: &HostRuntime) -> Result<bool, WireError> {
+    let none = Value::Time(true, 0, 0, 0, 0, 0);
+    let some = Value::Time(true, 1, 2, 3, 4, 5);
+    Ok(means(rt, none, b"000:00:00")? && means(rt, some, b"-026:03:04.000005")?)
+}
+
+fn of_others(rt: &HostRuntime) -> Result<bool, WireError> {
+    let value = bytes(rt, b"a'b\\")?;
+    let float = Value::Float(0).into_content(rt.alloc())?;
+    Ok(means(rt, value, b"a'b\\")? && matches!(float, None))
+}
+
+#[test]
+fn contents(rt: HostRuntime) -> Result<(), Fail> {
+    assert!(rt; holds(|| of_dates(&rt)));
+    assert!(rt; holds(|| of_times(&rt)));
+    assert!(rt; holds(|| of_others(&rt)));
+    Ok(())
 }
 
 #[test]
