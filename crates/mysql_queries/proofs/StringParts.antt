@@ -1,12 +1,13 @@
 -- What was read of a literal in single quotes.
-use Rattle.std.proofs.Common.{◌≡◌, ◌≢◌, ℕ, ◌+◌, ◌≤◌, ◌<◌, List, [], ◌∷◌, ◌++◌, length, take, drop, get_or, refl, sym, ap, ◌∙◌, inl, inr, append_assoc, append-nil, arith, subst, flat_map, take-append-drop}
+use Rattle.std.proofs.Common.{◌≡◌, ◌≢◌, ℕ, zero, suc, ◌+◌, ◌-◌, ◌≤◌, ◌<◌, length-drop, List, [], ◌∷◌, ◌++◌, length, take, drop, get_or, refl, sym, ap, ◌∙◌, inl, inr, append_assoc, append-nil, arith, subst, flat_map, take-append-drop}
 use Rattle.std.specs.List.{AllByRecursion}
-use Rattle.mysql_queries.specs.Tokens.{Inside, inside_bytes, IsInside, IsQuoted, Closes, single_quote}
+use Rattle.mysql_queries.specs.Tokens.{Byte, Inside, inside_bytes, IsInside, IsQuoted, Closes, backslash, single_quote}
 use Rattle.mysql_queries.specs.Literals.{IsString, inside_content}
-use Rattle.mysql_queries.specs.Scanning.{IsPartAt, ClosesAt}
+use Rattle.mysql_queries.specs.Scanning.{ClosesAt, IsPartAt, IsRun}
 use Rattle.mysql_queries.proofs.Quotes.{one_inside}
 use Rattle.mysql_queries.proofs.Cuts.{front_is, drop_one, drop_end}
 use Rattle.mysql_queries.proofs.OneContent.{no_backslash}
+use Rattle.mysql_queries.proofs.PlaceLists.{to_end}
 
 pub record StringTo (t : List ℕ) (i : ℕ) (items : List ℕ) : Type 0 where
   pub parts : List Inside
@@ -44,6 +45,28 @@ string_more t i items u o h =
       front = front_is t (single_quote ∷ flat_map (inside_bytes single_quote) (o.parts ++ u ∷ [])) (i + length (inside_bytes single_quote u)) text;
       read = ap (λ y. y ++ inside_content u) o.read ∙ sym (flat_join inside_content o.parts u);
     }
+
+-- bytes that stand for themselves
+pub string_further : (t : List ℕ) (i : ℕ) (items : List ℕ) (n : ℕ) → StringTo t i items → i + n ≤ length t → IsRun (take n (drop i t)) → StringTo t (i + n) (items ++ take n (drop i t))
+string_further t i items zero o l h = let e : i + zero ≡ i = omega arith in rw (e, append-nil items) o
+string_further t i items (suc n) o l h =
+    let b : ℕ = get_or t i 0 in
+    let d : drop i t ≡ b ∷ drop (i + 1) t = drop_one t i (omega (arith, l)) in
+    let run : IsRun (b ∷ take n (drop (i + 1) t)) = subst (λ y. IsRun (take (suc n) y)) d h in
+    let one : StringTo t (i + 1) (items ++ b ∷ []) = string_more t i items (Byte b) o ((run.0.0, λ _. run.0.1), d, omega (arith, l)) in
+    let all : StringTo t (i + 1 + n) ((items ++ b ∷ []) ++ take n (drop (i + 1) t)) = string_further t (i + 1) (items ++ b ∷ []) n one (omega (arith, l)) run.1 in
+    let e : i + 1 + n ≡ i + suc n = omega arith in
+    subst (λ k. StringTo t k (items ++ take (suc n) (drop i t))) e
+    (subst (λ y. StringTo t (i + 1 + n) y) (append_assoc items (b ∷ []) (take n (drop (i + 1) t)) ∙ ap (λ y. items ++ take (suc n) y) (sym d)) all)
+
+-- the same of the run at the front of what is left
+pub string_on : (t : List ℕ) (at : ℕ) (items new : List ℕ) (n : ℕ) → StringTo t at items → at ≤ length t → n ≤ length (take (length t - at) (drop at t)) → IsRun (take n (take (length t - at) (drop at t)))
+    → new ≡ items ++ take n (take (length t - at) (drop at t)) → (at + n ≤ length t) × StringTo t (at + n) new
+string_on t at items new n o l m r e =
+    let s : take (length t - at) (drop at t) ≡ drop at t = to_end t at in
+    let some : n ≤ length (drop at t) = subst (λ y. n ≤ length y) s m in
+    let fits : at + n ≤ length t = omega (arith, some, l, length-drop at t) in
+    (fits, subst (StringTo t (at + n)) (sym (e ∙ ap (λ y. items ++ take n y) s)) (string_further t at items n o fits (subst (λ y. IsRun (take n y)) s r)))
 
 closed_front : (t : List ℕ) (i : ℕ) (items : List ℕ) (o : StringTo t i items) → i < length t → get_or t i 0 ≡ single_quote → take (i + 1) t ≡ single_quote ∷ (flat_map (inside_bytes single_quote) o.parts ++ single_quote ∷ [])
 closed_front t i items o l e =

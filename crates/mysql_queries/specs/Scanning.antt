@@ -1,7 +1,8 @@
 -- What stands at a place of a text.
 -- MySQL Reference Manual, "String Literals".
-use Rattle.std.specs.Prelude.{◌≡◌, ℕ, ◌+◌, ◌≤◌, List, [], ◌∷◌, ◌++◌, length, drop, slice_index}
-use Rattle.mysql_queries.specs.Tokens.{Inside, Byte, Escape, Doubled, inside_bytes, IsInside, Closes, single_quote}
+use Rattle.std.specs.Prelude.{◌≡◌, ◌≢◌, ℕ, ◌+◌, ◌≤◌, List, [], ◌∷◌, ◌++◌, length, drop, slice_index}
+use Rattle.std.specs.List.{AllByRecursion}
+use Rattle.mysql_queries.specs.Tokens.{Inside, Byte, Escape, Doubled, backslash, inside_bytes, IsInside, Closes, single_quote}
 use Rattle.mysql_queries.specs.declared.strings.Part.{Part}
 use Rattle.mysql_queries.specs.declared.strings.Part.TheVariants as parts
 
@@ -24,3 +25,7 @@ abbrev pub IsPartAt : List ℕ → ℕ → Inside → Type 0
 IsPartAt text at part =
     let n = length (inside_bytes single_quote part) in
     IsInside single_quote part × (drop at text ≡ inside_bytes single_quote part ++ drop (at + n) text) × (at + n ≤ length text)
+
+-- bytes between single quotes that stand for themselves: neither the quote nor a backslash
+abbrev pub IsRun : List ℕ → Type 0
+IsRun bytes = AllByRecursion (λ b. (b ≢ single_quote) × (b ≢ backslash)) bytes

@@ -1,7 +1,7 @@
 //! Literals in single quotes.
 
 ghost use Rattle.mysql_queries.specs.Literals.{IsString, escaped, inside_content};
-ghost use Rattle.mysql_queries.specs.Scanning.{ClosesAt, IsPartAt, part_view};
+ghost use Rattle.mysql_queries.specs.Scanning.{ClosesAt, IsPartAt, IsRun, part_view};
 ghost use Rattle.mysql_queries.specs.Tokens.{IsQuoted, inside_bytes, single_quote};
 ghost use Rattle.std.specs.Prelude.{
   OnErr,
@@ -24,6 +24,7 @@ ghost use Rattle.std.specs.Prelude.{
   ℕ,
 };
 
+use memchr::memchr2;
 use std::alloc::AllocError;
 
 /// What stands between single quotes: a byte for itself, a backslash with the byte after it, the quote doubled.
@@ -112,6 +113,28 @@ fn push_content(out: &mut Vec<u8>, part: Part) -> Result<(), AllocError>
     Ok(())
 }
 
+/// How many bytes stand before the first quote or backslash.
+fn run_len(text: &[u8]) -> usize
+    ensures in_range { result ≤ length text.now }
+    ensures run { IsRun (take result text.now) }
+{
+    memchr2(b'\'', b'\\', text).unwrap_or(text.len())
+}
+
+/// Appends the bytes before the first quote or backslash; how many they are.
+fn push_run(out: &mut Vec<u8>, text: &[u8]) -> Result<usize, AllocError>
+    ensures in_range { IfOk result (λ n. n ≤ length text.now) }
+    ensures run { IfOk result (λ n. IsRun (take n text.now)) }
+    ensures ok { IfOk result (λ n. out.new.items ≡ out.old.items ++ take n text.now) }
+    ensures len { IfOk result (λ n. vec_len out.new ≤ vec_len out.old + n) }
+    ensures capacity { vec_capacity out.old ≤ vec_capacity out.new }
+    ensures full { OnErr result (vec_capacity out.old < vec_len out.old + length text.now) }
+{
+    let run = run_len(text);
+    out.extend_from_slice(&text[..run])?;
+    Ok(run)
+}
+
 /// Reads a literal that begins with a single quote: how many bytes it takes, and its content into the buffer; None where nothing closes it.
 pub fn read_string(text: &[u8], buf: &mut Vec<u8>) -> Result<Option<usize>, AllocError>
     requires some { 0 < length text.now }
@@ -123,12 +146,13 @@ pub fn read_string(text: &[u8], buf: &mut Vec<u8>) -> Result<Option<usize>, Allo
     ensures full { OnErr result (vec_capacity buf.old < length text.now) }
 {
     buf.clear();
-    let mut i = 1;
+    let mut i = 1 + push_run(buf, &text[1..])?;
     while i < text.len() {
         match part_at(text, i) {
             Some(part) => {
                 push_content(buf, part)?;
                 i += part_len(part);
+                i += push_run(buf, &text[i..])?;
             }
             None => {
                 if text[i] == b'\'' {
