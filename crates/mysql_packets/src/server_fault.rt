@@ -7,9 +7,7 @@ ghost use Rattle.mysql_packets.specs.Views.{server_fault_view, report_view};
 
 use bitflags::Flags;
 use mysql_const::CapabilityFlags;
-use mysql_wire::{
-    ConstU8, LeU16, LeU24, LenEnc, ParseBuf, ParseExt, RawBytes, RawInt, WireError,
-};
+use mysql_wire::{ConstU8, LeU16, LeU24, LenEnc, ParseBuf, ParseExt, RawBytes, RawInt, WireError};
 use std::alloc::Global;
 
 /// Another byte than ff begins an error packet.

@@ -1,6 +1,6 @@
 //! Representations of texts.
 
-ghost use Rattle.std.specs.Prelude.{◌≡◌, ◌==◌, ◌-◌, ◌<◌, ◌^◌, IfOk, List, None, Ok, Option, Some, [], ◌++◌, length, ℕ, ⊤};
+ghost use Rattle.std.specs.Prelude.{◌≡◌, ◌==◌, ◌-◌, ◌<◌, ◌^◌, IfErr, IfOk, List, None, Ok, Option, Some, [], ◌++◌, length, ℕ, ⊤};
 ghost use Rattle.std.specs.Cow.{cow_slice_items, cow_str_bytes};
 ghost use Rattle.std.specs.List.{before_first};
 ghost use Rattle.std.specs.Str.{encode_utf8_all};
@@ -10,6 +10,7 @@ ghost use Rattle.mysql_buf.specs.Writing.{front, lenenc_str, u8_str, u32_str};
 ghost use Rattle.mysql_raw.specs.Laws.{unsized};
 ghost use Rattle.mysql_raw_bytes.specs.TextLaws.{all-back, bare_at-back, fixed_text_at-back, fixed_text_at-sized, lenenc_text_at-back, null_text_at-back, u32_text_at-back, u8_text_at-back, varlen_text_at-back};
 ghost use Rattle.mysql_raw_bytes.specs.Texts.{bare_at, fixed_text, fixed_text_at, lenenc_text_at, null_text, null_text_at, u32_text_at, u8_text_at, varlen_text, varlen_text_at};
+ghost use Rattle.mysql_raw.specs.declared.error.WireError.TheVariants.{Memory};
 ghost use Rattle.mysql_raw.specs.Wire.{Appends, IsSized, Reading, Suffices, Tells};
 
 use bstr::ByteSlice;
@@ -104,14 +105,16 @@ impl<'a, T: BytesRepr> RawBytes<'a, T> {
     /// The bytes that count as text, where bytes that aren't UTF-8 are replaced. Refused for want
     /// of memory.
     pub fn as_str(&self, alloc: Global) -> Result<CowStr<'_>, WireError>
-        ensures { IfOk result (λ text. cow_str_bytes text ≡ encode_utf8_all (lossy_chars (front (cow_slice_items self.now.0) T.MAX_LEN))) }
+        ensures memory { IfErr result (λ e. e ≡ Memory) }
+        ensures text { IfOk result (λ text. cow_str_bytes text ≡ encode_utf8_all (lossy_chars (front (cow_slice_items self.now.0) T.MAX_LEN))) }
     {
         Ok(self.as_bytes().to_str_lossy(alloc)?)
     }
 
     /// The same text, owned. Refused for want of memory.
     pub fn into_owned(self, alloc: Global) -> Result<RawBytes<'static, T>, WireError>
-        ensures { IfOk result (λ owned. cow_slice_items owned.0 ≡ cow_slice_items self.entry.0) }
+        ensures memory { IfErr result (λ e. e ≡ Memory) }
+        ensures text { IfOk result (λ owned. cow_slice_items owned.0 ≡ cow_slice_items self.entry.0) }
     {
         let bytes = self.0.into_owned(alloc)?;
         Ok(RawBytes(CowSlice::Owned(bytes), PhantomData))

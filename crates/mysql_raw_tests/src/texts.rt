@@ -136,7 +136,17 @@ fn bytes_of_a_given_length(rt: HostRuntime) {
     assert!(rt; matches!(array, Ok([b'a', b'b'])));
     let inner = buf.parse::<ParseBuf>(alloc, 2);
     assert!(rt; matches!(inner, Ok(ParseBuf(b"cd"))));
-    assert!(rt; matches!(first_of::<[u8; 2]>(alloc, &mut buf), Err(WireError::UnexpectedEof)));
-    assert!(rt; matches!(buf.parse::<ParseBuf>(alloc, 2), Err(WireError::UnexpectedEof)));
+    assert!(rt;
+        matches!(
+            first_of::<[u8; 2]>(alloc, &mut buf),
+            Err(WireError::UnexpectedEof)
+        )
+    );
+    assert!(rt;
+        matches!(
+            buf.parse::<ParseBuf>(alloc, 2),
+            Err(WireError::UnexpectedEof)
+        )
+    );
     assert_eq!(rt; buf.0, b"e".as_slice());
 }

@@ -30,7 +30,7 @@ pub enum Opening {
 
 /// What was read, whatever bytes follow it, or the fault of this name.
 pub fn named_of<T: Drop>(read: Result<T, WireError>, fault: ReplyFault) -> Result<T, ReplyFault>
-    ensures { result ≡ named read.entry fault }
+    ensures { result ≡ named read fault }
 {
     match read {
         Ok(value) => Ok(value),
