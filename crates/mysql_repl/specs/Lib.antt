@@ -1,5 +1,4 @@
-pub mod Tags
-pub mod Refusals
-pub mod Intervals
-pub mod Sids
-pub mod Laws
+pub mod Packets
+pub mod PacketLaws
+pub mod Statements
+pub mod Views

@@ -1,35 +1,34 @@
-//! Laws of texts of sets. Functions without a result do nothing: their contracts are the laws.
+//! Laws of the packets. Functions without a result do nothing: their contracts are the laws.
 
-ghost use Rattle.std.specs.Prelude.{◌≡◌, ◌↔◌, IsTrue};
-ghost use Rattle.std.specs.Ordering.{nat_cmp};
-ghost use Rattle.std.specs.Cmp.Lexicographic.{slice_cmp};
-ghost use Rattle.mysql_repl.specs.Laws.{ParsedEqualByText, ParsedReadsBack};
+ghost use Rattle.mysql_repl.specs.Statements.{AcknowledgementsReadBack, BinlogDumpsReadBack, GtidDumpsReadBack, RegistrationsReadBack, TableDumpsReadBack};
 
-use crate::tag::Tag;
-use std::cmp::Ordering;
-
-/// A set that a text writes is read from its own text.
-#[tactic(auto, using(crate::proofs::ReadBack::parsed_reads_back))]
-pub fn parsed_sets_read_back()
-    ensures { ParsedReadsBack }
+/// A request for a table that was written is read again, whatever follows it, where its names have at most 255 bytes.
+#[tactic(auto, using(crate::proofs::Back::table_dumps_read_back))]
+pub fn table_dumps_read_back()
+    ensures { TableDumpsReadBack }
 {}
 
-/// Two sets that texts write are equal exactly where their own texts are.
-#[tactic(auto, using(crate::proofs::ReadBack::parsed_equal_by_text))]
-pub fn parsed_sets_are_equal_by_their_texts()
-    ensures { ParsedEqualByText }
+/// What a replica wrote of itself is read again, whatever follows it, where its names have at most 255 bytes.
+#[tactic(auto, using(crate::proofs::Back::registrations_read_back))]
+pub fn registrations_read_back()
+    ensures { RegistrationsReadBack }
 {}
 
-/// Tags are equal exactly where their texts are.
-pub fn tags_are_equal_by_their_texts(a: &Tag<'_>, b: &Tag<'_>) -> bool
-    ensures { IsTrue result ↔ (a.now ≡ b.now) }
-{
-    a == b
-}
+/// A request by transactions that was written is read again, whatever follows it, where its name and its block have less than
+/// 2^32 bytes and its flags have names.
+#[tactic(auto, using(crate::proofs::Back::gtid_dumps_read_back))]
+pub fn gtid_dumps_read_back()
+    ensures { GtidDumpsReadBack }
+{}
 
-/// Tags are ordered as the bytes of their texts.
-pub fn tags_are_ordered_by_their_bytes(a: &Tag<'_>, b: &Tag<'_>) -> Ordering
-    ensures { result ≡ slice_cmp nat_cmp a.now b.now }
-{
-    a.cmp(b)
-}
+/// A request from a place that was written is read again where nothing follows it and its flags have names.
+#[tactic(auto, using(crate::proofs::Back::binlog_dumps_read_back))]
+pub fn binlog_dumps_read_back()
+    ensures { BinlogDumpsReadBack }
+{}
+
+/// An acknowledgement that was written is read again where nothing follows it.
+#[tactic(auto, using(crate::proofs::Back::acknowledgements_read_back))]
+pub fn acknowledgements_read_back()
+    ensures { AcknowledgementsReadBack }
+{}

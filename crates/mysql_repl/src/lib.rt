@@ -1,13 +1,26 @@
-//! Replication: sets of global transaction identifiers as texts.
+//! Replication: the packets that a replica sends, and sets of global transaction identifiers.
 #![tactic(auto)]
 
-pub mod error;
-pub mod interval;
+pub mod binlog_dump;
+pub mod binlog_dump_gtid;
+pub mod binlog_request;
+mod fields;
+pub mod headers;
 pub mod laws;
-pub mod sid;
-pub mod tag;
+pub mod register_slave;
+pub mod semi_sync_ack;
+pub mod table_dump;
 
-pub use error::SidError;
-pub use interval::GnoInterval;
-pub use sid::{Sid, UUID_LEN};
-pub use tag::{InvalidTag, Tag};
+pub use binlog_dump::ComBinlogDump;
+pub use binlog_dump_gtid::ComBinlogDumpGtid;
+pub use binlog_request::BinlogRequest;
+pub use headers::{
+    ComBinlogDumpGtidHeader, ComBinlogDumpHeader, ComRegisterSlaveHeader, ComTableDumpHeader,
+    InvalidComBinlogDumpGtidHeader, InvalidComBinlogDumpHeader, InvalidComRegisterSlaveHeader,
+    InvalidComTableDumpHeader, InvalidSemiSyncAckPacketPacketHeader, SemiSyncAckPacketPacketHeader,
+};
+pub use mysql_const::{BinlogDumpFlags, UnknownBinlogDumpFlags};
+pub use mysql_gtid::{GnoInterval, InvalidTag, Sid, SidBlock, SidError, Tag, UUID_LEN};
+pub use register_slave::ComRegisterSlave;
+pub use semi_sync_ack::SemiSyncAckPacket;
+pub use table_dump::ComTableDump;

@@ -1,0 +1,14 @@
+pub mod Blocks
+pub mod Characters
+pub mod Elements
+pub mod Fields
+pub mod IntervalTexts
+pub mod Lacking
+pub mod Numbers
+pub mod Parsed
+pub mod ReadBack
+pub mod Reading
+pub mod TagTexts
+pub mod UuidTexts
+pub mod Uuids
+pub mod Whole

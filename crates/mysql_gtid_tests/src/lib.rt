@@ -1,0 +1,7 @@
+//! Tests of `mysql_gtid` from outside: worked rows of tags and of sets of global transaction identifiers.
+#![tactic(auto)]
+
+#[cfg(test)]
+mod sids;
+#[cfg(test)]
+mod tags;

@@ -1,0 +1,140 @@
+-- What was written of a packet is read back.
+use Rattle.std.proofs.Common.{◌≡◌, ℕ, ◌+◌, ◌-◌, ◌^◌, ◌<◌, ◌≤◌, true, List, [], ◌∷◌, ◌++◌, length, min, Ok, refl, ap, ◌∙◌, append-nil, append_assoc, arith, lit<}
+use Rattle.std.proofs.lemmas.Bool.{le-ltb}
+use Rattle.std.proofs.lemmas.List.{take_all}
+use Rattle.byteorder.specs.Endian.{little_bytes}
+use Rattle.mysql_buf.specs.Writing.{front, u8_str, u32_str}
+use Rattle.mysql_gtid.specs.BlockLaws.{block_at-back}
+use Rattle.mysql_gtid.specs.Blocks.{block_at, block_bytes}
+use Rattle.mysql_raw.specs.Laws.{done, little_at-back}
+use Rattle.mysql_raw.specs.Wire.{Reading, ◌>>=◌}
+use Rattle.mysql_raw_bytes.specs.TextLaws.{u8_text_at-back, u32_text_at-back}
+use Rattle.mysql_raw_bytes.specs.Texts.{u8_text_at, u32_text_at}
+use Rattle.mysql_raw_consts.specs.ConstantLaws.{constant_at-back}
+use Rattle.mysql_repl.specs.Packets.{BinlogDump, BinlogDumpGtid, IsBinlogDump, IsBinlogDumpGtid, IsRegisterSlave, IsSemiSyncAck, IsTableDump, RegisterSlave, SemiSyncAck, TableDump, all_at, are_named, binlog_dump, binlog_dump_at, binlog_dump_fields_at, binlog_dump_gtid, binlog_dump_gtid_at, binlog_dump_gtid_fields_at, flags_at, from_block, joined, named_flags, register_slave, register_slave_at, register_slave_fields_at, semi_sync_ack, semi_sync_ack_at, semi_sync_ack_fields_at, table_dump, table_dump_at}
+
+-- where the block is there, it is read
+enough : {X : Type 0} (n : ℕ) (read_at : List ℕ → Reading X) (bytes : List ℕ) → n ≤ length bytes → from_block n read_at bytes ≡ read_at bytes
+enough n read_at bytes h = rw (le-ltb (length bytes) n h) refl
+
+-- a name that is not cut
+whole : (text : List ℕ) (most : ℕ) → length text ≤ most → front text most ≡ text
+unfolding front
+whole text most h = take_all most text h
+
+name-back : (text rest : List ℕ) → length text ≤ 255 → u8_text_at (u8_str text ++ rest) ≡ Ok (text, rest)
+name-back text rest h = u8_text_at-back text rest ∙ ap (λ (t : List ℕ). Ok (t, rest)) (whole text 255 h)
+
+semi_sync_ack_fields_at-back : (p : SemiSyncAck) → IsSemiSyncAck p → semi_sync_ack_fields_at (semi_sync_ack p) ≡ Ok (p, [])
+unfolding semi_sync_ack semi_sync_ack_fields_at
+semi_sync_ack_fields_at-back p h =
+    let name = p.filename ++ [] in
+    let position = little_bytes 8 p.position ++ name in
+    rw (constant_at-back 1 239 position (lit< tt), little_at-back 8 p.position name h.position, append-nil p.filename) refl
+
+pub semi_sync_ack_at-back : (p : SemiSyncAck) (rest : List ℕ) → IsSemiSyncAck p → rest ≡ [] → semi_sync_ack_at (semi_sync_ack p ++ rest) ≡ Ok (p, rest)
+unfolding semi_sync_ack semi_sync_ack_at
+semi_sync_ack_at-back p rest h none =
+    rw (none, append-nil (semi_sync_ack p)) (enough 9 semi_sync_ack_fields_at (semi_sync_ack p) (omega arith) ∙ semi_sync_ack_fields_at-back p h)
+
+pub table_dump_at-back : (p : TableDump) (rest : List ℕ) → IsTableDump p → table_dump_at (table_dump p ++ rest) ≡ Ok (p, rest)
+unfolding table_dump table_dump_at
+table_dump_at-back p rest h =
+    let table = u8_str p.table ++ rest in
+    let database = u8_str p.database ++ table in
+    let regrouped : joined (little_bytes 1 19 ∷ u8_str p.database ∷ u8_str p.table ∷ []) ++ rest ≡ little_bytes 1 19 ++ database = simp (append_assoc, append-nil) in
+    ap table_dump_at regrouped ∙ rw (
+      constant_at-back 1 19 database (lit< tt),
+      name-back p.database table h.database,
+      name-back p.table rest h.table,
+    ) refl
+
+register_slave_fields_at-back : (p : RegisterSlave) (rest : List ℕ) → IsRegisterSlave p → register_slave_fields_at (register_slave p ++ rest) ≡ Ok (p, rest)
+unfolding register_slave register_slave_fields_at
+register_slave_fields_at-back p rest h =
+    let master = little_bytes 4 p.master_id ++ rest in
+    let rank = little_bytes 4 p.replication_rank ++ master in
+    let port = little_bytes 2 p.port ++ rank in
+    let password = u8_str p.password ++ port in
+    let user = u8_str p.user ++ password in
+    let host = u8_str p.hostname ++ user in
+    let id = little_bytes 4 p.server_id ++ host in
+    let regrouped : register_slave p ++ rest ≡ little_bytes 1 21 ++ id = simp (append_assoc, append-nil) in
+    ap register_slave_fields_at regrouped ∙ rw (
+      constant_at-back 1 21 id (lit< tt),
+      little_at-back 4 p.server_id host h.server_id,
+      name-back p.hostname user h.hostname,
+      name-back p.user password h.user,
+      name-back p.password port h.password,
+      little_at-back 2 p.port rank h.port,
+      little_at-back 4 p.replication_rank master h.replication_rank,
+      little_at-back 4 p.master_id rest h.master_id,
+    ) refl
+
+pub register_slave_at-back : (p : RegisterSlave) (rest : List ℕ) → IsRegisterSlave p → register_slave_at (register_slave p ++ rest) ≡ Ok (p, rest)
+unfolding register_slave register_slave_at
+register_slave_at-back p rest h = enough 5 register_slave_fields_at (register_slave p ++ rest) (omega arith) ∙ register_slave_fields_at-back p rest h
+
+-- named flags that were written are read again
+flags_at-back : (flags : ℕ) (rest : List ℕ) → flags < 2 ^ 16 → are_named flags ≡ true → flags_at (little_bytes 2 flags ++ rest) ≡ Ok (flags, rest)
+unfolding flags_at
+flags_at-back flags rest h named = rw (little_at-back 2 flags rest h, named) refl
+
+binlog_dump_fields_at-back : (p : BinlogDump) → IsBinlogDump p → binlog_dump_fields_at (binlog_dump p) ≡ Ok (p, [])
+unfolding binlog_dump binlog_dump_fields_at
+binlog_dump_fields_at-back p h =
+    let name = p.filename ++ [] in
+    let id = little_bytes 4 p.server_id ++ name in
+    let flags = little_bytes 2 p.flags ++ id in
+    let pos = little_bytes 4 p.pos ++ flags in
+    rw (
+      constant_at-back 1 18 pos (lit< tt),
+      little_at-back 4 p.pos flags h.pos,
+      flags_at-back p.flags id h.flags h.named,
+      little_at-back 4 p.server_id name h.server_id,
+      append-nil p.filename,
+    ) refl
+
+pub binlog_dump_at-back : (p : BinlogDump) (rest : List ℕ) → IsBinlogDump p → rest ≡ [] → binlog_dump_at (binlog_dump p ++ rest) ≡ Ok (p, rest)
+unfolding binlog_dump binlog_dump_at
+binlog_dump_at-back p rest h none =
+    rw (none, append-nil (binlog_dump p)) (enough 11 binlog_dump_fields_at (binlog_dump p) (omega arith) ∙ binlog_dump_fields_at-back p h)
+
+-- a text of less than 2^32 bytes
+long_text-back : (text rest : List ℕ) → length text < 2 ^ 32 → u32_text_at (u32_str text ++ rest) ≡ Ok (text, rest)
+long_text-back text rest h = u32_text_at-back text rest ∙ ap (λ (t : List ℕ). Ok (t, rest)) (whole text (2 ^ 32 - 1) (omega arith))
+
+-- a block of less than 2^32 bytes is written as such a text
+as_text : (block : List ℕ) → length block < 2 ^ 32 → little_bytes 4 (min (length block) (2 ^ 32 - 1)) ++ block ≡ u32_str block
+as_text block h =
+    let same = whole block (2 ^ 32 - 1) (omega arith) in
+    let len : min (length block) (2 ^ 32 - 1) ≡ length block = omega arith in
+    rw (same, len) refl
+
+block_alone : (p : BinlogDumpGtid) → IsBinlogDumpGtid p → block_at (block_bytes p.sids) ≡ Ok (p.sids, [])
+block_alone p h = rw append-nil at (block_at-back p.sids [] h.sids)
+
+binlog_dump_gtid_fields_at-back : (p : BinlogDumpGtid) (rest : List ℕ) → IsBinlogDumpGtid p → binlog_dump_gtid_fields_at (binlog_dump_gtid p ++ rest) ≡ Ok (p, rest)
+unfolding binlog_dump_gtid binlog_dump_gtid_fields_at
+binlog_dump_gtid_fields_at-back p rest h =
+    let bytes = block_bytes p.sids in
+    let text = as_text bytes h.sids.short in
+    let block = u32_str bytes ++ rest in
+    let pos = little_bytes 8 p.pos ++ block in
+    let name = u32_str p.filename ++ pos in
+    let id = little_bytes 4 p.server_id ++ name in
+    let flags = little_bytes 2 p.flags ++ id in
+    let regrouped : binlog_dump_gtid p ++ rest ≡ little_bytes 1 30 ++ flags = rw (← text) (simp (append_assoc, append-nil)) in
+    ap binlog_dump_gtid_fields_at regrouped ∙ rw (
+      constant_at-back 1 30 flags (lit< tt),
+      flags_at-back p.flags id h.flags h.named,
+      little_at-back 4 p.server_id name h.server_id,
+      long_text-back p.filename pos h.filename,
+      little_at-back 8 p.pos block h.pos,
+      long_text-back bytes rest h.sids.short,
+      block_alone p h,
+    ) refl
+
+pub binlog_dump_gtid_at-back : (p : BinlogDumpGtid) (rest : List ℕ) → IsBinlogDumpGtid p → binlog_dump_gtid_at (binlog_dump_gtid p ++ rest) ≡ Ok (p, rest)
+unfolding binlog_dump_gtid binlog_dump_gtid_at
+binlog_dump_gtid_at-back p rest h = enough 7 binlog_dump_gtid_fields_at (binlog_dump_gtid p ++ rest) (omega arith) ∙ binlog_dump_gtid_fields_at-back p rest h

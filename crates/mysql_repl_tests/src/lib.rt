@@ -1,7 +1,0 @@
-//! Tests of `mysql_repl` from outside: worked rows of tags and of sets of global transaction identifiers.
-#![tactic(auto)]
-
-#[cfg(test)]
-mod sids;
-#[cfg(test)]
-mod tags;
