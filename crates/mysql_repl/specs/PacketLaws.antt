@@ -1,5 +1,5 @@
 -- What was written of a packet is read back.
-use Rattle.std.proofs.Common.{◌≡◌, ℕ, ◌+◌, ◌-◌, ◌^◌, ◌<◌, ◌≤◌, true, List, [], ◌∷◌, ◌++◌, length, min, Ok, refl, ap, ◌∙◌, append-nil, append_assoc, arith, lit<}
+use Rattle.std.proofs.Common.{◌≡◌, ℕ, ◌+◌, ◌-◌, ◌^◌, ◌<◌, ◌≤◌, true, List, [], ◌∷◌, ◌++◌, length, min, Ok, refl, sym, ap, ◌∙◌, append-nil, append_assoc, arith, lit<}
 use Rattle.std.proofs.lemmas.Bool.{le-ltb}
 use Rattle.std.proofs.lemmas.List.{take_all}
 use Rattle.byteorder.specs.Endian.{little_bytes}
@@ -25,25 +25,33 @@ whole text most h = take_all most text h
 name-back : (text rest : List ℕ) → length text ≤ 255 → u8_text_at (u8_str text ++ rest) ≡ Ok (text, rest)
 name-back text rest h = u8_text_at-back text rest ∙ ap (λ (t : List ℕ). Ok (t, rest)) (whole text 255 h)
 
-semi_sync_ack_fields_at-back : (p : SemiSyncAck) → IsSemiSyncAck p → semi_sync_ack_fields_at (semi_sync_ack p) ≡ Ok (p, [])
+-- fields, and what follows them
+abbrev pub before : List (List ℕ) → List ℕ → List ℕ
+before [] rest = rest
+before (field ∷ fields) rest = field ++ before fields rest
+
+joined_before : (fields : List (List ℕ)) (rest : List ℕ) → joined fields ++ rest ≡ before fields rest
+joined_before [] rest = refl
+joined_before (field ∷ fields) rest = append_assoc field (joined fields) rest ∙ ap (λ (later : List ℕ). field ++ later) (joined_before fields rest)
+
+semi_sync_ack_fields_at-back : (p : SemiSyncAck) (rest : List ℕ) → IsSemiSyncAck p → rest ≡ [] → semi_sync_ack_fields_at (semi_sync_ack p ++ rest) ≡ Ok (p, rest)
 unfolding semi_sync_ack semi_sync_ack_fields_at
-semi_sync_ack_fields_at-back p h =
-    let name = p.filename ++ [] in
+semi_sync_ack_fields_at-back p rest h none =
+    let name = p.filename ++ rest in
     let position = little_bytes 8 p.position ++ name in
-    rw (constant_at-back 1 239 position (lit< tt), little_at-back 8 p.position name h.position, append-nil p.filename) refl
+    ap semi_sync_ack_fields_at (joined_before (little_bytes 1 239 ∷ little_bytes 8 p.position ∷ p.filename ∷ []) rest)
+    ∙ rw (constant_at-back 1 239 position (lit< tt), little_at-back 8 p.position name h.position, none, append-nil p.filename) refl
 
 pub semi_sync_ack_at-back : (p : SemiSyncAck) (rest : List ℕ) → IsSemiSyncAck p → rest ≡ [] → semi_sync_ack_at (semi_sync_ack p ++ rest) ≡ Ok (p, rest)
 unfolding semi_sync_ack semi_sync_ack_at
-semi_sync_ack_at-back p rest h none =
-    rw (none, append-nil (semi_sync_ack p)) (enough 9 semi_sync_ack_fields_at (semi_sync_ack p) (omega arith) ∙ semi_sync_ack_fields_at-back p h)
+semi_sync_ack_at-back p rest h none = enough 9 semi_sync_ack_fields_at (semi_sync_ack p ++ rest) (omega arith) ∙ semi_sync_ack_fields_at-back p rest h none
 
 pub table_dump_at-back : (p : TableDump) (rest : List ℕ) → IsTableDump p → table_dump_at (table_dump p ++ rest) ≡ Ok (p, rest)
 unfolding table_dump table_dump_at
 table_dump_at-back p rest h =
     let table = u8_str p.table ++ rest in
     let database = u8_str p.database ++ table in
-    let regrouped : joined (little_bytes 1 19 ∷ u8_str p.database ∷ u8_str p.table ∷ []) ++ rest ≡ little_bytes 1 19 ++ database = simp (append_assoc, append-nil) in
-    ap table_dump_at regrouped ∙ rw (
+    ap table_dump_at (joined_before (little_bytes 1 19 ∷ u8_str p.database ∷ u8_str p.table ∷ []) rest) ∙ rw (
       constant_at-back 1 19 database (lit< tt),
       name-back p.database table h.database,
       name-back p.table rest h.table,
@@ -59,8 +67,10 @@ register_slave_fields_at-back p rest h =
     let user = u8_str p.user ++ password in
     let host = u8_str p.hostname ++ user in
     let id = little_bytes 4 p.server_id ++ host in
-    let regrouped : register_slave p ++ rest ≡ little_bytes 1 21 ++ id = simp (append_assoc, append-nil) in
-    ap register_slave_fields_at regrouped ∙ rw (
+    let fields =
+        little_bytes 1 21 ∷ little_bytes 4 p.server_id ∷ u8_str p.hostname ∷ u8_str p.user ∷ u8_str p.password
+        ∷ little_bytes 2 p.port ∷ little_bytes 4 p.replication_rank ∷ little_bytes 4 p.master_id ∷ [] in
+    ap register_slave_fields_at (joined_before fields rest) ∙ rw (
       constant_at-back 1 21 id (lit< tt),
       little_at-back 4 p.server_id host h.server_id,
       name-back p.hostname user h.hostname,
@@ -80,25 +90,26 @@ flags_at-back : (flags : ℕ) (rest : List ℕ) → flags < 2 ^ 16 → are_named
 unfolding flags_at
 flags_at-back flags rest h named = rw (little_at-back 2 flags rest h, named) refl
 
-binlog_dump_fields_at-back : (p : BinlogDump) → IsBinlogDump p → binlog_dump_fields_at (binlog_dump p) ≡ Ok (p, [])
+binlog_dump_fields_at-back : (p : BinlogDump) (rest : List ℕ) → IsBinlogDump p → rest ≡ [] → binlog_dump_fields_at (binlog_dump p ++ rest) ≡ Ok (p, rest)
 unfolding binlog_dump binlog_dump_fields_at
-binlog_dump_fields_at-back p h =
-    let name = p.filename ++ [] in
+binlog_dump_fields_at-back p rest h none =
+    let name = p.filename ++ rest in
     let id = little_bytes 4 p.server_id ++ name in
     let flags = little_bytes 2 p.flags ++ id in
     let pos = little_bytes 4 p.pos ++ flags in
-    rw (
+    let fields = little_bytes 1 18 ∷ little_bytes 4 p.pos ∷ little_bytes 2 p.flags ∷ little_bytes 4 p.server_id ∷ p.filename ∷ [] in
+    ap binlog_dump_fields_at (joined_before fields rest) ∙ rw (
       constant_at-back 1 18 pos (lit< tt),
       little_at-back 4 p.pos flags h.pos,
       flags_at-back p.flags id h.flags h.named,
       little_at-back 4 p.server_id name h.server_id,
+      none,
       append-nil p.filename,
     ) refl
 
 pub binlog_dump_at-back : (p : BinlogDump) (rest : List ℕ) → IsBinlogDump p → rest ≡ [] → binlog_dump_at (binlog_dump p ++ rest) ≡ Ok (p, rest)
 unfolding binlog_dump binlog_dump_at
-binlog_dump_at-back p rest h none =
-    rw (none, append-nil (binlog_dump p)) (enough 11 binlog_dump_fields_at (binlog_dump p) (omega arith) ∙ binlog_dump_fields_at-back p h)
+binlog_dump_at-back p rest h none = enough 11 binlog_dump_fields_at (binlog_dump p ++ rest) (omega arith) ∙ binlog_dump_fields_at-back p rest h none
 
 -- a text of less than 2^32 bytes
 long_text-back : (text rest : List ℕ) → length text < 2 ^ 32 → u32_text_at (u32_str text ++ rest) ≡ Ok (text, rest)
@@ -111,6 +122,12 @@ as_text block h =
     let len : min (length block) (2 ^ 32 - 1) ≡ length block = omega arith in
     rw (same, len) refl
 
+-- a block behind its length
+block-back : (block rest : List ℕ) → length block < 2 ^ 32 → u32_text_at (little_bytes 4 (min (length block) (2 ^ 32 - 1)) ++ (block ++ rest)) ≡ Ok (block, rest)
+block-back block rest h =
+    ap u32_text_at (sym (append_assoc (little_bytes 4 (min (length block) (2 ^ 32 - 1))) block rest) ∙ ap (λ (text : List ℕ). text ++ rest) (as_text block h))
+    ∙ long_text-back block rest h
+
 block_alone : (p : BinlogDumpGtid) → IsBinlogDumpGtid p → block_at (block_bytes p.sids) ≡ Ok (p.sids, [])
 block_alone p h = rw append-nil at (block_at-back p.sids [] h.sids)
 
@@ -118,20 +135,20 @@ binlog_dump_gtid_fields_at-back : (p : BinlogDumpGtid) (rest : List ℕ) → IsB
 unfolding binlog_dump_gtid binlog_dump_gtid_fields_at
 binlog_dump_gtid_fields_at-back p rest h =
     let bytes = block_bytes p.sids in
-    let text = as_text bytes h.sids.short in
-    let block = u32_str bytes ++ rest in
+    let len = little_bytes 4 (min (length bytes) (2 ^ 32 - 1)) in
+    let block = len ++ (bytes ++ rest) in
     let pos = little_bytes 8 p.pos ++ block in
     let name = u32_str p.filename ++ pos in
     let id = little_bytes 4 p.server_id ++ name in
     let flags = little_bytes 2 p.flags ++ id in
-    let regrouped : binlog_dump_gtid p ++ rest ≡ little_bytes 1 30 ++ flags = rw (← text) (simp (append_assoc, append-nil)) in
-    ap binlog_dump_gtid_fields_at regrouped ∙ rw (
+    let fields = little_bytes 1 30 ∷ little_bytes 2 p.flags ∷ little_bytes 4 p.server_id ∷ u32_str p.filename ∷ little_bytes 8 p.pos ∷ len ∷ bytes ∷ [] in
+    ap binlog_dump_gtid_fields_at (joined_before fields rest) ∙ rw (
       constant_at-back 1 30 flags (lit< tt),
       flags_at-back p.flags id h.flags h.named,
       little_at-back 4 p.server_id name h.server_id,
       long_text-back p.filename pos h.filename,
       little_at-back 8 p.pos block h.pos,
-      long_text-back bytes rest h.sids.short,
+      block-back bytes rest h.sids.short,
       block_alone p h,
     ) refl
 

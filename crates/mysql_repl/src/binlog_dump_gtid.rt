@@ -1,6 +1,6 @@
 //! The request for the binary log without the transactions that are known.
 
-ghost use Rattle.std.specs.Prelude.{◌≡◌, ◌^◌, ◌-◌, ◌++◌, ◌∷◌, [], Bool, IfOk, None, is_empty, map};
+ghost use Rattle.std.specs.Prelude.{◌≡◌, ◌^◌, ◌-◌, ◌++◌, ◌∷◌, [], Bool, IfOk, None, map};
 ghost use Rattle.std.specs.Cow.{cow_slice_items, cow_str_bytes};
 ghost use Rattle.std.specs.Str.{encode_utf8_all};
 ghost use Rattle.bstr.specs.Utf8.{lossy_chars};
@@ -117,7 +117,8 @@ impl<'a> ComBinlogDumpGtid<'a> {
             pos,
             sids,
         } = self;
-        let mut sids = owned_sids(alloc, sids)?;
+        let (mut sids, others) = owned_part(alloc, sids);
+        copy_into(alloc, &mut sids, others)?;
         sids.push(sid)?;
         let flags = Flags::union(flags, BinlogDumpFlags::BINLOG_THROUGH_GTID);
         Ok(ComBinlogDumpGtid {
@@ -187,25 +188,33 @@ impl<'a> ComBinlogDumpGtid<'a> {
     }
 }
 
+// The elements that are owned, and those that are borrowed.
+fn owned_part<'a, T>(alloc: Global, all: CowSlice<'a, T>) -> (Vec<T>, &'a [T])
+    ensures { result.0.items ++ result.1.now ≡ cow_slice_items all.entry }
+{
+    match all {
+        CowSlice::Owned(own) => (own, &[]),
+        CowSlice::Borrowed(others) => (Vec::new(alloc), others),
+    }
+}
+
+// Appends copies of sets, which borrow nothing.
+fn copy_into(alloc: Global, copies: &mut Vec<Sid<'_>>, sids: &[Sid<'_>]) -> Result<(), AllocError>
+    ensures { IfOk result (λ _. map sid_view copies.new.items ≡ map sid_view copies.old.items ++ map sid_view sids.now) }
+{
+    for sid in sids {
+        copies.push(sid.clone(alloc)?)?;
+    }
+    Ok(())
+}
+
 // Copies of sets, which borrow nothing.
 pub(crate) fn copies_of<'b>(alloc: Global, sids: &[Sid<'_>]) -> Result<Vec<Sid<'b>>, AllocError>
     ensures { IfOk result (λ copies. map sid_view copies.items ≡ map sid_view sids.now) }
 {
     let mut copies = Vec::new(alloc);
-    for sid in sids {
-        copies.push(sid.clone(alloc)?)?;
-    }
+    copy_into(alloc, &mut copies, sids)?;
     Ok(copies)
-}
-
-// The same sets, owned; borrowed ones are copied.
-fn owned_sids<'a>(alloc: Global, sids: CowSlice<'a, Sid<'a>>) -> Result<Vec<Sid<'a>>, AllocError>
-    ensures { IfOk result (λ own. map sid_view own.items ≡ map sid_view (cow_slice_items sids.entry)) }
-{
-    match sids {
-        CowSlice::Owned(sids) => Ok(sids),
-        CowSlice::Borrowed(sids) => copies_of(alloc, sids),
-    }
 }
 
 #[tactic(auto, unfolding(crate::specs::Packets::binlog_dump_gtid))]

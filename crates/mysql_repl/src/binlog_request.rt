@@ -91,7 +91,7 @@ impl<'a> BinlogRequest<'a> {
 
     /// The same with these sets in place of its own.
     pub fn with_sids(mut self, sids: Vec<Sid<'a>>) -> BinlogRequest<'a>
-        ensures { request_view result ≡ record (request_view self.entry) { sids = map sid_view sids.items } }
+        ensures { request_view result ≡ record (request_view self.entry) { sids = map sid_view sids.entry.items } }
     {
         self.sids = sids;
         self
