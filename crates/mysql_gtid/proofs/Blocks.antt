@@ -1,5 +1,5 @@
 -- Sets as bytes: what a text names, and how long sets are.
-use Rattle.std.proofs.Common.{◌≡◌, ℕ, ◌+◌, ◌-◌, ◌*◌, ◌^◌, ◌<◌, ◌≤◌, ◌==◌, ◌&&◌, Bool, true, false, true≢false, cond, nat_lt, List, [], ◌∷◌, ◌++◌, length, drop, map, take, min, Ok, Err, Option, Some, None, is_none, unwrap_or, refl, sym, ap, ◌∙◌, inl, inr, arith, length-append}
+use Rattle.std.proofs.Common.{◌≡◌, ℕ, ◌+◌, ◌-◌, ◌*◌, ◌^◌, ◌≤◌, ◌==◌, ◌&&◌, Bool, true, false, true≢false, cond, nat_lt, List, [], ◌∷◌, ◌++◌, length, drop, map, take, min, Ok, Err, Option, Some, None, is_none, refl, sym, ap, ◌∙◌, inl, inr, arith, length-append}
 use Rattle.std.proofs.lemmas.Bool.{cases_lt}
 use Rattle.std.proofs.lemmas.Bool.Decides.{nat_tests}
 use Rattle.std.proofs.lemmas.List.{length-take-le, take_all}
@@ -14,10 +14,9 @@ use Rattle.mysql_buf.specs.Writing.{front}
 use Rattle.mysql_raw.specs.Forms.{bytes_at}
 use Rattle.mysql_raw.specs.Laws.{ok_same}
 use Rattle.mysql_raw.specs.Wire.{or_end}
-use Rattle.mysql_raw.specs.declared.error.WireError.{WireError}
-use Rattle.mysql_raw.specs.declared.error.WireError.TheVariants.{UnexpectedEof, UnknownValue}
+use Rattle.mysql_raw.specs.declared.error.WireError.TheVariants.{UnknownValue}
 use Rattle.mysql_raw_bytes.specs.Texts.{varlen_text}
-use Rattle.mysql_gtid.specs.Blocks.{any_tag, block_bytes, block_number, interval_bytes, is_tag, sid_bytes, tag_bytes, tag_named}
+use Rattle.mysql_gtid.specs.Blocks.{any_tag, block_bytes, block_number, interval_bytes, sid_bytes, tag_bytes, tag_named}
 use Rattle.mysql_gtid.specs.Sids.{SidParts, sid_view}
 use Rattle.mysql_gtid.specs.Tags.{fault_of_chars, tag_fault}
 use Rattle.mysql_gtid.specs.declared.interval.GnoInterval.{GnoInterval}
@@ -67,8 +66,8 @@ pub taken_len : (n : ℕ) (bytes text rest : List ℕ) → bytes_at n bytes ≡ 
 taken_len n bytes text rest h = elim (cases_lt (length bytes) n) [
   | inl lt ↦ absurd (let none = ap or_end (first-short n (take n) bytes lt) in cc)
   | inr le ↦ let some = ap or_end (first-enough n (take n) bytes le) in
-    let same = ok_same (text, rest) (take n bytes, drop n bytes) (sym h ∙ some) in
-    ap (λ (p : List ℕ × List ℕ). length p.0) same ∙ length-take-le n bytes le
+      let same = ok_same (text, rest) (take n bytes, drop n bytes) (sym h ∙ some) in
+      ap (λ (p : List ℕ × List ℕ). length p.0) same ∙ length-take-le n bytes le
 ]
 
 short_text : (a b : Bool) (x y : InvalidTag) (r : Option InvalidTag) → cond a (Some x) (cond b (Some y) r) ≡ None → b ≡ false

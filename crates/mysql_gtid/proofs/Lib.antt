@@ -1,6 +1,7 @@
 pub mod Blocks
 pub mod Characters
 pub mod Elements
+pub mod Equal
 pub mod Fields
 pub mod IntervalTexts
 pub mod Lacking

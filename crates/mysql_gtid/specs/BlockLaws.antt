@@ -1,19 +1,18 @@
 -- Sets have their sizes as bytes, and what is written of them reads back.
-use Rattle.std.proofs.Common.{◌≡◌, ℕ, ◌+◌, ◌-◌, ◌*◌, ◌/◌, ◌%◌, ◌^◌, ◌<◌, ◌≤◌, ◌==◌, ◌&&◌, ◌||◌, nat_lt, Bool, true, false, true≢false, cond, List, [], ◌∷◌, ◌++◌, length, drop, map, take, Ok, Err, Option, Some, None, is_some, is_none, unwrap_or, refl, sym, ap, ◌∙◌, inl, inr, append_assoc, arith, length-append, length-drop, eq-eqb}
+use Rattle.std.proofs.Common.{◌≡◌, ℕ, ◌+◌, ◌-◌, ◌*◌, ◌/◌, ◌%◌, ◌^◌, ◌<◌, ◌≤◌, ◌==◌, ◌&&◌, ◌||◌, nat_lt, Bool, true, false, true≢false, cond, List, [], ◌∷◌, ◌++◌, length, drop, take, Ok, Err, Option, Some, None, is_some, is_none, refl, sym, ap, ◌∙◌, inl, inr, append_assoc, arith, length-append, length-drop, eq-eqb}
 use Rattle.std.proofs.Math.Seq.{take-length}
 use Rattle.std.proofs.lemmas.Bool.{cases_lt, ltb-true}
 use Rattle.std.proofs.lemmas.Bool.Decides.{nat_tests}
 use Rattle.std.proofs.lemmas.List.{drop-drop, map-id, take_all}
-use Rattle.std.specs.List.{AllByRecursion, flat_map, list_any}
+use Rattle.std.specs.List.{AllByRecursion, flat_map}
 use Rattle.std.specs.Str.{chars, is_utf8}
 use Rattle.byteorder.specs.Endian.{little_bytes, little_number}
 use Rattle.mysql_buf.specs.FirstBytes.{first-enough, first-short}
 use Rattle.mysql_buf.specs.Reading.{first}
 use Rattle.mysql_buf.specs.Writing.{front}
-use Rattle.mysql_raw.specs.Forms.{bytes_at, little_at}
+use Rattle.mysql_raw.specs.Forms.{little_at}
 use Rattle.mysql_raw.specs.Laws.{little_at-back, ok_same, slice_at-back}
 use Rattle.mysql_raw.specs.Wire.{IsSized, Reading, or_end, ◌>>=◌}
-use Rattle.mysql_raw.specs.declared.error.WireError.{WireError}
 use Rattle.mysql_raw.specs.declared.error.WireError.TheVariants.{UnexpectedEof}
 use Rattle.mysql_raw_bytes.specs.TextLaws.{varlen_text_at-back}
 use Rattle.mysql_raw_bytes.specs.Texts.{varlen_text, varlen_text_at}
@@ -21,7 +20,7 @@ use Rattle.mysql_raw_lists.specs.ListLaws.{counted_numbers_at-back, elements_at-
 use Rattle.mysql_raw_lists.specs.Lists.{counted_at, elements_at}
 use Rattle.mysql_gtid.specs.Blocks.{IsBlock, IsInterval, IsSid, IsTagOrNone, any_tag, block_at, block_bytes, block_number, count_said, interval_at, interval_bytes, is_tag, says_tagged, sid_at, sid_bytes, tag_at, tag_bytes, tag_named}
 use Rattle.mysql_gtid.specs.Sids.{SidParts}
-use Rattle.mysql_gtid.specs.Tags.{fault_of_chars, tag_fault}
+use Rattle.mysql_gtid.specs.Tags.{fault_of_chars}
 use Rattle.mysql_gtid.specs.declared.interval.GnoInterval.{GnoInterval}
 use Rattle.mysql_gtid.specs.declared.tag.InvalidTag.{InvalidTag}
 use Rattle.mysql_gtid.specs.declared.tag.InvalidTag.TheVariants.{Empty, TooLong}
@@ -54,8 +53,8 @@ left_behind : {X Y Z : Type 0} (n m : ℕ) (f : List ℕ → X) (g : List ℕ �
 left_behind {Z = Z} n m f g make bytes rest z e = elim (cases_lt (length bytes) (n + m)) [
   | inl lt ↦ absurd (let no = few_for_two n m f g make bytes lt in cc)
   | inr le ↦ let yes = both n m f g make bytes (omega arith) (omega (arith, length-drop n bytes)) in
-    let same = ok_same (z, rest) (make (f bytes) (g (drop n bytes)), drop m (drop n bytes)) (sym e ∙ yes) in
-    ap (λ (p : Z × List ℕ). p.1) same ∙ drop-drop m n bytes
+      let same = ok_same (z, rest) (make (f bytes) (g (drop n bytes)), drop m (drop n bytes)) (sym e ∙ yes) in
+      ap (λ (p : Z × List ℕ). p.1) same ∙ drop-drop m n bytes
 ]
 
 size_is : (n m : ℕ) → Some m ≡ Some n → m ≡ n

@@ -1,6 +1,6 @@
 -- Sets of global transaction identifiers as bytes: each alone, and in the block of a request for the binary log.
 -- MySQL: Client/Server Protocol, "COM_BINLOG_DUMP_GTID"; Source Code Documentation, "Gtid_set::encode".
-use Rattle.std.specs.Prelude.{◌≡◌, ℕ, ◌+◌, ◌*◌, ◌/◌, ◌%◌, ◌^◌, ◌<◌, List, [], ◌∷◌, ◌++◌, length, map, Bool, true, false, Option, Some, None, is_some, is_none, unwrap_or, Result, Ok, Err, ◌==◌, ◌&&◌, if◌then◌else◌}
+use Rattle.std.specs.Prelude.{◌≡◌, ℕ, ◌+◌, ◌*◌, ◌/◌, ◌%◌, ◌^◌, ◌<◌, List, [], ◌∷◌, ◌++◌, length, Bool, true, false, Option, Some, None, is_some, is_none, unwrap_or, Result, Ok, Err, ◌==◌, ◌&&◌, if◌then◌else◌}
 use Rattle.std.specs.List.{AllByRecursion, flat_map, list_any}
 use Rattle.std.specs.Str.{is_utf8}
 use Rattle.byteorder.specs.Endian.{little_bytes}

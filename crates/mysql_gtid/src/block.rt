@@ -16,11 +16,11 @@ ghost use Rattle.mysql_gtid.specs.declared.interval.GnoInterval.{GnoInterval};
 use crate::interval::GnoInterval;
 use crate::sid::{Sid, UUID_LEN};
 use crate::tag::Tag;
+use bytes::BufMut;
 use mysql_buf::{ParseBuf, read_varlen_uint, varlen_uint_size};
 use mysql_raw::{
     LeU64, MyDeserialize, MySerialize, ParseExt, RawInt, Readable, ReadsBack, VarLen, WireError,
 };
-use bytes::BufMut;
 use mysql_raw_bytes::RawBytes;
 use std::alloc::{AllocError, Global};
 use std::borrow::CowSlice;

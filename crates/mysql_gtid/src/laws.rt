@@ -3,8 +3,10 @@
 ghost use Rattle.std.specs.Prelude.{◌≡◌, ◌↔◌, IsTrue};
 ghost use Rattle.std.specs.Ordering.{nat_cmp};
 ghost use Rattle.std.specs.Cmp.Lexicographic.{slice_cmp};
+ghost use Rattle.mysql_gtid.specs.Sids.{sid_view};
 ghost use Rattle.mysql_gtid.specs.Laws.{ParsedEqualByText, ParsedReadsBack};
 
+use crate::sid::Sid;
 use crate::tag::Tag;
 use std::cmp::Ordering;
 
@@ -32,4 +34,11 @@ pub fn tags_are_ordered_by_their_bytes(a: &Tag<'_>, b: &Tag<'_>) -> Ordering
     ensures { result ≡ slice_cmp nat_cmp a.now b.now }
 {
     a.cmp(b)
+}
+
+/// Sets are equal exactly where their UUIDs, their tags and their intervals are.
+pub fn sets_are_equal_by_their_parts(a: &Sid<'_>, b: &Sid<'_>) -> bool
+    ensures { IsTrue result ↔ (sid_view a.now ≡ sid_view b.now) }
+{
+    a == b
 }

@@ -32,7 +32,7 @@ fn no_dump(rt: HostRuntime) {
 fn fields_of_a_dump(rt: HostRuntime) {
     let packet = ComBinlogDump::new(7).with_filename(CowSlice::Borrowed(b"f"));
     assert_eq!(rt; packet.pos(), 0);
-    assert_eq!(rt; packet.flags().bits(), 0);
+    assert_eq!(rt; packet.flags().0, 0);
     assert_eq!(rt; packet.server_id(), 7);
     match packet.filename(rt.alloc()) {
         Ok(name) => assert_eq!(rt; name.as_str(), "f"),

@@ -44,7 +44,7 @@ fn both(alloc: Global) -> Result<ComBinlogDumpGtid<'static>, AllocError> {
 fn a_tagged_block(rt: HostRuntime) {
     match both(rt.alloc()) {
         Ok(packet) => {
-            assert_eq!(rt; packet.flags().bits(), 4);
+            assert_eq!(rt; packet.flags().0, 4);
             assert_eq!(rt; written(&rt, rt.alloc(), &packet).as_slice(), TAGGED);
         }
         Err(_) => {}
@@ -128,12 +128,12 @@ fn refused_fronts(rt: HostRuntime) {
 #[test]
 fn flags_say_whether_there_are_sets(rt: HostRuntime) {
     let through = BinlogDumpFlags::BINLOG_THROUGH_GTID;
-    assert_eq!(rt; request().with_flags(through).flags().bits(), 0);
+    assert_eq!(rt; request().with_flags(through).flags().0, 0);
     match untagged(rt.alloc()) {
         Ok(sid) => {
             let sids = [sid];
             let packet = request().with_sids(CowSlice::Borrowed(&sids));
-            assert_eq!(rt; packet.flags().bits(), 4);
+            assert_eq!(rt; packet.flags().0, 4);
         }
         Err(_) => {}
     }

@@ -1,4 +1,4 @@
-use Rattle.std.proofs.Common.{◌≡◌, ◌++◌, ◌∙◌, ap, List, ℕ}
+use Rattle.std.proofs.Common.{◌++◌, ◌∙◌, ap, List, ℕ}
 use Rattle.mysql_gtid.specs.Blocks.{sid_bytes}
 use Rattle.mysql_gtid.proofs.Blocks.{all_sids}
 use Rattle.mysql_gtid.proofs.block.put_sids.Goals as goal

@@ -1,4 +1,4 @@
-use Rattle.std.proofs.Common.{◌≡◌, ◌-◌, ◌^◌, ◌∙◌, ap, length, List, min, ℕ}
+use Rattle.std.proofs.Common.{◌-◌, ◌^◌, ◌∙◌, ap, length, List, min, ℕ}
 use Rattle.mysql_gtid.specs.Blocks.{sid_bytes}
 use Rattle.mysql_gtid.proofs.Blocks.{all_sids}
 use Rattle.mysql_gtid.proofs.block.sids_len.Goals as goal

@@ -1,4 +1,3 @@
-use Rattle.std.proofs.Common.{◌≡◌}
 use Rattle.std.proofs.lemmas.Result.{err_from_is_err_and}
 use Rattle.mysql_raw_lists.specs.Lists.{elements_at}
 use Rattle.mysql_gtid.specs.Blocks.{interval_at}

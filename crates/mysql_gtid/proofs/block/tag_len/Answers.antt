@@ -1,4 +1,4 @@
-use Rattle.std.proofs.Common.{◌≡◌, arith}
+use Rattle.std.proofs.Common.{arith}
 use Rattle.mysql_gtid.proofs.Blocks.{short_varlen_size, tag_bytes_len}
 use Rattle.mysql_gtid.proofs.block.tag_len.Goals as goal
 

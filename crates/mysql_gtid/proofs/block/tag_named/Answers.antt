@@ -1,5 +1,4 @@
 use Rattle.std.proofs.Common.{◌≡◌, ◌∙◌}
-use Rattle.mysql_gtid.specs.Blocks.{tag_named}
 use Rattle.mysql_gtid.proofs.Blocks.{no_text, no_utf8, tag_text, text_at_fault}
 use Rattle.mysql_gtid.proofs.block.tag_named.Goals as goal
 

@@ -1,4 +1,3 @@
-use Rattle.std.proofs.Common.{◌≡◌}
 use Rattle.mysql_gtid.proofs.Blocks.{taken_len}
 use Rattle.mysql_gtid.proofs.block.uuid_from.Goals as goal
 

@@ -1,4 +1,4 @@
-use Rattle.std.proofs.Common.{◌≡◌, ◌-◌, ◌^◌, ◌∙◌, ap, length, List, map, min}
+use Rattle.std.proofs.Common.{◌-◌, ◌^◌, ◌∙◌, ap, length, List, map, min}
 use Rattle.mysql_gtid.specs.Blocks.{block_bytes}
 use Rattle.mysql_gtid.specs.Sids.{sid_view}
 use Rattle.mysql_gtid.specs.declared.sid.Sid.{Sid}
