@@ -1,0 +1,2 @@
+pub mod Plugins
+pub mod Views
