@@ -6,7 +6,7 @@ ghost use Rattle.mysql_auth.specs.Views.{plugin_view};
 ghost use Rattle.mysql_raw.specs.Laws.{unsized};
 
 use crate::parsec::parse_parsec_salt;
-use crate::zero::without_zero;
+use crate::zero::{put_with_zero, without_zero};
 use mysql_buf::ParseBuf;
 use mysql_raw::{MyDeserialize, MySerialize, Readable, WireError};
 use std::alloc::{AllocError, Global};
@@ -166,13 +166,7 @@ impl<'a> MySerialize for AuthPlugin<'a> {
     ghost written = { λ plugin. plugin_name (plugin_view plugin) ++ 0 ∷ [] };
 
     fn serialize(&self, buf: &mut Vec<u8>) -> Result<(), AllocError> {
-        let len = buf.len();
-        buf.extend_from_slice(self.as_bytes())?;
-        if let Err(e) = buf.push(0) {
-            buf.truncate(len);
-            return Err(e.into());
-        }
-        Ok(())
+        put_with_zero(self.as_bytes(), buf)
     }
 }
 

@@ -1,0 +1,36 @@
+-- How the packets of an exchange are written and read.
+-- (MySQL: Client/Server Protocol, "Protocol::AuthMoreData" and "Protocol::AuthSwitchRequest".)
+use Rattle.std.specs.Prelude.{ℕ, ◌∷◌, ◌++◌, [], List, Ok}
+use Rattle.byteorder.specs.Endian.{little_bytes}
+use Rattle.mysql_raw.specs.Wire.{Reading, ◌>>=◌}
+use Rattle.mysql_raw_bytes.specs.Texts.{null_text, null_text_at}
+use Rattle.mysql_raw_consts.specs.Constants.{constant_at}
+
+-- parts, one behind the other
+abbrev pub joined : List (List ℕ) → List ℕ
+joined [] = []
+joined (part ∷ parts) = part ++ joined parts
+
+-- a byte, and a text to the end
+unfoldable pub headed : ℕ → List ℕ → List ℕ
+headed header text = joined (little_bytes 1 header ∷ text ∷ [])
+
+unfoldable pub headed_at : ℕ → List ℕ → Reading (List ℕ)
+headed_at byte bytes = do
+  header ← constant_at 1 byte bytes
+  Ok (header.1, [])
+
+-- a request for another plugin: its name, and data for it
+pub record SwitchFields : Type 0 where
+  pub auth_plugin : List ℕ
+  pub plugin_data : List ℕ
+
+-- fe, the name and a zero, the data to the end
+unfoldable pub switch : SwitchFields → List ℕ
+switch p = joined (little_bytes 1 254 ∷ null_text p.auth_plugin ∷ p.plugin_data ∷ [])
+
+unfoldable pub switch_at : List ℕ → Reading SwitchFields
+switch_at bytes = do
+  header ← constant_at 1 254 bytes
+  plugin ← null_text_at header.1
+  Ok (record { auth_plugin = plugin.0; plugin_data = plugin.1 }, [])
