@@ -1,0 +1,3 @@
+pub mod SslRequestLaws
+pub mod SslRequests
+pub mod SslRequestViews
