@@ -1,3 +1,5 @@
+pub mod AttributeViews
+pub mod Attributes
 pub mod SslRequestLaws
 pub mod SslRequests
 pub mod SslRequestViews
