@@ -13,7 +13,7 @@ use bstr::ByteSlice;
 use indexmap::IndexMap;
 use mysql_buf::{BufMutExt, ParseBuf, lenenc_str_len};
 use mysql_raw::{LenEnc, MyDeserialize, MySerialize, ParseExt, RawInt, Readable, WireError};
-use mysql_raw_bytes::RawBytes;
+use mysql_raw_bytes::{BytesRepr, RawBytes};
 use std::alloc::{AllocError, Global};
 use std::borrow::CowSlice;
 
@@ -53,12 +53,38 @@ impl<'a> ConnectAttributes<'a> {
         alloc: Global,
         texts: IndexMap<String, String>,
     ) -> Result<ConnectAttributes<'a>, AllocError>
-        ensures { IfOk result (λ all. attributes_view all ≡ with_last_values (map text_attribute texts.entries)) }
+        ensures { IfOk result (λ all. attributes_view all ≡ map text_attribute texts.entries) }
     {
         let mut all = ConnectAttributes::new(alloc);
         for (key, value) in texts {
             let key = RawBytes::new(CowSlice::Owned(key.into_bytes()));
             let value = RawBytes::new(CowSlice::Owned(value.into_bytes()));
+            all.put(key, value)?;
+        }
+        Ok(all)
+    }
+
+    /// The same attributes, which borrow nothing. Refused for want of memory alone.
+    pub fn into_owned(self, alloc: Global) -> Result<ConnectAttributes<'static>, WireError>
+        ensures { IfOk result (λ all. attributes_view all ≡ attributes_view self.entry) }
+    {
+        let mut all = ConnectAttributes::new(alloc);
+        for (key, value) in self.entries {
+            let key = key.into_owned(alloc)?;
+            let value = value.into_owned(alloc)?;
+            all.put(key, value)?;
+        }
+        Ok(all)
+    }
+
+    /// A copy of the attributes, which borrows nothing. Refused for want of memory alone.
+    pub fn clone(&self, alloc: Global) -> Result<ConnectAttributes<'static>, AllocError>
+        ensures { IfOk result (λ all. attributes_view all ≡ attributes_view self.now) }
+    {
+        let mut all = ConnectAttributes::new(alloc);
+        for (key, value) in &self.entries {
+            let key = copied(alloc, key)?;
+            let value = copied(alloc, value)?;
             all.put(key, value)?;
         }
         Ok(all)
@@ -77,6 +103,17 @@ impl<'a> ConnectAttributes<'a> {
         }
         Ok(texts)
     }
+}
+
+// A copy of a text.
+pub(crate) fn copied<T: BytesRepr>(
+    alloc: Global,
+    text: &RawBytes<T>,
+) -> Result<RawBytes<'static, T>, AllocError>
+    ensures { IfOk result (λ copy. cow_slice_items copy.0 ≡ cow_slice_items text.now.0) }
+{
+    let bytes = Vec::from_slice(alloc, text.0.as_slice())?;
+    Ok(RawBytes::new(CowSlice::Owned(bytes)))
 }
 
 // Bytes as text, where bytes that aren't UTF-8 are replaced.
