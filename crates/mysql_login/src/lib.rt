@@ -2,8 +2,11 @@
 #![tactic(auto)]
 
 mod attributes;
+mod handshake_response;
 pub mod laws;
+mod parts;
 mod ssl_request;
 
 pub use crate::attributes::ConnectAttributes;
+pub use crate::handshake_response::HandshakeResponse;
 pub use crate::ssl_request::SslRequest;
