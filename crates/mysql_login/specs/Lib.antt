@@ -1,5 +1,7 @@
 pub mod AttributeViews
 pub mod Attributes
+pub mod ChangedUserViews
+pub mod ChangedUsers
 pub mod Parts
 pub mod ResponseViews
 pub mod Responses

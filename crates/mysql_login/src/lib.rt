@@ -2,11 +2,15 @@
 #![tactic(auto)]
 
 mod attributes;
+mod change_user;
 mod handshake_response;
 pub mod laws;
 mod parts;
 mod ssl_request;
 
 pub use crate::attributes::ConnectAttributes;
+pub use crate::change_user::{
+    ComChangeUser, ComChangeUserHeader, ComChangeUserMoreData, InvalidComChangeUserHeader,
+};
 pub use crate::handshake_response::HandshakeResponse;
 pub use crate::ssl_request::SslRequest;

@@ -1,0 +1,57 @@
+-- The command that logs another user in.
+-- (MySQL: Client/Server Protocol, "COM_CHANGE_USER"; MariaDB: Client/Server Protocol, "COM_CHANGE_USER".)
+use Rattle.std.specs.Prelude.{◌==◌, ℕ, not, List, [], ◌∷◌, length, Option, Some, None, Ok}
+use Rattle.std.specs.List.{concat}
+use Rattle.byteorder.specs.Endian.{little_bytes}
+use Rattle.mysql_auth.specs.Plugins.{Plugin}
+use Rattle.mysql_buf.specs.Writing.{u8_str}
+use Rattle.mysql_raw.specs.Forms.{little_at}
+use Rattle.mysql_raw.specs.Wire.{Reading, ◌>>=◌}
+use Rattle.mysql_raw_bytes.specs.Texts.{null_text, null_text_at, u8_text_at}
+use Rattle.mysql_raw_consts.specs.Constants.{constant_at}
+use Rattle.mysql_login.specs.Attributes.{Attribute, attributes, attributes_at}
+use Rattle.mysql_login.specs.Parts.{connect_attrs, has_flag, if_held, if_there, plugin_auth, plugin_before_zero_at, plugin_text}
+
+-- what may stand last: the collation, the plugin, the attributes
+pub record MoreFields : Type 0 where
+  pub character_set : ℕ
+  pub plugin : Option Plugin
+  pub attributes : Option (List Attribute)
+
+-- attributes, or none
+abbrev pub or_none : Option (List Attribute) → List Attribute
+or_none None = []
+or_none (Some all) = all
+
+-- the fields in that order; attributes are always written, though there be none
+unfoldable pub more_data : MoreFields → List ℕ
+more_data p = concat (little_bytes 2 p.character_set ∷ if_held plugin_text p.plugin ∷ attributes (or_none p.attributes) ∷ [])
+
+-- the fields that stand first; the capabilities say which of the last two do
+unfoldable pub more_data_at : ℕ → List ℕ → Reading MoreFields
+more_data_at capabilities bytes = do
+  set ← little_at 2 bytes
+  plugin ← if_there (has_flag plugin_auth capabilities) plugin_before_zero_at set.1
+  attributes ← if_there (has_flag connect_attrs capabilities) attributes_at plugin.1
+  Ok (record { character_set = set.0; plugin = plugin.0; attributes = attributes.0 }, attributes.1)
+
+-- the user, the answer to the scramble, the database, and what may stand last
+pub record ChangeUserFields : Type 0 where
+  pub user : List ℕ
+  pub scramble : List ℕ
+  pub database : List ℕ
+  pub more : Option MoreFields
+
+-- the command's number and the fields in that order
+unfoldable pub change_user : ChangeUserFields → List ℕ
+change_user p = concat (little_bytes 1 0x11 ∷ null_text p.user ∷ u8_str p.scramble ∷ null_text p.database ∷ if_held more_data p.more ∷ [])
+
+-- the fields that stand first; more is read where a byte follows
+unfoldable pub change_user_at : ℕ → List ℕ → Reading ChangeUserFields
+change_user_at capabilities bytes = do
+  header ← constant_at 1 0x11 bytes
+  user ← null_text_at header.1
+  scramble ← u8_text_at user.1
+  database ← null_text_at scramble.1
+  more ← if_there (not (length database.1 == 0)) (more_data_at capabilities) database.1
+  Ok (record { user = user.0; scramble = scramble.0; database = database.0; more = more.0 }, more.1)

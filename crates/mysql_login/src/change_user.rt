@@ -1,0 +1,360 @@
+//! The command that logs another user in.
+
+ghost use Rattle.std.specs.Prelude.{◌≡◌, [], IfOk, None, map, option_map};
+ghost use Rattle.std.specs.Cow.{cow_slice_items};
+ghost use Rattle.mysql_auth.specs.Views.{plugin_view};
+ghost use Rattle.mysql_login.specs.Attributes.{attributes};
+ghost use Rattle.mysql_login.specs.AttributeViews.{attributes_view, text_attribute};
+ghost use Rattle.mysql_login.specs.ChangedUsers.{ChangeUserFields, MoreFields, change_user, change_user_at, more_data, more_data_at, or_none};
+ghost use Rattle.mysql_login.specs.ChangedUserViews.{change_user_view, more_view};
+ghost use Rattle.mysql_login.specs.Parts.{or_empty};
+ghost use Rattle.mysql_raw.specs.Laws.{unsized};
+ghost use Rattle.mysql_raw.specs.Wire.{GivesPart};
+
+use crate::attributes::{ConnectAttributes, copied};
+use crate::parts::{
+    IfHeld, attributes_of_texts, copied_attributes, copied_plugin, has, or_no_bytes,
+    owned_attributes, owned_plugin, parse_if, plugin_before_zero,
+};
+use indexmap::IndexMap;
+use mysql_auth::AuthPlugin;
+use mysql_buf::ParseBuf;
+use mysql_const::CapabilityFlags;
+use mysql_raw::{
+    LeU16, MyDeserialize, MySerialize, ParseExt, RawInt, Readable, WireError, in_order,
+};
+use mysql_raw_bytes::{NullBytes, RawBytes, U8Bytes};
+use mysql_raw_consts::ConstU8;
+use std::alloc::{AllocError, Global};
+use std::borrow::CowSlice;
+use thiserror::Error;
+
+/// Another byte than 11 in its place.
+#[derive(Clone, Copy, Debug, Default, PartialEq, Eq, Hash, Error)]
+#[error("Invalid COM_CHANGE_USER header")]
+pub struct InvalidComChangeUserHeader;
+
+/// The command's number.
+/// (MySQL: Client/Server Protocol, "COM_CHANGE_USER".)
+pub type ComChangeUserHeader = ConstU8<InvalidComChangeUserHeader, 0x11>;
+
+/// What may stand last in the command that logs another user in.
+/// (MySQL: Client/Server Protocol, "COM_CHANGE_USER"; MariaDB: Client/Server Protocol,
+/// "COM_CHANGE_USER".)
+#[derive(Debug, PartialEq, Eq, Drop)]
+pub struct ComChangeUserMoreData<'a> {
+    character_set: u16,
+    auth_plugin: Option<AuthPlugin<'a>>,
+    connect_attributes: Option<ConnectAttributes<'a>>,
+}
+
+impl<'a> ComChangeUserMoreData<'a> {
+    /// A collation's number, no plugin and no attributes.
+    pub fn new(character_set: u16) -> ComChangeUserMoreData<'a>
+        ensures { more_view result ≡ record { character_set = character_set; plugin = None; attributes = None } }
+    {
+        ComChangeUserMoreData {
+            character_set,
+            auth_plugin: None,
+            connect_attributes: None,
+        }
+    }
+
+    /// The same with this plugin, or with none.
+    pub fn with_auth_plugin(
+        mut self,
+        auth_plugin: Option<AuthPlugin<'a>>,
+    ) -> ComChangeUserMoreData<'a>
+        ensures { more_view result ≡ record (more_view self.entry) { plugin = option_map plugin_view auth_plugin.entry } }
+    {
+        self.auth_plugin = auth_plugin;
+        self
+    }
+
+    /// The same with the attributes of these texts, or with none. Refused for want of memory alone.
+    pub fn with_connect_attributes(
+        mut self,
+        alloc: Global,
+        connect_attributes: Option<IndexMap<String, String>>,
+    ) -> Result<ComChangeUserMoreData<'a>, AllocError>
+        ensures { IfOk result (λ more. more_view more ≡ record (more_view self.entry) { attributes = option_map (λ texts. map text_attribute texts.entries) connect_attributes }) }
+    {
+        self.connect_attributes = attributes_of_texts(alloc, connect_attributes)?;
+        Ok(self)
+    }
+
+    /// The same, which borrows nothing. Refused for want of memory alone.
+    pub fn into_owned(self, alloc: Global) -> Result<ComChangeUserMoreData<'static>, WireError>
+        ensures { IfOk result (λ more. more_view more ≡ more_view self.entry) }
+    {
+        Ok(ComChangeUserMoreData {
+            character_set: self.character_set,
+            auth_plugin: owned_plugin(alloc, self.auth_plugin)?,
+            connect_attributes: owned_attributes(alloc, self.connect_attributes)?,
+        })
+    }
+
+    /// A copy, which borrows nothing. Refused for want of memory alone.
+    pub fn clone(&self, alloc: Global) -> Result<ComChangeUserMoreData<'static>, AllocError>
+        ensures { IfOk result (λ copy. more_view copy ≡ more_view self.now) }
+    {
+        Ok(ComChangeUserMoreData {
+            character_set: self.character_set,
+            auth_plugin: copied_plugin(alloc, &self.auth_plugin)?,
+            connect_attributes: copied_attributes(alloc, &self.connect_attributes)?,
+        })
+    }
+}
+
+// Attributes, which are written though there be none.
+#[derive(Drop)]
+struct OrNone<'x, 'a>(&'x Option<ConnectAttributes<'a>>);
+
+impl<'x, 'a> MySerialize for OrNone<'x, 'a> {
+    ghost written = { λ x. attributes (or_none (option_map attributes_view x.0.now)) };
+
+    fn serialize(&self, buf: &mut Vec<u8>) -> Result<(), AllocError> {
+        match self.0 {
+            Some(all) => all.serialize(buf),
+            None => buf.extend_from_slice(&[0]),
+        }
+    }
+}
+
+#[tactic(auto, unfolding(crate::specs::ChangedUsers::more_data))]
+impl<'a> MySerialize for ComChangeUserMoreData<'a> {
+    ghost written = { λ p. more_data (more_view p) };
+
+    fn serialize(&self, buf: &mut Vec<u8>) -> Result<(), AllocError> {
+        let character_set = RawInt::<LeU16>::new(self.character_set);
+        let auth_plugin = IfHeld(&self.auth_plugin);
+        let connect_attributes = OrNone(&self.connect_attributes);
+        in_order!(character_set, auth_plugin, connect_attributes).serialize(buf)
+    }
+}
+
+/// The context is what the client can do.
+impl<'a> Readable for ComChangeUserMoreData<'a> {
+    type Ctx = CapabilityFlags;
+
+    ghost SIZE = { None };
+
+    ghost Shown = { MoreFields };
+
+    ghost shown = { more_view };
+
+    ghost read_at = { λ capabilities bytes. more_data_at capabilities.0 bytes };
+
+    ghost kept = { more_view };
+
+    ghost sized = { λ capabilities. unsized (more_data_at capabilities.0) };
+
+    fn size() -> Option<usize>
+        ensures { result ≡ None }
+    {
+        None
+    }
+}
+
+#[tactic(auto, unfolding(crate::specs::ChangedUsers::more_data_at))]
+impl<'de> MyDeserialize<'de> for ComChangeUserMoreData<'de> {
+    fn deserialize(
+        alloc: Global,
+        capabilities: CapabilityFlags,
+        buf: &mut ParseBuf<'de>,
+    ) -> Result<ComChangeUserMoreData<'de>, WireError> {
+        let mut rest = *buf;
+        let character_set: RawInt<LeU16> = rest.parse(alloc, ())?;
+        let with_plugin = has(capabilities, CapabilityFlags::CLIENT_PLUGIN_AUTH);
+        let auth_plugin = plugin_before_zero(with_plugin, &mut rest)?;
+        let with_attributes = has(capabilities, CapabilityFlags::CLIENT_CONNECT_ATTRS);
+        let connect_attributes = parse_if(alloc, with_attributes, (), &mut rest)?;
+        *buf = rest;
+        Ok(ComChangeUserMoreData {
+            character_set: character_set.0,
+            auth_plugin,
+            connect_attributes,
+        })
+    }
+}
+
+/// The command that logs another user in.
+/// (MySQL: Client/Server Protocol, "COM_CHANGE_USER"; MariaDB: Client/Server Protocol,
+/// "COM_CHANGE_USER".)
+#[derive(Debug, PartialEq, Eq, Drop)]
+pub struct ComChangeUser<'a> {
+    user: RawBytes<'a, NullBytes>,
+    auth_plugin_data: RawBytes<'a, U8Bytes>,
+    database: RawBytes<'a, NullBytes>,
+    more_data: Option<ComChangeUserMoreData<'a>>,
+}
+
+impl<'a> ComChangeUser<'a> {
+    /// A command without a user's name, an answer to the scramble, a database and more.
+    pub fn new() -> ComChangeUser<'a>
+        ensures { change_user_view result ≡ record { user = []; scramble = []; database = []; more = None } }
+    {
+        ComChangeUser {
+            user: RawBytes::new(or_no_bytes(None)),
+            auth_plugin_data: RawBytes::new(or_no_bytes(None)),
+            database: RawBytes::new(or_no_bytes(None)),
+            more_data: None,
+        }
+    }
+
+    /// The command for this user, or for one without a name.
+    pub fn with_user(self, user: Option<CowSlice<'a, u8>>) -> ComChangeUser<'a>
+        ensures { change_user_view result ≡ record (change_user_view self.entry) { user = or_empty (option_map cow_slice_items user.entry) } }
+    {
+        ComChangeUser {
+            user: RawBytes::new(or_no_bytes(user)),
+            ..self
+        }
+    }
+
+    /// The command with this database, or with none.
+    pub fn with_database(self, database: Option<CowSlice<'a, u8>>) -> ComChangeUser<'a>
+        ensures { change_user_view result ≡ record (change_user_view self.entry) { database = or_empty (option_map cow_slice_items database.entry) } }
+    {
+        ComChangeUser {
+            database: RawBytes::new(or_no_bytes(database)),
+            ..self
+        }
+    }
+
+    /// The command with this answer to the scramble, of which at most 255 bytes are written, or with none.
+    pub fn with_auth_plugin_data(
+        self,
+        auth_plugin_data: Option<CowSlice<'a, u8>>,
+    ) -> ComChangeUser<'a>
+        ensures { change_user_view result ≡ record (change_user_view self.entry) { scramble = or_empty (option_map cow_slice_items auth_plugin_data.entry) } }
+    {
+        ComChangeUser {
+            auth_plugin_data: RawBytes::new(or_no_bytes(auth_plugin_data)),
+            ..self
+        }
+    }
+
+    /// The command with more, or with no more.
+    pub fn with_more_data(
+        mut self,
+        more_data: Option<ComChangeUserMoreData<'a>>,
+    ) -> ComChangeUser<'a>
+        ensures { change_user_view result ≡ record (change_user_view self.entry) { more = option_map more_view more_data.entry } }
+    {
+        self.more_data = more_data;
+        self
+    }
+
+    /// The same command, which borrows nothing. Refused for want of memory alone.
+    pub fn into_owned(self, alloc: Global) -> Result<ComChangeUser<'static>, WireError>
+        ensures { IfOk result (λ owned. change_user_view owned ≡ change_user_view self.entry) }
+    {
+        let ComChangeUser {
+            user,
+            auth_plugin_data,
+            database,
+            more_data,
+        } = self;
+        let more_data = match more_data {
+            Some(more) => Some(more.into_owned(alloc)?),
+            None => None,
+        };
+        Ok(ComChangeUser {
+            user: user.into_owned(alloc)?,
+            auth_plugin_data: auth_plugin_data.into_owned(alloc)?,
+            database: database.into_owned(alloc)?,
+            more_data,
+        })
+    }
+
+    /// A copy of the command, which borrows nothing. Refused for want of memory alone.
+    pub fn clone(&self, alloc: Global) -> Result<ComChangeUser<'static>, AllocError>
+        ensures { IfOk result (λ copy. change_user_view copy ≡ change_user_view self.now) }
+    {
+        let more_data = match &self.more_data {
+            Some(more) => Some(more.clone(alloc)?),
+            None => None,
+        };
+        Ok(ComChangeUser {
+            user: copied(alloc, &self.user)?,
+            auth_plugin_data: copied(alloc, &self.auth_plugin_data)?,
+            database: copied(alloc, &self.database)?,
+            more_data,
+        })
+    }
+}
+
+/// The command that [`ComChangeUser::new`] makes.
+impl<'a> Default for ComChangeUser<'a> {
+    ghost is_default = { λ p. change_user_view p ≡ record { user = []; scramble = []; database = []; more = None } };
+
+    fn default() -> ComChangeUser<'a> {
+        ComChangeUser::new()
+    }
+}
+
+#[tactic(auto, unfolding(crate::specs::ChangedUsers::change_user))]
+impl<'a> MySerialize for ComChangeUser<'a> {
+    ghost written = { λ p. change_user (change_user_view p) };
+
+    fn serialize(&self, buf: &mut Vec<u8>) -> Result<(), AllocError> {
+        let header = ComChangeUserHeader::new();
+        let more_data = IfHeld(&self.more_data);
+        in_order!(
+            header,
+            self.user,
+            self.auth_plugin_data,
+            self.database,
+            more_data,
+        )
+        .serialize(buf)
+    }
+}
+
+/// The context is what the client can do.
+impl<'a> Readable for ComChangeUser<'a> {
+    type Ctx = CapabilityFlags;
+
+    ghost SIZE = { None };
+
+    ghost Shown = { ChangeUserFields };
+
+    ghost shown = { change_user_view };
+
+    ghost read_at = { λ capabilities bytes. change_user_at capabilities.0 bytes };
+
+    ghost kept = { change_user_view };
+
+    ghost sized = { λ capabilities. unsized (change_user_at capabilities.0) };
+
+    fn size() -> Option<usize>
+        ensures { result ≡ None }
+    {
+        None
+    }
+}
+
+#[tactic(auto, unfolding(crate::specs::ChangedUsers::change_user_at))]
+impl<'de> MyDeserialize<'de> for ComChangeUser<'de> {
+    fn deserialize(
+        alloc: Global,
+        capabilities: CapabilityFlags,
+        buf: &mut ParseBuf<'de>,
+    ) -> Result<ComChangeUser<'de>, WireError> {
+        let mut rest = *buf;
+        let _: ComChangeUserHeader = rest.parse(alloc, ())?;
+        let user = rest.parse(alloc, ())?;
+        let auth_plugin_data = rest.parse(alloc, ())?;
+        let database = rest.parse(alloc, ())?;
+        let follows = !rest.is_empty();
+        let more_data = parse_if(alloc, follows, capabilities, &mut rest)?;
+        *buf = rest;
+        Ok(ComChangeUser {
+            user,
+            auth_plugin_data,
+            database,
+            more_data,
+        })
+    }
+}
