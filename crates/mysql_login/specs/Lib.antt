@@ -2,6 +2,8 @@ pub mod AttributeViews
 pub mod Attributes
 pub mod ChangedUserViews
 pub mod ChangedUsers
+pub mod HandshakeViews
+pub mod Handshakes
 pub mod Parts
 pub mod ResponseViews
 pub mod Responses

@@ -3,6 +3,7 @@
 
 mod attributes;
 mod change_user;
+mod handshake;
 mod handshake_response;
 pub mod laws;
 mod parts;
@@ -12,5 +13,6 @@ pub use crate::attributes::ConnectAttributes;
 pub use crate::change_user::{
     ComChangeUser, ComChangeUserHeader, ComChangeUserMoreData, InvalidComChangeUserHeader,
 };
+pub use crate::handshake::HandshakePacket;
 pub use crate::handshake_response::HandshakeResponse;
 pub use crate::ssl_request::SslRequest;

@@ -1,0 +1,174 @@
+-- The initial handshake packet.
+-- (MySQL: Client/Server Protocol, "Protocol::HandshakeV10"; MariaDB: "Connecting", 'Initial handshake packet'.)
+use Rattle.std.specs.Prelude.{ℕ, ◌+◌, ◌-◌, ◌==◌, max, Bool, if◌then◌else◌, ◌∷◌, ◌++◌, [], List, length, replicate, Option, None, Some, Ok, Err}
+use Rattle.std.specs.Int.RustNames.{bit_and, bit_or}
+use Rattle.bitflags.specs.Sets.{known_bits}
+use Rattle.byteorder.specs.Endian.{little_bytes}
+use Rattle.mysql_auth.specs.Packets.{joined}
+use Rattle.mysql_auth.specs.Plugins.{without_zero}
+use Rattle.mysql_buf.specs.Writing.{front}
+use Rattle.mysql_const.specs.MariadbCapabilities.{mariadb_capabilities}
+use Rattle.mysql_const.specs.StatusFlags.{status_flags}
+use Rattle.mysql_raw.specs.Forms.{bytes_at, little_at, upper_half, upper_half_at}
+use Rattle.mysql_raw.specs.Wire.{Reading, ◌>>=◌}
+use Rattle.mysql_raw.specs.declared.error.WireError.TheVariants.{UnknownValue}
+use Rattle.mysql_raw_bytes.specs.Texts.{bare_at, fixed_text, null_text, null_text_at}
+use Rattle.mysql_raw_consts.specs.Constants.{zeros_at}
+
+-- what a handshake packet says; of a second scramble the first 247 bytes count
+pub record HandshakeFields : Type 0 where
+  pub protocol_version : ℕ
+  pub server_version : List ℕ
+  pub connection_id : ℕ
+  pub scramble_1 : List ℕ
+  pub capabilities : ℕ
+  pub default_collation : ℕ
+  pub status_flags : ℕ
+  pub data_length : ℕ
+  pub mariadb_ext_capabilities : ℕ
+  pub scramble_2 : Option (List ℕ)
+  pub auth_plugin_name : Option (List ℕ)
+
+-- this flag stands in a set of flags
+abbrev pub has_flag : ℕ → ℕ → Bool
+has_flag set flag = bit_and set flag == flag
+
+-- a second scramble follows
+abbrev pub secure_connection : ℕ → Bool
+secure_connection capabilities = has_flag capabilities 0x8000
+
+-- the name of a plugin follows
+abbrev pub plugin_auth : ℕ → Bool
+plugin_auth capabilities = has_flag capabilities 0x80000
+
+-- what counts of a second scramble
+abbrev pub scramble_front : List ℕ → List ℕ
+scramble_front text = front text 247
+
+-- the length that is written for both scrambles: that of the second and 8 where a plugin is named and there is a second one, else 0
+abbrev pub scrambles_length : ℕ → Option (List ℕ) → ℕ
+scrambles_length capabilities None = 0
+scrambles_length capabilities (Some text) = if plugin_auth capabilities then length (scramble_front text) + 8 else 0
+
+-- a second scramble, where there is one
+abbrev pub scramble_written : Option (List ℕ) → List ℕ
+scramble_written None = []
+scramble_written (Some text) = scramble_front text
+
+-- the name of a plugin and a zero, where there is a name
+abbrev pub name_written : Option (List ℕ) → List ℕ
+name_written None = []
+name_written (Some name) = null_text name
+
+-- the fields of fixed length
+pub record FixedFields : Type 0 where
+  pub connection_id : ℕ
+  pub scramble_1 : List ℕ
+  pub capabilities : ℕ
+  pub default_collation : ℕ
+  pub status_flags : ℕ
+  pub data_length : ℕ
+  pub mariadb_ext_capabilities : ℕ
+
+-- in their order; the reserved bytes are zeros
+unfoldable pub fixed : FixedFields → List ℕ
+fixed p = joined (
+    little_bytes 4 p.connection_id ∷ p.scramble_1 ∷ replicate 1 0 ∷ little_bytes 2 p.capabilities ∷ little_bytes 1 p.default_collation
+    ∷ little_bytes 2 p.status_flags ∷ upper_half p.capabilities ∷ little_bytes 1 p.data_length ∷ replicate 6 0
+    ∷ little_bytes 4 p.mariadb_ext_capabilities ∷ []
+    )
+
+-- what is written of fixed length: the length is the one of what is written, whatever was read
+abbrev pub fixed_written : HandshakeFields → FixedFields
+fixed_written p = record {
+  connection_id = p.connection_id;
+  scramble_1 = p.scramble_1;
+  capabilities = p.capabilities;
+  default_collation = p.default_collation;
+  status_flags = p.status_flags;
+  data_length = scrambles_length p.capabilities p.scramble_2;
+  mariadb_ext_capabilities = p.mariadb_ext_capabilities;
+}
+
+-- A version byte, the server's version and a zero, the fields of fixed length; a second scramble and a plugin's name are written
+-- where they are held, whatever the flags.
+unfoldable pub handshake : HandshakeFields → List ℕ
+handshake p = joined (
+    little_bytes 1 p.protocol_version ∷ null_text p.server_version ∷ fixed (fixed_written p) ∷ scramble_written p.scramble_2
+    ∷ name_written p.auth_plugin_name ∷ []
+    )
+
+-- the server's status: two bytes, whose bits all have names
+unfoldable pub status_at : List ℕ → Reading ℕ
+status_at bytes = do
+  n ← little_at 2 bytes
+  if bit_and n.0 (known_bits status_flags) == n.0 then Ok n else Err UnknownValue
+
+-- all bits of the capabilities have names; MariaDB's own that have none are dropped
+unfoldable pub fixed_at : List ℕ → Reading FixedFields
+fixed_at bytes = do
+  id ← little_at 4 bytes
+  scramble ← bytes_at 8 id.1
+  filler ← zeros_at 1 scramble.1
+  low ← little_at 2 filler.1
+  collation ← little_at 1 low.1
+  status ← status_at collation.1
+  high ← upper_half_at status.1
+  len ← little_at 1 high.1
+  reserved ← zeros_at 6 len.1
+  mariadb ← little_at 4 reserved.1
+  Ok (
+    record {
+      connection_id = id.0;
+      scramble_1 = scramble.0;
+      capabilities = bit_or low.0 high.0;
+      default_collation = collation.0;
+      status_flags = status.0;
+      data_length = len.0;
+      mariadb_ext_capabilities = bit_and mariadb.0 (known_bits mariadb_capabilities);
+    },
+    mariadb.1,
+  )
+
+-- with SECURE_CONNECTION a second scramble, of the length less 8 but at least 13 bytes
+unfoldable pub scramble_at : ℕ → ℕ → List ℕ → Reading (Option (List ℕ))
+scramble_at capabilities len bytes =
+    if secure_connection capabilities then (do
+      text ← bare_at 247 (max 13 (len - 8)) bytes
+      Ok (Some text.0, text.1))
+    else Ok (None, bytes)
+
+-- with PLUGIN_AUTH a name to the end, less one trailing zero
+unfoldable pub name_at : ℕ → List ℕ → Reading (Option (List ℕ))
+name_at capabilities bytes = if plugin_auth capabilities then Ok (Some (without_zero bytes), []) else Ok (None, bytes)
+
+-- A version byte, the server's version to a zero, 31 bytes of fixed fields, which are there together or not at all, the second
+-- scramble and the plugin's name.
+unfoldable pub handshake_at : List ℕ → Reading HandshakeFields
+handshake_at bytes = do
+  protocol ← little_at 1 bytes
+  server ← null_text_at protocol.1
+  block ← bytes_at 31 server.1
+  fixed ← fixed_at block.0
+  scramble ← scramble_at fixed.0.capabilities fixed.0.data_length block.1
+  name ← name_at fixed.0.capabilities scramble.1
+  Ok (
+    record {
+      protocol_version = protocol.0;
+      server_version = server.0;
+      connection_id = fixed.0.connection_id;
+      scramble_1 = fixed.0.scramble_1;
+      capabilities = fixed.0.capabilities;
+      default_collation = fixed.0.default_collation;
+      status_flags = fixed.0.status_flags;
+      data_length = fixed.0.data_length;
+      mariadb_ext_capabilities = fixed.0.mariadb_ext_capabilities;
+      scramble_2 = scramble.0;
+      auth_plugin_name = name.0;
+    },
+    name.1,
+  )
+
+-- both scrambles, cut or padded with zeros to 20 bytes
+abbrev pub nonce_of : HandshakeFields → List ℕ
+nonce_of p = fixed_text 20 (p.scramble_1 ++ scramble_written p.scramble_2)
