@@ -1,7 +1,6 @@
 -- Packets that were written are read again.
-use Rattle.std.proofs.Common.{◌≡◌, List, [], ◌++◌, Ok, append-nil, refl}
+use Rattle.std.proofs.Common.{[], append-nil, refl}
 use Rattle.mysql_repl.specs.PacketLaws.{binlog_dump_at-back, binlog_dump_gtid_at-back, register_slave_at-back, semi_sync_ack_at-back, table_dump_at-back}
-use Rattle.mysql_repl.specs.Packets.{binlog_dump, semi_sync_ack}
 use Rattle.mysql_repl.specs.Statements.{AcknowledgementsReadBack, BinlogDumpsReadBack, GtidDumpsReadBack, RegistrationsReadBack, TableDumpsReadBack}
 
 pub table_dumps_read_back : TableDumpsReadBack

@@ -1,17 +1,17 @@
 -- What was written of a packet is read back.
-use Rattle.std.proofs.Common.{◌≡◌, ℕ, ◌+◌, ◌-◌, ◌^◌, ◌<◌, ◌≤◌, true, List, [], ◌∷◌, ◌++◌, length, min, Ok, refl, sym, ap, ◌∙◌, append-nil, append_assoc, arith, lit<}
+use Rattle.std.proofs.Common.{◌≡◌, ℕ, ◌-◌, ◌^◌, ◌<◌, ◌≤◌, true, List, [], ◌∷◌, ◌++◌, length, min, Ok, refl, sym, ap, ◌∙◌, append-nil, append_assoc, arith, lit<}
 use Rattle.std.proofs.lemmas.Bool.{le-ltb}
 use Rattle.std.proofs.lemmas.List.{take_all}
 use Rattle.byteorder.specs.Endian.{little_bytes}
 use Rattle.mysql_buf.specs.Writing.{front, u8_str, u32_str}
 use Rattle.mysql_gtid.specs.BlockLaws.{block_at-back}
 use Rattle.mysql_gtid.specs.Blocks.{block_at, block_bytes}
-use Rattle.mysql_raw.specs.Laws.{done, little_at-back}
-use Rattle.mysql_raw.specs.Wire.{Reading, ◌>>=◌}
+use Rattle.mysql_raw.specs.Laws.{little_at-back}
+use Rattle.mysql_raw.specs.Wire.{Reading}
 use Rattle.mysql_raw_bytes.specs.TextLaws.{u8_text_at-back, u32_text_at-back}
 use Rattle.mysql_raw_bytes.specs.Texts.{u8_text_at, u32_text_at}
 use Rattle.mysql_raw_consts.specs.ConstantLaws.{constant_at-back}
-use Rattle.mysql_repl.specs.Packets.{BinlogDump, BinlogDumpGtid, IsBinlogDump, IsBinlogDumpGtid, IsRegisterSlave, IsSemiSyncAck, IsTableDump, RegisterSlave, SemiSyncAck, TableDump, all_at, are_named, binlog_dump, binlog_dump_at, binlog_dump_fields_at, binlog_dump_gtid, binlog_dump_gtid_at, binlog_dump_gtid_fields_at, flags_at, from_block, joined, named_flags, register_slave, register_slave_at, register_slave_fields_at, semi_sync_ack, semi_sync_ack_at, semi_sync_ack_fields_at, table_dump, table_dump_at}
+use Rattle.mysql_repl.specs.Packets.{BinlogDump, BinlogDumpGtid, IsBinlogDump, IsBinlogDumpGtid, IsRegisterSlave, IsSemiSyncAck, IsTableDump, RegisterSlave, SemiSyncAck, TableDump, are_named, binlog_dump, binlog_dump_at, binlog_dump_fields_at, binlog_dump_gtid, binlog_dump_gtid_at, binlog_dump_gtid_fields_at, flags_at, from_block, joined, register_slave, register_slave_at, register_slave_fields_at, semi_sync_ack, semi_sync_ack_at, semi_sync_ack_fields_at, table_dump, table_dump_at}
 
 -- where the block is there, it is read
 enough : {X : Type 0} (n : ℕ) (read_at : List ℕ → Reading X) (bytes : List ℕ) → n ≤ length bytes → from_block n read_at bytes ≡ read_at bytes
@@ -68,8 +68,8 @@ register_slave_fields_at-back p rest h =
     let host = u8_str p.hostname ++ user in
     let id = little_bytes 4 p.server_id ++ host in
     let fields =
-        little_bytes 1 21 ∷ little_bytes 4 p.server_id ∷ u8_str p.hostname ∷ u8_str p.user ∷ u8_str p.password
-        ∷ little_bytes 2 p.port ∷ little_bytes 4 p.replication_rank ∷ little_bytes 4 p.master_id ∷ [] in
+    little_bytes 1 21 ∷ little_bytes 4 p.server_id ∷ u8_str p.hostname ∷ u8_str p.user ∷ u8_str p.password
+    ∷ little_bytes 2 p.port ∷ little_bytes 4 p.replication_rank ∷ little_bytes 4 p.master_id ∷ [] in
     ap register_slave_fields_at (joined_before fields rest) ∙ rw (
       constant_at-back 1 21 id (lit< tt),
       little_at-back 4 p.server_id host h.server_id,

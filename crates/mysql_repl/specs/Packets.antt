@@ -1,7 +1,7 @@
 -- The packets that a replica sends, as bytes: what is written of their fields, and what is read of any bytes.
 -- MySQL: Client/Server Protocol, "COM_REGISTER_SLAVE", "COM_TABLE_DUMP", "COM_BINLOG_DUMP" and "COM_BINLOG_DUMP_GTID";
 -- Internals Manual, "Semi-Sync ACK packet".
-use Rattle.std.specs.Prelude.{◌≡◌, ℕ, ◌%◌, ◌-◌, ◌^◌, ◌<◌, ◌≤◌, ◌⊎◌, List, [], ◌∷◌, ◌++◌, length, min, nat_lt, Bool, true, false, Ok, Err, ◌==◌, if◌then◌else◌}
+use Rattle.std.specs.Prelude.{◌≡◌, ℕ, ◌%◌, ◌-◌, ◌^◌, ◌<◌, ◌≤◌, ◌⊎◌, List, [], ◌∷◌, ◌++◌, length, min, nat_lt, Bool, true, Ok, Err, ◌==◌, if◌then◌else◌}
 use Rattle.std.proofs.Common.{inl, inr}
 use Rattle.std.specs.Int.RustNames.{bit_and, bit_or}
 use Rattle.bitflags.specs.Sets.{known_bits, without}

@@ -224,8 +224,9 @@ impl<'a> MySerialize for ComBinlogDumpGtid<'a> {
     fn serialize(&self, buf: &mut Vec<u8>) -> Result<(), AllocError> {
         let flags: RawInt<LeU16> = RawInt::new(self.flags.0);
         let server_id: RawInt<LeU32> = RawInt::new(self.server_id);
-        let filename: RawBytes<U32Bytes> =
-            RawBytes::new(CowSlice::Borrowed(self.filename.as_slice()));
+        let filename: RawBytes<U32Bytes> = RawBytes::new(CowSlice::Borrowed(
+            self.filename.as_slice(),
+        ));
         let pos: RawInt<LeU64> = RawInt::new(self.pos);
         let block = SidBlock(CowSlice::Borrowed(self.sids.as_slice()));
         let block_len: RawInt<LeU32> = RawInt::new(block.byte_len());

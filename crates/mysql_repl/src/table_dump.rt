@@ -13,9 +13,7 @@ ghost use Rattle.mysql_repl.specs.Views.{table_dump_view};
 use crate::fields::{copy_of, front_of, lossy};
 use crate::headers::ComTableDumpHeader;
 use mysql_buf::ParseBuf;
-use mysql_raw::{
-    MyDeserialize, MySerialize, ParseExt, Readable, ReadsBack, WireError, in_order,
-};
+use mysql_raw::{MyDeserialize, MySerialize, ParseExt, Readable, ReadsBack, WireError, in_order};
 use mysql_raw_bytes::{RawBytes, U8Bytes};
 use std::alloc::{AllocError, Global};
 use std::borrow::{CowSlice, CowStr};
@@ -80,8 +78,9 @@ impl<'a> MySerialize for ComTableDump<'a> {
     ghost written = { λ p. table_dump (table_dump_view p) };
 
     fn serialize(&self, buf: &mut Vec<u8>) -> Result<(), AllocError> {
-        let database: RawBytes<U8Bytes> =
-            RawBytes::new(CowSlice::Borrowed(self.database.as_slice()));
+        let database: RawBytes<U8Bytes> = RawBytes::new(CowSlice::Borrowed(
+            self.database.as_slice(),
+        ));
         let table: RawBytes<U8Bytes> = RawBytes::new(CowSlice::Borrowed(self.table.as_slice()));
         in_order!(ComTableDumpHeader::new(), database, table).serialize(buf)
     }
