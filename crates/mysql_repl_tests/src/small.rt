@@ -58,9 +58,7 @@ fn a_replica(rt: HostRuntime) {
 fn no_replica(rt: HostRuntime) {
     let other: &[u8] = b"\x14\x01\x00\x00\x00";
     assert!(rt; refused::<ComRegisterSlave>(rt.alloc(), other, WireError::BadConstant));
-    assert!(rt;
-        refused::<ComRegisterSlave>(rt.alloc(), &other[..4], WireError::UnexpectedEof)
-    );
+    assert!(rt; refused::<ComRegisterSlave>(rt.alloc(), &other[..4], WireError::UnexpectedEof));
 }
 
 #[test]
@@ -105,7 +103,5 @@ fn an_acknowledgement(rt: HostRuntime) {
 fn no_acknowledgement(rt: HostRuntime) {
     let other: &[u8] = b"\xee\x01\x00\x00\x00\x00\x00\x00\x00";
     assert!(rt; refused::<SemiSyncAckPacket>(rt.alloc(), other, WireError::BadConstant));
-    assert!(rt;
-        refused::<SemiSyncAckPacket>(rt.alloc(), &other[..8], WireError::UnexpectedEof)
-    );
+    assert!(rt; refused::<SemiSyncAckPacket>(rt.alloc(), &other[..8], WireError::UnexpectedEof));
 }
