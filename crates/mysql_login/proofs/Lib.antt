@@ -1,3 +1,4 @@
 pub mod AttributeMaps
 pub mod AttributeReading
+pub mod Digits
 pub mod Rules

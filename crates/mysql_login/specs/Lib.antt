@@ -10,3 +10,4 @@ pub mod Responses
 pub mod SslRequestLaws
 pub mod SslRequestViews
 pub mod SslRequests
+pub mod Versions

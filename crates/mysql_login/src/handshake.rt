@@ -10,12 +10,14 @@ ghost use Rattle.mysql_auth.specs.Views.{plugin_view};
 ghost use Rattle.mysql_buf.specs.Writing.{front};
 ghost use Rattle.mysql_login.specs.HandshakeViews.{fixed_view, handshake_view};
 ghost use Rattle.mysql_login.specs.Handshakes.{HandshakeFields, fixed, fixed_at, fixed_written, handshake, handshake_at, name_at, name_written, nonce_of, plugin_auth, scramble_at, scramble_front, scramble_written, scrambles_length, secure_connection, status_at};
+ghost use Rattle.mysql_login.specs.Versions.{mariadb_version, version_of};
 ghost use Rattle.mysql_raw.specs.Forms.{bytes_at};
 ghost use Rattle.mysql_raw.specs.Laws.{unsized};
 ghost use Rattle.mysql_raw.specs.Wire.{Gives, GivesPart, Tells};
 ghost use Rattle.mysql_raw_bytes.specs.Texts.{null_text};
 ghost use Rattle.mysql_raw_consts.specs.Either.{either_written};
 
+use crate::versions::{mariadb_version, version_of};
 use bitflags::Flags;
 use bstr::ByteSlice;
 use mysql_auth::{AuthPlugin, without_zero};
@@ -216,6 +218,23 @@ impl<'a> HandshakePacket<'a> {
         ensures { IfOk result (λ text. cow_str_bytes text ≡ encode_utf8_all (lossy_chars (handshake_view self.now).server_version)) }
     {
         Ok(self.server_version_ref().to_str_lossy(alloc)?)
+    }
+
+    /// The version that the text begins with: three numbers of at most two, two and three digits,
+    /// with dots between. A MariaDB server from 10 on may begin with 5.5.5.
+    pub fn server_version_parsed(&self) -> Option<(u16, u16, u16)>
+        ensures { result ≡ version_of (handshake_view self.now).server_version }
+    {
+        version_of(self.server_version_ref())
+    }
+
+    /// The version of a MariaDB server, which `-MariaDB` follows; `5.5.5-` may stand before it.
+    /// None of other servers.
+    /// (MariaDB: "Connecting", 'Initial handshake packet'.)
+    pub fn maria_db_server_version_parsed(&self) -> Option<(u16, u16, u16)>
+        ensures { result ≡ mariadb_version (handshake_view self.now).server_version }
+    {
+        mariadb_version(self.server_version_ref())
     }
 
     /// The number of the connection.

@@ -8,6 +8,7 @@ mod handshake_response;
 pub mod laws;
 mod parts;
 mod ssl_request;
+mod versions;
 
 pub use crate::attributes::ConnectAttributes;
 pub use crate::change_user::{

@@ -1,0 +1,60 @@
+-- Versions of servers, as texts.
+-- (MySQL Reference Manual, "Which MySQL Version and Distribution to Install"; MariaDB: "Connecting", 'Initial handshake packet', the
+-- prefix `5.5.5-`.)
+use Rattle.std.specs.Prelude.{ℕ, ◌==◌, nat_eq, nat_le, ◌&&◌, min, Bool, if◌then◌else◌, List, [], ◌∷◌, codes, drop, take, Option, None, Some}
+use Rattle.std.specs.List.{prefix_len, starts_with}
+use Rattle.std.specs.Option.{option_map}
+use Rattle.std.specs.Str.Parse.{digits_value}
+
+infixl 10 ◌>>=◌
+abbrev pub ◌>>=◌ : {A B : Type 0} → Option A → (A → Option B) → Option B
+None >>= f = None
+(Some x) >>= f = f x
+
+-- a decimal digit
+abbrev pub is_digit : ℕ → Bool
+is_digit c = nat_le 48 c && nat_le c 57
+
+-- how many digits a text begins with, as far as `most`
+unfoldable pub digits_len : ℕ → List ℕ → ℕ
+digits_len most text = min most (prefix_len is_digit text)
+
+-- the number that these digits write and the text behind them, where there is a digit
+unfoldable pub number_at : ℕ → List ℕ → Option (ℕ × List ℕ)
+number_at most text = if digits_len most text == 0 then None else Some (digits_value 10 (take (digits_len most text) text), drop (digits_len most text) text)
+
+-- the text behind a dot
+abbrev pub after_dot : List ℕ → Option (List ℕ)
+after_dot [] = None
+after_dot (c ∷ text) = if c == 46 then Some text else None
+
+-- three numbers of at most two, two and three digits, with dots between, and the text behind them
+unfoldable pub version_at : List ℕ → Option ((ℕ × ℕ × ℕ) × List ℕ)
+version_at text = do
+  major ← number_at 2 text
+  minor_text ← after_dot major.1
+  minor ← number_at 2 minor_text
+  patch_text ← after_dot minor.1
+  patch ← number_at 3 patch_text
+  Some ((major.0, minor.0, patch.0), patch.1)
+
+-- the version that a text begins with
+abbrev pub version_of : List ℕ → Option (ℕ × ℕ × ℕ)
+version_of text = option_map (λ p. p.0) (version_at text)
+
+-- the version that a text begins with, where MariaDB's name is behind it
+unfoldable pub marked_version : List ℕ → Option (ℕ × ℕ × ℕ)
+marked_version text = do
+  version ← version_at text
+  if starts_with nat_eq version.1 (codes "-MariaDB") then Some version.0 else None
+
+-- the first that is there
+abbrev pub first_of : {X : Type 0} → Option X → Option X → Option X
+first_of None other = other
+first_of (Some x) other = Some x
+
+-- the version of a MariaDB server; `5.5.5-` may stand before it
+unfoldable pub mariadb_version : List ℕ → Option (ℕ × ℕ × ℕ)
+mariadb_version text =
+    if starts_with nat_eq text (codes "5.5.5-") then first_of (marked_version (drop 6 text)) (marked_version text)
+    else marked_version text
