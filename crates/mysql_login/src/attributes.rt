@@ -201,7 +201,7 @@ impl<'de> MyDeserialize<'de> for ConnectAttributes<'de> {
     }
 }
 
-// How many bytes these attributes take, where a number says it.
+// How many bytes these attributes take, where 64 bits can say it.
 fn bytes_of_all(all: &ConnectAttributes) -> Option<u64>
     ensures { IfSome result (λ total. total ≡ length (flat_map attribute (attributes_view all.now))) }
 {
@@ -213,7 +213,7 @@ fn bytes_of_all(all: &ConnectAttributes) -> Option<u64>
     Some(total)
 }
 
-// Appends all attributes, or some of them.
+// Appends all attributes or none.
 fn put_all(all: &ConnectAttributes, buf: &mut Vec<u8>) -> Result<(), AllocError>
     ensures { Appends result buf.old.items buf.new.items (flat_map attribute (attributes_view all.now)) }
 {

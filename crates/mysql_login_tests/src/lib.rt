@@ -1,8 +1,18 @@
-//! Tests of `mysql_login` from outside: packets of logging in.
+//! Tests of `mysql_login` from outside: worked packets of logging in, and packets that are cut off at each byte.
 //!
-//! At most one allocation of a run is refused. So a call that answers that memory was refused is
-//! looked at for what has to stand then, and made once more.
+//! At most one allocation of a run is refused. So a call that answers that memory was refused ends
+//! its test, or is made once more.
 #![tactic(auto)]
 
 #[cfg(test)]
+mod attributes;
+#[cfg(test)]
+mod change_of_user;
+#[cfg(test)]
 mod handshakes;
+#[cfg(test)]
+mod responses;
+#[cfg(test)]
+mod ssl_requests;
+#[cfg(test)]
+mod support;
