@@ -1,19 +1,15 @@
 -- How the packets of an exchange are written and read.
 -- (MySQL: Client/Server Protocol, "Protocol::AuthMoreData" and "Protocol::AuthSwitchRequest".)
 use Rattle.std.specs.Prelude.{ℕ, ◌∷◌, ◌++◌, [], List, Ok}
+use Rattle.std.specs.List.{concat}
 use Rattle.byteorder.specs.Endian.{little_bytes}
 use Rattle.mysql_raw.specs.Wire.{Reading, ◌>>=◌}
 use Rattle.mysql_raw_bytes.specs.Texts.{null_text, null_text_at}
 use Rattle.mysql_raw_consts.specs.Constants.{constant_at}
 
--- parts, one behind the other
-abbrev pub joined : List (List ℕ) → List ℕ
-joined [] = []
-joined (part ∷ parts) = part ++ joined parts
-
 -- a byte, and a text to the end
 unfoldable pub headed : ℕ → List ℕ → List ℕ
-headed header text = joined (little_bytes 1 header ∷ text ∷ [])
+headed header text = concat (little_bytes 1 header ∷ text ∷ [])
 
 unfoldable pub headed_at : ℕ → List ℕ → Reading (List ℕ)
 headed_at byte bytes = do
@@ -27,7 +23,7 @@ pub record SwitchFields : Type 0 where
 
 -- fe, the name and a zero, the data to the end
 unfoldable pub switch : SwitchFields → List ℕ
-switch p = joined (little_bytes 1 254 ∷ null_text p.auth_plugin ∷ p.plugin_data ∷ [])
+switch p = concat (little_bytes 1 254 ∷ null_text p.auth_plugin ∷ p.plugin_data ∷ [])
 
 unfoldable pub switch_at : List ℕ → Reading SwitchFields
 switch_at bytes = do

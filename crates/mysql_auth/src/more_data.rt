@@ -1,6 +1,6 @@
 //! More data, and the server's public key.
 
-ghost use Rattle.std.specs.Prelude.{◌≡◌, IfOk, List, None, [], ℕ};
+ghost use Rattle.std.specs.Prelude.{◌≡◌, IfOk, List, None, [], ℕ, IsOkUnless};
 ghost use Rattle.std.proofs.Common.{lit<};
 ghost use Rattle.std.specs.Cow.{cow_slice_items, cow_str_bytes};
 ghost use Rattle.std.specs.Str.{encode_utf8_all};
@@ -9,6 +9,7 @@ ghost use Rattle.mysql_auth.specs.PacketLaws.{headed_at-back};
 ghost use Rattle.mysql_auth.specs.Packets.{headed, headed_at};
 ghost use Rattle.mysql_auth.specs.Views.{key_view, more_data_view};
 ghost use Rattle.mysql_raw.specs.Laws.{unsized};
+ghost use Rattle.mysql_raw.specs.declared.error.WireError.TheVariants as wire;
 
 use crate::headers::{AuthMoreDataHeader, PublicKeyResponseHeader};
 use bstr::ByteSlice;
@@ -133,7 +134,8 @@ impl<'a> PublicKeyResponse<'a> {
     /// The key as text, in PEM form; bytes that aren't UTF-8 are replaced. Refused for want of
     /// memory.
     pub fn rsa_key(&self, alloc: Global) -> Result<CowStr<'_>, WireError>
-        ensures { IfOk result (λ text. cow_str_bytes text ≡ encode_utf8_all (lossy_chars (key_view self.now))) }
+        ensures memory { IsOkUnless result wire.Memory }
+        ensures value { IfOk result (λ text. cow_str_bytes text ≡ encode_utf8_all (lossy_chars (key_view self.now))) }
     {
         Ok(self.rsa_key.as_slice().to_str_lossy(alloc)?)
     }

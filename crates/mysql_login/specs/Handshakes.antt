@@ -2,13 +2,14 @@
 -- (MySQL: Client/Server Protocol, "Protocol::HandshakeV10"; MariaDB: "Connecting", 'Initial handshake packet'.)
 use Rattle.std.specs.Prelude.{ℕ, ◌+◌, ◌-◌, ◌==◌, max, Bool, if◌then◌else◌, ◌∷◌, ◌++◌, [], List, length, replicate, Option, None, Some, Ok, Err}
 use Rattle.std.specs.Int.RustNames.{bit_and, bit_or}
+use Rattle.std.specs.List.{concat}
 use Rattle.bitflags.specs.Sets.{known_bits}
 use Rattle.byteorder.specs.Endian.{little_bytes}
-use Rattle.mysql_auth.specs.Packets.{joined}
 use Rattle.mysql_auth.specs.Plugins.{without_zero}
 use Rattle.mysql_buf.specs.Writing.{front}
 use Rattle.mysql_const.specs.MariadbCapabilities.{mariadb_capabilities}
 use Rattle.mysql_const.specs.StatusFlags.{status_flags}
+use Rattle.mysql_login.specs.Parts.{has_flag, plugin_auth, secure_connection}
 use Rattle.mysql_raw.specs.Forms.{bytes_at, little_at, upper_half, upper_half_at}
 use Rattle.mysql_raw.specs.Wire.{Reading, ◌>>=◌}
 use Rattle.mysql_raw.specs.declared.error.WireError.TheVariants.{UnknownValue}
@@ -29,18 +30,6 @@ pub record HandshakeFields : Type 0 where
   pub scramble_2 : Option (List ℕ)
   pub auth_plugin_name : Option (List ℕ)
 
--- this flag stands in a set of flags
-abbrev pub has_flag : ℕ → ℕ → Bool
-has_flag set flag = bit_and set flag == flag
-
--- a second scramble follows
-abbrev pub secure_connection : ℕ → Bool
-secure_connection capabilities = has_flag capabilities 0x8000
-
--- the name of a plugin follows
-abbrev pub plugin_auth : ℕ → Bool
-plugin_auth capabilities = has_flag capabilities 0x80000
-
 -- what counts of a second scramble
 abbrev pub scramble_front : List ℕ → List ℕ
 scramble_front text = front text 247
@@ -48,7 +37,7 @@ scramble_front text = front text 247
 -- the length that is written for both scrambles: that of the second and 8 where a plugin is named and there is a second one, else 0
 abbrev pub scrambles_length : ℕ → Option (List ℕ) → ℕ
 scrambles_length capabilities None = 0
-scrambles_length capabilities (Some text) = if plugin_auth capabilities then length (scramble_front text) + 8 else 0
+scrambles_length capabilities (Some text) = if has_flag plugin_auth capabilities then length (scramble_front text) + 8 else 0
 
 -- a second scramble, where there is one
 abbrev pub scramble_written : Option (List ℕ) → List ℕ
@@ -72,7 +61,7 @@ pub record FixedFields : Type 0 where
 
 -- in their order; the reserved bytes are zeros
 unfoldable pub fixed : FixedFields → List ℕ
-fixed p = joined (
+fixed p = concat (
     little_bytes 4 p.connection_id ∷ p.scramble_1 ∷ replicate 1 0 ∷ little_bytes 2 p.capabilities ∷ little_bytes 1 p.default_collation
     ∷ little_bytes 2 p.status_flags ∷ upper_half p.capabilities ∷ little_bytes 1 p.data_length ∷ replicate 6 0
     ∷ little_bytes 4 p.mariadb_ext_capabilities ∷ []
@@ -93,7 +82,7 @@ fixed_written p = record {
 -- A version byte, the server's version and a zero, the fields of fixed length; a second scramble and a plugin's name are written
 -- where they are held, whatever the flags.
 unfoldable pub handshake : HandshakeFields → List ℕ
-handshake p = joined (
+handshake p = concat (
     little_bytes 1 p.protocol_version ∷ null_text p.server_version ∷ fixed (fixed_written p) ∷ scramble_written p.scramble_2
     ∷ name_written p.auth_plugin_name ∷ []
     )
@@ -133,14 +122,14 @@ fixed_at bytes = do
 -- with SECURE_CONNECTION a second scramble, of the length less 8 but at least 13 bytes
 unfoldable pub scramble_at : ℕ → ℕ → List ℕ → Reading (Option (List ℕ))
 scramble_at capabilities len bytes =
-    if secure_connection capabilities then (do
+    if has_flag secure_connection capabilities then (do
       text ← bare_at 247 (max 13 (len - 8)) bytes
       Ok (Some text.0, text.1))
     else Ok (None, bytes)
 
 -- with PLUGIN_AUTH a name to the end, less one trailing zero
 unfoldable pub name_at : ℕ → List ℕ → Reading (Option (List ℕ))
-name_at capabilities bytes = if plugin_auth capabilities then Ok (Some (without_zero bytes), []) else Ok (None, bytes)
+name_at capabilities bytes = if has_flag plugin_auth capabilities then Ok (Some (without_zero bytes), []) else Ok (None, bytes)
 
 -- A version byte, the server's version to a zero, 31 bytes of fixed fields, which are there together or not at all, the second
 -- scramble and the plugin's name.

@@ -1,6 +1,6 @@
 //! The attributes of a connection.
 
-ghost use Rattle.std.specs.Prelude.{◌≡◌, IfOk, IfSome, List, None, [], length, map};
+ghost use Rattle.std.specs.Prelude.{◌≡◌, IfOk, IfSome, List, None, [], length, map, IsOkUnless};
 ghost use Rattle.std.specs.Cow.{cow_slice_items};
 ghost use Rattle.std.specs.List.{flat_map};
 ghost use Rattle.std.specs.String.{string_bytes};
@@ -8,6 +8,7 @@ ghost use Rattle.mysql_login.specs.Attributes.{Attribute, GivesAll, attribute, a
 ghost use Rattle.mysql_login.specs.AttributeViews.{attributes_view, lossy_attribute, lossy_text, shown_attribute, text_attribute};
 ghost use Rattle.mysql_raw.specs.Laws.{unsized};
 ghost use Rattle.mysql_raw.specs.Wire.{Appends, GivesPart};
+ghost use Rattle.mysql_raw.specs.declared.error.WireError.TheVariants as wire;
 
 use bstr::ByteSlice;
 use indexmap::IndexMap;
@@ -66,7 +67,8 @@ impl<'a> ConnectAttributes<'a> {
 
     /// The same attributes, which borrow nothing. Refused for want of memory alone.
     pub fn into_owned(self, alloc: Global) -> Result<ConnectAttributes<'static>, WireError>
-        ensures { IfOk result (λ all. attributes_view all ≡ attributes_view self.entry) }
+        ensures memory { IsOkUnless result wire.Memory }
+        ensures value { IfOk result (λ all. attributes_view all ≡ attributes_view self.entry) }
     {
         let mut all = ConnectAttributes::new(alloc);
         for (key, value) in self.entries {
@@ -93,7 +95,8 @@ impl<'a> ConnectAttributes<'a> {
     /// The attributes as texts, where bytes that aren't UTF-8 are replaced. Of keys with the same
     /// text the first one's place and the last one's value stay. Refused for want of memory alone.
     pub fn texts(&self, alloc: Global) -> Result<IndexMap<String, String>, WireError>
-        ensures { IfOk result (λ texts. map text_attribute texts.entries ≡ with_last_values (map lossy_attribute (attributes_view self.now))) }
+        ensures memory { IsOkUnless result wire.Memory }
+        ensures value { IfOk result (λ texts. map text_attribute texts.entries ≡ with_last_values (map lossy_attribute (attributes_view self.now))) }
     {
         let mut texts = IndexMap::new(alloc);
         for (key, value) in &self.entries {

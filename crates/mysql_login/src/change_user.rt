@@ -1,6 +1,6 @@
 //! The command that logs another user in.
 
-ghost use Rattle.std.specs.Prelude.{◌≡◌, [], IfOk, None, map, option_map};
+ghost use Rattle.std.specs.Prelude.{◌≡◌, [], IfOk, None, map, option_map, IsOkUnless};
 ghost use Rattle.std.specs.Cow.{cow_slice_items};
 ghost use Rattle.mysql_auth.specs.Views.{plugin_view};
 ghost use Rattle.mysql_login.specs.Attributes.{attributes};
@@ -10,6 +10,7 @@ ghost use Rattle.mysql_login.specs.ChangedUserViews.{change_user_view, more_view
 ghost use Rattle.mysql_login.specs.Parts.{or_empty};
 ghost use Rattle.mysql_raw.specs.Laws.{unsized};
 ghost use Rattle.mysql_raw.specs.Wire.{GivesPart};
+ghost use Rattle.mysql_raw.specs.declared.error.WireError.TheVariants as wire;
 
 use crate::attributes::{ConnectAttributes, copied};
 use crate::parts::{
@@ -85,7 +86,8 @@ impl<'a> ComChangeUserMoreData<'a> {
 
     /// The same, which borrows nothing. Refused for want of memory alone.
     pub fn into_owned(self, alloc: Global) -> Result<ComChangeUserMoreData<'static>, WireError>
-        ensures { IfOk result (λ more. more_view more ≡ more_view self.entry) }
+        ensures memory { IsOkUnless result wire.Memory }
+        ensures value { IfOk result (λ more. more_view more ≡ more_view self.entry) }
     {
         Ok(ComChangeUserMoreData {
             character_set: self.character_set,
@@ -248,7 +250,8 @@ impl<'a> ComChangeUser<'a> {
 
     /// The same command, which borrows nothing. Refused for want of memory alone.
     pub fn into_owned(self, alloc: Global) -> Result<ComChangeUser<'static>, WireError>
-        ensures { IfOk result (λ owned. change_user_view owned ≡ change_user_view self.entry) }
+        ensures memory { IsOkUnless result wire.Memory }
+        ensures value { IfOk result (λ owned. change_user_view owned ≡ change_user_view self.entry) }
     {
         let ComChangeUser {
             user,

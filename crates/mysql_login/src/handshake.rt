@@ -1,6 +1,6 @@
 //! The initial handshake packet.
 
-ghost use Rattle.std.specs.Prelude.{[], ◌≡◌, ◌≤◌, IfOk, None, Ok, Some, length};
+ghost use Rattle.std.specs.Prelude.{[], ◌≡◌, ◌≤◌, IfOk, None, Ok, Some, length, IsOkUnless};
 ghost use Rattle.std.specs.Cow.{cow_slice_items, cow_str_bytes};
 ghost use Rattle.std.specs.Option.{option_map};
 ghost use Rattle.std.specs.Str.{encode_utf8_all};
@@ -8,20 +8,22 @@ ghost use Rattle.bstr.specs.Utf8.{lossy_chars};
 ghost use Rattle.mysql_auth.specs.Plugins.{plugin_named, without_zero};
 ghost use Rattle.mysql_auth.specs.Views.{plugin_view};
 ghost use Rattle.mysql_buf.specs.Writing.{front};
+ghost use Rattle.mysql_login.specs.Parts.{has_flag, plugin_auth, secure_connection};
 ghost use Rattle.mysql_login.specs.HandshakeViews.{fixed_view, handshake_view};
-ghost use Rattle.mysql_login.specs.Handshakes.{HandshakeFields, fixed, fixed_at, fixed_written, handshake, handshake_at, name_at, name_written, nonce_of, plugin_auth, scramble_at, scramble_front, scramble_written, scrambles_length, secure_connection, status_at};
+ghost use Rattle.mysql_login.specs.Handshakes.{HandshakeFields, fixed, fixed_at, fixed_written, handshake, handshake_at, name_at, name_written, nonce_of, scramble_at, scramble_front, scramble_written, scrambles_length, status_at};
 ghost use Rattle.mysql_login.specs.Versions.{mariadb_version, version_of};
 ghost use Rattle.mysql_raw.specs.Forms.{bytes_at};
 ghost use Rattle.mysql_raw.specs.Laws.{unsized};
 ghost use Rattle.mysql_raw.specs.Wire.{Gives, GivesPart, Tells};
 ghost use Rattle.mysql_raw_bytes.specs.Texts.{null_text};
 ghost use Rattle.mysql_raw_consts.specs.Either.{either_written};
+ghost use Rattle.mysql_raw.specs.declared.error.WireError.TheVariants as wire;
 
 use crate::versions::{mariadb_version, version_of};
 use bitflags::Flags;
 use bstr::ByteSlice;
 use mysql_auth::{AuthPlugin, without_zero};
-use mysql_buf::ParseBuf;
+use mysql_buf::{ParseBuf, front_of};
 use mysql_const::{CapabilityFlags, MariadbCapabilities, StatusFlags};
 use mysql_raw::{
     LeU16, LeU32, LeU32LowerHalf, LeU32UpperHalf, MyDeserialize, MySerialize, ParseExt, RawInt,
@@ -66,18 +68,6 @@ struct FixedBlock {
     mariadb_ext_capabilities: MariadbCapabilities,
 }
 
-// The front of a text, at most `most` bytes.
-#[tactic(auto, unfolding(mysql_buf::specs::Writing::front))]
-fn front_of(text: &[u8], most: usize) -> &[u8]
-    ensures value { result.now ≡ front text.now most }
-    ensures len { length result.now ≤ most }
-{
-    if text.len() <= most {
-        return text;
-    }
-    &text[..most]
-}
-
 // What counts of a second scramble.
 fn scramble_front(text: &[u8]) -> &[u8]
     ensures value { result.now ≡ scramble_front text.now }
@@ -88,14 +78,14 @@ fn scramble_front(text: &[u8]) -> &[u8]
 
 #[tactic(auto, unfolding(bitflags::proofs::OnLiterals::bitflags_on_literals))]
 fn has_scramble_2(capabilities: CapabilityFlags) -> bool
-    ensures { result ≡ secure_connection capabilities.0 }
+    ensures { result ≡ has_flag secure_connection capabilities.0 }
 {
     capabilities.contains(CapabilityFlags::CLIENT_SECURE_CONNECTION)
 }
 
 #[tactic(auto, unfolding(bitflags::proofs::OnLiterals::bitflags_on_literals))]
 fn has_plugin_name(capabilities: CapabilityFlags) -> bool
-    ensures { result ≡ plugin_auth capabilities.0 }
+    ensures { result ≡ has_flag plugin_auth capabilities.0 }
 {
     capabilities.contains(CapabilityFlags::CLIENT_PLUGIN_AUTH)
 }
@@ -215,7 +205,8 @@ impl<'a> HandshakePacket<'a> {
     /// The server's version as text; bytes that aren't UTF-8 are replaced. Refused for want of
     /// memory.
     pub fn server_version_str(&self, alloc: Global) -> Result<CowStr<'_>, WireError>
-        ensures { IfOk result (λ text. cow_str_bytes text ≡ encode_utf8_all (lossy_chars (handshake_view self.now).server_version)) }
+        ensures memory { IsOkUnless result wire.Memory }
+        ensures value { IfOk result (λ text. cow_str_bytes text ≡ encode_utf8_all (lossy_chars (handshake_view self.now).server_version)) }
     {
         Ok(self.server_version_ref().to_str_lossy(alloc)?)
     }
@@ -302,7 +293,8 @@ impl<'a> HandshakePacket<'a> {
     /// The name of the plugin, if there is one, as text; bytes that aren't UTF-8 are replaced.
     /// Refused for want of memory.
     pub fn auth_plugin_name_str(&self, alloc: Global) -> Result<Option<CowStr<'_>>, WireError>
-        ensures { IfOk result (λ text. option_map cow_str_bytes text ≡ option_map (λ name. encode_utf8_all (lossy_chars name)) (handshake_view self.now).auth_plugin_name) }
+        ensures memory { IsOkUnless result wire.Memory }
+        ensures value { IfOk result (λ text. option_map cow_str_bytes text ≡ option_map (λ name. encode_utf8_all (lossy_chars name)) (handshake_view self.now).auth_plugin_name) }
     {
         match &self.auth_plugin_name {
             None => Ok(None),

@@ -1,6 +1,6 @@
 //! A client's answer to the handshake.
 
-ghost use Rattle.std.specs.Prelude.{◌≡◌, IfOk, None, map, option_map};
+ghost use Rattle.std.specs.Prelude.{◌≡◌, IfOk, None, map, option_map, IsOkUnless};
 ghost use Rattle.std.specs.Cow.{cow_slice_items};
 ghost use Rattle.mysql_auth.specs.Views.{plugin_view};
 ghost use Rattle.mysql_login.specs.Attributes.{with_last_values};
@@ -11,6 +11,7 @@ ghost use Rattle.mysql_login.specs.ResponseViews.{response_view, text_view};
 ghost use Rattle.mysql_buf.specs.Writing.{front};
 ghost use Rattle.mysql_raw.specs.Laws.{unsized};
 ghost use Rattle.mysql_raw.specs.Wire.{GivesPart, Tells};
+ghost use Rattle.mysql_raw.specs.declared.error.WireError.TheVariants as wire;
 
 use crate::attributes::{ConnectAttributes, copied};
 use crate::parts::{
@@ -21,7 +22,7 @@ use crate::ssl_request::SslRequest;
 use bitflags::Flags;
 use indexmap::IndexMap;
 use mysql_auth::AuthPlugin;
-use mysql_buf::ParseBuf;
+use mysql_buf::{ParseBuf, front_of};
 use mysql_const::{CapabilityFlags, MariadbCapabilities, UTF8_GENERAL_CI, UTF8MB4_GENERAL_CI};
 use mysql_raw::{LenEnc, MyDeserialize, MySerialize, ParseExt, Readable, WireError, in_order};
 use mysql_raw_bytes::{BytesRepr, NullBytes, RawBytes, U8Bytes};
@@ -76,17 +77,6 @@ fn is_counted(capabilities: CapabilityFlags) -> bool
         capabilities,
         CapabilityFlags::CLIENT_PLUGIN_AUTH_LENENC_CLIENT_DATA,
     ) && has(capabilities, CapabilityFlags::CLIENT_SECURE_CONNECTION)
-}
-
-// The front of a text, at most `most` bytes.
-#[tactic(auto, unfolding(mysql_buf::specs::Writing::front))]
-fn front_of(text: &[u8], most: usize) -> &[u8]
-    ensures { result.now ≡ front text.now most }
-{
-    if text.len() <= most {
-        return text;
-    }
-    &text[..most]
 }
 
 impl<'a> HandshakeResponse<'a> {
@@ -241,7 +231,8 @@ impl<'a> HandshakeResponse<'a> {
         &self,
         alloc: Global,
     ) -> Result<Option<IndexMap<String, String>>, WireError>
-        ensures { IfOk result (λ texts. option_map (λ all. map text_attribute all.entries) texts ≡ option_map (λ all. with_last_values (map lossy_attribute all)) (response_view self.now).attributes) }
+        ensures memory { IsOkUnless result wire.Memory }
+        ensures value { IfOk result (λ texts. option_map (λ all. map text_attribute all.entries) texts ≡ option_map (λ all. with_last_values (map lossy_attribute all)) (response_view self.now).attributes) }
     {
         match &self.connect_attributes {
             Some(all) => Ok(Some(all.texts(alloc)?)),

@@ -1,11 +1,12 @@
 //! Parts of a packet that stand there by the client's capabilities.
 
-ghost use Rattle.std.specs.Prelude.{◌≡◌, IfOk, Ok, map, option_map};
+ghost use Rattle.std.specs.Prelude.{◌≡◌, IfOk, Ok, map, option_map, IsOkUnless};
 ghost use Rattle.std.specs.Cow.{cow_slice_items};
 ghost use Rattle.mysql_auth.specs.Views.{plugin_view};
 ghost use Rattle.mysql_login.specs.Parts.{has_flag, if_held, if_there, or_empty, plugin_before_zero_at, plugin_to_zero_at};
 ghost use Rattle.mysql_login.specs.AttributeViews.{attributes_view, text_attribute};
 ghost use Rattle.mysql_raw.specs.Wire.{GivesPart};
+ghost use Rattle.mysql_raw.specs.declared.error.WireError.TheVariants as wire;
 
 use crate::attributes::ConnectAttributes;
 use bitflags::Flags;
@@ -127,7 +128,8 @@ pub(crate) fn owned_attributes(
     alloc: Global,
     attributes: Option<ConnectAttributes>,
 ) -> Result<Option<ConnectAttributes<'static>>, WireError>
-    ensures { IfOk result (λ owned. option_map attributes_view owned ≡ option_map attributes_view attributes.entry) }
+    ensures memory { IsOkUnless result wire.Memory }
+    ensures value { IfOk result (λ owned. option_map attributes_view owned ≡ option_map attributes_view attributes.entry) }
 {
     match attributes {
         Some(all) => Ok(Some(all.into_owned(alloc)?)),

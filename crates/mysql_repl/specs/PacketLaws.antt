@@ -2,6 +2,7 @@
 use Rattle.std.proofs.Common.{◌≡◌, ℕ, ◌-◌, ◌^◌, ◌<◌, ◌≤◌, true, List, [], ◌∷◌, ◌++◌, length, min, Ok, refl, sym, ap, ◌∙◌, append-nil, append_assoc, arith, lit<}
 use Rattle.std.proofs.lemmas.Bool.{le-ltb}
 use Rattle.std.proofs.lemmas.List.{take_all}
+use Rattle.std.specs.List.{concat}
 use Rattle.byteorder.specs.Endian.{little_bytes}
 use Rattle.mysql_buf.specs.Writing.{front, u8_str, u32_str}
 use Rattle.mysql_gtid.specs.BlockLaws.{block_at-back}
@@ -11,7 +12,7 @@ use Rattle.mysql_raw.specs.Wire.{Reading}
 use Rattle.mysql_raw_bytes.specs.TextLaws.{u8_text_at-back, u32_text_at-back}
 use Rattle.mysql_raw_bytes.specs.Texts.{u8_text_at, u32_text_at}
 use Rattle.mysql_raw_consts.specs.ConstantLaws.{constant_at-back}
-use Rattle.mysql_repl.specs.Packets.{BinlogDump, BinlogDumpGtid, IsBinlogDump, IsBinlogDumpGtid, IsRegisterSlave, IsSemiSyncAck, IsTableDump, RegisterSlave, SemiSyncAck, TableDump, are_named, binlog_dump, binlog_dump_at, binlog_dump_fields_at, binlog_dump_gtid, binlog_dump_gtid_at, binlog_dump_gtid_fields_at, flags_at, from_block, joined, register_slave, register_slave_at, register_slave_fields_at, semi_sync_ack, semi_sync_ack_at, semi_sync_ack_fields_at, table_dump, table_dump_at}
+use Rattle.mysql_repl.specs.Packets.{BinlogDump, BinlogDumpGtid, IsBinlogDump, IsBinlogDumpGtid, IsRegisterSlave, IsSemiSyncAck, IsTableDump, RegisterSlave, SemiSyncAck, TableDump, are_named, binlog_dump, binlog_dump_at, binlog_dump_fields_at, binlog_dump_gtid, binlog_dump_gtid_at, binlog_dump_gtid_fields_at, flags_at, from_block, register_slave, register_slave_at, register_slave_fields_at, semi_sync_ack, semi_sync_ack_at, semi_sync_ack_fields_at, table_dump, table_dump_at}
 
 -- where the block is there, it is read
 enough : {X : Type 0} (n : ℕ) (read_at : List ℕ → Reading X) (bytes : List ℕ) → n ≤ length bytes → from_block n read_at bytes ≡ read_at bytes
@@ -30,9 +31,9 @@ abbrev pub before : List (List ℕ) → List ℕ → List ℕ
 before [] rest = rest
 before (field ∷ fields) rest = field ++ before fields rest
 
-joined_before : (fields : List (List ℕ)) (rest : List ℕ) → joined fields ++ rest ≡ before fields rest
+joined_before : (fields : List (List ℕ)) (rest : List ℕ) → concat fields ++ rest ≡ before fields rest
 joined_before [] rest = refl
-joined_before (field ∷ fields) rest = append_assoc field (joined fields) rest ∙ ap (λ (later : List ℕ). field ++ later) (joined_before fields rest)
+joined_before (field ∷ fields) rest = append_assoc field (concat fields) rest ∙ ap (λ (later : List ℕ). field ++ later) (joined_before fields rest)
 
 semi_sync_ack_fields_at-back : (p : SemiSyncAck) (rest : List ℕ) → IsSemiSyncAck p → rest ≡ [] → semi_sync_ack_fields_at (semi_sync_ack p ++ rest) ≡ Ok (p, rest)
 unfolding semi_sync_ack semi_sync_ack_fields_at

@@ -4,6 +4,7 @@
 use Rattle.std.specs.Prelude.{◌≡◌, ℕ, ◌%◌, ◌-◌, ◌^◌, ◌<◌, ◌≤◌, ◌⊎◌, List, [], ◌∷◌, ◌++◌, length, min, nat_lt, Bool, true, Ok, Err, ◌==◌, if◌then◌else◌}
 use Rattle.std.proofs.Common.{inl, inr}
 use Rattle.std.specs.Int.RustNames.{bit_and, bit_or}
+use Rattle.std.specs.List.{concat}
 use Rattle.bitflags.specs.Sets.{known_bits, without}
 use Rattle.byteorder.specs.Endian.{little_bytes}
 use Rattle.mysql_buf.specs.Writing.{u8_str, u32_str}
@@ -15,11 +16,6 @@ use Rattle.mysql_raw.specs.Wire.{Reading, ◌>>=◌}
 use Rattle.mysql_raw.specs.declared.error.WireError.TheVariants.{UnexpectedEof, UnknownValue}
 use Rattle.mysql_raw_bytes.specs.Texts.{u8_text_at, u32_text_at}
 use Rattle.mysql_raw_consts.specs.Constants.{constant_at}
-
--- Fields one after another.
-abbrev pub joined : List (List ℕ) → List ℕ
-joined [] = []
-joined (field ∷ fields) = field ++ joined fields
 
 -- What stands where n bytes are there; fewer are refused before they are looked at.
 abbrev pub from_block : {X : Type 0} → ℕ → (List ℕ → Reading X) → List ℕ → Reading X
@@ -45,7 +41,7 @@ pub record SemiSyncAck : Type 0 where
   pub filename : List ℕ
 
 unfoldable pub semi_sync_ack : SemiSyncAck → List ℕ
-semi_sync_ack p = joined (little_bytes 1 239 ∷ little_bytes 8 p.position ∷ p.filename ∷ [])
+semi_sync_ack p = concat (little_bytes 1 239 ∷ little_bytes 8 p.position ∷ p.filename ∷ [])
 
 unfoldable pub semi_sync_ack_fields_at : List ℕ → Reading SemiSyncAck
 semi_sync_ack_fields_at bytes = do
@@ -66,7 +62,7 @@ pub record TableDump : Type 0 where
   pub table : List ℕ
 
 unfoldable pub table_dump : TableDump → List ℕ
-table_dump p = joined (little_bytes 1 19 ∷ u8_str p.database ∷ u8_str p.table ∷ [])
+table_dump p = concat (little_bytes 1 19 ∷ u8_str p.database ∷ u8_str p.table ∷ [])
 
 unfoldable pub table_dump_at : List ℕ → Reading TableDump
 table_dump_at bytes = do
@@ -91,7 +87,7 @@ pub record RegisterSlave : Type 0 where
   pub master_id : ℕ
 
 unfoldable pub register_slave : RegisterSlave → List ℕ
-register_slave p = joined (
+register_slave p = concat (
     little_bytes 1 21 ∷ little_bytes 4 p.server_id ∷ u8_str p.hostname ∷ u8_str p.user ∷ u8_str p.password
     ∷ little_bytes 2 p.port ∷ little_bytes 4 p.replication_rank ∷ little_bytes 4 p.master_id ∷ []
     )
@@ -139,7 +135,7 @@ pub record BinlogDump : Type 0 where
   pub filename : List ℕ
 
 unfoldable pub binlog_dump : BinlogDump → List ℕ
-binlog_dump p = joined (little_bytes 1 18 ∷ little_bytes 4 p.pos ∷ little_bytes 2 p.flags ∷ little_bytes 4 p.server_id ∷ p.filename ∷ [])
+binlog_dump p = concat (little_bytes 1 18 ∷ little_bytes 4 p.pos ∷ little_bytes 2 p.flags ∷ little_bytes 4 p.server_id ∷ p.filename ∷ [])
 
 unfoldable pub binlog_dump_fields_at : List ℕ → Reading BinlogDump
 binlog_dump_fields_at bytes = do
@@ -169,7 +165,7 @@ pub record BinlogDumpGtid : Type 0 where
   pub sids : List SidParts
 
 unfoldable pub binlog_dump_gtid : BinlogDumpGtid → List ℕ
-binlog_dump_gtid p = joined (
+binlog_dump_gtid p = concat (
     little_bytes 1 30 ∷ little_bytes 2 p.flags ∷ little_bytes 4 p.server_id ∷ u32_str p.filename ∷ little_bytes 8 p.pos
     ∷ little_bytes 4 (min (length (block_bytes p.sids)) (2 ^ 32 - 1)) ∷ block_bytes p.sids ∷ []
     )

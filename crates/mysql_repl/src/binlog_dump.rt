@@ -1,6 +1,6 @@
 //! The request for the binary log from a place.
 
-ghost use Rattle.std.specs.Prelude.{◌≡◌, [], IfOk, None};
+ghost use Rattle.std.specs.Prelude.{◌≡◌, [], IfOk, None, IsOkUnless};
 ghost use Rattle.std.specs.Cow.{cow_slice_items, cow_str_bytes};
 ghost use Rattle.std.specs.Str.{encode_utf8_all};
 ghost use Rattle.bstr.specs.Utf8.{lossy_chars};
@@ -9,6 +9,7 @@ ghost use Rattle.mysql_raw.specs.Wire.{GivesPart};
 ghost use Rattle.mysql_repl.specs.PacketLaws.{binlog_dump_at-back};
 ghost use Rattle.mysql_repl.specs.Packets.{BinlogDump, IsBinlogDump, binlog_dump, binlog_dump_at, binlog_dump_fields_at};
 ghost use Rattle.mysql_repl.specs.Views.{binlog_dump_view};
+ghost use Rattle.mysql_raw.specs.declared.error.WireError.TheVariants as wire;
 
 use crate::fields::{copy_of, flags_from, lossy};
 use crate::headers::ComBinlogDumpHeader;
@@ -100,7 +101,8 @@ impl<'a> ComBinlogDump<'a> {
 
     /// The file's name as text, where bytes that aren't UTF-8 are replaced. Refused for want of memory.
     pub fn filename(&self, alloc: Global) -> Result<CowStr<'_>, WireError>
-        ensures { IfOk result (λ text. cow_str_bytes text ≡ encode_utf8_all (lossy_chars (binlog_dump_view self.now).filename)) }
+        ensures memory { IsOkUnless result wire.Memory }
+        ensures value { IfOk result (λ text. cow_str_bytes text ≡ encode_utf8_all (lossy_chars (binlog_dump_view self.now).filename)) }
     {
         lossy(alloc, self.filename_raw())
     }

@@ -1,6 +1,6 @@
 //! The request for the binary log without the transactions that are known.
 
-ghost use Rattle.std.specs.Prelude.{◌≡◌, ◌^◌, ◌-◌, ◌++◌, ◌∷◌, [], Bool, IfOk, None, map};
+ghost use Rattle.std.specs.Prelude.{◌≡◌, ◌^◌, ◌-◌, ◌++◌, ◌∷◌, [], Bool, IfOk, None, map, IsOkUnless};
 ghost use Rattle.std.specs.Cow.{cow_slice_items, cow_str_bytes};
 ghost use Rattle.std.specs.Str.{encode_utf8_all};
 ghost use Rattle.bstr.specs.Utf8.{lossy_chars};
@@ -11,11 +11,12 @@ ghost use Rattle.mysql_raw.specs.Wire.{GivesPart};
 ghost use Rattle.mysql_repl.specs.PacketLaws.{binlog_dump_gtid_at-back};
 ghost use Rattle.mysql_repl.specs.Packets.{BinlogDumpGtid, IsBinlogDumpGtid, binlog_dump_gtid, binlog_dump_gtid_at, binlog_dump_gtid_fields_at, through_gtid};
 ghost use Rattle.mysql_repl.specs.Views.{binlog_dump_gtid_view};
+ghost use Rattle.mysql_raw.specs.declared.error.WireError.TheVariants as wire;
 
-use crate::fields::{copy_of, flags_from, front_of, lossy};
+use crate::fields::{copy_of, flags_from, lossy};
 use crate::headers::ComBinlogDumpGtidHeader;
 use bitflags::Flags;
-use mysql_buf::ParseBuf;
+use mysql_buf::{ParseBuf, front_of};
 use mysql_const::BinlogDumpFlags;
 use mysql_gtid::{Sid, SidBlock};
 use mysql_raw::{
@@ -153,7 +154,8 @@ impl<'a> ComBinlogDumpGtid<'a> {
 
     /// The file's name as text, where bytes that aren't UTF-8 are replaced. Refused for want of memory.
     pub fn filename(&self, alloc: Global) -> Result<CowStr<'_>, WireError>
-        ensures { IfOk result (λ text. cow_str_bytes text ≡ encode_utf8_all (lossy_chars (front (binlog_dump_gtid_view self.now).filename (2 ^ 32 - 1)))) }
+        ensures memory { IsOkUnless result wire.Memory }
+        ensures value { IfOk result (λ text. cow_str_bytes text ≡ encode_utf8_all (lossy_chars (front (binlog_dump_gtid_view self.now).filename (2 ^ 32 - 1)))) }
     {
         lossy(alloc, self.filename_raw())
     }

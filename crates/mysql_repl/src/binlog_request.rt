@@ -1,6 +1,6 @@
 //! A request for the binary log, whichever packet carries it.
 
-ghost use Rattle.std.specs.Prelude.{◌≡◌, [], false, IfOk, map};
+ghost use Rattle.std.specs.Prelude.{◌≡◌, [], false, IfOk, map, IsOkUnless};
 ghost use Rattle.std.specs.Cow.{cow_slice_items, cow_str_bytes};
 ghost use Rattle.std.specs.Str.{encode_utf8_all};
 ghost use Rattle.bstr.specs.Utf8.{lossy_chars};
@@ -8,6 +8,7 @@ ghost use Rattle.mysql_gtid.specs.Sids.{sid_view};
 ghost use Rattle.mysql_raw_consts.specs.Either.{either_shown};
 ghost use Rattle.mysql_repl.specs.Packets.{packet_of};
 ghost use Rattle.mysql_repl.specs.Views.{binlog_dump_gtid_view, binlog_dump_view, request_view};
+ghost use Rattle.mysql_raw.specs.declared.error.WireError.TheVariants as wire;
 
 use crate::binlog_dump::ComBinlogDump;
 use crate::binlog_dump_gtid::{ComBinlogDumpGtid, copies_of};
@@ -127,7 +128,8 @@ impl<'a> BinlogRequest<'a> {
 
     /// The file's name as text, where bytes that aren't UTF-8 are replaced. Refused for want of memory.
     pub fn filename(&self, alloc: Global) -> Result<CowStr<'_>, WireError>
-        ensures { IfOk result (λ text. cow_str_bytes text ≡ encode_utf8_all (lossy_chars (request_view self.now).filename)) }
+        ensures memory { IsOkUnless result wire.Memory }
+        ensures value { IfOk result (λ text. cow_str_bytes text ≡ encode_utf8_all (lossy_chars (request_view self.now).filename)) }
     {
         lossy(alloc, self.filename_raw())
     }

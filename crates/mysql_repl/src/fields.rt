@@ -1,12 +1,12 @@
 //! What the fields of the packets have in common.
 
-ghost use Rattle.std.specs.Prelude.{◌≡◌, IfOk};
+ghost use Rattle.std.specs.Prelude.{◌≡◌, IfOk, IsOkUnless};
 ghost use Rattle.std.specs.Cow.{cow_slice_items, cow_str_bytes};
 ghost use Rattle.std.specs.Str.{encode_utf8_all};
 ghost use Rattle.bstr.specs.Utf8.{lossy_chars};
-ghost use Rattle.mysql_buf.specs.Writing.{front};
 ghost use Rattle.mysql_raw.specs.Wire.{GivesPart};
 ghost use Rattle.mysql_repl.specs.Packets.{flags_at};
+ghost use Rattle.mysql_raw.specs.declared.error.WireError.TheVariants as wire;
 
 use bstr::ByteSlice;
 use mysql_buf::ParseBuf;
@@ -15,20 +15,10 @@ use mysql_raw::{LeU16, ParseExt, RawInt, WireError};
 use std::alloc::{AllocError, Global};
 use std::borrow::{CowSlice, CowStr};
 
-// The front of a text, at most `most` bytes.
-#[tactic(auto, unfolding(mysql_buf::specs::Writing::front))]
-pub(crate) fn front_of(text: &[u8], most: usize) -> &[u8]
-    ensures { result.now ≡ front text.now most }
-{
-    if text.len() <= most {
-        return text;
-    }
-    &text[..most]
-}
-
 // Bytes as text, where those that aren't UTF-8 are replaced.
 pub(crate) fn lossy(alloc: Global, text: &[u8]) -> Result<CowStr<'_>, WireError>
-    ensures { IfOk result (λ shown. cow_str_bytes shown ≡ encode_utf8_all (lossy_chars text.now)) }
+    ensures memory { IsOkUnless result wire.Memory }
+    ensures value { IfOk result (λ shown. cow_str_bytes shown ≡ encode_utf8_all (lossy_chars text.now)) }
 {
     Ok(text.to_str_lossy(alloc)?)
 }

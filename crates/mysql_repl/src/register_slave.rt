@@ -1,6 +1,6 @@
 //! What a replica says of itself.
 
-ghost use Rattle.std.specs.Prelude.{◌≡◌, [], IfOk, None};
+ghost use Rattle.std.specs.Prelude.{◌≡◌, [], IfOk, None, IsOkUnless};
 ghost use Rattle.std.specs.Cow.{cow_slice_items, cow_str_bytes};
 ghost use Rattle.std.specs.Str.{encode_utf8_all};
 ghost use Rattle.bstr.specs.Utf8.{lossy_chars};
@@ -10,10 +10,11 @@ ghost use Rattle.mysql_raw.specs.Wire.{GivesPart};
 ghost use Rattle.mysql_repl.specs.PacketLaws.{register_slave_at-back};
 ghost use Rattle.mysql_repl.specs.Packets.{IsRegisterSlave, RegisterSlave, register_slave, register_slave_at, register_slave_fields_at};
 ghost use Rattle.mysql_repl.specs.Views.{register_slave_view};
+ghost use Rattle.mysql_raw.specs.declared.error.WireError.TheVariants as wire;
 
-use crate::fields::{copy_of, front_of, lossy};
+use crate::fields::{copy_of, lossy};
 use crate::headers::ComRegisterSlaveHeader;
-use mysql_buf::ParseBuf;
+use mysql_buf::{ParseBuf, front_of};
 use mysql_raw::{
     LeU16, LeU32, MyDeserialize, MySerialize, ParseExt, RawInt, Readable, ReadsBack, WireError,
     in_order,
@@ -116,7 +117,8 @@ impl<'a> ComRegisterSlave<'a> {
 
     /// The host's name as text, where bytes that aren't UTF-8 are replaced. Refused for want of memory.
     pub fn hostname(&self, alloc: Global) -> Result<CowStr<'_>, WireError>
-        ensures { IfOk result (λ text. cow_str_bytes text ≡ encode_utf8_all (lossy_chars (front (register_slave_view self.now).hostname 255))) }
+        ensures memory { IsOkUnless result wire.Memory }
+        ensures value { IfOk result (λ text. cow_str_bytes text ≡ encode_utf8_all (lossy_chars (front (register_slave_view self.now).hostname 255))) }
     {
         lossy(alloc, self.hostname_raw())
     }
@@ -130,7 +132,8 @@ impl<'a> ComRegisterSlave<'a> {
 
     /// The user's name as text, where bytes that aren't UTF-8 are replaced. Refused for want of memory.
     pub fn user(&self, alloc: Global) -> Result<CowStr<'_>, WireError>
-        ensures { IfOk result (λ text. cow_str_bytes text ≡ encode_utf8_all (lossy_chars (front (register_slave_view self.now).user 255))) }
+        ensures memory { IsOkUnless result wire.Memory }
+        ensures value { IfOk result (λ text. cow_str_bytes text ≡ encode_utf8_all (lossy_chars (front (register_slave_view self.now).user 255))) }
     {
         lossy(alloc, self.user_raw())
     }
@@ -144,7 +147,8 @@ impl<'a> ComRegisterSlave<'a> {
 
     /// The password as text, where bytes that aren't UTF-8 are replaced. Refused for want of memory.
     pub fn password(&self, alloc: Global) -> Result<CowStr<'_>, WireError>
-        ensures { IfOk result (λ text. cow_str_bytes text ≡ encode_utf8_all (lossy_chars (front (register_slave_view self.now).password 255))) }
+        ensures memory { IsOkUnless result wire.Memory }
+        ensures value { IfOk result (λ text. cow_str_bytes text ≡ encode_utf8_all (lossy_chars (front (register_slave_view self.now).password 255))) }
     {
         lossy(alloc, self.password_raw())
     }

@@ -1,6 +1,6 @@
 //! The request for a table.
 
-ghost use Rattle.std.specs.Prelude.{◌≡◌, IfOk, None};
+ghost use Rattle.std.specs.Prelude.{◌≡◌, IfOk, None, IsOkUnless};
 ghost use Rattle.std.specs.Cow.{cow_slice_items, cow_str_bytes};
 ghost use Rattle.std.specs.Str.{encode_utf8_all};
 ghost use Rattle.bstr.specs.Utf8.{lossy_chars};
@@ -9,10 +9,11 @@ ghost use Rattle.mysql_raw.specs.Laws.{unsized};
 ghost use Rattle.mysql_repl.specs.PacketLaws.{table_dump_at-back};
 ghost use Rattle.mysql_repl.specs.Packets.{IsTableDump, TableDump, table_dump, table_dump_at};
 ghost use Rattle.mysql_repl.specs.Views.{table_dump_view};
+ghost use Rattle.mysql_raw.specs.declared.error.WireError.TheVariants as wire;
 
-use crate::fields::{copy_of, front_of, lossy};
+use crate::fields::{copy_of, lossy};
 use crate::headers::ComTableDumpHeader;
-use mysql_buf::ParseBuf;
+use mysql_buf::{ParseBuf, front_of};
 use mysql_raw::{MyDeserialize, MySerialize, ParseExt, Readable, ReadsBack, WireError, in_order};
 use mysql_raw_bytes::{RawBytes, U8Bytes};
 use std::alloc::{AllocError, Global};
@@ -44,7 +45,8 @@ impl<'a> ComTableDump<'a> {
 
     /// The database's name as text, where bytes that aren't UTF-8 are replaced. Refused for want of memory.
     pub fn database(&self, alloc: Global) -> Result<CowStr<'_>, WireError>
-        ensures { IfOk result (λ text. cow_str_bytes text ≡ encode_utf8_all (lossy_chars (front (table_dump_view self.now).database 255))) }
+        ensures memory { IsOkUnless result wire.Memory }
+        ensures value { IfOk result (λ text. cow_str_bytes text ≡ encode_utf8_all (lossy_chars (front (table_dump_view self.now).database 255))) }
     {
         lossy(alloc, self.database_raw())
     }
@@ -58,7 +60,8 @@ impl<'a> ComTableDump<'a> {
 
     /// The table's name as text, where bytes that aren't UTF-8 are replaced. Refused for want of memory.
     pub fn table(&self, alloc: Global) -> Result<CowStr<'_>, WireError>
-        ensures { IfOk result (λ text. cow_str_bytes text ≡ encode_utf8_all (lossy_chars (front (table_dump_view self.now).table 255))) }
+        ensures memory { IsOkUnless result wire.Memory }
+        ensures value { IfOk result (λ text. cow_str_bytes text ≡ encode_utf8_all (lossy_chars (front (table_dump_view self.now).table 255))) }
     {
         lossy(alloc, self.table_raw())
     }
