@@ -150,7 +150,7 @@ impl<'a> BinlogRequest<'a> {
 
     /// The packet that carries the request: by transactions all of it, else the low 32 bits of the position, the name, and of
     /// the flags `BINLOG_DUMP_NON_BLOCK` alone.
-    pub fn as_cmd(&'a self) -> Either<ComBinlogDump<'a>, ComBinlogDumpGtid<'a>>
+    pub fn as_cmd(&self) -> Either<ComBinlogDump<'_>, ComBinlogDumpGtid<'_>>
         ensures { either_shown binlog_dump_view binlog_dump_gtid_view result ≡ packet_of (request_view self.now) }
     {
         let filename = CowSlice::Borrowed(self.filename.as_slice());
