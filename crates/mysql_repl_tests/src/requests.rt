@@ -5,6 +5,7 @@ use mysql_raw::WireError;
 use mysql_repl::{BinlogDumpFlags, BinlogRequest, GnoInterval, Sid};
 use std::alloc::{AllocError, Global};
 use std::borrow::CowSlice;
+use std::process::Abort;
 
 fn request(alloc: Global) -> Result<BinlogRequest<'static>, AllocError> {
     let sid = Sid::new(alloc, *b"bbbbbbbbbbbbbbbb").with_interval(GnoInterval::new(1, 50))?;
@@ -19,13 +20,18 @@ fn request(alloc: Global) -> Result<BinlogRequest<'static>, AllocError> {
     Ok(request)
 }
 
+// The bytes of the packet that carries a request.
+fn carried(rt: &impl Abort, alloc: Global, request: &BinlogRequest<'_>) -> Vec<u8> {
+    let packet = request.as_cmd();
+    written(rt, alloc, &packet)
+}
+
 #[test]
 fn from_a_place(rt: HostRuntime) {
     let bytes: &[u8] = b"\x12\x05\x00\x00\x00\x01\x00\x07\x00\x00\x00f";
     match request(rt.alloc()) {
         Ok(request) => {
-            let packet = request.as_cmd();
-            assert_eq!(rt; written(&rt, rt.alloc(), &packet).as_slice(), bytes);
+            assert_eq!(rt; carried(&rt, rt.alloc(), &request).as_slice(), bytes);
         }
         Err(_) => {}
     }
@@ -38,8 +44,7 @@ fn by_transactions(rt: HostRuntime) {
     match request(rt.alloc()) {
         Ok(request) => {
             let request = request.with_use_gtid(true);
-            let packet = request.as_cmd();
-            assert_eq!(rt; written(&rt, rt.alloc(), &packet).as_slice(), bytes);
+            assert_eq!(rt; carried(&rt, rt.alloc(), &request).as_slice(), bytes);
         }
         Err(_) => {}
     }
