@@ -1,6 +1,5 @@
 pub mod Blocks
 pub mod Characters
-pub mod Elements
 pub mod Equal
 pub mod Fields
 pub mod IntervalTexts

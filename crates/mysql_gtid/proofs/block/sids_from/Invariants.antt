@@ -2,7 +2,7 @@ use Rattle.std.proofs.Common.{◌≡◌, ◌-◌, map}
 use Rattle.mysql_raw_lists.specs.Lists.{elements_at}
 use Rattle.mysql_gtid.specs.Blocks.{sid_at}
 use Rattle.mysql_gtid.specs.Sids.{sid_view}
-use Rattle.mysql_gtid.proofs.Elements.{with_front}
+use Rattle.mysql_raw_lists.specs.ElementLaws.{with_front}
 use Rattle.mysql_gtid.proofs.block.sids_from.Given as goal
 
 abbrev pub invariant-loop : goal.invariant-loop
