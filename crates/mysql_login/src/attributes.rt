@@ -21,6 +21,9 @@ use std::borrow::CowSlice;
 /// The attributes of a connection: each key once, in the order in which the keys first came, and
 /// with its last value. Keys are compared and hashed by their bytes.
 /// (MySQL: Client/Server Protocol, "Protocol::HandshakeResponse41".)
+///
+/// Reading is refused by `UnexpectedEof` where the total or the bytes that it counts are cut off, or
+/// where an attribute doesn't end within them, and by `Memory`.
 #[derive(Debug, PartialEq, Eq, Drop)]
 pub struct ConnectAttributes<'a> {
     entries: IndexMap<RawBytes<'a, LenEnc>, RawBytes<'a, LenEnc>>,

@@ -42,6 +42,9 @@ pub type ComChangeUserHeader = ConstU8<InvalidComChangeUserHeader, 0x11>;
 /// What may stand last in the command that logs another user in.
 /// (MySQL: Client/Server Protocol, "COM_CHANGE_USER"; MariaDB: Client/Server Protocol,
 /// "COM_CHANGE_USER".)
+///
+/// Reading is refused by `UnexpectedEof` where a part that the capabilities name is cut off, and by
+/// `Memory`.
 #[derive(Debug, PartialEq, Eq, Drop)]
 pub struct ComChangeUserMoreData<'a> {
     character_set: u16,
@@ -183,6 +186,10 @@ impl<'de> MyDeserialize<'de> for ComChangeUserMoreData<'de> {
 /// The command that logs another user in.
 /// (MySQL: Client/Server Protocol, "COM_CHANGE_USER"; MariaDB: Client/Server Protocol,
 /// "COM_CHANGE_USER".)
+///
+/// Reading is refused by `BadConstant` where another command's number stands first, by `UnexpectedEof`
+/// where a part is cut off, and by `Memory`, in the order of the parts. Where no byte follows the
+/// database there is no more.
 #[derive(Debug, PartialEq, Eq, Drop)]
 pub struct ComChangeUser<'a> {
     user: RawBytes<'a, NullBytes>,

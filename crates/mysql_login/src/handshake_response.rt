@@ -32,6 +32,9 @@ use std::borrow::CowSlice;
 /// A client's answer to the handshake.
 /// (MySQL: Client/Server Protocol, "Protocol::HandshakeResponse41"; MariaDB: Client/Server Protocol,
 /// "Connecting", "Handshake Response Packet".)
+///
+/// Reading is refused by `UnexpectedEof` where a part that the capabilities name is cut off, and by
+/// `Memory`. A plugin's name may end with the bytes.
 #[derive(Debug, PartialEq, Eq, Drop)]
 pub struct HandshakeResponse<'a> {
     request: SslRequest,

@@ -17,6 +17,8 @@ use std::alloc::{AllocError, Global};
 /// The request for a secure connection: the first 32 bytes of a client's answer to the handshake.
 /// (MySQL: Client/Server Protocol, "Protocol::SSLRequest"; MariaDB: Client/Server Protocol,
 /// "Connecting", "SSLRequest Packet".)
+///
+/// Reading is refused by `UnexpectedEof` below 32 bytes. Bits that name no capability are dropped.
 #[derive(Clone, Debug, PartialEq, Eq, Drop)]
 pub struct SslRequest {
     capabilities: CapabilityFlags,

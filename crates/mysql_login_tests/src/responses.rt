@@ -136,7 +136,7 @@ fn forms_of_the_scramble(rt: HostRuntime) {
         );
         if let Ok(response) = made {
             let bytes = written(&rt, rt.alloc(), &response);
-            assert_eq!(rt; &bytes[32..], endings[i]);
+            assert!(rt; bytes.as_slice().ends_with(endings[i]));
             assert_eq!(rt; response.collation(), 33);
         }
     }
