@@ -4,7 +4,7 @@ use Rattle.std.specs.Prelude.{◌==◌, ℕ, Bool, true, false, if◌then◌else
 use Rattle.std.specs.Int.RustNames.{bit_and, bit_or}
 use Rattle.std.specs.List.{after_first, before_first}
 use Rattle.bitflags.specs.Sets.{without}
-use Rattle.mysql_auth.specs.Plugins.{Plugin, plugin_at, plugin_name, plugin_named, without_zero}
+use Rattle.mysql_auth.specs.Plugins.{Plugin, plugin_name, plugin_named, without_zero}
 use Rattle.mysql_buf.specs.Reading.{is_zero}
 use Rattle.mysql_raw.specs.Wire.{Reading, ◌>>=◌}
 use Rattle.mysql_raw_bytes.specs.Texts.{null_text_at}

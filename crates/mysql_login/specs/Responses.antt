@@ -1,6 +1,6 @@
 -- A client's answer to the handshake.
 -- (MySQL: Client/Server Protocol, "Protocol::HandshakeResponse41"; MariaDB: Client/Server Protocol, "Connecting", "Handshake Response Packet".)
-use Rattle.std.specs.Prelude.{◌==◌, ◌&&◌, ◌||◌, ℕ, nat_le, nat_lt, Bool, is_some, not, if◌then◌else◌, List, [], ◌∷◌, Option, Some, None, Ok}
+use Rattle.std.specs.Prelude.{◌==◌, ◌&&◌, ◌||◌, ℕ, nat_le, nat_lt, Bool, is_some, not, if◌then◌else◌, List, [], ◌∷◌, Option, Ok}
 use Rattle.std.specs.List.{concat}
 use Rattle.mysql_auth.specs.Plugins.{Plugin}
 use Rattle.mysql_buf.specs.Writing.{front, lenenc_str, u8_str}

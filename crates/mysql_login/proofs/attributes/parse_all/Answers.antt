@@ -1,7 +1,7 @@
-use Rattle.std.proofs.Common.{◌≡◌, ap, sym, ◌∙◌, length, arith}
+use Rattle.std.proofs.Common.{ap, ◌∙◌, length, arith}
 use Rattle.std.proofs.lemmas.Result.{err_from_is_err_and}
 use Rattle.mysql_login.specs.Attributes.{all_attributes_at, kept_attributes_at, put_after}
-use Rattle.mysql_login.specs.AttributeViews.{attributes_view, shown_attribute}
+use Rattle.mysql_login.specs.AttributeViews.{attributes_view}
 use Rattle.mysql_login.proofs.AttributeReading.{attribute-shorter, ends, goes_on, is_done, no_bytes, some_bytes}
 use Rattle.mysql_login.proofs.attributes.parse_all.Goals as goal
 
