@@ -76,6 +76,14 @@ fn of_mysql(rt: HostRuntime) {
     assert!(rt; writes(&rt, alloc, &packet, MYSQL));
 }
 
+// Whether these bytes are held.
+fn holds(found: Option<&[u8]>, wanted: &[u8]) -> bool {
+    match found {
+        Some(bytes) => bytes == wanted,
+        None => false,
+    }
+}
+
 #[test]
 fn fields(rt: HostRuntime) {
     let alloc = rt.alloc();
@@ -86,20 +94,14 @@ fn fields(rt: HostRuntime) {
     assert_eq!(rt; packet.protocol_version(), 10);
     assert_eq!(rt; packet.server_version_ref(), b"5.6.4-m7-log".as_slice());
     assert_eq!(rt; packet.scramble_1_ref(), b"RB3vz&Gr".as_slice());
-    assert_eq!(rt;
-        packet.scramble_2_ref(),
-        Some(b"+yD&/ZZ305ZG\x00".as_slice())
-    );
+    assert!(rt; holds(packet.scramble_2_ref(), b"+yD&/ZZ305ZG\x00"));
     assert_eq!(rt; packet.default_collation(), 8);
     assert_eq!(rt;
         packet.status_flags(),
         StatusFlags::SERVER_STATUS_AUTOCOMMIT
     );
     assert_eq!(rt; packet.mariadb_ext_capabilities().bits(), 0);
-    assert_eq!(rt;
-        packet.auth_plugin_name_ref(),
-        Some(b"mysql_native_password".as_slice())
-    );
+    assert!(rt; holds(packet.auth_plugin_name_ref(), b"mysql_native_password"));
 }
 
 #[test]
