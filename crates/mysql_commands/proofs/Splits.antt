@@ -1,11 +1,10 @@
 -- Splits of command streams, from the laws of the wire layer.
-use Rattle.std.proofs.Common.{◌≡◌, ℕ, zero, suc, ◌+◌, ◌-◌, ◌<◌, ◌≤◌, ◌⊎◌, List, [], ◌∷◌, ◌++◌, length, get_or, refl, sym, ap, subst, ◌∙◌, arith, inl, inr, take, drop}
+use Rattle.std.proofs.Common.{◌≡◌, ℕ, ◌+◌, ◌-◌, ◌<◌, ◌≤◌, ◌⊎◌, List, [], ◌∷◌, ◌++◌, length, get_or, refl, sym, ap, subst, ◌∙◌, arith, inl, inr}
 use Rattle.std.proofs.lemmas.Bool.{cases_lt}
-use Rattle.std.proofs.lemmas.List.{length-append, get_or-append-add}
+use Rattle.std.proofs.lemmas.List.{get_or-append-add}
 use Rattle.std.proofs.Math.ListN.{get_or-append}
 use Rattle.mysql_wire.specs.Bytes.{AreBytes}
-use Rattle.mysql_wire.specs.Stream.{Numbering, Split, IsSplit, IsRest, with_payloads, after_all, framings}
-use Rattle.mysql_wire.specs.Stream.Rest.{Empty as EmptyRest, Open as OpenRest}
+use Rattle.mysql_wire.specs.Stream.{Numbering, Split, IsSplit, with_payloads, after_all, framings}
 use Rattle.mysql_wire.specs.Stream.Numbering.{EachFromZero}
 use Rattle.mysql_wire.specs.GoingOn.{ReaderLaws}
 

@@ -1,7 +1,7 @@
 -- What was read of a literal in single quotes.
 use Rattle.std.proofs.Common.{◌≡◌, ◌≢◌, ℕ, zero, suc, ◌+◌, ◌-◌, ◌≤◌, ◌<◌, length-drop, List, [], ◌∷◌, ◌++◌, length, take, drop, get_or, refl, sym, ap, ◌∙◌, inl, inr, append_assoc, append-nil, arith, subst, flat_map, take-append-drop}
 use Rattle.std.specs.List.{AllByRecursion}
-use Rattle.mysql_queries.specs.Tokens.{Byte, Inside, inside_bytes, IsInside, IsQuoted, Closes, backslash, single_quote}
+use Rattle.mysql_queries.specs.Tokens.{Byte, Inside, inside_bytes, IsInside, IsQuoted, Closes, single_quote}
 use Rattle.mysql_queries.specs.Literals.{IsString, inside_content}
 use Rattle.mysql_queries.specs.Scanning.{ClosesAt, IsPartAt, IsRun}
 use Rattle.mysql_queries.proofs.Quotes.{one_inside}

@@ -1,4 +1,4 @@
-use Rattle.std.proofs.Common.{◌++◌, ◌≡◌, ℕ, List, [], ◌∷◌, length, take, ap, ◌∙◌}
+use Rattle.std.proofs.Common.{◌++◌, ◌≡◌, [], ◌∷◌, length, take, ap, ◌∙◌}
 use Rattle.std.proofs.lemmas.Result.{err_from_is_err_and}
 use Rattle.mysql_queries.specs.Tokens.{single_quote}
 use Rattle.mysql_cells.proofs.Appended.{kept_behind, kept_front}
