@@ -1,7 +1,9 @@
 //! Numbers and texts written to buffers.
 
 use bytes::{BufMut, BytesMut};
-use mysql_buf::{BufMutExt, lenenc_int_len, lenenc_str_len, varlen_uint_size, write_varlen_uint};
+use mysql_buf::{
+    BufMutExt, front_of, lenenc_int_len, lenenc_str_len, varlen_uint_size, write_varlen_uint,
+};
 use std::alloc::Global;
 use std::process::Abort;
 
@@ -104,4 +106,11 @@ fn a_long_text_after_a_length_of_one_byte_is_cut(rt: HostRuntime) {
     assert_eq!(rt; out.len(), 256);
     assert_eq!(rt; out[0], 255);
     assert_eq!(rt; lenenc_str_len(&text), 303);
+}
+
+#[test]
+fn fronts_of_texts(rt: HostRuntime) {
+    assert_eq!(rt; front_of(b"abc", 2), b"ab".as_slice());
+    assert_eq!(rt; front_of(b"ab", 2), b"ab".as_slice());
+    assert_eq!(rt; front_of(b"", 2), b"".as_slice());
 }

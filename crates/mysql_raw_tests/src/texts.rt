@@ -146,3 +146,16 @@ fn bytes_of_a_given_length(rt: HostRuntime) {
     assert!(rt; matches!(inner, Err(WireError::UnexpectedEof)));
     assert_eq!(rt; buf.len(), 1);
 }
+
+#[test]
+fn texts_compared(rt: HostRuntime) {
+    let alloc = rt.alloc();
+    let borrowed: RawBytes<LenEnc> = RawBytes::from(b"ab".as_slice());
+    let other: RawBytes<LenEnc> = RawBytes::from(b"abc".as_slice());
+    let Ok(bytes) = Vec::from_slice(alloc, b"ab") else {
+        return;
+    };
+    let owned: RawBytes<LenEnc> = RawBytes::from(bytes);
+    assert!(rt; borrowed == owned);
+    assert!(rt; borrowed != other);
+}
