@@ -1,4 +1,3 @@
 pub mod AttributeMaps
 pub mod AttributeReading
-pub mod Digits
 pub mod Rules

@@ -1,13 +1,26 @@
+pub use Rattle.mysql_auth.specs.Plugins
+pub use Rattle.mysql_auth.specs.PluginData
+pub use Rattle.mysql_auth.specs.Packets as AuthPackets
+pub use Rattle.mysql_auth.specs.Views as AuthViews
+pub use Rattle.mysql_handshake.specs.Capabilities
+pub use Rattle.mysql_handshake.specs.HandshakeViews
+pub use Rattle.mysql_handshake.specs.Handshakes
+pub use Rattle.mysql_handshake.specs.Versions
+pub use Rattle.mysql_gtid.specs.Tags
+pub use Rattle.mysql_gtid.specs.Intervals
+pub use Rattle.mysql_gtid.specs.Sids
+pub use Rattle.mysql_gtid.specs.Blocks
+pub use Rattle.mysql_gtid.specs.Refusals
+pub use Rattle.mysql_repl.specs.Packets as ReplicationPackets
+pub use Rattle.mysql_repl.specs.Statements as ReplicationStatements
+pub use Rattle.mysql_repl.specs.Views as ReplicationViews
 pub mod AttributeViews
 pub mod Attributes
 pub mod ChangedUserViews
 pub mod ChangedUsers
-pub mod HandshakeViews
-pub mod Handshakes
 pub mod Parts
 pub mod ResponseViews
 pub mod Responses
 pub mod SslRequestLaws
 pub mod SslRequestViews
 pub mod SslRequests
-pub mod Versions

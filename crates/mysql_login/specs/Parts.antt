@@ -1,33 +1,13 @@
 -- Parts of a packet that stand there by the client's capabilities.
--- (MySQL: Client/Server Protocol, "Protocol::HandshakeResponse41" and "COM_CHANGE_USER"; "Capabilities Flags".)
-use Rattle.std.specs.Prelude.{◌==◌, ℕ, Bool, true, false, if◌then◌else◌, List, [], ◌∷◌, ◌++◌, Option, Some, None, Ok}
-use Rattle.std.specs.Int.RustNames.{bit_and, bit_or}
+-- (MySQL: Client/Server Protocol, "Protocol::HandshakeResponse41" and "COM_CHANGE_USER".)
+use Rattle.std.specs.Prelude.{ℕ, Bool, true, false, if◌then◌else◌, List, [], ◌∷◌, ◌++◌, Option, Some, None, Ok}
+use Rattle.std.specs.Int.RustNames.{bit_or}
 use Rattle.std.specs.List.{after_first, before_first}
 use Rattle.bitflags.specs.Sets.{without}
 use Rattle.mysql_auth.specs.Plugins.{Plugin, plugin_name, plugin_named, without_zero}
 use Rattle.mysql_buf.specs.Reading.{is_zero}
 use Rattle.mysql_raw.specs.Wire.{Reading, ◌>>=◌}
 use Rattle.mysql_raw_bytes.specs.Texts.{null_text_at}
-
--- the bits of the capabilities that name parts
-abbrev pub connect_with_db : ℕ
-connect_with_db = 8
-
-abbrev pub secure_connection : ℕ
-secure_connection = 0x8000
-
-abbrev pub plugin_auth : ℕ
-plugin_auth = 0x80000
-
-abbrev pub connect_attrs : ℕ
-connect_attrs = 0x100000
-
-abbrev pub plugin_auth_lenenc_client_data : ℕ
-plugin_auth_lenenc_client_data = 0x200000
-
--- whether a flag is among these
-abbrev pub has_flag : ℕ → ℕ → Bool
-has_flag flag capabilities = bit_and capabilities flag == flag
 
 -- the flag set where its part is held, and else cleared
 abbrev pub marked : ℕ → Bool → ℕ → ℕ

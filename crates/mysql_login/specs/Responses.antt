@@ -7,7 +7,8 @@ use Rattle.mysql_buf.specs.Writing.{front, lenenc_str, u8_str}
 use Rattle.mysql_raw.specs.Wire.{Reading, ◌>>=◌}
 use Rattle.mysql_raw_bytes.specs.Texts.{lenenc_text_at, null_text, null_text_at, u8_text_at}
 use Rattle.mysql_login.specs.Attributes.{Attribute, attributes, attributes_at}
-use Rattle.mysql_login.specs.Parts.{connect_attrs, connect_with_db, has_flag, if_held, if_there, marked, plugin_auth, plugin_auth_lenenc_client_data, plugin_text, plugin_to_zero_at, secure_connection}
+use Rattle.mysql_handshake.specs.Capabilities.{connect_attrs, connect_with_db, has_flag, plugin_auth, plugin_auth_lenenc_client_data, secure_connection}
+use Rattle.mysql_login.specs.Parts.{if_held, if_there, marked, plugin_text, plugin_to_zero_at}
 use Rattle.mysql_login.specs.SslRequests.{SslRequestFields, ssl_request, ssl_request_at}
 
 -- what stands first in it, the user, the answer to the scramble, the database, the plugin, the attributes

@@ -3,7 +3,8 @@
 ghost use Rattle.std.specs.Prelude.{◌≡◌, IfOk, Ok, map, option_map, IsOkUnless};
 ghost use Rattle.std.specs.Cow.{cow_slice_items};
 ghost use Rattle.mysql_auth.specs.Views.{plugin_view};
-ghost use Rattle.mysql_login.specs.Parts.{has_flag, if_held, if_there, or_empty, plugin_before_zero_at, plugin_to_zero_at};
+ghost use Rattle.mysql_handshake.specs.Capabilities.{has_flag};
+ghost use Rattle.mysql_login.specs.Parts.{if_held, if_there, or_empty, plugin_before_zero_at, plugin_to_zero_at};
 ghost use Rattle.mysql_login.specs.AttributeViews.{attributes_view, text_attribute};
 ghost use Rattle.mysql_raw.specs.Wire.{GivesPart};
 ghost use Rattle.mysql_raw.specs.declared.error.WireError.TheVariants as wire;

@@ -2,9 +2,9 @@
 -- (MySQL: Client/Server Protocol, "Protocol::HandshakeV10".)
 use Rattle.std.specs.Cow.{cow_slice_items}
 use Rattle.std.specs.Option.{option_map}
-use Rattle.mysql_login.specs.Handshakes.{FixedFields, HandshakeFields}
-use Rattle.mysql_login.specs.declared.handshake.FixedBlock.{FixedBlock}
-use Rattle.mysql_login.specs.declared.handshake.HandshakePacket.{HandshakePacket}
+use Rattle.mysql_handshake.specs.Handshakes.{FixedFields, HandshakeFields}
+use Rattle.mysql_handshake.specs.declared.handshake.FixedBlock.{FixedBlock}
+use Rattle.mysql_handshake.specs.declared.handshake.HandshakePacket.{HandshakePacket}
 
 -- the fields of a handshake packet, apart from where they lie
 abbrev pub handshake_view : HandshakePacket → HandshakeFields

@@ -1,6 +1,6 @@
 use Rattle.std.proofs.Common.{◌≡◌, ◌≤◌, take}
 use Rattle.std.specs.Str.Parse.{digits_value}
-use Rattle.mysql_login.proofs.versions.value_of.Given as goal
+use Rattle.mysql_handshake.proofs.versions.value_of.Given as goal
 
 abbrev pub invariant-loop-digit : goal.invariant-loop-digit
 invariant-loop-digit l = record {

@@ -4,7 +4,7 @@ ghost use Rattle.std.specs.Prelude.{◌≡◌, ◌<◌, ◌≤◌, ℕ, length, 
 ghost use Rattle.std.specs.List.{prefix_len};
 ghost use Rattle.std.specs.Option.{option_map};
 ghost use Rattle.std.specs.Str.Parse.{digits_value};
-ghost use Rattle.mysql_login.specs.Versions.{after_dot, digits_len, is_digit, mariadb_version, marked_version, number_at, version_at, version_of};
+ghost use Rattle.mysql_handshake.specs.Versions.{after_dot, digits_len, is_digit, mariadb_version, marked_version, number_at, version_at, version_of};
 
 /// What stands before the version of a MariaDB server from 10 on, for clients that take a first
 /// number of one digit alone.

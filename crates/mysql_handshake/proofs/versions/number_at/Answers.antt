@@ -1,7 +1,7 @@
 use Rattle.std.proofs.Common.{◌≡◌, ◌<◌, ◌∙◌, arith, ap, take, get_or}
-use Rattle.mysql_login.specs.Versions.{digits_len, is_digit}
-use Rattle.mysql_login.proofs.Digits.{digits_are, digits_few, digits_within}
-use Rattle.mysql_login.proofs.versions.number_at.Goals as goal
+use Rattle.mysql_handshake.specs.Versions.{digits_len, is_digit}
+use Rattle.mysql_handshake.proofs.Digits.{digits_are, digits_few, digits_within}
+use Rattle.mysql_handshake.proofs.versions.number_at.Goals as goal
 
 pub split_at-requires : goal.split_at-requires
 split_at-requires c = let within = digits_within c.args.most c.args.text.now in omega arith

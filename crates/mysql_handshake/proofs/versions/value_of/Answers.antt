@@ -1,6 +1,6 @@
 use Rattle.std.proofs.Common.{get_or, arith}
-use Rattle.mysql_login.proofs.Digits.{digit_range, value_more}
-use Rattle.mysql_login.proofs.versions.value_of.Goals as goal
+use Rattle.mysql_handshake.proofs.Digits.{digit_range, value_more}
+use Rattle.mysql_handshake.proofs.versions.value_of.Goals as goal
 
 pub loop-digit-preserved : goal.loop-digit-preserved
 loop-digit-preserved c =

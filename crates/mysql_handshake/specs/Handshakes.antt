@@ -9,7 +9,7 @@ use Rattle.mysql_auth.specs.Plugins.{without_zero}
 use Rattle.mysql_buf.specs.Writing.{front}
 use Rattle.mysql_const.specs.MariadbCapabilities.{mariadb_capabilities}
 use Rattle.mysql_const.specs.StatusFlags.{status_flags}
-use Rattle.mysql_login.specs.Parts.{has_flag, plugin_auth, secure_connection}
+use Rattle.mysql_handshake.specs.Capabilities.{has_flag, plugin_auth, secure_connection}
 use Rattle.mysql_raw.specs.Forms.{bytes_at, little_at, upper_half, upper_half_at}
 use Rattle.mysql_raw.specs.Wire.{Reading, ◌>>=◌}
 use Rattle.mysql_raw.specs.declared.error.WireError.TheVariants.{UnknownValue}

@@ -1,0 +1,4 @@
+pub mod Capabilities
+pub mod HandshakeViews
+pub mod Handshakes
+pub mod Versions
