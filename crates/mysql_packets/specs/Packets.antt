@@ -5,20 +5,19 @@ use Rattle.std.specs.Prelude.{ℕ, zero, suc, ◌+◌, ◌/◌, ◌%◌, ◌^◌
 use Rattle.std.specs.Int.RustNames.{bit_and}
 use Rattle.byteorder.specs.Endian.{little_number}
 use Rattle.bitflags.specs.Sets.{known_bits}
+use Rattle.mysql_cells.specs.declared.value.Value.{Value}
+use Rattle.mysql_cells.specs.declared.value.Value.TheVariants.{NULL}
+use Rattle.mysql_cells.specs.Cells.{column_cell_at, text_cell_at}
+use Rattle.mysql_const.specs.declared.column_flags.ColumnFlags.{ColumnFlags}
 use Rattle.mysql_const.specs.declared.column_type.ColumnType.{ColumnType}
-use Rattle.mysql_const.specs.declared.column_type.ColumnType.TheVariants.{MYSQL_TYPE_DECIMAL, MYSQL_TYPE_LONGLONG, MYSQL_TYPE_VARCHAR, MYSQL_TYPE_BIT, MYSQL_TYPE_VECTOR, MYSQL_TYPE_JSON, MYSQL_TYPE_NEWDECIMAL, MYSQL_TYPE_ENUM, MYSQL_TYPE_SET, MYSQL_TYPE_TINY_BLOB, MYSQL_TYPE_MEDIUM_BLOB, MYSQL_TYPE_LONG_BLOB, MYSQL_TYPE_BLOB, MYSQL_TYPE_VAR_STRING, MYSQL_TYPE_STRING, MYSQL_TYPE_GEOMETRY}
-use Rattle.mysql_const.specs.ColumnTypes.{column_type_named, is_among}
+use Rattle.mysql_const.specs.ColumnTypes.{column_type_named}
 use Rattle.mysql_const.specs.StatusFlags.{status_flags}
-use Rattle.mysql_wire.specs.WireError.TheVariants.{UnexpectedEof, UnknownValue, BadLength, UnsupportedType}
+use Rattle.mysql_wire.specs.WireError.TheVariants.{UnexpectedEof, UnknownValue}
 use Rattle.mysql_wire.specs.Wire.{Reading, ◌>>=◌}
 use Rattle.mysql_wire.specs.Forms.{bytes_at, lenenc_number_at, little_at}
 use Rattle.mysql_wire.specs.Texts.{lenenc_text_at}
 use Rattle.mysql_wire.specs.Lists.{elements_at}
 use Rattle.mysql_wire.specs.Constants.{constant_at, named_at, text_constant_at, zeros_at}
-
--- Bit k of a set of flags stands.
-abbrev pub has_flag : ℕ → ℕ → Bool
-has_flag k flags = (flags / 2 ^ k) % 2 == 1
 
 -- None for a field that holds no bytes.
 abbrev pub unless_empty : List ℕ → Option (List ℕ)
@@ -205,7 +204,7 @@ pub record ColumnDefinition : Type 0 where
   pub character_set : ℕ
   pub column_length : ℕ
   pub column_type : ColumnType
-  pub flags : ℕ
+  pub flags : ColumnFlags
   pub decimals : ℕ
 
 -- The catalog, which is always "def", after its length.
@@ -238,60 +237,30 @@ column_at bytes = do
       character_set = character_set.0;
       column_length = column_length.0;
       column_type = column_type.0;
-      flags = flags.0;
+      flags = record { 0 = flags.0 };
       decimals = decimals.0;
     },
     block.1,
   )
 
--- What a cell holds: nothing, bytes, or a whole number by its 64 bits and whether it has no sign.
-pub data Cell : Type 0 where
-  Null : Cell
-  Text : List ℕ → Cell
-  Whole : ℕ → Bool → Cell
-
--- A cell of a text row.
-unfoldable pub text_cell_at : List ℕ → Reading Cell
-text_cell_at [] = Err UnexpectedEof
-text_cell_at (b ∷ rest) =
-    if b == 251 then Ok (Null, rest)
-    else if b == 255 then Err BadLength
-    else (do
-      text ← lenenc_text_at (b ∷ rest)
-      Ok (Text text.0, text.1))
-
 -- A text row: a cell for each column.
-abbrev pub text_row_at : List ColumnDefinition → List ℕ → Reading (List Cell)
+abbrev pub text_row_at : List ColumnDefinition → List ℕ → Reading (List Value)
 text_row_at columns bytes = elements_at text_cell_at (length columns) bytes
 
--- The types whose cells are length-encoded bytes.
-abbrev pub bytes_types : List ColumnType
-bytes_types =
-    MYSQL_TYPE_DECIMAL ∷ MYSQL_TYPE_VARCHAR ∷ MYSQL_TYPE_BIT ∷ MYSQL_TYPE_VECTOR ∷ MYSQL_TYPE_JSON ∷ MYSQL_TYPE_NEWDECIMAL
-    ∷ MYSQL_TYPE_ENUM ∷ MYSQL_TYPE_SET ∷ MYSQL_TYPE_TINY_BLOB ∷ MYSQL_TYPE_MEDIUM_BLOB ∷ MYSQL_TYPE_LONG_BLOB
-    ∷ MYSQL_TYPE_BLOB ∷ MYSQL_TYPE_VAR_STRING ∷ MYSQL_TYPE_STRING ∷ MYSQL_TYPE_GEOMETRY ∷ []
+-- Whether the place's bit stands in the bitmap of a binary row, whose first two bits have no place.
+abbrev pub is_null_at : List ℕ → ℕ → Bool
+is_null_at bitmap place = little_number (length bitmap) bitmap / 2 ^ (place + 2) % 2 == 1
 
--- A cell of a binary row, of a type with length-encoded bytes or of eight bytes.
-unfoldable pub binary_cell_at : ColumnDefinition → List ℕ → Reading Cell
-binary_cell_at column bytes =
-    if is_among (MYSQL_TYPE_LONGLONG ∷ []) column.column_type then (do
-      n ← little_at 8 bytes
-      Ok (Whole n.0 (has_flag 5 column.flags), n.1))
-    else if is_among bytes_types column.column_type then (do
-      text ← lenenc_text_at bytes
-      Ok (Text text.0, text.1))
-    else Err UnsupportedType
-
--- The cells of a binary row: place k is null where bit k + 2 of the bitmap stands.
-unfoldable pub binary_cells_at : List ℕ → ℕ → List ColumnDefinition → List ℕ → Reading (List Cell)
-binary_cells_at bitmap k [] bytes = Ok ([], bytes)
-binary_cells_at bitmap k (column ∷ columns) bytes = do
-  cell ← (if has_flag (k + 2) (little_number (length bitmap) bitmap) then Ok (Null, bytes) else binary_cell_at column bytes)
-  cells ← binary_cells_at bitmap (k + 1) columns cell.1
+-- The cells of a binary row from this place on: null by the bitmap, else by the column's type and flags.
+unfoldable pub binary_cells_at : List ℕ → ℕ → List ColumnDefinition → List ℕ → Reading (List Value)
+binary_cells_at bitmap place [] bytes = Ok ([], bytes)
+binary_cells_at bitmap place (column ∷ columns) bytes = do
+  cell ← (if is_null_at bitmap place then Ok (NULL, bytes) else column_cell_at (column.column_type, column.flags) bytes)
+  cells ← binary_cells_at bitmap (place + 1) columns cell.1
   Ok (cell.0 ∷ cells.0, cells.1)
 
 -- A binary row: a zero, the bitmap, and the cells that aren't null.
-unfoldable pub binary_row_at : List ColumnDefinition → List ℕ → Reading (List Cell)
+unfoldable pub binary_row_at : List ColumnDefinition → List ℕ → Reading (List Value)
 binary_row_at columns bytes = do
   header ← constant_at 1 0 bytes
   bitmap ← bytes_at ((length columns + 9) / 8) header.1

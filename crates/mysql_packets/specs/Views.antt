@@ -1,15 +1,13 @@
 -- Packets as values, without where they lie in memory (the packets of MySQL: Client/Server Protocol, "Generic Response
 -- Packets" and "Text Resultset").
-use Rattle.std.specs.Prelude.{ℕ, List, map, Option, option_map, Vec}
+use Rattle.std.specs.Prelude.{ℕ, List, Option, option_map, Vec}
 use Rattle.std.specs.declared.alloc.Global.{Global}
 use Rattle.mysql_packets.specs.declared.okay.OkPacket.{OkPacket}
 use Rattle.mysql_packets.specs.declared.server_fault.ServerError.{ServerError}
 use Rattle.mysql_packets.specs.declared.server_fault.ProgressReport.{ProgressReport}
 use Rattle.mysql_packets.specs.declared.statement.StmtPacket.{StmtPacket}
 use Rattle.mysql_packets.specs.declared.column.Column.{Column}
-use Rattle.mysql_packets.specs.declared.row.Value.{Value}
-use Rattle.mysql_packets.specs.declared.row.Value.TheVariants as values
-use Rattle.mysql_packets.specs.Packets.{Cell, Null, Text, Whole, Okay, ServerFault, Report, Statement, ColumnDefinition}
+use Rattle.mysql_packets.specs.Packets.{Okay, ServerFault, Report, Statement, ColumnDefinition}
 
 -- Bytes, where there are any.
 abbrev pub bytes_view : Option (Vec ℕ Global) → Option (List ℕ)
@@ -44,14 +42,6 @@ column_view p = record {
   character_set = p.character_set;
   column_length = p.column_length;
   column_type = p.column_type;
-  flags = p.flags.0;
+  flags = p.flags;
   decimals = p.decimals;
 }
-
-abbrev pub cell_view : Value → Cell
-cell_view values.Null = Null
-cell_view (values.Bytes bytes) = Text bytes.items
-cell_view (values.Whole bits unsigned) = Whole bits unsigned
-
-abbrev pub cell_views : List Value → List Cell
-cell_views cells = map cell_view cells

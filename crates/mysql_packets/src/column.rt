@@ -106,7 +106,7 @@ impl Column {
 
     /// Its flags.
     pub fn flags(&self) -> ColumnFlags
-        ensures { result.0 ≡ (column_view self.now).flags }
+        ensures { result ≡ (column_view self.now).flags }
     {
         self.flags
     }

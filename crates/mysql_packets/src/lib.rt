@@ -11,6 +11,5 @@ pub mod statement;
 
 pub use column::Column;
 pub use okay::OkPacket;
-pub use row::Value;
 pub use server_fault::{ProgressReport, ServerError};
 pub use statement::StmtPacket;

@@ -1,7 +1,8 @@
 -- What one more payload does to what is awaited.
 use Rattle.std.proofs.Common.{◌≡◌, ℕ, zero, suc, List, [], ◌∷◌, ◌++◌, Bool, true, false, Result, Ok, Err, refl, ap, sym, subst, if◌then◌else◌, ◌∙◌}
 use Rattle.std.proofs.lemmas.List.{append-nil}
-use Rattle.mysql_packets.specs.Packets.{Okay, Statement, ColumnDefinition, Cell, deprecate_eof}
+use Rattle.mysql_cells.specs.declared.value.Value.{Value}
+use Rattle.mysql_packets.specs.Packets.{Okay, Statement, ColumnDefinition, deprecate_eof}
 use Rattle.mysql_replies.specs.declared.fault.ReplyFault.{ReplyFault}
 use Rattle.mysql_replies.specs.declared.context.Context.{Context}
 use Rattle.mysql_replies.specs.Grammar.{Payload, Outcome, PreparedResult, Part, Stands, Misfit, ◌>>=◌, Stretch, Ending, Ended, Wrong, Results, last, more, misfit, Line, RowLine, TerminatorLine, ErrorLine, Opening, OkOpening, ErrorOpening, FileOpening, CountOpening, StatementOpening, is_report, reading, in_place, next, column, eof, columns, columns_end, column_group, line, after_rows, rows, result_set, prepared, prepared_columns, opening, after_opening, one_result}
@@ -123,13 +124,13 @@ group_cases c n these payload f again is stands ends (GroupFails fault) same =
 group_then : (c : Context) (n : ℕ) (these : List ColumnDefinition) (payload : Payload) (f : List ColumnDefinition × List Payload → Part Stretch) (again : ℕ → List ColumnDefinition → Awaited) → ((m : ℕ) (those : List ColumnDefinition) (z : List Payload) → rest_of c (again m those) z ≡ (column_group c m those z >>= f)) → Step c (λ z. f (these, payload ∷ z)) payload → Step c (λ z. f (these, z)) payload → Step c (λ z. column_group c n these (payload ∷ z) >>= f) payload
 group_then c n these payload f again is stands ends = let g = group_step c n these payload in group_cases c n these payload f again is stands ends g.0 g.1
 
-line_step : (c : Context) (columns : List ColumnDefinition) (these : List (List Cell)) (payload : Payload) (r : Result Line ReplyFault) → Step c (λ z. after_rows columns these (λ cells. rows c columns (these ++ cells ∷ []) z) r payload z) payload
+line_step : (c : Context) (columns : List ColumnDefinition) (these : List (List Value)) (payload : Payload) (r : Result Line ReplyFault) → Step c (λ z. after_rows columns these (λ cells. rows c columns (these ++ cells ∷ []) z) r payload z) payload
 line_step c columns these payload (Ok (RowLine cells)) = Step-awaits c (Rows columns (these ++ cells ∷ [])) payload
 line_step c columns these payload (Ok (TerminatorLine ok)) = Step-stands c _ payload
 line_step c columns these payload (Ok (ErrorLine error)) = Step-stands c _ payload
 line_step c columns these payload (Err fault) = Step-misfit c _ fault payload
 
-rows_step : (c : Context) (columns : List ColumnDefinition) (these : List (List Cell)) (payload : Payload) → Step c (λ z. rows c columns these (payload ∷ z)) payload
+rows_step : (c : Context) (columns : List ColumnDefinition) (these : List (List Value)) (payload : Payload) → Step c (λ z. rows c columns these (payload ∷ z)) payload
 unfolding rows
 rows_step c columns these payload =
     Step-if c payload (is_report c payload) (λ z. rows c columns these z) (λ z. after_rows columns these (λ cells. rows c columns (these ++ cells ∷ []) z) (reading c (line c columns) payload) payload z)

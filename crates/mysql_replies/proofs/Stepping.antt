@@ -1,7 +1,8 @@
 -- What a payload that is no progress report leads to, by what stands in its place.
 use Rattle.std.proofs.Common.{◌≡◌, ℕ, zero, suc, ◌<◌, ◌-◌, List, [], ◌∷◌, ◌++◌, length, Bool, true, false, Result, Ok, Err, refl, ap, sym, subst, arith, if◌then◌else◌, ◌∙◌, ◌⊎◌, inl, inr}
 use Rattle.std.proofs.lemmas.List.{append-nil}
-use Rattle.mysql_packets.specs.Packets.{Okay, ColumnDefinition, Cell, deprecate_eof}
+use Rattle.mysql_cells.specs.declared.value.Value.{Value}
+use Rattle.mysql_packets.specs.Packets.{Okay, ColumnDefinition, deprecate_eof}
 use Rattle.mysql_replies.specs.declared.context.Context.{Context}
 use Rattle.mysql_replies.specs.declared.fault.ReplyFault.{ReplyFault}
 use Rattle.mysql_replies.specs.declared.fault.ReplyFault.TheVariants.{Memory}
@@ -59,7 +60,7 @@ rows_none c [] z h = refl
 rows_none c (first ∷ others) z h = absurd (omega arith)
 
 -- Where no columns are left and no EOF is due, rows are awaited.
-pub rows_after_columns : (c : Context) (n : ℕ) (these : List ColumnDefinition) (read : List (List Cell)) → n ≡ 0 → read ≡ [] → (deprecate_eof c.capabilities.0 ≡ true) ⊎ (length these ≡ 0) → (z : List Payload) → rows c these read z ≡ result_set c n these z
+pub rows_after_columns : (c : Context) (n : ℕ) (these : List ColumnDefinition) (read : List (List Value)) → n ≡ 0 → read ≡ [] → (deprecate_eof c.capabilities.0 ≡ true) ⊎ (length these ≡ 0) → (z : List Payload) → rows c these read z ≡ result_set c n these z
 rows_after_columns c n these read none empty (inl h) z = rw (none, empty) (rows_deprecated c these z h)
 rows_after_columns c n these read none empty (inr h) z = rw (none, empty) (rows_none c these z h)
 
@@ -81,11 +82,11 @@ unfolding result_set column_group columns
 column_misfit c n these payload fault form h z = rw (next_is c column payload z form, h) refl
 
 -- A line is read.
-pub rows_are : (c : Context) (columns : List ColumnDefinition) (these : List (List Cell)) (payload : Payload) (r : Result Line ReplyFault) → has_report_form c payload ≡ false → line c columns payload ≡ r → (z : List Payload) → rows c columns these (payload ∷ z) ≡ after_rows columns these (λ cells. rows c columns (these ++ cells ∷ []) z) r payload z
+pub rows_are : (c : Context) (columns : List ColumnDefinition) (these : List (List Value)) (payload : Payload) (r : Result Line ReplyFault) → has_report_form c payload ≡ false → line c columns payload ≡ r → (z : List Payload) → rows c columns these (payload ∷ z) ≡ after_rows columns these (λ cells. rows c columns (these ++ cells ∷ []) z) r payload z
 unfolding rows
 rows_are c columns these payload r form h z = rw form (ap (λ x. after_rows columns these (λ cells. rows c columns (these ++ cells ∷ []) z) x payload z) h)
 
-pub eof_leads : (c : Context) (these : List ColumnDefinition) (payload : Payload) (ok : Okay) (read : List (List Cell)) → has_report_form c payload ≡ false → IsSettled c (Columns 0 these) → eof payload ≡ Ok ok → read ≡ [] → (z : List Payload) → result_set c 0 these (payload ∷ z) ≡ rows c these read z
+pub eof_leads : (c : Context) (these : List ColumnDefinition) (payload : Payload) (ok : Okay) (read : List (List Value)) → has_report_form c payload ≡ false → IsSettled c (Columns 0 these) → eof payload ≡ Ok ok → read ≡ [] → (z : List Payload) → result_set c 0 these (payload ∷ z) ≡ rows c these read z
 eof_leads c [] payload ok read form settled h empty z = absurd settled
 eof_leads c (first ∷ others) payload ok read form settled h empty z = eof_found c first others payload ok form settled h z ∙ ap (λ r. rows c (first ∷ others) r z) (sym empty)
 
@@ -102,5 +103,5 @@ pub column_fails : (c : Context) (n : ℕ) (these : List ColumnDefinition) (payl
 column_fails c zero these payload fault form some h z = absurd (omega arith)
 column_fails c (suc n) these payload fault form some h z = column_misfit c n these payload fault form h z
 
-pub row_leads : (c : Context) (columns : List ColumnDefinition) (these those : List (List Cell)) (payload : Payload) (cells : List Cell) → has_report_form c payload ≡ false → line c columns payload ≡ Ok (RowLine cells) → those ≡ these ++ cells ∷ [] → (z : List Payload) → rows c columns these (payload ∷ z) ≡ rows c columns those z
+pub row_leads : (c : Context) (columns : List ColumnDefinition) (these those : List (List Value)) (payload : Payload) (cells : List Value) → has_report_form c payload ≡ false → line c columns payload ≡ Ok (RowLine cells) → those ≡ these ++ cells ∷ [] → (z : List Payload) → rows c columns these (payload ∷ z) ≡ rows c columns those z
 row_leads c columns these those payload cells form h pushed z = rows_are c columns these payload (Ok (RowLine cells)) form h z ∙ ap (λ r. rows c columns r z) (sym pushed)

@@ -1,6 +1,7 @@
 -- How many payloads a part takes: what follows it is shorter by as many.
 use Rattle.std.proofs.Common.{ℕ, zero, suc, ◌+◌, ◌≤◌, List, [], ◌∷◌, ◌++◌, length, Bool, true, false, Result, Ok, Err, arith, if◌then◌else◌}
-use Rattle.mysql_packets.specs.Packets.{Statement, ColumnDefinition, Cell, deprecate_eof}
+use Rattle.mysql_cells.specs.declared.value.Value.{Value}
+use Rattle.mysql_packets.specs.Packets.{Statement, ColumnDefinition, deprecate_eof}
 use Rattle.mysql_replies.specs.declared.fault.ReplyFault.{ReplyFault}
 use Rattle.mysql_replies.specs.declared.context.Context.{Context}
 use Rattle.mysql_replies.specs.Grammar.{Payload, Part, Stands, Begun, Misfit, ◌>>=◌, Stretch, Line, RowLine, TerminatorLine, ErrorLine, Opening, OkOpening, ErrorOpening, FileOpening, CountOpening, StatementOpening, is_report, reading, in_place, next, column, eof, columns, columns_end, column_group, line, after_rows, rows, result_set, prepared, prepared_columns, opening, after_opening, one_result}
@@ -67,13 +68,13 @@ unfolding column_group
 Takes-column_group c n these payloads =
     Takes-then 0 payloads (columns c n these payloads) _ (Takes-columns c n these payloads) (λ a rest. Takes-columns_end c a rest)
 
-Takes-after_rows : (columns : List ColumnDefinition) (rows : List (List Cell)) (on : List Cell → Part Stretch) (r : Result Line ReplyFault) (payload : Payload) (rest : List Payload) → ((cells : List Cell) → Takes 0 rest (on cells)) → Takes 0 (payload ∷ rest) (after_rows columns rows on r payload rest)
+Takes-after_rows : (columns : List ColumnDefinition) (rows : List (List Value)) (on : List Value → Part Stretch) (r : Result Line ReplyFault) (payload : Payload) (rest : List Payload) → ((cells : List Value) → Takes 0 rest (on cells)) → Takes 0 (payload ∷ rest) (after_rows columns rows on r payload rest)
 Takes-after_rows columns rows on (Ok (RowLine cells)) payload rest each = Takes-cons 0 payload rest _ (each cells)
 Takes-after_rows columns rows on (Ok (TerminatorLine ok)) payload rest each = omega arith
 Takes-after_rows columns rows on (Ok (ErrorLine error)) payload rest each = omega arith
 Takes-after_rows columns rows on (Err fault) payload rest each = omega arith
 
-pub Takes-rows : (c : Context) (columns : List ColumnDefinition) (these : List (List Cell)) (payloads : List Payload) → Takes 0 payloads (rows c columns these payloads)
+pub Takes-rows : (c : Context) (columns : List ColumnDefinition) (these : List (List Value)) (payloads : List Payload) → Takes 0 payloads (rows c columns these payloads)
 unfolding rows
 Takes-rows c columns these [] = tt
 Takes-rows c columns these (payload ∷ rest) =

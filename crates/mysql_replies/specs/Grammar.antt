@@ -4,7 +4,8 @@
 use Rattle.std.specs.Prelude.{ℕ, zero, suc, List, [], ◌∷◌, ◌++◌, length, take, drop, Bool, true, false, Option, Some, None, Result, Ok, Err, nat_lt, ◌==◌, ◌&&◌, if◌then◌else◌, is_ok, bytes_eq}
 use Rattle.mysql_wire.specs.Forms.{lenenc_number_at}
 use Rattle.mysql_wire.specs.Wire.{Reading}
-use Rattle.mysql_packets.specs.Packets.{Okay, ServerFault, Statement, ColumnDefinition, Cell, okay_at, old_eof_at, result_set_terminator_at, server_fault_at, report_at, statement_at, column_at, text_row_at, binary_row_at, deprecate_eof, progress_obsolete, more_results_exist}
+use Rattle.mysql_cells.specs.declared.value.Value.{Value}
+use Rattle.mysql_packets.specs.Packets.{Okay, ServerFault, Statement, ColumnDefinition, okay_at, old_eof_at, result_set_terminator_at, server_fault_at, report_at, statement_at, column_at, text_row_at, binary_row_at, deprecate_eof, progress_obsolete, more_results_exist}
 use Rattle.mysql_replies.specs.declared.context.ReplyKind.{ReplyKind}
 use Rattle.mysql_replies.specs.declared.context.ReplyKind.TheVariants.{Binary, Prepare}
 use Rattle.mysql_replies.specs.declared.context.Context.{Context}
@@ -17,7 +18,7 @@ Payload = List ℕ
 -- A result of a reply. Rows without a terminator ended by an error, or haven't ended.
 pub data Outcome : Type 0 where
   OkResult : Okay → Outcome
-  RowsResult : List ColumnDefinition → List (List Cell) → Option Okay → Outcome
+  RowsResult : List ColumnDefinition → List (List Value) → Option Okay → Outcome
   PreparedResult : Statement → List ColumnDefinition → List ColumnDefinition → Outcome
   ErrorResult : ServerFault → Outcome
   FileResult : List ℕ → Outcome
@@ -103,7 +104,7 @@ column_group c n these payloads = do
 
 -- What may stand in a row's place.
 pub data Line : Type 0 where
-  RowLine : List Cell → Line
+  RowLine : List Value → Line
   TerminatorLine : Okay → Line
   ErrorLine : ServerFault → Line
 
@@ -112,7 +113,7 @@ is_binary Binary = true
 is_binary kind = false
 
 -- A row, by the kind of the command.
-abbrev pub row : Context → List ColumnDefinition → Payload → Result (List Cell) ReplyFault
+abbrev pub row : Context → List ColumnDefinition → Payload → Result (List Value) ReplyFault
 row c columns payload =
     whole_or_fault BadRow (if is_binary c.kind then binary_row_at columns payload else text_row_at columns payload)
 
@@ -144,7 +145,7 @@ pub record Stretch : Type 0 where
   pub more : Bool
 
 -- What a line means after these rows: a row goes on, a terminator or an error ends them.
-abbrev pub after_rows : List ColumnDefinition → List (List Cell) → (List Cell → Part Stretch) → Result Line ReplyFault → Payload → List Payload → Part Stretch
+abbrev pub after_rows : List ColumnDefinition → List (List Value) → (List Value → Part Stretch) → Result Line ReplyFault → Payload → List Payload → Part Stretch
 after_rows columns rows on (Ok (RowLine cells)) payload rest = on cells
 after_rows columns rows on (Ok (TerminatorLine ok)) payload rest =
     Stands (record { results = RowsResult columns rows (Some ok) ∷ []; more = more_results_exist ok.status }) rest
@@ -154,7 +155,7 @@ after_rows columns rows on (Err fault) payload rest =
     Misfit (RowsResult columns rows None ∷ []) fault (payload ∷ rest)
 
 -- The rows after these, to their terminator or an error.
-unfoldable pub rows : Context → List ColumnDefinition → List (List Cell) → List Payload → Part Stretch
+unfoldable pub rows : Context → List ColumnDefinition → List (List Value) → List Payload → Part Stretch
 rows c columns these [] = Begun (RowsResult columns these None ∷ [])
 rows c columns these (payload ∷ rest) =
     if is_report c payload then rows c columns these rest

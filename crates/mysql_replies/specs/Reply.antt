@@ -3,7 +3,8 @@
 -- "ERR_Packet".
 use Rattle.std.specs.Prelude.{◌≡◌, ℕ, ◌+◌, ◌-◌, List, [], ◌∷◌, ◌++◌, length, take, false, Ok, Err, if◌then◌else◌}
 use Rattle.mysql_wire.specs.Wire.{Reading}
-use Rattle.mysql_packets.specs.Packets.{Report, Statement, ColumnDefinition, Cell, report_at}
+use Rattle.mysql_cells.specs.declared.value.Value.{Value}
+use Rattle.mysql_packets.specs.Packets.{Report, Statement, ColumnDefinition, report_at}
 use Rattle.mysql_replies.specs.declared.fault.ReplyFault.{ReplyFault}
 use Rattle.mysql_replies.specs.declared.fault.ReplyFault.TheVariants as faults
 use Rattle.mysql_replies.specs.declared.fault.ReplyFault.TheVariants.{AfterEnd}
@@ -66,7 +67,7 @@ pub data Awaited : Type 0 where
   -- Of a result set: n more columns after these, and all that follows them.
   Columns : ℕ → List ColumnDefinition → Awaited
   -- Rows after these, under these columns.
-  Rows : List ColumnDefinition → List (List Cell) → Awaited
+  Rows : List ColumnDefinition → List (List Value) → Awaited
   -- Of a prepared reply: n more parameters after these, and all that follows them.
   Parameters : Statement → ℕ → List ColumnDefinition → Awaited
   -- Of a prepared reply: n more columns after these.

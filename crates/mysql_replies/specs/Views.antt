@@ -3,14 +3,14 @@
 use Rattle.std.specs.Prelude.{◌≡◌, List, map, Result, Ok, Err}
 use Rattle.mysql_wire.specs.WireError.{WireError}
 use Rattle.mysql_wire.specs.WireError.TheVariants as wire
-use Rattle.mysql_packets.specs.Packets.{ColumnDefinition, Cell}
-use Rattle.mysql_packets.specs.Views.{okay_view, server_fault_view, statement_view, column_view, cell_views}
+use Rattle.mysql_cells.specs.declared.value.Value.{Value}
+use Rattle.mysql_packets.specs.Packets.{ColumnDefinition}
+use Rattle.mysql_packets.specs.Views.{okay_view, server_fault_view, statement_view, column_view}
 use Rattle.mysql_replies.specs.declared.fault.ReplyFault.{ReplyFault}
 use Rattle.mysql_replies.specs.declared.fault.ReplyFault.TheVariants.{Memory}
 use Rattle.mysql_replies.specs.declared.opening.Opening.{Opening}
 use Rattle.mysql_replies.specs.declared.opening.Opening.TheVariants as openings
 use Rattle.mysql_packets.specs.declared.column.Column.{Column}
-use Rattle.mysql_packets.specs.declared.row.Value.{Value}
 use Rattle.std.specs.Prelude.{Vec, option_map}
 use Rattle.std.specs.declared.alloc.Global.{Global}
 use Rattle.mysql_replies.specs.declared.lines.Line.{Line}
@@ -48,11 +48,11 @@ opening_view (openings.Statement statement) = grammar.StatementOpening (statemen
 abbrev pub column_views : List Column → List ColumnDefinition
 column_views columns = map column_view columns
 
-abbrev pub row_views : List (Vec Value Global) → List (List Cell)
-row_views rows = map (λ row. cell_views row.items) rows
+abbrev pub row_views : List (Vec Value Global) → List (List Value)
+row_views rows = map (λ row. row.items) rows
 
 abbrev pub line_view : Line → grammar.Line
-line_view (lines.Row cells) = grammar.RowLine (cell_views cells.items)
+line_view (lines.Row cells) = grammar.RowLine cells.items
 line_view (lines.Terminator ok) = grammar.TerminatorLine (okay_view ok)
 line_view (lines.Error error) = grammar.ErrorLine (server_fault_view error)
 

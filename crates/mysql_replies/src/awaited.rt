@@ -2,7 +2,8 @@
 
 use crate::fault::ReplyFault;
 use crate::results::ReplyResult;
-use mysql_packets::{Column, Value};
+use mysql_cells::Value;
+use mysql_packets::Column;
 
 /// What is awaited.
 #[derive(Drop)]

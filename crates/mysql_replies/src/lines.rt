@@ -1,7 +1,7 @@
 //! What stands in a column's, an EOF packet's and a row's place.
 
 ghost use Rattle.std.specs.Prelude.{◌≡◌, List, map, length, Ok, Err, false};
-ghost use Rattle.mysql_packets.specs.Views.{okay_view, column_view, cell_views};
+ghost use Rattle.mysql_packets.specs.Views.{okay_view, column_view};
 ghost use Rattle.mysql_packets.specs.Packets.{deprecate_eof};
 ghost use Rattle.mysql_replies.specs.Grammar.{column, eof, terminator, terminator_limit, line, row, is_binary};
 ghost use Rattle.mysql_replies.specs.Views.{Gives, line_view, column_views};
@@ -10,10 +10,11 @@ use crate::context::{Context, ReplyKind};
 use crate::fault::ReplyFault;
 use crate::opening::{error_packet, named_of, starts_with};
 use bitflags::Flags;
+use mysql_cells::Value;
 use mysql_const::{CapabilityFlags, MAX_PAYLOAD_LEN};
 use mysql_packets::column::{Column, column_of};
 use mysql_packets::okay::{OkPacket, old_eof_of, result_set_terminator_of};
-use mysql_packets::row::{Value, text_cells_of};
+use mysql_packets::row::text_cells_of;
 use mysql_packets::server_fault::ServerError;
 use mysql_wire::{ParseBuf, WireError};
 use std::alloc::Global;
@@ -97,7 +98,7 @@ fn text_row(
     payload: &[u8],
 ) -> Result<Vec<Value>, ReplyFault>
     requires { is_binary context.kind ≡ false }
-    ensures { Gives (λ cells. cell_views cells.items) result (row context (column_views columns.now) payload.now) }
+    ensures { Gives (λ cells. cells.items) result (row context (column_views columns.now) payload.now) }
 {
     let mut buf = ParseBuf(payload);
     match text_cells_of(alloc, columns.len(), &mut buf) {

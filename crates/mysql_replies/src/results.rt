@@ -1,7 +1,8 @@
 //! The results of a reply.
 
 use crate::fault::ReplyFault;
-use mysql_packets::{Column, OkPacket, ProgressReport, ServerError, StmtPacket, Value};
+use mysql_cells::Value;
+use mysql_packets::{Column, OkPacket, ProgressReport, ServerError, StmtPacket};
 
 /// A result of a reply.
 ///

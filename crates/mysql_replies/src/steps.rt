@@ -13,10 +13,10 @@ use crate::fault::ReplyFault;
 use crate::lines::{Line, column_packet, deprecates_eof, eof_packet, line_of};
 use crate::opening::{Opening, opening_of};
 use crate::results::ReplyResult;
+use mysql_cells::Value;
 use mysql_const::StatusFlags;
 use mysql_packets::column::Column;
 use mysql_packets::okay::has_more_results;
-use mysql_packets::row::Value;
 use std::alloc::Global;
 
 /// What is awaited after a result with this status.

@@ -1,5 +1,5 @@
+use mysql_cells::Value;
 use mysql_const::{CapabilityFlags, StatusFlags};
-use mysql_packets::Value;
 use mysql_replies::{Reply, ReplyEnd, ReplyFault, ReplyKind, ReplyReader, ReplyResult, read_reply};
 use std::alloc::Global;
 use std::process::Abort;

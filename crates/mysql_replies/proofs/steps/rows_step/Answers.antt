@@ -1,7 +1,7 @@
 use Rattle.std.proofs.Common.{◌≡◌, [], ◌∷◌, ◌++◌, Some, None, Ok, refl, ap, sym, subst, ◌∙◌, false, if◌then◌else◌}
 use Rattle.std.proofs.lemmas.List.{map_push}
 use Rattle.mysql_packets.specs.Packets.{more_results_exist}
-use Rattle.mysql_packets.specs.Views.{okay_view, server_fault_view, cell_views}
+use Rattle.mysql_packets.specs.Views.{okay_view, server_fault_view}
 use Rattle.mysql_replies.specs.declared.awaited.Awaited.TheVariants as awaiting
 use Rattle.mysql_replies.specs.Grammar.{RowsResult, ErrorResult, TerminatorLine, ErrorLine, line, rows}
 use Rattle.mysql_replies.specs.Reply as reply
@@ -11,9 +11,9 @@ use Rattle.mysql_replies.proofs.steps.rows_step.Goals as goal
 
 pub returns-in-Ok-Row : goal.returns-in-Ok-Row
 returns-in-Ok-Row c =
-    let pushed : row_views c.push.new.self.items ≡ row_views c.args.rows.items ++ cell_views c.in-Ok-Row.cells.items ∷ [] = rw (c.push.ensures.items, c.if-is_err.ensures.negation) (map_push (λ row. cell_views row.items) c.args.rows.items c.in-Ok-Row.cells) in (
+    let pushed : row_views c.push.new.self.items ≡ row_views c.args.rows.items ++ c.in-Ok-Row.cells.items ∷ [] = rw (c.push.ensures.items, c.if-is_err.ensures.negation) (map_push (λ row. row.items) c.args.rows.items c.in-Ok-Row.cells) in (
       step_awaits c.args.context c.args.payload.now (λ z. rows c.args.context (column_views c.args.columns.items) (row_views c.args.rows.items) (c.args.payload.now ∷ z)) (reply.Rows (column_views c.args.columns.items) (row_views c.push.new.self.items))
-          (row_leads c.args.context (column_views c.args.columns.items) (row_views c.args.rows.items) (row_views c.push.new.self.items) c.args.payload.now (cell_views c.in-Ok-Row.cells.items) c.requires.no_report (ap (λ xs. line c.args.context (column_views xs) c.args.payload.now) (sym c.deref.ensures.value) ∙ (rw c.in-Ok-Row.field-0-is at c.in-Ok-Row.ensures)) pushed),
+          (row_leads c.args.context (column_views c.args.columns.items) (row_views c.args.rows.items) (row_views c.push.new.self.items) c.args.payload.now c.in-Ok-Row.cells.items c.requires.no_report (ap (λ xs. line c.args.context (column_views xs) c.args.payload.now) (sym c.deref.ensures.value) ∙ (rw c.in-Ok-Row.field-0-is at c.in-Ok-Row.ensures)) pushed),
       tt,
     )
 
