@@ -1,6 +1,5 @@
 //! Rows.
 
-ghost use Rattle.std.specs.Prelude.{◌≡◌, List, length, Ok};
 ghost use Rattle.mysql_wire.specs.Wire.{GivesPart};
 ghost use Rattle.mysql_wire.specs.Lists.{elements_at};
 ghost use Rattle.mysql_cells.specs.Cells.{text_cell_at};
