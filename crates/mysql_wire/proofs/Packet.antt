@@ -3,7 +3,9 @@ use Rattle.std.proofs.Common.{◌≡◌, ◌≢◌, ◌⊎◌, inl, inr, ℕ, ze
 use Rattle.std.specs.Prelude.{Option, Some, None, IsTrue, ◌↔◌}
 use Rattle.std.proofs.lemmas.List.{append-nil, take-append-drop, take-append-le, drop-append-le, drop_all}
 use Rattle.std.proofs.lemmas.Bool.{cases_lt, false≢true, le-ltb, lt-ltb}
-use Rattle.mysql_wire.specs.Framing.{chunk, chunks, framing, length_bytes, announced, number_after}
+use Rattle.byteorder.specs.Endian.{little_bytes}
+use Rattle.byteorder.specs.Numbers.{little_number-reads_back}
+use Rattle.mysql_wire.specs.Framing.{chunk, chunks, framing, announced, number_after}
 use Rattle.mysql_wire.specs.Stream.{Rest, IsRest}
 use Rattle.mysql_wire.specs.Stream.Rest.{TooLarge, OutOfSync}
 use Rattle.mysql_wire.specs.Chunk.{TakesChunk, info_number, is_last}
@@ -13,7 +15,7 @@ use Rattle.mysql_wire.specs.declared.codec.packet.BegunChunk.{BegunChunk}
 use Rattle.mysql_wire.specs.declared.codec.chunk.ChunkDecoder.TheVariants.{Idle}
 use Rattle.mysql_wire.specs.declared.codec.chunk.ChunkInfo.{ChunkInfo}
 use Rattle.mysql_wire.specs.declared.codec.chunk.ChunkInfo.TheVariants.{Middle, Last}
-use Rattle.mysql_wire.proofs.Chunks.{announced_length, chunks-suc, chunks-zero}
+use Rattle.mysql_wire.proofs.Chunks.{chunks-suc, chunks-zero}
 use Rattle.mysql_wire.proofs.Held.{both, first_of, middle_taken, last_taken, lacks_rest, passes_rest, wrong_rest}
 
 -- the whole chunks in dst, the bytes after them, and what would lie in src if no byte had been moved
@@ -88,8 +90,8 @@ none_fits : (limit : ℕ) (begun : Option BegunChunk) (dst : List ℕ) → begun
 none_fits limit begun dst none h = subst (λ b. IsOfPacket limit (begun_of b) dst) none h
 
 -- the front of a chunk is seen in its header
-announced_begun : (n number : ℕ) (part src : List ℕ) → n ≤ 16777215 → announced ((length_bytes n ++ (number % 256 ∷ part)) ++ src) ≡ n
-announced_begun n number part src h = announced_length n h
+announced_begun : (n number : ℕ) (part src : List ℕ) → n ≤ 16777215 → announced ((little_bytes 3 n ++ (number % 256 ∷ part)) ++ src) ≡ n
+announced_begun n number part src h = little_number-reads_back 3 n ((number % 256 ∷ part) ++ src) (omega arith)
 
 module _ (limit n0 : ℕ) (b0 : Option BegunChunk) (src0 dst0 : List ℕ) (number : ℕ) where
   -- a rest of what is held, from one of what would lie there unmoved
@@ -123,15 +125,15 @@ module _ (limit n0 : ℕ) (b0 : Option BegunChunk) (src0 dst0 : List ℕ) (numbe
       (four, inl (omega (arith, whole_length dst, start.fits.1))))
 
   -- a header was taken
-  pub opens : (src dst src' : List ℕ) (begun : BegunChunk) → Reading limit n0 b0 src0 dst0 number None src dst → src ≡ length_bytes begun.awaited ++ (begun.number % 256 ∷ src') →
+  pub opens : (src dst src' : List ℕ) (begun : BegunChunk) → Reading limit n0 b0 src0 dst0 number None src dst → src ≡ little_bytes 3 begun.awaited ++ (begun.number % 256 ∷ src') →
       length dst + begun.awaited ≤ limit → begun.awaited ≤ 16777215 → Reading limit n0 b0 src0 dst0 number (Some begun) src' dst
   opens src dst src' begun start e within fits =
       let none : begun_part dst ≡ [] = drop_all (whole_chunks dst * 16777215) dst (omega (arith, start.fits.1)) in
       record {
         fits = (within, omega (arith, start.fits.1));
         stands = held_is number limit (Some begun) src' dst
-            ∙ ap (λ k. both number ((length_bytes (length k + begun.awaited) ++ (begun.number % 256 ∷ k)) ++ src') (whole_part dst)) none
-            ∙ ap (λ k. both number ((length_bytes k ++ (begun.number % 256 ∷ [])) ++ src') (whole_part dst)) (zero_first begun.awaited)
+            ∙ ap (λ k. both number ((little_bytes 3 (length k + begun.awaited) ++ (begun.number % 256 ∷ k)) ++ src') (whole_part dst)) none
+            ∙ ap (λ k. both number ((little_bytes 3 k ++ (begun.number % 256 ∷ [])) ++ src') (whole_part dst)) (zero_first begun.awaited)
             ∙ ap (λ k. both number k (whole_part dst)) (sym e)
             ∙ sym (held_is number limit None src dst) ∙ start.stands;
         first = start.first;
@@ -153,11 +155,11 @@ module _ (limit n0 : ℕ) (b0 : Option BegunChunk) (src0 dst0 : List ℕ) (numbe
       ap (λ k. take (k * 16777215) dst') more ∙ ap (take (whole_chunks dst * 16777215)) put ∙ take-append-le (whole_chunks dst * 16777215) dst src (omega arith) in
       let count : length (begun_part dst') + left.awaited ≡ length (begun_part dst) + begun.awaited = omega (arith, part_length dst, part_length dst', ap length part, length-append (begun_part dst) src) in
       let stays : unmoved (Some left) src' dst' ≡ unmoved (Some begun) src dst =
-      ap (λ k. (length_bytes k ++ (left.number % 256 ∷ begun_part dst')) ++ src') count
-      ∙ ap (λ k. (length_bytes (length (begun_part dst) + begun.awaited) ++ (k % 256 ∷ begun_part dst')) ++ src') same_number
-      ∙ ap (λ k. (length_bytes (length (begun_part dst) + begun.awaited) ++ (begun.number % 256 ∷ k)) ++ src') part
-      ∙ ap (λ k. (length_bytes (length (begun_part dst) + begun.awaited) ++ (begun.number % 256 ∷ (begun_part dst ++ src))) ++ k) empty
-      ∙ append-nil (length_bytes (length (begun_part dst) + begun.awaited) ++ (begun.number % 256 ∷ (begun_part dst ++ src))) in
+      ap (λ k. (little_bytes 3 k ++ (left.number % 256 ∷ begun_part dst')) ++ src') count
+      ∙ ap (λ k. (little_bytes 3 (length (begun_part dst) + begun.awaited) ++ (k % 256 ∷ begun_part dst')) ++ src') same_number
+      ∙ ap (λ k. (little_bytes 3 (length (begun_part dst) + begun.awaited) ++ (begun.number % 256 ∷ k)) ++ src') part
+      ∙ ap (λ k. (little_bytes 3 (length (begun_part dst) + begun.awaited) ++ (begun.number % 256 ∷ (begun_part dst ++ src))) ++ k) empty
+      ∙ append-nil (little_bytes 3 (length (begun_part dst) + begun.awaited) ++ (begun.number % 256 ∷ (begun_part dst ++ src))) in
       let has : announced (unmoved (Some begun) src dst) ≡ length (begun_part dst) + begun.awaited =
       announced_begun (length (begun_part dst) + begun.awaited) begun.number (begun_part dst) src (omega (arith, part_length dst, start.fits.1)) in
       let len : length (unmoved (Some begun) src dst) ≡ 4 + length (begun_part dst) + length src = omega (arith, length-append (begun_part dst) src) in
@@ -188,9 +190,9 @@ module _ (limit n0 : ℕ) (b0 : Option BegunChunk) (src0 dst0 : List ℕ) (numbe
   completes : unmoved (Some begun) src dst ≡ chunk begun.number bytes ++ src'
   completes =
       let n : length (begun_part dst) + begun.awaited ≡ length bytes = omega (arith, bytes_length, part_length dst) in
-      ap (λ k. (length_bytes k ++ (begun.number % 256 ∷ begun_part dst)) ++ src) n
-      ∙ ap (λ k. (length_bytes (length bytes) ++ (begun.number % 256 ∷ begun_part dst)) ++ k) (sym (take-append-drop begun.awaited src))
-      ∙ ap (λ k. length_bytes (length bytes) ++ (begun.number % 256 ∷ k)) (sym (append_assoc (begun_part dst) (take begun.awaited src) (drop begun.awaited src)))
+      ap (λ k. (little_bytes 3 k ++ (begun.number % 256 ∷ begun_part dst)) ++ src) n
+      ∙ ap (λ k. (little_bytes 3 (length bytes) ++ (begun.number % 256 ∷ begun_part dst)) ++ k) (sym (take-append-drop begun.awaited src))
+      ∙ ap (λ k. little_bytes 3 (length bytes) ++ (begun.number % 256 ∷ k)) (sym (append_assoc (begun_part dst) (take begun.awaited src) (drop begun.awaited src)))
       ∙ ap (λ k. chunk begun.number bytes ++ k) (sym left)
 
   appends : dst' ≡ whole_part dst ++ bytes

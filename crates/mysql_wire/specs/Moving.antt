@@ -2,7 +2,8 @@
 -- chunk to the next, whose bytes are then moved as they come.
 -- (MySQL: Client/Server Protocol, "Protocol Basics: MySQL Packets".)
 use Rattle.std.specs.Prelude.{◌≡◌, ℕ, ◌+◌, ◌%◌, ◌<◌, ◌≤◌, List, ◌∷◌, ◌++◌, length, Option, Some, None, Result, Ok, Err, option_map}
-use Rattle.mysql_wire.specs.Framing.{max_payload_len, length_bytes, announced}
+use Rattle.byteorder.specs.Endian.{little_bytes}
+use Rattle.mysql_wire.specs.Framing.{max_payload_len, announced}
 use Rattle.mysql_wire.specs.Codec.{Begun, Codec}
 use Rattle.mysql_wire.specs.declared.codec.packet.BegunChunk.{BegunChunk}
 use Rattle.mysql_wire.specs.declared.codec.Refusal.{Refusal}
@@ -21,6 +22,6 @@ abbrev pub NextChunk : Option BegunChunk → List ℕ → ℕ → ℕ → Result
 NextChunk (Some begun) src filled limit (Ok (Some chunk)) src' = (chunk ≡ begun) × (src' ≡ src)
 NextChunk (Some begun) src filled limit (Ok None) src' = ⊥
 NextChunk (Some begun) src filled limit (Err refusal) src' = ⊥
-NextChunk None src filled limit (Ok (Some chunk)) src' = (src ≡ length_bytes chunk.awaited ++ (chunk.number % 256 ∷ src')) × (filled + chunk.awaited ≤ limit) × (chunk.awaited ≤ max_payload_len)
+NextChunk None src filled limit (Ok (Some chunk)) src' = (src ≡ little_bytes 3 chunk.awaited ++ (chunk.number % 256 ∷ src')) × (filled + chunk.awaited ≤ limit) × (chunk.awaited ≤ max_payload_len)
 NextChunk None src filled limit (Ok None) src' = (length src < 4) × (src' ≡ src)
 NextChunk None src filled limit (Err refusal) src' = (refusal ≡ refusals.TooLarge) × (4 ≤ length src) × (limit < filled + announced src)

@@ -6,6 +6,7 @@ ghost use Rattle.mysql_wire.specs.Framing.{announced, max_payload_len, number_at
 ghost use Rattle.mysql_buf.specs.Bytes.{AreBytes};
 
 use super::PacketCodecError;
+use byteorder::{ByteOrder, LittleEndian};
 use bytes::BytesMut;
 use mysql_const::MAX_PAYLOAD_LEN;
 
@@ -45,8 +46,7 @@ pub(super) fn header_of(bytes: &[u8]) -> (usize, u8)
     ensures number { result.1 ≡ number_at bytes.now }
     ensures bytes { AreBytes bytes.now }
 {
-    let count = usize::from(bytes[0]) + 256 * usize::from(bytes[1]) + 65536 * usize::from(bytes[2]);
-    (count, bytes[3])
+    (LittleEndian::read_u24(bytes) as usize, bytes[3])
 }
 
 /// Takes one chunk at a time from the front of a buffer that keeps a chunk until it stands whole.

@@ -3,6 +3,7 @@
 ghost use Rattle.std.specs.Prelude.{◌≡◌, ◌+◌, ◌++◌, ◌≤◌, IfOk, OnErr, OnOk, length};
 ghost use Rattle.mysql_wire.specs.Framing.{chunk, framing, max_payload_len, number_after};
 
+use byteorder::{ByteOrder, LittleEndian};
 use bytes::BufMut;
 use mysql_const::MAX_PAYLOAD_LEN;
 use std::alloc::AllocError;
@@ -14,13 +15,8 @@ fn put_chunk<B: BufMut>(number: u8, bytes: &[u8], dst: &mut B)
     ensures items { B.written dst.new ≡ B.written dst.old ++ chunk number bytes.now }
     ensures spare { B.spare dst.old ≤ B.spare dst.new + 4 + length bytes.now }
 {
-    let count = bytes.len();
-    let header = [
-        (count % 256) as u8,
-        (count / 256 % 256) as u8,
-        (count / 65536 % 256) as u8,
-        number,
-    ];
+    let mut header = [0, 0, 0, number];
+    LittleEndian::write_u24(&mut header, bytes.len() as u32);
     dst.put_slice(&header).unwrap();
     dst.put_slice(bytes).unwrap();
 }
