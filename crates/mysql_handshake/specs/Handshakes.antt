@@ -1,6 +1,6 @@
 -- The initial handshake packet.
 -- (MySQL: Client/Server Protocol, "Protocol::HandshakeV10"; MariaDB: "Connecting", 'Initial handshake packet'.)
-use Rattle.std.specs.Prelude.{ℕ, ◌+◌, ◌-◌, ◌==◌, max, Bool, if◌then◌else◌, ◌∷◌, ◌++◌, [], List, length, replicate, Option, None, Some, Ok, Err}
+use Rattle.std.specs.Prelude.{ℕ, ◌+◌, ◌-◌, max, Bool, if◌then◌else◌, ◌∷◌, ◌++◌, [], List, length, replicate, Option, None, Some, Ok}
 use Rattle.std.specs.Int.RustNames.{bit_and, bit_or}
 use Rattle.std.specs.List.{concat}
 use Rattle.bitflags.specs.Sets.{known_bits}
@@ -8,13 +8,12 @@ use Rattle.byteorder.specs.Endian.{little_bytes}
 use Rattle.mysql_auth.specs.Plugins.{without_zero}
 use Rattle.mysql_buf.specs.Writing.{front}
 use Rattle.mysql_const.specs.MariadbCapabilities.{mariadb_capabilities}
-use Rattle.mysql_const.specs.StatusFlags.{status_flags}
 use Rattle.mysql_handshake.specs.Capabilities.{has_flag, plugin_auth, secure_connection}
 use Rattle.mysql_raw.specs.Forms.{bytes_at, little_at, upper_half, upper_half_at}
 use Rattle.mysql_raw.specs.Wire.{Reading, ◌>>=◌}
-use Rattle.mysql_raw.specs.declared.error.WireError.TheVariants.{UnknownValue}
 use Rattle.mysql_raw_bytes.specs.Texts.{bare_at, fixed_text, null_text, null_text_at}
-use Rattle.mysql_raw_consts.specs.Constants.{zeros_at}
+use Rattle.mysql_raw_consts.specs.Constants.{named_at, zeros_at}
+use Rattle.mysql_raw_consts.specs.Flags.{status_named}
 
 -- what a handshake packet says; of a second scramble the first 247 bytes count
 pub record HandshakeFields : Type 0 where
@@ -87,13 +86,8 @@ handshake p = concat (
     ∷ name_written p.auth_plugin_name ∷ []
     )
 
--- the server's status: two bytes, whose bits all have names
-unfoldable pub status_at : List ℕ → Reading ℕ
-status_at bytes = do
-  n ← little_at 2 bytes
-  if bit_and n.0 (known_bits status_flags) == n.0 then Ok n else Err UnknownValue
-
--- all bits of the capabilities have names; MariaDB's own that have none are dropped
+-- All bits of the capabilities have names; a status with a bit that has none is refused, and of MariaDB's own capabilities such bits
+-- are dropped.
 unfoldable pub fixed_at : List ℕ → Reading FixedFields
 fixed_at bytes = do
   id ← little_at 4 bytes
@@ -101,7 +95,7 @@ fixed_at bytes = do
   filler ← zeros_at 1 scramble.1
   low ← little_at 2 filler.1
   collation ← little_at 1 low.1
-  status ← status_at collation.1
+  status ← named_at status_named (little_at 2) collation.1
   high ← upper_half_at status.1
   len ← little_at 1 high.1
   reserved ← zeros_at 6 len.1
@@ -112,7 +106,7 @@ fixed_at bytes = do
       scramble_1 = scramble.0;
       capabilities = bit_or low.0 high.0;
       default_collation = collation.0;
-      status_flags = status.0;
+      status_flags = status.0.0;
       data_length = len.0;
       mariadb_ext_capabilities = bit_and mariadb.0 (known_bits mariadb_capabilities);
     },

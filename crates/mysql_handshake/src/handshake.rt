@@ -10,7 +10,7 @@ ghost use Rattle.mysql_auth.specs.Views.{plugin_view};
 ghost use Rattle.mysql_buf.specs.Writing.{front};
 ghost use Rattle.mysql_handshake.specs.Capabilities.{has_flag, plugin_auth, secure_connection};
 ghost use Rattle.mysql_handshake.specs.HandshakeViews.{fixed_view, handshake_view};
-ghost use Rattle.mysql_handshake.specs.Handshakes.{HandshakeFields, fixed, fixed_at, fixed_written, handshake, handshake_at, name_at, name_written, nonce_of, scramble_at, scramble_front, scramble_written, scrambles_length, status_at};
+ghost use Rattle.mysql_handshake.specs.Handshakes.{HandshakeFields, fixed, fixed_at, fixed_written, handshake, handshake_at, name_at, name_written, nonce_of, scramble_at, scramble_front, scramble_written, scrambles_length};
 ghost use Rattle.mysql_handshake.specs.Versions.{mariadb_version, version_of};
 ghost use Rattle.mysql_raw.specs.Forms.{bytes_at};
 ghost use Rattle.mysql_raw.specs.Laws.{unsized};
@@ -30,7 +30,7 @@ use mysql_raw::{
     Readable, WireError, in_order,
 };
 use mysql_raw_bytes::{BareBytes, EofBytes, NullBytes, RawBytes};
-use mysql_raw_consts::{Either, RawFlags, Skip};
+use mysql_raw_consts::{Const, Either, RawFlags, Skip};
 use std::alloc::{AllocError, Global};
 use std::borrow::{CowSlice, CowStr};
 
@@ -474,18 +474,6 @@ fn eight_bytes(buf: &mut ParseBuf) -> Result<[u8; 8], WireError>
     }
 }
 
-// The server's status.
-#[tactic(auto, unfolding(crate::specs::Handshakes::status_at, bitflags::proofs::OnLiterals::bitflags_on_literals))]
-fn status_of(alloc: Global, buf: &mut ParseBuf) -> Result<StatusFlags, WireError>
-    ensures { GivesPart (λ status. status.0) buf.new.0.now result (status_at buf.old.0.now) }
-{
-    let bits: RawInt<LeU16> = buf.parse(alloc, ())?;
-    match StatusFlags::from_bits(bits.0) {
-        Some(status) => Ok(status),
-        None => Err(WireError::UnknownValue),
-    }
-}
-
 // The fields of fixed length.
 #[tactic(auto, unfolding(crate::specs::Handshakes::fixed_at, bitflags::proofs::OnLiterals::bitflags_on_literals))]
 fn fixed_block_of(alloc: Global, block: &mut ParseBuf) -> Result<FixedBlock, WireError>
@@ -496,7 +484,7 @@ fn fixed_block_of(alloc: Global, block: &mut ParseBuf) -> Result<FixedBlock, Wir
     let _filler: Skip<1> = block.parse(alloc, ())?;
     let low: RawInt<LeU32LowerHalf> = block.parse(alloc, ())?;
     let default_collation: RawInt<u8> = block.parse(alloc, ())?;
-    let status_flags = status_of(alloc, block)?;
+    let status_flags: Const<StatusFlags, LeU16> = block.parse(alloc, ())?;
     let high: RawInt<LeU32UpperHalf> = block.parse(alloc, ())?;
     let auth_plugin_data_len: RawInt<u8> = block.parse(alloc, ())?;
     let _reserved: Skip<6> = block.parse(alloc, ())?;
@@ -507,7 +495,7 @@ fn fixed_block_of(alloc: Global, block: &mut ParseBuf) -> Result<FixedBlock, Wir
         // All 32 bits have names.
         capabilities: CapabilityFlags(low.0 | high.0),
         default_collation: default_collation.0,
-        status_flags,
+        status_flags: status_flags.0,
         auth_plugin_data_len: auth_plugin_data_len.0,
         mariadb_ext_capabilities: mariadb.get(),
     })

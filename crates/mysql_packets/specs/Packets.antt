@@ -4,20 +4,19 @@
 use Rattle.std.specs.Prelude.{ℕ, zero, suc, ◌+◌, ◌/◌, ◌%◌, ◌^◌, List, [], ◌∷◌, length, Bool, Option, Some, None, Ok, Err, nat_lt, ◌==◌, if◌then◌else◌}
 use Rattle.std.specs.Int.RustNames.{bit_and}
 use Rattle.byteorder.specs.Endian.{little_number}
-use Rattle.bitflags.specs.Sets.{known_bits}
 use Rattle.mysql_cells.specs.declared.value.Value.{Value}
 use Rattle.mysql_cells.specs.declared.value.Value.TheVariants.{NULL}
 use Rattle.mysql_cells.specs.Cells.{column_cell_at, text_cell_at}
 use Rattle.mysql_const.specs.declared.column_flags.ColumnFlags.{ColumnFlags}
 use Rattle.mysql_const.specs.declared.column_type.ColumnType.{ColumnType}
 use Rattle.mysql_const.specs.ColumnTypes.{column_type_named}
-use Rattle.mysql_const.specs.StatusFlags.{status_flags}
-use Rattle.mysql_wire.specs.WireError.TheVariants.{UnexpectedEof, UnknownValue}
+use Rattle.mysql_wire.specs.WireError.TheVariants.{UnexpectedEof}
 use Rattle.mysql_wire.specs.Wire.{Reading, ◌>>=◌}
 use Rattle.mysql_wire.specs.Forms.{bytes_at, lenenc_number_at, little_at}
 use Rattle.mysql_wire.specs.Texts.{lenenc_text_at}
 use Rattle.mysql_wire.specs.Lists.{elements_at}
 use Rattle.mysql_wire.specs.Constants.{constant_at, named_at, text_constant_at, zeros_at}
+use Rattle.mysql_wire.specs.Flags.{status_named}
 
 -- None for a field that holds no bytes.
 abbrev pub unless_empty : List ℕ → Option (List ℕ)
@@ -47,12 +46,6 @@ more_results_exist status = contains status 8
 
 abbrev pub session_state_changed : ℕ → Bool
 session_state_changed status = contains status 0x4000
-
--- Server status: two bytes, whose bits all have a name (bits 2 and 15 have none).
-unfoldable pub status_at : List ℕ → Reading ℕ
-status_at bytes = do
-  n ← little_at 2 bytes
-  if bit_and n.0 (known_bits status_flags) == n.0 then Ok n else Err UnknownValue
 
 -- What an OK packet says.
 pub record Okay : Type 0 where
@@ -86,14 +79,14 @@ info_at capabilities status (b ∷ bytes) =
 unfoldable pub status_and_info_at : ℕ → ℕ → ℕ → List ℕ → Reading Okay
 status_and_info_at capabilities affected id bytes = do
   block ← bytes_at 4 bytes
-  status ← status_at block.0
+  status ← named_at status_named (little_at 2) block.0
   warnings ← little_at 2 status.1
-  info ← info_at capabilities status.0 block.1
+  info ← info_at capabilities status.0.0 block.1
   Ok (
     record {
       affected_rows = affected;
       last_insert_id = unless_zero id;
-      status = status.0;
+      status = status.0.0;
       warnings = warnings.0;
       info = unless_empty info.0.0;
       session_state = unless_empty info.0.1;
@@ -123,12 +116,12 @@ old_eof_at bytes = do
   header ← constant_at 1 254 bytes
   block ← bytes_at 4 header.1
   warnings ← little_at 2 block.0
-  status ← status_at warnings.1
+  status ← named_at status_named (little_at 2) warnings.1
   Ok (
     record {
       affected_rows = 0;
       last_insert_id = None;
-      status = status.0;
+      status = status.0.0;
       warnings = warnings.0;
       info = None;
       session_state = None;

@@ -3,12 +3,12 @@
 ghost use Rattle.std.specs.Prelude.{◌≡◌, ℕ, List, [], IfOk, option_map};
 ghost use Rattle.std.specs.Cow.{cow_slice_items};
 ghost use Rattle.mysql_wire.specs.Wire.{GivesPart};
-ghost use Rattle.mysql_packets.specs.Packets.{unless_empty, status_at, session_track, more_results_exist, session_state_changed, info_at, unless_zero, status_and_info_at, okay_at, result_set_terminator_at, old_eof_at};
+ghost use Rattle.mysql_packets.specs.Packets.{unless_empty, session_track, more_results_exist, session_state_changed, info_at, unless_zero, status_and_info_at, okay_at, result_set_terminator_at, old_eof_at};
 ghost use Rattle.mysql_packets.specs.Views.{bytes_view, okay_view};
 
 use bitflags::Flags;
 use mysql_const::{CapabilityFlags, StatusFlags};
-use mysql_wire::{ConstU8, LeU16, LenEnc, ParseBuf, ParseExt, RawBytes, RawInt, WireError};
+use mysql_wire::{Const, ConstU8, LeU16, LenEnc, ParseBuf, ParseExt, RawBytes, RawInt, WireError};
 use std::alloc::{AllocError, Global};
 use std::borrow::CowSlice;
 
@@ -103,18 +103,6 @@ fn has_session_state(status: StatusFlags) -> bool
     status.contains(StatusFlags::SERVER_SESSION_STATE_CHANGED)
 }
 
-/// Server status: two bytes, whose bits all have a name.
-#[tactic(auto, unfolding(crate::specs::Packets::status_at, bitflags::proofs::OnLiterals::bitflags_on_literals))]
-fn status_of(alloc: Global, buf: &mut ParseBuf) -> Result<StatusFlags, WireError>
-    ensures { GivesPart (λ status. status.0) buf.new.0.now result (status_at buf.old.0.now) }
-{
-    let bits = buf.parse::<RawInt<LeU16>>(alloc, ())?;
-    match StatusFlags::from_bits(bits.0) {
-        Some(status) => Ok(status),
-        None => Err(WireError::UnknownValue),
-    }
-}
-
 type LenEncText<'a> = RawBytes<'a, LenEnc>;
 
 /// No text.
@@ -182,15 +170,15 @@ fn status_and_info_of(
     ensures { GivesPart okay_view buf.new.0.now result (status_and_info_at capabilities.0 affected_rows id buf.old.0.now) }
 {
     let mut block = buf.parse::<ParseBuf>(alloc, 4)?;
-    let status_flags = status_of(alloc, &mut block)?;
+    let status = block.parse::<Const<StatusFlags, LeU16>>(alloc, ())?;
     let warnings = block.parse::<RawInt<LeU16>>(alloc, ())?;
-    let (info, state) = info_of(alloc, capabilities, status_flags, buf)?;
+    let (info, state) = info_of(alloc, capabilities, status.0, buf)?;
     let info = unless_empty_of(alloc, info.0.as_slice())?;
     let session_state_info = unless_empty_of(alloc, state.0.as_slice())?;
     Ok(OkPacket {
         affected_rows,
         last_insert_id: unless_zero_of(id),
-        status_flags,
+        status_flags: status.0,
         warnings: warnings.0,
         info,
         session_state_info,
@@ -242,11 +230,11 @@ pub fn old_eof_of(alloc: Global, buf: &mut ParseBuf) -> Result<OkPacket, WireErr
     buf.parse::<ConstU8<InvalidOkPacketHeader, 254>>(alloc, ())?;
     let mut block = buf.parse::<ParseBuf>(alloc, 4)?;
     let warnings = block.parse::<RawInt<LeU16>>(alloc, ())?;
-    let status_flags = status_of(alloc, &mut block)?;
+    let status = block.parse::<Const<StatusFlags, LeU16>>(alloc, ())?;
     Ok(OkPacket {
         affected_rows: 0,
         last_insert_id: None,
-        status_flags,
+        status_flags: status.0,
         warnings: warnings.0,
         info: None,
         session_state_info: None,

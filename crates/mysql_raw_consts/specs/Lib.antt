@@ -2,3 +2,5 @@ pub mod ConstantLaws
 pub mod Constants
 pub mod Either
 pub mod EitherLaws
+pub mod FlagLaws
+pub mod Flags

@@ -346,6 +346,9 @@ pub trait ConstValue: Copy {
 
     ghost named: { Self.Number → Option Self };
 
+    // the values that their numbers name; a set of flags with a bit without a name is none of them
+    ghost IsNamed: { Self → Type 0 } = { λ _. ⊤ };
+
     /// The value's number.
     fn to_number(self) -> Self::Number
         ensures { result ≡ number self };
@@ -354,7 +357,7 @@ pub trait ConstValue: Copy {
     fn from_number(n: Self::Number) -> Option<Self>
         ensures { result ≡ named n };
 
-    ghost names_back: { (x : Self) → named (number x) ≡ Some x };
+    ghost names_back: { (x : Self) → IsNamed x → named (number x) ≡ Some x };
 }
 
 /// A value by its number in the representation `U`. A number without a value is refused by
@@ -392,7 +395,7 @@ impl<T: ConstValue, U: IntRepr<Primitive = T::Number>> Readable for Const<T, U> 
 
     ghost kept = { λ x. x.0 };
 
-    ghost IsReadBack = { λ _ x _. U.IsKept (T.number x.0) };
+    ghost IsReadBack = { λ _ x _. T.IsNamed x.0 × U.IsKept (T.number x.0) };
 
     ghost sized = { λ _. named_at-sized U.SIZE T.named U.read_at U.sized };
 
@@ -402,7 +405,7 @@ impl<T: ConstValue, U: IntRepr<Primitive = T::Number>> Readable for Const<T, U> 
 }
 
 impl<T: ConstValue, U: IntRepr<Primitive = T::Number>> ReadsBack for Const<T, U> {
-    ghost reads_back = { λ _ x rest h. named_at-back T.named T.number U.read_at U.written x.0 rest (T.names_back x.0) (U.reads_back (T.number x.0) rest h) };
+    ghost reads_back = { λ _ x rest h. named_at-back T.named T.number U.read_at U.written x.0 rest (T.names_back x.0 h.0) (U.reads_back (T.number x.0) rest h.1) };
 }
 
 impl<'de, T: ConstValue, U: IntRepr<Primitive = T::Number>> MyDeserialize<'de> for Const<T, U> {

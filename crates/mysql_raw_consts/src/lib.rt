@@ -3,6 +3,7 @@
 
 mod consts;
 mod either;
+mod flags;
 mod named;
 
 pub use crate::consts::{

@@ -20,7 +20,7 @@ impl ConstValue for Command {
 
     ghost named = { command_named };
 
-    ghost names_back = { command-names_back };
+    ghost names_back = { λ x _. command-names_back x };
 
     fn to_number(self) -> u8 {
         u8::from(self)
@@ -41,7 +41,7 @@ impl ConstValue for ColumnType {
 
     ghost named = { column_type_named };
 
-    ghost names_back = { column_type-names_back };
+    ghost names_back = { λ x _. column_type-names_back x };
 
     fn to_number(self) -> u8 {
         u8::from(self)
@@ -62,7 +62,7 @@ impl ConstValue for MariadbBulkIndicator {
 
     ghost named = { bulk_indicator_named };
 
-    ghost names_back = { bulk_indicator-names_back };
+    ghost names_back = { λ x _. bulk_indicator-names_back x };
 
     fn to_number(self) -> u8 {
         u8::from(self)
@@ -83,7 +83,7 @@ impl ConstValue for SessionStateType {
 
     ghost named = { session_state_named };
 
-    ghost names_back = { session_state-names_back };
+    ghost names_back = { λ x _. session_state-names_back x };
 
     fn to_number(self) -> u8 {
         u8::from(self)
@@ -104,7 +104,7 @@ impl ConstValue for GeometryType {
 
     ghost named = { geometry_named };
 
-    ghost names_back = { geometry-names_back };
+    ghost names_back = { λ x _. geometry-names_back x };
 
     fn to_number(self) -> u8 {
         u8::from(self)
@@ -125,7 +125,7 @@ impl ConstValue for ItemResult {
 
     ghost named = { item_result_named };
 
-    ghost names_back = { item_result-names_back };
+    ghost names_back = { λ x _. item_result-names_back x };
 
     fn to_number(self) -> i8 {
         i8::from(self)

@@ -118,6 +118,26 @@ fn flags_with_an_unknown_bit(rt: HostRuntime) {
 }
 
 #[test]
+fn flags_with_named_bits_alone(rt: HostRuntime) {
+    let mut buf = ParseBuf(&[2, 8, 2, 0x80]);
+    match first_of::<Const<StatusFlags, LeU16>>(rt.alloc(), &mut buf) {
+        Ok(flags) => {
+            assert_eq!(rt; flags.0, StatusFlags(0x802));
+            let bytes = written(&rt, rt.alloc(), &flags);
+            assert_eq!(rt; bytes.as_slice(), [2, 8].as_slice());
+        }
+        Err(_) => assert!(rt; false),
+    }
+    assert!(rt;
+        matches!(
+            first_of::<Const<StatusFlags, LeU16>>(rt.alloc(), &mut buf),
+            Err(WireError::UnknownValue)
+        )
+    );
+    assert_eq!(rt; buf.len(), 2);
+}
+
+#[test]
 fn commands_by_their_numbers(rt: HostRuntime) {
     let ping: Const<Command, u8> = Const::new(Command::COM_PING);
     assert_eq!(rt; written(&rt, rt.alloc(), &ping).as_slice(), [14].as_slice());

@@ -5,14 +5,18 @@ use Rattle.std.proofs.lemmas.List.{take_all}
 use Rattle.std.specs.List.{concat}
 use Rattle.byteorder.specs.Endian.{little_bytes}
 use Rattle.mysql_buf.specs.Writing.{front, u8_str, u32_str}
+use Rattle.mysql_const.specs.BinlogDumpFlags.{binlog_dump_flags}
 use Rattle.mysql_gtid.specs.BlockLaws.{block_at-back}
 use Rattle.mysql_gtid.specs.Blocks.{block_at, block_bytes}
+use Rattle.mysql_raw.specs.Forms.{little_at}
 use Rattle.mysql_raw.specs.Laws.{little_at-back}
 use Rattle.mysql_raw.specs.Wire.{Reading}
 use Rattle.mysql_raw_bytes.specs.TextLaws.{u8_text_at-back, u32_text_at-back}
 use Rattle.mysql_raw_bytes.specs.Texts.{u8_text_at, u32_text_at}
 use Rattle.mysql_raw_consts.specs.ConstantLaws.{constant_at-back}
-use Rattle.mysql_repl.specs.Packets.{BinlogDump, BinlogDumpGtid, IsBinlogDump, IsBinlogDumpGtid, IsRegisterSlave, IsSemiSyncAck, IsTableDump, RegisterSlave, SemiSyncAck, TableDump, are_named, binlog_dump, binlog_dump_at, binlog_dump_fields_at, binlog_dump_gtid, binlog_dump_gtid_at, binlog_dump_gtid_fields_at, flags_at, from_block, register_slave, register_slave_at, register_slave_fields_at, semi_sync_ack, semi_sync_ack_at, semi_sync_ack_fields_at, table_dump, table_dump_at}
+use Rattle.mysql_raw_consts.specs.Constants.{named_at}
+use Rattle.mysql_raw_consts.specs.Flags.{are_named, binlog_dump_named}
+use Rattle.mysql_repl.specs.Packets.{BinlogDump, BinlogDumpGtid, IsBinlogDump, IsBinlogDumpGtid, IsRegisterSlave, IsSemiSyncAck, IsTableDump, RegisterSlave, SemiSyncAck, TableDump, binlog_dump, binlog_dump_at, binlog_dump_fields_at, binlog_dump_gtid, binlog_dump_gtid_at, binlog_dump_gtid_fields_at, from_block, register_slave, register_slave_at, register_slave_fields_at, semi_sync_ack, semi_sync_ack_at, semi_sync_ack_fields_at, table_dump, table_dump_at}
 
 -- where the block is there, it is read
 enough : {X : Type 0} (n : ℕ) (read_at : List ℕ → Reading X) (bytes : List ℕ) → n ≤ length bytes → from_block n read_at bytes ≡ read_at bytes
@@ -87,9 +91,9 @@ unfolding register_slave register_slave_at
 register_slave_at-back p rest h = enough 5 register_slave_fields_at (register_slave p ++ rest) (omega arith) ∙ register_slave_fields_at-back p rest h
 
 -- named flags that were written are read again
-flags_at-back : (flags : ℕ) (rest : List ℕ) → flags < 2 ^ 16 → are_named flags ≡ true → flags_at (little_bytes 2 flags ++ rest) ≡ Ok (flags, rest)
-unfolding flags_at
-flags_at-back flags rest h named = rw (little_at-back 2 flags rest h, named) refl
+flags-back : (flags : ℕ) (rest : List ℕ) → flags < 2 ^ 16 → are_named binlog_dump_flags flags ≡ true
+    → named_at binlog_dump_named (little_at 2) (little_bytes 2 flags ++ rest) ≡ Ok (record { 0 = flags }, rest)
+flags-back flags rest h named = rw (little_at-back 2 flags rest h, named) refl
 
 binlog_dump_fields_at-back : (p : BinlogDump) (rest : List ℕ) → IsBinlogDump p → rest ≡ [] → binlog_dump_fields_at (binlog_dump p ++ rest) ≡ Ok (p, rest)
 unfolding binlog_dump binlog_dump_fields_at
@@ -102,7 +106,7 @@ binlog_dump_fields_at-back p rest h none =
     ap binlog_dump_fields_at (joined_before fields rest) ∙ rw (
       constant_at-back 1 18 pos (lit< tt),
       little_at-back 4 p.pos flags h.pos,
-      flags_at-back p.flags id h.flags h.named,
+      flags-back p.flags id h.flags h.named,
       little_at-back 4 p.server_id name h.server_id,
       none,
       append-nil p.filename,
@@ -145,7 +149,7 @@ binlog_dump_gtid_fields_at-back p rest h =
     let fields = little_bytes 1 30 ∷ little_bytes 2 p.flags ∷ little_bytes 4 p.server_id ∷ u32_str p.filename ∷ little_bytes 8 p.pos ∷ len ∷ bytes ∷ [] in
     ap binlog_dump_gtid_fields_at (joined_before fields rest) ∙ rw (
       constant_at-back 1 30 flags (lit< tt),
-      flags_at-back p.flags id h.flags h.named,
+      flags-back p.flags id h.flags h.named,
       little_at-back 4 p.server_id name h.server_id,
       long_text-back p.filename pos h.filename,
       little_at-back 8 p.pos block h.pos,

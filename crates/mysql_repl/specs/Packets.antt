@@ -1,11 +1,11 @@
 -- The packets that a replica sends, as bytes: what is written of their fields, and what is read of any bytes.
 -- MySQL: Client/Server Protocol, "COM_REGISTER_SLAVE", "COM_TABLE_DUMP", "COM_BINLOG_DUMP" and "COM_BINLOG_DUMP_GTID";
 -- Internals Manual, "Semi-Sync ACK packet".
-use Rattle.std.specs.Prelude.{◌≡◌, ℕ, ◌%◌, ◌-◌, ◌^◌, ◌<◌, ◌≤◌, ◌⊎◌, List, [], ◌∷◌, ◌++◌, length, min, nat_lt, Bool, true, Ok, Err, ◌==◌, if◌then◌else◌}
+use Rattle.std.specs.Prelude.{◌≡◌, ℕ, ◌%◌, ◌-◌, ◌^◌, ◌<◌, ◌≤◌, ◌⊎◌, List, [], ◌∷◌, ◌++◌, length, min, nat_lt, Bool, true, Ok, Err, if◌then◌else◌}
 use Rattle.std.proofs.Common.{inl, inr}
 use Rattle.std.specs.Int.RustNames.{bit_and, bit_or}
 use Rattle.std.specs.List.{concat}
-use Rattle.bitflags.specs.Sets.{known_bits, without}
+use Rattle.bitflags.specs.Sets.{without}
 use Rattle.byteorder.specs.Endian.{little_bytes}
 use Rattle.mysql_buf.specs.Writing.{u8_str, u32_str}
 use Rattle.mysql_const.specs.BinlogDumpFlags.{binlog_dump_flags}
@@ -13,9 +13,10 @@ use Rattle.mysql_gtid.specs.Blocks.{IsBlock, block_at, block_bytes}
 use Rattle.mysql_gtid.specs.Sids.{SidParts}
 use Rattle.mysql_raw.specs.Forms.{little_at}
 use Rattle.mysql_raw.specs.Wire.{Reading, ◌>>=◌}
-use Rattle.mysql_raw.specs.declared.error.WireError.TheVariants.{UnexpectedEof, UnknownValue}
+use Rattle.mysql_raw.specs.declared.error.WireError.TheVariants.{UnexpectedEof}
 use Rattle.mysql_raw_bytes.specs.Texts.{u8_text_at, u32_text_at}
-use Rattle.mysql_raw_consts.specs.Constants.{constant_at}
+use Rattle.mysql_raw_consts.specs.Constants.{constant_at, named_at}
+use Rattle.mysql_raw_consts.specs.Flags.{are_named, binlog_dump_named}
 
 -- What stands where n bytes are there; fewer are refused before they are looked at.
 abbrev pub from_block : {X : Type 0} → ℕ → (List ℕ → Reading X) → List ℕ → Reading X
@@ -24,16 +25,6 @@ from_block n read_at bytes = if nat_lt (length bytes) n then Err UnexpectedEof e
 -- All that is left.
 abbrev pub all_at : List ℕ → Reading (List ℕ)
 all_at bytes = Ok (bytes, [])
-
--- Flags of a request for the binary log: two bytes, whose bits all have a name.
-abbrev pub are_named : ℕ → Bool
-are_named bits = bit_and bits (known_bits binlog_dump_flags) == bits
-
-abbrev pub named_flags : ℕ × List ℕ → Reading ℕ
-named_flags bits = if are_named bits.0 then Ok bits else Err UnknownValue
-
-unfoldable pub flags_at : List ℕ → Reading ℕ
-flags_at bytes = little_at 2 bytes >>= named_flags
 
 -- The acknowledgement of an event: ef, its position, its file's name to the end.
 pub record SemiSyncAck : Type 0 where
@@ -141,10 +132,10 @@ unfoldable pub binlog_dump_fields_at : List ℕ → Reading BinlogDump
 binlog_dump_fields_at bytes = do
   header ← constant_at 1 18 bytes
   pos ← little_at 4 header.1
-  flags ← flags_at pos.1
+  flags ← named_at binlog_dump_named (little_at 2) pos.1
   server_id ← little_at 4 flags.1
   filename ← all_at server_id.1
-  Ok (record { pos = pos.0; flags = flags.0; server_id = server_id.0; filename = filename.0 }, filename.1)
+  Ok (record { pos = pos.0; flags = flags.0.0; server_id = server_id.0; filename = filename.0 }, filename.1)
 
 unfoldable pub binlog_dump_at : List ℕ → Reading BinlogDump
 binlog_dump_at bytes = from_block 11 binlog_dump_fields_at bytes
@@ -152,7 +143,7 @@ binlog_dump_at bytes = from_block 11 binlog_dump_fields_at bytes
 pub record IsBinlogDump (p : BinlogDump) : Type 0 where
   pub pos : p.pos < 2 ^ 32
   pub flags : p.flags < 2 ^ 16
-  pub named : are_named p.flags ≡ true
+  pub named : are_named binlog_dump_flags p.flags ≡ true
   pub server_id : p.server_id < 2 ^ 32
 
 -- A request for the binary log without what is known: 1e, the flags, the replica's id, the file's name, the position, and the
@@ -173,20 +164,20 @@ binlog_dump_gtid p = concat (
 unfoldable pub binlog_dump_gtid_fields_at : List ℕ → Reading BinlogDumpGtid
 binlog_dump_gtid_fields_at bytes = do
   header ← constant_at 1 30 bytes
-  flags ← flags_at header.1
+  flags ← named_at binlog_dump_named (little_at 2) header.1
   server_id ← little_at 4 flags.1
   filename ← u32_text_at server_id.1
   pos ← little_at 8 filename.1
   block ← u32_text_at pos.1
   sids ← block_at block.0
-  Ok (record { flags = flags.0; server_id = server_id.0; filename = filename.0; pos = pos.0; sids = sids.0 }, block.1)
+  Ok (record { flags = flags.0.0; server_id = server_id.0; filename = filename.0; pos = pos.0; sids = sids.0 }, block.1)
 
 unfoldable pub binlog_dump_gtid_at : List ℕ → Reading BinlogDumpGtid
 binlog_dump_gtid_at bytes = from_block 7 binlog_dump_gtid_fields_at bytes
 
 pub record IsBinlogDumpGtid (p : BinlogDumpGtid) : Type 0 where
   pub flags : p.flags < 2 ^ 16
-  pub named : are_named p.flags ≡ true
+  pub named : are_named binlog_dump_flags p.flags ≡ true
   pub server_id : p.server_id < 2 ^ 32
   pub filename : length p.filename < 2 ^ 32
   pub pos : p.pos < 2 ^ 64

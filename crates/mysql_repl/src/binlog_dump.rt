@@ -11,7 +11,7 @@ ghost use Rattle.mysql_repl.specs.Packets.{BinlogDump, IsBinlogDump, binlog_dump
 ghost use Rattle.mysql_repl.specs.Views.{binlog_dump_view};
 ghost use Rattle.mysql_raw.specs.declared.error.WireError.TheVariants as wire;
 
-use crate::fields::{copy_of, flags_from, lossy};
+use crate::fields::{copy_of, lossy};
 use crate::headers::ComBinlogDumpHeader;
 use mysql_buf::ParseBuf;
 use mysql_const::BinlogDumpFlags;
@@ -20,6 +20,7 @@ use mysql_raw::{
     in_order,
 };
 use mysql_raw_bytes::{EofBytes, RawBytes};
+use mysql_raw_consts::Const;
 use std::alloc::{AllocError, Global};
 use std::borrow::{CowSlice, CowStr};
 
@@ -171,12 +172,12 @@ fn fields_from<'de>(
 {
     let _header: ComBinlogDumpHeader = rest.parse(alloc, ())?;
     let pos: RawInt<LeU32> = rest.parse(alloc, ())?;
-    let flags = flags_from(alloc, rest)?;
+    let flags: Const<BinlogDumpFlags, LeU16> = rest.parse(alloc, ())?;
     let server_id: RawInt<LeU32> = rest.parse(alloc, ())?;
     let filename: RawBytes<EofBytes> = rest.parse(alloc, ())?;
     Ok(ComBinlogDump {
         pos: pos.0,
-        flags,
+        flags: flags.0,
         server_id: server_id.0,
         filename: filename.0,
     })

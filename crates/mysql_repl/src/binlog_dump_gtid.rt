@@ -13,7 +13,7 @@ ghost use Rattle.mysql_repl.specs.Packets.{BinlogDumpGtid, IsBinlogDumpGtid, bin
 ghost use Rattle.mysql_repl.specs.Views.{binlog_dump_gtid_view};
 ghost use Rattle.mysql_raw.specs.declared.error.WireError.TheVariants as wire;
 
-use crate::fields::{copy_of, flags_from, lossy};
+use crate::fields::{copy_of, lossy};
 use crate::headers::ComBinlogDumpGtidHeader;
 use bitflags::Flags;
 use mysql_buf::{ParseBuf, front_of};
@@ -24,6 +24,7 @@ use mysql_raw::{
     WireError, in_order,
 };
 use mysql_raw_bytes::{RawBytes, U32Bytes};
+use mysql_raw_consts::Const;
 use std::alloc::{AllocError, Global};
 use std::borrow::{CowSlice, CowStr};
 
@@ -281,7 +282,7 @@ fn fields_from<'de>(
     ensures { GivesPart binlog_dump_gtid_view rest.new.0.now result (binlog_dump_gtid_fields_at rest.old.0.now) }
 {
     let _header: ComBinlogDumpGtidHeader = rest.parse(alloc, ())?;
-    let flags = flags_from(alloc, rest)?;
+    let flags: Const<BinlogDumpFlags, LeU16> = rest.parse(alloc, ())?;
     let server_id: RawInt<LeU32> = rest.parse(alloc, ())?;
     let filename: RawBytes<U32Bytes> = rest.parse(alloc, ())?;
     let pos: RawInt<LeU64> = rest.parse(alloc, ())?;
@@ -289,7 +290,7 @@ fn fields_from<'de>(
     let block: &[u8] = rest.parse(alloc, block_len.0 as usize)?;
     let sids: SidBlock = ParseBuf(block).parse(alloc, ())?;
     Ok(ComBinlogDumpGtid {
-        flags,
+        flags: flags.0,
         server_id: server_id.0,
         filename: filename.0,
         pos: pos.0,

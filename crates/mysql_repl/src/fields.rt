@@ -4,14 +4,10 @@ ghost use Rattle.std.specs.Prelude.{◌≡◌, IfOk, IsOkUnless};
 ghost use Rattle.std.specs.Cow.{cow_slice_items, cow_str_bytes};
 ghost use Rattle.std.specs.Str.{encode_utf8_all};
 ghost use Rattle.bstr.specs.Utf8.{lossy_chars};
-ghost use Rattle.mysql_raw.specs.Wire.{GivesPart};
-ghost use Rattle.mysql_repl.specs.Packets.{flags_at};
 ghost use Rattle.mysql_raw.specs.declared.error.WireError.TheVariants as wire;
 
 use bstr::ByteSlice;
-use mysql_buf::ParseBuf;
-use mysql_const::BinlogDumpFlags;
-use mysql_raw::{LeU16, ParseExt, RawInt, WireError};
+use mysql_raw::WireError;
 use std::alloc::{AllocError, Global};
 use std::borrow::{CowSlice, CowStr};
 
@@ -28,19 +24,4 @@ pub(crate) fn copy_of(alloc: Global, text: &[u8]) -> Result<CowSlice<'static, u8
     ensures { IfOk result (λ copy. cow_slice_items copy ≡ text.now) }
 {
     Ok(CowSlice::Owned(Vec::from_slice(alloc, text)?))
-}
-
-// Flags that stand first. Refuses UnknownValue where a bit has no name.
-#[tactic(auto, unfolding(crate::specs::Packets::flags_at))]
-pub(crate) fn flags_from(
-    alloc: Global,
-    rest: &mut ParseBuf<'_>,
-) -> Result<BinlogDumpFlags, WireError>
-    ensures { GivesPart (λ flags. flags.0) rest.new.0.now result (flags_at rest.old.0.now) }
-{
-    let bits: RawInt<LeU16> = rest.parse(alloc, ())?;
-    match BinlogDumpFlags::try_from(bits.0) {
-        Ok(flags) => Ok(flags),
-        Err(_) => Err(WireError::UnknownValue),
-    }
 }

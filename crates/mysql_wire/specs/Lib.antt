@@ -8,6 +8,7 @@ pub use Rattle.mysql_raw.specs.declared.error.WireError
 pub use Rattle.mysql_raw_bytes.specs.Texts
 pub use Rattle.mysql_raw_consts.specs.Constants
 pub use Rattle.mysql_raw_consts.specs.Either
+pub use Rattle.mysql_raw_consts.specs.Flags
 pub use Rattle.mysql_raw_lists.specs.Lists
 pub mod Framing
 pub mod Stream
