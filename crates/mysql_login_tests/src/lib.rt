@@ -1,7 +1,9 @@
 //! Tests of `mysql_login` from outside: worked packets of logging in, and packets that are cut off at each byte.
 //!
-//! At most one allocation of a run is refused. So a call that answers that memory was refused ends
-//! its test, or is made once more.
+//! At most one allocation of a run is refused. So a call that answers that memory was refused is
+//! made once more, or ends its test.
+//!
+//! What can fail stands in functions that assert, so that tests have no branches of their own.
 #![tactic(auto)]
 
 #[cfg(test)]

@@ -1,12 +1,13 @@
 //! Answers to the handshake.
 
-use crate::support::{joined, one_text, written};
+use crate::support::{
+    assert_bytes, assert_cut_off, assert_same, assert_texts, assert_written, once_more, one_text,
+    whole, written,
+};
 use indexmap::IndexMap;
 use mysql_auth::AuthPlugin;
-use mysql_buf::ParseBuf;
 use mysql_const::CapabilityFlags;
 use mysql_login::HandshakeResponse;
-use mysql_raw::{ParseExt, WireError};
 use std::alloc::{AllocError, Global};
 use std::borrow::CowSlice;
 use std::process::Abort;
@@ -21,11 +22,11 @@ const WITH_ATTRIBUTES: &[u8] =
     b"\x0d\xa2\xbe\x81\0\0\0\x01\x2d\0\0\0\0\0\0\0\0\0\0\0\0\0\0\0\0\0\0\0\0\0\0\0root\0\0mydb\0mysql_native_password\0\x04\x01a\x011";
 
 // The answer of root, with this database and these attributes.
-fn response_of_root<'a>(
+fn response_of_root(
     alloc: Global,
-    database: Option<CowSlice<'a, u8>>,
+    database: Option<CowSlice<'static, u8>>,
     attributes: Option<IndexMap<String, String>>,
-) -> Result<HandshakeResponse<'a>, AllocError> {
+) -> Result<HandshakeResponse<'static>, AllocError> {
     HandshakeResponse::new(
         alloc,
         Some(CowSlice::Borrowed(&[])),
@@ -39,105 +40,110 @@ fn response_of_root<'a>(
     )
 }
 
+fn database() -> Option<CowSlice<'static, u8>> {
+    Some(CowSlice::Borrowed(b"mydb"))
+}
+
+// The answer of root, with a database and an attribute.
+fn with_attributes(alloc: Global) -> Result<HandshakeResponse<'static>, AllocError> {
+    let texts = one_text(alloc, "a", "1")?;
+    response_of_root(alloc, database(), Some(texts))
+}
+
 #[test]
 fn the_answer_of_root(rt: HostRuntime) {
-    match response_of_root(rt.alloc(), None, None) {
-        Ok(response) => assert_eq!(rt; written(&rt, rt.alloc(), &response).as_slice(), OF_ROOT),
-        Err(_) => {}
-    }
-    let database: Option<CowSlice<u8>> = Some(CowSlice::Borrowed(b"mydb"));
-    match response_of_root(rt.alloc(), database, None) {
-        Ok(response) => {
-            assert_eq!(rt;
-                written(&rt, rt.alloc(), &response).as_slice(),
-                WITH_DATABASE
-            )
-        }
-        Err(_) => {}
-    }
+    let alloc = rt.alloc();
+    let response = once_more(
+        &rt,
+        response_of_root(alloc, None, None),
+        response_of_root(alloc, None, None),
+    );
+    assert_written(&rt, alloc, &response, OF_ROOT);
+    let response = once_more(
+        &rt,
+        response_of_root(alloc, database(), None),
+        response_of_root(alloc, database(), None),
+    );
+    assert_written(&rt, alloc, &response, WITH_DATABASE);
 }
 
 #[test]
 fn an_answer_with_attributes(rt: HostRuntime) {
-    let Ok(texts) = one_text(rt.alloc(), "a", "1") else {
-        return;
-    };
-    let database: Option<CowSlice<u8>> = Some(CowSlice::Borrowed(b"mydb"));
-    let Ok(response) = response_of_root(rt.alloc(), database, Some(texts)) else {
-        return;
-    };
-    assert_eq!(rt;
-        written(&rt, rt.alloc(), &response).as_slice(),
-        WITH_ATTRIBUTES
-    );
-    match response.clone(rt.alloc()) {
-        Ok(copy) => assert!(rt; copy == response),
-        Err(_) => {}
-    }
+    let alloc = rt.alloc();
+    let response = once_more(&rt, with_attributes(alloc), with_attributes(alloc));
+    assert_written(&rt, alloc, &response, WITH_ATTRIBUTES);
+    let copy = once_more(&rt, response.clone(alloc), response.clone(alloc));
+    assert_same(&rt, &copy, &response);
 }
 
 #[test]
 fn an_answer_is_read(rt: HostRuntime) {
-    let mut buf = ParseBuf(WITH_ATTRIBUTES);
-    let Ok(response) = buf.parse::<HandshakeResponse>(rt.alloc(), ()) else {
-        return;
-    };
-    assert!(rt; buf.is_empty());
-    assert_eq!(rt; response.user(), b"root".as_slice());
-    assert_eq!(rt; response.scramble_buf(), b"".as_slice());
-    assert_eq!(rt; response.collation(), 45);
-    assert!(rt; response.db_name() == Some(b"mydb".as_slice()));
-    assert!(rt;
-        matches!(
-            response.auth_plugin(),
-            Some(AuthPlugin::MysqlNativePassword)
-        )
+    let response = whole::<HandshakeResponse, ()>(&rt, rt.alloc(), (), WITH_ATTRIBUTES);
+    assert_bytes(&rt, response.user(), b"root");
+    assert_bytes(&rt, response.scramble_buf(), b"");
+    assert_same(&rt, &response.collation(), &45);
+    assert_same(&rt, &response.db_name(), &Some(b"mydb".as_slice()));
+    assert_same(
+        &rt,
+        &response.auth_plugin(),
+        &Some(&AuthPlugin::MysqlNativePassword),
     );
-    match response.connect_attributes(rt.alloc()) {
-        Ok(Some(texts)) => match joined(rt.alloc(), &texts) {
-            Ok(text) => assert_eq!(rt; text.as_slice(), b"a1".as_slice()),
-            Err(_) => {}
-        },
-        Ok(None) => assert!(rt; false),
-        Err(_) => {}
-    }
+}
+
+#[test]
+fn attributes_of_an_answer(rt: HostRuntime) {
+    let alloc = rt.alloc();
+    let response = whole::<HandshakeResponse, ()>(&rt, alloc, (), WITH_ATTRIBUTES);
+    let texts = once_more(
+        &rt,
+        response.connect_attributes(alloc),
+        response.connect_attributes(alloc),
+    )
+    .expect(&rt, "attributes");
+    assert_texts(&rt, alloc, &texts, b"a1");
 }
 
 #[test]
 fn an_answer_that_is_cut_off(rt: HostRuntime) {
-    for len in 0..WITH_ATTRIBUTES.len() {
-        let mut buf = ParseBuf(&WITH_ATTRIBUTES[..len]);
-        match buf.parse::<HandshakeResponse>(rt.alloc(), ()) {
-            Ok(_) => assert!(rt; false),
-            Err(error) => assert!(rt;
-                matches!(error, WireError::UnexpectedEof | WireError::Memory)
-            ),
-        }
-        assert_eq!(rt; buf.len(), len);
-    }
+    let len = WITH_ATTRIBUTES.len();
+    assert_cut_off::<HandshakeResponse, ()>(&rt, rt.alloc(), (), WITH_ATTRIBUTES, 0, len);
+}
+
+// An answer with a scramble of two bytes to a server before version 5.5.3.
+fn with_scramble(
+    alloc: Global,
+    capabilities: u32,
+) -> Result<HandshakeResponse<'static>, AllocError> {
+    HandshakeResponse::new(
+        alloc,
+        Some(CowSlice::Borrowed(b"ab")),
+        (5, 5, 2),
+        None,
+        None,
+        None,
+        CapabilityFlags(capabilities),
+        None,
+        0,
+    )
+}
+
+// Asserts that such an answer, with these capabilities, is written with this ending.
+fn assert_scramble(rt: &impl Abort, alloc: Global, capabilities: u32, ending: &[u8]) {
+    let response = once_more(
+        rt,
+        with_scramble(alloc, capabilities),
+        with_scramble(alloc, capabilities),
+    );
+    let bytes = written(rt, alloc, &response);
+    assert!(rt; bytes.as_slice().ends_with(ending));
+    assert_same(rt, &response.collation(), &33);
 }
 
 #[test]
 fn forms_of_the_scramble(rt: HostRuntime) {
+    let alloc = rt.alloc();
     // After a length-encoded number, after a byte, before a zero.
-    let capabilities = [0x200000, 0x8000, 0];
-    let endings: [&[u8]; 3] = [b"\0\x02ab", b"\0\x02ab", b"\0ab\0"];
-    for i in 0..3 {
-        let made = HandshakeResponse::new(
-            rt.alloc(),
-            Some(CowSlice::Borrowed(b"ab")),
-            (5, 5, 2),
-            None,
-            None,
-            None,
-            CapabilityFlags(capabilities[i]),
-            None,
-            0,
-        );
-        if let Ok(response) = made {
-            let bytes = written(&rt, rt.alloc(), &response);
-            assert!(rt; bytes.as_slice().ends_with(endings[i]));
-            assert_eq!(rt; response.collation(), 33);
-        }
-    }
+    assert_scramble(&rt, alloc, 0x200000, b"\0\x02ab");
+    assert_scramble(&rt, alloc, 0x8000, b"\0\x02ab");
+    assert_scramble(&rt, alloc, 0, b"\0ab\0");
 }

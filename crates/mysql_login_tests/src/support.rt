@@ -1,9 +1,21 @@
 //! What the tests share.
 
 use indexmap::IndexMap;
-use mysql_raw::MySerialize;
+use mysql_buf::ParseBuf;
+use mysql_raw::{MyDeserialize, MySerialize, ParseExt, Readable, WireError};
 use std::alloc::{AllocError, Global};
+use std::fmt::Debug;
 use std::process::Abort;
+
+/// Asserts that a value is the wanted one.
+pub fn assert_same<T: PartialEq + Debug>(rt: &impl Abort, value: &T, wanted: &T) {
+    assert_eq!(rt; *value, *wanted);
+}
+
+/// Asserts that bytes are the wanted ones.
+pub fn assert_bytes(rt: &impl Abort, bytes: &[u8], wanted: &[u8]) {
+    assert_eq!(rt; bytes, wanted);
+}
 
 /// The bytes of a value.
 pub fn written<T: MySerialize>(rt: &impl Abort, alloc: Global, value: &T) -> Vec<u8> {
@@ -14,6 +26,74 @@ pub fn written<T: MySerialize>(rt: &impl Abort, alloc: Global, value: &T) -> Vec
         assert!(rt; value.serialize(&mut out).is_ok());
     }
     out
+}
+
+/// Asserts that a value is written as these bytes.
+pub fn assert_written<T: MySerialize>(rt: &impl Abort, alloc: Global, value: &T, bytes: &[u8]) {
+    assert_bytes(rt, written(rt, alloc, value).as_slice(), bytes);
+}
+
+/// The value that these bytes are, with none left. It is read once more where memory was refused.
+pub fn whole<'a, T: MyDeserialize<'a> + Readable<Ctx = C>, C: Copy + Drop>(
+    rt: &impl Abort,
+    alloc: Global,
+    ctx: C,
+    bytes: &'a [u8],
+) -> T {
+    let mut buf = ParseBuf(bytes);
+    let value = match buf.parse::<T>(alloc, ctx) {
+        Ok(value) => value,
+        Err(error) => {
+            assert_same(rt, &error, &WireError::Memory);
+            assert_bytes(rt, buf.0, bytes);
+            buf.parse::<T>(alloc, ctx).expect(rt, "a value")
+        }
+    };
+    assert!(rt; buf.is_empty());
+    value
+}
+
+/// Asserts that these bytes are refused for this cause, and that all are left.
+pub fn assert_refused<'a, T: MyDeserialize<'a> + Readable<Ctx = C> + Drop, C: Drop>(
+    rt: &impl Abort,
+    alloc: Global,
+    ctx: C,
+    bytes: &'a [u8],
+    cause: WireError,
+) {
+    let mut buf = ParseBuf(bytes);
+    match buf.parse::<T>(alloc, ctx) {
+        Ok(_) => assert!(rt; false),
+        Err(error) => assert_same(rt, &error, &cause),
+    }
+    assert_bytes(rt, buf.0, bytes);
+}
+
+/// Asserts that each prefix of these bytes that has at least `from` and less than `to` is cut off.
+pub fn assert_cut_off<'a, T: MyDeserialize<'a> + Readable<Ctx = C> + Drop, C: Copy + Drop>(
+    rt: &impl Abort,
+    alloc: Global,
+    ctx: C,
+    bytes: &'a [u8],
+    from: usize,
+    to: usize,
+) {
+    for len in from..to {
+        let front = bytes.get(..len).expect(rt, "a prefix");
+        assert_refused::<T, C>(rt, alloc, ctx, front, WireError::UnexpectedEof);
+    }
+}
+
+/// What a call made that needs memory, or the same call once more.
+pub fn once_more<T: Drop, E: Debug + Drop>(
+    rt: &impl Abort,
+    first: Result<T, E>,
+    second: Result<T, E>,
+) -> T {
+    match first {
+        Ok(value) => value,
+        Err(_) => second.expect(rt, "memory is refused once"),
+    }
 }
 
 /// One pair of texts.
@@ -30,8 +110,19 @@ pub fn one_text(
     Ok(texts)
 }
 
-/// Each pair of texts in its order, as bytes one after another.
-pub fn joined(alloc: Global, texts: &IndexMap<String, String>) -> Result<Vec<u8>, AllocError> {
+/// Asserts that these pairs of texts, one after another, are the wanted bytes.
+pub fn assert_texts(
+    rt: &impl Abort,
+    alloc: Global,
+    texts: &IndexMap<String, String>,
+    wanted: &[u8],
+) {
+    let all = once_more(rt, joined(alloc, texts), joined(alloc, texts));
+    assert_bytes(rt, all.as_slice(), wanted);
+}
+
+// Each pair of texts in its order, as bytes one after another.
+fn joined(alloc: Global, texts: &IndexMap<String, String>) -> Result<Vec<u8>, AllocError> {
     let mut all = Vec::new(alloc);
     for (key, value) in texts {
         all.extend_from_slice(key.as_bytes())?;
