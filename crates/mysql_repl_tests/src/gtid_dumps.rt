@@ -1,11 +1,14 @@
 //! Requests for the binary log without the transactions that are known.
 
-use crate::support::{cut_off, reads_back, refused, written};
-use mysql_buf::ParseBuf;
-use mysql_raw::{ParseExt, WireError};
+use crate::support::{
+    assert_copied, assert_cut_off, assert_name, assert_reads_back, assert_refused, assert_same,
+    assert_written, once_more, whole,
+};
+use mysql_raw::WireError;
 use mysql_repl::{BinlogDumpFlags, ComBinlogDumpGtid, GnoInterval, Sid, Tag};
 use std::alloc::{AllocError, Global};
 use std::borrow::CowSlice;
+use std::process::Abort;
 
 // The bytes before the length of the block.
 const FRONT: &[u8] =
@@ -38,6 +41,10 @@ fn untagged(alloc: Global) -> Result<Sid<'static>, AllocError> {
     Sid::new(alloc, *b"bbbbbbbbbbbbbbbb").with_interval(GnoInterval::new(1, 50))
 }
 
+fn second(alloc: Global) -> Result<ComBinlogDumpGtid<'static>, AllocError> {
+    request().with_sid(alloc, untagged(alloc)?)
+}
+
 fn both(alloc: Global) -> Result<ComBinlogDumpGtid<'static>, AllocError> {
     let packet = request().with_sid(alloc, tagged(alloc)?)?;
     packet.with_sid(alloc, untagged(alloc)?)
@@ -45,28 +52,19 @@ fn both(alloc: Global) -> Result<ComBinlogDumpGtid<'static>, AllocError> {
 
 #[test]
 fn a_tagged_block(rt: HostRuntime) {
-    match both(rt.alloc()) {
-        Ok(packet) => {
-            assert_eq!(rt; packet.flags().0, 4);
-            assert_eq!(rt; written(&rt, rt.alloc(), &packet).as_slice(), TAGGED);
-        }
-        Err(_) => {}
-    }
-    assert!(rt; reads_back::<ComBinlogDumpGtid>(&rt, rt.alloc(), TAGGED));
-    assert!(rt; cut_off::<ComBinlogDumpGtid>(rt.alloc(), TAGGED, TAGGED.len()));
+    let packet = once_more(&rt, both(rt.alloc()), both(rt.alloc()));
+    assert_same(&rt, &packet.flags().0, &4);
+    assert_written(&rt, rt.alloc(), &packet, TAGGED);
+    assert_reads_back::<ComBinlogDumpGtid>(&rt, rt.alloc(), TAGGED);
+    assert_cut_off::<ComBinlogDumpGtid>(&rt, rt.alloc(), TAGGED, TAGGED.len());
 }
 
 #[test]
 fn an_untagged_block(rt: HostRuntime) {
-    match untagged(rt.alloc()) {
-        Ok(sid) => match request().with_sid(rt.alloc(), sid) {
-            Ok(packet) => { assert_eq!(rt; written(&rt, rt.alloc(), &packet).as_slice(), UNTAGGED) }
-            Err(_) => {}
-        },
-        Err(_) => {}
-    }
-    assert!(rt; reads_back::<ComBinlogDumpGtid>(&rt, rt.alloc(), UNTAGGED));
-    assert!(rt; cut_off::<ComBinlogDumpGtid>(rt.alloc(), UNTAGGED, UNTAGGED.len()));
+    let packet = once_more(&rt, second(rt.alloc()), second(rt.alloc()));
+    assert_written(&rt, rt.alloc(), &packet, UNTAGGED);
+    assert_reads_back::<ComBinlogDumpGtid>(&rt, rt.alloc(), UNTAGGED);
+    assert_cut_off::<ComBinlogDumpGtid>(&rt, rt.alloc(), UNTAGGED, UNTAGGED.len());
 }
 
 // A request whose block is this.
@@ -77,22 +75,25 @@ fn with_block(alloc: Global, len: u8, block: &[u8]) -> Result<Vec<u8>, AllocErro
     Ok(bytes)
 }
 
-// Whether a request with this block is refused for this cause.
-fn block_refused(alloc: Global, len: u8, block: &[u8], cause: WireError) -> bool {
-    match with_block(alloc, len, block) {
-        Ok(bytes) => refused::<ComBinlogDumpGtid>(alloc, bytes.as_slice(), cause),
-        Err(_) => true,
-    }
+// Asserts that a request with this block is refused for this cause.
+fn assert_block_refused(rt: &impl Abort, alloc: Global, len: u8, block: &[u8], cause: WireError) {
+    let bytes = once_more(
+        rt,
+        with_block(alloc, len, block),
+        with_block(alloc, len, block),
+    );
+    assert_refused::<ComBinlogDumpGtid>(rt, alloc, bytes.as_slice(), cause);
 }
 
-// How many sets a request with this block holds; None where it is refused.
-fn sets_of(alloc: Global, len: u8, block: &[u8]) -> Result<Option<usize>, AllocError> {
-    let bytes = with_block(alloc, len, block)?;
-    match ParseBuf(bytes.as_slice()).parse::<ComBinlogDumpGtid>(alloc, ()) {
-        Ok(packet) => Ok(Some(packet.sids().len())),
-        Err(WireError::Memory) => Err(AllocError),
-        Err(_) => Ok(None),
-    }
+// Asserts that a request with this block is read, and holds no sets.
+fn assert_no_sets(rt: &impl Abort, alloc: Global, len: u8, block: &[u8]) {
+    let bytes = once_more(
+        rt,
+        with_block(alloc, len, block),
+        with_block(alloc, len, block),
+    );
+    let packet = whole::<ComBinlogDumpGtid>(rt, alloc, bytes.as_slice());
+    assert_same(rt, &packet.sids().len(), &0);
 }
 
 #[test]
@@ -102,56 +103,43 @@ fn refused_blocks(rt: HostRuntime) {
         b"\x00\x01\x00\x00\x00\x00\x00\x01bbbbbbbbbbbbbbbb\x02A\x00\x00\x00\x00\x00\x00\x00\x00";
     let utf: &[u8] =
         b"\x00\x01\x00\x00\x00\x00\x00\x01bbbbbbbbbbbbbbbb\x02\xff\x00\x00\x00\x00\x00\x00\x00\x00";
-    assert!(rt; block_refused(rt.alloc(), 8, many, WireError::UnexpectedEof));
-    assert!(rt; block_refused(rt.alloc(), 7, many, WireError::UnexpectedEof));
-    assert!(rt; block_refused(rt.alloc(), 9, many, WireError::UnexpectedEof));
-    assert!(rt; block_refused(rt.alloc(), 34, tag, WireError::UnknownValue));
-    assert!(rt; block_refused(rt.alloc(), 34, utf, WireError::UnknownValue));
+    assert_block_refused(&rt, rt.alloc(), 8, many, WireError::UnexpectedEof);
+    assert_block_refused(&rt, rt.alloc(), 7, many, WireError::UnexpectedEof);
+    assert_block_refused(&rt, rt.alloc(), 9, many, WireError::UnexpectedEof);
+    assert_block_refused(&rt, rt.alloc(), 34, tag, WireError::UnknownValue);
+    assert_block_refused(&rt, rt.alloc(), 34, utf, WireError::UnknownValue);
 }
 
 #[test]
 fn blocks_without_sets(rt: HostRuntime) {
     let seven: &[u8] = b"\x07\x00\x00\x00\x00\x00\x00\x01";
     let more: &[u8] = b"\x00\x00\x00\x00\x00\x00\x00\x02zz";
-    assert!(rt; matches!(sets_of(rt.alloc(), 8, seven), Ok(Some(0)) | Err(_)));
-    assert!(rt; matches!(sets_of(rt.alloc(), 10, more), Ok(Some(0)) | Err(_)));
+    assert_no_sets(&rt, rt.alloc(), 8, seven);
+    assert_no_sets(&rt, rt.alloc(), 10, more);
 }
 
 #[test]
 fn refused_fronts(rt: HostRuntime) {
     let other: &[u8] = b"\x1f\x08\x00\x07\x00\x00\x00";
     let flags: &[u8] = b"\x1e\x08\x00\x07\x00\x00\x00";
-    assert!(rt; refused::<ComBinlogDumpGtid>(rt.alloc(), other, WireError::BadConstant));
-    assert!(rt; refused::<ComBinlogDumpGtid>(rt.alloc(), flags, WireError::UnknownValue));
-    assert!(rt; refused::<ComBinlogDumpGtid>(rt.alloc(), &flags[..6], WireError::UnexpectedEof));
+    assert_refused::<ComBinlogDumpGtid>(&rt, rt.alloc(), other, WireError::BadConstant);
+    assert_refused::<ComBinlogDumpGtid>(&rt, rt.alloc(), flags, WireError::UnknownValue);
+    assert_refused::<ComBinlogDumpGtid>(&rt, rt.alloc(), &flags[..6], WireError::UnexpectedEof);
 }
 
 #[test]
 fn flags_say_whether_there_are_sets(rt: HostRuntime) {
     let through = BinlogDumpFlags::BINLOG_THROUGH_GTID;
-    assert_eq!(rt; request().with_flags(through).flags().0, 0);
-    match untagged(rt.alloc()) {
-        Ok(sid) => {
-            let sids = [sid];
-            let packet = request().with_sids(CowSlice::Borrowed(&sids));
-            assert_eq!(rt; packet.flags().0, 4);
-        }
-        Err(_) => {}
-    }
+    assert_same(&rt, &request().with_flags(through).flags().0, &0);
+    let sids = [once_more(&rt, untagged(rt.alloc()), untagged(rt.alloc()))];
+    let packet = request().with_sids(CowSlice::Borrowed(&sids));
+    assert_same(&rt, &packet.flags().0, &4);
 }
 
 #[test]
 fn fields_of_a_request(rt: HostRuntime) {
     let packet = request();
-    match packet.filename(rt.alloc()) {
-        Ok(name) => assert_eq!(rt; name.as_str(), "f"),
-        Err(e) => assert_eq!(rt; e, WireError::Memory),
-    }
-    match both(rt.alloc()) {
-        Ok(packet) => match packet.clone(rt.alloc()) {
-            Ok(copy) => assert!(rt; copy == packet),
-            Err(_) => {}
-        },
-        Err(_) => {}
-    }
+    assert_name(&rt, packet.filename(rt.alloc()), "f");
+    let packet = once_more(&rt, both(rt.alloc()), both(rt.alloc()));
+    assert_copied(&rt, packet.clone(rt.alloc()), &packet);
 }

@@ -1,7 +1,6 @@
 //! Requests that one of two packets carries.
 
-use crate::support::written;
-use mysql_raw::WireError;
+use crate::support::{assert_copied, assert_name, assert_same, assert_written, once_more};
 use mysql_repl::{BinlogDumpFlags, BinlogRequest, GnoInterval, Sid};
 use std::alloc::{AllocError, Global};
 use std::borrow::CowSlice;
@@ -20,47 +19,32 @@ fn request(alloc: Global) -> Result<BinlogRequest<'static>, AllocError> {
     Ok(request)
 }
 
-// The bytes of the packet that carries a request.
-fn carried(rt: &impl Abort, alloc: Global, request: &BinlogRequest<'_>) -> Vec<u8> {
+// Asserts that the packet which carries a request is written as these bytes.
+fn assert_carried(rt: &impl Abort, alloc: Global, request: &BinlogRequest<'_>, bytes: &[u8]) {
     let packet = request.as_cmd();
-    written(rt, alloc, &packet)
+    assert_written(rt, alloc, &packet, bytes);
 }
 
 #[test]
 fn from_a_place(rt: HostRuntime) {
     let bytes: &[u8] = b"\x12\x05\x00\x00\x00\x01\x00\x07\x00\x00\x00f";
-    match request(rt.alloc()) {
-        Ok(request) => {
-            assert_eq!(rt; carried(&rt, rt.alloc(), &request).as_slice(), bytes);
-        }
-        Err(_) => {}
-    }
+    let request = once_more(&rt, request(rt.alloc()), request(rt.alloc()));
+    assert_carried(&rt, rt.alloc(), &request, bytes);
 }
 
 #[test]
 fn by_transactions(rt: HostRuntime) {
     let bytes: &[u8] =
         b"\x1e\x07\x00\x07\x00\x00\x00\x01\x00\x00\x00f\x05\x00\x00\x00\x01\x00\x00\x00\x30\x00\x00\x00\x01\x00\x00\x00\x00\x00\x00\x00bbbbbbbbbbbbbbbb\x01\x00\x00\x00\x00\x00\x00\x00\x01\x00\x00\x00\x00\x00\x00\x00\x32\x00\x00\x00\x00\x00\x00\x00";
-    match request(rt.alloc()) {
-        Ok(request) => {
-            let request = request.with_use_gtid(true);
-            assert_eq!(rt; carried(&rt, rt.alloc(), &request).as_slice(), bytes);
-        }
-        Err(_) => {}
-    }
+    let request = once_more(&rt, request(rt.alloc()), request(rt.alloc()));
+    assert_carried(&rt, rt.alloc(), &request.with_use_gtid(true), bytes);
 }
 
 #[test]
 fn fields_of_a_request(rt: HostRuntime) {
     let request = BinlogRequest::new(rt.alloc(), 7).with_filename(CowSlice::Borrowed(b"f"));
-    assert_eq!(rt; request.pos(), 4);
+    assert_same(&rt, &request.pos(), &4);
     assert!(rt; !request.use_gtid());
-    match request.filename(rt.alloc()) {
-        Ok(name) => assert_eq!(rt; name.as_str(), "f"),
-        Err(e) => assert_eq!(rt; e, WireError::Memory),
-    }
-    match request.clone(rt.alloc()) {
-        Ok(copy) => assert!(rt; copy == request),
-        Err(_) => {}
-    }
+    assert_name(&rt, request.filename(rt.alloc()), "f");
+    assert_copied(&rt, request.clone(rt.alloc()), &request);
 }
