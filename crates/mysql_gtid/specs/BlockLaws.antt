@@ -11,7 +11,7 @@ use Rattle.mysql_buf.specs.FirstBytes.{first-enough, first-short}
 use Rattle.mysql_buf.specs.Reading.{first}
 use Rattle.mysql_buf.specs.Writing.{front}
 use Rattle.mysql_raw.specs.Forms.{little_at}
-use Rattle.mysql_raw.specs.Laws.{little_at-back, ok_same, slice_at-back}
+use Rattle.mysql_raw.specs.Laws.{little_at-back, ok_same, size_is, slice_at-back}
 use Rattle.mysql_raw.specs.Wire.{IsSized, Reading, or_end, ◌>>=◌}
 use Rattle.mysql_raw.specs.declared.error.WireError.TheVariants.{UnexpectedEof}
 use Rattle.mysql_raw_bytes.specs.TextLaws.{varlen_text_at-back}
@@ -56,9 +56,6 @@ left_behind {Z = Z} n m f g make bytes rest z e = elim (cases_lt (length bytes) 
       let same = ok_same (z, rest) (make (f bytes) (g (drop n bytes)), drop m (drop n bytes)) (sym e ∙ yes) in
       ap (λ (p : Z × List ℕ). p.1) same ∙ drop-drop m n bytes
 ]
-
-size_is : (n m : ℕ) → Some m ≡ Some n → m ≡ n
-size_is n m e = cc
 
 pair_at-sized : {X Y Z : Type 0} (n m : ℕ) (f : List ℕ → X) (g : List ℕ → Y) (make : X → Y → Z) → IsSized (Some (n + m)) (pair_at n m f g make)
 pair_at-sized n m f g make = record {

@@ -1,6 +1,6 @@
 -- The initial handshake packet.
 -- (MySQL: Client/Server Protocol, "Protocol::HandshakeV10"; MariaDB: "Connecting", 'Initial handshake packet'.)
-use Rattle.std.specs.Prelude.{ℕ, ◌+◌, ◌-◌, max, Bool, if◌then◌else◌, ◌∷◌, ◌++◌, [], List, length, replicate, Option, None, Some, Ok}
+use Rattle.std.specs.Prelude.{ℕ, ◌+◌, ◌-◌, max, if◌then◌else◌, ◌∷◌, ◌++◌, [], List, length, replicate, Option, None, Some, Ok}
 use Rattle.std.specs.Int.RustNames.{bit_and, bit_or}
 use Rattle.std.specs.List.{concat}
 use Rattle.bitflags.specs.Sets.{known_bits}

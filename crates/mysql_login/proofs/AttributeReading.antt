@@ -1,5 +1,5 @@
 -- Reading attributes one after the other, as a loop does.
-use Rattle.std.proofs.Common.{◌≡◌, ◌≢◌, ◌==◌, ◌<◌, ◌≤◌, Bool, true, false, if◌then◌else◌, nat_lt, ℕ, zero, suc, List, [], ◌∷◌, length, drop, Option, Some, None, Ok, Err, Result, refl, sym, ap, ◌∙◌, arith}
+use Rattle.std.proofs.Common.{◌≡◌, ◌≢◌, ◌==◌, ◌<◌, ◌≤◌, Bool, true, false, if◌then◌else◌, nat_lt, ℕ, zero, suc, List, [], ◌∷◌, length, drop, Option, Some, None, Ok, Err, refl, sym, ap, ◌∙◌, arith}
 use Rattle.std.proofs.lemmas.Bool.{eqb-false, eqb-true}
 use Rattle.std.proofs.lemmas.List.{length-drop}
 use Rattle.mysql_buf.specs.FirstBytes.{first-some}
@@ -57,6 +57,10 @@ attribute-shorter bytes p h =
     let left = ap (λ (q : Attribute × List ℕ). length q.1) end in
     omega arith
 
+-- an attribute before others that were read
+abbrev pub before_others : Attribute → List Attribute × List ℕ → Reading (List Attribute)
+before_others a others = Ok (a ∷ others.0, others.1)
+
 -- room for more attributes than there are bytes changes nothing
 same-room : (n m : ℕ) (bytes : List ℕ) → length bytes ≤ n → length bytes ≤ m → at_most_at n bytes ≡ at_most_at m bytes
 unfolding at_most_at
@@ -69,28 +73,28 @@ same-room (suc n) zero (b ∷ bs) small large = absurd (omega arith)
 same-room (suc n) (suc m) (b ∷ bs) small large = go (attribute_at (b ∷ bs)) refl (same-room n m) where
   go : (r : Reading Attribute) → attribute_at (b ∷ bs) ≡ r
       → ((rest : List ℕ) → length rest ≤ n → length rest ≤ m → at_most_at n rest ≡ at_most_at m rest)
-      → (r >>= λ first. at_most_at n first.1 >>= λ others. Ok (first.0 ∷ others)) ≡ (r >>= λ first. at_most_at m first.1 >>= λ others. Ok (first.0 ∷ others))
+      → (r >>= λ first. at_most_at n first.1 >>= before_others first.0) ≡ (r >>= λ first. at_most_at m first.1 >>= before_others first.0)
   go (Err e) is same = refl
   go (Ok p) is same =
       let less = attribute-shorter (b ∷ bs) p is in
-      ap (λ (all : Result (List Attribute) WireError). all >>= λ others. Ok (p.0 ∷ others)) (same p.1 (omega arith) (omega arith))
+      ap (λ (all : Reading (List Attribute)). all >>= before_others p.0) (same p.1 (omega arith) (omega arith))
 
-one_more : (before : List Attribute) (a : Attribute) (others : Result (List Attribute) WireError)
-    → put_after before (others >>= λ more. Ok (a ∷ more)) ≡ put_after (with_attribute before a) others
+one_more : (before : List Attribute) (a : Attribute) (others : Reading (List Attribute))
+    → put_after before (others >>= before_others a) ≡ put_after (with_attribute before a) others
 one_more before a (Ok more) = refl
 one_more before a (Err e) = refl
 
-pub goes_on : (before : List Attribute) (pairs : List ℕ) (a : Attribute) (after : List ℕ) (total : Result (List Attribute) WireError) → length pairs ≢ 0 → attribute_at pairs ≡ Ok (a, after)
+pub goes_on : (before : List Attribute) (pairs : List ℕ) (a : Attribute) (after : List ℕ) (total : Reading (List Attribute)) → length pairs ≢ 0 → attribute_at pairs ≡ Ok (a, after)
     → put_after before (all_attributes_at pairs) ≡ total → put_after (with_attribute before a) (all_attributes_at after) ≡ total
 unfolding at_most_at
 goes_on before [] a after total some is so_far = absurd (some refl)
 goes_on before (b ∷ bs) a after total some is so_far =
     let less = attribute-shorter (b ∷ bs) (a, after) is in
     let rest = same-room (length bs) (length after) after (omega arith) (omega arith) in
-    let whole : put_after before (all_attributes_at (b ∷ bs)) ≡ put_after before (all_attributes_at after >>= λ more. Ok (a ∷ more)) = rw (is, rest) refl in
+    let whole : put_after before (all_attributes_at (b ∷ bs)) ≡ put_after before (all_attributes_at after >>= before_others a) = rw (is, rest) refl in
     sym (one_more before a (all_attributes_at after)) ∙ sym whole ∙ so_far
 
-pub ends : (e : WireError) (before : List Attribute) (pairs : List ℕ) (total : Result (List Attribute) WireError) → length pairs ≢ 0 → Refuses e (attribute_at pairs)
+pub ends : (e : WireError) (before : List Attribute) (pairs : List ℕ) (total : Reading (List Attribute)) → length pairs ≢ 0 → Refuses e (attribute_at pairs)
     → put_after before (all_attributes_at pairs) ≡ total → e ≢ Memory → total ≡ Err e
 unfolding at_most_at
 ends e before [] total some h so_far ne = absurd (some refl)
@@ -98,8 +102,8 @@ ends e before (b ∷ bs) total some h so_far ne =
     let whole : put_after before (all_attributes_at (b ∷ bs)) ≡ Err e = rw (h ne) refl in
     sym so_far ∙ whole
 
-pub is_done : (before : List Attribute) (pairs : List ℕ) (total : Result (List Attribute) WireError) → length pairs ≡ 0
-    → put_after before (all_attributes_at pairs) ≡ total → total ≡ Ok before
+pub is_done : (before : List Attribute) (pairs : List ℕ) (total : Reading (List Attribute)) → length pairs ≡ 0
+    → put_after before (all_attributes_at pairs) ≡ total → total ≡ Ok (before, [])
 unfolding at_most_at
 is_done before [] total none so_far = sym so_far
 is_done before (b ∷ bs) total none so_far = absurd cc

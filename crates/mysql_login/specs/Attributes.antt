@@ -1,14 +1,13 @@
 -- The attributes of a connection.
 -- (MySQL: Client/Server Protocol, "Protocol::HandshakeResponse41", the connection's attributes as pairs of a key and a value.)
-use Rattle.std.specs.Prelude.{◌≡◌, ◌≢◌, ℕ, zero, suc, nat_eq, List, [], ◌∷◌, ◌++◌, length, Result, Ok, Err}
+use Rattle.std.specs.Prelude.{ℕ, zero, suc, nat_eq, List, [], ◌∷◌, ◌++◌, length, Ok, Err}
 use Rattle.std.specs.Cmp.Lexicographic.{pointwise}
 use Rattle.std.specs.List.{flat_map}
 use Rattle.indexmap.specs.IndexMap.{insert_all, insert_entry}
 use Rattle.mysql_buf.specs.Writing.{lenenc_str}
 use Rattle.mysql_raw.specs.Forms.{bytes_at, lenenc_number_at}
 use Rattle.mysql_raw.specs.Wire.{Reading, ◌>>=◌}
-use Rattle.mysql_raw.specs.declared.error.WireError.{WireError}
-use Rattle.mysql_raw.specs.declared.error.WireError.TheVariants.{Memory, UnexpectedEof}
+use Rattle.mysql_raw.specs.declared.error.WireError.TheVariants.{UnexpectedEof}
 use Rattle.mysql_raw_bytes.specs.Texts.{lenenc_text_at}
 
 -- a key and its value
@@ -43,24 +42,24 @@ attribute_at bytes = do
   Ok ((key.0, value.0), value.1)
 
 -- the attributes that stand one after another to the end, at most as many as the first number says
-unfoldable pub at_most_at : ℕ → List ℕ → Result (List Attribute) WireError
-at_most_at most [] = Ok []
+unfoldable pub at_most_at : ℕ → List ℕ → Reading (List Attribute)
+at_most_at most [] = Ok ([], [])
 at_most_at zero (b ∷ bytes) = Err UnexpectedEof
 at_most_at (suc most) (b ∷ bytes) = do
   first ← attribute_at (b ∷ bytes)
   others ← at_most_at most first.1
-  Ok (first.0 ∷ others)
+  Ok (first.0 ∷ others.0, others.1)
 
 -- all attributes to the end; each has at least one byte
-abbrev pub all_attributes_at : List ℕ → Result (List Attribute) WireError
+abbrev pub all_attributes_at : List ℕ → Reading (List Attribute)
 all_attributes_at bytes = at_most_at (length bytes) bytes
 
 -- attributes that were there, and then those that are read
-abbrev pub put_after : List Attribute → Result (List Attribute) WireError → Result (List Attribute) WireError
-put_after before reading = reading >>= λ others. Ok (with_attributes before others)
+abbrev pub put_after : List Attribute → Reading (List Attribute) → Reading (List Attribute)
+put_after before reading = reading >>= λ others. Ok (with_attributes before others.0, others.1)
 
 -- the attributes to the end, each key once, in its first place and with its last value
-abbrev pub kept_attributes_at : List ℕ → Result (List Attribute) WireError
+abbrev pub kept_attributes_at : List ℕ → Reading (List Attribute)
 kept_attributes_at bytes = put_after [] (all_attributes_at bytes)
 
 -- the number of bytes, and the attributes in as many
@@ -69,9 +68,4 @@ attributes_at bytes = do
   total ← lenenc_number_at bytes
   pairs ← bytes_at total.0 total.1
   all ← kept_attributes_at pairs.0
-  Ok (all, pairs.1)
-
--- a call gave what reading gives, the value seen by view; or the same refusal
-abbrev pub GivesAll : {X Y : Type 0} → (X → Y) → Result X WireError → Result Y WireError → Type 0
-GivesAll view (Ok x) reading = reading ≡ Ok (view x)
-GivesAll view (Err e) reading = e ≢ Memory → reading ≡ Err e
+  Ok (all.0, pairs.1)

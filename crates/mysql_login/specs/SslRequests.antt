@@ -1,6 +1,6 @@
 -- The request for a secure connection, which is also what stands first in a client's answer to the handshake.
 -- (MySQL: Client/Server Protocol, "Protocol::SSLRequest"; MariaDB: Client/Server Protocol, "Connecting", "SSLRequest Packet".)
-use Rattle.std.specs.Prelude.{◌≡◌, ◌<◌, ◌^◌, ℕ, nat_lt, if◌then◌else◌, List, [], ◌∷◌, length, replicate, Ok, Err}
+use Rattle.std.specs.Prelude.{◌≡◌, ◌<◌, ◌^◌, ℕ, List, [], ◌∷◌, replicate, Ok}
 use Rattle.std.specs.Int.RustNames.{bit_and}
 use Rattle.std.specs.List.{concat}
 use Rattle.byteorder.specs.Endian.{little_bytes}
@@ -8,8 +8,7 @@ use Rattle.bitflags.specs.Sets.{known_bits}
 use Rattle.mysql_const.specs.CapabilityFlags.{capability_flags}
 use Rattle.mysql_const.specs.MariadbCapabilities.{mariadb_capabilities}
 use Rattle.mysql_raw.specs.Forms.{little_at}
-use Rattle.mysql_raw.specs.Wire.{Reading, ◌>>=◌}
-use Rattle.mysql_raw.specs.declared.error.WireError.TheVariants.{UnexpectedEof}
+use Rattle.mysql_raw.specs.Wire.{Reading, from_block, ◌>>=◌}
 use Rattle.mysql_raw_consts.specs.Constants.{zeros_at}
 
 -- the bits that have names
@@ -53,7 +52,7 @@ ssl_fields_at bytes = do
 
 -- 32 bytes, or the end comes too soon
 unfoldable pub ssl_request_at : List ℕ → Reading SslRequestFields
-ssl_request_at bytes = if nat_lt (length bytes) 32 then Err UnexpectedEof else ssl_fields_at bytes
+ssl_request_at bytes = from_block 32 ssl_fields_at bytes
 
 -- what is read back: numbers that fit, and bits that have names
 pub record IsSslRequest (p : SslRequestFields) : Type 0 where

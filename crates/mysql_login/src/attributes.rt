@@ -4,7 +4,7 @@ ghost use Rattle.std.specs.Prelude.{◌≡◌, IfOk, IfSome, List, None, [], len
 ghost use Rattle.std.specs.Cow.{cow_slice_items};
 ghost use Rattle.std.specs.List.{flat_map};
 ghost use Rattle.std.specs.String.{string_bytes};
-ghost use Rattle.mysql_login.specs.Attributes.{Attribute, GivesAll, attribute, attribute_at, attributes, attributes_at, kept_attributes_at, with_attribute, with_last_values};
+ghost use Rattle.mysql_login.specs.Attributes.{Attribute, attribute, attribute_at, attributes, attributes_at, kept_attributes_at, with_attribute, with_last_values};
 ghost use Rattle.mysql_login.specs.AttributeViews.{attributes_view, lossy_attribute, lossy_text, shown_attribute, text_attribute};
 ghost use Rattle.mysql_raw.specs.Laws.{unsized};
 ghost use Rattle.mysql_raw.specs.Wire.{Appends, GivesPart};
@@ -159,7 +159,7 @@ fn parse_all<'de>(
     alloc: Global,
     mut pairs: ParseBuf<'de>,
 ) -> Result<ConnectAttributes<'de>, WireError>
-    ensures { GivesAll attributes_view result (kept_attributes_at pairs.entry.0.now) }
+    ensures { GivesPart attributes_view [] result (kept_attributes_at pairs.entry.0.now) }
 {
     let mut all = ConnectAttributes::new(alloc);
     while !pairs.is_empty() {

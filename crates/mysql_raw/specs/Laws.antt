@@ -1,6 +1,7 @@
 -- The forms of numbers have their sizes, and what is written in them reads back.
-use Rattle.std.proofs.Common.{◌≡◌, ◌*◌, ◌/◌, ◌%◌, ◌^◌, ◌<◌, ◌≤◌, nat_lt, true, ℕ, ℤ, List, ◌++◌, length, take, drop, Result, Ok, Err, Option, Some, None, refl, sym, ap, ◌∙◌, inl, inr, arith}
-use Rattle.std.proofs.lemmas.Bool.{cases_lt, ltb-true}
+use Rattle.std.proofs.Common.{◌≡◌, ◌+◌, ◌*◌, ◌/◌, ◌%◌, ◌^◌, ◌<◌, ◌≤◌, nat_lt, true, ℕ, ℤ, List, ◌++◌, length, take, drop, Result, Ok, Err, Option, Some, None, refl, sym, ap, ◌∙◌, inl, inr, arith}
+use Rattle.std.proofs.lemmas.Bool.{cases_lt, le-ltb, lt-ltb, ltb-true}
+use Rattle.std.proofs.lemmas.List.{drop-drop}
 use Rattle.std.specs.Int.{Width, w8, w16, w32, w64, byte_len, cast_unsigned}
 use Rattle.byteorder.specs.Endian.{little_bytes, little_number, twos_complement}
 use Rattle.mysql_buf.specs.FirstBytes.{first-enough, first-short}
@@ -12,7 +13,7 @@ use Rattle.mysql_buf.specs.VarlenLaws.{varlen-reads_back}
 use Rattle.mysql_buf.specs.Varlen.{varlen}
 use Rattle.mysql_buf.specs.Writing.{lenenc_int}
 use Rattle.mysql_raw.specs.Forms.{bytes_at, lenenc_number_at, little_at, raised, signed_at, upper_half, upper_half_at, varlen_number_at}
-use Rattle.mysql_raw.specs.Wire.{IsSized, Reading, or_end, ◌>>=◌}
+use Rattle.mysql_raw.specs.Wire.{IsSized, Reading, from_block, or_end, ◌>>=◌}
 use Rattle.mysql_raw.specs.declared.error.WireError.{WireError}
 use Rattle.mysql_raw.specs.declared.error.WireError.TheVariants.{UnexpectedEof}
 
@@ -36,7 +37,8 @@ eats n value bytes rest x e =
       | inr le ↦ same_rest e (ap or_end (first-enough n value bytes le))
     ]
 
-size_is : (n m : ℕ) → Some m ≡ Some n → m ≡ n
+-- two sizes that are the same
+pub size_is : (n m : ℕ) → Some m ≡ Some n → m ≡ n
 size_is n m e = cc
 
 -- n bytes are needed and eaten
@@ -66,6 +68,42 @@ pub sized-then : {X Y : Type 0} (size : Option ℕ) (read_at : List ℕ → Read
 sized-then size read_at next h keeps = record {
   needed = λ bytes few. rw (h.needed bytes few) refl;
   eaten = λ n bytes rest y e whole. let part = bind_ok (read_at bytes) next (y, rest) whole in keeps part.0 (y, rest) part.2 ∙ h.eaten n bytes part.0.1 part.0.0 e part.1;
+}
+
+-- what one step eats and what the next eats
+pub eats-then : {X Y : Type 0} (n m : ℕ) (bytes : List ℕ) (r : Reading X) (next : X × List ℕ → Reading Y) (rest : List ℕ) (y : Y) → ((x : X) (b : List ℕ) → r ≡ Ok (x, b) → b ≡ drop n bytes)
+    → ((x : X) (b : List ℕ) → next (x, b) ≡ Ok (y, rest) → rest ≡ drop m b) → (r >>= next) ≡ Ok (y, rest) → rest ≡ drop (n + m) bytes
+eats-then n m bytes r next rest y one two e =
+    let part = bind_ok r next (y, rest) e in
+    two part.0.0 part.0.1 part.2 ∙ ap (λ (b : List ℕ). drop m b) (one part.0.0 part.0.1 part.1) ∙ drop-drop m n bytes
+
+-- a step that has a size eats so many bytes
+pub eaten_first : {X : Type 0} (n : ℕ) (read_at : List ℕ → Reading X) (bytes : List ℕ) → IsSized (Some n) read_at → (x : X) (b : List ℕ) → read_at bytes ≡ Ok (x, b) → b ≡ drop n bytes
+eaten_first n read_at bytes h x b e = h.eaten n bytes b x refl e
+
+-- the end of the steps eats nothing
+pub done_rest : {X : Type 0} (x y : X) (b rest : List ℕ) → done (x, b) ≡ done (y, rest) → rest ≡ drop 0 b
+done_rest {X = X} x y b rest e = sym (ap (λ (z : X × List ℕ). z.1) (ok_same (x, b) (y, rest) e))
+
+-- where the block is there, it is read
+pub from_block-enough : {X : Type 0} (n : ℕ) (read_at : List ℕ → Reading X) (bytes : List ℕ) → n ≤ length bytes → from_block n read_at bytes ≡ read_at bytes
+from_block-enough n read_at bytes h = rw (le-ltb (length bytes) n h) refl
+
+from_block-needs : {X : Type 0} (n : ℕ) (read_at : List ℕ → Reading X) (bytes : List ℕ) → nat_lt (length bytes) n ≡ true → from_block n read_at bytes ≡ Err UnexpectedEof
+from_block-needs n read_at bytes few = rw few refl
+
+from_block-eats : {X : Type 0} (n : ℕ) (read_at : List ℕ → Reading X) (bytes rest : List ℕ) (x : X) → (read_at bytes ≡ Ok (x, rest) → rest ≡ drop n bytes)
+    → from_block n read_at bytes ≡ Ok (x, rest) → rest ≡ drop n bytes
+from_block-eats n read_at bytes rest x eats e = elim (cases_lt (length bytes) n) [
+  | inl lt ↦ absurd (let no = from_block-needs n read_at bytes (lt-ltb (length bytes) n lt) in cc)
+  | inr le ↦ eats (sym (from_block-enough n read_at bytes le) ∙ e)
+]
+
+-- a block of which all is eaten has its size
+pub from_block-sized : {X : Type 0} (n : ℕ) (read_at : List ℕ → Reading X) → ((bytes rest : List ℕ) (x : X) → read_at bytes ≡ Ok (x, rest) → rest ≡ drop n bytes) → IsSized (Some n) (from_block n read_at)
+from_block-sized n read_at eats = record {
+  needed = from_block-needs n read_at;
+  eaten = λ m bytes rest x e h. from_block-eats n read_at bytes rest x (eats bytes rest x) h ∙ ap (λ (k : ℕ). drop k bytes) (size_is m n e);
 }
 
 -- where there is no size, nothing is asked

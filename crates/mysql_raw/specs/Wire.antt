@@ -1,6 +1,6 @@
 -- What a read answers and what a write appends.
 -- (MySQL: Client/Server Protocol, "Protocol Basics: Basic Data Types".)
-use Rattle.std.specs.Prelude.{◌≡◌, ◌≢◌, ℕ, ◌≤◌, nat_lt, ⊤, Bool, true, false, List, ◌++◌, length, drop, Option, Some, None, Result, Ok, Err}
+use Rattle.std.specs.Prelude.{◌≡◌, ◌≢◌, ℕ, ◌≤◌, nat_lt, ⊤, Bool, true, false, if◌then◌else◌, List, ◌++◌, length, drop, Option, Some, None, Result, Ok, Err}
 use Rattle.mysql_raw.specs.declared.error.WireError.{WireError}
 use Rattle.mysql_raw.specs.declared.error.WireError.TheVariants.{UnexpectedEof, Memory}
 
@@ -31,6 +31,10 @@ Tells view old new (Err e) reading = (reading ≡ Err e) × (new ≡ old)
 abbrev pub lacks : Option ℕ → ℕ → Bool
 lacks None len = false
 lacks (Some n) len = nat_lt len n
+
+-- what stands where n bytes are there; fewer are refused before they are looked at
+abbrev pub from_block : {X : Type 0} → ℕ → (List ℕ → Reading X) → List ℕ → Reading X
+from_block n read_at bytes = if lacks (Some n) (length bytes) then Err UnexpectedEof else read_at bytes
 
 -- these are enough bytes for a value of that size, where there is one
 abbrev pub Suffices : Option ℕ → ℕ → Type 0

@@ -1,6 +1,5 @@
 -- What was written of a packet is read back.
 use Rattle.std.proofs.Common.{◌≡◌, ℕ, ◌-◌, ◌^◌, ◌<◌, ◌≤◌, true, List, [], ◌∷◌, ◌++◌, length, min, Ok, refl, sym, ap, ◌∙◌, append-nil, append_assoc, arith, lit<}
-use Rattle.std.proofs.lemmas.Bool.{le-ltb}
 use Rattle.std.proofs.lemmas.List.{take_all}
 use Rattle.std.specs.List.{concat}
 use Rattle.byteorder.specs.Endian.{little_bytes}
@@ -9,18 +8,13 @@ use Rattle.mysql_const.specs.BinlogDumpFlags.{binlog_dump_flags}
 use Rattle.mysql_gtid.specs.BlockLaws.{block_at-back}
 use Rattle.mysql_gtid.specs.Blocks.{block_at, block_bytes}
 use Rattle.mysql_raw.specs.Forms.{little_at}
-use Rattle.mysql_raw.specs.Laws.{little_at-back}
-use Rattle.mysql_raw.specs.Wire.{Reading}
+use Rattle.mysql_raw.specs.Laws.{from_block-enough, little_at-back}
 use Rattle.mysql_raw_bytes.specs.TextLaws.{u8_text_at-back, u32_text_at-back}
 use Rattle.mysql_raw_bytes.specs.Texts.{u8_text_at, u32_text_at}
 use Rattle.mysql_raw_consts.specs.ConstantLaws.{constant_at-back}
 use Rattle.mysql_raw_consts.specs.Constants.{named_at}
 use Rattle.mysql_raw_consts.specs.Flags.{are_named, binlog_dump_named}
-use Rattle.mysql_repl.specs.Packets.{BinlogDump, BinlogDumpGtid, IsBinlogDump, IsBinlogDumpGtid, IsRegisterSlave, IsSemiSyncAck, IsTableDump, RegisterSlave, SemiSyncAck, TableDump, binlog_dump, binlog_dump_at, binlog_dump_fields_at, binlog_dump_gtid, binlog_dump_gtid_at, binlog_dump_gtid_fields_at, from_block, register_slave, register_slave_at, register_slave_fields_at, semi_sync_ack, semi_sync_ack_at, semi_sync_ack_fields_at, table_dump, table_dump_at}
-
--- where the block is there, it is read
-enough : {X : Type 0} (n : ℕ) (read_at : List ℕ → Reading X) (bytes : List ℕ) → n ≤ length bytes → from_block n read_at bytes ≡ read_at bytes
-enough n read_at bytes h = rw (le-ltb (length bytes) n h) refl
+use Rattle.mysql_repl.specs.Packets.{BinlogDump, BinlogDumpGtid, IsBinlogDump, IsBinlogDumpGtid, IsRegisterSlave, IsSemiSyncAck, IsTableDump, RegisterSlave, SemiSyncAck, TableDump, binlog_dump, binlog_dump_at, binlog_dump_fields_at, binlog_dump_gtid, binlog_dump_gtid_at, binlog_dump_gtid_fields_at, register_slave, register_slave_at, register_slave_fields_at, semi_sync_ack, semi_sync_ack_at, semi_sync_ack_fields_at, table_dump, table_dump_at}
 
 -- a name that is not cut
 whole : (text : List ℕ) (most : ℕ) → length text ≤ most → front text most ≡ text
@@ -49,7 +43,7 @@ semi_sync_ack_fields_at-back p rest h none =
 
 pub semi_sync_ack_at-back : (p : SemiSyncAck) (rest : List ℕ) → IsSemiSyncAck p → rest ≡ [] → semi_sync_ack_at (semi_sync_ack p ++ rest) ≡ Ok (p, rest)
 unfolding semi_sync_ack semi_sync_ack_at
-semi_sync_ack_at-back p rest h none = enough 9 semi_sync_ack_fields_at (semi_sync_ack p ++ rest) (omega arith) ∙ semi_sync_ack_fields_at-back p rest h none
+semi_sync_ack_at-back p rest h none = from_block-enough 9 semi_sync_ack_fields_at (semi_sync_ack p ++ rest) (omega arith) ∙ semi_sync_ack_fields_at-back p rest h none
 
 pub table_dump_at-back : (p : TableDump) (rest : List ℕ) → IsTableDump p → table_dump_at (table_dump p ++ rest) ≡ Ok (p, rest)
 unfolding table_dump table_dump_at
@@ -88,7 +82,7 @@ register_slave_fields_at-back p rest h =
 
 pub register_slave_at-back : (p : RegisterSlave) (rest : List ℕ) → IsRegisterSlave p → register_slave_at (register_slave p ++ rest) ≡ Ok (p, rest)
 unfolding register_slave register_slave_at
-register_slave_at-back p rest h = enough 5 register_slave_fields_at (register_slave p ++ rest) (omega arith) ∙ register_slave_fields_at-back p rest h
+register_slave_at-back p rest h = from_block-enough 5 register_slave_fields_at (register_slave p ++ rest) (omega arith) ∙ register_slave_fields_at-back p rest h
 
 -- named flags that were written are read again
 flags-back : (flags : ℕ) (rest : List ℕ) → flags < 2 ^ 16 → are_named binlog_dump_flags flags ≡ true
@@ -114,7 +108,7 @@ binlog_dump_fields_at-back p rest h none =
 
 pub binlog_dump_at-back : (p : BinlogDump) (rest : List ℕ) → IsBinlogDump p → rest ≡ [] → binlog_dump_at (binlog_dump p ++ rest) ≡ Ok (p, rest)
 unfolding binlog_dump binlog_dump_at
-binlog_dump_at-back p rest h none = enough 11 binlog_dump_fields_at (binlog_dump p ++ rest) (omega arith) ∙ binlog_dump_fields_at-back p rest h none
+binlog_dump_at-back p rest h none = from_block-enough 11 binlog_dump_fields_at (binlog_dump p ++ rest) (omega arith) ∙ binlog_dump_fields_at-back p rest h none
 
 -- a text of less than 2^32 bytes
 long_text-back : (text rest : List ℕ) → length text < 2 ^ 32 → u32_text_at (u32_str text ++ rest) ≡ Ok (text, rest)
@@ -159,4 +153,4 @@ binlog_dump_gtid_fields_at-back p rest h =
 
 pub binlog_dump_gtid_at-back : (p : BinlogDumpGtid) (rest : List ℕ) → IsBinlogDumpGtid p → binlog_dump_gtid_at (binlog_dump_gtid p ++ rest) ≡ Ok (p, rest)
 unfolding binlog_dump_gtid binlog_dump_gtid_at
-binlog_dump_gtid_at-back p rest h = enough 7 binlog_dump_gtid_fields_at (binlog_dump_gtid p ++ rest) (omega arith) ∙ binlog_dump_gtid_fields_at-back p rest h
+binlog_dump_gtid_at-back p rest h = from_block-enough 7 binlog_dump_gtid_fields_at (binlog_dump_gtid p ++ rest) (omega arith) ∙ binlog_dump_gtid_fields_at-back p rest h

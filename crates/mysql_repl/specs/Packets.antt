@@ -1,7 +1,7 @@
 -- The packets that a replica sends, as bytes: what is written of their fields, and what is read of any bytes.
 -- MySQL: Client/Server Protocol, "COM_REGISTER_SLAVE", "COM_TABLE_DUMP", "COM_BINLOG_DUMP" and "COM_BINLOG_DUMP_GTID";
 -- Internals Manual, "Semi-Sync ACK packet".
-use Rattle.std.specs.Prelude.{◌≡◌, ℕ, ◌%◌, ◌-◌, ◌^◌, ◌<◌, ◌≤◌, ◌⊎◌, List, [], ◌∷◌, ◌++◌, length, min, nat_lt, Bool, true, Ok, Err, if◌then◌else◌}
+use Rattle.std.specs.Prelude.{◌≡◌, ℕ, ◌%◌, ◌-◌, ◌^◌, ◌<◌, ◌≤◌, ◌⊎◌, List, [], ◌∷◌, length, min, Bool, true, Ok, if◌then◌else◌}
 use Rattle.std.proofs.Common.{inl, inr}
 use Rattle.std.specs.Int.RustNames.{bit_and, bit_or}
 use Rattle.std.specs.List.{concat}
@@ -12,15 +12,10 @@ use Rattle.mysql_const.specs.BinlogDumpFlags.{binlog_dump_flags}
 use Rattle.mysql_gtid.specs.Blocks.{IsBlock, block_at, block_bytes}
 use Rattle.mysql_gtid.specs.Sids.{SidParts}
 use Rattle.mysql_raw.specs.Forms.{little_at}
-use Rattle.mysql_raw.specs.Wire.{Reading, ◌>>=◌}
-use Rattle.mysql_raw.specs.declared.error.WireError.TheVariants.{UnexpectedEof}
+use Rattle.mysql_raw.specs.Wire.{Reading, from_block, ◌>>=◌}
 use Rattle.mysql_raw_bytes.specs.Texts.{u8_text_at, u32_text_at}
 use Rattle.mysql_raw_consts.specs.Constants.{constant_at, named_at}
 use Rattle.mysql_raw_consts.specs.Flags.{are_named, binlog_dump_named}
-
--- What stands where n bytes are there; fewer are refused before they are looked at.
-abbrev pub from_block : {X : Type 0} → ℕ → (List ℕ → Reading X) → List ℕ → Reading X
-from_block n read_at bytes = if nat_lt (length bytes) n then Err UnexpectedEof else read_at bytes
 
 -- All that is left.
 abbrev pub all_at : List ℕ → Reading (List ℕ)

@@ -1,7 +1,7 @@
 -- Rests by the bytes that are left, and the bytes that a framing takes.
 use Rattle.std.proofs.Common.{◌≡◌, ℕ, zero, suc, ◌+◌, ◌<◌, List, [], ◌∷◌, ◌++◌, length, refl, ap, ◌∙◌, arith, take, drop}
 use Rattle.std.proofs.lemmas.List.{length-append}
-use Rattle.mysql_wire.specs.Framing.{framing, chunks}
+use Rattle.mysql_wire.specs.Framing.{chunks}
 use Rattle.mysql_wire.specs.Stream.{IsRest}
 use Rattle.mysql_wire.specs.Stream.Rest.{Empty, Open}
 use Rattle.mysql_wire.specs.GoingOn.{FramingTakesBytes, RestsAreTold}
