@@ -1,12 +1,11 @@
 //! Texts that a query and a parameter set make.
 
-use crate::support::{bytes, holds, named};
+use crate::support::{assert_holds, bytes, named};
 use mysql_values::{
     BindError, ByteString, MissingNamedParameterError, Params, ParamsConfusionError, ParamsError,
     Value, bind_text,
 };
 use mysql_wire::WireError;
-use std::test::Fail;
 
 /// What `bind_text` answers over an `out` that begins with `> `, and what stands there behind it.
 fn bound(
@@ -74,26 +73,38 @@ fn twice(rt: &HostRuntime) -> Result<bool, WireError> {
 }
 
 #[test]
-fn bound_texts(rt: HostRuntime) -> Result<(), Fail> {
-    assert!(rt; holds(|| two_values(&rt)));
-    assert!(rt; holds(|| quotes(&rt)));
-    assert!(rt; holds(|| twice(&rt)));
-    assert!(rt; holds(|| binds(&rt, b"SELECT 1", &Params::Empty, b"SELECT 1")));
-    Ok(())
+fn bound_texts(rt: HostRuntime) {
+    assert_holds(&rt, two_values(&rt), two_values(&rt));
+    assert_holds(&rt, quotes(&rt), quotes(&rt));
+    assert_holds(&rt, twice(&rt), twice(&rt));
+    assert_holds(
+        &rt,
+        binds(&rt, b"SELECT 1", &Params::Empty, b"SELECT 1"),
+        binds(&rt, b"SELECT 1", &Params::Empty, b"SELECT 1"),
+    );
 }
 
 #[test]
-fn bound_dates_and_times(rt: HostRuntime) -> Result<(), Fail> {
-    assert!(rt;
-        holds(|| makes(
+fn bound_dates_and_times(rt: HostRuntime) {
+    assert_holds(
+        &rt,
+        makes(
             &rt,
             Value::Date(2024, 2, 29, 0, 0, 0, 0),
-            b"SELECT '2024-02-29'"
-        ))
+            b"SELECT '2024-02-29'",
+        ),
+        makes(
+            &rt,
+            Value::Date(2024, 2, 29, 0, 0, 0, 0),
+            b"SELECT '2024-02-29'",
+        ),
     );
     // An all-zero time has no sign.
-    assert!(rt; holds(|| makes(&rt, Value::Time(true, 0, 0, 0, 0, 0), b"SELECT '000:00:00'")));
-    Ok(())
+    assert_holds(
+        &rt,
+        makes(&rt, Value::Time(true, 0, 0, 0, 0, 0), b"SELECT '000:00:00'"),
+        makes(&rt, Value::Time(true, 0, 0, 0, 0, 0), b"SELECT '000:00:00'"),
+    );
 }
 
 /// Whether `a` with this value is refused for this cause.
@@ -121,17 +132,35 @@ fn confusion() -> BindError {
 }
 
 #[test]
-fn refused_queries(rt: HostRuntime) -> Result<(), Fail> {
-    assert!(rt; holds(|| refuses(&rt, b":a ?", Value::Int(1), BindError::Mixed)));
-    assert!(rt; holds(|| refuses(&rt, b"SELECT 1-:a", Value::Int(1), BindError::NotAlone(0))));
-    Ok(())
+fn refused_queries(rt: HostRuntime) {
+    assert_holds(
+        &rt,
+        refuses(&rt, b":a ?", Value::Int(1), BindError::Mixed),
+        refuses(&rt, b":a ?", Value::Int(1), BindError::Mixed),
+    );
+    assert_holds(
+        &rt,
+        refuses(&rt, b"SELECT 1-:a", Value::Int(1), BindError::NotAlone(0)),
+        refuses(&rt, b"SELECT 1-:a", Value::Int(1), BindError::NotAlone(0)),
+    );
 }
 
 #[test]
-fn refused_sets(rt: HostRuntime) -> Result<(), Fail> {
-    assert!(rt; holds(|| refused(&rt, b"SELECT ?", &Params::Empty, BindError::WrongCount)));
-    assert!(rt; holds(|| refuses(&rt, b"SELECT ?", Value::Int(1), confusion())));
-    assert!(rt; holds(|| missing(&rt)));
-    assert!(rt; holds(|| refuses(&rt, b"SELECT :a", Value::Float(0), BindError::Float(0))));
-    Ok(())
+fn refused_sets(rt: HostRuntime) {
+    assert_holds(
+        &rt,
+        refused(&rt, b"SELECT ?", &Params::Empty, BindError::WrongCount),
+        refused(&rt, b"SELECT ?", &Params::Empty, BindError::WrongCount),
+    );
+    assert_holds(
+        &rt,
+        refuses(&rt, b"SELECT ?", Value::Int(1), confusion()),
+        refuses(&rt, b"SELECT ?", Value::Int(1), confusion()),
+    );
+    assert_holds(&rt, missing(&rt), missing(&rt));
+    assert_holds(
+        &rt,
+        refuses(&rt, b"SELECT :a", Value::Float(0), BindError::Float(0)),
+        refuses(&rt, b"SELECT :a", Value::Float(0), BindError::Float(0)),
+    );
 }

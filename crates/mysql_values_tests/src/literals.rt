@@ -1,9 +1,8 @@
 //! Literals at the front of a text.
 
-use crate::support::holds;
+use crate::support::assert_holds;
 use mysql_values::{Literal, read_literal};
 use mysql_wire::WireError;
-use std::test::Fail;
 
 /// Texts, the literal that stands first, its bytes, and how many bytes are left behind it.
 const LITERALS: [(&[u8], Literal, &[u8], usize); 9] = [
@@ -64,17 +63,19 @@ fn refuses(rt: &HostRuntime, text: &[u8]) -> Result<bool, WireError> {
 }
 
 #[test]
-fn literals(rt: HostRuntime) -> Result<(), Fail> {
+fn literals(rt: HostRuntime) {
     for (text, literal, bytes, left) in LITERALS {
-        assert!(rt; holds(|| reads(&rt, text, literal, bytes, left)));
+        assert_holds(
+            &rt,
+            reads(&rt, text, literal, bytes, left),
+            reads(&rt, text, literal, bytes, left),
+        );
     }
-    Ok(())
 }
 
 #[test]
-fn no_literals(rt: HostRuntime) -> Result<(), Fail> {
+fn no_literals(rt: HostRuntime) {
     for text in OTHERS {
-        assert!(rt; holds(|| refuses(&rt, text)));
+        assert_holds(&rt, refuses(&rt, text), refuses(&rt, text));
     }
-    Ok(())
 }

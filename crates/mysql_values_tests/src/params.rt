@@ -1,11 +1,10 @@
 //! The values that a set gives a query.
 
-use crate::support::{bytes, holds, named};
+use crate::support::{assert_holds, bytes, named};
 use mysql_values::{
     MissingNamedParameterError, Params, ParamsConfusionError, ParamsError, ParsedNamedParams, Value,
 };
 use mysql_wire::WireError;
-use std::test::Fail;
 
 /// `a` twice and `b`.
 fn names(rt: &HostRuntime) -> Result<Vec<Vec<u8>>, WireError> {
@@ -79,11 +78,10 @@ fn by_place(rt: &HostRuntime) -> Result<bool, WireError> {
 }
 
 #[test]
-fn values_by_name(rt: HostRuntime) -> Result<(), Fail> {
-    assert!(rt; holds(|| lent(&rt)));
-    assert!(rt; holds(|| copied(&rt)));
-    assert!(rt; holds(|| by_place(&rt)));
-    Ok(())
+fn values_by_name(rt: HostRuntime) {
+    assert_holds(&rt, lent(&rt), lent(&rt));
+    assert_holds(&rt, copied(&rt), copied(&rt));
+    assert_holds(&rt, by_place(&rt), by_place(&rt));
 }
 
 /// A list stays as it is.
@@ -144,10 +142,9 @@ fn marks_for_names(rt: &HostRuntime) -> Result<bool, WireError> {
 }
 
 #[test]
-fn other_sets(rt: HostRuntime) -> Result<(), Fail> {
-    assert!(rt; holds(|| in_order(&rt)));
-    assert!(rt; holds(|| missing(&rt)));
-    assert!(rt; holds(|| names_for_marks(&rt)));
-    assert!(rt; holds(|| marks_for_names(&rt)));
-    Ok(())
+fn other_sets(rt: HostRuntime) {
+    assert_holds(&rt, in_order(&rt), in_order(&rt));
+    assert_holds(&rt, missing(&rt), missing(&rt));
+    assert_holds(&rt, names_for_marks(&rt), names_for_marks(&rt));
+    assert_holds(&rt, marks_for_names(&rt), marks_for_names(&rt));
 }

@@ -1,9 +1,8 @@
 //! Placeholders of a query, and the query as it is parsed.
 
-use crate::support::holds;
+use crate::support::assert_holds;
 use mysql_values::{MixedParamsError, NamedParamsError, ParsedNamedParams, places};
 use mysql_wire::WireError;
-use std::test::Fail;
 
 /// Start, end, whether a name, whether it stands alone.
 type Expected = (usize, usize, bool, bool);
@@ -48,19 +47,17 @@ fn has(rt: &HostRuntime, query: &[u8], expected: &[Expected]) -> Result<bool, Wi
 }
 
 #[test]
-fn neighbours(rt: HostRuntime) -> Result<(), Fail> {
+fn neighbours(rt: HostRuntime) {
     for (query, expected) in NEIGHBOURS {
-        assert!(rt; holds(|| has(&rt, query, expected)));
+        assert_holds(&rt, has(&rt, query, expected), has(&rt, query, expected));
     }
-    Ok(())
 }
 
 #[test]
-fn other_tokens(rt: HostRuntime) -> Result<(), Fail> {
+fn other_tokens(rt: HostRuntime) {
     for (query, expected) in OTHER_TOKENS {
-        assert!(rt; holds(|| has(&rt, query, expected)));
+        assert_holds(&rt, has(&rt, query, expected), has(&rt, query, expected));
     }
-    Ok(())
 }
 
 const PARSED: [(&[u8], &[u8], &[&[u8]]); 4] = [
@@ -103,10 +100,13 @@ fn is_mixed(rt: &HostRuntime, query: &[u8]) -> Result<bool, WireError> {
 }
 
 #[test]
-fn parsed_queries(rt: HostRuntime) -> Result<(), Fail> {
+fn parsed_queries(rt: HostRuntime) {
     for (query, parsed, names) in PARSED {
-        assert!(rt; holds(|| parses(&rt, query, parsed, names)));
+        assert_holds(
+            &rt,
+            parses(&rt, query, parsed, names),
+            parses(&rt, query, parsed, names),
+        );
     }
-    assert!(rt; holds(|| is_mixed(&rt, b":a ?")));
-    Ok(())
+    assert_holds(&rt, is_mixed(&rt, b":a ?"), is_mixed(&rt, b":a ?"));
 }

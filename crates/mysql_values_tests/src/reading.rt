@@ -1,9 +1,8 @@
 //! Texts of a query, read back as contents.
 
-use crate::support::holds;
+use crate::support::assert_holds;
 use mysql_values::{ByteString, Content, first_not_alone, places, read_text};
 use mysql_wire::WireError;
-use std::test::Fail;
 
 const QUERY: &[u8] = b"SELECT :a, :b";
 
@@ -59,11 +58,10 @@ fn numbers(rt: &HostRuntime) -> Result<bool, WireError> {
 }
 
 #[test]
-fn foreign_texts(rt: HostRuntime) -> Result<(), Fail> {
-    assert!(rt; holds(|| strings(&rt)));
-    assert!(rt; holds(|| hexadecimal(&rt)));
-    assert!(rt; holds(|| numbers(&rt)));
-    Ok(())
+fn foreign_texts(rt: HostRuntime) {
+    assert_holds(&rt, strings(&rt), strings(&rt));
+    assert_holds(&rt, hexadecimal(&rt), hexadecimal(&rt));
+    assert_holds(&rt, numbers(&rt), numbers(&rt));
 }
 
 fn refuses(rt: &HostRuntime, text: &[u8]) -> Result<bool, WireError> {
@@ -71,9 +69,8 @@ fn refuses(rt: &HostRuntime, text: &[u8]) -> Result<bool, WireError> {
 }
 
 #[test]
-fn other_texts(rt: HostRuntime) -> Result<(), Fail> {
+fn other_texts(rt: HostRuntime) {
     for text in OTHERS {
-        assert!(rt; holds(|| refuses(&rt, text)));
+        assert_holds(&rt, refuses(&rt, text), refuses(&rt, text));
     }
-    Ok(())
 }

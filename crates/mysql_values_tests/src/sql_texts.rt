@@ -1,9 +1,8 @@
 //! SQL texts of values.
 
-use crate::support::{bytes, holds};
+use crate::support::{assert_holds, bytes};
 use mysql_values::{AsSqlError, Content, Value};
 use mysql_wire::WireError;
-use std::test::Fail;
 
 /// Whether the value has this text: with backslash escapes, and without.
 fn has_texts(
@@ -77,18 +76,16 @@ fn of_others(rt: &HostRuntime) -> Result<bool, WireError> {
 }
 
 #[test]
-fn contents(rt: HostRuntime) -> Result<(), Fail> {
-    assert!(rt; holds(|| of_dates(&rt)));
-    assert!(rt; holds(|| of_times(&rt)));
-    assert!(rt; holds(|| of_others(&rt)));
-    Ok(())
+fn contents(rt: HostRuntime) {
+    assert_holds(&rt, of_dates(&rt), of_dates(&rt));
+    assert_holds(&rt, of_times(&rt), of_times(&rt));
+    assert_holds(&rt, of_others(&rt), of_others(&rt));
 }
 
 #[test]
-fn sql_texts(rt: HostRuntime) -> Result<(), Fail> {
-    assert!(rt; holds(|| of_quotes(&rt)));
-    assert!(rt; holds(|| of_bytes(&rt)));
-    assert!(rt; holds(|| of_zero(&rt)));
-    assert!(rt; holds(|| of_a_float(&rt)));
-    Ok(())
+fn sql_texts(rt: HostRuntime) {
+    assert_holds(&rt, of_quotes(&rt), of_quotes(&rt));
+    assert_holds(&rt, of_bytes(&rt), of_bytes(&rt));
+    assert_holds(&rt, of_zero(&rt), of_zero(&rt));
+    assert_holds(&rt, of_a_float(&rt), of_a_float(&rt));
 }

@@ -3,14 +3,18 @@
 use mysql_values::{ByteString, Params, Value};
 use mysql_wire::WireError;
 use std::collections::HashMap;
+use std::process::Abort;
 
-/// Whether a test holds. Where a growth was refused in it, it is tried once more: of a run at most one is refused.
-pub fn holds<F: Fn() -> Result<bool, WireError>>(test: F) -> bool
-    requires { F.IsAlwaysCallable test }
-{
-    match test() {
-        Ok(found) => found,
-        Err(_) => matches!(test(), Ok(true)),
+/// Asserts that a test holds. It is made twice, and the second counts where a growth was refused in the first: of a run at
+/// most one is refused.
+pub fn assert_holds(
+    rt: &impl Abort,
+    first: Result<bool, WireError>,
+    second: Result<bool, WireError>,
+) {
+    match first {
+        Ok(found) => assert!(rt; found),
+        Err(_) => assert_eq!(rt; second, Ok(true)),
     }
 }
 
