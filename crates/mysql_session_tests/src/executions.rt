@@ -1,7 +1,7 @@
 //! Sets sent by prepared execution.
 
 use crate::support;
-use crate::support::{bytes, holds, named, read_by_bytes, read_whole, sent};
+use crate::support::{assert_holds, bytes, named, read_by_bytes, read_whole, sent};
 use mysql_session::{Audit, Content, End, Params, Refusal, Road, Value};
 use std::alloc::{AllocError, Global};
 
@@ -23,11 +23,10 @@ fn a_number(rt: HostRuntime) {
     let stream: &[u8] =
         b"\x09\0\0\0\x16SELECT ?\x16\0\0\0\x17\x01\0\0\0\0\x01\0\0\0\0\x01\x08\0\x01\0\0\0\0\0\0\0";
     let wanted = Content::Number(1);
-    assert!(rt;
-        holds(
-            goes_round(alloc, Value::Int(1), stream, &wanted),
-            goes_round(alloc, Value::Int(1), stream, &wanted)
-        )
+    assert_holds(
+        &rt,
+        goes_round(alloc, Value::Int(1), stream, &wanted),
+        goes_round(alloc, Value::Int(1), stream, &wanted),
     );
 }
 
@@ -35,11 +34,10 @@ fn a_number(rt: HostRuntime) {
 fn null(rt: HostRuntime) {
     let alloc = rt.alloc();
     let stream: &[u8] = b"\x09\0\0\0\x16SELECT ?\x0e\0\0\0\x17\x01\0\0\0\0\x01\0\0\0\x01\x01\x06\0";
-    assert!(rt;
-        holds(
-            goes_round(alloc, Value::NULL, stream, &Content::Null),
-            goes_round(alloc, Value::NULL, stream, &Content::Null)
-        )
+    assert_holds(
+        &rt,
+        goes_round(alloc, Value::NULL, stream, &Content::Null),
+        goes_round(alloc, Value::NULL, stream, &Content::Null),
     );
 }
 
@@ -59,7 +57,7 @@ fn minus(alloc: Global) -> Result<bool, AllocError> {
 
 #[test]
 fn not_alone(rt: HostRuntime) {
-    assert!(rt; holds(minus(rt.alloc()), minus(rt.alloc())));
+    assert_holds(&rt, minus(rt.alloc()), minus(rt.alloc()));
 }
 
 fn text(alloc: Global, text: &[u8]) -> Result<Content, AllocError> {
@@ -93,8 +91,8 @@ fn time(alloc: Global) -> Result<bool, AllocError> {
 
 #[test]
 fn dates_and_times(rt: HostRuntime) {
-    assert!(rt; holds(date(rt.alloc()), date(rt.alloc())));
-    assert!(rt; holds(time(rt.alloc()), time(rt.alloc())));
+    assert_holds(&rt, date(rt.alloc()), date(rt.alloc()));
+    assert_holds(&rt, time(rt.alloc()), time(rt.alloc()));
 }
 
 /// Whether the audit is whole and has two sets of one number each, which are the wanted ones.
@@ -134,7 +132,7 @@ fn two(alloc: Global) -> Result<bool, AllocError> {
 
 #[test]
 fn two_sets(rt: HostRuntime) {
-    assert!(rt; holds(two(rt.alloc()), two(rt.alloc())));
+    assert_holds(&rt, two(rt.alloc()), two(rt.alloc()));
 }
 
 /// Whether the prepare is sent for no sets, and refused where it is too large.
@@ -151,7 +149,7 @@ fn prepared(alloc: Global) -> Result<bool, AllocError> {
 
 #[test]
 fn no_sets(rt: HostRuntime) {
-    assert!(rt; holds(prepared(rt.alloc()), prepared(rt.alloc())));
+    assert_holds(&rt, prepared(rt.alloc()), prepared(rt.alloc()));
 }
 
 fn numbers(alloc: Global, number: i64) -> Result<Vec<Params>, AllocError> {
@@ -174,5 +172,5 @@ fn both(alloc: Global) -> Result<bool, AllocError> {
 
 #[test]
 fn both_roads(rt: HostRuntime) {
-    assert!(rt; holds(both(rt.alloc()), both(rt.alloc())));
+    assert_holds(&rt, both(rt.alloc()), both(rt.alloc()));
 }

@@ -3,6 +3,7 @@
 use crate::support::{named, sent};
 use mysql_session::{Params, ParamsError, Refusal, Road, SetError, Value};
 use std::alloc::{AllocError, Global};
+use std::process::Abort;
 
 /// The refusal of two sets over a query, behind five bytes that have to stay; None where they are sent.
 fn refusal(
@@ -38,13 +39,37 @@ fn one(alloc: Global, value: Value) -> Result<Params, AllocError> {
     named(alloc, b"a", value)
 }
 
-/// Whether the answer is the wanted one, or memory was refused on the way to the call.
-fn is(answer: Result<Option<Refusal>, AllocError>, wanted: Refusal) -> bool {
+/// Asserts that the answer is the wanted one, or that memory was refused on the way to the call.
+fn assert_refused(rt: &impl Abort, answer: Result<Option<Refusal>, AllocError>, wanted: Refusal) {
     match answer {
-        Ok(Some(refusal)) => refusal == wanted,
-        Ok(None) => false,
-        Err(_) => true,
+        Ok(refusal) => assert_eq!(rt; refusal, Some(wanted)),
+        Err(_) => {}
     }
+}
+
+/// Asserts that nothing is refused, but for want of memory on the way to the call.
+fn assert_sent(rt: &impl Abort, answer: Result<Option<Refusal>, AllocError>) {
+    assert!(rt; !matches!(answer, Ok(Some(_))));
+}
+
+/// Asserts that the first set is of the other kind than the placeholders, or that memory was refused on the way to the call.
+fn assert_confused(rt: &impl Abort, answer: Result<Option<Refusal>, AllocError>) {
+    assert!(rt;
+        matches!(
+            answer,
+            Ok(Some(Refusal::Params(0, SetError::Params(ParamsError::Confusion(_))))) | Err(_)
+        )
+    );
+}
+
+/// Asserts that the first set lacks a name, or that memory was refused on the way to the call.
+fn assert_missing(rt: &impl Abort, answer: Result<Option<Refusal>, AllocError>) {
+    assert!(rt;
+        matches!(
+            answer,
+            Ok(Some(Refusal::Params(0, SetError::Params(ParamsError::Missing(_))))) | Err(_)
+        )
+    );
 }
 
 fn refused_by_limit(
@@ -65,19 +90,17 @@ fn refused_by_limit(
 #[test]
 fn too_large(rt: HostRuntime) {
     let alloc = rt.alloc();
-    assert!(rt;
-        is(
-            refused_by_limit(alloc, Road::Text, 12),
-            Refusal::PacketTooLarge(0)
-        )
+    assert_refused(
+        &rt,
+        refused_by_limit(alloc, Road::Text, 12),
+        Refusal::PacketTooLarge(0),
     );
-    assert!(rt;
-        is(
-            refused_by_limit(alloc, Road::Text, 13),
-            Refusal::PacketTooLarge(1)
-        )
+    assert_refused(
+        &rt,
+        refused_by_limit(alloc, Road::Text, 13),
+        Refusal::PacketTooLarge(1),
     );
-    assert!(rt; !matches!(refused_by_limit(alloc, Road::Text, 14), Ok(Some(_))));
+    assert_sent(&rt, refused_by_limit(alloc, Road::Text, 14));
 }
 
 fn refused_query(
@@ -99,23 +122,20 @@ fn refused_query(
 #[test]
 fn queries(rt: HostRuntime) {
     let alloc = rt.alloc();
-    assert!(rt;
-        is(
-            refused_query(alloc, b":a ?", Value::Int(1), Road::Text),
-            Refusal::Mixed
-        )
+    assert_refused(
+        &rt,
+        refused_query(alloc, b":a ?", Value::Int(1), Road::Text),
+        Refusal::Mixed,
     );
-    assert!(rt;
-        is(
-            refused_query(alloc, b"SELECT 1-:a", Value::Int(1), Road::Text),
-            Refusal::NotAlone(0)
-        )
+    assert_refused(
+        &rt,
+        refused_query(alloc, b"SELECT 1-:a", Value::Int(1), Road::Text),
+        Refusal::NotAlone(0),
     );
-    assert!(rt;
-        is(
-            refused_query(alloc, b"SELECT :a", Value::Float(0), Road::Text),
-            Refusal::Float(1, 0)
-        )
+    assert_refused(
+        &rt,
+        refused_query(alloc, b"SELECT :a", Value::Float(0), Road::Text),
+        Refusal::Float(1, 0),
     );
 }
 
@@ -133,64 +153,52 @@ fn refused_empty(alloc: Global) -> Result<Option<Refusal>, AllocError> {
 #[test]
 fn sets(rt: HostRuntime) {
     let alloc = rt.alloc();
-    assert!(rt; is(refused_empty(alloc), Refusal::WrongCount(1)));
-    assert!(rt;
-        matches!(
-            refused_query(alloc, b"SELECT ?", Value::Int(1), Road::Text),
-            Ok(Some(Refusal::Params(0, SetError::Params(ParamsError::Confusion(_))))) | Err(_)
-        )
+    assert_refused(&rt, refused_empty(alloc), Refusal::WrongCount(1));
+    assert_confused(
+        &rt,
+        refused_query(alloc, b"SELECT ?", Value::Int(1), Road::Text),
     );
-    assert!(rt;
-        matches!(
-            refused_query(alloc, b"SELECT :b", Value::Int(1), Road::Text),
-            Ok(Some(Refusal::Params(0, SetError::Params(ParamsError::Missing(_))))) | Err(_)
-        )
+    assert_missing(
+        &rt,
+        refused_query(alloc, b"SELECT :b", Value::Int(1), Road::Text),
     );
 }
 
 #[test]
 fn executions_too_large(rt: HostRuntime) {
     let alloc = rt.alloc();
-    assert!(rt;
-        is(
-            refused_by_limit(alloc, Road::Execute, 12),
-            Refusal::PrepareTooLarge
-        )
+    assert_refused(
+        &rt,
+        refused_by_limit(alloc, Road::Execute, 12),
+        Refusal::PrepareTooLarge,
     );
-    assert!(rt;
-        is(
-            refused_by_limit(alloc, Road::Execute, 25),
-            Refusal::PacketTooLarge(0)
-        )
+    assert_refused(
+        &rt,
+        refused_by_limit(alloc, Road::Execute, 25),
+        Refusal::PacketTooLarge(0),
     );
-    assert!(rt; !matches!(refused_by_limit(alloc, Road::Execute, 26), Ok(Some(_))));
+    assert_sent(&rt, refused_by_limit(alloc, Road::Execute, 26));
 }
 
 #[test]
 fn executions(rt: HostRuntime) {
     let alloc = rt.alloc();
-    assert!(rt;
-        is(
-            refused_query(alloc, b":a ?", Value::Int(1), Road::Execute),
-            Refusal::Mixed
-        )
+    assert_refused(
+        &rt,
+        refused_query(alloc, b":a ?", Value::Int(1), Road::Execute),
+        Refusal::Mixed,
     );
-    assert!(rt;
-        is(
-            refused_query(alloc, b"SELECT :a", Value::Float(0), Road::Execute),
-            Refusal::Float(1, 0)
-        )
+    assert_refused(
+        &rt,
+        refused_query(alloc, b"SELECT :a", Value::Float(0), Road::Execute),
+        Refusal::Float(1, 0),
     );
-    assert!(rt;
-        matches!(
-            refused_query(alloc, b"SELECT ?", Value::Int(1), Road::Execute),
-            Ok(Some(Refusal::Params(0, SetError::Params(ParamsError::Confusion(_))))) | Err(_)
-        )
+    assert_confused(
+        &rt,
+        refused_query(alloc, b"SELECT ?", Value::Int(1), Road::Execute),
     );
-    assert!(rt;
-        matches!(
-            refused_query(alloc, b"SELECT :b", Value::Int(1), Road::Execute),
-            Ok(Some(Refusal::Params(0, SetError::Params(ParamsError::Missing(_))))) | Err(_)
-        )
+    assert_missing(
+        &rt,
+        refused_query(alloc, b"SELECT :b", Value::Int(1), Road::Execute),
     );
 }

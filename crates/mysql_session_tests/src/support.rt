@@ -9,6 +9,7 @@ use mysql_session::{
 use mysql_values::ByteString;
 use std::alloc::{AllocError, Global};
 use std::collections::HashMap;
+use std::process::Abort;
 
 /// A set that gives one name a value.
 pub fn named(alloc: Global, name: &[u8], value: Value) -> Result<Params, AllocError> {
@@ -44,9 +45,13 @@ pub fn sent(
     }
 }
 
-/// Tries again once, for the run in which an allocation of the first try is refused.
-pub fn holds(first: Result<bool, AllocError>, second: Result<bool, AllocError>) -> bool {
-    matches!(first, Ok(true)) || matches!(second, Ok(true))
+/// Asserts that a test holds. It is made twice, for the run in which an allocation of the first is refused.
+pub fn assert_holds(
+    rt: &impl Abort,
+    first: Result<bool, AllocError>,
+    second: Result<bool, AllocError>,
+) {
+    assert!(rt; matches!(first, Ok(true)) || matches!(second, Ok(true)));
 }
 
 /// Whether the audit is whole and has one set of one content, and that is the wanted one.

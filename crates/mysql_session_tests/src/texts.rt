@@ -1,7 +1,7 @@
 //! Sets sent by text.
 
 use crate::support;
-use crate::support::{bytes, holds, named, sent};
+use crate::support::{assert_holds, bytes, named, sent};
 use mysql_session::{Content, Params, Road, Value};
 use std::alloc::{AllocError, Global};
 
@@ -20,11 +20,10 @@ fn a_number(rt: HostRuntime) {
     let alloc = rt.alloc();
     let stream: &[u8] = b"\x09\0\0\0\x03SELECT 1";
     let wanted = Content::Number(1);
-    assert!(rt;
-        holds(
-            goes_round(alloc, Value::Int(1), stream, &wanted),
-            goes_round(alloc, Value::Int(1), stream, &wanted)
-        )
+    assert_holds(
+        &rt,
+        goes_round(alloc, Value::Int(1), stream, &wanted),
+        goes_round(alloc, Value::Int(1), stream, &wanted),
     );
 }
 
@@ -34,11 +33,10 @@ fn the_largest_number(rt: HostRuntime) {
     let stream: &[u8] = b"\x1c\0\0\0\x03SELECT 18446744073709551615";
     let wanted = Content::Number(18446744073709551615);
     let value = 18446744073709551615;
-    assert!(rt;
-        holds(
-            goes_round(alloc, Value::UInt(value), stream, &wanted),
-            goes_round(alloc, Value::UInt(value), stream, &wanted)
-        )
+    assert_holds(
+        &rt,
+        goes_round(alloc, Value::UInt(value), stream, &wanted),
+        goes_round(alloc, Value::UInt(value), stream, &wanted),
     );
 }
 
@@ -46,11 +44,10 @@ fn the_largest_number(rt: HostRuntime) {
 fn null(rt: HostRuntime) {
     let alloc = rt.alloc();
     let stream: &[u8] = b"\x0c\0\0\0\x03SELECT NULL";
-    assert!(rt;
-        holds(
-            goes_round(alloc, Value::NULL, stream, &Content::Null),
-            goes_round(alloc, Value::NULL, stream, &Content::Null)
-        )
+    assert_holds(
+        &rt,
+        goes_round(alloc, Value::NULL, stream, &Content::Null),
+        goes_round(alloc, Value::NULL, stream, &Content::Null),
     );
 }
 
@@ -66,7 +63,7 @@ fn bytes_stay(alloc: Global) -> Result<bool, AllocError> {
 
 #[test]
 fn bytes_in_quotes(rt: HostRuntime) {
-    assert!(rt; holds(bytes_stay(rt.alloc()), bytes_stay(rt.alloc())));
+    assert_holds(&rt, bytes_stay(rt.alloc()), bytes_stay(rt.alloc()));
 }
 
 /// Whether several sets go into commands of their own, each from number 0, behind what stands.
@@ -84,7 +81,7 @@ fn several(alloc: Global) -> Result<bool, AllocError> {
 
 #[test]
 fn several_sets(rt: HostRuntime) {
-    assert!(rt; holds(several(rt.alloc()), several(rt.alloc())));
+    assert_holds(&rt, several(rt.alloc()), several(rt.alloc()));
 }
 
 /// Whether no sets append nothing.
@@ -96,5 +93,5 @@ fn nothing_sent(alloc: Global) -> Result<bool, AllocError> {
 
 #[test]
 fn no_sets(rt: HostRuntime) {
-    assert!(rt; holds(nothing_sent(rt.alloc()), nothing_sent(rt.alloc())));
+    assert_holds(&rt, nothing_sent(rt.alloc()), nothing_sent(rt.alloc()));
 }
