@@ -3,14 +3,13 @@
 ghost use Rattle.std.proofs.Common.{lit<};
 ghost use Rattle.std.specs.Prelude.{[], refl, ◌∷◌};
 
-use crate::support::{first_of, written};
+use crate::support::{assert_refused, assert_same, assert_written, first_of};
 use mysql_buf::ParseBuf;
 use mysql_const::{Command, StatusFlags};
 use mysql_raw::{LeU16, ParseExt, RawInt, WireError};
 use mysql_raw_consts::{
     Const, ConstBytes, ConstBytesValue, ConstU8, ConstU32, Either, RawConst, RawFlags, Skip,
 };
-use std::process::Abort;
 
 /// The catalog's name after its length.
 struct Catalog;
@@ -31,90 +30,67 @@ struct Header;
 #[test]
 fn constants_written(rt: HostRuntime) {
     let header: ConstU8<Header, 0xfe> = ConstU8::new();
-    assert_eq!(rt;
-        written(&rt, rt.alloc(), &header).as_slice(),
-        [0xfe].as_slice()
-    );
+    assert_written(&rt, rt.alloc(), &header, &[0xfe]);
     let number: ConstU32<Header, 1> = ConstU32::new();
-    assert_eq!(rt;
-        written(&rt, rt.alloc(), &number).as_slice(),
-        [1, 0, 0, 0].as_slice()
-    );
-    assert_eq!(rt;
-        written(&rt, rt.alloc(), &Skip::<2>).as_slice(),
-        [0, 0].as_slice()
-    );
+    assert_written(&rt, rt.alloc(), &number, &[1, 0, 0, 0]);
+    assert_written(&rt, rt.alloc(), &Skip::<2>, &[0, 0]);
 }
 
 #[test]
 fn constants_read(rt: HostRuntime) {
     let mut buf = ParseBuf(&[0xfe, 9, 9, 1, 0, 0, 0]);
-    assert!(rt; first_of::<ConstU8<Header, 0xfe>>(rt.alloc(), &mut buf).is_ok());
-    assert!(rt; first_of::<Skip<2>>(rt.alloc(), &mut buf).is_ok());
-    assert!(rt;
-        matches!(
-            first_of::<ConstU32<Header, 2>>(rt.alloc(), &mut buf),
-            Err(WireError::BadConstant)
-        )
-    );
-    assert_eq!(rt; buf.len(), 4);
-    assert!(rt; first_of::<ConstU32<Header, 1>>(rt.alloc(), &mut buf).is_ok());
-    assert!(rt; buf.is_empty());
+    let _ = first_of::<ConstU8<Header, 0xfe>, ()>(&rt, rt.alloc(), (), &mut buf);
+    let _ = first_of::<Skip<2>, ()>(&rt, rt.alloc(), (), &mut buf);
+    assert_refused::<ConstU32<Header, 2>, ()>(&rt, rt.alloc(), (), buf.0, WireError::BadConstant);
+    assert_same(&rt, &buf.len(), &4);
+    let _ = first_of::<ConstU32<Header, 1>, ()>(&rt, rt.alloc(), (), &mut buf);
+    assert_same(&rt, &buf.len(), &0);
 }
 
 #[test]
 fn constant_bytes(rt: HostRuntime) {
     let catalog: ConstBytes<Catalog, 4> = ConstBytes::new();
-    assert_eq!(rt;
-        written(&rt, rt.alloc(), &catalog).as_slice(),
-        b"\x03def".as_slice()
+    assert_written(&rt, rt.alloc(), &catalog, b"\x03def");
+    assert_refused::<ConstBytes<Catalog, 4>, ()>(
+        &rt,
+        rt.alloc(),
+        (),
+        b"\x03dee",
+        WireError::BadConstant,
     );
-    let mut buf = ParseBuf(b"\x03dee");
-    assert!(rt;
-        matches!(
-            first_of::<ConstBytes<Catalog, 4>>(rt.alloc(), &mut buf),
-            Err(WireError::BadConstant)
-        )
-    );
-    assert_eq!(rt; buf.len(), 4);
 }
 
 #[test]
 fn one_of_two(rt: HostRuntime) {
     let one: Either<RawInt<u8>, RawInt<LeU16>> = Either::Right(RawInt::new(9));
-    assert_eq!(rt;
-        written(&rt, rt.alloc(), &one).as_slice(),
-        [9, 0].as_slice()
-    );
+    assert_written(&rt, rt.alloc(), &one, &[9, 0]);
     let mut buf = ParseBuf(&[7, 8]);
-    match buf.parse::<Either<RawInt<u8>, RawInt<LeU16>>>(rt.alloc(), Either::Left(())) {
-        Ok(Either::Left(value)) => assert_eq!(rt; value.0, 7),
-        _ => assert!(rt; false),
+    let read = buf
+        .parse::<Either<RawInt<u8>, RawInt<LeU16>>>(rt.alloc(), Either::Left(()))
+        .expect(&rt, "the first of two");
+    match read {
+        Either::Left(value) => assert_same(&rt, &value.0, &7),
+        Either::Right(_) => assert!(rt; false),
     }
-    assert_eq!(rt; buf.len(), 1);
+    assert_same(&rt, &buf.len(), &1);
 }
 
 #[test]
 fn the_held_of_two(rt: HostRuntime) {
     let left: Either<u8, u16> = Either::Left(1);
-    assert_eq!(rt; left.unwrap_left(), 1);
+    assert_same(&rt, &left.unwrap_left(), &1);
     let right: Either<u8, u16> = Either::Right(2);
-    assert_eq!(rt; right.unwrap_right(), 2);
+    assert_same(&rt, &right.unwrap_right(), &2);
 }
 
 #[test]
 fn flags_with_an_unknown_bit(rt: HostRuntime) {
     let mut buf = ParseBuf(&[2, 0x80, 9]);
-    match first_of::<RawFlags<StatusFlags, LeU16>>(rt.alloc(), &mut buf) {
-        Ok(flags) => {
-            assert_eq!(rt; flags.0, 0x8002);
-            assert_eq!(rt; flags.get(), StatusFlags::SERVER_STATUS_AUTOCOMMIT);
-            let bytes = written(&rt, rt.alloc(), &flags);
-            assert_eq!(rt; bytes.as_slice(), [2, 0x80].as_slice());
-        }
-        Err(_) => assert!(rt; false),
-    }
-    assert_eq!(rt; buf.len(), 1);
+    let flags = first_of::<RawFlags<StatusFlags, LeU16>, ()>(&rt, rt.alloc(), (), &mut buf);
+    assert_same(&rt, &flags.0, &0x8002);
+    assert_same(&rt, &flags.get(), &StatusFlags::SERVER_STATUS_AUTOCOMMIT);
+    assert_written(&rt, rt.alloc(), &flags, &[2, 0x80]);
+    assert_same(&rt, &buf.len(), &1);
 }
 
 #[test]
@@ -140,31 +116,20 @@ fn flags_with_named_bits_alone(rt: HostRuntime) {
 #[test]
 fn commands_by_their_numbers(rt: HostRuntime) {
     let ping: Const<Command, u8> = Const::new(Command::COM_PING);
-    assert_eq!(rt; written(&rt, rt.alloc(), &ping).as_slice(), [14].as_slice());
+    assert_written(&rt, rt.alloc(), &ping, &[14]);
     let mut buf = ParseBuf(&[14, 33]);
-    match first_of::<Const<Command, u8>>(rt.alloc(), &mut buf) {
-        Ok(value) => assert_eq!(rt; value.0, Command::COM_PING),
-        Err(_) => assert!(rt; false),
-    }
-    assert!(rt;
-        matches!(
-            first_of::<Const<Command, u8>>(rt.alloc(), &mut buf),
-            Err(WireError::UnknownValue)
-        )
-    );
-    assert_eq!(rt; buf.len(), 1);
+    let read = first_of::<Const<Command, u8>, ()>(&rt, rt.alloc(), (), &mut buf);
+    assert_same(&rt, &read.0, &Command::COM_PING);
+    assert_refused::<Const<Command, u8>, ()>(&rt, rt.alloc(), (), buf.0, WireError::UnknownValue);
+    assert_same(&rt, &buf.len(), &1);
 }
 
 #[test]
 fn a_number_without_a_command(rt: HostRuntime) {
     let mut buf = ParseBuf(&[33]);
-    match first_of::<RawConst<u8, Command>>(rt.alloc(), &mut buf) {
-        Ok(value) => {
-            assert_eq!(rt; value.0, 33);
-            assert!(rt; matches!(value.get(), Err(WireError::UnknownValue)));
-        }
-        Err(_) => assert!(rt; false),
-    }
+    let number = first_of::<RawConst<u8, Command>, ()>(&rt, rt.alloc(), (), &mut buf);
+    assert_same(&rt, &number.0, &33);
+    assert!(rt; matches!(number.get(), Err(WireError::UnknownValue)));
     let ping: RawConst<u8, Command> = RawConst::new(14);
     assert!(rt; matches!(ping.get(), Ok(Command::COM_PING)));
 }

@@ -1,150 +1,88 @@
 //! Texts in their representations.
 
-use crate::support::{first_of, written};
+use crate::support::{assert_bytes, assert_refused, assert_same, assert_written, first_of};
 use mysql_buf::ParseBuf;
-use mysql_raw::{LenEnc, ParseExt, VarLen, WireError};
+use mysql_raw::{LenEnc, VarLen, WireError};
 use mysql_raw_bytes::{
     BareBytes, BytesRepr, EofBytes, FixedLengthText, NullBytes, RawBytes, U8Bytes, U32Bytes,
 };
 use std::alloc::Global;
 use std::process::Abort;
 
-// The bytes of a text in a representation, through its bound.
-fn text<T: BytesRepr>(rt: &impl Abort, alloc: Global, bytes: &[u8]) -> Vec<u8> {
-    let value: RawBytes<T> = RawBytes::from(bytes);
-    written(rt, alloc, &value)
+// Asserts that a text in a representation, through its bound, is written as these bytes.
+fn assert_text<T: BytesRepr>(rt: &impl Abort, alloc: Global, text: &[u8], bytes: &[u8]) {
+    let value: RawBytes<T> = RawBytes::from(text);
+    assert_written(rt, alloc, &value, bytes);
 }
 
 #[test]
 fn texts_after_a_length(rt: HostRuntime) {
     let alloc = rt.alloc();
-    assert_eq!(rt;
-        text::<LenEnc>(&rt, alloc, b"ab").as_slice(),
-        b"\x02ab".as_slice()
-    );
-    assert_eq!(rt;
-        text::<U8Bytes>(&rt, alloc, b"ab").as_slice(),
-        b"\x02ab".as_slice()
-    );
-    assert_eq!(rt;
-        text::<U32Bytes>(&rt, alloc, b"a").as_slice(),
-        b"\x01\x00\x00\x00a".as_slice()
-    );
-    assert_eq!(rt;
-        text::<VarLen>(&rt, alloc, b"app").as_slice(),
-        b"\x06app".as_slice()
-    );
+    assert_text::<LenEnc>(&rt, alloc, b"ab", b"\x02ab");
+    assert_text::<U8Bytes>(&rt, alloc, b"ab", b"\x02ab");
+    assert_text::<U32Bytes>(&rt, alloc, b"a", b"\x01\x00\x00\x00a");
+    assert_text::<VarLen>(&rt, alloc, b"app", b"\x06app");
 }
 
 #[test]
 fn texts_without_a_length(rt: HostRuntime) {
     let alloc = rt.alloc();
-    assert_eq!(rt;
-        text::<NullBytes>(&rt, alloc, b"a\x00b").as_slice(),
-        b"a\x00".as_slice()
-    );
-    assert_eq!(rt;
-        text::<EofBytes>(&rt, alloc, b"ab").as_slice(),
-        b"ab".as_slice()
-    );
-    assert_eq!(rt;
-        text::<BareBytes<3>>(&rt, alloc, b"abcd").as_slice(),
-        b"abc".as_slice()
-    );
-    assert_eq!(rt;
-        text::<FixedLengthText<4>>(&rt, alloc, b"ab").as_slice(),
-        b"ab\x00\x00".as_slice()
-    );
-    assert_eq!(rt;
-        text::<FixedLengthText<1>>(&rt, alloc, b"ab").as_slice(),
-        b"a".as_slice()
-    );
+    assert_text::<NullBytes>(&rt, alloc, b"a\x00b", b"a\x00");
+    assert_text::<EofBytes>(&rt, alloc, b"ab", b"ab");
+    assert_text::<BareBytes<3>>(&rt, alloc, b"abcd", b"abc");
+    assert_text::<FixedLengthText<4>>(&rt, alloc, b"ab", b"ab\x00\x00");
+    assert_text::<FixedLengthText<1>>(&rt, alloc, b"ab", b"a");
 }
 
 #[test]
 fn texts_read(rt: HostRuntime) {
+    let alloc = rt.alloc();
     let mut buf = ParseBuf(b"\x02ab\x01c\x06appde\x00f");
-    match first_of::<RawBytes<LenEnc>>(rt.alloc(), &mut buf) {
-        Ok(value) => assert_eq!(rt; value.as_bytes(), b"ab".as_slice()),
-        Err(_) => assert!(rt; false),
-    }
-    match first_of::<RawBytes<U8Bytes>>(rt.alloc(), &mut buf) {
-        Ok(value) => assert_eq!(rt; value.as_bytes(), b"c".as_slice()),
-        Err(_) => assert!(rt; false),
-    }
-    match first_of::<RawBytes<VarLen>>(rt.alloc(), &mut buf) {
-        Ok(value) => assert_eq!(rt; value.as_bytes(), b"app".as_slice()),
-        Err(_) => assert!(rt; false),
-    }
-    match first_of::<RawBytes<NullBytes>>(rt.alloc(), &mut buf) {
-        Ok(value) => assert_eq!(rt; value.len(), 2),
-        Err(_) => assert!(rt; false),
-    }
-    assert_eq!(rt; buf.len(), 1);
+    let encoded = first_of::<RawBytes<LenEnc>, ()>(&rt, alloc, (), &mut buf);
+    assert_bytes(&rt, encoded.as_bytes(), b"ab");
+    let short = first_of::<RawBytes<U8Bytes>, ()>(&rt, alloc, (), &mut buf);
+    assert_bytes(&rt, short.as_bytes(), b"c");
+    let varying = first_of::<RawBytes<VarLen>, ()>(&rt, alloc, (), &mut buf);
+    assert_bytes(&rt, varying.as_bytes(), b"app");
+    let ended = first_of::<RawBytes<NullBytes>, ()>(&rt, alloc, (), &mut buf);
+    assert_same(&rt, &ended.len(), &2);
+    assert_same(&rt, &buf.len(), &1);
 }
 
 #[test]
 fn texts_refused(rt: HostRuntime) {
-    let mut buf = ParseBuf(b"abcd");
-    assert!(rt;
-        matches!(
-            buf.parse::<RawBytes<BareBytes<3>>>(rt.alloc(), 4),
-            Err(WireError::TooManyBytes)
-        )
-    );
-    assert!(rt;
-        matches!(
-            first_of::<RawBytes<NullBytes>>(rt.alloc(), &mut buf),
-            Err(WireError::UnexpectedEof)
-        )
-    );
-    assert!(rt;
-        matches!(
-            first_of::<RawBytes<FixedLengthText<5>>>(rt.alloc(), &mut buf),
-            Err(WireError::UnexpectedEof)
-        )
-    );
-    assert_eq!(rt; buf.len(), 4);
+    let alloc = rt.alloc();
+    let bytes = b"abcd";
+    let cut = WireError::UnexpectedEof;
+    assert_refused::<RawBytes<BareBytes<3>>, usize>(&rt, alloc, 4, bytes, WireError::TooManyBytes);
+    assert_refused::<RawBytes<NullBytes>, ()>(&rt, alloc, (), bytes, cut);
+    assert_refused::<RawBytes<FixedLengthText<5>>, ()>(&rt, alloc, (), bytes, cut);
 }
 
 #[test]
 fn bytes_as_they_stand(rt: HostRuntime) {
+    let alloc = rt.alloc();
     let three: [u8; 3] = [1, 2, 3];
-    assert_eq!(rt;
-        written(&rt, rt.alloc(), &three).as_slice(),
-        [1, 2, 3].as_slice()
-    );
+    assert_written(&rt, alloc, &three, &[1, 2, 3]);
     let mut buf = ParseBuf(b"abc");
-    match buf.parse::<&[u8]>(rt.alloc(), 2) {
-        Ok(bytes) => assert_eq!(rt; bytes, b"ab".as_slice()),
-        Err(_) => assert!(rt; false),
-    }
-    assert!(rt;
-        matches!(
-            buf.parse::<&[u8]>(rt.alloc(), 2),
-            Err(WireError::UnexpectedEof)
-        )
-    );
-    assert_eq!(rt; buf.len(), 1);
+    let bytes = first_of::<&[u8], usize>(&rt, alloc, 2, &mut buf);
+    assert_bytes(&rt, bytes, b"ab");
+    assert_refused::<&[u8], usize>(&rt, alloc, 2, buf.0, WireError::UnexpectedEof);
+    assert_same(&rt, &buf.len(), &1);
 }
 
 #[test]
 fn bytes_of_a_given_length(rt: HostRuntime) {
     let alloc = rt.alloc();
     let mut buf = ParseBuf(b"abcde");
-    match first_of::<[u8; 2]>(alloc, &mut buf) {
-        Ok(array) => assert_eq!(rt; array.as_slice(), b"ab".as_slice()),
-        Err(_) => assert!(rt; false),
-    }
-    match buf.parse::<ParseBuf>(alloc, 2) {
-        Ok(mut inner) => assert_eq!(rt; inner.eat_all(), b"cd".as_slice()),
-        Err(_) => assert!(rt; false),
-    }
-    let array = first_of::<[u8; 2]>(alloc, &mut buf);
-    assert!(rt; matches!(array, Err(WireError::UnexpectedEof)));
-    let inner = buf.parse::<ParseBuf>(alloc, 2);
-    assert!(rt; matches!(inner, Err(WireError::UnexpectedEof)));
-    assert_eq!(rt; buf.len(), 1);
+    let array = first_of::<[u8; 2], ()>(&rt, alloc, (), &mut buf);
+    assert_bytes(&rt, array.as_slice(), b"ab");
+    let mut inner = first_of::<ParseBuf, usize>(&rt, alloc, 2, &mut buf);
+    assert_bytes(&rt, inner.eat_all(), b"cd");
+    let cut = WireError::UnexpectedEof;
+    assert_refused::<[u8; 2], ()>(&rt, alloc, (), buf.0, cut);
+    assert_refused::<ParseBuf, usize>(&rt, alloc, 2, buf.0, cut);
+    assert_same(&rt, &buf.len(), &1);
 }
 
 #[test]
