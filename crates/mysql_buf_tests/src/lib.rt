@@ -5,6 +5,8 @@
 #![tactic(auto)]
 
 #[cfg(test)]
+mod numbers;
+#[cfg(test)]
 mod reading;
 #[cfg(test)]
 mod streams;

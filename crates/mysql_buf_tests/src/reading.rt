@@ -86,3 +86,20 @@ fn varlen_numbers(rt: HostRuntime) {
         assert_eq!(rt; buf.len(), left);
     }
 }
+
+#[test]
+fn parts_that_are_there(rt: HostRuntime) {
+    let bytes: &[u8] = &[
+        9, 0xfa, 2, b'a', b'b', 1, b'c', 1, 0, 0, 0, b'd', b'e', b'f', b'g',
+    ];
+    let mut buf = ParseBuf(bytes);
+    buf.skip(1);
+    assert_eq!(rt; buf.eat_lenenc_int(), 250);
+    assert_eq!(rt; buf.eat_lenenc_str(), b"ab".as_slice());
+    assert_eq!(rt; buf.eat_u8_str(), b"c".as_slice());
+    assert_eq!(rt; buf.eat_u32_str(), b"d".as_slice());
+    assert_eq!(rt; buf.checked_eat(1), Some(b"e".as_slice()));
+    assert_eq!(rt; buf.eat_buf(1).0, b"f".as_slice());
+    assert_eq!(rt; buf.checked_eat(2), None);
+    assert_eq!(rt; buf.eat(1), b"g".as_slice());
+}
