@@ -89,17 +89,22 @@ fn varlen_numbers(rt: HostRuntime) {
 
 #[test]
 fn parts_that_are_there(rt: HostRuntime) {
-    let bytes: &[u8] = &[
-        9, 0xfa, 2, b'a', b'b', 1, b'c', 1, 0, 0, 0, b'd', b'e', b'f', b'g',
-    ];
+    let bytes: &[u8] = &[0xfa, 1, b'a', b'b', b'c'];
+    assert_eq!(rt; ParseBuf(bytes).eat_lenenc_int(), 250);
+    assert_eq!(rt; ParseBuf(bytes).eat(2), [0xfa, 1].as_slice());
+    assert_eq!(rt; ParseBuf(bytes).eat_buf(1).0, [0xfa].as_slice());
+    assert_eq!(rt; ParseBuf(bytes).checked_eat(6), None);
     let mut buf = ParseBuf(bytes);
-    buf.skip(1);
-    assert_eq!(rt; buf.eat_lenenc_int(), 250);
-    assert_eq!(rt; buf.eat_lenenc_str(), b"ab".as_slice());
-    assert_eq!(rt; buf.eat_u8_str(), b"c".as_slice());
-    assert_eq!(rt; buf.eat_u32_str(), b"d".as_slice());
-    assert_eq!(rt; buf.checked_eat(1), Some(b"e".as_slice()));
-    assert_eq!(rt; buf.eat_buf(1).0, b"f".as_slice());
-    assert_eq!(rt; buf.checked_eat(2), None);
-    assert_eq!(rt; buf.eat(1), b"g".as_slice());
+    buf.skip(4);
+    assert_eq!(rt; buf.0, b"c".as_slice());
+}
+
+#[test]
+#[tactic(auto, unfolding(mysql_buf::specs::Reading::first))]
+fn texts_that_are_there(rt: HostRuntime) {
+    let text: &[u8] = &[2, b'a', b'b', b'c'];
+    assert_eq!(rt; ParseBuf(text).eat_lenenc_str(), b"ab".as_slice());
+    assert_eq!(rt; ParseBuf(text).eat_u8_str(), b"ab".as_slice());
+    let long: &[u8] = &[1, 0, 0, 0, b'd', b'e'];
+    assert_eq!(rt; ParseBuf(long).eat_u32_str(), b"d".as_slice());
 }
