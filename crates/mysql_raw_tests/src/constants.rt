@@ -96,21 +96,16 @@ fn flags_with_an_unknown_bit(rt: HostRuntime) {
 #[test]
 fn flags_with_named_bits_alone(rt: HostRuntime) {
     let mut buf = ParseBuf(&[2, 8, 2, 0x80]);
-    match first_of::<Const<StatusFlags, LeU16>>(rt.alloc(), &mut buf) {
-        Ok(flags) => {
-            assert_eq!(rt; flags.0, StatusFlags(0x802));
-            let bytes = written(&rt, rt.alloc(), &flags);
-            assert_eq!(rt; bytes.as_slice(), [2, 8].as_slice());
-        }
-        Err(_) => assert!(rt; false),
-    }
-    assert!(rt;
-        matches!(
-            first_of::<Const<StatusFlags, LeU16>>(rt.alloc(), &mut buf),
-            Err(WireError::UnknownValue)
-        )
+    let flags = first_of::<Const<StatusFlags, LeU16>, ()>(&rt, rt.alloc(), (), &mut buf);
+    assert_same(&rt, &flags.0, &StatusFlags(0x802));
+    assert_written(&rt, rt.alloc(), &flags, &[2, 8]);
+    assert_refused::<Const<StatusFlags, LeU16>, ()>(
+        &rt,
+        rt.alloc(),
+        (),
+        buf.0,
+        WireError::UnknownValue,
     );
-    assert_eq!(rt; buf.len(), 2);
 }
 
 #[test]
