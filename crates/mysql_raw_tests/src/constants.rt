@@ -5,7 +5,10 @@ ghost use Rattle.std.specs.Prelude.{[], refl, ◌∷◌};
 
 use crate::support::{assert_refused, assert_same, assert_written, first_of};
 use mysql_buf::ParseBuf;
-use mysql_const::{Command, StatusFlags};
+use mysql_const::{
+    BinlogDumpFlags, ColumnType, Command, GeometryType, ItemResult, MariadbBulkIndicator,
+    SessionStateType, StatusFlags,
+};
 use mysql_raw::{LeU16, ParseExt, RawInt, WireError};
 use mysql_raw_consts::{
     Const, ConstBytes, ConstBytesValue, ConstU8, ConstU32, Either, RawConst, RawFlags, Skip,
@@ -116,6 +119,25 @@ fn commands_by_their_numbers(rt: HostRuntime) {
     let read = first_of::<Const<Command, u8>, ()>(&rt, rt.alloc(), (), &mut buf);
     assert_same(&rt, &read.0, &Command::COM_PING);
     assert_refused::<Const<Command, u8>, ()>(&rt, rt.alloc(), (), buf.0, WireError::UnknownValue);
+    assert_same(&rt, &buf.len(), &1);
+}
+
+#[test]
+fn names_by_their_numbers(rt: HostRuntime) {
+    let alloc = rt.alloc();
+    let mut buf = ParseBuf(&[8, 1, 0xff, 1, 2, 5, 0, 9]);
+    let read = first_of::<Const<ColumnType, u8>, ()>(&rt, alloc, (), &mut buf);
+    assert_same(&rt, &read.0, &ColumnType::MYSQL_TYPE_LONGLONG);
+    let read = first_of::<Const<GeometryType, u8>, ()>(&rt, alloc, (), &mut buf);
+    assert_same(&rt, &read.0, &GeometryType::GEOM_POINT);
+    let read = first_of::<Const<ItemResult, i8>, ()>(&rt, alloc, (), &mut buf);
+    assert_same(&rt, &read.0, &ItemResult::INVALID_RESULT);
+    let read = first_of::<Const<SessionStateType, u8>, ()>(&rt, alloc, (), &mut buf);
+    assert_same(&rt, &read.0, &SessionStateType::SESSION_TRACK_SCHEMA);
+    let read = first_of::<Const<MariadbBulkIndicator, u8>, ()>(&rt, alloc, (), &mut buf);
+    assert_same(&rt, &read.0, &MariadbBulkIndicator::BULK_INDICATOR_DEFAULT);
+    let read = first_of::<Const<BinlogDumpFlags, LeU16>, ()>(&rt, alloc, (), &mut buf);
+    assert_same(&rt, &read.0, &BinlogDumpFlags(5));
     assert_same(&rt, &buf.len(), &1);
 }
 

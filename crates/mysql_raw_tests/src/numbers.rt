@@ -3,7 +3,8 @@
 use crate::support::{assert_refused, assert_same, assert_written, first_of};
 use mysql_buf::ParseBuf;
 use mysql_raw::{
-    IntRepr, LeI24, LeU24, LeU32UpperHalf, LeU56, LenEnc, MyDeserialize, RawInt, Readable, VarLen,
+    IntRepr, LeI16, LeI24, LeI32, LeI56, LeI64, LeU16, LeU24, LeU32, LeU32LowerHalf,
+    LeU32UpperHalf, LeU48, LeU56, LeU64, LenEnc, MyDeserialize, ParseExt, RawInt, Readable, VarLen,
     WireError,
 };
 use std::alloc::Global;
@@ -36,6 +37,81 @@ fn numbers_read(rt: HostRuntime) {
     assert_same(&rt, &signed.0, &-2);
     let half = first_of::<RawInt<LeU32UpperHalf>, ()>(&rt, alloc, (), &mut buf);
     assert_same(&rt, &half.0, &0x0403_0000);
+    assert_same(&rt, &buf.len(), &1);
+}
+
+#[test]
+fn signed_numbers(rt: HostRuntime) {
+    let alloc = rt.alloc();
+    assert_number::<i8>(&rt, alloc, -1, &[0xff]);
+    assert_number::<LeI16>(&rt, alloc, -2, &[0xfe, 0xff]);
+    assert_number::<LeI32>(&rt, alloc, -3, &[0xfd, 0xff, 0xff, 0xff]);
+    assert_number::<LeI56>(&rt, alloc, -4, &[0xfc, 0xff, 0xff, 0xff, 0xff, 0xff, 0xff]);
+    assert_number::<LeI64>(
+        &rt,
+        alloc,
+        -5,
+        &[0xfb, 0xff, 0xff, 0xff, 0xff, 0xff, 0xff, 0xff],
+    );
+    let mut buf = ParseBuf(&[
+        0xff, 0xfe, 0xff, 0xfd, 0xff, 0xff, 0xff, 0xfc, 0xff, 0xff, 0xff, 0xff, 0xff, 0xff, 0xfb,
+        0xff, 0xff, 0xff, 0xff, 0xff, 0xff, 0xff, 9,
+    ]);
+    let number = first_of::<RawInt<i8>, ()>(&rt, alloc, (), &mut buf);
+    assert_same(&rt, &number.0, &-1);
+    let number = first_of::<RawInt<LeI16>, ()>(&rt, alloc, (), &mut buf);
+    assert_same(&rt, &number.0, &-2);
+    let number = first_of::<RawInt<LeI32>, ()>(&rt, alloc, (), &mut buf);
+    assert_same(&rt, &number.0, &-3);
+    let number = first_of::<RawInt<LeI56>, ()>(&rt, alloc, (), &mut buf);
+    assert_same(&rt, &number.0, &-4);
+    let number = first_of::<RawInt<LeI64>, ()>(&rt, alloc, (), &mut buf);
+    assert_same(&rt, &number.0, &-5);
+    assert_same(&rt, &buf.len(), &1);
+}
+
+#[test]
+fn unsigned_numbers(rt: HostRuntime) {
+    let alloc = rt.alloc();
+    assert_number::<LeU16>(&rt, alloc, 0x0201, &[0x01, 0x02]);
+    assert_number::<LeU32>(&rt, alloc, 0x4030201, &[0x01, 0x02, 0x03, 0x04]);
+    assert_number::<LeU32LowerHalf>(&rt, alloc, 0x0605, &[0x05, 0x06]);
+    assert_number::<LeU48>(
+        &rt,
+        alloc,
+        0x60504030201,
+        &[0x01, 0x02, 0x03, 0x04, 0x05, 0x06],
+    );
+    assert_number::<LeU64>(
+        &rt,
+        alloc,
+        0x807060504030201,
+        &[0x01, 0x02, 0x03, 0x04, 0x05, 0x06, 0x07, 0x08],
+    );
+    let mut buf = ParseBuf(&[
+        0x01, 0x02, 0x01, 0x02, 0x03, 0x04, 0x05, 0x06, 0x01, 0x02, 0x03, 0x04, 0x05, 0x06, 0x01,
+        0x02, 0x03, 0x04, 0x05, 0x06, 0x07, 0x08, 9,
+    ]);
+    let number = first_of::<RawInt<LeU16>, ()>(&rt, alloc, (), &mut buf);
+    assert_same(&rt, &number.0, &0x0201);
+    let number = first_of::<RawInt<LeU32>, ()>(&rt, alloc, (), &mut buf);
+    assert_same(&rt, &number.0, &0x4030201);
+    let number = first_of::<RawInt<LeU32LowerHalf>, ()>(&rt, alloc, (), &mut buf);
+    assert_same(&rt, &number.0, &0x0605);
+    let number = first_of::<RawInt<LeU48>, ()>(&rt, alloc, (), &mut buf);
+    assert_same(&rt, &number.0, &0x60504030201);
+    let number = first_of::<RawInt<LeU64>, ()>(&rt, alloc, (), &mut buf);
+    assert_same(&rt, &number.0, &0x807060504030201);
+    assert_same(&rt, &buf.len(), &1);
+}
+
+#[test]
+fn a_number_that_is_there(rt: HostRuntime) {
+    let mut buf = ParseBuf(&[7, 8]);
+    match buf.parse_unchecked::<RawInt<u8>>(rt.alloc(), ()) {
+        Ok(number) => assert_same(&rt, &number.0, &7),
+        Err(_) => assert!(rt; false),
+    }
     assert_same(&rt, &buf.len(), &1);
 }
 

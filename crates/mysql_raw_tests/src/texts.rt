@@ -4,7 +4,8 @@ use crate::support::{assert_bytes, assert_refused, assert_same, assert_written, 
 use mysql_buf::ParseBuf;
 use mysql_raw::{LenEnc, VarLen, WireError};
 use mysql_raw_bytes::{
-    BareBytes, BytesRepr, EofBytes, FixedLengthText, NullBytes, RawBytes, U8Bytes, U32Bytes,
+    BareBytes, BareU8Bytes, BareU16Bytes, BytesRepr, EofBytes, FixedLengthText, NullBytes,
+    RawBytes, U8Bytes, U32Bytes,
 };
 use std::alloc::Global;
 use std::process::Abort;
@@ -32,6 +33,19 @@ fn texts_without_a_length(rt: HostRuntime) {
     assert_text::<BareBytes<3>>(&rt, alloc, b"abcd", b"abc");
     assert_text::<FixedLengthText<4>>(&rt, alloc, b"ab", b"ab\x00\x00");
     assert_text::<FixedLengthText<1>>(&rt, alloc, b"ab", b"a");
+}
+
+#[test]
+fn texts_of_a_length_that_is_known(rt: HostRuntime) {
+    let alloc = rt.alloc();
+    assert_text::<BareU8Bytes>(&rt, alloc, b"ab", b"ab");
+    assert_text::<BareU16Bytes>(&rt, alloc, b"cd", b"cd");
+    let mut buf = ParseBuf(b"abcde");
+    let short = first_of::<RawBytes<BareU8Bytes>, usize>(&rt, alloc, 2, &mut buf);
+    assert_bytes(&rt, short.as_bytes(), b"ab");
+    let long = first_of::<RawBytes<BareU16Bytes>, usize>(&rt, alloc, 2, &mut buf);
+    assert_bytes(&rt, long.as_bytes(), b"cd");
+    assert_same(&rt, &buf.len(), &1);
 }
 
 #[test]
