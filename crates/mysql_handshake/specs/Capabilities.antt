@@ -1,7 +1,6 @@
 -- The capabilities that say which parts a packet has.
 -- (MySQL: Client/Server Protocol, "Capabilities Flags".)
-use Rattle.std.specs.Prelude.{◌==◌, ℕ, Bool}
-use Rattle.std.specs.Int.RustNames.{bit_and}
+use Rattle.std.specs.Prelude.{ℕ}
 
 abbrev pub connect_with_db : ℕ
 connect_with_db = 8
@@ -17,7 +16,3 @@ connect_attrs = 0x100000
 
 abbrev pub plugin_auth_lenenc_client_data : ℕ
 plugin_auth_lenenc_client_data = 0x200000
-
--- whether a flag is among these
-abbrev pub has_flag : ℕ → ℕ → Bool
-has_flag flag capabilities = bit_and capabilities flag == flag

@@ -8,12 +8,12 @@ use Rattle.byteorder.specs.Endian.{little_bytes}
 use Rattle.mysql_auth.specs.Plugins.{without_zero}
 use Rattle.mysql_buf.specs.Writing.{front}
 use Rattle.mysql_const.specs.MariadbCapabilities.{mariadb_capabilities}
-use Rattle.mysql_handshake.specs.Capabilities.{has_flag, plugin_auth, secure_connection}
+use Rattle.mysql_handshake.specs.Capabilities.{plugin_auth, secure_connection}
 use Rattle.mysql_raw.specs.Forms.{bytes_at, little_at, upper_half, upper_half_at}
 use Rattle.mysql_raw.specs.Wire.{Reading, ◌>>=◌}
 use Rattle.mysql_raw_bytes.specs.Texts.{bare_at, fixed_text, null_text, null_text_at}
 use Rattle.mysql_raw_consts.specs.Constants.{named_at, zeros_at}
-use Rattle.mysql_raw_consts.specs.Flags.{status_named}
+use Rattle.mysql_raw_consts.specs.Flags.{contains, status_named}
 
 -- what a handshake packet says; of a second scramble the first 247 bytes count
 pub record HandshakeFields : Type 0 where
@@ -36,7 +36,7 @@ scramble_front text = front text 247
 -- the length that is written for both scrambles: that of the second and 8 where a plugin is named and there is a second one, else 0
 abbrev pub scrambles_length : ℕ → Option (List ℕ) → ℕ
 scrambles_length capabilities None = 0
-scrambles_length capabilities (Some text) = if has_flag plugin_auth capabilities then length (scramble_front text) + 8 else 0
+scrambles_length capabilities (Some text) = if contains capabilities plugin_auth then length (scramble_front text) + 8 else 0
 
 -- a second scramble, where there is one
 abbrev pub scramble_written : Option (List ℕ) → List ℕ
@@ -116,14 +116,14 @@ fixed_at bytes = do
 -- with SECURE_CONNECTION a second scramble, of the length less 8 but at least 13 bytes
 unfoldable pub scramble_at : ℕ → ℕ → List ℕ → Reading (Option (List ℕ))
 scramble_at capabilities len bytes =
-    if has_flag secure_connection capabilities then (do
+    if contains capabilities secure_connection then (do
       text ← bare_at 247 (max 13 (len - 8)) bytes
       Ok (Some text.0, text.1))
     else Ok (None, bytes)
 
 -- with PLUGIN_AUTH a name to the end, less one trailing zero
 unfoldable pub name_at : ℕ → List ℕ → Reading (Option (List ℕ))
-name_at capabilities bytes = if has_flag plugin_auth capabilities then Ok (Some (without_zero bytes), []) else Ok (None, bytes)
+name_at capabilities bytes = if contains capabilities plugin_auth then Ok (Some (without_zero bytes), []) else Ok (None, bytes)
 
 -- A version byte, the server's version to a zero, 31 bytes of fixed fields, which are there together or not at all, the second
 -- scramble and the plugin's name.

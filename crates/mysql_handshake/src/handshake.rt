@@ -8,7 +8,7 @@ ghost use Rattle.bstr.specs.Utf8.{lossy_chars};
 ghost use Rattle.mysql_auth.specs.Plugins.{plugin_named, without_zero};
 ghost use Rattle.mysql_auth.specs.Views.{plugin_view};
 ghost use Rattle.mysql_buf.specs.Writing.{front};
-ghost use Rattle.mysql_handshake.specs.Capabilities.{has_flag, plugin_auth, secure_connection};
+ghost use Rattle.mysql_handshake.specs.Capabilities.{plugin_auth, secure_connection};
 ghost use Rattle.mysql_handshake.specs.HandshakeViews.{fixed_view, handshake_view};
 ghost use Rattle.mysql_handshake.specs.Handshakes.{HandshakeFields, fixed, fixed_at, fixed_written, handshake, handshake_at, name_at, name_written, nonce_of, scramble_at, scramble_front, scramble_written, scrambles_length};
 ghost use Rattle.mysql_handshake.specs.Versions.{mariadb_version, version_of};
@@ -17,6 +17,7 @@ ghost use Rattle.mysql_raw.specs.Laws.{unsized};
 ghost use Rattle.mysql_raw.specs.Wire.{Gives, GivesPart, Tells};
 ghost use Rattle.mysql_raw_bytes.specs.Texts.{null_text};
 ghost use Rattle.mysql_raw_consts.specs.Either.{either_written};
+ghost use Rattle.mysql_raw_consts.specs.Flags.{contains};
 ghost use Rattle.mysql_raw.specs.declared.error.WireError.TheVariants as wire;
 
 use crate::versions::{mariadb_version, version_of};
@@ -78,14 +79,14 @@ fn scramble_front(text: &[u8]) -> &[u8]
 
 #[tactic(auto, unfolding(bitflags::proofs::OnLiterals::bitflags_on_literals))]
 fn has_scramble_2(capabilities: CapabilityFlags) -> bool
-    ensures { result ≡ has_flag secure_connection capabilities.0 }
+    ensures { result ≡ contains capabilities.0 secure_connection }
 {
     capabilities.contains(CapabilityFlags::CLIENT_SECURE_CONNECTION)
 }
 
 #[tactic(auto, unfolding(bitflags::proofs::OnLiterals::bitflags_on_literals))]
 fn has_plugin_name(capabilities: CapabilityFlags) -> bool
-    ensures { result ≡ has_flag plugin_auth capabilities.0 }
+    ensures { result ≡ contains capabilities.0 plugin_auth }
 {
     capabilities.contains(CapabilityFlags::CLIENT_PLUGIN_AUTH)
 }

@@ -9,8 +9,9 @@ use Rattle.mysql_raw.specs.Forms.{little_at}
 use Rattle.mysql_raw.specs.Wire.{Reading, ◌>>=◌}
 use Rattle.mysql_raw_bytes.specs.Texts.{null_text, null_text_at, u8_text_at}
 use Rattle.mysql_raw_consts.specs.Constants.{constant_at}
+use Rattle.mysql_raw_consts.specs.Flags.{contains}
 use Rattle.mysql_login.specs.Attributes.{Attribute, attributes, attributes_at}
-use Rattle.mysql_handshake.specs.Capabilities.{connect_attrs, has_flag, plugin_auth}
+use Rattle.mysql_handshake.specs.Capabilities.{connect_attrs, plugin_auth}
 use Rattle.mysql_login.specs.Parts.{if_held, if_there, plugin_before_zero_at, plugin_text}
 
 -- what may stand last: the collation, the plugin, the attributes
@@ -32,8 +33,8 @@ more_data p = concat (little_bytes 2 p.character_set ∷ if_held plugin_text p.p
 unfoldable pub more_data_at : ℕ → List ℕ → Reading MoreFields
 more_data_at capabilities bytes = do
   set ← little_at 2 bytes
-  plugin ← if_there (has_flag plugin_auth capabilities) plugin_before_zero_at set.1
-  attributes ← if_there (has_flag connect_attrs capabilities) attributes_at plugin.1
+  plugin ← if_there (contains capabilities plugin_auth) plugin_before_zero_at set.1
+  attributes ← if_there (contains capabilities connect_attrs) attributes_at plugin.1
   Ok (record { character_set = set.0; plugin = plugin.0; attributes = attributes.0 }, attributes.1)
 
 -- the user, the answer to the scramble, the database, and what may stand last

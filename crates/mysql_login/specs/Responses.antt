@@ -6,8 +6,9 @@ use Rattle.mysql_auth.specs.Plugins.{Plugin}
 use Rattle.mysql_buf.specs.Writing.{front, lenenc_str, u8_str}
 use Rattle.mysql_raw.specs.Wire.{Reading, ◌>>=◌}
 use Rattle.mysql_raw_bytes.specs.Texts.{lenenc_text_at, null_text, null_text_at, u8_text_at}
+use Rattle.mysql_raw_consts.specs.Flags.{contains}
 use Rattle.mysql_login.specs.Attributes.{Attribute, attributes, attributes_at}
-use Rattle.mysql_handshake.specs.Capabilities.{connect_attrs, connect_with_db, has_flag, plugin_auth, plugin_auth_lenenc_client_data, secure_connection}
+use Rattle.mysql_handshake.specs.Capabilities.{connect_attrs, connect_with_db, plugin_auth, plugin_auth_lenenc_client_data, secure_connection}
 use Rattle.mysql_login.specs.Parts.{if_held, if_there, marked, plugin_text, plugin_to_zero_at}
 use Rattle.mysql_login.specs.SslRequests.{SslRequestFields, ssl_request, ssl_request_at}
 
@@ -23,19 +24,19 @@ pub record ResponseFields : Type 0 where
 -- the answer to the scramble: after its length as a length-encoded number, after its length in one byte, or before a zero
 unfoldable pub scramble : ℕ → List ℕ → List ℕ
 scramble capabilities text =
-    if has_flag plugin_auth_lenenc_client_data capabilities then lenenc_str text
-    else if has_flag secure_connection capabilities then u8_str text
+    if contains capabilities plugin_auth_lenenc_client_data then lenenc_str text
+    else if contains capabilities secure_connection then u8_str text
     else null_text text
 
 unfoldable pub scramble_at : ℕ → List ℕ → Reading (List ℕ)
 scramble_at capabilities bytes =
-    if has_flag plugin_auth_lenenc_client_data capabilities then lenenc_text_at bytes
-    else if has_flag secure_connection capabilities then u8_text_at bytes
+    if contains capabilities plugin_auth_lenenc_client_data then lenenc_text_at bytes
+    else if contains capabilities secure_connection then u8_text_at bytes
     else null_text_at bytes
 
 -- whether its length is written in one byte
 abbrev pub has_counted_scramble : ℕ → Bool
-has_counted_scramble capabilities = not (has_flag plugin_auth_lenenc_client_data capabilities) && has_flag secure_connection capabilities
+has_counted_scramble capabilities = not (contains capabilities plugin_auth_lenenc_client_data) && contains capabilities secure_connection
 
 -- as much of the answer to the scramble as its length can say
 abbrev pub counted_scramble : ℕ → List ℕ → List ℕ
@@ -54,9 +55,9 @@ response_at bytes = do
   request ← ssl_request_at bytes
   user ← null_text_at request.1
   scramble ← scramble_at request.0.capabilities user.1
-  database ← if_there (has_flag connect_with_db request.0.capabilities) null_text_at scramble.1
-  plugin ← if_there (has_flag plugin_auth request.0.capabilities) plugin_to_zero_at database.1
-  attributes ← if_there (has_flag connect_attrs request.0.capabilities) attributes_at plugin.1
+  database ← if_there (contains request.0.capabilities connect_with_db) null_text_at scramble.1
+  plugin ← if_there (contains request.0.capabilities plugin_auth) plugin_to_zero_at database.1
+  attributes ← if_there (contains request.0.capabilities connect_attrs) attributes_at plugin.1
   Ok (
     record {
       request = request.0;

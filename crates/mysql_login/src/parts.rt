@@ -3,11 +3,11 @@
 ghost use Rattle.std.specs.Prelude.{◌≡◌, IfOk, Ok, map, option_map, IsOkUnless};
 ghost use Rattle.std.specs.Cow.{cow_slice_items};
 ghost use Rattle.mysql_auth.specs.Views.{plugin_view};
-ghost use Rattle.mysql_handshake.specs.Capabilities.{has_flag};
 ghost use Rattle.mysql_login.specs.Parts.{if_held, if_there, or_empty, plugin_before_zero_at, plugin_to_zero_at};
 ghost use Rattle.mysql_login.specs.AttributeViews.{attributes_view, text_attribute};
 ghost use Rattle.mysql_raw.specs.Wire.{GivesPart};
 ghost use Rattle.mysql_raw.specs.declared.error.WireError.TheVariants as wire;
+ghost use Rattle.mysql_raw_consts.specs.Flags.{contains};
 
 use crate::attributes::ConnectAttributes;
 use bitflags::Flags;
@@ -21,7 +21,7 @@ use std::borrow::CowSlice;
 
 // Whether a flag is among these.
 pub(crate) fn has(capabilities: CapabilityFlags, flag: CapabilityFlags) -> bool
-    ensures { result ≡ has_flag flag.0 capabilities.0 }
+    ensures { result ≡ contains capabilities.0 flag.0 }
 {
     capabilities.contains(flag)
 }

@@ -1,6 +1,8 @@
 //! Attributes of a connection.
 
-use crate::support::{assert_refused, assert_texts, assert_written, once_more, one_text, whole};
+use crate::support::{
+    assert_made, assert_owned, assert_refused, assert_texts, once_more, one_text, whole,
+};
 use mysql_login::ConnectAttributes;
 use mysql_raw::WireError;
 use std::alloc::{AllocError, Global};
@@ -35,14 +37,15 @@ const ATTRIBUTE: &[u8] = b"\x0a\x03key\x05value";
 #[test]
 fn written_after_their_total(rt: HostRuntime) {
     let alloc = rt.alloc();
+    assert_made(&rt, alloc, attribute(alloc), attribute(alloc), ATTRIBUTE);
+}
+
+#[test]
+fn copies_are_written(rt: HostRuntime) {
+    let alloc = rt.alloc();
     let all = once_more(&rt, attribute(alloc), attribute(alloc));
-    assert_written(&rt, alloc, &all, ATTRIBUTE);
-    let copy = once_more(&rt, all.clone(alloc), all.clone(alloc));
-    assert_written(&rt, alloc, &copy, ATTRIBUTE);
-    match all.into_owned(alloc) {
-        Ok(owned) => assert_written(&rt, alloc, &owned, ATTRIBUTE),
-        Err(_) => {}
-    }
+    assert_made(&rt, alloc, all.clone(alloc), all.clone(alloc), ATTRIBUTE);
+    assert_owned(&rt, alloc, all.into_owned(alloc), ATTRIBUTE);
 }
 
 #[test]

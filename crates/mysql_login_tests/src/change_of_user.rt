@@ -1,7 +1,8 @@
 //! The command that logs another user in.
 
 use crate::support::{
-    assert_cut_off, assert_refused, assert_same, assert_written, once_more, one_text, whole,
+    assert_copied, assert_cut_off, assert_made, assert_owned, assert_refused, assert_same,
+    assert_written, once_more, one_text, whole,
 };
 use mysql_auth::AuthPlugin;
 use mysql_const::CapabilityFlags;
@@ -31,14 +32,21 @@ fn command(alloc: Global) -> Result<ComChangeUser<'static>, AllocError> {
 #[test]
 fn a_command_is_written(rt: HostRuntime) {
     let alloc = rt.alloc();
+    assert_made(&rt, alloc, command(alloc), command(alloc), COMMAND);
+}
+
+#[test]
+fn a_command_is_copied(rt: HostRuntime) {
+    let alloc = rt.alloc();
     let command = once_more(&rt, command(alloc), command(alloc));
-    assert_written(&rt, alloc, &command, COMMAND);
-    let copy = once_more(&rt, command.clone(alloc), command.clone(alloc));
-    assert_same(&rt, &copy, &command);
-    match command.into_owned(alloc) {
-        Ok(owned) => assert_written(&rt, alloc, &owned, COMMAND),
-        Err(_) => {}
-    }
+    assert_copied(&rt, &command, command.clone(alloc), command.clone(alloc));
+}
+
+#[test]
+fn an_owned_command_is_written(rt: HostRuntime) {
+    let alloc = rt.alloc();
+    let command = once_more(&rt, command(alloc), command(alloc));
+    assert_owned(&rt, alloc, command.into_owned(alloc), COMMAND);
 }
 
 #[test]
@@ -46,8 +54,12 @@ fn no_attributes_are_written(rt: HostRuntime) {
     let alloc = rt.alloc();
     let command = ComChangeUser::new().with_more_data(Some(ComChangeUserMoreData::new(33)));
     assert_written(&rt, alloc, &command, b"\x11\0\0\0\x21\0\0");
-    let bare: ComChangeUser = Default::default();
-    assert_written(&rt, alloc, &bare, b"\x11\0\0\0");
+}
+
+#[test]
+fn a_bare_command_is_written(rt: HostRuntime) {
+    let command: ComChangeUser = Default::default();
+    assert_written(&rt, rt.alloc(), &command, b"\x11\0\0\0");
 }
 
 #[test]

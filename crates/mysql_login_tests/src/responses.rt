@@ -1,8 +1,8 @@
 //! Answers to the handshake.
 
 use crate::support::{
-    assert_bytes, assert_cut_off, assert_same, assert_texts, assert_written, once_more, one_text,
-    whole, written,
+    assert_bytes, assert_copied, assert_cut_off, assert_made, assert_same, assert_texts, once_more,
+    one_text, whole, written,
 };
 use indexmap::IndexMap;
 use mysql_auth::AuthPlugin;
@@ -53,27 +53,39 @@ fn with_attributes(alloc: Global) -> Result<HandshakeResponse<'static>, AllocErr
 #[test]
 fn the_answer_of_root(rt: HostRuntime) {
     let alloc = rt.alloc();
-    let response = once_more(
+    assert_made(
         &rt,
+        alloc,
         response_of_root(alloc, None, None),
         response_of_root(alloc, None, None),
+        OF_ROOT,
     );
-    assert_written(&rt, alloc, &response, OF_ROOT);
-    let response = once_more(
+    assert_made(
         &rt,
+        alloc,
         response_of_root(alloc, database(), None),
         response_of_root(alloc, database(), None),
+        WITH_DATABASE,
     );
-    assert_written(&rt, alloc, &response, WITH_DATABASE);
 }
 
 #[test]
 fn an_answer_with_attributes(rt: HostRuntime) {
     let alloc = rt.alloc();
+    assert_made(
+        &rt,
+        alloc,
+        with_attributes(alloc),
+        with_attributes(alloc),
+        WITH_ATTRIBUTES,
+    );
+}
+
+#[test]
+fn an_answer_is_copied(rt: HostRuntime) {
+    let alloc = rt.alloc();
     let response = once_more(&rt, with_attributes(alloc), with_attributes(alloc));
-    assert_written(&rt, alloc, &response, WITH_ATTRIBUTES);
-    let copy = once_more(&rt, response.clone(alloc), response.clone(alloc));
-    assert_same(&rt, &copy, &response);
+    assert_copied(&rt, &response, response.clone(alloc), response.clone(alloc));
 }
 
 #[test]

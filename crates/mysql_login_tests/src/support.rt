@@ -96,6 +96,42 @@ pub fn once_more<T: Drop, E: Debug + Drop>(
     }
 }
 
+/// Asserts that what a call made, or the same call once more, is written as these bytes.
+pub fn assert_made<T: MySerialize + Drop>(
+    rt: &impl Abort,
+    alloc: Global,
+    first: Result<T, AllocError>,
+    second: Result<T, AllocError>,
+    bytes: &[u8],
+) {
+    let made = once_more(rt, first, second);
+    assert_written(rt, alloc, &made, bytes);
+}
+
+/// Asserts that a copy, or the same copy once more, is the value that was copied.
+pub fn assert_copied<T: PartialEq + Debug + Drop>(
+    rt: &impl Abort,
+    value: &T,
+    first: Result<T, AllocError>,
+    second: Result<T, AllocError>,
+) {
+    let copy = once_more(rt, first, second);
+    assert_same(rt, &copy, value);
+}
+
+/// Asserts that what borrows nothing is written as these bytes, where memory was not refused.
+pub fn assert_owned<T: MySerialize + Drop, E: Drop>(
+    rt: &impl Abort,
+    alloc: Global,
+    owned: Result<T, E>,
+    bytes: &[u8],
+) {
+    match owned {
+        Ok(owned) => assert_written(rt, alloc, &owned, bytes),
+        Err(_) => {}
+    }
+}
+
 /// One pair of texts.
 pub fn one_text(
     alloc: Global,

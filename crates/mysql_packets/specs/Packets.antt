@@ -1,8 +1,7 @@
 -- The packets of a server's reply, each as read from its payload.
 -- MySQL: Client/Server Protocol, "OK_Packet", "EOF_Packet", "ERR_Packet", "Column Definition", "Text Resultset Row",
 -- "Binary Protocol Resultset Row" and "COM_STMT_PREPARE Response"; MariaDB: 'Progress report' of "ERR_Packet".
-use Rattle.std.specs.Prelude.{ℕ, zero, suc, ◌+◌, ◌/◌, ◌%◌, ◌^◌, List, [], ◌∷◌, length, Bool, Option, Some, None, Ok, Err, nat_lt, ◌==◌, if◌then◌else◌}
-use Rattle.std.specs.Int.RustNames.{bit_and}
+use Rattle.std.specs.Prelude.{ℕ, zero, suc, ◌+◌, ◌/◌, ◌%◌, ◌^◌, List, [], ◌∷◌, length, Bool, Option, Some, None, Ok, ◌==◌, if◌then◌else◌}
 use Rattle.byteorder.specs.Endian.{little_number}
 use Rattle.mysql_cells.specs.declared.value.Value.{Value}
 use Rattle.mysql_cells.specs.declared.value.Value.TheVariants.{NULL}
@@ -10,22 +9,17 @@ use Rattle.mysql_cells.specs.Cells.{column_cell_at, text_cell_at}
 use Rattle.mysql_const.specs.declared.column_flags.ColumnFlags.{ColumnFlags}
 use Rattle.mysql_const.specs.declared.column_type.ColumnType.{ColumnType}
 use Rattle.mysql_const.specs.ColumnTypes.{column_type_named}
-use Rattle.mysql_wire.specs.WireError.TheVariants.{UnexpectedEof}
-use Rattle.mysql_wire.specs.Wire.{Reading, ◌>>=◌}
+use Rattle.mysql_wire.specs.Wire.{Reading, ◌>>=◌, from_block}
 use Rattle.mysql_wire.specs.Forms.{bytes_at, lenenc_number_at, little_at}
 use Rattle.mysql_wire.specs.Texts.{lenenc_text_at}
 use Rattle.mysql_wire.specs.Lists.{elements_at}
 use Rattle.mysql_wire.specs.Constants.{constant_at, named_at, text_constant_at, zeros_at}
-use Rattle.mysql_wire.specs.Flags.{status_named}
+use Rattle.mysql_wire.specs.Flags.{contains, status_named}
 
 -- None for a field that holds no bytes.
 abbrev pub unless_empty : List ℕ → Option (List ℕ)
 unless_empty [] = None
 unless_empty (b ∷ bytes) = Some (b ∷ bytes)
-
--- These flags stand in a set of flags.
-abbrev pub contains : ℕ → ℕ → Bool
-contains set flags = bit_and set flags == flags
 
 -- Capabilities, by their flags.
 abbrev pub protocol_41 : ℕ → Bool
@@ -185,7 +179,7 @@ statement_fields_at bytes = do
 
 -- A statement packet; its twelve bytes are there together or not at all.
 unfoldable pub statement_at : List ℕ → Reading Statement
-statement_at bytes = if nat_lt (length bytes) 12 then Err UnexpectedEof else statement_fields_at bytes
+statement_at bytes = from_block 12 statement_fields_at bytes
 
 -- What a column packet says.
 pub record ColumnDefinition : Type 0 where
@@ -204,17 +198,38 @@ pub record ColumnDefinition : Type 0 where
 abbrev pub catalog : List ℕ
 catalog = 3 ∷ 100 ∷ 101 ∷ 102 ∷ []
 
--- A column packet; its last 13 bytes are there together or not at all.
-unfoldable pub column_at : List ℕ → Reading ColumnDefinition
-column_at bytes = do
-  def ← text_constant_at 4 catalog bytes
-  schema ← lenenc_text_at def.1
+-- The names of a column: of its schema, of its table in the query and in the schema, and its own in the query and in the table.
+pub record ColumnNames : Type 0 where
+  pub schema : List ℕ
+  pub table : List ℕ
+  pub org_table : List ℕ
+  pub name : List ℕ
+  pub org_name : List ℕ
+
+unfoldable pub column_names_at : List ℕ → Reading ColumnNames
+column_names_at bytes = do
+  schema ← lenenc_text_at bytes
   table ← lenenc_text_at schema.1
   org_table ← lenenc_text_at table.1
   name ← lenenc_text_at org_table.1
   org_name ← lenenc_text_at name.1
-  block ← bytes_at 13 org_name.1
-  size ← constant_at 1 12 block.0
+  Ok (
+    record { schema = schema.0; table = table.0; org_table = org_table.0; name = name.0; org_name = org_name.0 },
+    org_name.1,
+  )
+
+-- The fields of a column that have a fixed length.
+pub record ColumnFields : Type 0 where
+  pub character_set : ℕ
+  pub column_length : ℕ
+  pub column_type : ColumnType
+  pub flags : ColumnFlags
+  pub decimals : ℕ
+
+-- The fixed fields: 0c, which counts them, and each; two filler bytes behind them are passed over.
+unfoldable pub column_fields_at : List ℕ → Reading ColumnFields
+column_fields_at bytes = do
+  size ← constant_at 1 12 bytes
   character_set ← little_at 2 size.1
   column_length ← little_at 4 character_set.1
   column_type ← named_at column_type_named (little_at 1) column_length.1
@@ -222,19 +237,38 @@ column_at bytes = do
   decimals ← little_at 1 flags.1
   Ok (
     record {
-      schema = schema.0;
-      table = table.0;
-      org_table = org_table.0;
-      name = name.0;
-      org_name = org_name.0;
       character_set = character_set.0;
       column_length = column_length.0;
       column_type = column_type.0;
       flags = record { 0 = flags.0 };
       decimals = decimals.0;
     },
-    block.1,
+    decimals.1,
   )
+
+-- A column of these names and fields.
+abbrev pub column_with : ColumnNames → ColumnFields → ColumnDefinition
+column_with names fields = record {
+  schema = names.schema;
+  table = names.table;
+  org_table = names.org_table;
+  name = names.name;
+  org_name = names.org_name;
+  character_set = fields.character_set;
+  column_length = fields.column_length;
+  column_type = fields.column_type;
+  flags = fields.flags;
+  decimals = fields.decimals;
+}
+
+-- A column packet; its last 13 bytes are there together or not at all.
+unfoldable pub column_at : List ℕ → Reading ColumnDefinition
+column_at bytes = do
+  def ← text_constant_at 4 catalog bytes
+  names ← column_names_at def.1
+  block ← bytes_at 13 names.1
+  fields ← column_fields_at block.0
+  Ok (column_with names.0 fields.0, block.1)
 
 -- A text row: a cell for each column.
 abbrev pub text_row_at : List ColumnDefinition → List ℕ → Reading (List Value)

@@ -7,7 +7,9 @@ use Rattle.mysql_packets.specs.declared.server_fault.ServerError.{ServerError}
 use Rattle.mysql_packets.specs.declared.server_fault.ProgressReport.{ProgressReport}
 use Rattle.mysql_packets.specs.declared.statement.StmtPacket.{StmtPacket}
 use Rattle.mysql_packets.specs.declared.column.Column.{Column}
-use Rattle.mysql_packets.specs.Packets.{Okay, ServerFault, Report, Statement, ColumnDefinition}
+use Rattle.mysql_packets.specs.declared.column.FixedFields.{FixedFields}
+use Rattle.mysql_packets.specs.declared.column.Names.{Names}
+use Rattle.mysql_packets.specs.Packets.{Okay, ServerFault, Report, Statement, ColumnDefinition, ColumnFields, ColumnNames}
 
 -- Bytes, where there are any.
 abbrev pub bytes_view : Option (Vec ℕ Global) → Option (List ℕ)
@@ -39,6 +41,24 @@ column_view p = record {
   org_table = p.org_table.items;
   name = p.name.items;
   org_name = p.org_name.items;
+  character_set = p.character_set;
+  column_length = p.column_length;
+  column_type = p.column_type;
+  flags = p.flags;
+  decimals = p.decimals;
+}
+
+abbrev pub names_view : Names → ColumnNames
+names_view p = record {
+  schema = p.schema.now;
+  table = p.table.now;
+  org_table = p.org_table.now;
+  name = p.name.now;
+  org_name = p.org_name.now;
+}
+
+abbrev pub fields_view : FixedFields → ColumnFields
+fields_view p = record {
   character_set = p.character_set;
   column_length = p.column_length;
   column_type = p.column_type;

@@ -1,18 +1,18 @@
 //! Column packets.
 
-ghost use Rattle.std.specs.Prelude.{◌≡◌, List, refl};
+ghost use Rattle.std.specs.Prelude.{◌≡◌, IfOk, List, refl};
 ghost use Rattle.std.proofs.Common.{lit<};
 ghost use Rattle.mysql_wire.specs.Wire.{GivesPart};
-ghost use Rattle.mysql_packets.specs.Packets.{catalog, column_at};
-ghost use Rattle.mysql_packets.specs.Views.{column_view};
+ghost use Rattle.mysql_packets.specs.Packets.{catalog, column_at, column_fields_at, column_names_at, column_with};
+ghost use Rattle.mysql_packets.specs.Views.{column_view, fields_view, names_view};
 
+use crate::texts::text_of;
 use bitflags::Flags;
 use mysql_const::{ColumnFlags, ColumnType};
 use mysql_wire::{
-    Const, ConstBytes, ConstBytesValue, ConstU8, LeU16, LeU32, LenEnc, ParseBuf, ParseExt,
-    RawBytes, RawInt, WireError,
+    Const, ConstBytes, ConstBytesValue, ConstU8, LeU16, LeU32, ParseBuf, ParseExt, RawInt, WireError,
 };
-use std::alloc::Global;
+use std::alloc::{AllocError, Global};
 
 /// The catalog of every column, `def`, after its length.
 ///
@@ -123,6 +123,81 @@ impl Column {
 #[derive(Clone, Copy, Debug, Default, PartialEq, Eq, Hash)]
 pub struct FixedLengthFieldsLen;
 
+// The names of a column.
+#[derive(Clone, Copy)]
+struct Names<'a> {
+    schema: &'a [u8],
+    table: &'a [u8],
+    org_table: &'a [u8],
+    name: &'a [u8],
+    org_name: &'a [u8],
+}
+
+#[tactic(auto, unfolding(crate::specs::Packets::column_names_at))]
+fn names_of<'a>(buf: &mut ParseBuf<'a>) -> Result<Names<'a>, WireError>
+    ensures { GivesPart names_view buf.new.0.now result (column_names_at buf.old.0.now) }
+{
+    let schema = text_of(buf)?;
+    let table = text_of(buf)?;
+    let org_table = text_of(buf)?;
+    let name = text_of(buf)?;
+    let org_name = text_of(buf)?;
+    Ok(Names {
+        schema,
+        table,
+        org_table,
+        name,
+        org_name,
+    })
+}
+
+// The fields of a column that have a fixed length.
+#[derive(Clone, Copy)]
+struct FixedFields {
+    character_set: u16,
+    column_length: u32,
+    column_type: ColumnType,
+    flags: ColumnFlags,
+    decimals: u8,
+}
+
+#[tactic(auto, unfolding(crate::specs::Packets::column_fields_at))]
+fn fixed_fields_of(alloc: Global, block: &mut ParseBuf) -> Result<FixedFields, WireError>
+    ensures { GivesPart fields_view block.new.0.now result (column_fields_at block.old.0.now) }
+{
+    block.parse::<ConstU8<FixedLengthFieldsLen, 12>>(alloc, ())?;
+    let character_set = block.parse::<RawInt<LeU16>>(alloc, ())?;
+    let column_length = block.parse::<RawInt<LeU32>>(alloc, ())?;
+    let column_type = block.parse::<Const<ColumnType, u8>>(alloc, ())?;
+    let flags = block.parse::<RawInt<LeU16>>(alloc, ())?;
+    let decimals = block.parse::<RawInt<u8>>(alloc, ())?;
+    Ok(FixedFields {
+        character_set: character_set.0,
+        column_length: column_length.0,
+        column_type: column_type.0,
+        flags: ColumnFlags::from_bits_retain(flags.0),
+        decimals: decimals.0,
+    })
+}
+
+// A column of copies of these names, and of these fields.
+fn copied(alloc: Global, names: &Names, fields: FixedFields) -> Result<Column, AllocError>
+    ensures { IfOk result (λ column. column_view column ≡ column_with (names_view names.now) (fields_view fields)) }
+{
+    Ok(Column {
+        schema: Vec::from_slice(alloc, names.schema)?,
+        table: Vec::from_slice(alloc, names.table)?,
+        org_table: Vec::from_slice(alloc, names.org_table)?,
+        name: Vec::from_slice(alloc, names.name)?,
+        org_name: Vec::from_slice(alloc, names.org_name)?,
+        character_set: fields.character_set,
+        column_length: fields.column_length,
+        column_type: fields.column_type,
+        flags: fields.flags,
+        decimals: fields.decimals,
+    })
+}
+
 /// A column packet. Refuses, from the left, UnexpectedEof, BadConstant for another catalog than `def` or another length
 /// of the fixed fields than 12, UnknownValue for a type without a name, and Memory.
 ///
@@ -132,28 +207,8 @@ pub fn column_of(alloc: Global, buf: &mut ParseBuf) -> Result<Column, WireError>
     ensures { GivesPart column_view buf.new.0.now result (column_at buf.old.0.now) }
 {
     buf.parse::<ConstBytes<ColumnDefinitionCatalog, 4>>(alloc, ())?;
-    let schema = buf.parse::<RawBytes<LenEnc>>(alloc, ())?;
-    let table = buf.parse::<RawBytes<LenEnc>>(alloc, ())?;
-    let org_table = buf.parse::<RawBytes<LenEnc>>(alloc, ())?;
-    let name = buf.parse::<RawBytes<LenEnc>>(alloc, ())?;
-    let org_name = buf.parse::<RawBytes<LenEnc>>(alloc, ())?;
+    let names = names_of(buf)?;
     let mut block = buf.parse::<ParseBuf>(alloc, 13)?;
-    block.parse::<ConstU8<FixedLengthFieldsLen, 12>>(alloc, ())?;
-    let character_set = block.parse::<RawInt<LeU16>>(alloc, ())?;
-    let column_length = block.parse::<RawInt<LeU32>>(alloc, ())?;
-    let column_type = block.parse::<Const<ColumnType, u8>>(alloc, ())?;
-    let flags = block.parse::<RawInt<LeU16>>(alloc, ())?;
-    let decimals = block.parse::<RawInt<u8>>(alloc, ())?;
-    Ok(Column {
-        schema: Vec::from_slice(alloc, schema.0.as_slice())?,
-        table: Vec::from_slice(alloc, table.0.as_slice())?,
-        org_table: Vec::from_slice(alloc, org_table.0.as_slice())?,
-        name: Vec::from_slice(alloc, name.0.as_slice())?,
-        org_name: Vec::from_slice(alloc, org_name.0.as_slice())?,
-        character_set: character_set.0,
-        column_length: column_length.0,
-        column_type: column_type.0,
-        flags: ColumnFlags::from_bits_retain(flags.0),
-        decimals: decimals.0,
-    })
+    let fields = fixed_fields_of(alloc, &mut block)?;
+    Ok(copied(alloc, &names, fields)?)
 }

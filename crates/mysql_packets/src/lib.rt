@@ -8,6 +8,7 @@ pub mod okay;
 pub mod row;
 pub mod server_fault;
 pub mod statement;
+mod texts;
 
 pub use column::Column;
 pub use okay::OkPacket;

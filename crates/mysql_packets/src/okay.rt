@@ -1,16 +1,15 @@
 //! OK packets.
 
 ghost use Rattle.std.specs.Prelude.{◌≡◌, ℕ, List, [], IfOk, option_map};
-ghost use Rattle.std.specs.Cow.{cow_slice_items};
 ghost use Rattle.mysql_wire.specs.Wire.{GivesPart};
 ghost use Rattle.mysql_packets.specs.Packets.{unless_empty, session_track, more_results_exist, session_state_changed, info_at, unless_zero, status_and_info_at, okay_at, result_set_terminator_at, old_eof_at};
 ghost use Rattle.mysql_packets.specs.Views.{bytes_view, okay_view};
 
+use crate::texts::text_of;
 use bitflags::Flags;
 use mysql_const::{CapabilityFlags, StatusFlags};
-use mysql_wire::{Const, ConstU8, LeU16, LenEnc, ParseBuf, ParseExt, RawBytes, RawInt, WireError};
+use mysql_wire::{Const, ConstU8, LeU16, LenEnc, ParseBuf, ParseExt, RawInt, WireError};
 use std::alloc::{AllocError, Global};
-use std::borrow::CowSlice;
 
 /// Another byte than the one that is due begins an OK or EOF packet.
 #[derive(Clone, Copy, Debug, Default, PartialEq, Eq, Hash)]
@@ -103,41 +102,31 @@ fn has_session_state(status: StatusFlags) -> bool
     status.contains(StatusFlags::SERVER_SESSION_STATE_CHANGED)
 }
 
-type LenEncText<'a> = RawBytes<'a, LenEnc>;
-
-/// No text.
-fn no_text<'a>() -> LenEncText<'a>
-    ensures { cow_slice_items result.0 ≡ [] }
-{
-    RawBytes::new(CowSlice::Borrowed(&[]))
-}
-
 /// The info and the session state of an OK packet.
 #[tactic(auto, unfolding(crate::specs::Packets::info_at))]
 fn info_of<'a>(
-    alloc: Global,
     capabilities: CapabilityFlags,
     status: StatusFlags,
     buf: &mut ParseBuf<'a>,
-) -> Result<(LenEncText<'a>, LenEncText<'a>), WireError>
-    ensures { GivesPart (λ x. (cow_slice_items x.0.0, cow_slice_items x.1.0)) buf.new.0.now result (info_at capabilities.0 status.0 buf.old.0.now) }
+) -> Result<(&'a [u8], &'a [u8]), WireError>
+    ensures { GivesPart (λ x. (x.0.now, x.1.now)) buf.new.0.now result (info_at capabilities.0 status.0 buf.old.0.now) }
 {
     let Some(first) = buf.0.first() else {
-        return Ok((no_text(), no_text()));
+        return Ok((&[], &[]));
     };
     if tracks_session(capabilities) {
-        let info = buf.parse(alloc, ())?;
+        let info = text_of(buf)?;
         if has_session_state(status) {
-            let state = buf.parse(alloc, ())?;
+            let state = text_of(buf)?;
             return Ok((info, state));
         }
-        return Ok((info, no_text()));
+        return Ok((info, &[]));
     }
     if *first == 0 {
-        return Ok((no_text(), no_text()));
+        return Ok((&[], &[]));
     }
-    let info = buf.parse(alloc, ())?;
-    Ok((info, no_text()))
+    let info = text_of(buf)?;
+    Ok((info, &[]))
 }
 
 /// A copy of the bytes, where there are any.
@@ -172,9 +161,9 @@ fn status_and_info_of(
     let mut block = buf.parse::<ParseBuf>(alloc, 4)?;
     let status = block.parse::<Const<StatusFlags, LeU16>>(alloc, ())?;
     let warnings = block.parse::<RawInt<LeU16>>(alloc, ())?;
-    let (info, state) = info_of(alloc, capabilities, status.0, buf)?;
-    let info = unless_empty_of(alloc, info.0.as_slice())?;
-    let session_state_info = unless_empty_of(alloc, state.0.as_slice())?;
+    let (info, state) = info_of(capabilities, status.0, buf)?;
+    let info = unless_empty_of(alloc, info)?;
+    let session_state_info = unless_empty_of(alloc, state)?;
     Ok(OkPacket {
         affected_rows,
         last_insert_id: unless_zero_of(id),

@@ -5,9 +5,10 @@ ghost use Rattle.mysql_wire.specs.Wire.{GivesPart};
 ghost use Rattle.mysql_packets.specs.Packets.{protocol_41, server_fault_at, report_at};
 ghost use Rattle.mysql_packets.specs.Views.{server_fault_view, report_view};
 
+use crate::texts::text_of;
 use bitflags::Flags;
 use mysql_const::CapabilityFlags;
-use mysql_wire::{ConstU8, LeU16, LeU24, LenEnc, ParseBuf, ParseExt, RawBytes, RawInt, WireError};
+use mysql_wire::{ConstU8, LeU16, LeU24, ParseBuf, ParseExt, RawInt, WireError};
 use std::alloc::Global;
 
 /// Another byte than ff begins an error packet.
@@ -146,11 +147,11 @@ pub fn report_of(alloc: Global, buf: &mut ParseBuf) -> Result<ProgressReport, Wi
     let stage = block.parse::<RawInt<u8>>(alloc, ())?;
     let max_stage = block.parse::<RawInt<u8>>(alloc, ())?;
     let progress = block.parse::<RawInt<LeU24>>(alloc, ())?;
-    let info = buf.parse::<RawBytes<LenEnc>>(alloc, ())?;
+    let info = text_of(buf)?;
     Ok(ProgressReport {
         stage: stage.0,
         max_stage: max_stage.0,
         progress: progress.0,
-        stage_info: Vec::from_slice(alloc, info.0.as_slice())?,
+        stage_info: Vec::from_slice(alloc, info)?,
     })
 }

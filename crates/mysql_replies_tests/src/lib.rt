@@ -2,4 +2,10 @@
 #![tactic(auto)]
 
 #[cfg(test)]
-mod tests;
+mod faults;
+#[cfg(test)]
+mod packets;
+#[cfg(test)]
+mod rows;
+#[cfg(test)]
+mod support;
