@@ -61,23 +61,30 @@ fn varlen_numbers(rt: HostRuntime) {
 
 #[test]
 fn low_bytes(rt: HostRuntime) {
-    let Ok(mut out) = Vec::with_capacity(rt.alloc(), 29) else {
+    let Ok(mut out) = Vec::with_capacity(rt.alloc(), 16) else {
         return;
     };
     // There is room for all.
     assert!(rt; out.put_u24_le(0x0403_0201).is_ok());
-    assert!(rt; out.put_i24_le(-2).is_ok());
     assert!(rt; out.put_u48_le(0x0807_0605_0403_0201).is_ok());
     assert!(rt; out.put_u56_le(0x0807_0605_0403_0201).is_ok());
+    assert_eq!(rt;
+        out.as_slice(),
+        [1, 2, 3, 1, 2, 3, 4, 5, 6, 1, 2, 3, 4, 5, 6, 7].as_slice()
+    );
+}
+
+#[test]
+fn low_bytes_with_a_sign(rt: HostRuntime) {
+    let Ok(mut out) = Vec::with_capacity(rt.alloc(), 10) else {
+        return;
+    };
+    // There is room for all.
+    assert!(rt; out.put_i24_le(-2).is_ok());
     assert!(rt; out.put_i56_le(-2).is_ok());
     assert_eq!(rt;
-        &out[..12],
-        [1, 2, 3, 0xfe, 0xff, 0xff, 1, 2, 3, 4, 5, 6].as_slice()
-    );
-    assert_eq!(rt; &out[12..19], [1, 2, 3, 4, 5, 6, 7].as_slice());
-    assert_eq!(rt;
-        &out[19..],
-        [0xfe, 0xff, 0xff, 0xff, 0xff, 0xff, 0xff].as_slice()
+        out.as_slice(),
+        [0xfe, 0xff, 0xff, 0xfe, 0xff, 0xff, 0xff, 0xff, 0xff, 0xff].as_slice()
     );
 }
 
