@@ -26,3 +26,4 @@ pub mod Fronts
 pub mod OneRead
 pub mod Writing
 pub mod AllAlone
+pub mod FirstTokens

@@ -12,6 +12,11 @@ ghost use Rattle.std.specs.Prelude.{
   ◌<◌,
   ◌≡◌,
   ◌≤◌,
+  ◌==◌,
+  ◌||◌,
+  ◌∷◌,
+  [],
+  false,
   IfNone,
   IfOk,
   IfSome,
@@ -70,6 +75,28 @@ fn part_at(text: &[u8], at: usize) -> Option<Part>
     }
 }
 
+/// Whether the backslash before this byte stays, as `\%` and `\_` are read in patterns.
+fn keeps_backslash(b: u8) -> bool
+    ensures { result ≡ ((b == 0x25) || (b == 0x5f)) }
+{
+    b == b'%' || b == b'_'
+}
+
+/// The byte that a backslash makes of the one after it, where the backslash goes.
+fn escaped_byte(b: u8) -> u8
+    ensures { ((b == 0x25) || (b == 0x5f)) ≡ false → escaped b ≡ result ∷ [] }
+{
+    match b {
+        b'0' => 0,
+        b'b' => 8,
+        b'n' => b'\n',
+        b'r' => b'\r',
+        b't' => b'\t',
+        b'Z' => 26,
+        _ => b,
+    }
+}
+
 /// Appends what a backslash makes of the byte after it.
 fn push_escaped(out: &mut Vec<u8>, b: u8) -> Result<(), AllocError>
     ensures ok { OnOk result (out.new.items ≡ out.old.items ++ escaped b) }
@@ -77,23 +104,10 @@ fn push_escaped(out: &mut Vec<u8>, b: u8) -> Result<(), AllocError>
     ensures capacity { vec_capacity out.old ≤ vec_capacity out.new }
     ensures full { OnErr result (vec_capacity out.old < vec_len out.old + 2) }
 {
-    if b == b'0' {
-        out.push(0)?;
-    } else if b == b'b' {
-        out.push(8)?;
-    } else if b == b'n' {
-        out.push(b'\n')?;
-    } else if b == b'r' {
-        out.push(b'\r')?;
-    } else if b == b't' {
-        out.push(b'\t')?;
-    } else if b == b'Z' {
-        out.push(26)?;
-    } else if b == b'%' || b == b'_' {
-        out.push(b'\\')?;
-        out.push(b)?;
+    if keeps_backslash(b) {
+        out.extend_from_slice(&[b'\\', b])?;
     } else {
-        out.push(b)?;
+        out.push(escaped_byte(b))?;
     }
     Ok(())
 }

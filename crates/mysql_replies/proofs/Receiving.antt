@@ -2,6 +2,7 @@
 use Rattle.std.proofs.Common.{◌≡◌, ℕ, zero, suc, ◌+◌, ◌-◌, ◌<◌, ◌≤◌, List, [], ◌∷◌, ◌++◌, length, take, true, false, Option, Some, None, refl, ap, sym, subst, arith, ◌∙◌, append_assoc, add-one, length-append}
 use Rattle.std.specs.Prelude.{nat_le, if◌then◌else◌, Result, Ok, Err, OnOk, IfErr, is_err, ◌/◌}
 use Rattle.std.specs.List.{AllByRecursion}
+use Rattle.std.specs.Option.{IfSome}
 use Rattle.std.proofs.lemmas.List.{append-nil, nil_from_length}
 use Rattle.std.proofs.Math.Dec.{leb-suc-zero}
 use Rattle.std.proofs.lemmas.Bool.Decides.{nat_tests}
@@ -399,6 +400,15 @@ fault_is s = fault_is_by (progressing_of s) s.fault
     fault_is_by : (p : Progressing) (f : Option ReplyFault) → fault_of (faulted p f) ≡ f
     fault_is_by p None = refl
     fault_is_by p (Some fault) = refl
+
+pub if_fault : (P : ReplyFault → Type 0) (o : Option ReplyFault) (fault : ReplyFault) → o ≡ Some fault → P fault → IfSome o P
+if_fault P o fault e p = subst (λ o. IfSome o P) (sym e) p
+
+pub if_no_fault : (P : ReplyFault → Type 0) (o : Option ReplyFault) → o ≡ None → IfSome o P
+if_no_fault P o e = subst (λ o. IfSome o P) (sym e) tt
+
+pub not_both : {P : Type 0} (o : Option ReplyFault) (fault : ReplyFault) → o ≡ Some fault → o ≡ None → P
+not_both o fault some none = absurd (let k : Some fault ≡ None = sym some ∙ none in cc)
 
 -- A piece that comes is decided with the bytes after it.
 pub piece_decides : FramingLaws → (s : ReplyState) (codec : Codec) (src src' dst piece more : List ℕ) (answer : Answer) → s.fault ≡ None → src' ≡ src ++ piece → DecidesOver (held_of s codec src' dst) more answer → DecidesOver (held_of s codec src dst) (piece ++ more) answer

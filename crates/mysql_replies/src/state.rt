@@ -64,6 +64,18 @@ fn progress_packet(alloc: Global, payload: &[u8]) -> Result<ProgressReport, Repl
     )
 }
 
+/// Appends a result where there is room for it.
+fn push_in_room(results: &mut Vec<ReplyResult>, another: ReplyResult)
+    requires { vec_len results.old < vec_capacity results.old }
+    ensures items { results.new.items ≡ results.old.items ++ another ∷ [] }
+    ensures len { vec_len results.new ≡ vec_len results.old + 1 }
+    ensures capacity { vec_capacity results.old ≤ vec_capacity results.new }
+{
+    let Ok(()) = results.push(another) else {
+        unreachable!()
+    };
+}
+
 impl ReplyState {
     /// What stands before any payload has come.
     pub fn new(alloc: Global, context: Context) -> ReplyState
@@ -135,18 +147,10 @@ impl ReplyState {
     {
         match listed {
             Listed::None => {}
-            Listed::One(first) => {
-                let Ok(()) = self.results.push(first) else {
-                    unreachable!()
-                };
-            }
+            Listed::One(first) => push_in_room(&mut self.results, first),
             Listed::Two(first, second) => {
-                let Ok(()) = self.results.push(first) else {
-                    unreachable!()
-                };
-                let Ok(()) = self.results.push(second) else {
-                    unreachable!()
-                };
+                push_in_room(&mut self.results, first);
+                push_in_room(&mut self.results, second);
             }
         }
     }
@@ -217,9 +221,7 @@ fn closed(mut results: Vec<ReplyResult>, awaited: Awaited) -> Vec<ReplyResult>
                 rows,
                 terminator,
             };
-            let Ok(()) = results.push(last) else {
-                unreachable!()
-            };
+            push_in_room(&mut results, last);
             results
         }
         Awaited::Columns {

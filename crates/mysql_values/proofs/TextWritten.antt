@@ -100,8 +100,12 @@ written_end query places values at k before after next w h l n =
       },
     )
 
-pub written_front : (query : List ℕ) (places : List Place) (values : List Value) (at : ℕ) (left : List Place) (k : ℕ) (before after : List ℕ) → WrittenTo query places values at left k before after → (piece : List ℕ) → take (length before) (after ++ piece) ≡ before
-written_front query places values at left k before after w piece = ap (λ y. take (length before) (y ++ piece)) w.appended ∙ ap (take (length before)) (append_assoc before w.written piece) ∙ take_at before (w.written ++ piece) (length before) refl
+-- what stood before still stands in front
+pub written_front : {query : List ℕ} {places : List Place} {values : List Value} {at : ℕ} {left : List Place} {k : ℕ} {before after : List ℕ} → WrittenTo query places values at left k before after → (piece next : List ℕ) → next ≡ after ++ piece → take (length before) next ≡ before
+written_front {before} w piece next n = ap (take (length before)) (n ∙ ap (λ y. y ++ piece) w.appended ∙ append_assoc before w.written piece) ∙ take_at before (w.written ++ piece) (length before) refl
+
+pub written_still : {query : List ℕ} {places : List Place} {values : List Value} {at : ℕ} {left : List Place} {k : ℕ} {before after : List ℕ} → WrittenTo query places values at left k before after → (next : List ℕ) → next ≡ after → take (length before) next ≡ before
+written_still {after} w next n = written_front w [] next (n ∙ sym (append-nil after))
 
 -- a value with a literal has a content
 has_content : (value : Value) (text : List ℕ) → literal_of value ≡ Some text → (content : Content) × (content_of value ≡ Some content)

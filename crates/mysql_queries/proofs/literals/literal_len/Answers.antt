@@ -1,7 +1,7 @@
-use Rattle.std.proofs.Common.{◌≡◌, ◌≢◌, ◌<◌, true, false, length, get_or, arith, sym}
+use Rattle.std.proofs.Common.{◌≡◌, ◌≢◌, ◌<◌, true, false, length, get_or, arith, sym, refl, inl, inr}
 use Rattle.std.proofs.lemmas.Bool.Decides.{nat_tests}
 use Rattle.mysql_queries.specs.Tokens.{single_quote}
-use Rattle.mysql_queries.proofs.Fronts.{no_number, IsNoNull}
+use Rattle.mysql_queries.proofs.Fronts.{no_hexadecimal, no_number, IsNoNull}
 use Rattle.mysql_queries.proofs.literals.literal_len.Goals as goal
 use Rattle.mysql_queries.proofs.literals.literal_len.Goals.{else-not-is_empty-via-then-not-is_empty+else-text-eq39, else-not-is_empty-via-else-not-is_empty}
 
@@ -13,3 +13,24 @@ returns-in-None-read_number-clause-none c =
       | else-not-is_empty-via-else-not-is_empty w ↦ absurd (grind (arith, nat_tests, w.if-not-is_empty.false, c.is_empty.ensures))
     ] in
     no_number c.args.text.now no_null no_quote (sym c.if-hex_first.ensures) c.in-None-read_number.ensures.none
+
+pub returns-then-null_first-clause-run : goal.returns-then-null_first-clause-run
+returns-then-null_first-clause-run c = inl (c.if-null_first.ensures.0 refl).1
+
+pub returns-then-null_first-clause-content : goal.returns-then-null_first-clause-content
+returns-then-null_first-clause-content c = (c.if-null_first.ensures.0 refl).1
+
+pub returns-in-Some-2-clause-run : goal.returns-in-Some-2-clause-run
+returns-in-Some-2-clause-run c = inr (inr (inl (rw c.in-Some-2.is at c.in_ok-len-2.ensures.run)))
+
+pub returns-in-Some-2-clause-content : goal.returns-in-Some-2-clause-content
+returns-in-Some-2-clause-content c = inr (rw c.in-Some-2.is at c.in_ok-len-2.ensures.content)
+
+pub returns-in-None-2-clause-none : goal.returns-in-None-2-clause-none
+returns-in-None-2-clause-none c =
+    let no_null : IsNoNull c.args.text.now = λ p. let f : false ≡ true = c.if-null_first.ensures.1 p in cc in
+    let no_quote : 0 < length c.args.text.now → get_or c.args.text.now 0 0 ≢ single_quote = λ some e. elim c.else-not-is_empty.branch [
+      | else-not-is_empty-via-then-not-is_empty+else-text-eq39 w ↦ w.if-text-eq39.false e
+      | else-not-is_empty-via-else-not-is_empty w ↦ absurd (grind (arith, nat_tests, w.if-not-is_empty.false, c.is_empty.ensures))
+    ] in
+    no_hexadecimal c.args.text.now no_null no_quote (sym c.if-hex_first.ensures) (rw c.in-None-2.is at c.in_ok-len-2.ensures.none)

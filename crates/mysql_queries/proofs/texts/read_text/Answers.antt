@@ -1,8 +1,9 @@
-use Rattle.std.proofs.Common.{◌+◌, ◌++◌, drop, get_or, slice_range, sym, ap, ◌∙◌, subst}
+use Rattle.std.proofs.Common.{◌+◌, ◌++◌, drop, get_or, slice_range, refl, sym, ap, ◌∙◌, subst}
+use Rattle.std.proofs.lemmas.Result.{err_from_is_err_and}
 use Rattle.mysql_queries.specs.Queries.{Slices}
 use Rattle.std.specs.Cmp.Lexicographic.{same_text, other_text}
 use Rattle.mysql_queries.proofs.PlaceLists.{to_end}
-use Rattle.mysql_queries.proofs.QuerySlices.{next_place, no_place, no_places_left}
+use Rattle.mysql_queries.proofs.QuerySlices.{next_in_order, next_place, no_place, no_places_left}
 use Rattle.mysql_queries.proofs.TextReading.{ReadTo, read_none, read_more, no_piece, no_literal, last_piece, no_last_piece, sliced, unsliced, lexed_too, piece_found, piece_missing}
 use Rattle.mysql_queries.proofs.texts.read_text.Goals as goal
 
@@ -61,3 +62,13 @@ returns-else-eq-clause-none c contents h =
     (subst (λ y. ReadTo query places c.args.text.now c.loop-place.at y c.loop-place.contents.items c.loop-place.rest.now) (no_places_left places c.loop-place.place-index c.loop-place-test.false) c.loop-place.invariant)
     (λ e. other_text c.loop-place.rest.now _ c.if-eq.ensures (e ∙ sym (to_end query c.loop-place.at)))
     contents (unsliced query c.args.text.now places contents c.requires.places h)
+
+pub slice_bounds-strip_prefix-count : goal.slice_bounds-strip_prefix-count
+slice_bounds-strip_prefix-count c =
+    (next_in_order c.args.query.now c.loop-place.at c.args.places.now c.loop-place.place-index c.loop-place-test.true c.loop-place.invariant.order).from
+
+pub returns-in_err-content-clause-memory : goal.returns-in_err-content-clause-memory
+returns-in_err-content-clause-memory c = let p = err_from_is_err_and c.from_residual.result c.from_residual.ensures.1 in rw (p.1, p.2) c.in_err-content.ensures.memory
+
+pub returns-in_err-push-clause-memory : goal.returns-in_err-push-clause-memory
+returns-in_err-push-clause-memory c = let p = err_from_is_err_and c.from_residual-in_err-push.result c.from_residual-in_err-push.ensures.1 in rw (p.1, p.2) refl

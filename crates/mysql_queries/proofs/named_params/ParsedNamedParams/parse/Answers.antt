@@ -1,6 +1,7 @@
-use Rattle.std.proofs.Common.{◌≡◌, List, [], map, refl, sym, ap, ◌∙◌, subst, length, arith, ◌∷◌}
+use Rattle.std.proofs.Common.{◌≡◌, List, [], map, refl, sym, ap, ◌∙◌, subst, length, arith, ◌∷◌, inl, inr}
 use Rattle.std.specs.Cow.{cow_slice_items}
-use Rattle.mysql_queries.specs.Queries.{IsParsed}
+use Rattle.std.proofs.lemmas.Result.{err_from_is_err_and}
+use Rattle.mysql_queries.specs.Queries.{IsParsed, is_mixed}
 use Rattle.mysql_queries.specs.Parsed.{names_at}
 use Rattle.mysql_queries.proofs.FirstBytes.{same_number}
 use Rattle.mysql_queries.proofs.QueryWritten.{parsed_marked, parsed_as_it_is, has_names, marked}
@@ -24,3 +25,18 @@ returns-clause-query c = elim c.if-is_empty.branch [
   | else-is_empty+in_ok-with_marks w ↦ parsed_marked c.args.query.now (cow_slice_items c.if-is_empty.parsed) c.in_ok-places.places.items c.in_ok-places.ensures
       (ap cow_slice_items w.parsed-is ∙ w.in_ok-with_marks.ensures ∙ ap (marked c.args.query.now 0) w.deref-else-is_empty.ensures.value)
 ]
+
+pub returns-in_err-places-clause-mixed : goal.returns-in_err-places-clause-mixed
+returns-in_err-places-clause-mixed c = let p = err_from_is_err_and c.from_residual.result c.from_residual.ensures.1 in rw (p.1, p.2) (inl refl)
+
+pub returns-in_err-params-clause-mixed : goal.returns-in_err-params-clause-mixed
+returns-in_err-params-clause-mixed c = let p = err_from_is_err_and c.from_residual-in_err-params.result c.from_residual-in_err-params.ensures.1 in rw (p.1, p.2) (inl refl)
+
+pub returns-in_err-with_marks-clause-mixed : goal.returns-in_err-with_marks-clause-mixed
+returns-in_err-with_marks-clause-mixed c = let p = err_from_is_err_and c.from_residual-in_err-with_marks.result c.from_residual-in_err-with_marks.ensures.1 in rw (p.1, p.2) (inl refl)
+
+pub returns-then-is_mixed-clause-mixed : goal.returns-then-is_mixed-clause-mixed
+returns-then-is_mixed-clause-mixed c = inr (refl, (c.in_ok-places.places.items, c.in_ok-places.ensures, c.if-is_mixed.ensures ∙ ap is_mixed c.deref.ensures.value))
+
+pub returns-clause-one_kind : goal.returns-clause-one_kind
+returns-clause-one_kind c = (c.in_ok-places.places.items, c.in_ok-places.ensures, c.if-is_mixed.ensures ∙ ap is_mixed c.deref.ensures.value)
