@@ -5,14 +5,15 @@ ghost use Rattle.std.specs.Cow.{cow_slice_items};
 ghost use Rattle.mysql_auth.specs.Views.{plugin_view};
 ghost use Rattle.mysql_login.specs.Attributes.{attributes};
 ghost use Rattle.mysql_login.specs.AttributeViews.{attributes_view, text_attribute};
-ghost use Rattle.mysql_login.specs.ChangedUsers.{ChangeUserFields, MoreFields, change_user, change_user_at, more_data, more_data_at, or_none};
+ghost use Rattle.mysql_login.specs.ChangedUsers.{ChangeUserFields, MoreFields, change_user, change_user_at, database_and_more_at, more_data, more_data_at, or_none};
 ghost use Rattle.mysql_login.specs.ChangedUserViews.{change_user_view, more_view};
 ghost use Rattle.mysql_login.specs.Parts.{or_empty};
+ghost use Rattle.mysql_login.specs.ResponseViews.{text_view};
 ghost use Rattle.mysql_raw.specs.Laws.{unsized};
 ghost use Rattle.mysql_raw.specs.Wire.{GivesPart};
 ghost use Rattle.mysql_raw.specs.declared.error.WireError.TheVariants as wire;
 
-use crate::attributes::{ConnectAttributes, copied};
+use crate::attributes::{ConnectAttributes, copied, copied_pair, owned_pair};
 use crate::parts::{
     IfHeld, attributes_of_texts, copied_attributes, copied_plugin, has, or_no_bytes,
     owned_attributes, owned_plugin, parse_if, plugin_before_zero,
@@ -266,14 +267,12 @@ impl<'a> ComChangeUser<'a> {
             database,
             more_data,
         } = self;
-        let more_data = match more_data {
-            Some(more) => Some(more.into_owned(alloc)?),
-            None => None,
-        };
+        let (user, database) = owned_pair(alloc, user, database)?;
+        let (auth_plugin_data, more_data) = owned_others(alloc, auth_plugin_data, more_data)?;
         Ok(ComChangeUser {
-            user: user.into_owned(alloc)?,
-            auth_plugin_data: auth_plugin_data.into_owned(alloc)?,
-            database: database.into_owned(alloc)?,
+            user,
+            auth_plugin_data,
+            database,
             more_data,
         })
     }
@@ -282,16 +281,48 @@ impl<'a> ComChangeUser<'a> {
     pub fn clone(&self, alloc: Global) -> Result<ComChangeUser<'static>, AllocError>
         ensures { IfOk result (λ copy. change_user_view copy ≡ change_user_view self.now) }
     {
-        let more_data = match &self.more_data {
-            Some(more) => Some(more.clone(alloc)?),
-            None => None,
-        };
+        let (user, database) = copied_pair(alloc, &self.user, &self.database)?;
+        let (auth_plugin_data, more_data) =
+            copied_others(alloc, &self.auth_plugin_data, &self.more_data)?;
         Ok(ComChangeUser {
-            user: copied(alloc, &self.user)?,
-            auth_plugin_data: copied(alloc, &self.auth_plugin_data)?,
-            database: copied(alloc, &self.database)?,
+            user,
+            auth_plugin_data,
+            database,
             more_data,
         })
+    }
+}
+
+// An answer to the scramble and what may stand last, which borrow nothing.
+fn owned_others(
+    alloc: Global,
+    auth_plugin_data: RawBytes<U8Bytes>,
+    more_data: Option<ComChangeUserMoreData>,
+) -> Result<(RawBytes<'static, U8Bytes>, Option<ComChangeUserMoreData<'static>>), WireError>
+    ensures memory { IsOkUnless result wire.Memory }
+    ensures scramble { IfOk result (λ owned. text_view owned.0 ≡ text_view auth_plugin_data.entry) }
+    ensures more { IfOk result (λ owned. option_map more_view owned.1 ≡ option_map more_view more_data.entry) }
+{
+    let auth_plugin_data = auth_plugin_data.into_owned(alloc)?;
+    match more_data {
+        Some(more) => Ok((auth_plugin_data, Some(more.into_owned(alloc)?))),
+        None => Ok((auth_plugin_data, None)),
+    }
+}
+
+// Copies of an answer to the scramble and of what may stand last.
+fn copied_others(
+    alloc: Global,
+    auth_plugin_data: &RawBytes<U8Bytes>,
+    more_data: &Option<ComChangeUserMoreData>,
+) -> Result<(RawBytes<'static, U8Bytes>, Option<ComChangeUserMoreData<'static>>), AllocError>
+    ensures scramble { IfOk result (λ copy. text_view copy.0 ≡ text_view auth_plugin_data.now) }
+    ensures more { IfOk result (λ copy. option_map more_view copy.1 ≡ option_map more_view more_data.now) }
+{
+    let auth_plugin_data = copied(alloc, auth_plugin_data)?;
+    match more_data {
+        Some(more) => Ok((auth_plugin_data, Some(more.clone(alloc)?))),
+        None => Ok((auth_plugin_data, None)),
     }
 }
 
@@ -345,6 +376,21 @@ impl<'a> Readable for ComChangeUser<'a> {
     }
 }
 
+// The database, and what may stand last.
+#[tactic(auto, unfolding(crate::specs::ChangedUsers::database_and_more_at))]
+fn database_and_more<'de>(
+    alloc: Global,
+    capabilities: CapabilityFlags,
+    rest: &mut ParseBuf<'de>,
+) -> Result<(RawBytes<'de, NullBytes>, Option<ComChangeUserMoreData<'de>>), WireError>
+    ensures { GivesPart (λ parts. (text_view parts.0, option_map more_view parts.1)) rest.new.0.now result (database_and_more_at capabilities.0 rest.old.0.now) }
+{
+    let database = rest.parse(alloc, ())?;
+    let follows = !rest.is_empty();
+    let more_data = parse_if(alloc, follows, capabilities, rest)?;
+    Ok((database, more_data))
+}
+
 #[tactic(auto, unfolding(crate::specs::ChangedUsers::change_user_at))]
 impl<'de> MyDeserialize<'de> for ComChangeUser<'de> {
     fn deserialize(
@@ -356,9 +402,7 @@ impl<'de> MyDeserialize<'de> for ComChangeUser<'de> {
         let _: ComChangeUserHeader = rest.parse(alloc, ())?;
         let user = rest.parse(alloc, ())?;
         let auth_plugin_data = rest.parse(alloc, ())?;
-        let database = rest.parse(alloc, ())?;
-        let follows = !rest.is_empty();
-        let more_data = parse_if(alloc, follows, capabilities, &mut rest)?;
+        let (database, more_data) = database_and_more(alloc, capabilities, &mut rest)?;
         *buf = rest;
         Ok(ComChangeUser {
             user,
