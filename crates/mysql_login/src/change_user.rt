@@ -261,14 +261,9 @@ impl<'a> ComChangeUser<'a> {
         ensures memory { IsOkUnless result wire.Memory }
         ensures value { IfOk result (λ owned. change_user_view owned ≡ change_user_view self.entry) }
     {
-        let ComChangeUser {
-            user,
-            auth_plugin_data,
-            database,
-            more_data,
-        } = self;
-        let (user, database) = owned_pair(alloc, user, database)?;
-        let (auth_plugin_data, more_data) = owned_others(alloc, auth_plugin_data, more_data)?;
+        let more_data = owned_more(alloc, self.more_data)?;
+        let (user, database) = owned_pair(alloc, self.user, self.database)?;
+        let auth_plugin_data = self.auth_plugin_data.into_owned(alloc)?;
         Ok(ComChangeUser {
             user,
             auth_plugin_data,
@@ -281,9 +276,9 @@ impl<'a> ComChangeUser<'a> {
     pub fn clone(&self, alloc: Global) -> Result<ComChangeUser<'static>, AllocError>
         ensures { IfOk result (λ copy. change_user_view copy ≡ change_user_view self.now) }
     {
+        let more_data = copied_more(alloc, &self.more_data)?;
         let (user, database) = copied_pair(alloc, &self.user, &self.database)?;
-        let (auth_plugin_data, more_data) =
-            copied_others(alloc, &self.auth_plugin_data, &self.more_data)?;
+        let auth_plugin_data = copied(alloc, &self.auth_plugin_data)?;
         Ok(ComChangeUser {
             user,
             auth_plugin_data,
@@ -293,36 +288,30 @@ impl<'a> ComChangeUser<'a> {
     }
 }
 
-// An answer to the scramble and what may stand last, which borrow nothing.
-fn owned_others(
+// What may stand last, which borrows nothing, where it is there.
+fn owned_more(
     alloc: Global,
-    auth_plugin_data: RawBytes<U8Bytes>,
     more_data: Option<ComChangeUserMoreData>,
-) -> Result<(RawBytes<'static, U8Bytes>, Option<ComChangeUserMoreData<'static>>), WireError>
+) -> Result<Option<ComChangeUserMoreData<'static>>, WireError>
     ensures memory { IsOkUnless result wire.Memory }
-    ensures scramble { IfOk result (λ owned. text_view owned.0 ≡ text_view auth_plugin_data.entry) }
-    ensures more { IfOk result (λ owned. option_map more_view owned.1 ≡ option_map more_view more_data.entry) }
+    ensures value { IfOk result (λ owned. option_map more_view owned ≡ option_map more_view more_data.entry) }
 {
-    let auth_plugin_data = auth_plugin_data.into_owned(alloc)?;
     match more_data {
-        Some(more) => Ok((auth_plugin_data, Some(more.into_owned(alloc)?))),
-        None => Ok((auth_plugin_data, None)),
+        Some(more) => Ok(Some(more.into_owned(alloc)?)),
+        None => Ok(None),
     }
 }
 
-// Copies of an answer to the scramble and of what may stand last.
-fn copied_others(
+// A copy of what may stand last, where it is there.
+fn copied_more(
     alloc: Global,
-    auth_plugin_data: &RawBytes<U8Bytes>,
     more_data: &Option<ComChangeUserMoreData>,
-) -> Result<(RawBytes<'static, U8Bytes>, Option<ComChangeUserMoreData<'static>>), AllocError>
-    ensures scramble { IfOk result (λ copy. text_view copy.0 ≡ text_view auth_plugin_data.now) }
-    ensures more { IfOk result (λ copy. option_map more_view copy.1 ≡ option_map more_view more_data.now) }
+) -> Result<Option<ComChangeUserMoreData<'static>>, AllocError>
+    ensures { IfOk result (λ copy. option_map more_view copy ≡ option_map more_view more_data.now) }
 {
-    let auth_plugin_data = copied(alloc, auth_plugin_data)?;
     match more_data {
-        Some(more) => Ok((auth_plugin_data, Some(more.clone(alloc)?))),
-        None => Ok((auth_plugin_data, None)),
+        Some(more) => Ok(Some(more.clone(alloc)?)),
+        None => Ok(None),
     }
 }
 

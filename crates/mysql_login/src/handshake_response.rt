@@ -46,6 +46,13 @@ pub struct HandshakeResponse<'a> {
     connect_attributes: Option<ConnectAttributes<'a>>,
 }
 
+// A database's name, a plugin and attributes, each where the capabilities name it.
+type NamedParts<'a> = (
+    Option<RawBytes<'a, NullBytes>>,
+    Option<AuthPlugin<'a>>,
+    Option<ConnectAttributes<'a>>,
+);
+
 // The number of the collation for a server of this version.
 fn collation_of(server_version: (u16, u16, u16)) -> u8
     ensures { result ≡ collation_for server_version }
@@ -81,6 +88,19 @@ fn is_counted(capabilities: CapabilityFlags) -> bool
         capabilities,
         CapabilityFlags::CLIENT_PLUGIN_AUTH_LENENC_CLIENT_DATA,
     ) && has(capabilities, CapabilityFlags::CLIENT_SECURE_CONNECTION)
+}
+
+// A copy of a database's name, where there is one.
+fn copied_name(
+    alloc: Global,
+    name: &Option<RawBytes<NullBytes>>,
+) -> Result<Option<RawBytes<'static, NullBytes>>, AllocError>
+    ensures { IfOk result (λ copy. option_map text_view copy ≡ option_map text_view name.now) }
+{
+    match name {
+        Some(name) => Ok(Some(copied(alloc, name)?)),
+        None => Ok(None),
+    }
 }
 
 // A database's name, where one is given.
@@ -159,15 +179,16 @@ impl<'a> HandshakeResponse<'a> {
     pub fn clone(&self, alloc: Global) -> Result<HandshakeResponse<'static>, AllocError>
         ensures { IfOk result (λ copy. response_view copy ≡ response_view self.now) }
     {
+        let request = self.request.clone()?;
         let (user, scramble_buf) = self.copied_user(alloc)?;
-        let (db_name, auth_plugin) = self.copied_names(alloc)?;
+        let (db_name, auth_plugin, connect_attributes) = self.copied_parts(alloc)?;
         Ok(HandshakeResponse {
-            request: self.request.clone()?,
+            request,
             user,
             scramble_buf,
             db_name,
             auth_plugin,
-            connect_attributes: copied_attributes(alloc, &self.connect_attributes)?,
+            connect_attributes,
         })
     }
 
@@ -184,20 +205,16 @@ impl<'a> HandshakeResponse<'a> {
         Ok((user, CowSlice::Owned(scramble_buf)))
     }
 
-    // Copies of the database's name and of the plugin, where they are there.
-    fn copied_names(
-        &self,
-        alloc: Global,
-    ) -> Result<(Option<RawBytes<'static, NullBytes>>, Option<AuthPlugin<'static>>), AllocError>
+    // Copies of the parts that the capabilities name.
+    fn copied_parts(&self, alloc: Global) -> Result<NamedParts<'static>, AllocError>
         ensures database { IfOk result (λ copy. option_map text_view copy.0 ≡ option_map text_view self.now.db_name) }
         ensures plugin { IfOk result (λ copy. option_map plugin_view copy.1 ≡ option_map plugin_view self.now.auth_plugin) }
+        ensures attributes { IfOk result (λ copy. option_map attributes_view copy.2 ≡ option_map attributes_view self.now.connect_attributes) }
     {
-        let db_name = match &self.db_name {
-            Some(name) => Some(copied(alloc, name)?),
-            None => None,
-        };
+        let db_name = copied_name(alloc, &self.db_name)?;
         let auth_plugin = copied_plugin(alloc, &self.auth_plugin)?;
-        Ok((db_name, auth_plugin))
+        let connect_attributes = copied_attributes(alloc, &self.connect_attributes)?;
+        Ok((db_name, auth_plugin, connect_attributes))
     }
 
     /// What the client can do.
@@ -318,13 +335,7 @@ fn parse_scramble<'de>(
     }
 }
 
-// A database's name, a plugin and attributes, each where the capabilities name it.
-type NamedParts<'a> = (
-    Option<RawBytes<'a, NullBytes>>,
-    Option<AuthPlugin<'a>>,
-    Option<ConnectAttributes<'a>>,
-);
-
+// The parts that the capabilities name.
 #[tactic(auto, unfolding(crate::specs::Responses::named_parts_at))]
 fn named_parts<'de>(
     alloc: Global,
