@@ -262,8 +262,8 @@ impl<'a> ComChangeUser<'a> {
         ensures value { IfOk result (λ owned. change_user_view owned ≡ change_user_view self.entry) }
     {
         let more_data = owned_more(alloc, self.more_data)?;
-        let (user, database) = owned_pair(alloc, self.user, self.database)?;
-        let auth_plugin_data = self.auth_plugin_data.into_owned(alloc)?;
+        let (user, auth_plugin_data, database) =
+            owned_texts(alloc, self.user, self.auth_plugin_data, self.database)?;
         Ok(ComChangeUser {
             user,
             auth_plugin_data,
@@ -276,9 +276,9 @@ impl<'a> ComChangeUser<'a> {
     pub fn clone(&self, alloc: Global) -> Result<ComChangeUser<'static>, AllocError>
         ensures { IfOk result (λ copy. change_user_view copy ≡ change_user_view self.now) }
     {
-        let more_data = copied_more(alloc, &self.more_data)?;
         let (user, database) = copied_pair(alloc, &self.user, &self.database)?;
         let auth_plugin_data = copied(alloc, &self.auth_plugin_data)?;
+        let more_data = copied_more(alloc, &self.more_data)?;
         Ok(ComChangeUser {
             user,
             auth_plugin_data,
@@ -286,6 +286,30 @@ impl<'a> ComChangeUser<'a> {
             more_data,
         })
     }
+}
+
+// A user's name, an answer to the scramble and a database.
+type Texts<'a> = (
+    RawBytes<'a, NullBytes>,
+    RawBytes<'a, U8Bytes>,
+    RawBytes<'a, NullBytes>,
+);
+
+// The texts, which borrow nothing.
+fn owned_texts(
+    alloc: Global,
+    user: RawBytes<NullBytes>,
+    auth_plugin_data: RawBytes<U8Bytes>,
+    database: RawBytes<NullBytes>,
+) -> Result<Texts<'static>, WireError>
+    ensures memory { IsOkUnless result wire.Memory }
+    ensures user { IfOk result (λ owned. text_view owned.0 ≡ text_view user.entry) }
+    ensures scramble { IfOk result (λ owned. text_view owned.1 ≡ text_view auth_plugin_data.entry) }
+    ensures database { IfOk result (λ owned. text_view owned.2 ≡ text_view database.entry) }
+{
+    let (user, database) = owned_pair(alloc, user, database)?;
+    let auth_plugin_data = auth_plugin_data.into_owned(alloc)?;
+    Ok((user, auth_plugin_data, database))
 }
 
 // What may stand last, which borrows nothing, where it is there.
