@@ -119,6 +119,13 @@ fixed_at bytes = do
     mariadb.1,
   )
 
+-- 31 bytes of them, which are there together or not at all
+unfoldable pub block_at : List ℕ → Reading FixedFields
+block_at bytes = do
+  block ← bytes_at 31 bytes
+  fixed ← fixed_at block.0
+  Ok (fixed.0, block.1)
+
 -- with SECURE_CONNECTION a second scramble, of the length less 8 but at least 13 bytes
 unfoldable pub scramble_at : ℕ → ℕ → List ℕ → Reading (Option (List ℕ))
 scramble_at capabilities len bytes =
@@ -131,15 +138,13 @@ scramble_at capabilities len bytes =
 unfoldable pub name_at : ℕ → List ℕ → Reading (Option (List ℕ))
 name_at capabilities bytes = if has_flag plugin_auth capabilities then Ok (Some (without_zero bytes), []) else Ok (None, bytes)
 
--- A version byte, the server's version to a zero, 31 bytes of fixed fields, which are there together or not at all, the second
--- scramble and the plugin's name.
+-- a version byte, the server's version to a zero, the fields of fixed length, the second scramble and the plugin's name
 unfoldable pub handshake_at : List ℕ → Reading HandshakeFields
 handshake_at bytes = do
   protocol ← little_at 1 bytes
   server ← null_text_at protocol.1
-  block ← bytes_at 31 server.1
-  fixed ← fixed_at block.0
-  scramble ← scramble_at fixed.0.capabilities fixed.0.data_length block.1
+  fixed ← block_at server.1
+  scramble ← scramble_at fixed.0.capabilities fixed.0.data_length fixed.1
   name ← name_at fixed.0.capabilities scramble.1
   Ok (
     record {

@@ -10,7 +10,7 @@ ghost use Rattle.mysql_auth.specs.Views.{plugin_view};
 ghost use Rattle.mysql_buf.specs.Writing.{front};
 ghost use Rattle.mysql_handshake.specs.Capabilities.{has_flag, plugin_auth, secure_connection};
 ghost use Rattle.mysql_handshake.specs.HandshakeViews.{fixed_view, handshake_view};
-ghost use Rattle.mysql_handshake.specs.Handshakes.{HandshakeFields, fixed, fixed_at, fixed_written, flags_at, handshake, handshake_at, name_at, name_written, nonce_of, scramble_at, scramble_front, scramble_written, scrambles_length};
+ghost use Rattle.mysql_handshake.specs.Handshakes.{HandshakeFields, block_at, fixed, fixed_at, fixed_written, flags_at, handshake, handshake_at, name_at, name_written, nonce_of, scramble_at, scramble_front, scramble_written, scrambles_length};
 ghost use Rattle.mysql_handshake.specs.Versions.{mariadb_version, version_of};
 ghost use Rattle.mysql_raw.specs.Forms.{bytes_at};
 ghost use Rattle.mysql_raw.specs.Laws.{unsized};
@@ -522,6 +522,15 @@ fn fixed_block_of(alloc: Global, block: &mut ParseBuf) -> Result<FixedBlock, Wir
     })
 }
 
+// The fields of fixed length, which are there together or not at all.
+#[tactic(auto, unfolding(crate::specs::Handshakes::block_at))]
+fn fixed_of(alloc: Global, rest: &mut ParseBuf) -> Result<FixedBlock, WireError>
+    ensures { GivesPart fixed_view rest.new.0.now result (block_at rest.old.0.now) }
+{
+    let block: &[u8] = rest.parse(alloc, 31)?;
+    fixed_block_of(alloc, &mut ParseBuf(block))
+}
+
 // The second scramble, where there is one.
 #[tactic(auto, unfolding(crate::specs::Handshakes::scramble_at))]
 fn scramble_2_of<'a>(
@@ -564,8 +573,7 @@ fn handshake_of<'a>(
 {
     let protocol_version: RawInt<u8> = rest.parse(alloc, ())?;
     let server_version: RawBytes<'a, NullBytes> = rest.parse(alloc, ())?;
-    let block: &[u8] = rest.parse(alloc, 31)?;
-    let fixed = fixed_block_of(alloc, &mut ParseBuf(block))?;
+    let fixed = fixed_of(alloc, rest)?;
     let scramble_2 = scramble_2_of(alloc, fixed.capabilities, fixed.auth_plugin_data_len, rest)?;
     let auth_plugin_name = plugin_name_of(fixed.capabilities, rest);
     let scramble_1 = fixed.scramble_1;
