@@ -86,32 +86,45 @@ handshake p = concat (
     ∷ name_written p.auth_plugin_name ∷ []
     )
 
--- All bits of the capabilities have names; a status with a bit that has none is refused, and of MariaDB's own capabilities such bits
--- are dropped.
+-- The capabilities, around the collation and the status. All bits of the capabilities have names; a status with a bit that has none is
+-- refused.
+unfoldable pub flags_at : List ℕ → Reading (ℕ × ℕ × ℕ)
+flags_at bytes = do
+  low ← little_at 2 bytes
+  collation ← little_at 1 low.1
+  status ← named_at status_named (little_at 2) collation.1
+  high ← upper_half_at status.1
+  Ok ((bit_or low.0 high.0, collation.0, status.0.0), high.1)
+
+-- of MariaDB's own capabilities bits that have no name are dropped
 unfoldable pub fixed_at : List ℕ → Reading FixedFields
 fixed_at bytes = do
   id ← little_at 4 bytes
   scramble ← bytes_at 8 id.1
   filler ← zeros_at 1 scramble.1
-  low ← little_at 2 filler.1
-  collation ← little_at 1 low.1
-  status ← named_at status_named (little_at 2) collation.1
-  high ← upper_half_at status.1
-  len ← little_at 1 high.1
+  flags ← flags_at filler.1
+  len ← little_at 1 flags.1
   reserved ← zeros_at 6 len.1
   mariadb ← little_at 4 reserved.1
   Ok (
     record {
       connection_id = id.0;
       scramble_1 = scramble.0;
-      capabilities = bit_or low.0 high.0;
-      default_collation = collation.0;
-      status_flags = status.0.0;
+      capabilities = flags.0.0;
+      default_collation = flags.0.1;
+      status_flags = flags.0.2;
       data_length = len.0;
       mariadb_ext_capabilities = bit_and mariadb.0 (known_bits mariadb_capabilities);
     },
     mariadb.1,
   )
+
+-- 31 bytes of them, which are there together or not at all
+unfoldable pub block_at : List ℕ → Reading FixedFields
+block_at bytes = do
+  block ← bytes_at 31 bytes
+  fixed ← fixed_at block.0
+  Ok (fixed.0, block.1)
 
 -- with SECURE_CONNECTION a second scramble, of the length less 8 but at least 13 bytes
 unfoldable pub scramble_at : ℕ → ℕ → List ℕ → Reading (Option (List ℕ))
@@ -125,15 +138,13 @@ scramble_at capabilities len bytes =
 unfoldable pub name_at : ℕ → List ℕ → Reading (Option (List ℕ))
 name_at capabilities bytes = if contains capabilities plugin_auth then Ok (Some (without_zero bytes), []) else Ok (None, bytes)
 
--- A version byte, the server's version to a zero, 31 bytes of fixed fields, which are there together or not at all, the second
--- scramble and the plugin's name.
+-- a version byte, the server's version to a zero, the fields of fixed length, the second scramble and the plugin's name
 unfoldable pub handshake_at : List ℕ → Reading HandshakeFields
 handshake_at bytes = do
   protocol ← little_at 1 bytes
   server ← null_text_at protocol.1
-  block ← bytes_at 31 server.1
-  fixed ← fixed_at block.0
-  scramble ← scramble_at fixed.0.capabilities fixed.0.data_length block.1
+  fixed ← block_at server.1
+  scramble ← scramble_at fixed.0.capabilities fixed.0.data_length fixed.1
   name ← name_at fixed.0.capabilities scramble.1
   Ok (
     record {

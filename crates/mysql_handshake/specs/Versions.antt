@@ -28,14 +28,16 @@ abbrev pub after_dot : List ℕ → Option (List ℕ)
 after_dot [] = None
 after_dot (c ∷ text) = if c == 46 then Some text else None
 
+-- the number that the text behind a dot begins with, and the text behind it
+abbrev pub number_after_dot : ℕ → List ℕ → Option (ℕ × List ℕ)
+number_after_dot most text = after_dot text >>= number_at most
+
 -- three numbers of at most two, two and three digits, with dots between, and the text behind them
 unfoldable pub version_at : List ℕ → Option ((ℕ × ℕ × ℕ) × List ℕ)
 version_at text = do
   major ← number_at 2 text
-  minor_text ← after_dot major.1
-  minor ← number_at 2 minor_text
-  patch_text ← after_dot minor.1
-  patch ← number_at 3 patch_text
+  minor ← number_after_dot 2 major.1
+  patch ← number_after_dot 3 minor.1
   Some ((major.0, minor.0, patch.0), patch.1)
 
 -- the version that a text begins with

@@ -10,7 +10,7 @@ ghost use Rattle.mysql_auth.specs.Views.{plugin_view};
 ghost use Rattle.mysql_buf.specs.Writing.{front};
 ghost use Rattle.mysql_handshake.specs.Capabilities.{plugin_auth, secure_connection};
 ghost use Rattle.mysql_handshake.specs.HandshakeViews.{fixed_view, handshake_view};
-ghost use Rattle.mysql_handshake.specs.Handshakes.{HandshakeFields, fixed, fixed_at, fixed_written, handshake, handshake_at, name_at, name_written, nonce_of, scramble_at, scramble_front, scramble_written, scrambles_length};
+ghost use Rattle.mysql_handshake.specs.Handshakes.{HandshakeFields, block_at, fixed, fixed_at, fixed_written, flags_at, handshake, handshake_at, name_at, name_written, nonce_of, scramble_at, scramble_front, scramble_written, scrambles_length};
 ghost use Rattle.mysql_handshake.specs.Versions.{mariadb_version, version_of};
 ghost use Rattle.mysql_raw.specs.Forms.{bytes_at};
 ghost use Rattle.mysql_raw.specs.Laws.{unsized};
@@ -348,19 +348,27 @@ impl<'a> HandshakePacket<'a> {
     pub fn clone(&self, alloc: Global) -> Result<HandshakePacket<'static>, AllocError>
         ensures { IfOk result (λ copy. handshake_view copy ≡ handshake_view self.now) }
     {
-        Ok(HandshakePacket {
+        self.lent().into_owned(alloc)
+    }
+
+    // The same packet, whose texts are lent.
+    fn lent(&self) -> HandshakePacket<'_>
+        ensures { handshake_view result ≡ handshake_view self.now }
+    {
+        let scramble_1 = self.scramble_1;
+        HandshakePacket {
             protocol_version: self.protocol_version,
-            server_version: CowSlice::Owned(Vec::from_slice(alloc, self.server_version_ref())?),
+            server_version: CowSlice::Borrowed(self.server_version_ref()),
             connection_id: self.connection_id,
-            scramble_1: self.scramble_1,
+            scramble_1,
             capabilities: self.capabilities,
             default_collation: self.default_collation,
             status_flags: self.status_flags,
             auth_plugin_data_len: self.auth_plugin_data_len,
             mariadb_ext_capabilities: self.mariadb_ext_capabilities,
-            scramble_2: owned_text(lent_text(&self.scramble_2), alloc)?,
-            auth_plugin_name: owned_text(lent_text(&self.auth_plugin_name), alloc)?,
-        })
+            scramble_2: lent_text(&self.scramble_2),
+            auth_plugin_name: lent_text(&self.auth_plugin_name),
+        }
     }
 
     // What is written of fixed length.
@@ -475,6 +483,23 @@ fn eight_bytes(buf: &mut ParseBuf) -> Result<[u8; 8], WireError>
     }
 }
 
+// The capabilities, the collation and the status.
+#[tactic(auto, unfolding(crate::specs::Handshakes::flags_at, bitflags::proofs::OnLiterals::bitflags_on_literals))]
+fn flags_of(
+    alloc: Global,
+    block: &mut ParseBuf,
+) -> Result<(CapabilityFlags, u8, StatusFlags), WireError>
+    ensures { GivesPart (λ flags. (flags.0.0, flags.1, flags.2.0)) block.new.0.now result (flags_at block.old.0.now) }
+{
+    let low: RawInt<LeU32LowerHalf> = block.parse(alloc, ())?;
+    let default_collation: RawInt<u8> = block.parse(alloc, ())?;
+    let status_flags: Const<StatusFlags, LeU16> = block.parse(alloc, ())?;
+    let high: RawInt<LeU32UpperHalf> = block.parse(alloc, ())?;
+    // All 32 bits have names.
+    let capabilities = CapabilityFlags(low.0 | high.0);
+    Ok((capabilities, default_collation.0, status_flags.0))
+}
+
 // The fields of fixed length.
 #[tactic(auto, unfolding(crate::specs::Handshakes::fixed_at, bitflags::proofs::OnLiterals::bitflags_on_literals))]
 fn fixed_block_of(alloc: Global, block: &mut ParseBuf) -> Result<FixedBlock, WireError>
@@ -483,23 +508,28 @@ fn fixed_block_of(alloc: Global, block: &mut ParseBuf) -> Result<FixedBlock, Wir
     let connection_id: RawInt<LeU32> = block.parse(alloc, ())?;
     let scramble_1 = eight_bytes(block)?;
     let _filler: Skip<1> = block.parse(alloc, ())?;
-    let low: RawInt<LeU32LowerHalf> = block.parse(alloc, ())?;
-    let default_collation: RawInt<u8> = block.parse(alloc, ())?;
-    let status_flags: Const<StatusFlags, LeU16> = block.parse(alloc, ())?;
-    let high: RawInt<LeU32UpperHalf> = block.parse(alloc, ())?;
+    let (capabilities, default_collation, status_flags) = flags_of(alloc, block)?;
     let auth_plugin_data_len: RawInt<u8> = block.parse(alloc, ())?;
     let _reserved: Skip<6> = block.parse(alloc, ())?;
     let mariadb: RawFlags<MariadbCapabilities, LeU32> = block.parse(alloc, ())?;
     Ok(FixedBlock {
         connection_id: connection_id.0,
         scramble_1,
-        // All 32 bits have names.
-        capabilities: CapabilityFlags(low.0 | high.0),
-        default_collation: default_collation.0,
-        status_flags: status_flags.0,
+        capabilities,
+        default_collation,
+        status_flags,
         auth_plugin_data_len: auth_plugin_data_len.0,
         mariadb_ext_capabilities: mariadb.get(),
     })
+}
+
+// The fields of fixed length, which are there together or not at all.
+#[tactic(auto, unfolding(crate::specs::Handshakes::block_at))]
+fn fixed_of(alloc: Global, rest: &mut ParseBuf) -> Result<FixedBlock, WireError>
+    ensures { GivesPart fixed_view rest.new.0.now result (block_at rest.old.0.now) }
+{
+    let block: &[u8] = rest.parse(alloc, 31)?;
+    fixed_block_of(alloc, &mut ParseBuf(block))
 }
 
 // The second scramble, where there is one.
@@ -544,8 +574,7 @@ fn handshake_of<'a>(
 {
     let protocol_version: RawInt<u8> = rest.parse(alloc, ())?;
     let server_version: RawBytes<'a, NullBytes> = rest.parse(alloc, ())?;
-    let block: &[u8] = rest.parse(alloc, 31)?;
-    let fixed = fixed_block_of(alloc, &mut ParseBuf(block))?;
+    let fixed = fixed_of(alloc, rest)?;
     let scramble_2 = scramble_2_of(alloc, fixed.capabilities, fixed.auth_plugin_data_len, rest)?;
     let auth_plugin_name = plugin_name_of(fixed.capabilities, rest);
     let scramble_1 = fixed.scramble_1;

@@ -4,7 +4,7 @@ ghost use Rattle.std.specs.Prelude.{◌≡◌, ◌<◌, ◌≤◌, ℕ, length, 
 ghost use Rattle.std.specs.List.{prefix_len};
 ghost use Rattle.std.specs.Option.{option_map};
 ghost use Rattle.std.specs.Str.Parse.{digits_value};
-ghost use Rattle.mysql_handshake.specs.Versions.{after_dot, digits_len, is_digit, mariadb_version, marked_version, number_at, version_at, version_of};
+ghost use Rattle.mysql_handshake.specs.Versions.{after_dot, digits_len, is_digit, mariadb_version, marked_version, number_after_dot, number_at, version_at, version_of};
 
 /// What stands before the version of a MariaDB server from 10 on, for clients that take a first
 /// number of one digit alone.
@@ -77,14 +77,22 @@ fn after_dot(text: &[u8]) -> Option<&[u8]>
     }
 }
 
+// The number behind a dot, of at most `most` digits, and the text behind it.
+fn number_after_dot(text: &[u8], most: usize) -> Option<(u16, &[u8])>
+    requires { most ≤ 3 }
+    ensures { option_map (λ found. (found.0, found.1.now)) result ≡ number_after_dot most text.now }
+{
+    number_at(after_dot(text)?, most)
+}
+
 // Three numbers with dots between, and the text behind them.
 #[tactic(auto, unfolding(crate::specs::Versions::version_at))]
 fn version_at(text: &[u8]) -> Option<((u16, u16, u16), &[u8])>
     ensures { option_map (λ found. (found.0, found.1.now)) result ≡ version_at text.now }
 {
     let (major, rest) = number_at(text, 2)?;
-    let (minor, rest) = number_at(after_dot(rest)?, 2)?;
-    let (patch, rest) = number_at(after_dot(rest)?, 3)?;
+    let (minor, rest) = number_after_dot(rest, 2)?;
+    let (patch, rest) = number_after_dot(rest, 3)?;
     Some(((major, minor, patch), rest))
 }
 

@@ -48,12 +48,18 @@ pub record ChangeUserFields : Type 0 where
 unfoldable pub change_user : ChangeUserFields → List ℕ
 change_user p = concat (little_bytes 1 0x11 ∷ null_text p.user ∷ u8_str p.scramble ∷ null_text p.database ∷ if_held more_data p.more ∷ [])
 
--- the fields that stand first; more is read where a byte follows
+-- the database, and more where a byte follows it
+unfoldable pub database_and_more_at : ℕ → List ℕ → Reading (List ℕ × Option MoreFields)
+database_and_more_at capabilities bytes = do
+  database ← null_text_at bytes
+  more ← if_there (not (length database.1 == 0)) (more_data_at capabilities) database.1
+  Ok ((database.0, more.0), more.1)
+
+-- the fields that stand first
 unfoldable pub change_user_at : ℕ → List ℕ → Reading ChangeUserFields
 change_user_at capabilities bytes = do
   header ← constant_at 1 0x11 bytes
   user ← null_text_at header.1
   scramble ← u8_text_at user.1
-  database ← null_text_at scramble.1
-  more ← if_there (not (length database.1 == 0)) (more_data_at capabilities) database.1
-  Ok (record { user = user.0; scramble = scramble.0; database = database.0; more = more.0 }, more.1)
+  last ← database_and_more_at capabilities scramble.1
+  Ok (record { user = user.0; scramble = scramble.0; database = last.0.0; more = last.0.1 }, last.1)

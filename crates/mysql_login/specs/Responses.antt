@@ -49,25 +49,31 @@ response p = concat (
     ∷ if_held plugin_text p.plugin ∷ if_held attributes p.attributes ∷ []
     )
 
+-- a database, a plugin and attributes, each where the capabilities name it
+unfoldable pub named_parts_at : ℕ → List ℕ → Reading (Option (List ℕ) × Option Plugin × Option (List Attribute))
+named_parts_at capabilities bytes = do
+  database ← if_there (contains capabilities connect_with_db) null_text_at bytes
+  plugin ← if_there (contains capabilities plugin_auth) plugin_to_zero_at database.1
+  attributes ← if_there (contains capabilities connect_attrs) attributes_at plugin.1
+  Ok ((database.0, plugin.0, attributes.0), attributes.1)
+
 -- the fields that stand first; the capabilities say which of the last three do
 unfoldable pub response_at : List ℕ → Reading ResponseFields
 response_at bytes = do
   request ← ssl_request_at bytes
   user ← null_text_at request.1
   scramble ← scramble_at request.0.capabilities user.1
-  database ← if_there (contains request.0.capabilities connect_with_db) null_text_at scramble.1
-  plugin ← if_there (contains request.0.capabilities plugin_auth) plugin_to_zero_at database.1
-  attributes ← if_there (contains request.0.capabilities connect_attrs) attributes_at plugin.1
+  parts ← named_parts_at request.0.capabilities scramble.1
   Ok (
     record {
       request = request.0;
       user = user.0;
       scramble = scramble.0;
-      database = database.0;
-      plugin = plugin.0;
-      attributes = attributes.0;
+      database = parts.0.0;
+      plugin = parts.0.1;
+      attributes = parts.0.2;
     },
-    attributes.1,
+    parts.1,
   )
 
 -- a server's version is 5.5.3 or later

@@ -75,9 +75,7 @@ impl<'a> ConnectAttributes<'a> {
     {
         let mut all = ConnectAttributes::new(alloc);
         for (key, value) in self.entries {
-            let key = key.into_owned(alloc)?;
-            let value = value.into_owned(alloc)?;
-            all.put(key, value)?;
+            all.put_owned(alloc, key, value)?;
         }
         Ok(all)
     }
@@ -88,9 +86,7 @@ impl<'a> ConnectAttributes<'a> {
     {
         let mut all = ConnectAttributes::new(alloc);
         for (key, value) in &self.entries {
-            let key = copied(alloc, key)?;
-            let value = copied(alloc, value)?;
-            all.put(key, value)?;
+            all.put_copy(alloc, key, value)?;
         }
         Ok(all)
     }
@@ -103,12 +99,68 @@ impl<'a> ConnectAttributes<'a> {
     {
         let mut texts = IndexMap::new(alloc);
         for (key, value) in &self.entries {
-            let key = lossy(alloc, key.0.as_slice())?;
-            let value = lossy(alloc, value.0.as_slice())?;
-            put_text(&mut texts, key, value)?;
+            put_lossy(alloc, &mut texts, key.0.as_slice(), value.0.as_slice())?;
         }
         Ok(texts)
     }
+}
+
+impl ConnectAttributes<'static> {
+    // Puts one more attribute, which then borrows nothing.
+    fn put_owned(
+        &mut self,
+        alloc: Global,
+        key: RawBytes<LenEnc>,
+        value: RawBytes<LenEnc>,
+    ) -> Result<(), WireError>
+        ensures memory { IsOkUnless result wire.Memory }
+        ensures value { IfOk result (λ _. attributes_view self.new ≡ with_attribute (attributes_view self.old) (shown_attribute (key.entry, value.entry))) }
+    {
+        let (key, value) = owned_pair(alloc, key, value)?;
+        Ok(self.put(key, value)?)
+    }
+
+    // Puts a copy of one more attribute.
+    fn put_copy(
+        &mut self,
+        alloc: Global,
+        key: &RawBytes<LenEnc>,
+        value: &RawBytes<LenEnc>,
+    ) -> Result<(), AllocError>
+        ensures { IfOk result (λ _. attributes_view self.new ≡ with_attribute (attributes_view self.old) (shown_attribute (key.now, value.now))) }
+    {
+        let (key, value) = copied_pair(alloc, key, value)?;
+        self.put(key, value)
+    }
+}
+
+// Two texts, which borrow nothing.
+pub(crate) fn owned_pair<T: BytesRepr, U: BytesRepr>(
+    alloc: Global,
+    first: RawBytes<T>,
+    second: RawBytes<U>,
+) -> Result<(RawBytes<'static, T>, RawBytes<'static, U>), WireError>
+    ensures memory { IsOkUnless result wire.Memory }
+    ensures first { IfOk result (λ owned. cow_slice_items owned.0.0 ≡ cow_slice_items first.entry.0) }
+    ensures second { IfOk result (λ owned. cow_slice_items owned.1.0 ≡ cow_slice_items second.entry.0) }
+{
+    let first = first.into_owned(alloc)?;
+    let second = second.into_owned(alloc)?;
+    Ok((first, second))
+}
+
+// Copies of two texts.
+pub(crate) fn copied_pair<T: BytesRepr, U: BytesRepr>(
+    alloc: Global,
+    first: &RawBytes<T>,
+    second: &RawBytes<U>,
+) -> Result<(RawBytes<'static, T>, RawBytes<'static, U>), AllocError>
+    ensures first { IfOk result (λ copy. cow_slice_items copy.0.0 ≡ cow_slice_items first.now.0) }
+    ensures second { IfOk result (λ copy. cow_slice_items copy.1.0 ≡ cow_slice_items second.now.0) }
+{
+    let first = copied(alloc, first)?;
+    let second = copied(alloc, second)?;
+    Ok((first, second))
 }
 
 // A copy of a text.
@@ -139,6 +191,20 @@ fn put_text(
 {
     texts.insert(key, value)?;
     Ok(())
+}
+
+// Puts one more attribute as texts.
+fn put_lossy(
+    alloc: Global,
+    texts: &mut IndexMap<String, String>,
+    key: &[u8],
+    value: &[u8],
+) -> Result<(), AllocError>
+    ensures { IfOk result (λ _. map text_attribute texts.new.entries ≡ with_attribute (map text_attribute texts.old.entries) (lossy_attribute (key.now, value.now))) }
+{
+    let key = lossy(alloc, key)?;
+    let value = lossy(alloc, value)?;
+    put_text(texts, key, value)
 }
 
 // The attribute that stands first.

@@ -5,14 +5,15 @@ ghost use Rattle.std.specs.Cow.{cow_slice_items};
 ghost use Rattle.mysql_auth.specs.Views.{plugin_view};
 ghost use Rattle.mysql_login.specs.Attributes.{attributes};
 ghost use Rattle.mysql_login.specs.AttributeViews.{attributes_view, text_attribute};
-ghost use Rattle.mysql_login.specs.ChangedUsers.{ChangeUserFields, MoreFields, change_user, change_user_at, more_data, more_data_at, or_none};
+ghost use Rattle.mysql_login.specs.ChangedUsers.{ChangeUserFields, MoreFields, change_user, change_user_at, database_and_more_at, more_data, more_data_at, or_none};
 ghost use Rattle.mysql_login.specs.ChangedUserViews.{change_user_view, more_view};
 ghost use Rattle.mysql_login.specs.Parts.{or_empty};
+ghost use Rattle.mysql_login.specs.ResponseViews.{text_view};
 ghost use Rattle.mysql_raw.specs.Laws.{unsized};
 ghost use Rattle.mysql_raw.specs.Wire.{GivesPart};
 ghost use Rattle.mysql_raw.specs.declared.error.WireError.TheVariants as wire;
 
-use crate::attributes::{ConnectAttributes, copied};
+use crate::attributes::{ConnectAttributes, copied, copied_pair, owned_pair};
 use crate::parts::{
     IfHeld, attributes_of_texts, copied_attributes, copied_plugin, has, or_no_bytes,
     owned_attributes, owned_plugin, parse_if, plugin_before_zero,
@@ -260,20 +261,13 @@ impl<'a> ComChangeUser<'a> {
         ensures memory { IsOkUnless result wire.Memory }
         ensures value { IfOk result (λ owned. change_user_view owned ≡ change_user_view self.entry) }
     {
-        let ComChangeUser {
+        let more_data = owned_more(alloc, self.more_data)?;
+        let (user, auth_plugin_data, database) =
+            owned_texts(alloc, self.user, self.auth_plugin_data, self.database)?;
+        Ok(ComChangeUser {
             user,
             auth_plugin_data,
             database,
-            more_data,
-        } = self;
-        let more_data = match more_data {
-            Some(more) => Some(more.into_owned(alloc)?),
-            None => None,
-        };
-        Ok(ComChangeUser {
-            user: user.into_owned(alloc)?,
-            auth_plugin_data: auth_plugin_data.into_owned(alloc)?,
-            database: database.into_owned(alloc)?,
             more_data,
         })
     }
@@ -282,16 +276,66 @@ impl<'a> ComChangeUser<'a> {
     pub fn clone(&self, alloc: Global) -> Result<ComChangeUser<'static>, AllocError>
         ensures { IfOk result (λ copy. change_user_view copy ≡ change_user_view self.now) }
     {
-        let more_data = match &self.more_data {
-            Some(more) => Some(more.clone(alloc)?),
-            None => None,
-        };
+        let (user, database) = copied_pair(alloc, &self.user, &self.database)?;
+        let auth_plugin_data = copied(alloc, &self.auth_plugin_data)?;
+        let more_data = copied_more(alloc, &self.more_data)?;
         Ok(ComChangeUser {
-            user: copied(alloc, &self.user)?,
-            auth_plugin_data: copied(alloc, &self.auth_plugin_data)?,
-            database: copied(alloc, &self.database)?,
+            user,
+            auth_plugin_data,
+            database,
             more_data,
         })
+    }
+}
+
+// A user's name, an answer to the scramble and a database.
+type Texts<'a> = (
+    RawBytes<'a, NullBytes>,
+    RawBytes<'a, U8Bytes>,
+    RawBytes<'a, NullBytes>,
+);
+
+// The texts, which borrow nothing.
+fn owned_texts(
+    alloc: Global,
+    user: RawBytes<NullBytes>,
+    auth_plugin_data: RawBytes<U8Bytes>,
+    database: RawBytes<NullBytes>,
+) -> Result<Texts<'static>, WireError>
+    ensures memory { IsOkUnless result wire.Memory }
+    ensures user { IfOk result (λ owned. text_view owned.0 ≡ text_view user.entry) }
+    ensures scramble { IfOk result (λ owned. text_view owned.1 ≡ text_view auth_plugin_data.entry) }
+    ensures database { IfOk result (λ owned. text_view owned.2 ≡ text_view database.entry) }
+{
+    let (user, database) = owned_pair(alloc, user, database)?;
+    let auth_plugin_data = auth_plugin_data.into_owned(alloc)?;
+    Ok((user, auth_plugin_data, database))
+}
+
+// What may stand last, which borrows nothing, where it is there.
+fn owned_more(
+    alloc: Global,
+    more_data: Option<ComChangeUserMoreData>,
+) -> Result<Option<ComChangeUserMoreData<'static>>, WireError>
+    ensures memory { IsOkUnless result wire.Memory }
+    ensures value { IfOk result (λ owned. option_map more_view owned ≡ option_map more_view more_data.entry) }
+{
+    match more_data {
+        Some(more) => Ok(Some(more.into_owned(alloc)?)),
+        None => Ok(None),
+    }
+}
+
+// A copy of what may stand last, where it is there.
+fn copied_more(
+    alloc: Global,
+    more_data: &Option<ComChangeUserMoreData>,
+) -> Result<Option<ComChangeUserMoreData<'static>>, AllocError>
+    ensures { IfOk result (λ copy. option_map more_view copy ≡ option_map more_view more_data.now) }
+{
+    match more_data {
+        Some(more) => Ok(Some(more.clone(alloc)?)),
+        None => Ok(None),
     }
 }
 
@@ -345,6 +389,21 @@ impl<'a> Readable for ComChangeUser<'a> {
     }
 }
 
+// The database, and what may stand last.
+#[tactic(auto, unfolding(crate::specs::ChangedUsers::database_and_more_at))]
+fn database_and_more<'de>(
+    alloc: Global,
+    capabilities: CapabilityFlags,
+    rest: &mut ParseBuf<'de>,
+) -> Result<(RawBytes<'de, NullBytes>, Option<ComChangeUserMoreData<'de>>), WireError>
+    ensures { GivesPart (λ parts. (text_view parts.0, option_map more_view parts.1)) rest.new.0.now result (database_and_more_at capabilities.0 rest.old.0.now) }
+{
+    let database = rest.parse(alloc, ())?;
+    let follows = !rest.is_empty();
+    let more_data = parse_if(alloc, follows, capabilities, rest)?;
+    Ok((database, more_data))
+}
+
 #[tactic(auto, unfolding(crate::specs::ChangedUsers::change_user_at))]
 impl<'de> MyDeserialize<'de> for ComChangeUser<'de> {
     fn deserialize(
@@ -356,9 +415,7 @@ impl<'de> MyDeserialize<'de> for ComChangeUser<'de> {
         let _: ComChangeUserHeader = rest.parse(alloc, ())?;
         let user = rest.parse(alloc, ())?;
         let auth_plugin_data = rest.parse(alloc, ())?;
-        let database = rest.parse(alloc, ())?;
-        let follows = !rest.is_empty();
-        let more_data = parse_if(alloc, follows, capabilities, &mut rest)?;
+        let (database, more_data) = database_and_more(alloc, capabilities, &mut rest)?;
         *buf = rest;
         Ok(ComChangeUser {
             user,

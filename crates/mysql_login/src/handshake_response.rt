@@ -4,10 +4,10 @@ ghost use Rattle.std.specs.Prelude.{◌≡◌, IfOk, None, map, option_map, IsOk
 ghost use Rattle.std.specs.Cow.{cow_slice_items};
 ghost use Rattle.mysql_auth.specs.Views.{plugin_view};
 ghost use Rattle.mysql_login.specs.Attributes.{with_last_values};
-ghost use Rattle.mysql_login.specs.AttributeViews.{lossy_attribute, text_attribute};
+ghost use Rattle.mysql_login.specs.AttributeViews.{attributes_view, lossy_attribute, text_attribute};
 ghost use Rattle.mysql_handshake.specs.Capabilities.{connect_attrs, connect_with_db, plugin_auth};
 ghost use Rattle.mysql_login.specs.Parts.{marked, or_empty};
-ghost use Rattle.mysql_login.specs.Responses.{ResponseFields, collation_for, counted_scramble, has_counted_scramble, knows_utf8mb4, marked_capabilities, response, response_at, scramble, scramble_at};
+ghost use Rattle.mysql_login.specs.Responses.{ResponseFields, collation_for, counted_scramble, has_counted_scramble, knows_utf8mb4, marked_capabilities, named_parts_at, response, response_at, scramble, scramble_at};
 ghost use Rattle.mysql_login.specs.ResponseViews.{response_view, text_view};
 ghost use Rattle.mysql_buf.specs.Writing.{front};
 ghost use Rattle.mysql_raw.specs.Laws.{unsized};
@@ -46,6 +46,13 @@ pub struct HandshakeResponse<'a> {
     connect_attributes: Option<ConnectAttributes<'a>>,
 }
 
+// A database's name, a plugin and attributes, each where the capabilities name it.
+type NamedParts<'a> = (
+    Option<RawBytes<'a, NullBytes>>,
+    Option<AuthPlugin<'a>>,
+    Option<ConnectAttributes<'a>>,
+);
+
 // The number of the collation for a server of this version.
 fn collation_of(server_version: (u16, u16, u16)) -> u8
     ensures { result ≡ collation_for server_version }
@@ -81,6 +88,29 @@ fn is_counted(capabilities: CapabilityFlags) -> bool
         capabilities,
         CapabilityFlags::CLIENT_PLUGIN_AUTH_LENENC_CLIENT_DATA,
     ) && has(capabilities, CapabilityFlags::CLIENT_SECURE_CONNECTION)
+}
+
+// A copy of a database's name, where there is one.
+fn copied_name(
+    alloc: Global,
+    name: &Option<RawBytes<NullBytes>>,
+) -> Result<Option<RawBytes<'static, NullBytes>>, AllocError>
+    ensures { IfOk result (λ copy. option_map text_view copy ≡ option_map text_view name.now) }
+{
+    match name {
+        Some(name) => Ok(Some(copied(alloc, name)?)),
+        None => Ok(None),
+    }
+}
+
+// A database's name, where one is given.
+fn name_of<'a>(name: Option<CowSlice<'a, u8>>) -> Option<RawBytes<'a, NullBytes>>
+    ensures { option_map text_view result ≡ option_map cow_slice_items name.entry }
+{
+    match name {
+        Some(name) => Some(RawBytes::new(name)),
+        None => None,
+    }
 }
 
 impl<'a> HandshakeResponse<'a> {
@@ -122,15 +152,11 @@ impl<'a> HandshakeResponse<'a> {
             connect_attributes.is_some(),
         );
         let connect_attributes = attributes_of_texts(alloc, connect_attributes)?;
-        let db_name = match db_name {
-            Some(name) => Some(RawBytes::new(name)),
-            None => None,
-        };
         Ok(HandshakeResponse {
             request: SslRequest::new(capabilities, max_packet_size, collation_of(server_version)),
             user: RawBytes::new(or_no_bytes(user)),
             scramble_buf: or_no_bytes(scramble_buf),
-            db_name,
+            db_name: name_of(db_name),
             auth_plugin,
             connect_attributes,
         })
@@ -153,22 +179,42 @@ impl<'a> HandshakeResponse<'a> {
     pub fn clone(&self, alloc: Global) -> Result<HandshakeResponse<'static>, AllocError>
         ensures { IfOk result (λ copy. response_view copy ≡ response_view self.now) }
     {
-        let user = copied(alloc, &self.user)?;
-        let scramble_buf = Vec::from_slice(alloc, self.scramble_buf.as_slice())?;
-        let db_name = match &self.db_name {
-            Some(name) => Some(copied(alloc, name)?),
-            None => None,
-        };
-        let auth_plugin = copied_plugin(alloc, &self.auth_plugin)?;
-        let connect_attributes = copied_attributes(alloc, &self.connect_attributes)?;
+        let request = self.request.clone()?;
+        let (user, scramble_buf) = self.copied_user(alloc)?;
+        let (db_name, auth_plugin, connect_attributes) = self.copied_parts(alloc)?;
         Ok(HandshakeResponse {
-            request: self.request.clone()?,
+            request,
             user,
-            scramble_buf: CowSlice::Owned(scramble_buf),
+            scramble_buf,
             db_name,
             auth_plugin,
             connect_attributes,
         })
+    }
+
+    // Copies of the user's name and of the answer to the scramble.
+    fn copied_user(
+        &self,
+        alloc: Global,
+    ) -> Result<(RawBytes<'static, NullBytes>, CowSlice<'static, u8>), AllocError>
+        ensures user { IfOk result (λ copy. text_view copy.0 ≡ text_view self.now.user) }
+        ensures scramble { IfOk result (λ copy. cow_slice_items copy.1 ≡ cow_slice_items self.now.scramble_buf) }
+    {
+        let user = copied(alloc, &self.user)?;
+        let scramble_buf = Vec::from_slice(alloc, self.scramble_buf.as_slice())?;
+        Ok((user, CowSlice::Owned(scramble_buf)))
+    }
+
+    // Copies of the parts that the capabilities name.
+    fn copied_parts(&self, alloc: Global) -> Result<NamedParts<'static>, AllocError>
+        ensures database { IfOk result (λ copy. option_map text_view copy.0 ≡ option_map text_view self.now.db_name) }
+        ensures plugin { IfOk result (λ copy. option_map plugin_view copy.1 ≡ option_map plugin_view self.now.auth_plugin) }
+        ensures attributes { IfOk result (λ copy. option_map attributes_view copy.2 ≡ option_map attributes_view self.now.connect_attributes) }
+    {
+        let db_name = copied_name(alloc, &self.db_name)?;
+        let auth_plugin = copied_plugin(alloc, &self.auth_plugin)?;
+        let connect_attributes = copied_attributes(alloc, &self.connect_attributes)?;
+        Ok((db_name, auth_plugin, connect_attributes))
     }
 
     /// What the client can do.
@@ -289,6 +335,24 @@ fn parse_scramble<'de>(
     }
 }
 
+// The parts that the capabilities name.
+#[tactic(auto, unfolding(crate::specs::Responses::named_parts_at))]
+fn named_parts<'de>(
+    alloc: Global,
+    capabilities: CapabilityFlags,
+    rest: &mut ParseBuf<'de>,
+) -> Result<NamedParts<'de>, WireError>
+    ensures { GivesPart (λ parts. (option_map text_view parts.0, option_map plugin_view parts.1, option_map attributes_view parts.2)) rest.new.0.now result (named_parts_at capabilities.0 rest.old.0.now) }
+{
+    let with_database = has(capabilities, CapabilityFlags::CLIENT_CONNECT_WITH_DB);
+    let db_name = parse_if(alloc, with_database, (), rest)?;
+    let with_plugin = has(capabilities, CapabilityFlags::CLIENT_PLUGIN_AUTH);
+    let auth_plugin = plugin_to_zero(with_plugin, rest);
+    let with_attributes = has(capabilities, CapabilityFlags::CLIENT_CONNECT_ATTRS);
+    let connect_attributes = parse_if(alloc, with_attributes, (), rest)?;
+    Ok((db_name, auth_plugin, connect_attributes))
+}
+
 #[tactic(auto, unfolding(crate::specs::Responses::response_at))]
 fn response_fields<'de>(
     alloc: Global,
@@ -300,12 +364,7 @@ fn response_fields<'de>(
     let capabilities = request.capabilities();
     let user = rest.parse(alloc, ())?;
     let scramble_buf = parse_scramble(capabilities, rest)?;
-    let with_database = has(capabilities, CapabilityFlags::CLIENT_CONNECT_WITH_DB);
-    let db_name = parse_if(alloc, with_database, (), rest)?;
-    let with_plugin = has(capabilities, CapabilityFlags::CLIENT_PLUGIN_AUTH);
-    let auth_plugin = plugin_to_zero(with_plugin, rest);
-    let with_attributes = has(capabilities, CapabilityFlags::CLIENT_CONNECT_ATTRS);
-    let connect_attributes = parse_if(alloc, with_attributes, (), rest)?;
+    let (db_name, auth_plugin, connect_attributes) = named_parts(alloc, capabilities, rest)?;
     Ok(HandshakeResponse {
         request,
         user,
