@@ -262,8 +262,12 @@ impl<'a> ComChangeUser<'a> {
         ensures value { IfOk result (λ owned. change_user_view owned ≡ change_user_view self.entry) }
     {
         let more_data = owned_more(alloc, self.more_data)?;
-        let (user, auth_plugin_data, database) =
-            owned_texts(alloc, self.user, self.auth_plugin_data, self.database)?;
+        let (user, auth_plugin_data, database) = owned_texts(
+            alloc,
+            self.user,
+            self.auth_plugin_data,
+            self.database,
+        )?;
         Ok(ComChangeUser {
             user,
             auth_plugin_data,
