@@ -10,7 +10,8 @@ use crate::texts::text_of;
 use bitflags::Flags;
 use mysql_const::{ColumnFlags, ColumnType};
 use mysql_wire::{
-    Const, ConstBytes, ConstBytesValue, ConstU8, LeU16, LeU32, ParseBuf, ParseExt, RawInt, WireError,
+    Const, ConstBytes, ConstBytesValue, ConstU8, LeU16, LeU32, ParseBuf, ParseExt, RawInt,
+    WireError,
 };
 use std::alloc::{AllocError, Global};
 

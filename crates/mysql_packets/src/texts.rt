@@ -10,6 +10,5 @@ use mysql_wire::{ParseBuf, WireError};
 pub(crate) fn text_of<'a>(buf: &mut ParseBuf<'a>) -> Result<&'a [u8], WireError>
     ensures { GivesPart (λ text. text.now) buf.new.0.now result (lenenc_text_at buf.old.0.now) }
 {
-    buf.checked_eat_lenenc_str()
-        .ok_or(WireError::UnexpectedEof)
+    buf.checked_eat_lenenc_str().ok_or(WireError::UnexpectedEof)
 }
