@@ -166,6 +166,21 @@ fn copies(alloc: Global, values: &[&Value]) -> Result<Vec<Value>, AllocError>
     Ok(copies)
 }
 
+/// The value of each name, in order, copied.
+///
+/// Refuses `Missing` with the first name that has none, `Memory`.
+fn copies_of(
+    alloc: Global,
+    entries: &HashMap<Vec<u8>, Value>,
+    names: &[Vec<u8>],
+) -> Result<Vec<Value>, ParamsError>
+    ensures ok { IfOk result (λ values. values_named entries.now.entries (map (λ name. name.items) names.now) ≡ Ok values.items) }
+    ensures err { IfErr result (λ e. (e ≡ params_error.Memory) ⊎ (values_named entries.now.entries (map (λ name. name.items) names.now) ≡ Err e)) }
+{
+    let values = look_up(alloc, entries, names)?;
+    Ok(copies(alloc, &values)?)
+}
+
 /// The values themselves, lent.
 fn lent<'a>(alloc: Global, values: &'a [Value]) -> Result<Vec<&'a Value>, AllocError>
     ensures { IfOk result (λ lent. map (λ value. value.now) lent.items ≡ values.entry.now) }
@@ -223,8 +238,7 @@ impl Params {
                         ParamsConfusionError::NamedParamsForPositionalQuery,
                     ));
                 }
-                let values = look_up(alloc, &entries, names)?;
-                Ok(copies(alloc, &values)?)
+                copies_of(alloc, &entries, names)
             }
         }
     }
@@ -245,8 +259,7 @@ impl Params {
             Params::Empty => Ok(Params::Empty),
             Params::Positional(values) => Ok(Params::Positional(values)),
             Params::Named(entries) => {
-                let values = look_up(alloc, &entries, named_params)?;
-                Ok(Params::Positional(copies(alloc, &values)?))
+                Ok(Params::Positional(copies_of(alloc, &entries, named_params)?))
             }
         }
     }

@@ -1,13 +1,31 @@
-use Rattle.std.proofs.Common.{◌≡◌, true, length, map, sym, ap, ◌∙◌, inl, inr, subst}
+use Rattle.std.proofs.Common.{◌≡◌, true, length, map, sym, refl, ap, ◌∙◌, inl, inr, subst}
 use Rattle.std.specs.List.{AllByRecursion}
 use Rattle.std.proofs.lemmas.List.{length-map}
 use Rattle.std.proofs.lemmas.Result.{err_from_is_err_and}
-use Rattle.mysql_values.specs.Binding.{IsFilled, first_float, values_cause, IsBindCause}
+use Rattle.mysql_values.specs.Binding.{IsFilled, bind_cause, first_float, values_cause, IsBindCause}
 use Rattle.mysql_values.specs.Params.{values_over}
 use Rattle.mysql_queries.specs.Parsed.{names_at}
-use Rattle.mysql_queries.specs.Queries.{first_not_alone, is_mixed}
-use Rattle.mysql_values.proofs.BindCauses.{bind_ok, values_are_cause, float_is_cause}
+use Rattle.mysql_queries.specs.Queries.{HasPlaces, first_not_alone, is_mixed}
+use Rattle.mysql_values.proofs.BindCauses.{bind_ok, is_cause, values_are_cause, float_is_cause}
 use Rattle.mysql_values.proofs.bind.bind_text.Goals as goal
+
+pub returns-in_err-places-clause-err : goal.returns-in_err-places-clause-err
+returns-in_err-places-clause-err c = let p = err_from_is_err_and c.from_residual.result c.from_residual.ensures.1 in rw (p.1, p.2) (inl refl)
+
+pub returns-in_err-check_places-clause-err : goal.returns-in_err-check_places-clause-err
+returns-in_err-check_places-clause-err c =
+    let query = c.args.query.now in
+    let places = c.in_ok-places.places.items in
+    let over = values_over (names_at query places) c.args.params.now in
+    let p = err_from_is_err_and c.from_residual-in_err-check_places.result c.from_residual-in_err-check_places.ensures.1 in
+    rw (p.1, p.2) (inr (is_cause c.pieces_of_a_query.ensures.names query c.args.params.now places _ c.in_ok-places.ensures
+    (ap (λ ps. bind_cause ps over) (sym c.deref.ensures.value) ∙ c.in_err-check_places.ensures.err over)))
+
+pub put_text-requires-clause-places : goal.put_text-requires-clause-places
+put_text-requires-clause-places c = subst (HasPlaces c.args.query.now) (sym c.deref-3.ensures.value) c.in_ok-places.ensures
+
+pub put_text-requires-clause-count : goal.put_text-requires-clause-count
+put_text-requires-clause-count c = ap length c.deref-4.ensures.value ∙ c.in_ok-values.ensures.count ∙ ap length (c.deref-2.ensures.value ∙ sym c.deref-3.ensures.value)
 
 pub returns-in_err-values-clause-err : goal.returns-in_err-values-clause-err
 returns-in_err-values-clause-err c =
