@@ -1,8 +1,9 @@
 //! Long data that fills a chunk.
 
-use crate::support::read;
-use mysql_commands::{End, Receiver};
+use crate::support::audits;
+use mysql_commands::{Audit, End, Receiver, ReceiverError, StreamFault};
 use mysql_values::Content;
+use std::process::Abort;
 
 /// A piece of the long data: 4097 of them fill a chunk.
 const PIECE: [u8; 4095] = [0x20; 4095];
@@ -15,54 +16,70 @@ const BEFORE: &[u8] = b"\x0c\0\0\0\x16SELECT ?, ?\xff\xff\xff\0\x18\x01\0\0\0\0\
 const BEHIND: &[u8] =
     b"\x07\0\0\x01       \x07\0\0\0\x18\x01\0\0\0\x01\0\x10\0\0\0\x17\x01\0\0\0\0\x01\0\0\0\0\x01\xfd\0\xfd\0";
 
-#[test]
-fn a_large_piece(rt: HostRuntime) {
-    let Ok(made) = Receiver::new(rt.alloc(), b"SELECT :a, :b", 1, 20000000) else {
-        return;
-    };
-    let mut receiver = made;
-    if receiver.feed(BEFORE).is_err() {
-        return;
-    }
+// Feeds the large piece: what stands before it, the chunk's other bytes, and what stands behind it.
+fn feed_large_piece(receiver: &mut Receiver) -> Result<(), StreamFault> {
+    receiver.feed(BEFORE)?;
     for _ in 0..4096 {
-        if receiver.feed(&PIECE).is_err() {
-            return;
-        }
+        receiver.feed(&PIECE)?;
     }
     // The chunk's first seven bytes stand before the data.
-    if receiver.feed(&PIECE[..4088]).is_err() {
-        return;
-    }
+    receiver.feed(&PIECE[..4088])?;
     for byte in BEHIND {
-        if receiver.feed(&[*byte]).is_err() {
-            return;
-        }
+        receiver.feed(&[*byte])?;
     }
-    let audit = receiver.finish();
+    Ok(())
+}
+
+// How many bytes a content holds.
+fn len_of(content: &Content) -> Option<usize> {
+    match content {
+        Content::Bytes(bytes) => Some(bytes.as_slice().len()),
+        _ => None,
+    }
+}
+
+// Asserts that a set holds a full chunk's data, and no bytes.
+fn assert_lens(rt: &impl Abort, set: &[Content]) {
+    assert_eq!(rt; set.len(), 2);
+    for (content, length) in set.iter().zip([16777215, 0].iter()) {
+        assert_eq!(rt; len_of(content), Some(*length));
+    }
+}
+
+// Asserts that a stream carries one set: a full chunk's data, and no bytes.
+fn assert_large(rt: &impl Abort, audit: &Audit) {
     assert!(rt; audit.end == End::Whole);
     assert_eq!(rt; audit.sets.len(), 1);
     for set in audit.sets.iter() {
-        assert_eq!(rt; set.len(), 2);
-        let lengths = [16777215, 0];
-        for (content, length) in set.iter().zip(lengths.iter()) {
-            match content {
-                Content::Bytes(bytes) => assert_eq!(rt; bytes.as_slice().len(), *length),
-                _ => assert!(rt; false),
-            }
-        }
+        assert_lens(rt, set.as_slice());
+    }
+}
+
+// Asserts that a new receiver takes the large piece, unless memory is refused.
+fn assert_takes(rt: &impl Abort, mut receiver: Receiver) {
+    match feed_large_piece(&mut receiver) {
+        Ok(()) => assert_large(rt, &receiver.finish()),
+        Err(fault) => assert!(rt; fault == StreamFault::Memory),
+    }
+}
+
+#[test]
+fn a_large_piece(rt: HostRuntime) {
+    match Receiver::new(rt.alloc(), b"SELECT :a, :b", 1, 20000000) {
+        Ok(receiver) => assert_takes(&rt, receiver),
+        Err(error) => assert!(rt; error == ReceiverError::Memory),
     }
 }
 
 #[test]
 fn cut_off_behind_a_header(rt: HostRuntime) {
-    if let Some(audit) = read(
+    audits(
         &rt,
         rt.alloc(),
         b"SELECT :a, :b",
         20000000,
-        &[&BEFORE[..20]],
-    ) {
-        assert!(rt; audit.end == End::UnfinishedPacket);
-        assert!(rt; audit.sets.is_empty());
-    }
+        &BEFORE[..20],
+        &[],
+        End::UnfinishedPacket,
+    );
 }

@@ -1,6 +1,6 @@
 //! Streams of texts.
 
-use crate::support::{Want, audits, framed, payloads_audit};
+use crate::support::{Want, audits, payloads_audit, query_audits};
 use mysql_commands::{End, Receiver, ReceiverError, StreamFault};
 use std::alloc::Global;
 use std::process::Abort;
@@ -142,84 +142,69 @@ fn spellings(rt: HostRuntime) {
     );
 }
 
+// The text `payload` audits so over a query.
 fn text(rt: &impl Abort, alloc: Global, query: &[u8], payload: &[u8], sets: &[&[Want]], end: End) {
-    if let Ok(stream) = framed(alloc, &[payload]) {
-        audits(rt, alloc, query, 1000, &stream, sets, end);
-    }
+    query_audits(rt, alloc, query, &[payload], sets, end);
+}
+
+// The text `payload` carries this set over a query.
+fn carries(rt: &impl Abort, alloc: Global, query: &[u8], payload: &[u8], set: &[Want]) {
+    text(rt, alloc, query, payload, &[set], End::Whole);
+}
+
+// The text `payload` is refused for this fault over a query.
+fn refused(rt: &impl Abort, alloc: Global, query: &[u8], payload: &[u8], fault: StreamFault) {
+    text(rt, alloc, query, payload, &[], End::Fault(0, fault));
 }
 
 #[test]
 fn over_two_places(rt: HostRuntime) {
+    let alloc = rt.alloc();
     let both: &[Want] = &[Want::Number(1), Want::Number(2)];
-    text(
-        &rt,
-        rt.alloc(),
-        b"SELECT :a, :a",
-        b"\x03SELECT 1, 2",
-        &[both],
-        End::Whole,
-    );
+    carries(&rt, alloc, b"SELECT :a, :a", b"\x03SELECT 1, 2", both);
     let commas: &[Want] = &[Want::Bytes(b"x, "), Want::Bytes(b"y")];
-    text(
+    carries(
         &rt,
-        rt.alloc(),
+        alloc,
         b"SELECT :a, :b",
         b"\x03SELECT 'x, ', 'y'",
-        &[commas],
-        End::Whole,
+        commas,
     );
     let foreign: &[Want] = &[Want::Null, Want::Bytes(b"J")];
-    text(
+    carries(
         &rt,
-        rt.alloc(),
+        alloc,
         b"SELECT :a, :b",
         b"\x03SELECT nUlL, 0x4a",
-        &[foreign],
-        End::Whole,
-    );
-    let mismatch = End::Fault(0, StreamFault::TextMismatch);
-    text(
-        &rt,
-        rt.alloc(),
-        b"SELECT :a, :b",
-        b"\x03SELECT +5, 1",
-        &[],
-        mismatch,
-    );
-    text(
-        &rt,
-        rt.alloc(),
-        b"SELECT :a, :b",
-        b"\x03SELECT  1, 2",
-        &[],
-        mismatch,
-    );
-    let one: &[Want] = &[Want::Number(1)];
-    text(
-        &rt,
-        rt.alloc(),
-        b"SELECT /*! :a */",
-        b"\x03SELECT /*! 1 */",
-        &[one],
-        End::Whole,
-    );
-    let not_alone = End::Fault(0, StreamFault::NotAlone);
-    text(
-        &rt,
-        rt.alloc(),
-        b"SELECT 1-:a",
-        b"\x03SELECT 1-5",
-        &[],
-        not_alone,
+        foreign,
     );
 }
 
 #[test]
+fn in_a_comment_for_the_server(rt: HostRuntime) {
+    let one: &[Want] = &[Want::Number(1)];
+    carries(
+        &rt,
+        rt.alloc(),
+        b"SELECT /*! :a */",
+        b"\x03SELECT /*! 1 */",
+        one,
+    );
+}
+
+#[test]
+fn texts_that_are_refused(rt: HostRuntime) {
+    let alloc = rt.alloc();
+    let query: &[u8] = b"SELECT :a, :b";
+    let mismatch = StreamFault::TextMismatch;
+    refused(&rt, alloc, query, b"\x03SELECT +5, 1", mismatch);
+    refused(&rt, alloc, query, b"\x03SELECT  1, 2", mismatch);
+    let not_alone = StreamFault::NotAlone;
+    refused(&rt, alloc, b"SELECT 1-:a", b"\x03SELECT 1-5", not_alone);
+}
+
+#[test]
 fn names_and_marks_together(rt: HostRuntime) {
-    match Receiver::new(rt.alloc(), b":a ?", 1, 1000) {
-        Ok(_) => assert!(rt; false),
-        Err(error) => {
-            assert!(rt; error == ReceiverError::Mixed || error == ReceiverError::Memory);
-        }
-    }
+    let error = Receiver::new(rt.alloc(), b":a ?", 1, 1000).err();
+    assert!(rt; matches!(error, Some(ReceiverError::Mixed | ReceiverError::Memory)));
 }
