@@ -1,5 +1,5 @@
 -- What a text's kind says of its front, and what makes its first bytes a token.
-use Rattle.std.proofs.Common.{◌≡◌, ℕ, zero, suc, ◌<◌, ◌≤◌, List, [], ◌∷◌, length, take, drop, slice_index, refl, sym, ap, ◌∙◌, arith, subst, take-append-drop}
+use Rattle.std.proofs.Common.{◌≡◌, ℕ, zero, suc, ◌<◌, ◌≤◌, List, [], ◌∷◌, length, take, drop, slice_index, refl, sym, ap, arith, subst, take-append-drop}
 use Rattle.mysql_queries.specs.Tokens.{Kind, Quoted, BlockComment, Name, Mark, kind_of, HasShape, IsToken, slash, star, colon, question}
 use Rattle.mysql_queries.proofs.FirstBytes.{Tells, kind_tells, block_second}
 use Rattle.mysql_queries.proofs.OneToken.{not_empty}
