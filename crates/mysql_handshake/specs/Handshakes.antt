@@ -96,7 +96,7 @@ flags_at bytes = do
   high ← upper_half_at status.1
   Ok ((bit_or low.0 high.0, collation.0, status.0.0), high.1)
 
--- of MariaDB's own capabilities bits that have no name are dropped
+-- the fields of fixed length in their order; of MariaDB's own capabilities, bits without a name are dropped
 unfoldable pub fixed_at : List ℕ → Reading FixedFields
 fixed_at bytes = do
   id ← little_at 4 bytes
@@ -119,7 +119,7 @@ fixed_at bytes = do
     mariadb.1,
   )
 
--- 31 bytes of them, which are there together or not at all
+-- the 31 bytes of these fields, which are there together or not at all
 unfoldable pub block_at : List ℕ → Reading FixedFields
 block_at bytes = do
   block ← bytes_at 31 bytes

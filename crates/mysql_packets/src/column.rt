@@ -1,6 +1,6 @@
 //! Column packets.
 
-ghost use Rattle.std.specs.Prelude.{◌≡◌, IfOk, List, refl};
+ghost use Rattle.std.specs.Prelude.{◌≡◌, IfOk, refl};
 ghost use Rattle.std.proofs.Common.{lit<};
 ghost use Rattle.mysql_wire.specs.Wire.{GivesPart};
 ghost use Rattle.mysql_packets.specs.Packets.{catalog, column_at, column_fields_at, column_names_at, column_with};

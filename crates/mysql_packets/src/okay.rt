@@ -1,6 +1,6 @@
 //! OK packets.
 
-ghost use Rattle.std.specs.Prelude.{◌≡◌, ℕ, List, [], IfOk, option_map};
+ghost use Rattle.std.specs.Prelude.{◌≡◌, IfOk, option_map};
 ghost use Rattle.mysql_wire.specs.Wire.{GivesPart};
 ghost use Rattle.mysql_packets.specs.Packets.{unless_empty, session_track, more_results_exist, session_state_changed, info_at, unless_zero, status_and_info_at, okay_at, result_set_terminator_at, old_eof_at};
 ghost use Rattle.mysql_packets.specs.Views.{bytes_view, okay_view};

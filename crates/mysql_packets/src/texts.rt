@@ -1,6 +1,5 @@
 //! Texts of packets.
 
-ghost use Rattle.std.specs.Prelude.{◌≡◌, List};
 ghost use Rattle.mysql_wire.specs.Texts.{lenenc_text_at};
 ghost use Rattle.mysql_wire.specs.Wire.{GivesPart};
 
