@@ -9,7 +9,7 @@ ghost use Rattle.mysql_auth.specs.PacketLaws.{headed_at-back};
 ghost use Rattle.mysql_auth.specs.Packets.{headed, headed_at};
 ghost use Rattle.mysql_auth.specs.Views.{key_view, more_data_view};
 ghost use Rattle.mysql_raw.specs.Laws.{unsized};
-ghost use Rattle.mysql_raw.specs.declared.error.WireError.TheVariants as wire;
+ghost use Rattle.mysql_raw.specs.WireError.TheVariants as wire;
 
 use crate::headers::{AuthMoreDataHeader, PublicKeyResponseHeader};
 use bstr::ByteSlice;

@@ -12,7 +12,7 @@ use Rattle.mysql_const.specs.declared.column_flags.ColumnFlags.{ColumnFlags}
 use Rattle.mysql_const.specs.declared.column_type.ColumnType.{ColumnType}
 use Rattle.mysql_raw.specs.Forms.{little_at}
 use Rattle.mysql_raw.specs.Wire.{Reading, ◌>>=◌, or_end}
-use Rattle.mysql_raw.specs.declared.error.WireError.TheVariants.{UnexpectedEof, BadLength, UnsupportedType}
+use Rattle.mysql_raw.specs.WireError.TheVariants.{UnexpectedEof, BadLength, UnsupportedType}
 use Rattle.mysql_cells.specs.declared.value.Value.{Value}
 use Rattle.mysql_cells.specs.declared.value.Value.TheVariants.{NULL, Bytes, Int, UInt, Float, Double, Date, Time}
 use Rattle.mysql_cells.specs.declared.cell_form.CellForm.{CellForm}

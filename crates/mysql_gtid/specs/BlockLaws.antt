@@ -13,7 +13,7 @@ use Rattle.mysql_buf.specs.Writing.{front}
 use Rattle.mysql_raw.specs.Forms.{little_at}
 use Rattle.mysql_raw.specs.Laws.{little_at-back, ok_same, size_is, slice_at-back}
 use Rattle.mysql_raw.specs.Wire.{IsSized, Reading, or_end, ◌>>=◌}
-use Rattle.mysql_raw.specs.declared.error.WireError.TheVariants.{UnexpectedEof}
+use Rattle.mysql_raw.specs.WireError.TheVariants.{UnexpectedEof}
 use Rattle.mysql_raw_bytes.specs.TextLaws.{varlen_text_at-back}
 use Rattle.mysql_raw_bytes.specs.Texts.{varlen_text, varlen_text_at}
 use Rattle.mysql_raw_lists.specs.ListLaws.{counted_numbers_at-back, elements_at-back}

@@ -6,8 +6,8 @@ use Rattle.std.specs.Str.{is_utf8}
 use Rattle.byteorder.specs.Endian.{little_bytes}
 use Rattle.mysql_raw.specs.Forms.{bytes_at, little_at}
 use Rattle.mysql_raw.specs.Wire.{Reading, ◌>>=◌}
-use Rattle.mysql_raw.specs.declared.error.WireError.{WireError}
-use Rattle.mysql_raw.specs.declared.error.WireError.TheVariants.{UnknownValue}
+use Rattle.mysql_raw.specs.WireError.{WireError}
+use Rattle.mysql_raw.specs.WireError.TheVariants.{UnknownValue}
 use Rattle.mysql_raw_bytes.specs.Texts.{varlen_text, varlen_text_at}
 use Rattle.mysql_raw_lists.specs.Lists.{counted_at, elements_at}
 use Rattle.mysql_gtid.specs.Sids.{SidParts}

@@ -18,7 +18,7 @@ ghost use Rattle.mysql_raw.specs.Wire.{Gives, GivesPart, Tells};
 ghost use Rattle.mysql_raw_bytes.specs.Texts.{null_text};
 ghost use Rattle.mysql_raw_consts.specs.Either.{either_written};
 ghost use Rattle.mysql_raw_consts.specs.Flags.{contains};
-ghost use Rattle.mysql_raw.specs.declared.error.WireError.TheVariants as wire;
+ghost use Rattle.mysql_raw.specs.WireError.TheVariants as wire;
 
 use crate::versions::{mariadb_version, version_of};
 use bitflags::Flags;

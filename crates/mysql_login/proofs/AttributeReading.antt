@@ -6,8 +6,8 @@ use Rattle.mysql_buf.specs.FirstBytes.{first-some}
 use Rattle.mysql_buf.specs.Reading.{first, le_at, lenenc_int_at, slice_at, then_at}
 use Rattle.mysql_raw.specs.Laws.{bind_ok}
 use Rattle.mysql_raw.specs.Wire.{Reading, Refuses, or_end, ◌>>=◌}
-use Rattle.mysql_raw.specs.declared.error.WireError.{WireError}
-use Rattle.mysql_raw.specs.declared.error.WireError.TheVariants.{Memory}
+use Rattle.mysql_raw.specs.WireError.{WireError}
+use Rattle.mysql_raw.specs.WireError.TheVariants.{Memory}
 use Rattle.mysql_raw_bytes.specs.Texts.{lenenc_text_at}
 use Rattle.mysql_login.specs.Attributes.{Attribute, all_attributes_at, at_most_at, attribute_at, put_after, with_attribute}
 

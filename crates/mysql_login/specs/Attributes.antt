@@ -7,7 +7,7 @@ use Rattle.indexmap.specs.IndexMap.{insert_all, insert_entry}
 use Rattle.mysql_buf.specs.Writing.{lenenc_str}
 use Rattle.mysql_raw.specs.Forms.{bytes_at, lenenc_number_at}
 use Rattle.mysql_raw.specs.Wire.{Reading, ◌>>=◌}
-use Rattle.mysql_raw.specs.declared.error.WireError.TheVariants.{UnexpectedEof}
+use Rattle.mysql_raw.specs.WireError.TheVariants.{UnexpectedEof}
 use Rattle.mysql_raw_bytes.specs.Texts.{lenenc_text_at}
 
 -- a key and its value

@@ -8,7 +8,7 @@ ghost use Rattle.mysql_login.specs.Attributes.{Attribute, attribute, attribute_a
 ghost use Rattle.mysql_login.specs.AttributeViews.{attributes_view, lossy_attribute, lossy_text, shown_attribute, text_attribute};
 ghost use Rattle.mysql_raw.specs.Laws.{unsized};
 ghost use Rattle.mysql_raw.specs.Wire.{Appends, GivesPart};
-ghost use Rattle.mysql_raw.specs.declared.error.WireError.TheVariants as wire;
+ghost use Rattle.mysql_raw.specs.WireError.TheVariants as wire;
 
 use bstr::ByteSlice;
 use indexmap::IndexMap;

@@ -11,7 +11,7 @@ ghost use Rattle.mysql_login.specs.Parts.{or_empty};
 ghost use Rattle.mysql_login.specs.ResponseViews.{text_view};
 ghost use Rattle.mysql_raw.specs.Laws.{unsized};
 ghost use Rattle.mysql_raw.specs.Wire.{GivesPart};
-ghost use Rattle.mysql_raw.specs.declared.error.WireError.TheVariants as wire;
+ghost use Rattle.mysql_raw.specs.WireError.TheVariants as wire;
 
 use crate::attributes::{ConnectAttributes, copied, copied_pair, owned_pair};
 use crate::parts::{

@@ -12,7 +12,7 @@ ghost use Rattle.mysql_login.specs.ResponseViews.{response_view, text_view};
 ghost use Rattle.mysql_buf.specs.Writing.{front};
 ghost use Rattle.mysql_raw.specs.Laws.{unsized};
 ghost use Rattle.mysql_raw.specs.Wire.{GivesPart, Tells};
-ghost use Rattle.mysql_raw.specs.declared.error.WireError.TheVariants as wire;
+ghost use Rattle.mysql_raw.specs.WireError.TheVariants as wire;
 
 use crate::attributes::{ConnectAttributes, copied};
 use crate::parts::{

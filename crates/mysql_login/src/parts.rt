@@ -6,7 +6,7 @@ ghost use Rattle.mysql_auth.specs.Views.{plugin_view};
 ghost use Rattle.mysql_login.specs.Parts.{if_held, if_there, or_empty, plugin_before_zero_at, plugin_to_zero_at};
 ghost use Rattle.mysql_login.specs.AttributeViews.{attributes_view, text_attribute};
 ghost use Rattle.mysql_raw.specs.Wire.{GivesPart};
-ghost use Rattle.mysql_raw.specs.declared.error.WireError.TheVariants as wire;
+ghost use Rattle.mysql_raw.specs.WireError.TheVariants as wire;
 ghost use Rattle.mysql_raw_consts.specs.Flags.{contains};
 
 use crate::attributes::ConnectAttributes;

@@ -8,4 +8,4 @@ pub mod TokenKinds
 pub mod LiteralRuns
 pub mod LiteralViews
 pub mod Parsed
-pub use Rattle.mysql_raw.specs.declared.error.WireError
+pub use Rattle.mysql_error.specs.declared.error.WireError

@@ -3,7 +3,7 @@
 ghost use Rattle.mysql_queries.specs.LiteralRuns.{IsLiteralRun, begins_hex};
 ghost use Rattle.mysql_queries.specs.LiteralViews.{IsNoLiteral, literal_content};
 ghost use Rattle.mysql_queries.specs.Literals.{IsLiteral, lower};
-ghost use Rattle.mysql_raw.specs.declared.error.WireError.TheVariants as wire;
+ghost use Rattle.mysql_error.specs.declared.error.WireError.TheVariants as wire;
 ghost use Rattle.std.specs.Prelude.{
   ◌<◌,
   IsOkUnless,
@@ -29,7 +29,7 @@ ghost use Rattle.std.specs.Prelude.{
 use crate::hexadecimal::read_hex;
 use crate::numbers::read_number;
 use crate::strings::read_string;
-use mysql_raw::WireError;
+use mysql_error::WireError;
 use std::alloc::AllocError;
 
 /// A literal that was read. Bytes lie in the buffer that was lent.

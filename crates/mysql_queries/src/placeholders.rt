@@ -1,12 +1,12 @@
 //! The placeholders of a query.
 
 ghost use Rattle.mysql_queries.specs.Queries.{HasPlaces, first_not_alone as first_apart, is_joining, is_mixed as has_both_kinds, is_name, is_place, place_at, stands_alone};
-ghost use Rattle.mysql_raw.specs.declared.error.WireError.TheVariants as wire;
+ghost use Rattle.mysql_error.specs.declared.error.WireError.TheVariants as wire;
 ghost use Rattle.std.specs.List.{AllByRecursion, list_any};
 ghost use Rattle.std.specs.Prelude.{◌+◌, ◌<◌, ◌≡◌, ◌≤◌, IfNone, IfOk, IfSome, IsOkUnless, drop, false, length, not, take, true};
 
 use crate::tokens::{TokenKind, kind_at, token_end};
-use mysql_raw::WireError;
+use mysql_error::WireError;
 use std::alloc::{AllocError, Global};
 
 /// A placeholder of a query, from `start` up to `end`: a name such as `:a`, or a question mark.

@@ -5,7 +5,7 @@ ghost use Rattle.mysql_queries.specs.LiteralViews.{IsNoLiteral};
 ghost use Rattle.mysql_queries.specs.Literals.{IsLiteral};
 ghost use Rattle.mysql_queries.specs.Queries.{HasPlaces, Lexes, Slices};
 ghost use Rattle.mysql_queries.specs.declared.content.Content.{Content as ContentOf};
-ghost use Rattle.mysql_raw.specs.declared.error.WireError.TheVariants as wire;
+ghost use Rattle.mysql_error.specs.declared.error.WireError.TheVariants as wire;
 ghost use Rattle.std.specs.List.{AllByRecursion};
 ghost use Rattle.std.specs.Prelude.{◌++◌, ◌≡◌, IfNone, IfOk, IfSome, IsOkUnless, List, true, ℕ};
 
@@ -13,7 +13,7 @@ use crate::byte_string::ByteString;
 use crate::content::Content;
 use crate::literals::{Literal, read_literal};
 use crate::placeholders::Place;
-use mysql_raw::WireError;
+use mysql_error::WireError;
 use std::alloc::Global;
 
 /// The content of the literal at the front of a text, and what follows it; None where no literal stands there.

@@ -14,8 +14,8 @@ use Rattle.mysql_buf.specs.Varlen.{varlen}
 use Rattle.mysql_buf.specs.Writing.{lenenc_int}
 use Rattle.mysql_raw.specs.Forms.{bytes_at, lenenc_number_at, little_at, raised, signed_at, upper_half, upper_half_at, varlen_number_at}
 use Rattle.mysql_raw.specs.Wire.{IsSized, Reading, from_block, or_end, ◌>>=◌}
-use Rattle.mysql_raw.specs.declared.error.WireError.{WireError}
-use Rattle.mysql_raw.specs.declared.error.WireError.TheVariants.{UnexpectedEof}
+use Rattle.mysql_error.specs.declared.error.WireError.{WireError}
+use Rattle.mysql_error.specs.declared.error.WireError.TheVariants.{UnexpectedEof}
 
 -- a reading that gave a value
 abbrev pub done : {X : Type 0} → X × List ℕ → Reading X

@@ -1,3 +1,4 @@
+pub use Rattle.mysql_error.specs.declared.error.WireError
 pub mod Forms
 pub mod Laws
 pub mod Wire

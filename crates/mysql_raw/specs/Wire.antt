@@ -1,8 +1,8 @@
 -- What a read answers and what a write appends.
 -- (MySQL: Client/Server Protocol, "Protocol Basics: Basic Data Types".)
 use Rattle.std.specs.Prelude.{◌≡◌, ◌≢◌, ℕ, ◌≤◌, nat_lt, ⊤, Bool, true, false, if◌then◌else◌, List, ◌++◌, length, drop, Option, Some, None, Result, Ok, Err}
-use Rattle.mysql_raw.specs.declared.error.WireError.{WireError}
-use Rattle.mysql_raw.specs.declared.error.WireError.TheVariants.{UnexpectedEof, Memory}
+use Rattle.mysql_error.specs.declared.error.WireError.{WireError}
+use Rattle.mysql_error.specs.declared.error.WireError.TheVariants.{UnexpectedEof, Memory}
 
 -- the value that stands first in a list of bytes and the bytes after it, or why none stands there
 abbrev pub Reading : Type 0 → Type 0

@@ -10,10 +10,10 @@ ghost use Rattle.mysql_raw.specs.Forms.{lenenc_number_at, little_at, signed_at, 
 ghost use Rattle.mysql_raw.specs.Laws.{lenenc_number_at-back, little_at-back, little_at-sized, signed_16-back, signed_24-back, signed_32-back, signed_56-back, signed_64-back, signed_8-back, signed_at-sized, unsized, upper_half_at-back, upper_half_at-sized, varlen_number_at-back};
 ghost use Rattle.mysql_raw.specs.Wire.{Appends, IsSized, Reading, Suffices, Tells};
 
-use crate::error::WireError;
 use crate::io::{MyDeserialize, MySerialize, Readable, ReadsBack};
 use bytes::BufMut;
 use mysql_buf::{BufMutExt, ParseBuf, read_varlen_uint, write_varlen_uint};
+use mysql_error::WireError;
 use std::alloc::{AllocError, Global};
 use std::marker::PhantomData;
 

@@ -3,8 +3,8 @@
 ghost use Rattle.std.specs.Prelude.{◌≡◌, ◌++◌, List, Ok, Option, [], false, length, ℕ};
 ghost use Rattle.mysql_raw.specs.Wire.{Reading, Gives, Appends, Suffices, IsSized, lacks};
 
-use crate::WireError;
 use mysql_buf::ParseBuf;
+use mysql_error::WireError;
 use std::alloc::{AllocError, Global};
 
 /// A value that is written as bytes.

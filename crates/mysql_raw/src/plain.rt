@@ -4,9 +4,9 @@ ghost use Rattle.std.specs.Prelude.{◌≡◌, List, None, Some, length, ℕ};
 ghost use Rattle.mysql_raw.specs.Forms.{bytes_at};
 ghost use Rattle.mysql_raw.specs.Laws.{bytes_at-back, bytes_at-sized, unsized};
 
-use crate::error::WireError;
 use crate::io::{MyDeserialize, MySerialize, Readable, ReadsBack};
 use mysql_buf::ParseBuf;
+use mysql_error::WireError;
 use std::alloc::{AllocError, Global};
 
 /// Names the text protocol.

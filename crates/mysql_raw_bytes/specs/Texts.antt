@@ -6,7 +6,7 @@ use Rattle.mysql_buf.specs.Reading.{is_zero, lenenc_str_at, slice_at, then_at, u
 use Rattle.mysql_buf.specs.Varlen.{varlen, varlen_at}
 use Rattle.mysql_buf.specs.Writing.{front}
 use Rattle.mysql_raw.specs.Wire.{Reading, or_end}
-use Rattle.mysql_raw.specs.declared.error.WireError.TheVariants.{TooManyBytes, UnexpectedEof}
+use Rattle.mysql_raw.specs.WireError.TheVariants.{TooManyBytes, UnexpectedEof}
 
 -- a text after its length as a length-encoded number
 abbrev pub lenenc_text_at : List ℕ → Reading (List ℕ)

@@ -10,7 +10,7 @@ ghost use Rattle.mysql_buf.specs.Writing.{front, lenenc_str, u8_str, u32_str};
 ghost use Rattle.mysql_raw.specs.Laws.{unsized};
 ghost use Rattle.mysql_raw_bytes.specs.TextLaws.{all-back, bare_at-back, fixed_text_at-back, fixed_text_at-sized, lenenc_text_at-back, null_text_at-back, u32_text_at-back, u8_text_at-back, varlen_text_at-back};
 ghost use Rattle.mysql_raw_bytes.specs.Texts.{bare_at, fixed_text, fixed_text_at, lenenc_text_at, null_text, null_text_at, u32_text_at, u8_text_at, varlen_text, varlen_text_at};
-ghost use Rattle.mysql_raw.specs.declared.error.WireError.TheVariants.{Memory};
+ghost use Rattle.mysql_raw.specs.WireError.TheVariants.{Memory};
 ghost use Rattle.mysql_raw.specs.Wire.{Appends, IsSized, Reading, Suffices, Tells};
 
 use bstr::ByteSlice;

@@ -8,7 +8,7 @@ use Rattle.mysql_raw_consts.specs.Constants.{constant_at, ignored, is_constant, 
 use Rattle.mysql_raw.specs.Forms.{little_at}
 use Rattle.mysql_raw.specs.Laws.{done, first-sized, little_at-back, little_at-sized, ok_same, sized-then, slice_at-back}
 use Rattle.mysql_raw.specs.Wire.{IsSized, Reading, or_end}
-use Rattle.mysql_raw.specs.declared.error.WireError.TheVariants.{BadConstant}
+use Rattle.mysql_raw.specs.WireError.TheVariants.{BadConstant}
 
 constant_rest : (n : ℕ) (x y : ℕ × List ℕ) → is_constant n x ≡ Ok y → y.1 ≡ x.1
 constant_rest n x y e = go (x.0 == n) e where

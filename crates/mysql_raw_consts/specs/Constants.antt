@@ -5,8 +5,8 @@ use Rattle.std.specs.Str.{bytes_eq}
 use Rattle.mysql_buf.specs.Reading.{slice_at}
 use Rattle.mysql_raw.specs.Forms.{little_at}
 use Rattle.mysql_raw.specs.Wire.{Reading, or_end, ◌>>=◌}
-use Rattle.mysql_raw.specs.declared.error.WireError.{WireError}
-use Rattle.mysql_raw.specs.declared.error.WireError.TheVariants.{BadConstant, UnknownValue}
+use Rattle.mysql_raw.specs.WireError.{WireError}
+use Rattle.mysql_raw.specs.WireError.TheVariants.{BadConstant, UnknownValue}
 
 -- a number that is the constant
 abbrev pub is_constant : ℕ → ℕ × List ℕ → Reading ℕ

@@ -1,6 +1,6 @@
 -- Reading elements one after the other, as a loop does.
 use Rattle.std.proofs.Common.{◌≡◌, ℕ, suc, ◌-◌, ◌+◌, ◌≤◌, ◌<◌, List, [], ◌∷◌, ◌++◌, Ok, Err, refl, sym, ap, ◌∙◌, append_assoc, append-nil, arith}
-use Rattle.mysql_raw.specs.declared.error.WireError.{WireError}
+use Rattle.mysql_raw.specs.WireError.{WireError}
 use Rattle.mysql_raw.specs.Wire.{Reading, Refuses, ◌>>=◌}
 use Rattle.mysql_raw_lists.specs.Lists.{elements_at}
 

@@ -9,7 +9,7 @@ ghost use Rattle.mysql_raw.specs.Wire.{GivesPart};
 ghost use Rattle.mysql_repl.specs.PacketLaws.{binlog_dump_at-back};
 ghost use Rattle.mysql_repl.specs.Packets.{BinlogDump, IsBinlogDump, binlog_dump, binlog_dump_at, binlog_dump_fields_at};
 ghost use Rattle.mysql_repl.specs.Views.{binlog_dump_view};
-ghost use Rattle.mysql_raw.specs.declared.error.WireError.TheVariants as wire;
+ghost use Rattle.mysql_raw.specs.WireError.TheVariants as wire;
 
 use crate::fields::{copy_of, lossy};
 use crate::headers::ComBinlogDumpHeader;

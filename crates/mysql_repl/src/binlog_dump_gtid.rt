@@ -11,7 +11,7 @@ ghost use Rattle.mysql_raw.specs.Wire.{GivesPart};
 ghost use Rattle.mysql_repl.specs.PacketLaws.{binlog_dump_gtid_at-back};
 ghost use Rattle.mysql_repl.specs.Packets.{BinlogDumpGtid, IsBinlogDumpGtid, binlog_dump_gtid, binlog_dump_gtid_at, binlog_dump_gtid_fields_at, through_gtid};
 ghost use Rattle.mysql_repl.specs.Views.{binlog_dump_gtid_view};
-ghost use Rattle.mysql_raw.specs.declared.error.WireError.TheVariants as wire;
+ghost use Rattle.mysql_raw.specs.WireError.TheVariants as wire;
 
 use crate::fields::{copy_of, lossy};
 use crate::headers::ComBinlogDumpGtidHeader;

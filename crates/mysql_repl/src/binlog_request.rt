@@ -8,7 +8,7 @@ ghost use Rattle.mysql_gtid.specs.Sids.{sid_view};
 ghost use Rattle.mysql_raw_consts.specs.Either.{either_shown};
 ghost use Rattle.mysql_repl.specs.Packets.{packet_of};
 ghost use Rattle.mysql_repl.specs.Views.{binlog_dump_gtid_view, binlog_dump_view, request_view};
-ghost use Rattle.mysql_raw.specs.declared.error.WireError.TheVariants as wire;
+ghost use Rattle.mysql_raw.specs.WireError.TheVariants as wire;
 
 use crate::binlog_dump::ComBinlogDump;
 use crate::binlog_dump_gtid::{ComBinlogDumpGtid, copies_of};

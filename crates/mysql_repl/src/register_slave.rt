@@ -10,7 +10,7 @@ ghost use Rattle.mysql_raw.specs.Wire.{GivesPart};
 ghost use Rattle.mysql_repl.specs.PacketLaws.{register_slave_at-back};
 ghost use Rattle.mysql_repl.specs.Packets.{IsRegisterSlave, RegisterSlave, register_slave, register_slave_at, register_slave_fields_at};
 ghost use Rattle.mysql_repl.specs.Views.{register_slave_view};
-ghost use Rattle.mysql_raw.specs.declared.error.WireError.TheVariants as wire;
+ghost use Rattle.mysql_raw.specs.WireError.TheVariants as wire;
 
 use crate::fields::{copy_of, lossy};
 use crate::headers::ComRegisterSlaveHeader;

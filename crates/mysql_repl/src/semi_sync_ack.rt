@@ -9,7 +9,7 @@ ghost use Rattle.mysql_raw.specs.Wire.{GivesPart};
 ghost use Rattle.mysql_repl.specs.PacketLaws.{semi_sync_ack_at-back};
 ghost use Rattle.mysql_repl.specs.Packets.{IsSemiSyncAck, SemiSyncAck, semi_sync_ack, semi_sync_ack_at, semi_sync_ack_fields_at};
 ghost use Rattle.mysql_repl.specs.Views.{semi_sync_ack_view};
-ghost use Rattle.mysql_raw.specs.declared.error.WireError.TheVariants as wire;
+ghost use Rattle.mysql_raw.specs.WireError.TheVariants as wire;
 
 use crate::fields::lossy;
 use crate::headers::SemiSyncAckPacketPacketHeader;

@@ -9,7 +9,7 @@ ghost use Rattle.mysql_raw.specs.Laws.{unsized};
 ghost use Rattle.mysql_repl.specs.PacketLaws.{table_dump_at-back};
 ghost use Rattle.mysql_repl.specs.Packets.{IsTableDump, TableDump, table_dump, table_dump_at};
 ghost use Rattle.mysql_repl.specs.Views.{table_dump_view};
-ghost use Rattle.mysql_raw.specs.declared.error.WireError.TheVariants as wire;
+ghost use Rattle.mysql_raw.specs.WireError.TheVariants as wire;
 
 use crate::fields::{copy_of, lossy};
 use crate::headers::ComTableDumpHeader;

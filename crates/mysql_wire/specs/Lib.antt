@@ -4,7 +4,7 @@ pub use Rattle.mysql_buf.specs.Varlen
 pub use Rattle.mysql_buf.specs.Writing
 pub use Rattle.mysql_raw.specs.Forms
 pub use Rattle.mysql_raw.specs.Wire
-pub use Rattle.mysql_raw.specs.declared.error.WireError
+pub use Rattle.mysql_raw.specs.WireError
 pub use Rattle.mysql_raw_bytes.specs.Texts
 pub use Rattle.mysql_raw_consts.specs.Constants
 pub use Rattle.mysql_raw_consts.specs.Either

@@ -1,7 +1,7 @@
 //! The error of readers and writers of fields.
 
 ghost use Rattle.std.specs.Prelude.{◌≡◌};
-ghost use Rattle.mysql_raw.specs.declared.error.WireError.TheVariants.{Memory};
+ghost use Rattle.mysql_error.specs.declared.error.WireError.TheVariants.{Memory};
 
 use std::alloc::{AllocError, AllocFailed};
 use thiserror::Error;
