@@ -10,9 +10,9 @@ use Rattle.mysql_raw.specs.Wire.{Reading, ◌>>=◌}
 use Rattle.mysql_raw_bytes.specs.Texts.{null_text, null_text_at, u8_text_at}
 use Rattle.mysql_raw_consts.specs.Constants.{constant_at}
 use Rattle.mysql_raw_consts.specs.Flags.{contains}
-use Rattle.mysql_login.specs.Attributes.{Attribute, attributes, attributes_at}
+use Rattle.mysql_attributes.specs.Attributes.{Attribute, attributes, attributes_at}
 use Rattle.mysql_handshake.specs.Capabilities.{connect_attrs, plugin_auth}
-use Rattle.mysql_login.specs.Parts.{if_held, if_there, plugin_before_zero_at, plugin_text}
+use Rattle.mysql_attributes.specs.Parts.{if_held, if_there, plugin_before_zero_at, plugin_text}
 
 -- what may stand last: the collation, the plugin, the attributes
 pub record MoreFields : Type 0 where

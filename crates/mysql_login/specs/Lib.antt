@@ -6,6 +6,15 @@ pub use Rattle.mysql_handshake.specs.Capabilities
 pub use Rattle.mysql_handshake.specs.HandshakeViews
 pub use Rattle.mysql_handshake.specs.Handshakes
 pub use Rattle.mysql_handshake.specs.Versions
+pub use Rattle.mysql_attributes.specs.AttributeViews
+pub use Rattle.mysql_attributes.specs.Attributes
+pub use Rattle.mysql_attributes.specs.Parts
+pub use Rattle.mysql_response.specs.ResponseViews
+pub use Rattle.mysql_response.specs.Responses
+pub use Rattle.mysql_response.specs.SslRequestLaws
+pub use Rattle.mysql_response.specs.SslRequestViews
+pub use Rattle.mysql_response.specs.SslRequests
+pub use Rattle.mysql_response.specs.TextViews
 pub use Rattle.mysql_gtid.specs.Tags
 pub use Rattle.mysql_gtid.specs.Intervals
 pub use Rattle.mysql_gtid.specs.Sids
@@ -14,13 +23,5 @@ pub use Rattle.mysql_gtid.specs.Refusals
 pub use Rattle.mysql_repl.specs.Packets as ReplicationPackets
 pub use Rattle.mysql_repl.specs.Statements as ReplicationStatements
 pub use Rattle.mysql_repl.specs.Views as ReplicationViews
-pub mod AttributeViews
-pub mod Attributes
 pub mod ChangedUserViews
 pub mod ChangedUsers
-pub mod Parts
-pub mod ResponseViews
-pub mod Responses
-pub mod SslRequestLaws
-pub mod SslRequestViews
-pub mod SslRequests

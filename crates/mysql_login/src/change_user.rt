@@ -2,23 +2,23 @@
 
 ghost use Rattle.std.specs.Prelude.{◌≡◌, [], IfOk, None, map, option_map, IsOkUnless};
 ghost use Rattle.std.specs.Cow.{cow_slice_items};
+ghost use Rattle.mysql_attributes.specs.Attributes.{attributes};
+ghost use Rattle.mysql_attributes.specs.AttributeViews.{attributes_view, text_attribute};
+ghost use Rattle.mysql_attributes.specs.Parts.{or_empty};
 ghost use Rattle.mysql_auth.specs.Views.{plugin_view};
-ghost use Rattle.mysql_login.specs.Attributes.{attributes};
-ghost use Rattle.mysql_login.specs.AttributeViews.{attributes_view, text_attribute};
 ghost use Rattle.mysql_login.specs.ChangedUsers.{ChangeUserFields, MoreFields, change_user, change_user_at, database_and_more_at, more_data, more_data_at, or_none};
 ghost use Rattle.mysql_login.specs.ChangedUserViews.{change_user_view, more_view};
-ghost use Rattle.mysql_login.specs.Parts.{or_empty};
-ghost use Rattle.mysql_login.specs.ResponseViews.{text_view};
 ghost use Rattle.mysql_raw.specs.Laws.{unsized};
 ghost use Rattle.mysql_raw.specs.Wire.{GivesPart};
 ghost use Rattle.mysql_raw.specs.WireError.TheVariants as wire;
+ghost use Rattle.mysql_response.specs.TextViews.{text_view};
 
-use crate::attributes::{ConnectAttributes, copied, copied_pair, owned_pair};
-use crate::parts::{
-    IfHeld, attributes_of_texts, copied_attributes, copied_plugin, has, or_no_bytes,
-    owned_attributes, owned_plugin, parse_if, plugin_before_zero,
-};
 use indexmap::IndexMap;
+use mysql_attributes::{
+    ConnectAttributes, IfHeld, attributes_of_texts, copied, copied_attributes, copied_pair,
+    copied_plugin, has, or_no_bytes, owned_attributes, owned_pair, owned_plugin, parse_if,
+    plugin_before_zero,
+};
 use mysql_auth::AuthPlugin;
 use mysql_buf::ParseBuf;
 use mysql_const::CapabilityFlags;

@@ -1,20 +1,14 @@
-//! Packets of logging in and of replication: the client's requests and answers, over the server's handshake, authentication
-//! and the packets that a replica sends.
+//! Packets of logging in and of replication: the command that logs another user in, and the face of the crates below with the
+//! client's answers, the server's handshake, authentication and the packets that a replica sends.
 #![tactic(auto)]
 
-mod attributes;
 mod change_user;
-mod handshake_response;
 pub mod laws;
-mod parts;
-mod ssl_request;
 
-pub use crate::attributes::ConnectAttributes;
 pub use crate::change_user::{
     ComChangeUser, ComChangeUserHeader, ComChangeUserMoreData, InvalidComChangeUserHeader,
 };
-pub use crate::handshake_response::HandshakeResponse;
-pub use crate::ssl_request::SslRequest;
+pub use mysql_attributes::ConnectAttributes;
 pub use mysql_auth::{
     AuthMoreData, AuthMoreDataHeader, AuthPlugin, AuthPluginData, AuthSwitchRequest,
     AuthSwitchRequestHeader, InvalidAuthMoreDataHeader, InvalidAuthSwitchRequestHeader,
@@ -30,3 +24,4 @@ pub use mysql_repl::{
     InvalidTag, SemiSyncAckPacket, SemiSyncAckPacketPacketHeader, Sid, SidBlock, SidError, Tag,
     UUID_LEN, UnknownBinlogDumpFlags,
 };
+pub use mysql_response::{HandshakeResponse, SslRequest};

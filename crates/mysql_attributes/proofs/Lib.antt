@@ -1,0 +1,2 @@
+pub mod AttributeMaps
+pub mod AttributeReading

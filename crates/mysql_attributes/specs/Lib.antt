@@ -1,0 +1,3 @@
+pub mod AttributeViews
+pub mod Attributes
+pub mod Parts

@@ -1,3 +1,0 @@
-pub mod AttributeMaps
-pub mod AttributeReading
-pub mod Rules

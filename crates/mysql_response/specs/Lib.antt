@@ -1,0 +1,6 @@
+pub mod ResponseViews
+pub mod Responses
+pub mod SslRequestLaws
+pub mod SslRequestViews
+pub mod SslRequests
+pub mod TextViews
