@@ -11,4 +11,6 @@ mod reading;
 #[cfg(test)]
 mod streams;
 #[cfg(test)]
+mod support;
+#[cfg(test)]
 mod writing;

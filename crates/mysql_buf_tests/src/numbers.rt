@@ -1,7 +1,7 @@
 //! Whole numbers of every sign, width and order of bytes, at the front of a buffer.
 
+use crate::support::assert_holds;
 use mysql_buf::ParseBuf;
-use std::process::Abort;
 
 // Bytes whose highest bits all stand, so that each signed number is negative.
 const BYTES: [u8; 16] = [
@@ -20,7 +20,12 @@ fn unsigned_lowest_byte_first(rt: HostRuntime) {
         & (ParseBuf(bytes).checked_eat_u56_le() == Some(0x87868584838281))
         & (ParseBuf(bytes).checked_eat_u64_le() == Some(0x8887868584838281))
         & (ParseBuf(bytes).checked_eat_u128_le() == Some(0x908f8e8d8c8b8a898887868584838281));
-    assert!(rt; all);
+    assert_holds(&rt, all);
+}
+
+#[test]
+fn unsigned_lowest_byte_first_cut_off(rt: HostRuntime) {
+    let bytes: &[u8] = &BYTES;
     let none = ParseBuf(&bytes[..0]).checked_eat_u8().is_none()
         & ParseBuf(&bytes[..1]).checked_eat_u16_le().is_none()
         & ParseBuf(&bytes[..2]).checked_eat_u24_le().is_none()
@@ -30,7 +35,7 @@ fn unsigned_lowest_byte_first(rt: HostRuntime) {
         & ParseBuf(&bytes[..6]).checked_eat_u56_le().is_none()
         & ParseBuf(&bytes[..7]).checked_eat_u64_le().is_none()
         & ParseBuf(&bytes[..15]).checked_eat_u128_le().is_none();
-    assert!(rt; none);
+    assert_holds(&rt, none);
 }
 
 #[test]
@@ -45,7 +50,7 @@ fn unsigned_lowest_byte_first_unchecked(rt: HostRuntime) {
         & (ParseBuf(bytes).eat_u56_le() == 0x87868584838281)
         & (ParseBuf(bytes).eat_u64_le() == 0x8887868584838281)
         & (ParseBuf(bytes).eat_u128_le() == 0x908f8e8d8c8b8a898887868584838281);
-    assert!(rt; all);
+    assert_holds(&rt, all);
 }
 
 #[test]
@@ -60,7 +65,12 @@ fn signed_lowest_byte_first(rt: HostRuntime) {
         & (ParseBuf(bytes).checked_eat_i56_le() == Some(-0x78797a7b7c7d7f))
         & (ParseBuf(bytes).checked_eat_i64_le() == Some(-0x7778797a7b7c7d7f))
         & (ParseBuf(bytes).checked_eat_i128_le() == Some(-0x6f707172737475767778797a7b7c7d7f));
-    assert!(rt; all);
+    assert_holds(&rt, all);
+}
+
+#[test]
+fn signed_lowest_byte_first_cut_off(rt: HostRuntime) {
+    let bytes: &[u8] = &BYTES;
     let none = ParseBuf(&bytes[..0]).checked_eat_i8().is_none()
         & ParseBuf(&bytes[..1]).checked_eat_i16_le().is_none()
         & ParseBuf(&bytes[..2]).checked_eat_i24_le().is_none()
@@ -70,7 +80,7 @@ fn signed_lowest_byte_first(rt: HostRuntime) {
         & ParseBuf(&bytes[..6]).checked_eat_i56_le().is_none()
         & ParseBuf(&bytes[..7]).checked_eat_i64_le().is_none()
         & ParseBuf(&bytes[..15]).checked_eat_i128_le().is_none();
-    assert!(rt; none);
+    assert_holds(&rt, none);
 }
 
 #[test]
@@ -85,7 +95,7 @@ fn signed_lowest_byte_first_unchecked(rt: HostRuntime) {
         & (ParseBuf(bytes).eat_i56_le() == -0x78797a7b7c7d7f)
         & (ParseBuf(bytes).eat_i64_le() == -0x7778797a7b7c7d7f)
         & (ParseBuf(bytes).eat_i128_le() == -0x6f707172737475767778797a7b7c7d7f);
-    assert!(rt; all);
+    assert_holds(&rt, all);
 }
 
 #[test]
@@ -99,7 +109,12 @@ fn unsigned_highest_byte_first(rt: HostRuntime) {
         & (ParseBuf(bytes).checked_eat_u56_be() == Some(0x81828384858687))
         & (ParseBuf(bytes).checked_eat_u64_be() == Some(0x8182838485868788))
         & (ParseBuf(bytes).checked_eat_u128_be() == Some(0x8182838485868788898a8b8c8d8e8f90));
-    assert!(rt; all);
+    assert_holds(&rt, all);
+}
+
+#[test]
+fn unsigned_highest_byte_first_cut_off(rt: HostRuntime) {
+    let bytes: &[u8] = &BYTES;
     let none = ParseBuf(&bytes[..1]).checked_eat_u16_be().is_none()
         & ParseBuf(&bytes[..2]).checked_eat_u24_be().is_none()
         & ParseBuf(&bytes[..3]).checked_eat_u32_be().is_none()
@@ -108,7 +123,7 @@ fn unsigned_highest_byte_first(rt: HostRuntime) {
         & ParseBuf(&bytes[..6]).checked_eat_u56_be().is_none()
         & ParseBuf(&bytes[..7]).checked_eat_u64_be().is_none()
         & ParseBuf(&bytes[..15]).checked_eat_u128_be().is_none();
-    assert!(rt; none);
+    assert_holds(&rt, none);
 }
 
 #[test]
@@ -122,7 +137,7 @@ fn unsigned_highest_byte_first_unchecked(rt: HostRuntime) {
         & (ParseBuf(bytes).eat_u56_be() == 0x81828384858687)
         & (ParseBuf(bytes).eat_u64_be() == 0x8182838485868788)
         & (ParseBuf(bytes).eat_u128_be() == 0x8182838485868788898a8b8c8d8e8f90);
-    assert!(rt; all);
+    assert_holds(&rt, all);
 }
 
 #[test]
@@ -136,7 +151,12 @@ fn signed_highest_byte_first(rt: HostRuntime) {
         & (ParseBuf(bytes).checked_eat_i56_be() == Some(-0x7e7d7c7b7a7979))
         & (ParseBuf(bytes).checked_eat_i64_be() == Some(-0x7e7d7c7b7a797878))
         & (ParseBuf(bytes).checked_eat_i128_be() == Some(-0x7e7d7c7b7a7978777675747372717070));
-    assert!(rt; all);
+    assert_holds(&rt, all);
+}
+
+#[test]
+fn signed_highest_byte_first_cut_off(rt: HostRuntime) {
+    let bytes: &[u8] = &BYTES;
     let none = ParseBuf(&bytes[..1]).checked_eat_i16_be().is_none()
         & ParseBuf(&bytes[..2]).checked_eat_i24_be().is_none()
         & ParseBuf(&bytes[..3]).checked_eat_i32_be().is_none()
@@ -145,7 +165,7 @@ fn signed_highest_byte_first(rt: HostRuntime) {
         & ParseBuf(&bytes[..6]).checked_eat_i56_be().is_none()
         & ParseBuf(&bytes[..7]).checked_eat_i64_be().is_none()
         & ParseBuf(&bytes[..15]).checked_eat_i128_be().is_none();
-    assert!(rt; none);
+    assert_holds(&rt, none);
 }
 
 #[test]
@@ -159,5 +179,5 @@ fn signed_highest_byte_first_unchecked(rt: HostRuntime) {
         & (ParseBuf(bytes).eat_i56_be() == -0x7e7d7c7b7a7979)
         & (ParseBuf(bytes).eat_i64_be() == -0x7e7d7c7b7a797878)
         & (ParseBuf(bytes).eat_i128_be() == -0x7e7d7c7b7a7978777675747372717070);
-    assert!(rt; all);
+    assert_holds(&rt, all);
 }

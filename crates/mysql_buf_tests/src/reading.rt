@@ -1,7 +1,7 @@
 //! Numbers and texts read from buffers.
 
+use crate::support::{assert_equal, assert_holds};
 use mysql_buf::{ParseBuf, read_varlen_uint};
-use std::process::Abort;
 
 #[test]
 fn lenenc_numbers(rt: HostRuntime) {
@@ -17,8 +17,8 @@ fn lenenc_numbers(rt: HostRuntime) {
     ];
     for (bytes, number, left) in rows {
         let mut buf = ParseBuf(bytes);
-        assert_eq!(rt; buf.checked_eat_lenenc_int(), number);
-        assert_eq!(rt; buf.len(), left);
+        assert_equal(&rt, buf.checked_eat_lenenc_int(), number);
+        assert_equal(&rt, buf.len(), left);
     }
 }
 
@@ -26,48 +26,58 @@ fn lenenc_numbers(rt: HostRuntime) {
 fn a_length_past_the_end(rt: HostRuntime) {
     let bytes: &[u8] = &[0xfe, 255, 255, 255, 255, 255, 255, 255, 255, 1, 2, 3];
     let mut buf = ParseBuf(bytes);
-    assert!(rt; buf.checked_eat_lenenc_str().is_none());
-    assert_eq!(rt; buf.0, bytes);
-    assert!(rt; buf.checked_eat_u32_str().is_none());
-    assert!(rt; buf.checked_eat_u8_str().is_none());
-    assert_eq!(rt; buf.0, bytes);
+    assert_holds(&rt, buf.checked_eat_lenenc_str().is_none());
+    assert_equal(&rt, buf.0, bytes);
+    assert_holds(&rt, buf.checked_eat_u32_str().is_none());
+    assert_holds(&rt, buf.checked_eat_u8_str().is_none());
+    assert_equal(&rt, buf.0, bytes);
 }
 
 #[test]
 fn fixed_numbers(rt: HostRuntime) {
     let bytes: &[u8] = &[1, 2, 0xff, 4, 5, 0xf6, 7];
-    assert_eq!(rt; ParseBuf(bytes).checked_eat_u16_be(), Some(0x0102));
-    assert_eq!(rt; ParseBuf(bytes).checked_eat_i24_le(), Some(-0xfdff));
-    assert_eq!(rt; ParseBuf(bytes).checked_eat_u40_le(), Some(0x05_04ff_0201));
-    assert_eq!(rt;
+    assert_equal(&rt, ParseBuf(bytes).checked_eat_u16_be(), Some(0x0102));
+    assert_equal(&rt, ParseBuf(bytes).checked_eat_i24_le(), Some(-0xfdff));
+    assert_equal(
+        &rt,
+        ParseBuf(bytes).checked_eat_u40_le(),
+        Some(0x05_04ff_0201),
+    );
+    assert_equal(
+        &rt,
         ParseBuf(bytes).checked_eat_i48_le(),
-        Some(-0x09fa_fb00_fdff)
+        Some(-0x09fa_fb00_fdff),
     );
-    assert_eq!(rt;
+    assert_equal(
+        &rt,
         ParseBuf(bytes).checked_eat_i56_be(),
-        Some(0x01_02ff_0405_f607)
+        Some(0x01_02ff_0405_f607),
     );
-    assert_eq!(rt; ParseBuf(bytes).checked_eat_u64_le(), None);
+    assert_equal(&rt, ParseBuf(bytes).checked_eat_u64_le(), None);
     let mut buf = ParseBuf(bytes);
-    assert_eq!(rt; buf.eat_i8(), 1);
-    assert_eq!(rt; buf.len(), 6);
+    assert_equal(&rt, buf.eat_i8(), 1);
+    assert_equal(&rt, buf.len(), 6);
 }
 
 #[test]
 fn slices(rt: HostRuntime) {
     let bytes: &[u8] = &[b'a', b'b', 0, b'c', b'd'];
     let mut buf = ParseBuf(bytes);
-    assert_eq!(rt; buf.eat_null_str(), b"ab".as_slice());
-    assert!(rt; buf.checked_skip(1));
-    assert!(rt; !buf.checked_skip(2));
-    assert!(rt; buf.checked_eat_buf(2).is_none());
-    assert_eq!(rt; buf.eat_null_str(), b"d".as_slice());
-    assert!(rt; buf.is_empty());
+    assert_equal(&rt, buf.eat_null_str(), b"ab".as_slice());
+    assert_holds(&rt, buf.checked_skip(1));
+    assert_holds(&rt, !buf.checked_skip(2));
+    assert_holds(&rt, buf.checked_eat_buf(2).is_none());
+    assert_equal(&rt, buf.eat_null_str(), b"d".as_slice());
+    assert_holds(&rt, buf.is_empty());
     let mut text: &[u8] = &[2, 1, b'x', b'y'];
     let mut counted = ParseBuf(text);
-    assert_eq!(rt; counted.checked_eat_u8_str(), Some([1, b'x'].as_slice()));
+    assert_equal(
+        &rt,
+        counted.checked_eat_u8_str(),
+        Some([1, b'x'].as_slice()),
+    );
     text = counted.eat_all();
-    assert_eq!(rt; text, b"y".as_slice());
+    assert_equal(&rt, text, b"y".as_slice());
 }
 
 #[test]
@@ -82,29 +92,29 @@ fn varlen_numbers(rt: HostRuntime) {
     ];
     for (bytes, number, left) in rows {
         let mut buf = ParseBuf(bytes);
-        assert_eq!(rt; read_varlen_uint(&mut buf), number);
-        assert_eq!(rt; buf.len(), left);
+        assert_equal(&rt, read_varlen_uint(&mut buf), number);
+        assert_equal(&rt, buf.len(), left);
     }
 }
 
 #[test]
 fn parts_that_are_there(rt: HostRuntime) {
     let bytes: &[u8] = &[0xfa, 1, b'a', b'b', b'c'];
-    assert_eq!(rt; ParseBuf(bytes).eat_lenenc_int(), 250);
-    assert_eq!(rt; ParseBuf(bytes).eat(2), [0xfa, 1].as_slice());
-    assert_eq!(rt; ParseBuf(bytes).eat_buf(1).0, [0xfa].as_slice());
-    assert_eq!(rt; ParseBuf(bytes).checked_eat(6), None);
+    assert_equal(&rt, ParseBuf(bytes).eat_lenenc_int(), 250);
+    assert_equal(&rt, ParseBuf(bytes).eat(2), [0xfa, 1].as_slice());
+    assert_equal(&rt, ParseBuf(bytes).eat_buf(1).0, [0xfa].as_slice());
+    assert_equal(&rt, ParseBuf(bytes).checked_eat(6), None);
     let mut buf = ParseBuf(bytes);
     buf.skip(4);
-    assert_eq!(rt; buf.0, b"c".as_slice());
+    assert_equal(&rt, buf.0, b"c".as_slice());
 }
 
 #[test]
 #[tactic(auto, unfolding(mysql_buf::specs::Reading::first))]
 fn texts_that_are_there(rt: HostRuntime) {
     let text: &[u8] = &[2, b'a', b'b', b'c'];
-    assert_eq!(rt; ParseBuf(text).eat_lenenc_str(), b"ab".as_slice());
-    assert_eq!(rt; ParseBuf(text).eat_u8_str(), b"ab".as_slice());
+    assert_equal(&rt, ParseBuf(text).eat_lenenc_str(), b"ab".as_slice());
+    assert_equal(&rt, ParseBuf(text).eat_u8_str(), b"ab".as_slice());
     let long: &[u8] = &[1, 0, 0, 0, b'd', b'e'];
-    assert_eq!(rt; ParseBuf(long).eat_u32_str(), b"d".as_slice());
+    assert_equal(&rt, ParseBuf(long).eat_u32_str(), b"d".as_slice());
 }

@@ -1,10 +1,10 @@
 //! Numbers and texts in streams.
 
+use crate::support::{assert_equal, assert_holds};
 use mysql_buf::{ParseBuf, ReadMysqlExt, WriteMysqlExt};
 use std::alloc::Global;
 use std::io;
 use std::io::{ErrorKind, Read, Write};
-use std::process::Abort;
 
 /// Gives two bytes and is refused from then on.
 #[derive(Drop)]
@@ -48,49 +48,61 @@ fn numbers_read(rt: HostRuntime) {
     let mut buf = ParseBuf(&[0xfa, 0xfc, 5, 0, 0xfd, 0, 0, 1]);
     for number in [250, 5, 65536] {
         match buf.read_lenenc_int() {
-            Ok(read) => assert_eq!(rt; read, number),
-            Err(_) => assert!(rt; false),
+            Ok(read) => assert_equal(&rt, read, number),
+            Err(_) => assert_holds(&rt, false),
         }
     }
-    assert!(rt; buf.is_empty());
+    assert_holds(&rt, buf.is_empty());
 }
 
 #[test]
 fn numbers_refused(rt: HostRuntime) {
     for first in [0xfbu8, 0xff] {
         let mut source: &[u8] = &[first, 1, 2];
-        assert!(rt; refused_by(&mut source) == Some(ErrorKind::InvalidData));
+        assert_holds(&rt, refused_by(&mut source) == Some(ErrorKind::InvalidData));
     }
     let mut cut: &[u8] = &[0xfe, 1, 2];
-    assert!(rt; refused_by(&mut cut) == Some(ErrorKind::UnexpectedEof));
-    assert!(rt; refused_by(&mut Broken { left: 2 }) == Some(ErrorKind::ConnectionReset));
+    assert_holds(&rt, refused_by(&mut cut) == Some(ErrorKind::UnexpectedEof));
+    assert_holds(
+        &rt,
+        refused_by(&mut Broken { left: 2 }) == Some(ErrorKind::ConnectionReset),
+    );
 }
 
 #[test]
 fn texts_refused(rt: HostRuntime) {
-    assert!(rt; text_refused_by(rt.alloc(), &[0xff]) == Some(ErrorKind::InvalidData));
+    assert_holds(
+        &rt,
+        text_refused_by(rt.alloc(), &[0xff]) == Some(ErrorKind::InvalidData),
+    );
     let huge = [0xfe, 255, 255, 255, 255, 255, 255, 255, 255, 1, 2];
-    assert!(rt; text_refused_by(rt.alloc(), &huge) == Some(ErrorKind::UnexpectedEof));
+    assert_holds(
+        &rt,
+        text_refused_by(rt.alloc(), &huge) == Some(ErrorKind::UnexpectedEof),
+    );
     // The text is whole, and only memory can be missing.
     let whole = text_refused_by(rt.alloc(), &[1, b'a']);
-    assert!(rt; whole.is_none() || whole == Some(ErrorKind::OutOfMemory));
+    assert_holds(
+        &rt,
+        whole.is_none() || whole == Some(ErrorKind::OutOfMemory),
+    );
 }
 
 #[test]
 fn writing_counts_its_bytes(rt: HostRuntime) {
     let mut space = [0u8; 8];
     let mut out: &mut [u8] = &mut space;
-    assert_eq!(rt; out.write_lenenc_str(b"abc").ok(), Some(4));
-    assert_eq!(rt; out.write_lenenc_int(65536).ok(), Some(4));
-    assert!(rt; out.write_lenenc_int(1).is_err());
-    assert_eq!(rt; space, [3, b'a', b'b', b'c', 0xfd, 0, 0, 1]);
+    assert_equal(&rt, out.write_lenenc_str(b"abc").ok(), Some(4));
+    assert_equal(&rt, out.write_lenenc_int(65536).ok(), Some(4));
+    assert_holds(&rt, out.write_lenenc_int(1).is_err());
+    assert_equal(&rt, space, [3, b'a', b'b', b'c', 0xfd, 0, 0, 1]);
 }
 
 #[test]
 fn a_text_is_read(rt: HostRuntime) {
     let mut source: &[u8] = b"\x03abc";
     match source.read_lenenc_str(rt.alloc()) {
-        Ok(text) => assert_eq!(rt; text.as_slice(), b"abc".as_slice()),
-        Err(error) => assert!(rt; error.kind() == ErrorKind::OutOfMemory),
+        Ok(text) => assert_equal(&rt, text.as_slice(), b"abc".as_slice()),
+        Err(error) => assert_holds(&rt, error.kind() == ErrorKind::OutOfMemory),
     }
 }
