@@ -5,3 +5,5 @@
 mod flags;
 #[cfg(test)]
 mod names;
+#[cfg(test)]
+mod support;

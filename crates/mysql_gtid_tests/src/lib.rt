@@ -6,4 +6,6 @@ mod bytes;
 #[cfg(test)]
 mod sids;
 #[cfg(test)]
+mod support;
+#[cfg(test)]
 mod tags;

@@ -1,5 +1,6 @@
 //! Sets of global transaction identifiers read from texts and printed.
 
+use crate::support::{assert_holds, assert_holds_or_refused};
 use mysql_gtid::{GnoInterval, Sid, SidError};
 use std::alloc::AllocError;
 use std::test::Fail;
@@ -31,8 +32,8 @@ fn prints(rt: &HostRuntime, rest: &str, printed: &str) -> Result<bool, AllocErro
 fn reads(rt: &HostRuntime) -> bool {
     match Sid::parse(rt.alloc(), "3E11FA47-71CA-11E1-9E33-C80AA9429562:1-5:10-15") {
         Ok(sid) => {
-            sid.intervals() == [GnoInterval::new(1, 6), GnoInterval::new(10, 16)].as_slice()
-                && sid.tag().is_none()
+            let wanted = [GnoInterval::new(1, 6), GnoInterval::new(10, 16)];
+            (sid.intervals() == wanted.as_slice()) & sid.tag().is_none()
         }
         Err(e) => e == SidError::Memory,
     }
@@ -40,59 +41,40 @@ fn reads(rt: &HostRuntime) -> bool {
 
 #[test]
 fn intervals_of_a_text(rt: HostRuntime) -> Result<(), Fail> {
-    assert!(rt; reads(&rt));
+    assert_holds(&rt, reads(&rt));
     Ok(())
 }
 
 #[test]
 fn printed_sets(rt: HostRuntime) -> Result<(), Fail> {
-    assert!(rt; matches!(prints(&rt, ":1-5:10-15", ":1-5:10-15"), Ok(true) | Err(_)));
-    assert!(rt;
-        matches!(
-            prints(&rt, ":domain_a:1-5:10-20", ":domain_a:1-5:10-20"),
-            Ok(true) | Err(_)
-        )
+    assert_holds_or_refused(&rt, prints(&rt, ":1-5:10-15", ":1-5:10-15"));
+    assert_holds_or_refused(
+        &rt,
+        prints(&rt, ":domain_a:1-5:10-20", ":domain_a:1-5:10-20"),
     );
-    assert!(rt; matches!(prints(&rt, ":app:7", ":app:7"), Ok(true) | Err(_)));
-    assert!(rt; matches!(prints(&rt, ":4-4:007", ":4:7"), Ok(true) | Err(_)));
+    assert_holds_or_refused(&rt, prints(&rt, ":app:7", ":app:7"));
+    assert_holds_or_refused(&rt, prints(&rt, ":4-4:007", ":4:7"));
     Ok(())
 }
 
 #[test]
 fn refused_intervals(rt: HostRuntime) -> Result<(), Fail> {
-    assert!(rt; matches!(refused(&rt, ":0-3", SidError::ZeroGno), Ok(true) | Err(_)));
-    assert!(rt;
-        matches!(
-            refused(&rt, ":4-3", SidError::StartNotBelowEnd),
-            Ok(true) | Err(_)
-        )
-    );
-    assert!(rt;
-        matches!(
-            refused(&rt, ":20-", SidError::BadInterval),
-            Ok(true) | Err(_)
-        )
-    );
-    assert!(rt;
-        matches!(
-            refused(&rt, ":18446744073709551615", SidError::Overflow),
-            Ok(true) | Err(_)
-        )
+    assert_holds_or_refused(&rt, refused(&rt, ":0-3", SidError::ZeroGno));
+    assert_holds_or_refused(&rt, refused(&rt, ":4-3", SidError::StartNotBelowEnd));
+    assert_holds_or_refused(&rt, refused(&rt, ":20-", SidError::BadInterval));
+    assert_holds_or_refused(
+        &rt,
+        refused(&rt, ":18446744073709551615", SidError::Overflow),
     );
     Ok(())
 }
 
 #[test]
 fn refused_texts(rt: HostRuntime) -> Result<(), Fail> {
-    assert!(rt; matches!(refused(&rt, "", SidError::NoColon), Ok(true) | Err(_)));
-    assert!(rt; matches!(refused(&rt, "0:1", SidError::BadUuid), Ok(true) | Err(_)));
-    assert!(rt; matches!(refused(&rt, ":", SidError::Empty), Ok(true) | Err(_)));
-    assert!(rt; matches!(refused(&rt, ":Tag:23", SidError::BadTag), Ok(true) | Err(_)));
-    assert!(rt;
-        matches!(
-            refused(&rt, ":Tag", SidError::NoIntervals),
-            Ok(true) | Err(_)
-        )
-    );
+    assert_holds_or_refused(&rt, refused(&rt, "", SidError::NoColon));
+    assert_holds_or_refused(&rt, refused(&rt, "0:1", SidError::BadUuid));
+    assert_holds_or_refused(&rt, refused(&rt, ":", SidError::Empty));
+    assert_holds_or_refused(&rt, refused(&rt, ":Tag:23", SidError::BadTag));
+    assert_holds_or_refused(&rt, refused(&rt, ":Tag", SidError::NoIntervals));
     Ok(())
 }

@@ -1,5 +1,6 @@
 //! Tags of texts.
 
+use crate::support::assert_holds;
 use mysql_gtid::{InvalidTag, Tag};
 use std::test::Fail;
 
@@ -21,18 +22,21 @@ fn accepted(text: &str) -> bool {
 
 #[test]
 fn tags(rt: HostRuntime) -> Result<(), Fail> {
-    assert!(rt; accepted("_"));
-    assert!(rt; accepted("domain_1"));
-    assert!(rt; accepted("abcdefghijklmnopqrstuvwxyz123456"));
+    assert_holds(&rt, accepted("_"));
+    assert_holds(&rt, accepted("domain_1"));
+    assert_holds(&rt, accepted("abcdefghijklmnopqrstuvwxyz123456"));
     Ok(())
 }
 
 #[test]
 fn refused_tags(rt: HostRuntime) -> Result<(), Fail> {
-    assert!(rt; refused("", InvalidTag::Empty));
-    assert!(rt; refused("abcdefghijklmnopqrstuvwxyz1234567", InvalidTag::TooLong(33)));
-    assert!(rt; refused("1tag", InvalidTag::InvalidFirstChar('1')));
-    assert!(rt; refused("tAg", InvalidTag::InvalidChar('A')));
-    assert!(rt; refused("t\u{e9}g", InvalidTag::InvalidChar('\u{e9}')));
+    assert_holds(&rt, refused("", InvalidTag::Empty));
+    assert_holds(
+        &rt,
+        refused("abcdefghijklmnopqrstuvwxyz1234567", InvalidTag::TooLong(33)),
+    );
+    assert_holds(&rt, refused("1tag", InvalidTag::InvalidFirstChar('1')));
+    assert_holds(&rt, refused("tAg", InvalidTag::InvalidChar('A')));
+    assert_holds(&rt, refused("t\u{e9}g", InvalidTag::InvalidChar('\u{e9}')));
     Ok(())
 }

@@ -1,6 +1,6 @@
 //! Bytes that are no reply, and what stays after a fault.
 
-use crate::support::{DONE, TEXT, assert_ends};
+use crate::support::{DONE, TEXT, assert_ends, assert_equal, assert_holds};
 use mysql_replies::{ReplyEnd, ReplyFault, ReplyKind, ReplyReader};
 use std::process::Abort;
 use std::test::*;
@@ -52,27 +52,32 @@ fn no_replies(rt: HostRuntime) {
 
 /// Asserts that a reader answers this fault from now on, and ends with it at its first packet.
 fn assert_failed(rt: &impl Abort, mut reader: ReplyReader, fault: ReplyFault) {
-    assert_eq!(rt; reader.feed(&DONE), Err(fault));
+    assert_equal(rt, reader.feed(&DONE), Err(fault));
     let reply = reader.finish();
-    assert_eq!(rt; reply.end, ReplyEnd::Fault(0, fault));
-    assert!(rt; reply.results.is_empty());
+    assert_equal(rt, reply.end, ReplyEnd::Fault(0, fault));
+    assert_holds(rt, reply.results.is_empty());
+}
+
+// Whether a fault is that of an empty first payload, or of memory that was refused.
+fn is_bad_header_or_memory(fault: ReplyFault) -> bool {
+    matches!(fault, ReplyFault::BadHeader | ReplyFault::Memory)
 }
 
 #[test]
 fn a_fault_stays(rt: HostRuntime) {
     let mut reader = ReplyReader::new(rt.alloc(), ReplyKind::Text, TEXT, 1, 1000);
-    let answer = reader.feed(&[0, 0, 0, 1]);
-    assert!(rt; matches!(answer, Err(ReplyFault::BadHeader | ReplyFault::Memory)));
-    assert_failed(&rt, reader, answer.err().unwrap_or(ReplyFault::Memory));
+    let fault = reader.feed(&[0, 0, 0, 1]).expect_err(&rt, "a fault");
+    assert_holds(&rt, is_bad_header_or_memory(fault));
+    assert_failed(&rt, reader, fault);
 }
 
 #[test]
 fn memory_alone_is_missing(rt: HostRuntime) {
     let mut reader = ReplyReader::new(rt.alloc(), ReplyKind::Text, TEXT, 1, 1000);
     match reader.feed(&DONE) {
-        Ok(()) => assert_eq!(rt; reader.finish().end, ReplyEnd::Whole),
+        Ok(()) => assert_equal(&rt, reader.finish().end, ReplyEnd::Whole),
         Err(fault) => {
-            assert_eq!(rt; fault, ReplyFault::Memory);
+            assert_equal(&rt, fault, ReplyFault::Memory);
             assert_failed(&rt, reader, fault);
         }
     }

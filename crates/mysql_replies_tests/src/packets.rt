@@ -1,7 +1,8 @@
 //! Replies of one packet: OK, an error, a file that is asked for; progress reports before them.
 
 use crate::support::{
-    DONE, TEXT, WITH_PROGRESS, assert_ends, changed_rows, error, file, read, read_cut, status,
+    DONE, TEXT, WITH_PROGRESS, assert_ends, assert_equal, changed_rows, error, file, read,
+    read_cut, status,
 };
 use mysql_const::StatusFlags;
 use mysql_packets::{ProgressReport, ServerError};
@@ -16,8 +17,12 @@ fn an_ok_packet(rt: HostRuntime) {
     assert_ends(&rt, alloc, TEXT, 1, &[&DONE], 1, ReplyEnd::Whole);
     assert_ends(&rt, alloc, TEXT, 1, &[&DONE[..10]], 0, ReplyEnd::Unfinished);
     let reply = read(&rt, alloc, TEXT, 1, &[&DONE]);
-    assert_eq!(rt; changed_rows(&reply), Some(1));
-    assert_eq!(rt; status(&reply), Some(StatusFlags::SERVER_STATUS_AUTOCOMMIT));
+    assert_equal(&rt, changed_rows(&reply), Some(1));
+    assert_equal(
+        &rt,
+        status(&reply),
+        Some(StatusFlags::SERVER_STATUS_AUTOCOMMIT),
+    );
 }
 
 /// Two OK packets from this number on; the first says that another follows.
@@ -67,14 +72,10 @@ fn assert_says(
     state: &[u8],
     message: &[u8],
 ) {
-    match error {
-        Some(error) => {
-            assert_eq!(rt; error.error_code(), code);
-            assert_eq!(rt; error.sql_state_ref(), Some(state));
-            assert_eq!(rt; error.message_ref(), message);
-        }
-        None => assert!(rt; false),
-    }
+    let error = error.expect(rt, "an error");
+    assert_equal(rt, error.error_code(), code);
+    assert_equal(rt, error.sql_state_ref(), Some(state));
+    assert_equal(rt, error.message_ref(), message);
 }
 
 #[test]
@@ -90,22 +91,18 @@ fn a_file_with_an_empty_name(rt: HostRuntime) {
     let bytes = [1, 0, 0, 1, 0xfb];
     assert_ends(&rt, rt.alloc(), TEXT, 1, &[&bytes], 1, ReplyEnd::Whole);
     let reply = read(&rt, rt.alloc(), TEXT, 1, &[&bytes]);
-    assert_eq!(rt; file(&reply), Some(b"".as_slice()));
+    assert_equal(&rt, file(&reply), Some(b"".as_slice()));
 }
 
 const PROGRESS: &[u8] =
     b"\x14\x00\x00\x01\xff\xff\xff\x01\x01\x0a\xcc\x5b\x00\x0astage name\x07\x00\x00\x02\x00\x01\x00\x02\x00\x00\x00";
 
 fn assert_reports(rt: &impl Abort, report: Option<&ProgressReport>) {
-    match report {
-        Some(report) => {
-            assert_eq!(rt; report.stage(), 1);
-            assert_eq!(rt; report.max_stage(), 10);
-            assert_eq!(rt; report.progress(), 23500);
-            assert_eq!(rt; report.stage_info_ref(), b"stage name".as_slice());
-        }
-        None => assert!(rt; false),
-    }
+    let report = report.expect(rt, "a report");
+    assert_equal(rt, report.stage(), 1);
+    assert_equal(rt, report.max_stage(), 10);
+    assert_equal(rt, report.progress(), 23500);
+    assert_equal(rt, report.stage_info_ref(), b"stage name".as_slice());
 }
 
 #[test]

@@ -1,9 +1,12 @@
 //! Replies with rows.
 
-use crate::support::{TEXT, WITHOUT_EOF, assert_bytes, assert_ends, cell, read, size, status};
+use crate::support::{
+    TEXT, WITHOUT_EOF, assert_bytes, assert_ends, assert_equal, assert_holds, cell, read, size,
+    status,
+};
 use mysql_cells::Value;
 use mysql_const::StatusFlags;
-use mysql_replies::{ReplyEnd, ReplyFault};
+use mysql_replies::{Reply, ReplyEnd, ReplyFault};
 use std::test::*;
 
 /// The packets of a reply before its rows, where no EOF packet follows the columns: one column.
@@ -29,17 +32,26 @@ fn a_row_of_text(rt: HostRuntime) {
         ReplyEnd::Whole,
     );
     let reply = read(&rt, alloc, WITHOUT_EOF, 1, &[&ONE_COLUMN, &row]);
-    assert_eq!(rt; size(&reply), Some((1, 1)));
+    assert_equal(&rt, size(&reply), Some((1, 1)));
     assert_bytes(&rt, cell(&reply), b"5");
-    assert_eq!(rt; status(&reply), Some(StatusFlags::SERVER_STATUS_AUTOCOMMIT));
+    assert_equal(
+        &rt,
+        status(&reply),
+        Some(StatusFlags::SERVER_STATUS_AUTOCOMMIT),
+    );
+}
+
+/// Whether the first cell is NULL.
+fn is_null(reply: &Reply) -> bool {
+    matches!(cell(reply), Some(Value::NULL))
 }
 
 #[test]
 fn null(rt: HostRuntime) {
     let row = [1, 0, 0, 3, 0xfb];
     let reply = read(&rt, rt.alloc(), WITHOUT_EOF, 1, &[&ONE_COLUMN, &row]);
-    assert_eq!(rt; size(&reply), Some((1, 1)));
-    assert!(rt; matches!(cell(&reply), Some(Value::NULL)));
+    assert_equal(&rt, size(&reply), Some((1, 1)));
+    assert_holds(&rt, is_null(&reply));
 }
 
 /// A row where EOF packets end rows, since it is too long for one; else the packet that ends the rows.
@@ -54,8 +66,8 @@ fn a_payload_that_begins_with_fe(rt: HostRuntime) {
     let pieces = [&ONE_COLUMN[..], &end];
     assert_ends(&rt, alloc, WITHOUT_EOF, 1, &pieces, 1, ReplyEnd::Whole);
     let reply = read(&rt, alloc, WITHOUT_EOF, 1, &pieces);
-    assert_eq!(rt; size(&reply), Some((1, 0)));
-    assert_eq!(rt; status(&reply), Some(StatusFlags(0)));
+    assert_equal(&rt, size(&reply), Some((1, 0)));
+    assert_equal(&rt, status(&reply), Some(StatusFlags(0)));
 }
 
 #[test]

@@ -1,10 +1,11 @@
-//! What the tests share.
+//! What the tests share. A branch in a test is dear to prove, and so these functions assert.
 
 use mysql_cells::Value;
 use mysql_const::{CapabilityFlags, StatusFlags};
 use mysql_packets::ServerError;
 use mysql_replies::{Reply, ReplyEnd, ReplyFault, ReplyKind, ReplyReader, ReplyResult, read_reply};
 use std::alloc::Global;
+use std::fmt::Debug;
 use std::process::Abort;
 
 pub const TEXT: CapabilityFlags = CapabilityFlags(0x200);
@@ -15,6 +16,16 @@ pub const WITH_PROGRESS: CapabilityFlags = CapabilityFlags(0x2000_0200);
 
 /// An OK packet with number 1: one row was changed.
 pub const DONE: [u8; 11] = [7, 0, 0, 1, 0, 1, 0, 2, 0, 0, 0];
+
+/// Asserts that a value is the wanted one.
+pub fn assert_equal<T: PartialEq + Debug + Drop>(rt: &impl Abort, found: T, wanted: T) {
+    assert_eq!(rt; found, wanted);
+}
+
+/// Asserts that something is so.
+pub fn assert_holds(rt: &impl Abort, is_so: bool) {
+    assert!(rt; is_so);
+}
 
 fn read_whole(
     alloc: Global,
@@ -49,8 +60,8 @@ fn unless_refused(rt: &impl Abort, first: Reply, second: Reply) -> Reply {
     if !ran_out(&first) {
         return first;
     }
-    assert!(rt; first.results.len() <= second.results.len());
-    assert!(rt; first.progress.len() <= second.progress.len());
+    assert_holds(rt, first.results.len() <= second.results.len());
+    assert_holds(rt, first.progress.len() <= second.progress.len());
     second
 }
 
@@ -84,6 +95,12 @@ pub fn read_cut(
     )
 }
 
+// Asserts that a reply has so many results and that end.
+fn assert_end(rt: &impl Abort, reply: Reply, results: usize, end: ReplyEnd) {
+    assert_equal(rt, reply.end, end);
+    assert_equal(rt, reply.results.len(), results);
+}
+
 /// Asserts that a reply has so many results and that end, in these pieces and byte by byte.
 pub fn assert_ends(
     rt: &impl Abort,
@@ -95,11 +112,9 @@ pub fn assert_ends(
     end: ReplyEnd,
 ) {
     let whole = read(rt, alloc, capabilities, first_id, pieces);
-    assert_eq!(rt; whole.end, end);
-    assert_eq!(rt; whole.results.len(), results);
+    assert_end(rt, whole, results, end);
     let cut = read_cut(rt, alloc, capabilities, first_id, pieces);
-    assert_eq!(rt; cut.end, end);
-    assert_eq!(rt; cut.results.len(), results);
+    assert_end(rt, cut, results, end);
 }
 
 /// How many rows the command changed, where the first result is an OK packet.
@@ -162,7 +177,7 @@ pub fn cell(reply: &Reply) -> Option<&Value> {
 /// Asserts that a value is these bytes.
 pub fn assert_bytes(rt: &impl Abort, value: Option<&Value>, wanted: &[u8]) {
     match value {
-        Some(Value::Bytes(bytes)) => assert_eq!(rt; bytes.as_slice(), wanted),
-        _ => assert!(rt; false),
+        Some(Value::Bytes(bytes)) => assert_equal(rt, bytes.as_slice(), wanted),
+        _ => assert_holds(rt, false),
     }
 }

@@ -1,11 +1,24 @@
 //! Large packets: a payload that fills a chunk ends with an empty one.
 
-use crate::support::fed;
+ghost use Rattle.std.specs.Prelude.{◌≡◌, true};
+ghost use Rattle.mysql_wire.specs.Codec.{CanGoOn};
+
+use crate::support::{
+    assert_equal, assert_holds, assert_memory, fed, is_too_large, is_whole, put_payload,
+};
 use bytes::BytesMut;
-use mysql_wire::{MAX_PAYLOAD_LEN, PacketCodec, PacketCodecError, packet_to_chunks};
+use mysql_wire::{MAX_PAYLOAD_LEN, PacketCodec, PacketCodecError, Packets};
+use std::process::Abort;
 
 /// A piece of the large payload: 4097 of them fill a chunk.
 const PIECE: [u8; 4095] = [0x20; 4095];
+
+// Asserts that one packet was read, of this length.
+fn assert_one_packet(rt: &impl Abort, found: Packets, len: usize) {
+    assert_holds(rt, is_whole(&found));
+    assert_equal(rt, found.packets.len(), 1);
+    assert_equal(rt, found.packets.first().expect(rt, "a packet").len(), len);
+}
 
 #[test]
 fn a_full_chunk_is_followed_by_an_empty_one(rt: HostRuntime) {
@@ -13,64 +26,66 @@ fn a_full_chunk_is_followed_by_an_empty_one(rt: HostRuntime) {
         return;
     };
     let mut out = BytesMut::new(rt.alloc());
-    let mut next = packet_to_chunks(0, payload.as_slice(), &mut out);
-    if next.is_err() {
-        assert!(rt; out.is_empty());
-        next = packet_to_chunks(0, payload.as_slice(), &mut out);
-    }
-    // The number of its reply's first chunk.
-    assert!(rt; matches!(&next, Ok(2)));
-    assert_eq!(rt; out.len(), MAX_PAYLOAD_LEN + 8);
+    // The number of its reply's first chunk is 2.
+    put_payload(&rt, 0, payload.as_slice(), 2, &mut out);
+    assert_equal(&rt, out.len(), MAX_PAYLOAD_LEN + 8);
     let too_large = fed(&rt, rt.alloc(), 0, 16777214, &[out.as_slice()]);
-    assert!(rt; matches!(&too_large.fault, Some(PacketCodecError::PacketTooLarge)));
+    assert_holds(&rt, is_too_large(too_large));
     let whole = fed(&rt, rt.alloc(), 0, 20000000, &[out.as_slice()]);
-    assert!(rt; whole.fault.is_none());
-    assert_eq!(rt; whole.packets.len(), 1);
-    assert_eq!(rt; whole.packets[0].len(), MAX_PAYLOAD_LEN);
+    assert_one_packet(&rt, whole, MAX_PAYLOAD_LEN);
+}
+
+// Feeds a piece with which the packet isn't whole yet: whether memory sufficed.
+fn feed_part(rt: &impl Abort, codec: &mut PacketCodec, mut src: &[u8], dst: &mut BytesMut) -> bool
+    requires { CanGoOn codec.old dst.old.items }
+    ensures { result ≡ true → CanGoOn codec.new dst.new.items }
+{
+    match codec.decode(&mut src, dst) {
+        Ok(whole) => {
+            assert!(rt; !whole);
+            true
+        }
+        Err(error) => {
+            assert_memory(rt, error);
+            false
+        }
+    }
 }
 
 #[test]
 fn a_full_chunk_in_small_pieces(rt: HostRuntime) {
     let mut codec = PacketCodec::at(0, 20000000);
     let mut dst = BytesMut::new(rt.alloc());
-    let mut src: &[u8] = &[255, 255, 255, 0];
-    assert!(rt; matches!(&codec.decode(&mut src, &mut dst), Ok(false)));
+    assert!(rt; feed_part(&rt, &mut codec, &[255, 255, 255, 0], &mut dst));
     for _ in 0..4097 {
-        let mut src: &[u8] = &PIECE;
-        match codec.decode(&mut src, &mut dst) {
-            Ok(whole) => assert!(rt; !whole),
-            Err(error) => {
-                // Memory was refused.
-                assert!(rt; matches!(error, PacketCodecError::Memory));
-                return;
-            }
+        if !feed_part(&rt, &mut codec, &PIECE, &mut dst) {
+            return;
         }
     }
     // Without the empty chunk the packet is not whole.
-    assert_eq!(rt; dst.len(), MAX_PAYLOAD_LEN);
+    assert_equal(&rt, dst.len(), MAX_PAYLOAD_LEN);
     let mut src: &[u8] = &[0, 0, 0, 1];
-    assert!(rt; matches!(&codec.decode(&mut src, &mut dst), Ok(true)));
-    assert_eq!(rt; dst.len(), MAX_PAYLOAD_LEN);
+    let last = codec.decode(&mut src, &mut dst);
+    assert_holds(&rt, last.expect(&rt, "nothing is allocated"));
+    assert_equal(&rt, dst.len(), MAX_PAYLOAD_LEN);
+}
+
+// Whether the packet is whole, or memory was refused.
+fn is_whole_or_refused(answer: Result<bool, PacketCodecError>) -> bool {
+    matches!(&answer, Ok(true) | Err(PacketCodecError::Memory))
 }
 
 #[test]
 fn a_long_packet_byte_by_byte(rt: HostRuntime) {
     let mut codec = PacketCodec::at(0, 20000000);
     let mut dst = BytesMut::new(rt.alloc());
-    let mut src: &[u8] = &[255, 255, 0, 0];
-    assert!(rt; matches!(&codec.decode(&mut src, &mut dst), Ok(false)));
+    assert!(rt; feed_part(&rt, &mut codec, &[255, 255, 0, 0], &mut dst));
     for _ in 0..65534 {
-        let mut src: &[u8] = &[7];
-        match codec.decode(&mut src, &mut dst) {
-            Ok(whole) => assert!(rt; !whole),
-            Err(error) => {
-                assert!(rt; matches!(error, PacketCodecError::Memory));
-                return;
-            }
+        if !feed_part(&rt, &mut codec, &[7], &mut dst) {
+            return;
         }
     }
-    assert_eq!(rt; dst.len(), 65534);
+    assert_equal(&rt, dst.len(), 65534);
     let mut src: &[u8] = &[7];
-    let last = codec.decode(&mut src, &mut dst);
-    assert!(rt; matches!(&last, Ok(true) | Err(PacketCodecError::Memory)));
+    assert_holds(&rt, is_whole_or_refused(codec.decode(&mut src, &mut dst)));
 }

@@ -1,144 +1,159 @@
 //! Streams of packets, read by `feed_all` and by a codec.
 
-use crate::support::{SELECT_1, fed, fed_by_bytes};
+ghost use Rattle.mysql_wire.specs.Codec.{CanGoOn};
+
+use crate::support::{
+    SELECT_1, assert_equal, assert_holds, assert_memory, assert_packets, assert_too_large, fed,
+    fed_by_bytes, is_too_large, is_whole,
+};
 use bytes::{Buf, BytesMut};
 use mysql_wire::{
     DEFAULT_MAX_ALLOWED_PACKET, PacketCodec, PacketCodecError, Packets, PartialHeader,
 };
+use std::alloc::Global;
+use std::process::Abort;
 
-fn is_whole(found: &Packets) -> bool {
-    found.fault.is_none()
+// Asserts that a stream is these packets, in one piece and byte by byte.
+fn assert_read(rt: &impl Abort, alloc: Global, number: u8, stream: &[u8], wanted: &[&[u8]]) {
+    assert_packets(rt, fed(rt, alloc, number, 1000, &[stream]), wanted);
+    assert_packets(rt, fed_by_bytes(rt, alloc, number, 1000, stream), wanted);
 }
 
 #[test]
 fn a_command(rt: HostRuntime) {
-    let stream: &[u8] = &SELECT_1;
-    let found = fed(&rt, rt.alloc(), 0, 1000, &[stream]);
-    let by_bytes = fed_by_bytes(&rt, rt.alloc(), 0, 1000, stream);
-    for packets in [&found, &by_bytes] {
-        assert!(rt; is_whole(packets));
-        assert_eq!(rt; packets.packets.len(), 1);
-        assert_eq!(rt; packets.packets[0].as_slice(), &SELECT_1[4..]);
-    }
+    assert_read(&rt, rt.alloc(), 0, &SELECT_1, &[&SELECT_1[4..]]);
 }
 
 #[test]
 fn numbers_go_on_past_255(rt: HostRuntime) {
     let stream: &[u8] = &[1, 0, 0, 255, 0x61, 1, 0, 0, 0, 0x62];
-    let found = fed(&rt, rt.alloc(), 255, 1000, &[stream]);
-    let by_bytes = fed_by_bytes(&rt, rt.alloc(), 255, 1000, stream);
-    for packets in [&found, &by_bytes] {
-        assert!(rt; is_whole(packets));
-        assert_eq!(rt; packets.packets.len(), 2);
-        assert_eq!(rt; packets.packets[0].as_slice(), b"a".as_slice());
-        assert_eq!(rt; packets.packets[1].as_slice(), b"b".as_slice());
-    }
+    assert_read(&rt, rt.alloc(), 255, stream, &[b"a", b"b"]);
+}
+
+// Asserts whether a stream was read whole, and its packet handed out.
+fn assert_fits(rt: &impl Abort, found: Packets, fits: bool) {
+    assert_equal(rt, is_whole(&found), fits);
+    assert_equal(rt, found.packets.is_empty(), !fits);
+}
+
+// Asserts whether the command is within a limit.
+fn assert_limit(rt: &impl Abort, alloc: Global, limit: usize, fits: bool) {
+    assert_fits(rt, fed(rt, alloc, 0, limit, &[&SELECT_1]), fits);
+    assert_fits(rt, fed_by_bytes(rt, alloc, 0, limit, &SELECT_1), fits);
+    // The fault comes once the header stands.
+    let header = fed(rt, alloc, 0, limit, &[&SELECT_1[..4]]);
+    assert_equal(rt, is_too_large(header), !fits);
 }
 
 #[test]
 fn a_packet_within_the_limit_and_past_it(rt: HostRuntime) {
-    for (limit, fits) in [(9, true), (8, false)] {
-        let stream: &[u8] = &SELECT_1;
-        let found = fed(&rt, rt.alloc(), 0, limit, &[stream]);
-        let by_bytes = fed_by_bytes(&rt, rt.alloc(), 0, limit, stream);
-        let header = fed(&rt, rt.alloc(), 0, limit, &[&SELECT_1[..4]]);
-        for packets in [&found, &by_bytes] {
-            assert_eq!(rt; is_whole(packets), fits);
-            assert_eq!(rt; packets.packets.is_empty(), !fits);
-        }
-        // The fault comes once the header stands.
-        assert_eq!(rt;
-            matches!(&header.fault, Some(PacketCodecError::PacketTooLarge)),
-            !fits
-        );
-    }
+    assert_limit(&rt, rt.alloc(), 9, true);
+    assert_limit(&rt, rt.alloc(), 8, false);
+}
+
+// Asserts that a chunk had another number than the one due, and no packet was handed out.
+fn assert_out_of_sync(rt: &impl Abort, found: Packets) {
+    assert!(rt; matches!(&found.fault, Some(PacketCodecError::PacketsOutOfSync)));
+    assert_holds(rt, found.packets.is_empty());
 }
 
 #[test]
 fn a_wrong_number_once_its_chunk_is_whole(rt: HostRuntime) {
-    let stream: &[u8] = &SELECT_1;
-    let found = fed(&rt, rt.alloc(), 1, 1000, &[stream]);
-    let by_bytes = fed_by_bytes(&rt, rt.alloc(), 1, 1000, stream);
-    for packets in [&found, &by_bytes] {
-        assert!(rt; matches!(&packets.fault, Some(PacketCodecError::PacketsOutOfSync)));
-        assert!(rt; packets.packets.is_empty());
-    }
-    let part = fed(&rt, rt.alloc(), 1, 1000, &[&SELECT_1[..12]]);
-    assert!(rt; is_whole(&part));
-    assert!(rt; part.packets.is_empty());
+    let alloc = rt.alloc();
+    assert_out_of_sync(&rt, fed(&rt, alloc, 1, 1000, &[&SELECT_1]));
+    assert_out_of_sync(&rt, fed_by_bytes(&rt, alloc, 1, 1000, &SELECT_1));
+    assert_packets(&rt, fed(&rt, alloc, 1, 1000, &[&SELECT_1[..12]]), &[]);
 }
 
 #[test]
 fn an_empty_payload_and_an_empty_stream(rt: HostRuntime) {
-    let found = fed(&rt, rt.alloc(), 0, 1000, &[&[0, 0, 0, 0]]);
-    let by_bytes = fed_by_bytes(&rt, rt.alloc(), 0, 1000, &[0, 0, 0, 0]);
-    for packets in [&found, &by_bytes] {
-        assert!(rt; is_whole(packets));
-        assert_eq!(rt; packets.packets.len(), 1);
-        assert!(rt; packets.packets[0].is_empty());
+    assert_read(&rt, rt.alloc(), 0, &[0, 0, 0, 0], &[b""]);
+    assert_packets(&rt, fed(&rt, rt.alloc(), 0, 1000, &[]), &[]);
+}
+
+// Asserts that a codec at which memory was refused keeps to it, and changes nothing.
+fn assert_kept(rt: &impl Abort, mut codec: PacketCodec, mut src: &[u8], mut dst: BytesMut)
+    requires { CanGoOn codec dst.items }
+{
+    let kept = src.len();
+    match codec.decode(&mut src, &mut dst) {
+        Ok(_) => assert_holds(rt, false),
+        Err(error) => assert_memory(rt, error),
     }
-    let none = fed(&rt, rt.alloc(), 0, 1000, &[]);
-    assert!(rt; is_whole(&none));
-    assert!(rt; none.packets.is_empty());
+    assert_equal(rt, src.len(), kept);
+}
+
+// Asserts that the rest of the command is read, behind the front of a header that was left.
+fn assert_rest(
+    rt: &impl Abort,
+    mut codec: PacketCodec,
+    mut left: &[u8],
+    back: &[u8],
+    mut dst: BytesMut,
+)
+    requires { CanGoOn codec dst.items }
+{
+    assert!(rt; left.len() < 4);
+    let header = PartialHeader::rest_of(&mut left);
+    let mut src = header.followed_by(back);
+    match codec.decode(&mut src, &mut dst) {
+        Ok(whole) => {
+            assert_holds(rt, whole);
+            assert_equal(rt, dst.as_slice(), &SELECT_1[4..]);
+            assert_equal(rt, src.remaining(), 0);
+        }
+        Err(error) => assert_memory(rt, error),
+    }
 }
 
 // Reads one command, by a piece and the next one.
+fn assert_read_in_two(rt: &impl Abort, alloc: Global, cut: usize) {
+    assert!(rt; cut <= SELECT_1.len());
+    let (front, back) = SELECT_1.split_at(cut);
+    let mut codec = PacketCodec::default();
+    let mut dst = BytesMut::new(alloc);
+    let mut src = front;
+    match codec.decode(&mut src, &mut dst) {
+        Ok(true) => {
+            assert_equal(rt, cut, 13);
+            assert_equal(rt, dst.as_slice(), &SELECT_1[4..]);
+        }
+        Ok(false) => {
+            assert_holds(rt, cut != 13);
+            assert_rest(rt, codec, src, back, dst);
+        }
+        Err(error) => {
+            assert_memory(rt, error);
+            assert_kept(rt, codec, src, dst);
+        }
+    }
+}
+
 #[test]
 fn a_codec_fed_in_two_pieces(rt: HostRuntime) {
     for cut in 0..14 {
-        assert!(rt; cut <= SELECT_1.len());
-        let (front, back) = SELECT_1.split_at(cut);
-        let mut codec = PacketCodec::default();
-        let mut dst = BytesMut::new(rt.alloc());
-        let mut src = front;
-        match codec.decode(&mut src, &mut dst) {
-            Ok(whole) => assert_eq!(rt; whole, cut == 13),
-            Err(error) => {
-                // Memory was refused: the codec keeps to it, and changes nothing.
-                assert!(rt; matches!(error, PacketCodecError::Memory));
-                let kept = src.len();
-                assert!(rt;
-                    matches!(
-                        &codec.decode(&mut src, &mut dst),
-                        Err(PacketCodecError::Memory)
-                    )
-                );
-                assert_eq!(rt; src.len(), kept);
-                continue;
-            }
-        }
-        if cut == 13 {
-            assert_eq!(rt; dst.as_slice(), &SELECT_1[4..]);
-            continue;
-        }
-        assert!(rt; src.len() < 4);
-        let header = PartialHeader::rest_of(&mut src);
-        let mut src = header.followed_by(back);
-        match codec.decode(&mut src, &mut dst) {
-            Ok(whole) => {
-                assert!(rt; whole);
-                assert_eq!(rt; dst.as_slice(), &SELECT_1[4..]);
-                assert_eq!(rt; src.remaining(), 0);
-            }
-            Err(error) => assert!(rt; matches!(error, PacketCodecError::Memory)),
-        }
+        assert_read_in_two(&rt, rt.alloc(), cut);
     }
+}
+
+// Reads the command where memory suffices: whether it did.
+fn reads(rt: &impl Abort, alloc: Global) -> bool {
+    let mut codec = PacketCodec::at(0, DEFAULT_MAX_ALLOWED_PACKET);
+    let mut dst = BytesMut::new(alloc);
+    let mut src: &[u8] = &SELECT_1;
+    let read = matches!(codec.decode(&mut src, &mut dst), Ok(true));
+    if read {
+        assert_equal(rt, dst.as_slice(), &SELECT_1[4..]);
+    }
+    read
 }
 
 #[test]
 fn a_codec_with_ample_memory_reads(rt: HostRuntime) {
     // One allocation of a run may be refused: then the second codec reads.
-    let mut read = 0;
-    for _ in 0..2 {
-        let mut codec = PacketCodec::at(0, DEFAULT_MAX_ALLOWED_PACKET);
-        let mut dst = BytesMut::new(rt.alloc());
-        let mut src: &[u8] = &SELECT_1;
-        if let Ok(true) = codec.decode(&mut src, &mut dst) {
-            assert_eq!(rt; dst.as_slice(), &SELECT_1[4..]);
-            read = 1;
-        }
-    }
-    assert_eq!(rt; read, 1);
+    let first = reads(&rt, rt.alloc());
+    let second = reads(&rt, rt.alloc());
+    assert_holds(&rt, first | second);
 }
 
 #[test]
@@ -153,11 +168,6 @@ fn a_refusal_stays(rt: HostRuntime) {
         )
     );
     let mut fine: &[u8] = &[1, 0, 0, 0, 7];
-    assert!(rt;
-        matches!(
-            &codec.decode(&mut fine, &mut dst),
-            Err(PacketCodecError::PacketTooLarge)
-        )
-    );
-    assert_eq!(rt; fine.len(), 5);
+    assert_too_large(&rt, codec.decode(&mut fine, &mut dst));
+    assert_equal(&rt, fine.len(), 5);
 }
