@@ -1,10 +1,11 @@
 //! Sets of global transaction identifiers of one source.
 
 ghost use Rattle.std.specs.Prelude.{◌≡◌, ◌++◌, ◌∷◌, [], IfOk, IfErr, MatchOption, None, Some};
+ghost use Rattle.std.specs.List.{flat_map};
 ghost use Rattle.uuid.specs.Text.{hyphenated_text, lower};
-ghost use Rattle.mysql_gtid.specs.Intervals.{intervals_of};
+ghost use Rattle.mysql_gtid.specs.Intervals.{interval_text, intervals_of};
 ghost use Rattle.mysql_gtid.specs.Refusals.{Answers, Gives};
-ghost use Rattle.mysql_gtid.specs.Sids.{begins_with_digit, fields_of, sid_of, sid_text, sid_view, tag_and_intervals, uuid_of};
+ghost use Rattle.mysql_gtid.specs.Sids.{begins_with_digit, fields_of, sid_of, sid_text, sid_view, tag_and_intervals, tag_text, uuid_of};
 
 use crate::error::SidError;
 use crate::interval::GnoInterval;
@@ -143,11 +144,37 @@ impl<'a> fmt::Display for Sid<'a> {
     ghost output = { λ sid. Some (sid_text (sid_view sid)) };
 
     fn fmt<W: fmt::Write>(&self, f: &mut fmt::Formatter<W>) -> fmt::Result {
-        write!(f, "{}", Uuid::from_bytes(self.uuid).hyphenated())?;
-        if let Some(tag) = &self.tag {
+        let uuid = Uuid::from_bytes(self.uuid).hyphenated();
+        let tag = TagPart(&self.tag);
+        let intervals = IntervalsPart(self.intervals.as_slice());
+        write!(f, "{uuid}{tag}{intervals}")
+    }
+}
+
+// A tag behind a colon, where there is one.
+#[derive(Drop)]
+struct TagPart<'x, 'a>(&'x Option<Tag<'a>>);
+
+impl<'x, 'a> fmt::Display for TagPart<'x, 'a> {
+    ghost output = { λ part. Some (tag_text part.0.now) };
+
+    fn fmt<W: fmt::Write>(&self, f: &mut fmt::Formatter<W>) -> fmt::Result {
+        if let Some(tag) = self.0 {
             write!(f, ":{tag}")?;
         }
-        for interval in &self.intervals {
+        Ok(())
+    }
+}
+
+// Intervals, each behind a colon.
+#[derive(Drop)]
+struct IntervalsPart<'x>(&'x [GnoInterval]);
+
+impl<'x> fmt::Display for IntervalsPart<'x> {
+    ghost output = { λ part. Some (flat_map (λ interval. 58 ∷ interval_text interval) part.0.now) };
+
+    fn fmt<W: fmt::Write>(&self, f: &mut fmt::Formatter<W>) -> fmt::Result {
+        for interval in self.0 {
             write!(f, ":{interval}")?;
         }
         Ok(())

@@ -78,27 +78,49 @@ register_slave p = concat (
     ∷ little_bytes 2 p.port ∷ little_bytes 4 p.replication_rank ∷ little_bytes 4 p.master_id ∷ []
     )
 
+-- The names of its host and user, and a password.
+pub record ReplicaNames : Type 0 where
+  pub hostname : List ℕ
+  pub user : List ℕ
+  pub password : List ℕ
+
+unfoldable pub replica_names_at : List ℕ → Reading ReplicaNames
+replica_names_at bytes = do
+  hostname ← u8_text_at bytes
+  user ← u8_text_at hostname.1
+  password ← u8_text_at user.1
+  Ok (record { hostname = hostname.0; user = user.0; password = password.0 }, password.1)
+
+-- Its port, its rank and its master's id.
+pub record ReplicaNumbers : Type 0 where
+  pub port : ℕ
+  pub replication_rank : ℕ
+  pub master_id : ℕ
+
+unfoldable pub replica_numbers_at : List ℕ → Reading ReplicaNumbers
+replica_numbers_at bytes = do
+  port ← little_at 2 bytes
+  replication_rank ← little_at 4 port.1
+  master_id ← little_at 4 replication_rank.1
+  Ok (record { port = port.0; replication_rank = replication_rank.0; master_id = master_id.0 }, master_id.1)
+
 unfoldable pub register_slave_fields_at : List ℕ → Reading RegisterSlave
 register_slave_fields_at bytes = do
   header ← constant_at 1 21 bytes
   server_id ← little_at 4 header.1
-  hostname ← u8_text_at server_id.1
-  user ← u8_text_at hostname.1
-  password ← u8_text_at user.1
-  port ← little_at 2 password.1
-  replication_rank ← little_at 4 port.1
-  master_id ← little_at 4 replication_rank.1
+  names ← replica_names_at server_id.1
+  numbers ← replica_numbers_at names.1
   Ok (
     record {
       server_id = server_id.0;
-      hostname = hostname.0;
-      user = user.0;
-      password = password.0;
-      port = port.0;
-      replication_rank = replication_rank.0;
-      master_id = master_id.0;
+      hostname = names.0.hostname;
+      user = names.0.user;
+      password = names.0.password;
+      port = numbers.0.port;
+      replication_rank = numbers.0.replication_rank;
+      master_id = numbers.0.master_id;
     },
-    master_id.1,
+    numbers.1,
   )
 
 unfoldable pub register_slave_at : List ℕ → Reading RegisterSlave
@@ -156,16 +178,33 @@ binlog_dump_gtid p = concat (
     ∷ little_bytes 4 (min (length (block_bytes p.sids)) (2 ^ 32 - 1)) ∷ block_bytes p.sids ∷ []
     )
 
-unfoldable pub binlog_dump_gtid_fields_at : List ℕ → Reading BinlogDumpGtid
-binlog_dump_gtid_fields_at bytes = do
+-- Its first byte, its flags and the replica's id.
+unfoldable pub binlog_dump_gtid_front_at : List ℕ → Reading (ℕ × ℕ)
+binlog_dump_gtid_front_at bytes = do
   header ← constant_at 1 30 bytes
   flags ← named_at binlog_dump_named (little_at 2) header.1
   server_id ← little_at 4 flags.1
-  filename ← u32_text_at server_id.1
+  Ok ((flags.0.0, server_id.0), server_id.1)
+
+-- The file's name, the position and the block of sets.
+pub record BinlogDumpGtidTexts : Type 0 where
+  pub filename : List ℕ
+  pub pos : ℕ
+  pub block : List ℕ
+
+unfoldable pub binlog_dump_gtid_texts_at : List ℕ → Reading BinlogDumpGtidTexts
+binlog_dump_gtid_texts_at bytes = do
+  filename ← u32_text_at bytes
   pos ← little_at 8 filename.1
   block ← u32_text_at pos.1
-  sids ← block_at block.0
-  Ok (record { flags = flags.0.0; server_id = server_id.0; filename = filename.0; pos = pos.0; sids = sids.0 }, block.1)
+  Ok (record { filename = filename.0; pos = pos.0; block = block.0 }, block.1)
+
+unfoldable pub binlog_dump_gtid_fields_at : List ℕ → Reading BinlogDumpGtid
+binlog_dump_gtid_fields_at bytes = do
+  front ← binlog_dump_gtid_front_at bytes
+  texts ← binlog_dump_gtid_texts_at front.1
+  sids ← block_at texts.0.block
+  Ok (record { flags = front.0.0; server_id = front.0.1; filename = texts.0.filename; pos = texts.0.pos; sids = sids.0 }, texts.1)
 
 unfoldable pub binlog_dump_gtid_at : List ℕ → Reading BinlogDumpGtid
 binlog_dump_gtid_at bytes = from_block 7 binlog_dump_gtid_fields_at bytes

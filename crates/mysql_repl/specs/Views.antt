@@ -2,11 +2,14 @@
 use Rattle.std.specs.Prelude.{map}
 use Rattle.std.specs.Cow.{cow_slice_items}
 use Rattle.mysql_gtid.specs.Sids.{sid_view}
-use Rattle.mysql_repl.specs.Packets.{BinlogDump, BinlogDumpGtid, RegisterSlave, Request, SemiSyncAck, TableDump}
+use Rattle.mysql_repl.specs.Packets.{BinlogDump, BinlogDumpGtid, BinlogDumpGtidTexts, RegisterSlave, ReplicaNames, ReplicaNumbers, Request, SemiSyncAck, TableDump}
 use Rattle.mysql_repl.specs.declared.binlog_dump.ComBinlogDump.{ComBinlogDump}
 use Rattle.mysql_repl.specs.declared.binlog_dump_gtid.ComBinlogDumpGtid.{ComBinlogDumpGtid}
+use Rattle.mysql_repl.specs.declared.binlog_dump_gtid.Texts.{Texts}
 use Rattle.mysql_repl.specs.declared.binlog_request.BinlogRequest.{BinlogRequest}
 use Rattle.mysql_repl.specs.declared.register_slave.ComRegisterSlave.{ComRegisterSlave}
+use Rattle.mysql_repl.specs.declared.register_slave.Names.{Names}
+use Rattle.mysql_repl.specs.declared.register_slave.Numbers.{Numbers}
 use Rattle.mysql_repl.specs.declared.semi_sync_ack.SemiSyncAckPacket.{SemiSyncAckPacket}
 use Rattle.mysql_repl.specs.declared.table_dump.ComTableDump.{ComTableDump}
 
@@ -27,6 +30,12 @@ register_slave_view p = record {
   master_id = p.master_id;
 }
 
+abbrev pub names_view : Names → ReplicaNames
+names_view p = record { hostname = p.hostname.now; user = p.user.now; password = p.password.now }
+
+abbrev pub numbers_view : Numbers → ReplicaNumbers
+numbers_view p = record { port = p.port; replication_rank = p.replication_rank; master_id = p.master_id }
+
 abbrev pub binlog_dump_view : ComBinlogDump → BinlogDump
 binlog_dump_view p = record { pos = p.pos; flags = p.flags.0; server_id = p.server_id; filename = cow_slice_items p.filename }
 
@@ -38,6 +47,9 @@ binlog_dump_gtid_view p = record {
   pos = p.pos;
   sids = map sid_view (cow_slice_items p.sids);
 }
+
+abbrev pub texts_view : Texts → BinlogDumpGtidTexts
+texts_view p = record { filename = p.filename.now; pos = p.pos; block = p.block.now }
 
 abbrev pub request_view : BinlogRequest → Request
 request_view r = record {

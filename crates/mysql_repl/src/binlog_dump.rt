@@ -11,7 +11,7 @@ ghost use Rattle.mysql_repl.specs.Packets.{BinlogDump, IsBinlogDump, binlog_dump
 ghost use Rattle.mysql_repl.specs.Views.{binlog_dump_view};
 ghost use Rattle.mysql_raw.specs.WireError.TheVariants as wire;
 
-use crate::fields::{copy_of, lossy};
+use crate::fields::{LastText, copy_of, lossy};
 use crate::headers::ComBinlogDumpHeader;
 use mysql_buf::ParseBuf;
 use mysql_const::BinlogDumpFlags;
@@ -19,7 +19,6 @@ use mysql_raw::{
     LeU16, LeU32, MyDeserialize, MySerialize, ParseExt, RawInt, Readable, ReadsBack, WireError,
     in_order,
 };
-use mysql_raw_bytes::{EofBytes, RawBytes};
 use mysql_raw_consts::Const;
 use std::alloc::{AllocError, Global};
 use std::borrow::{CowSlice, CowStr};
@@ -127,11 +126,12 @@ impl<'a> MySerialize for ComBinlogDump<'a> {
     ghost written = { λ p. binlog_dump (binlog_dump_view p) };
 
     fn serialize(&self, buf: &mut Vec<u8>) -> Result<(), AllocError> {
+        let header = ComBinlogDumpHeader::new();
         let pos: RawInt<LeU32> = RawInt::new(self.pos);
         let flags: RawInt<LeU16> = RawInt::new(self.flags.0);
         let server_id: RawInt<LeU32> = RawInt::new(self.server_id);
-        let filename: RawBytes<EofBytes> = RawBytes::new(CowSlice::Borrowed(self.filename_raw()));
-        in_order!(ComBinlogDumpHeader::new(), pos, flags, server_id, filename).serialize(buf)
+        let filename = LastText(self.filename_raw());
+        in_order!(header, pos, flags, server_id, filename).serialize(buf)
     }
 }
 
@@ -171,15 +171,19 @@ fn fields_from<'de>(
     ensures { GivesPart binlog_dump_view rest.new.0.now result (binlog_dump_fields_at rest.old.0.now) }
 {
     let _header: ComBinlogDumpHeader = rest.parse(alloc, ())?;
-    let pos: RawInt<LeU32> = rest.parse(alloc, ())?;
+    let Some(pos) = rest.checked_eat_u32_le() else {
+        return Err(WireError::UnexpectedEof);
+    };
     let flags: Const<BinlogDumpFlags, LeU16> = rest.parse(alloc, ())?;
-    let server_id: RawInt<LeU32> = rest.parse(alloc, ())?;
-    let filename: RawBytes<EofBytes> = rest.parse(alloc, ())?;
+    let Some(server_id) = rest.checked_eat_u32_le() else {
+        return Err(WireError::UnexpectedEof);
+    };
+    let filename = CowSlice::Borrowed(rest.eat_all());
     Ok(ComBinlogDump {
-        pos: pos.0,
+        pos,
         flags: flags.0,
-        server_id: server_id.0,
-        filename: filename.0,
+        server_id,
+        filename,
     })
 }
 
@@ -198,8 +202,10 @@ impl<'de> MyDeserialize<'de> for ComBinlogDump<'de> {
             return Err(WireError::UnexpectedEof);
         }
         let mut rest = *buf;
-        let packet = fields_from(alloc, &mut rest)?;
-        *buf = rest;
-        Ok(packet)
+        let answer = fields_from(alloc, &mut rest);
+        if answer.is_ok() {
+            *buf = rest;
+        }
+        answer
     }
 }

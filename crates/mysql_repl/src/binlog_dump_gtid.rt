@@ -9,11 +9,11 @@ ghost use Rattle.mysql_gtid.specs.Sids.{sid_view};
 ghost use Rattle.mysql_raw.specs.Laws.{unsized};
 ghost use Rattle.mysql_raw.specs.Wire.{GivesPart};
 ghost use Rattle.mysql_repl.specs.PacketLaws.{binlog_dump_gtid_at-back};
-ghost use Rattle.mysql_repl.specs.Packets.{BinlogDumpGtid, IsBinlogDumpGtid, binlog_dump_gtid, binlog_dump_gtid_at, binlog_dump_gtid_fields_at, through_gtid};
-ghost use Rattle.mysql_repl.specs.Views.{binlog_dump_gtid_view};
+ghost use Rattle.mysql_repl.specs.Packets.{BinlogDumpGtid, IsBinlogDumpGtid, binlog_dump_gtid, binlog_dump_gtid_at, binlog_dump_gtid_fields_at, binlog_dump_gtid_front_at, binlog_dump_gtid_texts_at, through_gtid};
+ghost use Rattle.mysql_repl.specs.Views.{binlog_dump_gtid_view, texts_view};
 ghost use Rattle.mysql_raw.specs.WireError.TheVariants as wire;
 
-use crate::fields::{copy_of, lossy};
+use crate::fields::{LongText, copy_of, lossy};
 use crate::headers::ComBinlogDumpGtidHeader;
 use bitflags::Flags;
 use mysql_buf::{ParseBuf, front_of};
@@ -23,7 +23,6 @@ use mysql_raw::{
     LeU16, LeU32, LeU64, MyDeserialize, MySerialize, ParseExt, RawInt, Readable, ReadsBack,
     WireError, in_order,
 };
-use mysql_raw_bytes::{RawBytes, U32Bytes};
 use mysql_raw_consts::Const;
 use std::alloc::{AllocError, Global};
 use std::borrow::{CowSlice, CowStr};
@@ -112,22 +111,13 @@ impl<'a> ComBinlogDumpGtid<'a> {
     pub fn with_sid(self, alloc: Global, sid: Sid<'a>) -> Result<ComBinlogDumpGtid<'a>, AllocError>
         ensures { IfOk result (λ p. binlog_dump_gtid_view p ≡ record (binlog_dump_gtid_view self.entry) { flags = through_gtid (sid_view sid.entry ∷ []) (binlog_dump_gtid_view self.entry).flags; sids = (binlog_dump_gtid_view self.entry).sids ++ sid_view sid.entry ∷ [] }) }
     {
-        let ComBinlogDumpGtid {
-            flags,
-            server_id,
-            filename,
-            pos,
-            sids,
-        } = self;
-        let (mut sids, others) = owned_part(alloc, sids);
-        copy_into(alloc, &mut sids, others)?;
-        sids.push(sid)?;
-        let flags = Flags::union(flags, BinlogDumpFlags::BINLOG_THROUGH_GTID);
+        let flags = Flags::union(self.flags, BinlogDumpFlags::BINLOG_THROUGH_GTID);
+        let sids = with_one_more(alloc, self.sids, sid)?;
         Ok(ComBinlogDumpGtid {
             flags,
-            server_id,
-            filename,
-            pos,
+            server_id: self.server_id,
+            filename: self.filename,
+            pos: self.pos,
             sids: CowSlice::Owned(sids),
         })
     }
@@ -201,12 +191,27 @@ fn owned_part<'a, T>(alloc: Global, all: CowSlice<'a, T>) -> (Vec<T>, &'a [T])
     }
 }
 
+// The sets, of which borrowed ones are copied, and this one behind them.
+fn with_one_more<'a>(
+    alloc: Global,
+    sids: CowSlice<'a, Sid<'a>>,
+    sid: Sid<'a>,
+) -> Result<Vec<Sid<'a>>, AllocError>
+    ensures { IfOk result (λ all. map sid_view all.items ≡ map sid_view (cow_slice_items sids.entry) ++ sid_view sid.entry ∷ []) }
+{
+    let (mut all, others) = owned_part(alloc, sids);
+    copy_into(alloc, &mut all, others)?;
+    all.push(sid)?;
+    Ok(all)
+}
+
 // Appends copies of sets, which borrow nothing.
 fn copy_into(alloc: Global, copies: &mut Vec<Sid<'_>>, sids: &[Sid<'_>]) -> Result<(), AllocError>
     ensures { IfOk result (λ _. map sid_view copies.new.items ≡ map sid_view copies.old.items ++ map sid_view sids.now) }
 {
     for sid in sids {
-        copies.push(sid.clone(alloc)?)?;
+        let copy = sid.clone(alloc)?;
+        copies.push(copy)?;
     }
     Ok(())
 }
@@ -225,24 +230,14 @@ impl<'a> MySerialize for ComBinlogDumpGtid<'a> {
     ghost written = { λ p. binlog_dump_gtid (binlog_dump_gtid_view p) };
 
     fn serialize(&self, buf: &mut Vec<u8>) -> Result<(), AllocError> {
+        let header = ComBinlogDumpGtidHeader::new();
         let flags: RawInt<LeU16> = RawInt::new(self.flags.0);
         let server_id: RawInt<LeU32> = RawInt::new(self.server_id);
-        let filename: RawBytes<U32Bytes> = RawBytes::new(CowSlice::Borrowed(
-            self.filename.as_slice(),
-        ));
+        let filename = LongText(self.filename.as_slice());
         let pos: RawInt<LeU64> = RawInt::new(self.pos);
         let block = SidBlock(CowSlice::Borrowed(self.sids.as_slice()));
         let block_len: RawInt<LeU32> = RawInt::new(block.byte_len());
-        in_order!(
-            ComBinlogDumpGtidHeader::new(),
-            flags,
-            server_id,
-            filename,
-            pos,
-            block_len,
-            block,
-        )
-        .serialize(buf)
+        in_order!(header, flags, server_id, filename, pos, block_len, block).serialize(buf)
     }
 }
 
@@ -274,6 +269,48 @@ impl<'a> ReadsBack for ComBinlogDumpGtid<'a> {
     ghost reads_back = { λ _ p. binlog_dump_gtid_at-back (binlog_dump_gtid_view p) };
 }
 
+// The flags and the replica's id.
+#[tactic(auto, unfolding(crate::specs::Packets::binlog_dump_gtid_front_at))]
+fn front_from(alloc: Global, rest: &mut ParseBuf) -> Result<(BinlogDumpFlags, u32), WireError>
+    ensures { GivesPart (λ front. (front.0.0, front.1)) rest.new.0.now result (binlog_dump_gtid_front_at rest.old.0.now) }
+{
+    let _header: ComBinlogDumpGtidHeader = rest.parse(alloc, ())?;
+    let flags: Const<BinlogDumpFlags, LeU16> = rest.parse(alloc, ())?;
+    let Some(server_id) = rest.checked_eat_u32_le() else {
+        return Err(WireError::UnexpectedEof);
+    };
+    Ok((flags.0, server_id))
+}
+
+// The file's name, the position and the block of sets.
+#[derive(Clone, Copy)]
+struct Texts<'a> {
+    filename: &'a [u8],
+    pos: u64,
+    block: &'a [u8],
+}
+
+#[tactic(auto, unfolding(crate::specs::Packets::binlog_dump_gtid_texts_at))]
+fn texts_from<'de>(rest: &mut ParseBuf<'de>) -> Result<Texts<'de>, WireError>
+    ensures { GivesPart texts_view rest.new.0.now result (binlog_dump_gtid_texts_at rest.old.0.now) }
+{
+    let Some(filename) = rest.checked_eat_u32_str() else {
+        return Err(WireError::UnexpectedEof);
+    };
+    let Some(pos) = rest.checked_eat_u64_le() else {
+        return Err(WireError::UnexpectedEof);
+    };
+    let Some(block) = rest.checked_eat_u32_str() else {
+        return Err(WireError::UnexpectedEof);
+    };
+    Ok(Texts {
+        filename,
+        pos,
+        block,
+    })
+}
+
+// The fields in their order.
 #[tactic(auto, unfolding(crate::specs::Packets::binlog_dump_gtid_fields_at))]
 fn fields_from<'de>(
     alloc: Global,
@@ -281,19 +318,14 @@ fn fields_from<'de>(
 ) -> Result<ComBinlogDumpGtid<'de>, WireError>
     ensures { GivesPart binlog_dump_gtid_view rest.new.0.now result (binlog_dump_gtid_fields_at rest.old.0.now) }
 {
-    let _header: ComBinlogDumpGtidHeader = rest.parse(alloc, ())?;
-    let flags: Const<BinlogDumpFlags, LeU16> = rest.parse(alloc, ())?;
-    let server_id: RawInt<LeU32> = rest.parse(alloc, ())?;
-    let filename: RawBytes<U32Bytes> = rest.parse(alloc, ())?;
-    let pos: RawInt<LeU64> = rest.parse(alloc, ())?;
-    let block_len: RawInt<LeU32> = rest.parse(alloc, ())?;
-    let block: &[u8] = rest.parse(alloc, block_len.0 as usize)?;
-    let sids: SidBlock = ParseBuf(block).parse(alloc, ())?;
+    let (flags, server_id) = front_from(alloc, rest)?;
+    let texts = texts_from(rest)?;
+    let sids: SidBlock = ParseBuf(texts.block).parse(alloc, ())?;
     Ok(ComBinlogDumpGtid {
-        flags: flags.0,
-        server_id: server_id.0,
-        filename: filename.0,
-        pos: pos.0,
+        flags,
+        server_id,
+        filename: CowSlice::Borrowed(texts.filename),
+        pos: texts.pos,
         sids: sids.0,
     })
 }
@@ -315,8 +347,10 @@ impl<'de> MyDeserialize<'de> for ComBinlogDumpGtid<'de> {
             return Err(WireError::UnexpectedEof);
         }
         let mut rest = *buf;
-        let packet = fields_from(alloc, &mut rest)?;
-        *buf = rest;
-        Ok(packet)
+        let answer = fields_from(alloc, &mut rest);
+        if answer.is_ok() {
+            *buf = rest;
+        }
+        answer
     }
 }

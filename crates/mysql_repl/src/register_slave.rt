@@ -8,18 +8,17 @@ ghost use Rattle.mysql_buf.specs.Writing.{front};
 ghost use Rattle.mysql_raw.specs.Laws.{unsized};
 ghost use Rattle.mysql_raw.specs.Wire.{GivesPart};
 ghost use Rattle.mysql_repl.specs.PacketLaws.{register_slave_at-back};
-ghost use Rattle.mysql_repl.specs.Packets.{IsRegisterSlave, RegisterSlave, register_slave, register_slave_at, register_slave_fields_at};
-ghost use Rattle.mysql_repl.specs.Views.{register_slave_view};
+ghost use Rattle.mysql_repl.specs.Packets.{IsRegisterSlave, RegisterSlave, register_slave, register_slave_at, register_slave_fields_at, replica_names_at, replica_numbers_at};
+ghost use Rattle.mysql_repl.specs.Views.{names_view, numbers_view, register_slave_view};
 ghost use Rattle.mysql_raw.specs.WireError.TheVariants as wire;
 
-use crate::fields::{copy_of, lossy};
+use crate::fields::{ShortText, copy_of, lossy};
 use crate::headers::ComRegisterSlaveHeader;
 use mysql_buf::{ParseBuf, front_of};
 use mysql_raw::{
     LeU16, LeU32, MyDeserialize, MySerialize, ParseExt, RawInt, Readable, ReadsBack, WireError,
     in_order,
 };
-use mysql_raw_bytes::{RawBytes, U8Bytes};
 use std::alloc::{AllocError, Global};
 use std::borrow::{CowSlice, CowStr};
 
@@ -193,28 +192,25 @@ impl<'a> ComRegisterSlave<'a> {
     }
 }
 
-// A name as it is written.
-fn name_of<'a>(name: &'a CowSlice<'_, u8>) -> RawBytes<'a, U8Bytes>
-    ensures { cow_slice_items result.0 ≡ cow_slice_items name.now }
-{
-    RawBytes::new(CowSlice::Borrowed(name.as_slice()))
-}
-
 #[tactic(auto, unfolding(crate::specs::Packets::register_slave))]
 impl<'a> MySerialize for ComRegisterSlave<'a> {
     ghost written = { λ p. register_slave (register_slave_view p) };
 
     fn serialize(&self, buf: &mut Vec<u8>) -> Result<(), AllocError> {
+        let header = ComRegisterSlaveHeader::new();
         let server_id: RawInt<LeU32> = RawInt::new(self.server_id);
+        let hostname = ShortText(self.hostname.as_slice());
+        let user = ShortText(self.user.as_slice());
+        let password = ShortText(self.password.as_slice());
         let port: RawInt<LeU16> = RawInt::new(self.port);
         let replication_rank: RawInt<LeU32> = RawInt::new(self.replication_rank);
         let master_id: RawInt<LeU32> = RawInt::new(self.master_id);
         in_order!(
-            ComRegisterSlaveHeader::new(),
+            header,
             server_id,
-            name_of(&self.hostname),
-            name_of(&self.user),
-            name_of(&self.password),
+            hostname,
+            user,
+            password,
             port,
             replication_rank,
             master_id,
@@ -251,6 +247,63 @@ impl<'a> ReadsBack for ComRegisterSlave<'a> {
     ghost reads_back = { λ _ p. register_slave_at-back (register_slave_view p) };
 }
 
+// The names of a host and of a user, and a password.
+#[derive(Clone, Copy)]
+struct Names<'a> {
+    hostname: &'a [u8],
+    user: &'a [u8],
+    password: &'a [u8],
+}
+
+#[tactic(auto, unfolding(crate::specs::Packets::replica_names_at))]
+fn names_from<'de>(rest: &mut ParseBuf<'de>) -> Result<Names<'de>, WireError>
+    ensures { GivesPart names_view rest.new.0.now result (replica_names_at rest.old.0.now) }
+{
+    let Some(hostname) = rest.checked_eat_u8_str() else {
+        return Err(WireError::UnexpectedEof);
+    };
+    let Some(user) = rest.checked_eat_u8_str() else {
+        return Err(WireError::UnexpectedEof);
+    };
+    let Some(password) = rest.checked_eat_u8_str() else {
+        return Err(WireError::UnexpectedEof);
+    };
+    Ok(Names {
+        hostname,
+        user,
+        password,
+    })
+}
+
+// A port, a rank and a master's id.
+#[derive(Clone, Copy)]
+struct Numbers {
+    port: u16,
+    replication_rank: u32,
+    master_id: u32,
+}
+
+#[tactic(auto, unfolding(crate::specs::Packets::replica_numbers_at))]
+fn numbers_from(rest: &mut ParseBuf) -> Result<Numbers, WireError>
+    ensures { GivesPart numbers_view rest.new.0.now result (replica_numbers_at rest.old.0.now) }
+{
+    let Some(port) = rest.checked_eat_u16_le() else {
+        return Err(WireError::UnexpectedEof);
+    };
+    let Some(replication_rank) = rest.checked_eat_u32_le() else {
+        return Err(WireError::UnexpectedEof);
+    };
+    let Some(master_id) = rest.checked_eat_u32_le() else {
+        return Err(WireError::UnexpectedEof);
+    };
+    Ok(Numbers {
+        port,
+        replication_rank,
+        master_id,
+    })
+}
+
+// The fields in their order.
 #[tactic(auto, unfolding(crate::specs::Packets::register_slave_fields_at))]
 fn fields_from<'de>(
     alloc: Global,
@@ -259,21 +312,19 @@ fn fields_from<'de>(
     ensures { GivesPart register_slave_view rest.new.0.now result (register_slave_fields_at rest.old.0.now) }
 {
     let _header: ComRegisterSlaveHeader = rest.parse(alloc, ())?;
-    let server_id: RawInt<LeU32> = rest.parse(alloc, ())?;
-    let hostname: RawBytes<U8Bytes> = rest.parse(alloc, ())?;
-    let user: RawBytes<U8Bytes> = rest.parse(alloc, ())?;
-    let password: RawBytes<U8Bytes> = rest.parse(alloc, ())?;
-    let port: RawInt<LeU16> = rest.parse(alloc, ())?;
-    let replication_rank: RawInt<LeU32> = rest.parse(alloc, ())?;
-    let master_id: RawInt<LeU32> = rest.parse(alloc, ())?;
+    let Some(server_id) = rest.checked_eat_u32_le() else {
+        return Err(WireError::UnexpectedEof);
+    };
+    let names = names_from(rest)?;
+    let numbers = numbers_from(rest)?;
     Ok(ComRegisterSlave {
-        server_id: server_id.0,
-        hostname: hostname.0,
-        user: user.0,
-        password: password.0,
-        port: port.0,
-        replication_rank: replication_rank.0,
-        master_id: master_id.0,
+        server_id,
+        hostname: CowSlice::Borrowed(names.hostname),
+        user: CowSlice::Borrowed(names.user),
+        password: CowSlice::Borrowed(names.password),
+        port: numbers.port,
+        replication_rank: numbers.replication_rank,
+        master_id: numbers.master_id,
     })
 }
 
@@ -292,8 +343,10 @@ impl<'de> MyDeserialize<'de> for ComRegisterSlave<'de> {
             return Err(WireError::UnexpectedEof);
         }
         let mut rest = *buf;
-        let packet = fields_from(alloc, &mut rest)?;
-        *buf = rest;
-        Ok(packet)
+        let answer = fields_from(alloc, &mut rest);
+        if answer.is_ok() {
+            *buf = rest;
+        }
+        answer
     }
 }

@@ -11,13 +11,12 @@ ghost use Rattle.mysql_repl.specs.Packets.{IsSemiSyncAck, SemiSyncAck, semi_sync
 ghost use Rattle.mysql_repl.specs.Views.{semi_sync_ack_view};
 ghost use Rattle.mysql_raw.specs.WireError.TheVariants as wire;
 
-use crate::fields::lossy;
+use crate::fields::{LastText, lossy};
 use crate::headers::SemiSyncAckPacketPacketHeader;
 use mysql_buf::ParseBuf;
 use mysql_raw::{
     LeU64, MyDeserialize, MySerialize, ParseExt, RawInt, Readable, ReadsBack, WireError, in_order,
 };
-use mysql_raw_bytes::{EofBytes, RawBytes};
 use std::alloc::{AllocError, Global};
 use std::borrow::{CowSlice, CowStr};
 
@@ -83,7 +82,7 @@ impl<'a> MySerialize for SemiSyncAckPacket<'a> {
 
     fn serialize(&self, buf: &mut Vec<u8>) -> Result<(), AllocError> {
         let position: RawInt<LeU64> = RawInt::new(self.position);
-        let filename: RawBytes<EofBytes> = RawBytes::new(CowSlice::Borrowed(self.filename_raw()));
+        let filename = LastText(self.filename_raw());
         in_order!(SemiSyncAckPacketPacketHeader::new(), position, filename).serialize(buf)
     }
 }
@@ -124,9 +123,11 @@ fn fields_from<'de>(
     ensures { GivesPart semi_sync_ack_view rest.new.0.now result (semi_sync_ack_fields_at rest.old.0.now) }
 {
     let _header: SemiSyncAckPacketPacketHeader = rest.parse(alloc, ())?;
-    let position: RawInt<LeU64> = rest.parse(alloc, ())?;
-    let filename: RawBytes<EofBytes> = rest.parse(alloc, ())?;
-    Ok(SemiSyncAckPacket::new(position.0, filename.0))
+    let Some(position) = rest.checked_eat_u64_le() else {
+        return Err(WireError::UnexpectedEof);
+    };
+    let filename = CowSlice::Borrowed(rest.eat_all());
+    Ok(SemiSyncAckPacket::new(position, filename))
 }
 
 /// Reads an acknowledgement. Refused by UnexpectedEof where there are fewer than 9 bytes, then by BadConstant for another
@@ -144,8 +145,10 @@ impl<'de> MyDeserialize<'de> for SemiSyncAckPacket<'de> {
             return Err(WireError::UnexpectedEof);
         }
         let mut rest = *buf;
-        let packet = fields_from(alloc, &mut rest)?;
-        *buf = rest;
-        Ok(packet)
+        let answer = fields_from(alloc, &mut rest);
+        if answer.is_ok() {
+            *buf = rest;
+        }
+        answer
     }
 }

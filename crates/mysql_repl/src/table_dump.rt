@@ -11,11 +11,10 @@ ghost use Rattle.mysql_repl.specs.Packets.{IsTableDump, TableDump, table_dump, t
 ghost use Rattle.mysql_repl.specs.Views.{table_dump_view};
 ghost use Rattle.mysql_raw.specs.WireError.TheVariants as wire;
 
-use crate::fields::{copy_of, lossy};
+use crate::fields::{ShortText, copy_of, lossy};
 use crate::headers::ComTableDumpHeader;
 use mysql_buf::{ParseBuf, front_of};
 use mysql_raw::{MyDeserialize, MySerialize, ParseExt, Readable, ReadsBack, WireError, in_order};
-use mysql_raw_bytes::{RawBytes, U8Bytes};
 use std::alloc::{AllocError, Global};
 use std::borrow::{CowSlice, CowStr};
 
@@ -81,10 +80,8 @@ impl<'a> MySerialize for ComTableDump<'a> {
     ghost written = { λ p. table_dump (table_dump_view p) };
 
     fn serialize(&self, buf: &mut Vec<u8>) -> Result<(), AllocError> {
-        let database: RawBytes<U8Bytes> = RawBytes::new(CowSlice::Borrowed(
-            self.database.as_slice(),
-        ));
-        let table: RawBytes<U8Bytes> = RawBytes::new(CowSlice::Borrowed(self.table.as_slice()));
+        let database = ShortText(self.database.as_slice());
+        let table = ShortText(self.table.as_slice());
         in_order!(ComTableDumpHeader::new(), database, table).serialize(buf)
     }
 }
@@ -130,9 +127,13 @@ impl<'de> MyDeserialize<'de> for ComTableDump<'de> {
     ) -> Result<ComTableDump<'de>, WireError> {
         let mut rest = *buf;
         let _header: ComTableDumpHeader = rest.parse(alloc, ())?;
-        let database: RawBytes<U8Bytes> = rest.parse(alloc, ())?;
-        let table: RawBytes<U8Bytes> = rest.parse(alloc, ())?;
+        let Some(database) = rest.checked_eat_u8_str() else {
+            return Err(WireError::UnexpectedEof);
+        };
+        let Some(table) = rest.checked_eat_u8_str() else {
+            return Err(WireError::UnexpectedEof);
+        };
         *buf = rest;
-        Ok(ComTableDump::new(database.0, table.0))
+        Ok(ComTableDump::new(CowSlice::Borrowed(database), CowSlice::Borrowed(table)))
     }
 }

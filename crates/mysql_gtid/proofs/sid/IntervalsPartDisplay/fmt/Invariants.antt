@@ -2,7 +2,7 @@ use Rattle.std.proofs.Common.{take, ◌∷◌}
 use Rattle.std.specs.Fmt.{HasWritten, IsPlainFormatter}
 use Rattle.std.specs.List.{flat_map}
 use Rattle.mysql_gtid.specs.Intervals.{interval_text}
-use Rattle.mysql_gtid.proofs.sid.SidDisplay.fmt.Given as goal
+use Rattle.mysql_gtid.proofs.sid.IntervalsPartDisplay.fmt.Given as goal
 
 abbrev pub invariant-loop-interval : goal.invariant-loop-interval
 invariant-loop-interval g l =
