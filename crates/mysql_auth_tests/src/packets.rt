@@ -8,7 +8,9 @@ use mysql_auth::{
     PublicKeyResponse,
 };
 use mysql_raw::WireError;
+use std::alloc::Global;
 use std::borrow::CowSlice;
+use std::process::Abort;
 
 /// A server's request for native passwords.
 const SWITCH: &[u8] = b"\xfemysql_native_password\x00zQg4i6oNy6=rHN/>-b)A\x00";
@@ -93,14 +95,19 @@ fn a_key(rt: HostRuntime) {
     assert_refused::<PublicKeyResponse>(&rt, alloc, b"\x02test", WireError::BadConstant);
 }
 
+// Asserts that a key is this text. It is asked for once more where memory was refused.
+fn assert_key(rt: &impl Abort, alloc: Global, packet: &PublicKeyResponse<'_>, wanted: &[u8]) {
+    match packet.rsa_key(alloc) {
+        Ok(text) => assert_bytes(rt, text.as_str().as_bytes(), wanted),
+        Err(_) => assert!(rt; packet.rsa_key(alloc).is_ok()),
+    }
+}
+
 #[test]
 fn a_key_owned(rt: HostRuntime) {
     let alloc = rt.alloc();
     let packet = PublicKeyResponse::new(CowSlice::Borrowed(b"test"));
-    match packet.rsa_key(alloc) {
-        Ok(text) => assert_bytes(&rt, text.as_str().as_bytes(), b"test"),
-        Err(_) => assert!(rt; packet.rsa_key(alloc).is_ok()),
-    }
+    assert_key(&rt, alloc, &packet, b"test");
     let copy = once_more(&rt, packet.clone(alloc), packet.clone(alloc));
     assert_same(&rt, &copy, &packet);
 }

@@ -9,10 +9,14 @@ use mysql_const::{
     BinlogDumpFlags, ColumnType, Command, GeometryType, ItemResult, MariadbBulkIndicator,
     SessionStateType, StatusFlags,
 };
-use mysql_raw::{LeU16, ParseExt, RawInt, WireError};
+use mysql_raw::{IntRepr, LeU16, ParseExt, RawInt, WireError};
 use mysql_raw_consts::{
-    Const, ConstBytes, ConstBytesValue, ConstU8, ConstU32, Either, RawConst, RawFlags, Skip,
+    Const, ConstBytes, ConstBytesValue, ConstU8, ConstU32, ConstValue, Either, RawConst, RawFlags,
+    Skip,
 };
+use std::alloc::Global;
+use std::fmt::Debug;
+use std::process::Abort;
 
 /// The catalog's name after its length.
 struct Catalog;
@@ -29,6 +33,17 @@ impl ConstBytesValue<4> for Catalog {
 
 /// Names a header.
 struct Header;
+
+// Asserts that the value whose number stands first, in a representation, is this one.
+fn assert_first<T: ConstValue + PartialEq + Debug + Drop, U: IntRepr<Primitive = T::Number>>(
+    rt: &impl Abort,
+    alloc: Global,
+    buf: &mut ParseBuf<'_>,
+    wanted: &T,
+) {
+    let value = first_of::<Const<T, U>, ()>(rt, alloc, (), buf);
+    assert_same(rt, &value.0, wanted);
+}
 
 #[test]
 fn constants_written(rt: HostRuntime) {
@@ -116,8 +131,7 @@ fn commands_by_their_numbers(rt: HostRuntime) {
     let ping: Const<Command, u8> = Const::new(Command::COM_PING);
     assert_written(&rt, rt.alloc(), &ping, &[14]);
     let mut buf = ParseBuf(&[14, 33]);
-    let read = first_of::<Const<Command, u8>, ()>(&rt, rt.alloc(), (), &mut buf);
-    assert_same(&rt, &read.0, &Command::COM_PING);
+    assert_first::<Command, u8>(&rt, rt.alloc(), &mut buf, &Command::COM_PING);
     assert_refused::<Const<Command, u8>, ()>(&rt, rt.alloc(), (), buf.0, WireError::UnknownValue);
     assert_same(&rt, &buf.len(), &1);
 }
@@ -126,18 +140,22 @@ fn commands_by_their_numbers(rt: HostRuntime) {
 fn names_by_their_numbers(rt: HostRuntime) {
     let alloc = rt.alloc();
     let mut buf = ParseBuf(&[8, 1, 0xff, 1, 2, 5, 0, 9]);
-    let read = first_of::<Const<ColumnType, u8>, ()>(&rt, alloc, (), &mut buf);
-    assert_same(&rt, &read.0, &ColumnType::MYSQL_TYPE_LONGLONG);
-    let read = first_of::<Const<GeometryType, u8>, ()>(&rt, alloc, (), &mut buf);
-    assert_same(&rt, &read.0, &GeometryType::GEOM_POINT);
-    let read = first_of::<Const<ItemResult, i8>, ()>(&rt, alloc, (), &mut buf);
-    assert_same(&rt, &read.0, &ItemResult::INVALID_RESULT);
-    let read = first_of::<Const<SessionStateType, u8>, ()>(&rt, alloc, (), &mut buf);
-    assert_same(&rt, &read.0, &SessionStateType::SESSION_TRACK_SCHEMA);
-    let read = first_of::<Const<MariadbBulkIndicator, u8>, ()>(&rt, alloc, (), &mut buf);
-    assert_same(&rt, &read.0, &MariadbBulkIndicator::BULK_INDICATOR_DEFAULT);
-    let read = first_of::<Const<BinlogDumpFlags, LeU16>, ()>(&rt, alloc, (), &mut buf);
-    assert_same(&rt, &read.0, &BinlogDumpFlags(5));
+    assert_first::<ColumnType, u8>(&rt, alloc, &mut buf, &ColumnType::MYSQL_TYPE_LONGLONG);
+    assert_first::<GeometryType, u8>(&rt, alloc, &mut buf, &GeometryType::GEOM_POINT);
+    assert_first::<ItemResult, i8>(&rt, alloc, &mut buf, &ItemResult::INVALID_RESULT);
+    assert_first::<SessionStateType, u8>(
+        &rt,
+        alloc,
+        &mut buf,
+        &SessionStateType::SESSION_TRACK_SCHEMA,
+    );
+    assert_first::<MariadbBulkIndicator, u8>(
+        &rt,
+        alloc,
+        &mut buf,
+        &MariadbBulkIndicator::BULK_INDICATOR_DEFAULT,
+    );
+    assert_first::<BinlogDumpFlags, LeU16>(&rt, alloc, &mut buf, &BinlogDumpFlags(5));
     assert_same(&rt, &buf.len(), &1);
 }
 
@@ -146,7 +164,7 @@ fn a_number_without_a_command(rt: HostRuntime) {
     let mut buf = ParseBuf(&[33]);
     let number = first_of::<RawConst<u8, Command>, ()>(&rt, rt.alloc(), (), &mut buf);
     assert_same(&rt, &number.0, &33);
-    assert!(rt; matches!(number.get(), Err(WireError::UnknownValue)));
+    assert_same(&rt, &number.get(), &Err(WireError::UnknownValue));
     let ping: RawConst<u8, Command> = RawConst::new(14);
-    assert!(rt; matches!(ping.get(), Ok(Command::COM_PING)));
+    assert_same(&rt, &ping.get(), &Ok(Command::COM_PING));
 }

@@ -8,12 +8,24 @@ use mysql_raw::{
     WireError,
 };
 use std::alloc::Global;
+use std::fmt::Debug;
 use std::process::Abort;
 
 // Asserts that a number in a representation, through its bound, is written as these bytes.
 fn assert_number<T: IntRepr>(rt: &impl Abort, alloc: Global, number: T::Primitive, bytes: &[u8]) {
     let value: RawInt<T> = RawInt::new(number);
     assert_written(rt, alloc, &value, bytes);
+}
+
+// Asserts that the number which stands first, in a representation, is this one.
+fn assert_first<T: IntRepr<Primitive = P>, P: Copy + PartialEq + Debug + Drop>(
+    rt: &impl Abort,
+    alloc: Global,
+    buf: &mut ParseBuf<'_>,
+    wanted: P,
+) {
+    let number = first_of::<RawInt<T>, ()>(rt, alloc, (), buf);
+    assert_same(rt, &number.0, &wanted);
 }
 
 #[test]
@@ -31,12 +43,9 @@ fn numbers_written(rt: HostRuntime) {
 fn numbers_read(rt: HostRuntime) {
     let alloc = rt.alloc();
     let mut buf = ParseBuf(&[1, 2, 3, 4, 5, 6, 7, 0xfe, 0xff, 0xff, 3, 4, 9]);
-    let unsigned = first_of::<RawInt<LeU56>, ()>(&rt, alloc, (), &mut buf);
-    assert_same(&rt, &unsigned.0, &0x07_0605_0403_0201);
-    let signed = first_of::<RawInt<LeI24>, ()>(&rt, alloc, (), &mut buf);
-    assert_same(&rt, &signed.0, &-2);
-    let half = first_of::<RawInt<LeU32UpperHalf>, ()>(&rt, alloc, (), &mut buf);
-    assert_same(&rt, &half.0, &0x0403_0000);
+    assert_first::<LeU56, u64>(&rt, alloc, &mut buf, 0x07_0605_0403_0201);
+    assert_first::<LeI24, i32>(&rt, alloc, &mut buf, -2);
+    assert_first::<LeU32UpperHalf, u32>(&rt, alloc, &mut buf, 0x0403_0000);
     assert_same(&rt, &buf.len(), &1);
 }
 
@@ -57,16 +66,11 @@ fn signed_numbers(rt: HostRuntime) {
         0xff, 0xfe, 0xff, 0xfd, 0xff, 0xff, 0xff, 0xfc, 0xff, 0xff, 0xff, 0xff, 0xff, 0xff, 0xfb,
         0xff, 0xff, 0xff, 0xff, 0xff, 0xff, 0xff, 9,
     ]);
-    let number = first_of::<RawInt<i8>, ()>(&rt, alloc, (), &mut buf);
-    assert_same(&rt, &number.0, &-1);
-    let number = first_of::<RawInt<LeI16>, ()>(&rt, alloc, (), &mut buf);
-    assert_same(&rt, &number.0, &-2);
-    let number = first_of::<RawInt<LeI32>, ()>(&rt, alloc, (), &mut buf);
-    assert_same(&rt, &number.0, &-3);
-    let number = first_of::<RawInt<LeI56>, ()>(&rt, alloc, (), &mut buf);
-    assert_same(&rt, &number.0, &-4);
-    let number = first_of::<RawInt<LeI64>, ()>(&rt, alloc, (), &mut buf);
-    assert_same(&rt, &number.0, &-5);
+    assert_first::<i8, i8>(&rt, alloc, &mut buf, -1);
+    assert_first::<LeI16, i16>(&rt, alloc, &mut buf, -2);
+    assert_first::<LeI32, i32>(&rt, alloc, &mut buf, -3);
+    assert_first::<LeI56, i64>(&rt, alloc, &mut buf, -4);
+    assert_first::<LeI64, i64>(&rt, alloc, &mut buf, -5);
     assert_same(&rt, &buf.len(), &1);
 }
 
@@ -92,16 +96,11 @@ fn unsigned_numbers(rt: HostRuntime) {
         0x01, 0x02, 0x01, 0x02, 0x03, 0x04, 0x05, 0x06, 0x01, 0x02, 0x03, 0x04, 0x05, 0x06, 0x01,
         0x02, 0x03, 0x04, 0x05, 0x06, 0x07, 0x08, 9,
     ]);
-    let number = first_of::<RawInt<LeU16>, ()>(&rt, alloc, (), &mut buf);
-    assert_same(&rt, &number.0, &0x0201);
-    let number = first_of::<RawInt<LeU32>, ()>(&rt, alloc, (), &mut buf);
-    assert_same(&rt, &number.0, &0x4030201);
-    let number = first_of::<RawInt<LeU32LowerHalf>, ()>(&rt, alloc, (), &mut buf);
-    assert_same(&rt, &number.0, &0x0605);
-    let number = first_of::<RawInt<LeU48>, ()>(&rt, alloc, (), &mut buf);
-    assert_same(&rt, &number.0, &0x60504030201);
-    let number = first_of::<RawInt<LeU64>, ()>(&rt, alloc, (), &mut buf);
-    assert_same(&rt, &number.0, &0x807060504030201);
+    assert_first::<LeU16, u16>(&rt, alloc, &mut buf, 0x0201);
+    assert_first::<LeU32, u32>(&rt, alloc, &mut buf, 0x4030201);
+    assert_first::<LeU32LowerHalf, u32>(&rt, alloc, &mut buf, 0x0605);
+    assert_first::<LeU48, u64>(&rt, alloc, &mut buf, 0x60504030201);
+    assert_first::<LeU64, u64>(&rt, alloc, &mut buf, 0x807060504030201);
     assert_same(&rt, &buf.len(), &1);
 }
 

@@ -13,7 +13,7 @@ pub fn assert_same<T: PartialEq + Debug>(rt: &impl Abort, value: &T, wanted: &T)
 
 /// Asserts that bytes are the wanted ones.
 pub fn assert_bytes(rt: &impl Abort, bytes: &[u8], wanted: &[u8]) {
-    assert_eq!(rt; bytes, wanted);
+    assert_same(rt, &bytes, &wanted);
 }
 
 /// Asserts that a value is written as these bytes.

@@ -16,6 +16,11 @@ fn assert_text<T: BytesRepr>(rt: &impl Abort, alloc: Global, text: &[u8], bytes:
     assert_written(rt, alloc, &value, bytes);
 }
 
+// Asserts that a text that was read is this one.
+fn assert_holds<T: BytesRepr>(rt: &impl Abort, text: RawBytes<'_, T>, wanted: &[u8]) {
+    assert_bytes(rt, text.as_bytes(), wanted);
+}
+
 #[test]
 fn texts_after_a_length(rt: HostRuntime) {
     let alloc = rt.alloc();
@@ -42,9 +47,9 @@ fn texts_of_a_length_that_is_known(rt: HostRuntime) {
     assert_text::<BareU16Bytes>(&rt, alloc, b"cd", b"cd");
     let mut buf = ParseBuf(b"abcde");
     let short = first_of::<RawBytes<BareU8Bytes>, usize>(&rt, alloc, 2, &mut buf);
-    assert_bytes(&rt, short.as_bytes(), b"ab");
+    assert_holds(&rt, short, b"ab");
     let long = first_of::<RawBytes<BareU16Bytes>, usize>(&rt, alloc, 2, &mut buf);
-    assert_bytes(&rt, long.as_bytes(), b"cd");
+    assert_holds(&rt, long, b"cd");
     assert_same(&rt, &buf.len(), &1);
 }
 
@@ -53,11 +58,11 @@ fn texts_read(rt: HostRuntime) {
     let alloc = rt.alloc();
     let mut buf = ParseBuf(b"\x02ab\x01c\x06appde\x00f");
     let encoded = first_of::<RawBytes<LenEnc>, ()>(&rt, alloc, (), &mut buf);
-    assert_bytes(&rt, encoded.as_bytes(), b"ab");
+    assert_holds(&rt, encoded, b"ab");
     let short = first_of::<RawBytes<U8Bytes>, ()>(&rt, alloc, (), &mut buf);
-    assert_bytes(&rt, short.as_bytes(), b"c");
+    assert_holds(&rt, short, b"c");
     let varying = first_of::<RawBytes<VarLen>, ()>(&rt, alloc, (), &mut buf);
-    assert_bytes(&rt, varying.as_bytes(), b"app");
+    assert_holds(&rt, varying, b"app");
     let ended = first_of::<RawBytes<NullBytes>, ()>(&rt, alloc, (), &mut buf);
     assert_same(&rt, &ended.len(), &2);
     assert_same(&rt, &buf.len(), &1);

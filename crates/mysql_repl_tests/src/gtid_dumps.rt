@@ -1,8 +1,7 @@
 //! Requests for the binary log without the transactions that are known.
 
 use crate::support::{
-    assert_copied, assert_cut_off, assert_name, assert_reads_back, assert_refused, assert_same,
-    assert_written, once_more, whole,
+    assert_copied, assert_name, assert_packet, assert_refused, assert_same, once_more, whole,
 };
 use mysql_raw::WireError;
 use mysql_repl::{BinlogDumpFlags, ComBinlogDumpGtid, GnoInterval, Sid, Tag};
@@ -41,30 +40,35 @@ fn untagged(alloc: Global) -> Result<Sid<'static>, AllocError> {
     Sid::new(alloc, *b"bbbbbbbbbbbbbbbb").with_interval(GnoInterval::new(1, 50))
 }
 
+// The request with a set more.
+fn with_set(
+    alloc: Global,
+    packet: ComBinlogDumpGtid<'static>,
+    sid: Result<Sid<'static>, AllocError>,
+) -> Result<ComBinlogDumpGtid<'static>, AllocError> {
+    packet.with_sid(alloc, sid?)
+}
+
 fn second(alloc: Global) -> Result<ComBinlogDumpGtid<'static>, AllocError> {
-    request().with_sid(alloc, untagged(alloc)?)
+    with_set(alloc, request(), untagged(alloc))
 }
 
 fn both(alloc: Global) -> Result<ComBinlogDumpGtid<'static>, AllocError> {
-    let packet = request().with_sid(alloc, tagged(alloc)?)?;
-    packet.with_sid(alloc, untagged(alloc)?)
+    let packet = with_set(alloc, request(), tagged(alloc))?;
+    with_set(alloc, packet, untagged(alloc))
 }
 
 #[test]
 fn a_tagged_block(rt: HostRuntime) {
     let packet = once_more(&rt, both(rt.alloc()), both(rt.alloc()));
     assert_same(&rt, &packet.flags().0, &4);
-    assert_written(&rt, rt.alloc(), &packet, TAGGED);
-    assert_reads_back::<ComBinlogDumpGtid>(&rt, rt.alloc(), TAGGED);
-    assert_cut_off::<ComBinlogDumpGtid>(&rt, rt.alloc(), TAGGED, TAGGED.len());
+    assert_packet::<ComBinlogDumpGtid>(&rt, rt.alloc(), &packet, TAGGED, TAGGED.len());
 }
 
 #[test]
 fn an_untagged_block(rt: HostRuntime) {
     let packet = once_more(&rt, second(rt.alloc()), second(rt.alloc()));
-    assert_written(&rt, rt.alloc(), &packet, UNTAGGED);
-    assert_reads_back::<ComBinlogDumpGtid>(&rt, rt.alloc(), UNTAGGED);
-    assert_cut_off::<ComBinlogDumpGtid>(&rt, rt.alloc(), UNTAGGED, UNTAGGED.len());
+    assert_packet::<ComBinlogDumpGtid>(&rt, rt.alloc(), &packet, UNTAGGED, UNTAGGED.len());
 }
 
 // A request whose block is this.
@@ -85,6 +89,11 @@ fn assert_block_refused(rt: &impl Abort, alloc: Global, len: u8, block: &[u8], c
     assert_refused::<ComBinlogDumpGtid>(rt, alloc, bytes.as_slice(), cause);
 }
 
+// How many sets a request holds.
+fn sets_of(rt: &impl Abort, alloc: Global, bytes: &[u8]) -> usize {
+    whole::<ComBinlogDumpGtid>(rt, alloc, bytes).sids().len()
+}
+
 // Asserts that a request with this block is read, and holds no sets.
 fn assert_no_sets(rt: &impl Abort, alloc: Global, len: u8, block: &[u8]) {
     let bytes = once_more(
@@ -92,8 +101,7 @@ fn assert_no_sets(rt: &impl Abort, alloc: Global, len: u8, block: &[u8]) {
         with_block(alloc, len, block),
         with_block(alloc, len, block),
     );
-    let packet = whole::<ComBinlogDumpGtid>(rt, alloc, bytes.as_slice());
-    assert_same(rt, &packet.sids().len(), &0);
+    assert_same(rt, &sets_of(rt, alloc, bytes.as_slice()), &0);
 }
 
 #[test]
@@ -127,19 +135,32 @@ fn refused_fronts(rt: HostRuntime) {
     assert_refused::<ComBinlogDumpGtid>(&rt, rt.alloc(), &flags[..6], WireError::UnexpectedEof);
 }
 
+// Asserts that a request has these flags.
+fn assert_flags(rt: &impl Abort, packet: ComBinlogDumpGtid<'_>, flags: u16) {
+    assert_same(rt, &packet.flags().0, &flags);
+}
+
+// Asserts that a request with these sets has the flag that says so.
+fn assert_flag_of_sets(rt: &impl Abort, sids: &[Sid<'static>]) {
+    assert_flags(rt, request().with_sids(CowSlice::Borrowed(sids)), 4);
+}
+
 #[test]
 fn flags_say_whether_there_are_sets(rt: HostRuntime) {
     let through = BinlogDumpFlags::BINLOG_THROUGH_GTID;
-    assert_same(&rt, &request().with_flags(through).flags().0, &0);
+    assert_flags(&rt, request().with_flags(through), 0);
     let sids = [once_more(&rt, untagged(rt.alloc()), untagged(rt.alloc()))];
-    let packet = request().with_sids(CowSlice::Borrowed(&sids));
-    assert_same(&rt, &packet.flags().0, &4);
+    assert_flag_of_sets(&rt, &sids);
 }
 
 #[test]
 fn fields_of_a_request(rt: HostRuntime) {
     let packet = request();
     assert_name(&rt, packet.filename(rt.alloc()), "f");
+}
+
+#[test]
+fn a_request_is_copied(rt: HostRuntime) {
     let packet = once_more(&rt, both(rt.alloc()), both(rt.alloc()));
     assert_copied(&rt, packet.clone(rt.alloc()), &packet);
 }

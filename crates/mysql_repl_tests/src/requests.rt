@@ -6,10 +6,15 @@ use std::alloc::{AllocError, Global};
 use std::borrow::CowSlice;
 use std::process::Abort;
 
-fn request(alloc: Global) -> Result<BinlogRequest<'static>, AllocError> {
+fn sids(alloc: Global) -> Result<Vec<Sid<'static>>, AllocError> {
     let sid = Sid::new(alloc, *b"bbbbbbbbbbbbbbbb").with_interval(GnoInterval::new(1, 50))?;
     let mut sids = Vec::new(alloc);
     sids.push(sid)?;
+    Ok(sids)
+}
+
+fn request(alloc: Global) -> Result<BinlogRequest<'static>, AllocError> {
+    let sids = sids(alloc)?;
     let request = BinlogRequest::new(alloc, 0)
         .with_server_id(7)
         .with_flags(BinlogDumpFlags(3))
@@ -40,11 +45,16 @@ fn by_transactions(rt: HostRuntime) {
     assert_carried(&rt, rt.alloc(), &request.with_use_gtid(true), bytes);
 }
 
+// Asserts that a request has these fields.
+fn assert_fields(rt: &impl Abort, alloc: Global, request: &BinlogRequest<'_>) {
+    assert_same(rt, &request.pos(), &4);
+    assert_same(rt, &request.use_gtid(), &false);
+    assert_name(rt, request.filename(alloc), "f");
+}
+
 #[test]
 fn fields_of_a_request(rt: HostRuntime) {
     let request = BinlogRequest::new(rt.alloc(), 7).with_filename(CowSlice::Borrowed(b"f"));
-    assert_same(&rt, &request.pos(), &4);
-    assert!(rt; !request.use_gtid());
-    assert_name(&rt, request.filename(rt.alloc()), "f");
+    assert_fields(&rt, rt.alloc(), &request);
     assert_copied(&rt, request.clone(rt.alloc()), &request);
 }

@@ -14,7 +14,7 @@ pub fn assert_same<T: PartialEq + Debug>(rt: &impl Abort, value: &T, wanted: &T)
 
 /// Asserts that bytes are the wanted ones.
 pub fn assert_bytes(rt: &impl Abort, bytes: &[u8], wanted: &[u8]) {
-    assert_eq!(rt; bytes, wanted);
+    assert_same(rt, &bytes, &wanted);
 }
 
 /// Asserts that a name is the wanted text, unless memory was refused.
@@ -88,6 +88,20 @@ pub fn assert_reads_back<'a, T: MySerialize + MyDeserialize<'a> + Readable<Ctx =
 ) {
     let value = whole::<T>(rt, alloc, bytes);
     assert_written(rt, alloc, &value, bytes);
+}
+
+/// Asserts that a packet is written as these bytes, that they are read as a packet which is written as
+/// the same bytes, and that each prefix shorter than `len` is cut off.
+pub fn assert_packet<'a, T: MySerialize + MyDeserialize<'a> + Readable<Ctx = ()> + Drop>(
+    rt: &impl Abort,
+    alloc: Global,
+    packet: &impl MySerialize,
+    bytes: &'a [u8],
+    len: usize,
+) {
+    assert_written(rt, alloc, packet, bytes);
+    assert_reads_back::<T>(rt, alloc, bytes);
+    assert_cut_off::<T>(rt, alloc, bytes, len);
 }
 
 // Why these bytes are refused, which are all left.

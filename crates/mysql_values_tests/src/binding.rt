@@ -1,6 +1,6 @@
 //! Texts that a query and a parameter set make.
 
-use crate::support::{assert_holds, bytes, named};
+use crate::support::{assert_holds, bytes, list, named};
 use mysql_values::{
     BindError, ByteString, MissingNamedParameterError, Params, ParamsConfusionError, ParamsError,
     Value, bind_text,
@@ -25,8 +25,15 @@ fn bound(
 /// Whether the set makes this text behind what is there.
 fn binds(rt: &HostRuntime, query: &[u8], params: &Params, text: &[u8]) -> Result<bool, WireError> {
     let mut out = Vec::new(rt.alloc());
-    let error = bound(rt, query, params, &mut out)?;
-    Ok(error.is_none() && out.as_slice().strip_prefix(b"> ") == Some(text))
+    let done = bound(rt, query, params, &mut out)?.is_none();
+    Ok(done && out.as_slice().strip_prefix(b"> ") == Some(text))
+}
+
+fn is_cause(error: Option<BindError>, cause: &BindError) -> bool {
+    match error {
+        Some(error) => error == *cause,
+        None => false,
+    }
 }
 
 /// Whether the set is refused for this cause, and nothing is appended.
@@ -34,17 +41,16 @@ fn refused(
     rt: &HostRuntime,
     query: &[u8],
     params: &Params,
-    cause: BindError,
+    cause: &BindError,
 ) -> Result<bool, WireError> {
     let mut out = Vec::new(rt.alloc());
-    let error = bound(rt, query, params, &mut out)?;
-    Ok(error == Some(cause) && out.as_slice() == b"> ".as_slice())
+    let caused = is_cause(bound(rt, query, params, &mut out)?, cause);
+    Ok(caused && out.as_slice() == b"> ".as_slice())
 }
 
 fn two_values(rt: &HostRuntime) -> Result<bool, WireError> {
-    let mut values = Vec::with_capacity(rt.alloc(), 2)?;
-    values.push(bytes(rt, b"\xff\x00")?)?;
-    values.push(Value::Time(false, 34, 22, 59, 59, 999999))?;
+    let time = Value::Time(false, 34, 22, 59, 59, 999999);
+    let values = list(rt, bytes(rt, b"\xff\x00")?, time)?;
     binds(
         rt,
         b"SELECT ?, ?",
@@ -114,7 +120,7 @@ fn refuses(
     value: Value,
     cause: BindError,
 ) -> Result<bool, WireError> {
-    refused(rt, query, &named(rt, b"a", value)?, cause)
+    refused(rt, query, &named(rt, b"a", value)?, &cause)
 }
 
 fn missing(rt: &HostRuntime) -> Result<bool, WireError> {
@@ -149,8 +155,8 @@ fn refused_queries(rt: HostRuntime) {
 fn refused_sets(rt: HostRuntime) {
     assert_holds(
         &rt,
-        refused(&rt, b"SELECT ?", &Params::Empty, BindError::WrongCount),
-        refused(&rt, b"SELECT ?", &Params::Empty, BindError::WrongCount),
+        refused(&rt, b"SELECT ?", &Params::Empty, &BindError::WrongCount),
+        refused(&rt, b"SELECT ?", &Params::Empty, &BindError::WrongCount),
     );
     assert_holds(
         &rt,

@@ -1,5 +1,6 @@
 //! Cells of the binary and of the text protocol, read and written as fields.
 
+use crate::support::assert_same;
 use mysql_values::{
     BinValue, ByteString, ClientSide, SerializationSide, ServerSide, TextValue, Value,
     ValueDeserializer,
@@ -18,7 +19,28 @@ fn bytes(alloc: Global, bytes: &[u8]) -> Result<Value, AllocError> {
 }
 
 fn assert_left(rt: &impl Abort, buf: &ParseBuf, wanted: &[u8]) {
-    assert_eq!(rt; buf.0, wanted);
+    assert_same(rt, &buf.0, &wanted);
+}
+
+/// Asserts that a cell with two bytes behind it was read as this value, and that those are left; or that memory was refused, and
+/// that all bytes are left.
+fn assert_answer<S: Drop>(
+    rt: &impl Abort,
+    answer: Result<ValueDeserializer<S>, WireError>,
+    buf: &ParseBuf,
+    cell: &[u8],
+    wanted: &Value,
+) {
+    match answer {
+        Ok(read) => {
+            assert_same(rt, &read.0, wanted);
+            assert_left(rt, buf, b"..");
+        }
+        Err(error) => {
+            assert_same(rt, &error, &WireError::Memory);
+            assert_left(rt, buf, cell);
+        }
+    }
 }
 
 /// Asserts that a cell with two bytes behind it is read as this value, and that those are left.
@@ -31,16 +53,8 @@ fn assert_read(
     wanted: &Value,
 ) {
     let mut buf = ParseBuf(cell);
-    match buf.parse::<ValueDeserializer<BinValue>>(alloc, (column_type, flags)) {
-        Ok(read) => {
-            assert!(rt; read.0 == *wanted);
-            assert_left(rt, &buf, b"..");
-        }
-        Err(error) => {
-            assert!(rt; error == WireError::Memory);
-            assert_left(rt, &buf, cell);
-        }
-    }
+    let answer = buf.parse::<ValueDeserializer<BinValue>>(alloc, (column_type, flags));
+    assert_answer(rt, answer, &buf, cell, wanted);
 }
 
 /// Asserts that the cell is refused by this error, and that all bytes are left.
@@ -54,7 +68,8 @@ fn assert_refused(
     let mut buf = ParseBuf(cell);
     match buf.parse::<ValueDeserializer<BinValue>>(alloc, (column_type, SIGNED)) {
         Ok(_) => assert!(rt; false),
-        Err(error) => assert!(rt; error == wanted || error == WireError::Memory),
+        Err(WireError::Memory) => {}
+        Err(error) => assert_same(rt, &error, &wanted),
     }
     assert_left(rt, &buf, cell);
 }
@@ -69,16 +84,8 @@ fn assert_refused_cut(rt: &impl Abort, alloc: Global, column_type: ColumnType, c
 /// Asserts that a cell of the text protocol with two bytes behind it is read as this value, and that those are left.
 fn assert_read_as_text(rt: &impl Abort, alloc: Global, cell: &[u8], wanted: &Value) {
     let mut buf = ParseBuf(cell);
-    match buf.parse::<ValueDeserializer<TextValue>>(alloc, ()) {
-        Ok(read) => {
-            assert!(rt; read.0 == *wanted);
-            assert_left(rt, &buf, b"..");
-        }
-        Err(error) => {
-            assert!(rt; error == WireError::Memory);
-            assert_left(rt, &buf, cell);
-        }
-    }
+    let answer = buf.parse::<ValueDeserializer<TextValue>>(alloc, ());
+    assert_answer(rt, answer, &buf, cell, wanted);
 }
 
 /// Whether the value's cell is these bytes, behind what is there, and as long as is counted for it.
@@ -128,7 +135,10 @@ fn numbers_read(rt: HostRuntime) {
 
 #[test]
 fn bytes_read(rt: HostRuntime) {
-    let (Ok(a), Ok(none)) = (bytes(rt.alloc(), b"a"), bytes(rt.alloc(), b"")) else {
+    let Ok(a) = bytes(rt.alloc(), b"a") else {
+        return;
+    };
+    let Ok(none) = bytes(rt.alloc(), b"") else {
         return;
     };
     let string = ColumnType::MYSQL_TYPE_VAR_STRING;

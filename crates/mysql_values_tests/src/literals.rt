@@ -40,6 +40,20 @@ const OTHERS: [&[u8]; 9] = [
     b"",
 ];
 
+/// Whether the literal that was found is this one, with these bytes, and so many bytes are left.
+fn is_found(
+    found: Option<(Literal, &[u8])>,
+    buf: &[u8],
+    literal: Literal,
+    bytes: &[u8],
+    left: usize,
+) -> bool {
+    match found {
+        Some((found, rest)) => found == literal && rest.len() == left && buf == bytes,
+        None => false,
+    }
+}
+
 /// What is read with a buffer that has room.
 fn reads(
     rt: &HostRuntime,
@@ -49,12 +63,8 @@ fn reads(
     left: usize,
 ) -> Result<bool, WireError> {
     let mut buf = Vec::with_capacity(rt.alloc(), text.len())?;
-    match read_literal(text, &mut buf)? {
-        Some((found, rest)) => {
-            Ok(found == literal && rest.len() == left && buf.as_slice() == bytes)
-        }
-        None => Ok(false),
-    }
+    let found = read_literal(text, &mut buf)?;
+    Ok(is_found(found, buf.as_slice(), literal, bytes, left))
 }
 
 fn refuses(rt: &HostRuntime, text: &[u8]) -> Result<bool, WireError> {

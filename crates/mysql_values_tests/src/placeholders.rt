@@ -1,8 +1,11 @@
 //! Placeholders of a query, and the query as it is parsed.
 
 use crate::support::assert_holds;
-use mysql_values::{MixedParamsError, NamedParamsError, ParsedNamedParams, places};
+use mysql_values::{MixedParamsError, NamedParamsError, ParsedNamedParams, Place, places};
 use mysql_wire::WireError;
+use std::alloc::Global;
+use std::borrow::CowSlice;
+use std::process::Abort;
 
 /// Start, end, whether a name, whether it stands alone.
 type Expected = (usize, usize, bool, bool);
@@ -32,32 +35,39 @@ const OTHER_TOKENS: [(&[u8], &[Expected]); 11] = [
     (b"a : b :C", &[]),
 ];
 
-/// Whether the query has exactly these placeholders.
-fn has(rt: &HostRuntime, query: &[u8], expected: &[Expected]) -> Result<bool, WireError> {
-    let found = places(rt.alloc(), query)?;
+fn are_places(found: &[Place], expected: &[Expected]) -> bool {
     if found.len() != expected.len() {
-        return Ok(false);
+        return false;
     }
     for (place, wanted) in found.iter().zip(expected.iter()) {
         if (place.start, place.end, place.name, place.alone) != *wanted {
-            return Ok(false);
+            return false;
         }
     }
-    Ok(true)
+    true
+}
+
+/// Whether the query has exactly these placeholders.
+fn has(alloc: Global, query: &[u8], expected: &[Expected]) -> Result<bool, WireError> {
+    let found = places(alloc, query)?;
+    Ok(are_places(&found, expected))
+}
+
+/// Asserts that each query has exactly its placeholders.
+fn assert_places(rt: &impl Abort, alloc: Global, rows: &[(&[u8], &[Expected])]) {
+    for (query, expected) in rows {
+        assert_holds(rt, has(alloc, query, expected), has(alloc, query, expected));
+    }
 }
 
 #[test]
 fn neighbours(rt: HostRuntime) {
-    for (query, expected) in NEIGHBOURS {
-        assert_holds(&rt, has(&rt, query, expected), has(&rt, query, expected));
-    }
+    assert_places(&rt, rt.alloc(), &NEIGHBOURS);
 }
 
 #[test]
 fn other_tokens(rt: HostRuntime) {
-    for (query, expected) in OTHER_TOKENS {
-        assert_holds(&rt, has(&rt, query, expected), has(&rt, query, expected));
-    }
+    assert_places(&rt, rt.alloc(), &OTHER_TOKENS);
 }
 
 const PARSED: [(&[u8], &[u8], &[&[u8]]); 4] = [
@@ -67,6 +77,18 @@ const PARSED: [(&[u8], &[u8], &[&[u8]]); 4] = [
     (b"? ?", b"? ?", &[]),
 ];
 
+fn are_names(names: &[CowSlice<'_, u8>], wanted: &[&[u8]]) -> bool {
+    if names.len() != wanted.len() {
+        return false;
+    }
+    for (name, wanted) in names.iter().zip(wanted.iter()) {
+        if name.as_slice() != *wanted {
+            return false;
+        }
+    }
+    true
+}
+
 /// Whether the query parses to this one with these names.
 fn parses(
     rt: &HostRuntime,
@@ -75,17 +97,7 @@ fn parses(
     names: &[&[u8]],
 ) -> Result<bool, WireError> {
     match ParsedNamedParams::parse(rt.alloc(), query) {
-        Ok(found) => {
-            if found.query() != parsed || found.params().len() != names.len() {
-                return Ok(false);
-            }
-            for (name, wanted) in found.params().iter().zip(names.iter()) {
-                if name.as_slice() != *wanted {
-                    return Ok(false);
-                }
-            }
-            Ok(true)
-        }
+        Ok(found) => Ok(found.query() == parsed && are_names(found.params(), names)),
         Err(NamedParamsError::Memory) => Err(WireError::Memory),
         Err(NamedParamsError::Mixed(MixedParamsError)) => Ok(false),
     }

@@ -44,7 +44,8 @@ fn bytes(rt: &HostRuntime, bytes: &[u8]) -> Result<Content, WireError> {
 }
 
 fn strings(rt: &HostRuntime) -> Result<bool, WireError> {
-    let (x, y) = (bytes(rt, b"x, ")?, bytes(rt, b"y")?);
+    let x = bytes(rt, b"x, ")?;
+    let y = bytes(rt, b"y")?;
     reads_two(rt, b"SELECT 'x, ', 'y'", &x, &y)
 }
 

@@ -4,6 +4,19 @@ use crate::support::{assert_holds, bytes};
 use mysql_values::{AsSqlError, Content, Value};
 use mysql_wire::WireError;
 
+fn has_text(
+    rt: &HostRuntime,
+    value: &Value,
+    no_backslash_escape: bool,
+    text: &str,
+) -> Result<bool, WireError> {
+    match value.as_sql(rt.alloc(), no_backslash_escape) {
+        Ok(sql) => Ok(sql.as_str() == text),
+        Err(AsSqlError::Memory) => Err(WireError::Memory),
+        Err(AsSqlError::Float) => Ok(false),
+    }
+}
+
 /// Whether the value has this text: with backslash escapes, and without.
 fn has_texts(
     rt: &HostRuntime,
@@ -11,18 +24,7 @@ fn has_texts(
     escaped: &str,
     doubled: &str,
 ) -> Result<bool, WireError> {
-    for (no_backslash_escape, text) in [(false, escaped), (true, doubled)] {
-        match value.as_sql(rt.alloc(), no_backslash_escape) {
-            Ok(sql) => {
-                if sql.as_str() != text {
-                    return Ok(false);
-                }
-            }
-            Err(AsSqlError::Memory) => return Err(WireError::Memory),
-            Err(AsSqlError::Float) => return Ok(false),
-        }
-    }
-    Ok(true)
+    Ok(has_text(rt, value, false, escaped)? && has_text(rt, value, true, doubled)?)
 }
 
 fn of_quotes(rt: &HostRuntime) -> Result<bool, WireError> {
@@ -69,10 +71,13 @@ fn of_times(rt: &HostRuntime) -> Result<bool, WireError> {
     Ok(means(rt, none, b"000:00:00")? && means(rt, some, b"-026:03:04.000005")?)
 }
 
+fn means_nothing(rt: &HostRuntime, value: Value) -> Result<bool, WireError> {
+    Ok(value.into_content(rt.alloc())?.is_none())
+}
+
 fn of_others(rt: &HostRuntime) -> Result<bool, WireError> {
     let value = bytes(rt, b"a'b\\")?;
-    let float = Value::Float(0).into_content(rt.alloc())?;
-    Ok(means(rt, value, b"a'b\\")? && matches!(float, None))
+    Ok(means(rt, value, b"a'b\\")? && means_nothing(rt, Value::Float(0))?)
 }
 
 #[test]
