@@ -1,3 +1,4 @@
 pub mod AttributeViews
 pub mod Attributes
 pub mod Parts
+pub mod TextViews

@@ -4,7 +4,7 @@ use Rattle.std.specs.Prelude.{option_map}
 use Rattle.mysql_auth.specs.Views.{plugin_view}
 use Rattle.mysql_attributes.specs.AttributeViews.{attributes_view}
 use Rattle.mysql_login.specs.ChangedUsers.{ChangeUserFields, MoreFields}
-use Rattle.mysql_response.specs.TextViews.{text_view}
+use Rattle.mysql_attributes.specs.TextViews.{text_view}
 use Rattle.mysql_login.specs.declared.change_user.ComChangeUser.{ComChangeUser}
 use Rattle.mysql_login.specs.declared.change_user.ComChangeUserMoreData.{ComChangeUserMoreData}
 

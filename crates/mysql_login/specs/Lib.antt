@@ -14,7 +14,7 @@ pub use Rattle.mysql_response.specs.Responses
 pub use Rattle.mysql_response.specs.SslRequestLaws
 pub use Rattle.mysql_response.specs.SslRequestViews
 pub use Rattle.mysql_response.specs.SslRequests
-pub use Rattle.mysql_response.specs.TextViews
+pub use Rattle.mysql_attributes.specs.TextViews
 pub use Rattle.mysql_gtid.specs.Tags
 pub use Rattle.mysql_gtid.specs.Intervals
 pub use Rattle.mysql_gtid.specs.Sids

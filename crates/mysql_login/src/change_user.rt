@@ -11,7 +11,7 @@ ghost use Rattle.mysql_login.specs.ChangedUserViews.{change_user_view, more_view
 ghost use Rattle.mysql_raw.specs.Laws.{unsized};
 ghost use Rattle.mysql_raw.specs.Wire.{GivesPart};
 ghost use Rattle.mysql_raw.specs.WireError.TheVariants as wire;
-ghost use Rattle.mysql_response.specs.TextViews.{text_view};
+ghost use Rattle.mysql_attributes.specs.TextViews.{text_view};
 
 use indexmap::IndexMap;
 use mysql_attributes::{

@@ -14,7 +14,7 @@ use Rattle.mysql_raw_bytes.specs.Texts.{u8_text_at, u32_text_at}
 use Rattle.mysql_raw_consts.specs.ConstantLaws.{constant_at-back}
 use Rattle.mysql_raw_consts.specs.Constants.{named_at}
 use Rattle.mysql_raw_consts.specs.Flags.{are_named, binlog_dump_named}
-use Rattle.mysql_repl.specs.Packets.{BinlogDump, BinlogDumpGtid, IsBinlogDump, IsBinlogDumpGtid, IsRegisterSlave, IsSemiSyncAck, IsTableDump, RegisterSlave, SemiSyncAck, TableDump, binlog_dump, binlog_dump_at, binlog_dump_fields_at, binlog_dump_gtid, binlog_dump_gtid_at, binlog_dump_gtid_fields_at, binlog_dump_gtid_front_at, binlog_dump_gtid_texts_at, register_slave, register_slave_at, register_slave_fields_at, replica_names_at, replica_numbers_at, semi_sync_ack, semi_sync_ack_at, semi_sync_ack_fields_at, table_dump, table_dump_at}
+use Rattle.mysql_repl.specs.Packets.{BinlogDump, BinlogDumpGtid, IsBinlogDump, IsBinlogDumpGtid, IsRegisterSlave, IsSemiSyncAck, IsTableDump, RegisterSlave, SemiSyncAck, TableDump, binlog_dump, binlog_dump_at, binlog_dump_fields_at, binlog_dump_gtid, binlog_dump_gtid_at, binlog_dump_gtid_fields_at, binlog_dump_gtid_front_at, binlog_dump_gtid_start_at, register_slave, register_slave_at, register_slave_fields_at, replica_names_at, replica_numbers_at, semi_sync_ack, semi_sync_ack_at, semi_sync_ack_fields_at, table_dump, table_dump_at}
 
 -- a name that is not cut
 whole : (text : List ℕ) (most : ℕ) → length text ≤ most → front text most ≡ text
@@ -131,7 +131,7 @@ block_alone : (p : BinlogDumpGtid) → IsBinlogDumpGtid p → block_at (block_by
 block_alone p h = rw append-nil at (block_at-back p.sids [] h.sids)
 
 binlog_dump_gtid_fields_at-back : (p : BinlogDumpGtid) (rest : List ℕ) → IsBinlogDumpGtid p → binlog_dump_gtid_fields_at (binlog_dump_gtid p ++ rest) ≡ Ok (p, rest)
-unfolding binlog_dump_gtid binlog_dump_gtid_fields_at binlog_dump_gtid_front_at binlog_dump_gtid_texts_at
+unfolding binlog_dump_gtid binlog_dump_gtid_fields_at binlog_dump_gtid_front_at binlog_dump_gtid_start_at
 binlog_dump_gtid_fields_at-back p rest h =
     let bytes = block_bytes p.sids in
     let len = little_bytes 4 (min (length bytes) (2 ^ 32 - 1)) in

@@ -186,14 +186,14 @@ binlog_dump_gtid_front_at bytes = do
   server_id ← little_at 4 flags.1
   Ok ((flags.0.0, server_id.0), server_id.1)
 
--- The file's name, the position and the block of sets.
-pub record BinlogDumpGtidTexts : Type 0 where
+-- Where the log is to start: the file's name, the position and the block of the sets that are known.
+pub record BinlogDumpGtidStart : Type 0 where
   pub filename : List ℕ
   pub pos : ℕ
   pub block : List ℕ
 
-unfoldable pub binlog_dump_gtid_texts_at : List ℕ → Reading BinlogDumpGtidTexts
-binlog_dump_gtid_texts_at bytes = do
+unfoldable pub binlog_dump_gtid_start_at : List ℕ → Reading BinlogDumpGtidStart
+binlog_dump_gtid_start_at bytes = do
   filename ← u32_text_at bytes
   pos ← little_at 8 filename.1
   block ← u32_text_at pos.1
@@ -202,9 +202,9 @@ binlog_dump_gtid_texts_at bytes = do
 unfoldable pub binlog_dump_gtid_fields_at : List ℕ → Reading BinlogDumpGtid
 binlog_dump_gtid_fields_at bytes = do
   front ← binlog_dump_gtid_front_at bytes
-  texts ← binlog_dump_gtid_texts_at front.1
-  sids ← block_at texts.0.block
-  Ok (record { flags = front.0.0; server_id = front.0.1; filename = texts.0.filename; pos = texts.0.pos; sids = sids.0 }, texts.1)
+  start ← binlog_dump_gtid_start_at front.1
+  sids ← block_at start.0.block
+  Ok (record { flags = front.0.0; server_id = front.0.1; filename = start.0.filename; pos = start.0.pos; sids = sids.0 }, start.1)
 
 unfoldable pub binlog_dump_gtid_at : List ℕ → Reading BinlogDumpGtid
 binlog_dump_gtid_at bytes = from_block 7 binlog_dump_gtid_fields_at bytes

@@ -2,10 +2,10 @@
 use Rattle.std.specs.Prelude.{map}
 use Rattle.std.specs.Cow.{cow_slice_items}
 use Rattle.mysql_gtid.specs.Sids.{sid_view}
-use Rattle.mysql_repl.specs.Packets.{BinlogDump, BinlogDumpGtid, BinlogDumpGtidTexts, RegisterSlave, ReplicaNames, ReplicaNumbers, Request, SemiSyncAck, TableDump}
+use Rattle.mysql_repl.specs.Packets.{BinlogDump, BinlogDumpGtid, BinlogDumpGtidStart, RegisterSlave, ReplicaNames, ReplicaNumbers, Request, SemiSyncAck, TableDump}
 use Rattle.mysql_repl.specs.declared.binlog_dump.ComBinlogDump.{ComBinlogDump}
 use Rattle.mysql_repl.specs.declared.binlog_dump_gtid.ComBinlogDumpGtid.{ComBinlogDumpGtid}
-use Rattle.mysql_repl.specs.declared.binlog_dump_gtid.Texts.{Texts}
+use Rattle.mysql_repl.specs.declared.binlog_dump_gtid.Start.{Start}
 use Rattle.mysql_repl.specs.declared.binlog_request.BinlogRequest.{BinlogRequest}
 use Rattle.mysql_repl.specs.declared.register_slave.ComRegisterSlave.{ComRegisterSlave}
 use Rattle.mysql_repl.specs.declared.register_slave.Names.{Names}
@@ -48,8 +48,8 @@ binlog_dump_gtid_view p = record {
   sids = map sid_view (cow_slice_items p.sids);
 }
 
-abbrev pub texts_view : Texts → BinlogDumpGtidTexts
-texts_view p = record { filename = p.filename.now; pos = p.pos; block = p.block.now }
+abbrev pub start_view : Start → BinlogDumpGtidStart
+start_view p = record { filename = p.filename.now; pos = p.pos; block = p.block.now }
 
 abbrev pub request_view : BinlogRequest → Request
 request_view r = record {

@@ -9,8 +9,8 @@ ghost use Rattle.mysql_gtid.specs.Sids.{sid_view};
 ghost use Rattle.mysql_raw.specs.Laws.{unsized};
 ghost use Rattle.mysql_raw.specs.Wire.{GivesPart};
 ghost use Rattle.mysql_repl.specs.PacketLaws.{binlog_dump_gtid_at-back};
-ghost use Rattle.mysql_repl.specs.Packets.{BinlogDumpGtid, IsBinlogDumpGtid, binlog_dump_gtid, binlog_dump_gtid_at, binlog_dump_gtid_fields_at, binlog_dump_gtid_front_at, binlog_dump_gtid_texts_at, through_gtid};
-ghost use Rattle.mysql_repl.specs.Views.{binlog_dump_gtid_view, texts_view};
+ghost use Rattle.mysql_repl.specs.Packets.{BinlogDumpGtid, IsBinlogDumpGtid, binlog_dump_gtid, binlog_dump_gtid_at, binlog_dump_gtid_fields_at, binlog_dump_gtid_front_at, binlog_dump_gtid_start_at, through_gtid};
+ghost use Rattle.mysql_repl.specs.Views.{binlog_dump_gtid_view, start_view};
 ghost use Rattle.mysql_raw.specs.WireError.TheVariants as wire;
 
 use crate::fields::{LongText, copy_of, lossy};
@@ -282,17 +282,17 @@ fn front_from(alloc: Global, rest: &mut ParseBuf) -> Result<(BinlogDumpFlags, u3
     Ok((flags.0, server_id))
 }
 
-// The file's name, the position and the block of sets.
+// Where the log is to start.
 #[derive(Clone, Copy)]
-struct Texts<'a> {
+struct Start<'a> {
     filename: &'a [u8],
     pos: u64,
     block: &'a [u8],
 }
 
-#[tactic(auto, unfolding(crate::specs::Packets::binlog_dump_gtid_texts_at))]
-fn texts_from<'de>(rest: &mut ParseBuf<'de>) -> Result<Texts<'de>, WireError>
-    ensures { GivesPart texts_view rest.new.0.now result (binlog_dump_gtid_texts_at rest.old.0.now) }
+#[tactic(auto, unfolding(crate::specs::Packets::binlog_dump_gtid_start_at))]
+fn start_from<'de>(rest: &mut ParseBuf<'de>) -> Result<Start<'de>, WireError>
+    ensures { GivesPart start_view rest.new.0.now result (binlog_dump_gtid_start_at rest.old.0.now) }
 {
     let Some(filename) = rest.checked_eat_u32_str() else {
         return Err(WireError::UnexpectedEof);
@@ -303,7 +303,7 @@ fn texts_from<'de>(rest: &mut ParseBuf<'de>) -> Result<Texts<'de>, WireError>
     let Some(block) = rest.checked_eat_u32_str() else {
         return Err(WireError::UnexpectedEof);
     };
-    Ok(Texts {
+    Ok(Start {
         filename,
         pos,
         block,
@@ -319,13 +319,13 @@ fn fields_from<'de>(
     ensures { GivesPart binlog_dump_gtid_view rest.new.0.now result (binlog_dump_gtid_fields_at rest.old.0.now) }
 {
     let (flags, server_id) = front_from(alloc, rest)?;
-    let texts = texts_from(rest)?;
-    let sids: SidBlock = ParseBuf(texts.block).parse(alloc, ())?;
+    let start = start_from(rest)?;
+    let sids: SidBlock = ParseBuf(start.block).parse(alloc, ())?;
     Ok(ComBinlogDumpGtid {
         flags,
         server_id,
-        filename: CowSlice::Borrowed(texts.filename),
-        pos: texts.pos,
+        filename: CowSlice::Borrowed(start.filename),
+        pos: start.pos,
         sids: sids.0,
     })
 }

@@ -3,4 +3,3 @@ pub mod Responses
 pub mod SslRequestLaws
 pub mod SslRequestViews
 pub mod SslRequests
-pub mod TextViews

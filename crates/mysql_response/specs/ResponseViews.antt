@@ -6,7 +6,7 @@ use Rattle.mysql_auth.specs.Views.{plugin_view}
 use Rattle.mysql_attributes.specs.AttributeViews.{attributes_view}
 use Rattle.mysql_response.specs.Responses.{ResponseFields}
 use Rattle.mysql_response.specs.SslRequestViews.{ssl_request_view}
-pub use Rattle.mysql_response.specs.TextViews.{text_view}
+use Rattle.mysql_attributes.specs.TextViews.{text_view}
 use Rattle.mysql_response.specs.declared.handshake_response.HandshakeResponse.{HandshakeResponse}
 
 abbrev pub response_view : HandshakeResponse → ResponseFields

@@ -13,7 +13,7 @@ ghost use Rattle.mysql_raw.specs.Wire.{GivesPart, Tells};
 ghost use Rattle.mysql_raw.specs.WireError.TheVariants as wire;
 ghost use Rattle.mysql_response.specs.Responses.{ResponseFields, collation_for, counted_scramble, has_counted_scramble, knows_utf8mb4, marked_capabilities, named_parts_at, response, response_at, scramble, scramble_at};
 ghost use Rattle.mysql_response.specs.ResponseViews.{response_view};
-ghost use Rattle.mysql_response.specs.TextViews.{text_view};
+ghost use Rattle.mysql_attributes.specs.TextViews.{text_view};
 
 use crate::ssl_request::SslRequest;
 use bitflags::Flags;
