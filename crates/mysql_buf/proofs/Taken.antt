@@ -1,23 +1,23 @@
 -- What is read of a stream in steps stands there as one.
-use Rattle.std.proofs.Common.{◌≡◌, ℕ, ◌≤◌, IfOk, List, [], ◌∷◌, length, take, drop, Option, Some, None, Result, Ok, Err, Vec, refl, sym, ap, arith, length-append}
+use Rattle.std.proofs.Common.{◌≡◌, ℕ, ◌≤◌, IfOk, List, [], ◌∷◌, length, take, drop, get_or, Option, Some, None, Result, Ok, Err, Vec, refl, sym, ap, arith, length-append}
 use Rattle.std.proofs.lemmas.List.{take_at, drop_at}
 use Rattle.std.specs.declared.alloc.Global.{Global}
 use Rattle.std.specs.Io.KnownBytes.{Consumes}
-use Rattle.byteorder.specs.Endian.{ReadsNumber, big_number, little_number}
+use Rattle.byteorder.specs.Endian.{ReadsNumber, little_number}
 use Rattle.mysql_buf.specs.FirstBytes.{first-enough}
 use Rattle.mysql_buf.specs.Reading.{le_at}
 use Rattle.mysql_buf.specs.Streams.{Takes, begun_lenenc_int_at, begun_lenenc_str_at}
 
 -- a first byte that says how many bytes follow, and these
 pub takes_marked : (b n : ℕ) → ((bs : List ℕ) → begun_lenenc_int_at (b ∷ bs) ≡ le_at n bs) → (old mid new : Option (List ℕ)) (x : ℕ)
-    → ReadsNumber big_number 1 old mid b → ReadsNumber little_number n mid new x → Takes begun_lenenc_int_at old new x
+    → Consumes old mid (b ∷ []) → ReadsNumber little_number n mid new x → Takes begun_lenenc_int_at old new x
 takes_marked b n marks None mid new x h k = tt
 takes_marked b n marks (Some xs) None new x h k = absurd h
 takes_marked b n marks (Some xs) (Some ys) None x h k = absurd k
-takes_marked b n marks (Some []) (Some ys) (Some zs) x h k = absurd (omega (arith, h.0))
+takes_marked b n marks (Some []) (Some ys) (Some zs) x h k = absurd (cc)
 takes_marked b n marks (Some (y ∷ xs)) (Some ys) (Some zs) x h k =
-    let same : y ≡ b = omega (arith, h.1) in
-    let rest : ys ≡ xs = h.2 in
+    let same : y ≡ b = ap (λ l. get_or l 0 0) h in
+    let rest : ys ≡ xs = sym (ap (drop 1) h) in
     let enough : n ≤ length xs = rw (← rest) (k.0) in
     let number : little_number n xs ≡ x = rw (← rest) (sym (k.1)) in
     let left : drop n xs ≡ zs = rw (← rest) (sym (k.2)) in
@@ -25,7 +25,7 @@ takes_marked b n marks (Some (y ∷ xs)) (Some ys) (Some zs) x h k =
 
 -- the same for a read that may be refused
 pub takes_marked_if_ok : {E : Type 0} (b n : ℕ) → ((bs : List ℕ) → begun_lenenc_int_at (b ∷ bs) ≡ le_at n bs) → (old mid new : Option (List ℕ)) (r : Result ℕ E)
-    → ReadsNumber big_number 1 old mid b → IfOk r (ReadsNumber little_number n mid new) → IfOk r (Takes begun_lenenc_int_at old new)
+    → Consumes old mid (b ∷ []) → IfOk r (ReadsNumber little_number n mid new) → IfOk r (Takes begun_lenenc_int_at old new)
 takes_marked_if_ok b n marks old mid new (Ok x) h k = takes_marked b n marks old mid new x h k
 takes_marked_if_ok b n marks old mid new (Err e) h k = tt
 

@@ -1,12 +1,12 @@
 //! Writing to the end of a buffer.
 
-ghost use Rattle.std.specs.Prelude.{◌≡◌, ◌++◌, OnErr, OnOk, length};
+ghost use Rattle.std.specs.Prelude.{◌≡◌, ◌+◌, ◌≤◌, ◌∷◌, ◌++◌, OnErr, OnOk, length};
 ghost use Rattle.std.specs.Int.{cast_unsigned, w32, w64};
 ghost use Rattle.byteorder.specs.Endian.{little_bytes};
 ghost use Rattle.bytes.specs.Filled.{UsesSpare};
 ghost use Rattle.mysql_buf.specs.Writing.{lenenc_int, lenenc_str, u8_str, u32_str};
 
-use crate::lengths::{front_of, lenenc_int_len, lenenc_str_len};
+use crate::lengths::{front_of, lenenc_str_len};
 use bytes::BufMut;
 use std::alloc::AllocError;
 
@@ -24,21 +24,11 @@ pub trait BufMutExt: BufMut {
         ensures err { OnErr result (Self.written self.new ≡ Self.written self.old) }
         ensures spare { UsesSpare result (Self.spare self.old) (Self.spare self.new) (length (lenenc_int number)) }
     {
-        self.reserve(lenenc_int_len(number) as usize)?;
         match number {
             0..=250 => self.put_u8(number as u8),
-            251..=0xffff => {
-                self.put_u8(0xfc)?;
-                self.put_u16_le(number as u16)
-            }
-            0x1_0000..=0xff_ffff => {
-                self.put_u8(0xfd)?;
-                self.put_uint_le(number, 3)
-            }
-            _ => {
-                self.put_u8(0xfe)?;
-                self.put_u64_le(number)
-            }
+            251..=0xffff => put_marked(self, 0xfc, number, 2),
+            0x1_0000..=0xff_ffff => put_marked(self, 0xfd, number, 3),
+            _ => put_marked(self, 0xfe, number, 8),
         }
     }
 
@@ -143,3 +133,20 @@ pub trait BufMutExt: BufMut {
 }
 
 impl<B: BufMut> BufMutExt for B {}
+
+// Appends a first byte and then a number in so many bytes, lowest first.
+pub(crate) fn put_marked<B: BufMut>(
+    buf: &mut B,
+    mark: u8,
+    number: u64,
+    count: usize,
+) -> Result<(), AllocError>
+    requires { count ≤ 8 }
+    ensures ok { OnOk result (B.written buf.new ≡ B.written buf.old ++ (mark ∷ little_bytes count number)) }
+    ensures err { OnErr result (B.written buf.new ≡ B.written buf.old) }
+    ensures spare { UsesSpare result (B.spare buf.old) (B.spare buf.new) (1 + count) }
+{
+    buf.reserve(1 + count)?;
+    buf.put_u8(mark)?;
+    buf.put_uint_le(number, count)
+}

@@ -1,11 +1,13 @@
 //! Length-encoded numbers and texts in streams.
 
-ghost use Rattle.std.specs.Prelude.{◌≡◌, ◌≢◌, ◌⊎◌, ◌↔◌, IfErr, IfOk, IsOk, length};
-ghost use Rattle.std.specs.Io.KnownBytes.{Appends, Consumes};
+ghost use Rattle.std.specs.Prelude.{◌≡◌, ◌<◌, ◌≤◌, ◌^◌, [], ◌∷◌, IfErr, IfOk, OnErr, OnOk, length};
+ghost use Rattle.std.specs.Io.KnownBytes.{Appends, Consumes, Keeps};
 ghost use Rattle.std.specs.IoError.{error_kind};
-ghost use Rattle.mysql_buf.specs.Streams.{Takes, begun_lenenc_int_at, begun_lenenc_str_at};
+ghost use Rattle.byteorder.specs.Endian.{little_bytes};
+ghost use Rattle.mysql_buf.specs.Streams.{RefusesToBegin, Takes, begun_lenenc_int_at, begun_lenenc_str_at};
 ghost use Rattle.mysql_buf.specs.Writing.{lenenc_int, lenenc_str};
 
+use crate::lengths::lenenc_int_len;
 use byteorder::{LittleEndian, ReadBytesExt, WriteBytesExt};
 use std::alloc::Global;
 use std::io;
@@ -20,11 +22,12 @@ pub trait ReadMysqlExt: Read {
     final fn read_lenenc_int(&mut self) -> io::Result<u64>
     where
         Self: Sized,
-        ensures { IfOk result (Takes begun_lenenc_int_at (Self.remaining self.old) (Self.remaining self.new)) }
+        ensures taken { IfOk result (Takes begun_lenenc_int_at (Self.remaining self.old) (Self.remaining self.new)) }
+        ensures refused { IfErr result (λ e. RefusesToBegin (Self.remaining self.old) (Self.remaining self.new) (error_kind e ≡ ErrorKind.InvalidData)) }
     {
-        let first = self.read_u8()?;
-        check_begins(first)?;
+        let first = first_byte(self)?;
         match first {
+            0xfb | 0xff => Err(io::Error::from(ErrorKind::InvalidData)),
             0xfc => Ok(u64::from(self.read_u16::<LittleEndian>()?)),
             0xfd => Ok(u64::from(self.read_u24::<LittleEndian>()?)),
             0xfe => self.read_u64::<LittleEndian>(),
@@ -38,7 +41,8 @@ pub trait ReadMysqlExt: Read {
     final fn read_lenenc_str(&mut self, alloc: Global) -> io::Result<Vec<u8>>
     where
         Self: Sized,
-        ensures { IfOk result (λ text. Takes begun_lenenc_str_at (Self.remaining self.old) (Self.remaining self.new) text.items) }
+        ensures taken { IfOk result (λ text. Takes begun_lenenc_str_at (Self.remaining self.old) (Self.remaining self.new) text.items) }
+        ensures refused { IfErr result (λ e. RefusesToBegin (Self.remaining self.old) (Self.remaining self.new) (error_kind e ≡ ErrorKind.InvalidData)) }
     {
         let count = self.read_lenenc_int()?;
         read_bytes(alloc, self, count)
@@ -58,27 +62,8 @@ pub trait WriteMysqlExt: Write {
         ensures count { IfOk result (λ count. count ≡ length (lenenc_int number)) }
         ensures bytes { IfOk result (λ _. Appends (Self.contents self.old) (Self.contents self.new) (lenenc_int number)) }
     {
-        match number {
-            0..=250 => {
-                self.write_u8(number as u8)?;
-                Ok(1)
-            }
-            251..=0xffff => {
-                self.write_u8(0xfc)?;
-                self.write_u16::<LittleEndian>(number as u16)?;
-                Ok(3)
-            }
-            0x1_0000..=0xff_ffff => {
-                self.write_u8(0xfd)?;
-                self.write_u24::<LittleEndian>(number as u32)?;
-                Ok(4)
-            }
-            _ => {
-                self.write_u8(0xfe)?;
-                self.write_u64::<LittleEndian>(number)?;
-                Ok(9)
-            }
-        }
+        write_shortest(self, number)?;
+        Ok(lenenc_int_len(number))
     }
 
     /// Writes a text after its length as a length-encoded number, and answers how many bytes it
@@ -99,15 +84,47 @@ pub trait WriteMysqlExt: Write {
 
 impl<W: Write> WriteMysqlExt for W {}
 
-// Whether a first byte begins a length-encoded number.
-fn check_begins(first: u8) -> io::Result<()>
-    ensures ok { IsOk result ↔ ((first ≢ 251) × (first ≢ 255)) }
-    ensures err { IfErr result (λ e. error_kind e ≡ ErrorKind.InvalidData) }
+// Writes a length-encoded number in its shortest spelling.
+fn write_shortest<W: Write>(writer: &mut W, number: u64) -> io::Result<()>
+    ensures { OnOk result (Appends (W.contents writer.old) (W.contents writer.new) (lenenc_int number)) }
 {
-    if first == 0xfb || first == 0xff {
-        return Err(io::Error::from(ErrorKind::InvalidData));
+    match number {
+        0..=250 => writer.write_u8(number as u8),
+        251..=0xffff => write_marked(writer, 0xfc, number, 2),
+        0x1_0000..=0xff_ffff => write_marked(writer, 0xfd, number, 3),
+        _ => write_marked(writer, 0xfe, number, 8),
     }
-    Ok(())
+}
+
+// Writes a first byte and then a number in so many bytes, lowest first.
+fn write_marked<W: Write>(writer: &mut W, mark: u8, number: u64, count: usize) -> io::Result<()>
+    requires some { 1 ≤ count }
+    requires few { count ≤ 8 }
+    requires fits { number < 256 ^ count }
+    ensures { OnOk result (Appends (W.contents writer.old) (W.contents writer.new) (mark ∷ little_bytes count number)) }
+{
+    writer.write_u8(mark)?;
+    writer.write_uint::<LittleEndian>(number, count)
+}
+
+// Reads one byte, or refuses and takes none. A reader that was interrupted is asked again.
+fn first_byte<R: Read>(reader: &mut R) -> io::Result<u8>
+    ensures ok { IfOk result (λ first. Consumes (R.remaining reader.old) (R.remaining reader.new) (first ∷ [])) }
+    ensures err { OnErr result (Keeps (R.remaining reader.old) (R.remaining reader.new)) }
+{
+    let mut first = [0];
+    'tries: for _ in 0..u64::MAX {
+        match reader.read(&mut first) {
+            Ok(0) => return Err(io::Error::from(ErrorKind::UnexpectedEof)),
+            Ok(_) => return Ok(first[0]),
+            Err(error) => {
+                if error.kind() != ErrorKind::Interrupted {
+                    return Err(error);
+                }
+            }
+        }
+    }
+    Err(io::Error::from(ErrorKind::Interrupted))
 }
 
 /// How many bytes are read at once.

@@ -5,6 +5,7 @@ ghost use Rattle.bytes.specs.Filled.{UsesSpare};
 ghost use Rattle.mysql_buf.specs.Reading.{Checks};
 ghost use Rattle.mysql_buf.specs.Varlen.{marked, varlen, varlen_at, varlen_size};
 
+use crate::buf_mut::put_marked;
 use crate::parse_buf::ParseBuf;
 use byteorder::{ByteOrder, LittleEndian};
 use bytes::BufMut;
@@ -60,9 +61,7 @@ pub fn write_varlen_uint<B: BufMut>(buf: &mut B, number: u64) -> Result<(), Allo
     if size < 9 {
         buf.put_uint_le(with_mark(number, size), size)
     } else {
-        buf.reserve(9)?;
-        buf.put_u8(0xff)?;
-        buf.put_u64_le(number)
+        put_marked(buf, 0xff, number, 8)
     }
 }
 

@@ -4,8 +4,11 @@ ghost use Rattle.std.specs.Prelude.{⊤, ◌≡◌};
 ghost use Rattle.mysql_const.specs.Tables.{ReadsFlags};
 ghost use Rattle.mysql_const.specs.BinlogDumpFlags.{binlog_dump_flags};
 
+use crate::unknown::write_unknown_flags;
 use bitflags::{Flag, Flags, bitflag_items};
-use thiserror::Error;
+use std::error::Error;
+use std::fmt;
+use std::fmt::{Display, Formatter, Write};
 
 /// How the binary log is asked for. Bits 3 to 15 have no name.
 ///
@@ -53,9 +56,16 @@ impl Default for BinlogDumpFlags {
 }
 
 /// Bits, of which some are no flag of [`BinlogDumpFlags`].
-#[derive(Clone, Copy, PartialEq, Eq, Hash, Debug, Error)]
-#[error("unknown flags in the bits {0:b} of BinlogDumpFlags")]
+#[derive(Clone, Copy, PartialEq, Eq, Hash, Debug)]
 pub struct UnknownBinlogDumpFlags(pub u16);
+
+impl Error for UnknownBinlogDumpFlags {}
+
+impl Display for UnknownBinlogDumpFlags {
+    fn fmt<W: Write>(&self, f: &mut Formatter<W>) -> fmt::Result {
+        write_unknown_flags(f, "BinlogDumpFlags", u32::from(self.0))
+    }
+}
 
 /// The bits of some [`BinlogDumpFlags`].
 impl From<BinlogDumpFlags> for u16 {

@@ -5,8 +5,11 @@ ghost use Rattle.mysql_const.specs.Tables.{ReadsAs, ReadsFlags};
 ghost use Rattle.mysql_const.specs.BulkIndicators.{bulk_indicator_number, bulk_indicator_named};
 ghost use Rattle.mysql_const.specs.BulkFlags.{bulk_execute_flags};
 
+use crate::unknown::{write_unknown_flags, write_unknown_number};
 use bitflags::{Flag, Flags, bitflag_items};
-use thiserror::Error;
+use std::error::Error;
+use std::fmt;
+use std::fmt::{Display, Formatter, Write};
 
 /// What stands before each value of a bulk request.
 ///
@@ -21,9 +24,16 @@ pub enum MariadbBulkIndicator {
 }
 
 /// A number that no [`MariadbBulkIndicator`] has.
-#[derive(Clone, Copy, PartialEq, Eq, Hash, Debug, Error)]
-#[error("unknown bulk indicator {0}")]
+#[derive(Clone, Copy, PartialEq, Eq, Hash, Debug)]
 pub struct UnknownMariadbBulkIndicator(pub u8);
+
+impl Error for UnknownMariadbBulkIndicator {}
+
+impl Display for UnknownMariadbBulkIndicator {
+    fn fmt<W: Write>(&self, f: &mut Formatter<W>) -> fmt::Result {
+        write_unknown_number(f, "bulk indicator", i32::from(self.0))
+    }
+}
 
 /// The number of a [`MariadbBulkIndicator`].
 impl From<MariadbBulkIndicator> for u8 {
@@ -96,9 +106,16 @@ impl Default for StmtBulkExecuteFlags {
 }
 
 /// Bits, of which some are no flag of [`StmtBulkExecuteFlags`].
-#[derive(Clone, Copy, PartialEq, Eq, Hash, Debug, Error)]
-#[error("unknown flags in the bits {0:b} of StmtBulkExecuteFlags")]
+#[derive(Clone, Copy, PartialEq, Eq, Hash, Debug)]
 pub struct UnknownStmtBulkExecuteFlags(pub u16);
+
+impl Error for UnknownStmtBulkExecuteFlags {}
+
+impl Display for UnknownStmtBulkExecuteFlags {
+    fn fmt<W: Write>(&self, f: &mut Formatter<W>) -> fmt::Result {
+        write_unknown_flags(f, "StmtBulkExecuteFlags", u32::from(self.0))
+    }
+}
 
 /// The bits of some [`StmtBulkExecuteFlags`].
 impl From<StmtBulkExecuteFlags> for u16 {

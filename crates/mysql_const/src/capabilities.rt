@@ -5,8 +5,11 @@ ghost use Rattle.mysql_const.specs.Tables.{ReadsFlags};
 ghost use Rattle.mysql_const.specs.CapabilityFlags.{capability_flags};
 ghost use Rattle.mysql_const.specs.MariadbCapabilities.{mariadb_capabilities};
 
+use crate::unknown::write_unknown_flags;
 use bitflags::{Flag, Flags, bitflag_items};
-use thiserror::Error;
+use std::error::Error;
+use std::fmt;
+use std::fmt::{Display, Formatter, Write};
 
 /// What a client or a server can do. All 32 bits have names.
 ///
@@ -83,9 +86,16 @@ impl Default for CapabilityFlags {
 }
 
 /// Bits, of which some are no flag of [`CapabilityFlags`].
-#[derive(Clone, Copy, PartialEq, Eq, Hash, Debug, Error)]
-#[error("unknown flags in the bits {0:b} of CapabilityFlags")]
+#[derive(Clone, Copy, PartialEq, Eq, Hash, Debug)]
 pub struct UnknownCapabilityFlags(pub u32);
+
+impl Error for UnknownCapabilityFlags {}
+
+impl Display for UnknownCapabilityFlags {
+    fn fmt<W: Write>(&self, f: &mut Formatter<W>) -> fmt::Result {
+        write_unknown_flags(f, "CapabilityFlags", self.0)
+    }
+}
 
 /// The bits of some [`CapabilityFlags`].
 impl From<CapabilityFlags> for u32 {
@@ -159,9 +169,16 @@ impl Default for MariadbCapabilities {
 }
 
 /// Bits, of which some are no flag of [`MariadbCapabilities`].
-#[derive(Clone, Copy, PartialEq, Eq, Hash, Debug, Error)]
-#[error("unknown flags in the bits {0:b} of MariadbCapabilities")]
+#[derive(Clone, Copy, PartialEq, Eq, Hash, Debug)]
 pub struct UnknownMariadbCapabilities(pub u32);
+
+impl Error for UnknownMariadbCapabilities {}
+
+impl Display for UnknownMariadbCapabilities {
+    fn fmt<W: Write>(&self, f: &mut Formatter<W>) -> fmt::Result {
+        write_unknown_flags(f, "MariadbCapabilities", self.0)
+    }
+}
 
 /// The bits of some [`MariadbCapabilities`].
 impl From<MariadbCapabilities> for u32 {

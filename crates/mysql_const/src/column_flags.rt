@@ -4,8 +4,11 @@ ghost use Rattle.std.specs.Prelude.{⊤, ◌≡◌};
 ghost use Rattle.mysql_const.specs.Tables.{ReadsFlags};
 ghost use Rattle.mysql_const.specs.ColumnFlags.{column_flags};
 
+use crate::unknown::write_unknown_flags;
 use bitflags::{Flag, Flags, bitflag_items};
-use thiserror::Error;
+use std::error::Error;
+use std::fmt;
+use std::fmt::{Display, Formatter, Write};
 
 /// What holds of a column. All 16 bits have names.
 ///
@@ -66,9 +69,16 @@ impl Default for ColumnFlags {
 }
 
 /// Bits, of which some are no flag of [`ColumnFlags`].
-#[derive(Clone, Copy, PartialEq, Eq, Hash, Debug, Error)]
-#[error("unknown flags in the bits {0:b} of ColumnFlags")]
+#[derive(Clone, Copy, PartialEq, Eq, Hash, Debug)]
 pub struct UnknownColumnFlags(pub u16);
+
+impl Error for UnknownColumnFlags {}
+
+impl Display for UnknownColumnFlags {
+    fn fmt<W: Write>(&self, f: &mut Formatter<W>) -> fmt::Result {
+        write_unknown_flags(f, "ColumnFlags", u32::from(self.0))
+    }
+}
 
 /// The bits of some [`ColumnFlags`].
 impl From<ColumnFlags> for u16 {

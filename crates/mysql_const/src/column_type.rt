@@ -5,7 +5,10 @@ ghost use Rattle.mysql_const.specs.Tables.{ReadsAs};
 ghost use Rattle.mysql_const.specs.ColumnTypes.{column_type_number, column_type_named, is_among, numeric_types, character_types};
 ghost use Rattle.mysql_const.specs.declared.column_type.ColumnType.TheVariants.{MYSQL_TYPE_ENUM, MYSQL_TYPE_SET, MYSQL_TYPE_GEOMETRY, MYSQL_TYPE_VECTOR};
 
-use thiserror::Error;
+use crate::unknown::write_unknown_number;
+use std::error::Error;
+use std::fmt;
+use std::fmt::{Display, Formatter, Write};
 
 /// The type of a column or of a value.
 ///
@@ -50,9 +53,16 @@ pub enum ColumnType {
 }
 
 /// A number that no [`ColumnType`] has.
-#[derive(Clone, Copy, PartialEq, Eq, Hash, Debug, Error)]
-#[error("unknown column type {0}")]
+#[derive(Clone, Copy, PartialEq, Eq, Hash, Debug)]
 pub struct UnknownColumnType(pub u8);
+
+impl Error for UnknownColumnType {}
+
+impl Display for UnknownColumnType {
+    fn fmt<W: Write>(&self, f: &mut Formatter<W>) -> fmt::Result {
+        write_unknown_number(f, "column type", i32::from(self.0))
+    }
+}
 
 /// The number of a [`ColumnType`].
 impl From<ColumnType> for u8 {

@@ -4,7 +4,10 @@ ghost use Rattle.std.specs.Prelude.{◌≡◌};
 ghost use Rattle.mysql_const.specs.Tables.{ReadsAs};
 ghost use Rattle.mysql_const.specs.Commands.{command_number, command_named};
 
-use thiserror::Error;
+use crate::unknown::write_unknown_number;
+use std::error::Error;
+use std::fmt;
+use std::fmt::{Display, Formatter, Write};
 
 /// What a client asks for: the first byte of its packet.
 ///
@@ -50,9 +53,16 @@ pub enum Command {
 }
 
 /// A number that no [`Command`] has.
-#[derive(Clone, Copy, PartialEq, Eq, Hash, Debug, Error)]
-#[error("unknown command {0}")]
+#[derive(Clone, Copy, PartialEq, Eq, Hash, Debug)]
 pub struct UnknownCommand(pub u8);
+
+impl Error for UnknownCommand {}
+
+impl Display for UnknownCommand {
+    fn fmt<W: Write>(&self, f: &mut Formatter<W>) -> fmt::Result {
+        write_unknown_number(f, "command", i32::from(self.0))
+    }
+}
 
 /// The number of a [`Command`].
 impl From<Command> for u8 {

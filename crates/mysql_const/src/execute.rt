@@ -5,8 +5,11 @@ ghost use Rattle.mysql_const.specs.Tables.{ReadsFlags};
 ghost use Rattle.mysql_const.specs.CursorTypes.{cursor_types};
 ghost use Rattle.mysql_const.specs.ExecuteFlags.{execute_params_flags, execute_param_flags};
 
+use crate::unknown::write_unknown_flags;
 use bitflags::{Flag, Flags, bitflag_items};
-use thiserror::Error;
+use std::error::Error;
+use std::fmt;
+use std::fmt::{Display, Formatter, Write};
 
 /// Which cursor an execution asks for. Bits 3 to 7 have no name.
 ///
@@ -55,9 +58,16 @@ impl Default for CursorType {
 }
 
 /// Bits, of which some are no flag of [`CursorType`].
-#[derive(Clone, Copy, PartialEq, Eq, Hash, Debug, Error)]
-#[error("unknown flags in the bits {0:b} of CursorType")]
+#[derive(Clone, Copy, PartialEq, Eq, Hash, Debug)]
 pub struct UnknownCursorType(pub u8);
+
+impl Error for UnknownCursorType {}
+
+impl Display for UnknownCursorType {
+    fn fmt<W: Write>(&self, f: &mut Formatter<W>) -> fmt::Result {
+        write_unknown_flags(f, "CursorType", u32::from(self.0))
+    }
+}
 
 /// The bits of some [`CursorType`].
 impl From<CursorType> for u8 {
@@ -126,9 +136,16 @@ impl Default for StmtExecuteParamsFlags {
 }
 
 /// Bits, of which some are no flag of [`StmtExecuteParamsFlags`].
-#[derive(Clone, Copy, PartialEq, Eq, Hash, Debug, Error)]
-#[error("unknown flags in the bits {0:b} of StmtExecuteParamsFlags")]
+#[derive(Clone, Copy, PartialEq, Eq, Hash, Debug)]
 pub struct UnknownStmtExecuteParamsFlags(pub u8);
+
+impl Error for UnknownStmtExecuteParamsFlags {}
+
+impl Display for UnknownStmtExecuteParamsFlags {
+    fn fmt<W: Write>(&self, f: &mut Formatter<W>) -> fmt::Result {
+        write_unknown_flags(f, "StmtExecuteParamsFlags", u32::from(self.0))
+    }
+}
 
 /// The bits of some [`StmtExecuteParamsFlags`].
 impl From<StmtExecuteParamsFlags> for u8 {
@@ -197,9 +214,16 @@ impl Default for StmtExecuteParamFlags {
 }
 
 /// Bits, of which some are no flag of [`StmtExecuteParamFlags`].
-#[derive(Clone, Copy, PartialEq, Eq, Hash, Debug, Error)]
-#[error("unknown flags in the bits {0:b} of StmtExecuteParamFlags")]
+#[derive(Clone, Copy, PartialEq, Eq, Hash, Debug)]
 pub struct UnknownStmtExecuteParamFlags(pub u8);
+
+impl Error for UnknownStmtExecuteParamFlags {}
+
+impl Display for UnknownStmtExecuteParamFlags {
+    fn fmt<W: Write>(&self, f: &mut Formatter<W>) -> fmt::Result {
+        write_unknown_flags(f, "StmtExecuteParamFlags", u32::from(self.0))
+    }
+}
 
 /// The bits of some [`StmtExecuteParamFlags`].
 impl From<StmtExecuteParamFlags> for u8 {

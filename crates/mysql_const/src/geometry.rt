@@ -4,7 +4,10 @@ ghost use Rattle.std.specs.Prelude.{◌≡◌};
 ghost use Rattle.mysql_const.specs.Tables.{ReadsAs};
 ghost use Rattle.mysql_const.specs.Geometries.{geometry_number, geometry_named};
 
-use thiserror::Error;
+use crate::unknown::write_unknown_number;
+use std::error::Error;
+use std::fmt;
+use std::fmt::{Display, Formatter, Write};
 
 /// The type of a geometry.
 ///
@@ -24,9 +27,16 @@ pub enum GeometryType {
 }
 
 /// A number that no [`GeometryType`] has.
-#[derive(Clone, Copy, PartialEq, Eq, Hash, Debug, Error)]
-#[error("unknown geometry type {0}")]
+#[derive(Clone, Copy, PartialEq, Eq, Hash, Debug)]
 pub struct UnknownGeometryType(pub u8);
+
+impl Error for UnknownGeometryType {}
+
+impl Display for UnknownGeometryType {
+    fn fmt<W: Write>(&self, f: &mut Formatter<W>) -> fmt::Result {
+        write_unknown_number(f, "geometry type", i32::from(self.0))
+    }
+}
 
 /// The number of a [`GeometryType`].
 impl From<GeometryType> for u8 {

@@ -4,7 +4,10 @@ ghost use Rattle.std.specs.Prelude.{◌≡◌};
 ghost use Rattle.mysql_const.specs.Tables.{ReadsAs};
 ghost use Rattle.mysql_const.specs.ItemResults.{item_result_number, item_result_named};
 
-use thiserror::Error;
+use crate::unknown::write_unknown_number;
+use std::error::Error;
+use std::fmt;
+use std::fmt::{Display, Formatter, Write};
 
 /// The type of the value that an expression or a loadable function gives.
 ///
@@ -21,9 +24,16 @@ pub enum ItemResult {
 }
 
 /// A number that no [`ItemResult`] has.
-#[derive(Clone, Copy, PartialEq, Eq, Hash, Debug, Error)]
-#[error("unknown item result type {0}")]
+#[derive(Clone, Copy, PartialEq, Eq, Hash, Debug)]
 pub struct UnknownItemResultType(pub i8);
+
+impl Error for UnknownItemResultType {}
+
+impl Display for UnknownItemResultType {
+    fn fmt<W: Write>(&self, f: &mut Formatter<W>) -> fmt::Result {
+        write_unknown_number(f, "item result type", i32::from(self.0))
+    }
+}
 
 /// The number of a [`ItemResult`].
 impl From<ItemResult> for i8 {

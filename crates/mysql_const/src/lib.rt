@@ -13,6 +13,7 @@ pub mod item_result;
 pub mod laws;
 pub mod session_state;
 pub mod status;
+mod unknown;
 
 pub use binlog::{BinlogDumpFlags, UnknownBinlogDumpFlags};
 pub use bulk::{

@@ -4,7 +4,10 @@ ghost use Rattle.std.specs.Prelude.{◌≡◌};
 ghost use Rattle.mysql_const.specs.Tables.{ReadsAs};
 ghost use Rattle.mysql_const.specs.SessionStates.{session_state_number, session_state_named};
 
-use thiserror::Error;
+use crate::unknown::write_unknown_number;
+use std::error::Error;
+use std::fmt;
+use std::fmt::{Display, Formatter, Write};
 
 /// What of a session changed, as an OK packet tells it.
 ///
@@ -21,9 +24,16 @@ pub enum SessionStateType {
 }
 
 /// A number that no [`SessionStateType`] has.
-#[derive(Clone, Copy, PartialEq, Eq, Hash, Debug, Error)]
-#[error("unknown session state type {0}")]
+#[derive(Clone, Copy, PartialEq, Eq, Hash, Debug)]
 pub struct UnknownSessionStateType(pub u8);
+
+impl Error for UnknownSessionStateType {}
+
+impl Display for UnknownSessionStateType {
+    fn fmt<W: Write>(&self, f: &mut Formatter<W>) -> fmt::Result {
+        write_unknown_number(f, "session state type", i32::from(self.0))
+    }
+}
 
 /// The number of a [`SessionStateType`].
 impl From<SessionStateType> for u8 {

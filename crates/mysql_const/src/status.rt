@@ -4,8 +4,11 @@ ghost use Rattle.std.specs.Prelude.{⊤, ◌≡◌};
 ghost use Rattle.mysql_const.specs.Tables.{ReadsFlags};
 ghost use Rattle.mysql_const.specs.StatusFlags.{status_flags};
 
+use crate::unknown::write_unknown_flags;
 use bitflags::{Flag, Flags, bitflag_items};
-use thiserror::Error;
+use std::error::Error;
+use std::fmt;
+use std::fmt::{Display, Formatter, Write};
 
 /// The server's state after a command. Bits 2 and 15 have no name.
 ///
@@ -64,9 +67,16 @@ impl Default for StatusFlags {
 }
 
 /// Bits, of which some are no flag of [`StatusFlags`].
-#[derive(Clone, Copy, PartialEq, Eq, Hash, Debug, Error)]
-#[error("unknown flags in the bits {0:b} of StatusFlags")]
+#[derive(Clone, Copy, PartialEq, Eq, Hash, Debug)]
 pub struct UnknownStatusFlags(pub u16);
+
+impl Error for UnknownStatusFlags {}
+
+impl Display for UnknownStatusFlags {
+    fn fmt<W: Write>(&self, f: &mut Formatter<W>) -> fmt::Result {
+        write_unknown_flags(f, "StatusFlags", u32::from(self.0))
+    }
+}
 
 /// The bits of some [`StatusFlags`].
 impl From<StatusFlags> for u16 {

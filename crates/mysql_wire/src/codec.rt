@@ -164,7 +164,8 @@ impl PacketCodec {
     /// Errors, in this order: `PacketTooLarge` once a chunk's header stands with which the packet would
     /// pass the limit; `Memory` where a growth of `dst` was refused; `PacketsOutOfSync` once a chunk
     /// stands whole that hasn't the number due. What `src` and `dst` hold after an error isn't said. The
-    /// codec keeps to it: each further call answers the same error and changes nothing.
+    /// codec has the number that it had before the call, and keeps to the error: each further call answers
+    /// the same and changes nothing.
     /// (MySQL: Client/Server Protocol, "Protocol Basics: MySQL Packets", "Sending More Than 16Mb" and "Sequence ID".)
     pub fn decode<B: Buf>(
         &mut self,
@@ -183,14 +184,18 @@ impl PacketCodec {
         if let Some(refusal) = self.refused {
             return Err(refusal.error());
         }
+        let mut number = self.number;
         match take_packet(
-            &mut self.number,
+            &mut number,
             &mut self.begun,
             src,
             dst,
             self.max_allowed_packet,
         ) {
-            Ok(whole) => Ok(whole),
+            Ok(whole) => {
+                self.number = number;
+                Ok(whole)
+            }
             Err(refusal) => {
                 self.refused = Some(refusal);
                 Err(refusal.error())

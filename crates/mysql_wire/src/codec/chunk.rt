@@ -65,7 +65,8 @@ impl ChunkDecoder {
     ///
     /// `max_allowed_packet` is the most bytes that `dst` may hold afterwards. Where the chunk's header
     /// stands and would pass it, or says another length than the `needed` of this decoder, the answer
-    /// is `PacketTooLarge`; where a growth of `dst` is refused, `Memory`. Both leave the buffers as they were.
+    /// is `PacketTooLarge`; where a growth of `dst` is refused, `Memory`. Both leave the decoder and the
+    /// buffers as they were.
     /// (MySQL: Client/Server Protocol, "Protocol Basics: MySQL Packets".)
     pub fn decode(
         &mut self,
@@ -79,6 +80,7 @@ impl ChunkDecoder {
         ensures waits { result ≡ Ok None → (src.new.items ≡ src.old.items) × (dst.new.items ≡ dst.old.items) }
         ensures too_large { IfErr result (λ e. IsTooLargeOrMemory e (PassesLimit self.old max_allowed_packet src.old.items dst.old.items)) }
         ensures err { OnErr result ((src.new.items ≡ src.old.items) × (dst.new.items ≡ dst.old.items)) }
+        ensures kept { OnErr result (self.new ≡ self.old) }
         // A chunk that is awaited is the one whose header stands; after one was taken, any is.
         ensures awaits { IfOk result (λ info. MatchOption info (StillAwaits self.old src.old.items self.new) (λ _. self.new ≡ ChunkDecoder.Idle)) }
     {
@@ -94,8 +96,8 @@ impl ChunkDecoder {
         if dst.len() + count > max_allowed_packet {
             return Err(PacketCodecError::PacketTooLarge);
         }
-        *self = ChunkDecoder::Chunk { needed: count };
         if src.len() < 4 + count {
+            *self = ChunkDecoder::Chunk { needed: count };
             return Ok(None);
         }
         if dst
