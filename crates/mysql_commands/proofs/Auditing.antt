@@ -12,11 +12,9 @@ use Rattle.mysql_commands.specs.Layout.{Conversation}
 use Rattle.mysql_commands.specs.InForce.{Standing, standing_after}
 use Rattle.mysql_commands.specs.Reading.{Set, PayloadReadsAs, PayloadFaulty, ReadsAs, Faulty}
 use Rattle.mysql_wire.specs.Stream.{Rest}
-use Rattle.mysql_commands.specs.Audit.{Audit, Read, Ends, Audits, Stopped, end_by_rest}
+use Rattle.mysql_commands.specs.Audit.{Audit, Read, Ends, Audits, end_by_rest}
 use Rattle.mysql_commands.specs.declared.audit.End.{End}
 use Rattle.mysql_commands.specs.declared.audit.End.TheVariants as ends
-use Rattle.mysql_commands.specs.declared.fault.StreamFault.TheVariants.{Memory}
-use Rattle.mysql_commands.specs.GoingOn.{AnswersFrom}
 use Rattle.mysql_commands.proofs.Looking.{standing_after_append}
 use Rattle.mysql_commands.proofs.Judging.{is_judged}
 
@@ -84,20 +82,6 @@ audits_append c s first xs ys kind reads a r len h =
       sets = ap (λ (l : List Set). flat_map (λ sets. sets) reads ++ l) h.sets ∙ sym (flat_map-append (λ sets. sets) reads h.reads);
       ending = subst (λ (n : ℕ). Ends c s first (xs ++ ys) kind n a.ending) (omega (arith, len, length-append reads h.reads)) (ends_append c s first xs ys kind (length h.reads) a.ending h.ending);
     }
-
--- what was read before memory ran out goes on likewise
-pub stopped_append : (c : Conversation) (s : Standing) (first : ℕ) (xs ys : List (List ℕ)) (reads : List (List Set)) (a : Audit) → Read c s first xs reads → length reads ≡ length xs → Stopped c (standing_after c s xs) (first + length xs) ys a → Stopped c s first (xs ++ ys) (record { sets = flat_map (λ sets. sets) reads ++ a.sets; ending = a.ending })
-stopped_append c s first xs ys reads a r len h =
-    record {
-      reads = reads ++ h.reads;
-      each = read_append c s first xs ys reads h.reads r len h.each;
-      sets = ap (λ (l : List Set). flat_map (λ sets. sets) reads ++ l) h.sets ∙ sym (flat_map-append (λ sets. sets) reads h.reads);
-      ending = h.ending ∙ ap (λ (n : ℕ). ends.Fault n Memory) (omega (arith, len, length-append reads h.reads));
-    }
-
-pub answers_append : (c : Conversation) (s : Standing) (first : ℕ) (xs ys : List (List ℕ)) (kind : Rest) (reads : List (List Set)) (a : Audit) → Read c s first xs reads → length reads ≡ length xs → AnswersFrom c (standing_after c s xs) (first + length xs) ys kind a → AnswersFrom c s first (xs ++ ys) kind (record { sets = flat_map (λ sets. sets) reads ++ a.sets; ending = a.ending })
-answers_append c s first xs ys kind reads a r len (inl h) = inl (audits_append c s first xs ys kind reads a r len h)
-answers_append c s first xs ys kind reads a r len (inr h) = inr (stopped_append c s first xs ys reads a r len h)
 
 -- what the first payloads read as, they read as among more
 pub read_longer : (c : Conversation) (s : Standing) (first : ℕ) (xs ys : List (List ℕ)) (reads : List (List Set)) → Read c s first xs reads → Read c s first (xs ++ ys) reads

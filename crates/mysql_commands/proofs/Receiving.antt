@@ -1,6 +1,6 @@
 -- From a receiver's fields to what it holds and decides.
-use Rattle.std.proofs.Common.{◌≡◌, ℕ, zero, suc, ◌+◌, ◌<◌, ◌⊎◌, Bool, true, false, cond, List, [], ◌∷◌, ◌++◌, length, Option, Some, None, refl, sym, ap, subst, ◌∙◌, arith, inl, inr, append_assoc, take, get_or}
-use Rattle.std.specs.Prelude.{◌==◌, not, if◌then◌else◌}
+use Rattle.std.proofs.Common.{◌≡◌, ℕ, zero, suc, ◌+◌, ◌<◌, ◌⊎◌, Bool, true, false, cond, List, [], ◌∷◌, ◌++◌, length, Option, Some, None, Result, Err, refl, sym, ap, subst, ◌∙◌, arith, inl, inr, append_assoc, take, get_or}
+use Rattle.std.specs.Prelude.{◌==◌, not, if◌then◌else◌, IfSome, OnOk}
 use Rattle.std.specs.Global.{Vec}
 use Rattle.std.proofs.lemmas.Bool.{ne_eqb}
 use Rattle.std.specs.List.{flat_map}
@@ -21,14 +21,14 @@ use Rattle.mysql_commands.specs.declared.receiver.Receiver.TheInside.{Inside}
 use Rattle.mysql_commands.specs.Layout.{Conversation}
 use Rattle.mysql_commands.specs.InForce.{Standing, is_waiting, standing_after, nothing_yet}
 use Rattle.mysql_commands.specs.Audit.{Audit, Ends, Audited, OutOfMemory, end_by_rest}
-use Rattle.mysql_commands.specs.GoingOn.{Held, held_at_start, DecidesBy, Decides, GoesOn, Fed, Stands, TakesAll}
+use Rattle.mysql_commands.specs.GoingOn.{Held, held_at_start, DecidesBy, Decides, GoesOn, Fed, Stands, TakesAll, RunsShort}
 use Rattle.mysql_commands.specs.Views.{conversation_of, piece_kept, standing_of, sets_of}
-use Rattle.mysql_commands.specs.Receiving.{StaysOpen, IsMemory, partial_of, holds, end_by}
+use Rattle.mysql_commands.specs.Receiving.{StaysOpen, IsMemory, OnMemory, UnlessMemory, answer_by, partial_of, holds, end_by}
 use Rattle.mysql_commands.specs.Received.{Received, piece_in, held_by}
 use Rattle.mysql_commands.specs.Inside.{pieces_of, received_of, IsKept}
 use Rattle.mysql_commands.proofs.Looking.{standing_after_nil}
 use Rattle.mysql_commands.proofs.Splits.{bytes_append}
-use Rattle.mysql_commands.proofs.Feeding.{goes_on, start_decides}
+use Rattle.mysql_commands.proofs.Feeding.{goes_on, takes_append, short_append, short_longer, start_decides}
 
 kept_pieces : (xs : List (Option (Vec ℕ))) (k : ℕ) → piece_in (pieces_of xs) k ≡ piece_kept xs k
 kept_pieces [] zero = refl
@@ -89,39 +89,93 @@ holds_start pieces sets partial p s h = λ i. record {
   fault = None;
 }
 
--- ---- a piece
+-- memory ran out over a piece
+pub short_by : (c : Conversation) (limit : ℕ) (old : Held) (piece : List ℕ) (new : Held) → new.fault ≡ Some Memory → Fed c limit old piece new → RunsShort c limit old piece new
+short_by c limit old piece new memory fed = record { split = fed.split; is_split = fed.is_split; reads = fed.reads; each = fed.each; sets = fed.sets; count = fed.count; fault = memory }
 
-pub fed_feed : ReaderLaws → (r new : Inside) (v : Received) (piece : List ℕ) (o : Option StreamFault) → received_of r ≡ v → IsKept r → r.fault ≡ None → AreBytes piece → new.fault ≡ o
-    → Fed (conversation_of r.conversation) r.incoming.codec.limit (holds r.progress (partial_of r.incoming) None) piece (holds new.progress (partial_of new.incoming) o)
-    → GoesOn v.conversation v.limit (held_by v) piece (held_by (received_of new))
-fed_feed wire r new v piece o view kept none are is fed =
-    let c = conversation_of r.conversation in
-    let limit = r.incoming.codec.limit in
-    let old : Held = holds r.progress (partial_of r.incoming) None in
-    let after : Held = holds new.progress (partial_of new.incoming) o in
-    let on : GoesOn c limit old piece after = goes_on wire c limit old after piece (bytes_append (partial_of r.incoming) piece (kept.stays none).stays.bytes are) refl fed in
-    let e : held_by (received_of r) ≡ old = held_is r ∙ ap (λ (f : Option StreamFault). holds r.progress (partial_of r.incoming) f) none in
-    let d : held_by (received_of new) ≡ after = held_is new ∙ ap (λ (f : Option StreamFault). holds new.progress (partial_of new.incoming) f) is in
-    subst (λ (x : Received). GoesOn x.conversation x.limit (held_by x) piece (held_by (received_of new))) view
-    (subst (λ (x : Held). GoesOn c limit x piece (held_by (received_of new))) (sym e) (subst (λ (x : Held). GoesOn c limit old piece x) (sym d) on))
+-- ---- an answer, by whether memory ran out
+
+pub memory_or_not : (o : Option StreamFault) → (o ≡ Some Memory) ⊎ (o ≡ Some Memory → ⊥)
+memory_or_not None = inr (λ e. cc)
+memory_or_not (Some Memory) = inl refl
+memory_or_not (Some f) = inr (λ e. cc)
+
+pub unless_by : (o : Option StreamFault) (P : Type 0) → ((o ≡ Some Memory → ⊥) → P) → UnlessMemory (answer_by o) P
+unless_by None P h = h (λ e. cc)
+unless_by (Some Memory) P h = tt
+unless_by (Some f) P h = h (λ e. cc)
+
+pub on_by : (o : Option StreamFault) (P : Type 0) → (o ≡ Some Memory → P) → OnMemory (answer_by o) P
+on_by None P h = tt
+on_by (Some Memory) P h = h refl
+on_by (Some f) P h = tt
+
+unless_is : (o : Option StreamFault) (P : Type 0) → (o ≡ Some Memory → ⊥) → UnlessMemory (answer_by o) P → P
+unless_is None P never h = h
+unless_is (Some Memory) P never h = absurd (never refl)
+unless_is (Some f) P never h = h
+
+on_is : (o : Option StreamFault) (P : Type 0) → o ≡ Some Memory → OnMemory (answer_by o) P → P
+on_is o P e h = subst (λ (x : Option StreamFault). OnMemory (answer_by x) P) e h
+
+-- a fault that is held stays
+pub stays_on : (v : Received) (piece : List ℕ) (f : StreamFault) → v.fault ≡ Some f → UnlessMemory {X = Unit {0}} (Err f) (GoesOn v.conversation v.limit (held_by v) piece (held_by v))
+stays_on v piece f e =
+    unless_by (Some f) (GoesOn v.conversation v.limit (held_by v) piece (held_by v))
+    (λ _ z a more d. subst (λ (o : Option StreamFault). DecidesBy v.conversation v.limit (held_by v) o (piece ++ z) a) (sym e) (subst (λ (o : Option StreamFault). DecidesBy v.conversation v.limit (held_by v) o z a) e d))
+
+-- ---- a piece, by what is held before and after it
+
+module _ (r new : Inside) (v : Received) (piece : List ℕ) (o : Option StreamFault) (view : received_of r ≡ v) (is : new.fault ≡ o) where
+  -- what is held of the two
+  by_views : (P : Conversation → ℕ → Held → Held → Type 0) → r.fault ≡ None
+      → P (conversation_of r.conversation) r.incoming.codec.limit (holds r.progress (partial_of r.incoming) None) (holds new.progress (partial_of new.incoming) o) → P v.conversation v.limit (held_by v) (held_by (received_of new))
+  by_views P none h =
+      let e : held_by (received_of r) ≡ holds r.progress (partial_of r.incoming) None = held_is r ∙ ap (λ (f : Option StreamFault). holds r.progress (partial_of r.incoming) f) none in
+      let d : held_by (received_of new) ≡ holds new.progress (partial_of new.incoming) o = held_is new ∙ ap (λ (f : Option StreamFault). holds new.progress (partial_of new.incoming) f) is in
+      subst (λ (x : Received). P x.conversation x.limit (held_by x) (held_by (received_of new))) view
+      (subst (λ (x : Held). P (conversation_of r.conversation) r.incoming.codec.limit x (held_by (received_of new))) (sym e)
+      (subst (λ (x : Held). P (conversation_of r.conversation) r.incoming.codec.limit (holds r.progress (partial_of r.incoming) None) x) (sym d) h))
+
+  pub fed_feed : ReaderLaws → IsKept r → r.fault ≡ None → AreBytes piece → (o ≡ Some Memory → ⊥)
+      → Fed (conversation_of r.conversation) r.incoming.codec.limit (holds r.progress (partial_of r.incoming) None) piece (holds new.progress (partial_of new.incoming) o)
+      → GoesOn v.conversation v.limit (held_by v) piece (held_by (received_of new))
+  fed_feed wire kept none are no_memory fed =
+      by_views (λ c limit old after. GoesOn c limit old piece after) none
+      (goes_on wire (conversation_of r.conversation) r.incoming.codec.limit (holds r.progress (partial_of r.incoming) None) (holds new.progress (partial_of new.incoming) o) piece
+      (bytes_append (partial_of r.incoming) piece (kept.stays none).stays.bytes are) refl fed no_memory)
+
+  pub fed_short : r.fault ≡ None → o ≡ Some Memory
+      → Fed (conversation_of r.conversation) r.incoming.codec.limit (holds r.progress (partial_of r.incoming) None) piece (holds new.progress (partial_of new.incoming) o)
+      → RunsShort v.conversation v.limit (held_by v) piece (held_by (received_of new))
+  fed_short none memory fed =
+      by_views (λ c limit old after. RunsShort c limit old piece after) none (short_by (conversation_of r.conversation) r.incoming.codec.limit _ piece _ memory fed)
 
 -- a piece without a fault
-pub fed_takes : (r new : Inside) (v : Received) (piece : List ℕ) → received_of r ≡ v
-    → Fed (conversation_of r.conversation) r.incoming.codec.limit (holds r.progress (partial_of r.incoming) None) piece (holds new.progress (partial_of new.incoming) None)
-    → TakesAll v.limit (held_by v) piece (held_by (received_of new))
-fed_takes r new v piece view fed = subst (λ (x : Received). TakesAll x.limit (held_by x) piece (held_by (received_of new))) view (by fed.stands)
+takes_by : (c : Conversation) (limit : ℕ) (old : Held) (piece : List ℕ) (new : Held) → new.fault ≡ None → Fed c limit old piece new → TakesAll c limit old piece new
+takes_by c limit old piece new none fed = by fed.stands
   where
-    by : Stands (conversation_of r.conversation) (holds r.progress (partial_of r.incoming) None) fed.split (length fed.reads) (holds new.progress (partial_of new.incoming) None)
-        → TakesAll r.incoming.codec.limit (held_by (received_of r)) piece (held_by (received_of new))
-    by (inl k) = absurd cc
-    by (inr (inl k)) = absurd cc
+    by : Stands c old fed.split (length fed.reads) new → TakesAll c limit old piece new
+    by (inl k) = absurd (let f = sym none ∙ k.3 in cc)
+    by (inr (inl k)) = absurd (let f = sym none ∙ k in cc)
     by (inr (inr k)) = record {
       split = fed.split;
       is_split = fed.is_split;
-      no_fault = sym k.1;
-      partial = (k.2 refl).0;
-      count = fed.count ∙ ap (λ (n : ℕ). r.progress.count + n) k.0;
+      no_fault = sym k.1 ∙ none;
+      partial = (k.2 none).0;
+      count = fed.count ∙ ap (λ (n : ℕ). old.count + n) k.0;
+      reads = fed.reads;
+      each = fed.each;
+      all = k.0;
+      sets = fed.sets;
+      standing = (k.2 none).1;
     }
+
+pub fed_takes : (r new : Inside) (v : Received) (piece : List ℕ) → received_of r ≡ v → new.fault ≡ None → r.fault ≡ None
+    → Fed (conversation_of r.conversation) r.incoming.codec.limit (holds r.progress (partial_of r.incoming) None) piece (holds new.progress (partial_of new.incoming) None)
+    → TakesAll v.conversation v.limit (held_by v) piece (held_by (received_of new))
+fed_takes r new v piece view is none fed =
+    by_views r new v piece None view is (λ c limit old after. TakesAll c limit old piece after) none (takes_by (conversation_of r.conversation) r.incoming.codec.limit _ piece _ refl fed)
 
 -- ---- the end
 
@@ -163,7 +217,7 @@ decides_now wire c r kept ending is None e =
       [],
       is_split,
       sym (append-nil (sets_of r.progress.sets.items)),
-      inl (record { reads = []; each = record { there = omega arith; each = λ i lt. absurd (omega arith) }; sets = refl; ending = inr (refl, last) }),
+      record { reads = []; each = record { there = omega arith; each = λ i lt. absurd (omega arith) }; sets = refl; ending = inr (refl, last) },
     )
 
 pub finished : ReaderLaws → (r : Inside) (v : Received) (ending : End) → received_of r ≡ v → IsKept r → ending ≡ end_by (conversation_of r.conversation) (holds r.progress [] r.fault) r.incoming.begun r.fault
@@ -186,8 +240,85 @@ pieces_on c limit old mid new front back are p q z a more d =
 pub none_on : (c : Conversation) (limit : ℕ) (held : Held) → GoesOn c limit held [] held
 none_on c limit held z a more d = d
 
-pub all_on : (c : Conversation) (limit : ℕ) (held : Held) (fed : List ℕ) (a : Audit) → GoesOn c limit held_at_start fed held → Decides c limit held [] a → Audited c limit fed a ⊎ OutOfMemory c limit fed a
-all_on c limit held fed a on d = (start_decides c limit fed a).0 (subst (λ (l : List ℕ). Decides c limit held_at_start l a) (append-nil fed) (on [] a no_bytes d))
+-- What is held once some bytes were fed: all payloads were read that stand whole, and bytes to come go on; or a fault,
+-- and where it is want of memory, the sets of the first payloads.
+pub record SoFar (c : Conversation) (limit : ℕ) (fed : List ℕ) (held : Held) : Type 0 where
+  pub bytes : AreBytes fed
+  pub takes : held.fault ≡ None → TakesAll c limit held_at_start fed held
+  pub goes_on : (held.fault ≡ Some Memory → ⊥) → GoesOn c limit held_at_start fed held
+  pub short : held.fault ≡ Some Memory → RunsShort c limit held_at_start fed held
+
+takes_nothing : ReaderLaws → (c : Conversation) (limit : ℕ) → TakesAll c limit held_at_start [] held_at_start
+takes_nothing wire c limit = record {
+  split = record { payloads = []; rest_bytes = []; rest = EmptyRest };
+  is_split = record { joined = refl; within = tt; ends = (wire.rests limit 0).0 };
+  no_fault = refl;
+  partial = refl;
+  count = refl;
+  reads = [];
+  each = record { there = omega arith; each = λ i lt. absurd (omega arith) };
+  all = refl;
+  sets = refl;
+  standing = sym (standing_after_nil c nothing_yet);
+}
+
+pub so_far_nothing : ReaderLaws → (c : Conversation) (limit : ℕ) → SoFar c limit [] held_at_start
+so_far_nothing wire c limit = record {
+  bytes = no_bytes;
+  takes = λ _. takes_nothing wire c limit;
+  goes_on = λ _. none_on c limit held_at_start;
+  short = λ e. absurd cc;
+}
+
+-- What feeding a piece says.
+pub record Feeds (c : Conversation) (limit : ℕ) (old : Held) (piece : List ℕ) (new : Held) : Type 0 where
+  pub goes_on : UnlessMemory (answer_by new.fault) (GoesOn c limit old piece new)
+  pub short : old.fault ≡ None → OnMemory (answer_by new.fault) (RunsShort c limit old piece new)
+  pub takes : new.fault ≡ None → TakesAll c limit old piece new
+  pub stays : (f : StreamFault) → old.fault ≡ Some f → new ≡ old
+
+module _ (wire : ReaderLaws) (c : Conversation) (limit : ℕ) (old new : Held) (front piece : List ℕ) (are : AreBytes piece) (h : SoFar c limit front old) (feeds : Feeds c limit old piece new) where
+  -- no fault is held before it
+  next_going : old.fault ≡ None → SoFar c limit (front ++ piece) new
+  next_going none = record {
+    bytes = bytes_append front piece h.bytes are;
+    takes = λ e. takes_append wire c limit held_at_start old new front piece (h.takes none) (feeds.takes e);
+    goes_on = λ never. pieces_on c limit held_at_start old new front piece are (h.goes_on (λ e. let f = sym none ∙ e in cc)) (unless_is new.fault _ never feeds.goes_on);
+    short = λ e. short_append wire c limit held_at_start old new front piece (h.takes none) (on_is new.fault _ e (feeds.short none));
+  }
+
+  next_faulty : (f : StreamFault) → old.fault ≡ Some f → SoFar c limit (front ++ piece) new
+  next_faulty f some =
+      let same : new ≡ old = feeds.stays f some in record {
+        bytes = bytes_append front piece h.bytes are;
+        takes = λ e. absurd (let g = sym e ∙ ap (λ (x : Held). x.fault) same ∙ some in cc);
+        goes_on = λ never. pieces_on c limit held_at_start old new front piece are (h.goes_on (λ e. never (ap (λ (x : Held). x.fault) same ∙ e))) (unless_is new.fault _ never feeds.goes_on);
+        short = λ e.
+            subst (λ (x : Held). RunsShort c limit held_at_start (front ++ piece) x) (sym same)
+            (short_longer wire c limit held_at_start old front piece h.bytes are (h.short (sym (ap (λ (x : Held). x.fault) same) ∙ e)));
+      }
+
+  so_far_next : SoFar c limit (front ++ piece) new
+  so_far_next = by old.fault refl
+    where
+      by : (o : Option StreamFault) → old.fault ≡ o → SoFar c limit (front ++ piece) new
+      by None e = next_going e
+      by (Some f) e = next_faulty f e
+
+short_audit : (c : Conversation) (limit : ℕ) (held : Held) (fed : List ℕ) (a : Audit) → held.fault ≡ Some Memory → RunsShort c limit held_at_start fed held → Decides c limit held [] a → OutOfMemory c limit fed a
+short_audit c limit held fed a e r d =
+    let k = subst (λ (o : Option StreamFault). DecidesBy c limit held o [] a) e d in
+    (r.split, r.is_split, record { reads = r.reads; each = r.each; sets = k.0 ∙ r.sets; ending = k.1 ∙ ap (λ (n : ℕ). ends.Fault n Memory) r.count })
+
+whole_audit : (c : Conversation) (limit : ℕ) (held : Held) (fed : List ℕ) (a : Audit) → GoesOn c limit held_at_start fed held → Decides c limit held [] a → Audited c limit fed a
+whole_audit c limit held fed a on d = (start_decides c limit fed a).0 (subst (λ (l : List ℕ). Decides c limit held_at_start l a) (append-nil fed) (on [] a no_bytes d))
+
+pub all_on : (c : Conversation) (limit : ℕ) (held : Held) (fed : List ℕ) (a : Audit) → SoFar c limit fed held → Decides c limit held [] a → Audited c limit fed a ⊎ OutOfMemory c limit fed a
+all_on c limit held fed a h d = by (memory_or_not held.fault)
+  where
+    by : (held.fault ≡ Some Memory) ⊎ (held.fault ≡ Some Memory → ⊥) → Audited c limit fed a ⊎ OutOfMemory c limit fed a
+    by (inl e) = inr (short_audit c limit held fed a e (h.short e) d)
+    by (inr never) = inl (whole_audit c limit held fed a (h.goes_on never) d)
 
 -- ---- want of memory
 
@@ -221,16 +352,28 @@ audit_by c limit bytes a (inl h) none = h
 audit_by c limit bytes a (inr h) none = absurd (none (0 + length h.2.reads, h.2.ending))
 
 -- the answer over all pieces
-pub received : (v : Received) (limit : ℕ) (fed all : List ℕ) (a : Audit) → v.limit ≡ limit → fed ≡ all → GoesOn v.conversation v.limit held_at_start fed (held_by v) → Decides v.conversation v.limit (held_by v) [] a
+pub received : (v : Received) (limit : ℕ) (fed all : List ℕ) (a : Audit) → v.limit ≡ limit → fed ≡ all → SoFar v.conversation v.limit fed (held_by v) → Decides v.conversation v.limit (held_by v) [] a
     → Audited v.conversation limit all a ⊎ OutOfMemory v.conversation limit all a
 received v limit fed all a l e on d =
     subst (λ (n : ℕ). Audited v.conversation n all a ⊎ OutOfMemory v.conversation n all a) l
     (subst (λ (bytes : List ℕ). Audited v.conversation v.limit bytes a ⊎ OutOfMemory v.conversation v.limit bytes a) e (all_on v.conversation v.limit (held_by v) fed a on d))
 
+-- what a feed says, as one record
+pub feeds_of : (mid new : Received) (piece : List ℕ) (result : Result (Unit {0}) StreamFault) → result ≡ answer_by new.fault
+    → UnlessMemory result (GoesOn mid.conversation mid.limit (held_by mid) piece (held_by new)) → (mid.fault ≡ None → OnMemory result (RunsShort mid.conversation mid.limit (held_by mid) piece (held_by new)))
+    → OnOk result (TakesAll mid.conversation mid.limit (held_by mid) piece (held_by new)) → IfSome mid.fault (λ fault. (result ≡ Err fault) × (new ≡ mid))
+    → Feeds mid.conversation mid.limit (held_by mid) piece (held_by new)
+feeds_of mid new piece result answer on short takes stays = record {
+  goes_on = subst (λ (r : Result (Unit {0}) StreamFault). UnlessMemory r (GoesOn mid.conversation mid.limit (held_by mid) piece (held_by new))) answer on;
+  short = λ none. subst (λ (r : Result (Unit {0}) StreamFault). OnMemory r (RunsShort mid.conversation mid.limit (held_by mid) piece (held_by new))) answer (short none);
+  takes = λ none. subst (λ (r : Result (Unit {0}) StreamFault). OnOk r (TakesAll mid.conversation mid.limit (held_by mid) piece (held_by new))) (answer ∙ ap answer_by none) takes;
+  stays = λ f e. ap held_by (subst (λ (o : Option StreamFault). IfSome o (λ fault. (result ≡ Err fault) × (new ≡ mid))) e stays).1;
+}
+
 -- one piece more
-pub received_next : (mid new : Received) (front piece next : List ℕ) → new.conversation ≡ mid.conversation → new.limit ≡ mid.limit → AreBytes piece → next ≡ front ++ piece
-    → GoesOn mid.conversation mid.limit held_at_start front (held_by mid) → GoesOn mid.conversation mid.limit (held_by mid) piece (held_by new) → GoesOn new.conversation new.limit held_at_start next (held_by new)
-received_next mid new front piece next c l are e p q =
-    subst (λ (bytes : List ℕ). GoesOn new.conversation new.limit held_at_start bytes (held_by new)) (sym e)
-    (subst (λ (n : ℕ). GoesOn new.conversation n held_at_start (front ++ piece) (held_by new)) (sym l)
-    (subst (λ (k : Conversation). GoesOn k mid.limit held_at_start (front ++ piece) (held_by new)) (sym c) (pieces_on mid.conversation mid.limit held_at_start (held_by mid) (held_by new) front piece are p q)))
+pub received_next : ReaderLaws → (mid new : Received) (front piece next : List ℕ) → new.conversation ≡ mid.conversation → new.limit ≡ mid.limit → AreBytes piece → next ≡ front ++ piece
+    → SoFar mid.conversation mid.limit front (held_by mid) → Feeds mid.conversation mid.limit (held_by mid) piece (held_by new) → SoFar new.conversation new.limit next (held_by new)
+received_next wire mid new front piece next c l are e p q =
+    subst (λ (bytes : List ℕ). SoFar new.conversation new.limit bytes (held_by new)) (sym e)
+    (subst (λ (n : ℕ). SoFar new.conversation n (front ++ piece) (held_by new)) (sym l)
+    (subst (λ (k : Conversation). SoFar k mid.limit (front ++ piece) (held_by new)) (sym c) (so_far_next wire mid.conversation mid.limit (held_by mid) (held_by new) front piece are p q)))

@@ -11,7 +11,7 @@ use Rattle.mysql_wire.specs.Bytes.{AreBytes}
 use Rattle.mysql_wire.specs.Stream.{Rest, Split, IsSplit}
 use Rattle.mysql_wire.specs.Stream.Rest.{Empty as EmptyRest, TooLarge as TooLargeRest, OutOfSync as OutOfSyncRest, Open as OpenRest}
 use Rattle.mysql_wire.specs.Stream.Numbering.{EachFromZero}
-use Rattle.mysql_commands.specs.Audit.{Audit, Audits, Stopped, Read}
+use Rattle.mysql_commands.specs.Audit.{Audit, Audits, Read}
 use Rattle.mysql_commands.specs.declared.audit.End.TheVariants as ends
 
 -- the payloads read, what is in force behind them, the bytes of the packet that isn't whole, the sets so far, the fault
@@ -26,17 +26,13 @@ pub record Held : Type 0 where
 abbrev pub held_at_start : Held
 held_at_start = record { count = 0; standing = nothing_yet; partial = []; sets = []; fault = None }
 
--- the audit, or as much of it as is read before memory runs out
-abbrev pub AnswersFrom : Conversation → Standing → ℕ → List (List ℕ) → Rest → Audit → Type 0
-AnswersFrom c s first payloads rest a = Audits c s first payloads rest a ⊎ Stopped c s first payloads a
-
--- The audit that is decided over the bytes still to come: that of the fault, else the sets so far and the answer, from
+-- The audit that is decided over the bytes still to come: that of the fault, else the sets so far and the audit, from
 -- the standing on, over the open bytes with those to come.
 abbrev pub DecidesBy : Conversation → ℕ → Held → Option StreamFault → List ℕ → Audit → Type 0
 DecidesBy c limit held (Some f) z a = (a.sets ≡ held.sets) × (a.ending ≡ ends.Fault held.count f)
 DecidesBy c limit held None z a =
     (split : Split) × (sets : List Set) × IsSplit limit EachFromZero (held.partial ++ z) split
-    × (a.sets ≡ held.sets ++ sets) × AnswersFrom c held.standing held.count split.payloads split.rest (record { sets = sets; ending = a.ending })
+    × (a.sets ≡ held.sets ++ sets) × Audits c held.standing held.count split.payloads split.rest (record { sets = sets; ending = a.ending })
 
 abbrev pub Decides : Conversation → ℕ → Held → List ℕ → Audit → Type 0
 Decides c limit held z a = DecidesBy c limit held held.fault z a
@@ -70,10 +66,27 @@ pub record Fed (c : Conversation) (limit : ℕ) (old : Held) (piece : List ℕ) 
   pub count : new.count ≡ old.count + length reads
   pub stands : Stands c old split (length reads) new
 
--- Each payload that stands whole in what was held of a packet followed by the piece was read; what is held then is what is left, and no fault.
-pub record TakesAll (limit : ℕ) (old : Held) (piece : List ℕ) (new : Held) : Type 0 where
+-- Each payload that stands whole in what was held of a packet followed by the piece was read; what is held then is their
+-- sets behind those before, what is in force behind them, what is left of the bytes, and no fault.
+pub record TakesAll (c : Conversation) (limit : ℕ) (old : Held) (piece : List ℕ) (new : Held) : Type 0 where
   pub split : Split
   pub is_split : IsSplit limit EachFromZero (old.partial ++ piece) split
   pub no_fault : fault_of_rest split.rest ≡ None
   pub partial : new.partial ≡ split.rest_bytes
   pub count : new.count ≡ old.count + length split.payloads
+  pub reads : List (List Set)
+  pub each : Read c old.standing old.count split.payloads reads
+  pub all : length reads ≡ length split.payloads
+  pub sets : new.sets ≡ old.sets ++ flat_map (λ sets. sets) reads
+  pub standing : new.standing ≡ standing_after c old.standing split.payloads
+
+-- Memory ran out over the piece: what is held then has the sets of the payloads read before and of the first payloads of
+-- what was held of a packet followed by the piece, however many were read, and their number.
+pub record RunsShort (c : Conversation) (limit : ℕ) (old : Held) (piece : List ℕ) (new : Held) : Type 0 where
+  pub split : Split
+  pub is_split : IsSplit limit EachFromZero (old.partial ++ piece) split
+  pub reads : List (List Set)
+  pub each : Read c old.standing old.count split.payloads reads
+  pub sets : new.sets ≡ old.sets ++ flat_map (λ sets. sets) reads
+  pub count : new.count ≡ old.count + length reads
+  pub fault : new.fault ≡ Some Memory

@@ -16,8 +16,9 @@ use Rattle.mysql_wire.specs.Bytes.{AreBytes}
 use Rattle.mysql_wire.specs.Stream.{Rest, StandWhole, framings}
 use Rattle.mysql_wire.specs.Stream.Numbering.{EachFromZero}
 use Rattle.mysql_commands.specs.declared.audit.End.TheVariants.{Whole}
-use Rattle.mysql_commands.specs.Audit.{Audit, Read, Audits, Audited, AuditOf, OutOfMemory, IsNoFault}
-use Rattle.mysql_commands.specs.GoingOn.{Held, held_at_start, Decides, GoesOn, Fed}
+use Rattle.mysql_commands.specs.Audit.{Audit, Read, Audits, Audited, AuditOf, IsNoFault}
+use Rattle.mysql_commands.specs.GoingOn.{Held, held_at_start, Decides, GoesOn, Fed, TakesAll, RunsShort}
+use Rattle.mysql_commands.specs.Receiving.{answer_by, UnlessMemory, OnMemory}
 
 -- what is in force behind two lists of payloads is what is in force behind the second, from the first on
 abbrev pub LookingBackGoesOn : Type 0
@@ -64,23 +65,34 @@ CuttingsAgree =
     (query : List ℕ) (id limit : ℕ) (pieces others : List (List ℕ)) (a b : Audit) → AreBytes (concat pieces) → concat pieces ≡ concat others
     → AuditOf query id limit (concat pieces) a → AuditOf query id limit (concat others) b → a ≡ b
 
--- What a new receiver holds decides the audit of the bytes to come, or as much of it as is read before memory runs out.
+-- What a new receiver holds decides the audit of the bytes to come.
 abbrev pub StartDecidesTheAudit : Type 0
 StartDecidesTheAudit =
     (c : Conversation) (limit : ℕ) (z : List ℕ) (a : Audit)
-    → (Decides c limit held_at_start z a → Audited c limit z a ⊎ OutOfMemory c limit z a) × (Audited c limit z a → Decides c limit held_at_start z a)
+    → (Decides c limit held_at_start z a → Audited c limit z a) × (Audited c limit z a → Decides c limit held_at_start z a)
 
--- What is held after a piece decides, over all bytes still to come, what was decided before it over the piece and them.
+-- What is held after a piece decides, over all bytes still to come, what was decided before it over the piece and them, or
+-- memory ran out over the piece.
 abbrev pub FeedingGoesOn : Type 0
 FeedingGoesOn =
     (c : Conversation) (limit : ℕ) (old new : Held) (piece : List ℕ) → AreBytes (old.partial ++ piece)
-    → old.fault ≡ None → Fed c limit old piece new → GoesOn c limit old piece new
+    → old.fault ≡ None → Fed c limit old piece new
+    → UnlessMemory (answer_by new.fault) (GoesOn c limit old piece new) × OnMemory (answer_by new.fault) (RunsShort c limit old piece new)
 
 -- Pieces one after another are one piece.
 abbrev pub PiecesGoOn : Type 0
 PiecesGoOn =
     (c : Conversation) (limit : ℕ) (old mid new : Held) (front back : List ℕ) → AreBytes back
     → GoesOn c limit old front mid → GoesOn c limit mid back new → GoesOn c limit old (front ++ back) new
+
+-- What was read of pieces one after another was read of one piece. Where memory ran out over a piece, it ran out over the
+-- pieces before, this one and those behind it.
+abbrev pub PiecesAreTaken : Type 0
+PiecesAreTaken =
+    (c : Conversation) (limit : ℕ) (old mid new : Held) (front back : List ℕ)
+    → (TakesAll c limit old front mid → TakesAll c limit mid back new → TakesAll c limit old (front ++ back) new)
+    × (TakesAll c limit old front mid → RunsShort c limit mid back new → RunsShort c limit old (front ++ back) new)
+    × (AreBytes (old.partial ++ front) → AreBytes back → RunsShort c limit old front new → RunsShort c limit old (front ++ back) new)
 
 -- A front of a stream whose payloads all read has no fault, and the sets of exactly those payloads that stand whole in it.
 abbrev pub FrontsReadOn : Type 0

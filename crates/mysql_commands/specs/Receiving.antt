@@ -70,7 +70,17 @@ abbrev pub answer_by : Option StreamFault → Result (Unit {0}) StreamFault
 answer_by None = Ok tt
 answer_by (Some f) = Err f
 
--- memory didn't run out
+-- the fact holds where memory didn't run out
+abbrev pub UnlessMemory : {X : Type 0} → Result X StreamFault → Type 0 → Type 0
+UnlessMemory (Err Memory) P = Unit {0}
+UnlessMemory r P = P
+
+-- the fact holds where memory ran out
+abbrev pub OnMemory : {X : Type 0} → Result X StreamFault → Type 0 → Type 0
+OnMemory (Err Memory) P = P
+OnMemory r P = Unit {0}
+
+-- memory ran out
 abbrev pub IsMemory : End → Type 0
 IsMemory ending = (count : ℕ) × (ending ≡ ends.Fault count Memory)
 

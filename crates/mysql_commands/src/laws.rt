@@ -1,6 +1,6 @@
 //! Laws of the definitions. Each function has an empty body, or calls the laws below: its contract is the law.
 
-ghost use Rattle.mysql_commands.specs.Laws.{AuditGoesOn, CuttingsAgree, EachPayloadIsJudged, FeedingGoesOn, FrontsReadOn, LastWordCounts, LookingBackGoesOn, PiecesGoOn, StartDecidesTheAudit, StreamHasOneAudit, ThereIsOneAudit, WholeStreamsJoin, WrittenCellsAreHeld};
+ghost use Rattle.mysql_commands.specs.Laws.{AuditGoesOn, CuttingsAgree, EachPayloadIsJudged, FeedingGoesOn, FrontsReadOn, LastWordCounts, LookingBackGoesOn, PiecesAreTaken, PiecesGoOn, StartDecidesTheAudit, StreamHasOneAudit, ThereIsOneAudit, WholeStreamsJoin, WrittenCellsAreHeld};
 
 use mysql_values::laws::{cells_read_back, one_reading, texts_are_decided, tokens_of_a_text};
 use mysql_wire::laws::{fronts_split, reader_laws};
@@ -64,7 +64,8 @@ pub fn start_decides_the_audit()
     ensures { StartDecidesTheAudit }
 {}
 
-/// What is held after a piece decides what was decided before it over the piece and the bytes still to come.
+/// What is held after a piece decides what was decided before it over the piece and the bytes still to come, or memory
+/// ran out over the piece.
 pub fn feeding_goes_on()
     ensures { FeedingGoesOn }
 {
@@ -75,6 +76,13 @@ pub fn feeding_goes_on()
 pub fn pieces_go_on()
     ensures { PiecesGoOn }
 {}
+
+/// Pieces that were read one after another were read as one piece, also where memory ran out over the last.
+pub fn pieces_are_taken()
+    ensures { PiecesAreTaken }
+{
+    reader_laws();
+}
 
 /// A stream that is cut off has no fault, and the sets of the payloads that stand whole.
 pub fn fronts_read_on()

@@ -1,13 +1,13 @@
 //! Reading a stream of commands back.
 
-ghost use Rattle.std.specs.Prelude.{◌≡◌, ◌≤◌, ◌⊎◌, [], true, false, Err, IfErr, IfOk, IfSome, OnOk};
+ghost use Rattle.std.specs.Prelude.{◌≡◌, ◌≤◌, ◌⊎◌, [], true, false, None, Err, IfErr, IfOk, IfSome, OnOk};
 ghost use Rattle.mysql_wire.specs.Bytes.{AreBytes};
 ghost use Rattle.mysql_values.specs.Queries.{HasMixed, IsParsed};
 ghost use Rattle.mysql_commands.specs.declared.receiver.ReceiverError.TheVariants as receiver_error;
 ghost use Rattle.mysql_commands.specs.Query.{IsQuery};
 ghost use Rattle.mysql_commands.specs.Audit.{IsAbout};
-ghost use Rattle.mysql_commands.specs.GoingOn.{GoesOn, Decides, TakesAll, held_at_start};
-ghost use Rattle.mysql_commands.specs.Receiving.{answer_by, audit_of, end_by, fault_from, holds};
+ghost use Rattle.mysql_commands.specs.GoingOn.{GoesOn, Decides, RunsShort, TakesAll, held_at_start};
+ghost use Rattle.mysql_commands.specs.Receiving.{OnMemory, UnlessMemory, answer_by, audit_of, end_by, fault_from, holds};
 ghost use Rattle.mysql_commands.specs.Received.{held_by};
 ghost use Rattle.mysql_commands.specs.Views.{conversation_of};
 
@@ -198,13 +198,14 @@ impl Receiver {
     ///
     /// # Errors
     /// The first fault of the stream, [`StreamFault::Memory`] where a growth was refused. From then on each call answers
-    /// that fault and changes nothing.
+    /// that fault and changes nothing. Where memory ran out, what was read of the payloads before stays.
     ///
     /// Follows the MySQL Client/Server Protocol, "MySQL Packets" and "Command Phase".
     pub fn feed(&mut self, piece: &[u8]) -> Result<(), StreamFault>
-        ensures goes_on { GoesOn self.old.conversation self.old.limit (held_by self.old) piece.now (held_by self.new) }
-        ensures takes { OnOk result (TakesAll self.old.limit (held_by self.old) piece.now (held_by self.new)) }
-        ensures after_fault { IfSome self.old.fault (λ fault. (result ≡ Err fault) × (self.new ≡ self.old)) }
+        ensures goes_on { UnlessMemory result (GoesOn self.old.conversation self.old.limit (held_by self.old) piece.now (held_by self.new)) }
+        ensures short { self.old.fault ≡ None → OnMemory result (RunsShort self.old.conversation self.old.limit (held_by self.old) piece.now (held_by self.new)) }
+        ensures takes { OnOk result (TakesAll self.old.conversation self.old.limit (held_by self.old) piece.now (held_by self.new)) }
+        ensures stays { IfSome self.old.fault (λ fault. (result ≡ Err fault) × (self.new ≡ self.old)) }
         ensures answer { result ≡ answer_by self.new.fault }
         ensures bytes { OnOk result (AreBytes self.new.partial) }
         ensures conversation { self.new.conversation ≡ self.old.conversation }

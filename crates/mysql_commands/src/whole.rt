@@ -9,6 +9,7 @@ ghost use Rattle.mysql_commands.specs.Receiving.{IsMemory, audit_of};
 
 use crate::audit::Audit;
 use crate::receiver::{Receiver, ReceiverError};
+use mysql_wire::laws::reader_laws;
 use std::alloc::Global;
 
 /// A slice holds bytes: a fact that the proof below uses.
@@ -38,6 +39,7 @@ pub fn receive(
     ensures one_kind { OnOk result (HasMixed query.now false) }
     ensures mixed { IfErr result (λ e. (e ≡ receiver_error.Memory) ⊎ ((e ≡ receiver_error.Mixed) × HasMixed query.now true)) }
 {
+    reader_laws();
     let mut receiver = Receiver::new(alloc, query, stmt_id, limit)?;
     'pieces: for piece in pieces {
         are_bytes(piece);

@@ -2,7 +2,7 @@
 
 ghost use Rattle.std.specs.Prelude.{◌≡◌, IfOk, refl};
 ghost use Rattle.std.proofs.Common.{lit<};
-ghost use Rattle.mysql_wire.specs.Wire.{GivesPart};
+ghost use Rattle.mysql_wire.specs.Wire.{Gives, GivesPart};
 ghost use Rattle.mysql_packets.specs.Packets.{catalog, column_at, column_fields_at, column_names_at, column_with};
 ghost use Rattle.mysql_packets.specs.Views.{column_view, fields_view, names_view};
 
@@ -200,16 +200,19 @@ fn copied(alloc: Global, names: &Names, fields: FixedFields) -> Result<Column, A
 }
 
 /// A column packet. Refuses, from the left, UnexpectedEof, BadConstant for another catalog than `def` or another length
-/// of the fixed fields than 12, UnknownValue for a type without a name, and Memory.
+/// of the fixed fields than 12, UnknownValue for a type without a name, and Memory; all bytes are then left.
 ///
 /// MySQL: Client/Server Protocol, "Column Definition".
 #[tactic(auto, unfolding(crate::specs::Packets::column_at))]
 pub fn column_of(alloc: Global, buf: &mut ParseBuf) -> Result<Column, WireError>
-    ensures { GivesPart column_view buf.new.0.now result (column_at buf.old.0.now) }
+    ensures { Gives column_view buf.old.0.now buf.new.0.now result (column_at buf.old.0.now) }
 {
-    buf.parse::<ConstBytes<ColumnDefinitionCatalog, 4>>(alloc, ())?;
-    let names = names_of(buf)?;
-    let mut block = buf.parse::<ParseBuf>(alloc, 13)?;
+    let mut rest = *buf;
+    rest.parse::<ConstBytes<ColumnDefinitionCatalog, 4>>(alloc, ())?;
+    let names = names_of(&mut rest)?;
+    let mut block = rest.parse::<ParseBuf>(alloc, 13)?;
     let fields = fixed_fields_of(alloc, &mut block)?;
-    Ok(copied(alloc, &names, fields)?)
+    let column = copied(alloc, &names, fields)?;
+    *buf = rest;
+    Ok(column)
 }

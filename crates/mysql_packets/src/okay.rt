@@ -1,7 +1,7 @@
 //! OK packets.
 
 ghost use Rattle.std.specs.Prelude.{◌≡◌, IfOk, option_map};
-ghost use Rattle.mysql_wire.specs.Wire.{GivesPart};
+ghost use Rattle.mysql_wire.specs.Wire.{Gives, GivesPart};
 ghost use Rattle.mysql_packets.specs.Packets.{unless_empty, session_track, more_results_exist, session_state_changed, info_at, unless_zero, status_and_info_at, okay_at, result_set_terminator_at, old_eof_at};
 ghost use Rattle.mysql_packets.specs.Views.{bytes_view, okay_view};
 
@@ -175,7 +175,7 @@ fn status_and_info_of(
 }
 
 /// An OK packet at the front of the bytes. Refuses UnexpectedEof, BadConstant for another first
-/// byte than 00, UnknownValue for a status bit without a name, and Memory.
+/// byte than 00, UnknownValue for a status bit without a name, and Memory; all bytes are then left.
 ///
 /// MySQL: Client/Server Protocol, "OK_Packet".
 #[tactic(auto, unfolding(crate::specs::Packets::okay_at))]
@@ -184,12 +184,15 @@ pub fn okay_of(
     capabilities: CapabilityFlags,
     buf: &mut ParseBuf,
 ) -> Result<OkPacket, WireError>
-    ensures { GivesPart okay_view buf.new.0.now result (okay_at capabilities.0 buf.old.0.now) }
+    ensures { Gives okay_view buf.old.0.now buf.new.0.now result (okay_at capabilities.0 buf.old.0.now) }
 {
-    buf.parse::<ConstU8<InvalidOkPacketHeader, 0>>(alloc, ())?;
-    let affected = buf.parse::<RawInt<LenEnc>>(alloc, ())?;
-    let id = buf.parse::<RawInt<LenEnc>>(alloc, ())?;
-    status_and_info_of(alloc, capabilities, affected.0, id.0, buf)
+    let mut rest = *buf;
+    rest.parse::<ConstU8<InvalidOkPacketHeader, 0>>(alloc, ())?;
+    let affected = rest.parse::<RawInt<LenEnc>>(alloc, ())?;
+    let id = rest.parse::<RawInt<LenEnc>>(alloc, ())?;
+    let packet = status_and_info_of(alloc, capabilities, affected.0, id.0, &mut rest)?;
+    *buf = rest;
+    Ok(packet)
 }
 
 /// The OK packet that ends a result set: it begins with fe, and its two numbers are passed over. Refuses as `okay_of`.
@@ -201,12 +204,15 @@ pub fn result_set_terminator_of(
     capabilities: CapabilityFlags,
     buf: &mut ParseBuf,
 ) -> Result<OkPacket, WireError>
-    ensures { GivesPart okay_view buf.new.0.now result (result_set_terminator_at capabilities.0 buf.old.0.now) }
+    ensures { Gives okay_view buf.old.0.now buf.new.0.now result (result_set_terminator_at capabilities.0 buf.old.0.now) }
 {
-    buf.parse::<ConstU8<InvalidOkPacketHeader, 254>>(alloc, ())?;
-    buf.parse::<RawInt<LenEnc>>(alloc, ())?;
-    buf.parse::<RawInt<LenEnc>>(alloc, ())?;
-    status_and_info_of(alloc, capabilities, 0, 0, buf)
+    let mut rest = *buf;
+    rest.parse::<ConstU8<InvalidOkPacketHeader, 254>>(alloc, ())?;
+    rest.parse::<RawInt<LenEnc>>(alloc, ())?;
+    rest.parse::<RawInt<LenEnc>>(alloc, ())?;
+    let packet = status_and_info_of(alloc, capabilities, 0, 0, &mut rest)?;
+    *buf = rest;
+    Ok(packet)
 }
 
 /// The EOF packet that ends columns or rows: fe, warnings and status. Refuses as `okay_of`.
@@ -214,12 +220,14 @@ pub fn result_set_terminator_of(
 /// MySQL: Client/Server Protocol, "EOF_Packet".
 #[tactic(auto, unfolding(crate::specs::Packets::old_eof_at))]
 pub fn old_eof_of(alloc: Global, buf: &mut ParseBuf) -> Result<OkPacket, WireError>
-    ensures { GivesPart okay_view buf.new.0.now result (old_eof_at buf.old.0.now) }
+    ensures { Gives okay_view buf.old.0.now buf.new.0.now result (old_eof_at buf.old.0.now) }
 {
-    buf.parse::<ConstU8<InvalidOkPacketHeader, 254>>(alloc, ())?;
-    let mut block = buf.parse::<ParseBuf>(alloc, 4)?;
+    let mut rest = *buf;
+    rest.parse::<ConstU8<InvalidOkPacketHeader, 254>>(alloc, ())?;
+    let mut block = rest.parse::<ParseBuf>(alloc, 4)?;
     let warnings = block.parse::<RawInt<LeU16>>(alloc, ())?;
     let status = block.parse::<Const<StatusFlags, LeU16>>(alloc, ())?;
+    *buf = rest;
     Ok(OkPacket {
         affected_rows: 0,
         last_insert_id: None,

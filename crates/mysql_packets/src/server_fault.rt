@@ -1,7 +1,7 @@
 //! Error packets and progress reports.
 
 ghost use Rattle.std.specs.Prelude.{◌≡◌, List, Ok, option_map};
-ghost use Rattle.mysql_wire.specs.Wire.{GivesPart};
+ghost use Rattle.mysql_wire.specs.Wire.{Gives};
 ghost use Rattle.mysql_packets.specs.Packets.{protocol_41, server_fault_at, report_at};
 ghost use Rattle.mysql_packets.specs.Views.{server_fault_view, report_view};
 
@@ -104,7 +104,7 @@ fn speaks_protocol_41(capabilities: CapabilityFlags) -> bool
 }
 
 /// An error packet: ff, its code, with PROTOCOL_41 `#` and five bytes of state, and the message to the end.
-/// Refuses UnexpectedEof, BadConstant for another first byte or marker, and Memory.
+/// Refuses UnexpectedEof, BadConstant for another first byte or marker, and Memory; all bytes are then left.
 ///
 /// MySQL: Client/Server Protocol, "ERR_Packet".
 #[tactic(auto, unfolding(crate::specs::Packets::server_fault_at))]
@@ -113,19 +113,21 @@ pub fn server_error_of(
     capabilities: CapabilityFlags,
     buf: &mut ParseBuf,
 ) -> Result<ServerError, WireError>
-    ensures { GivesPart server_fault_view buf.new.0.now result (server_fault_at capabilities.0 buf.old.0.now) }
+    ensures { Gives server_fault_view buf.old.0.now buf.new.0.now result (server_fault_at capabilities.0 buf.old.0.now) }
 {
-    let mut block = buf.parse::<ParseBuf>(alloc, 3)?;
+    let mut rest = *buf;
+    let mut block = rest.parse::<ParseBuf>(alloc, 3)?;
     block.parse::<ConstU8<ErrPacketHeader, 255>>(alloc, ())?;
     let code = block.parse::<RawInt<LeU16>>(alloc, ())?;
     let state = if speaks_protocol_41(capabilities) {
-        buf.parse::<ConstU8<SqlStateMarker, 35>>(alloc, ())?;
-        let state = buf.parse::<&[u8]>(alloc, 5)?;
+        rest.parse::<ConstU8<SqlStateMarker, 35>>(alloc, ())?;
+        let state = rest.parse::<&[u8]>(alloc, 5)?;
         Some(Vec::from_slice(alloc, state)?)
     } else {
         None
     };
-    let message = Vec::from_slice(alloc, buf.eat_all())?;
+    let message = Vec::from_slice(alloc, rest.eat_all())?;
+    *buf = rest;
     Ok(ServerError {
         code: code.0,
         state,
@@ -134,24 +136,27 @@ pub fn server_error_of(
 }
 
 /// A progress report, whose first three bytes are ff ff ff: a count that is passed over, stage, number of stages,
-/// progress in three bytes, and the stage's name. Refuses UnexpectedEof and Memory.
+/// progress in three bytes, and the stage's name. Refuses UnexpectedEof and Memory; all bytes are then left.
 ///
 /// MariaDB: Client/Server Protocol, "ERR_Packet", 'Progress report'.
 #[tactic(auto, unfolding(crate::specs::Packets::report_at))]
 pub fn report_of(alloc: Global, buf: &mut ParseBuf) -> Result<ProgressReport, WireError>
-    ensures { GivesPart report_view buf.new.0.now result (report_at buf.old.0.now) }
+    ensures { Gives report_view buf.old.0.now buf.new.0.now result (report_at buf.old.0.now) }
 {
-    buf.parse::<&[u8]>(alloc, 3)?;
-    let mut block = buf.parse::<ParseBuf>(alloc, 6)?;
+    let mut rest = *buf;
+    rest.parse::<&[u8]>(alloc, 3)?;
+    let mut block = rest.parse::<ParseBuf>(alloc, 6)?;
     block.parse::<RawInt<u8>>(alloc, ())?;
     let stage = block.parse::<RawInt<u8>>(alloc, ())?;
     let max_stage = block.parse::<RawInt<u8>>(alloc, ())?;
     let progress = block.parse::<RawInt<LeU24>>(alloc, ())?;
-    let info = text_of(buf)?;
+    let info = text_of(&mut rest)?;
+    let stage_info = Vec::from_slice(alloc, info)?;
+    *buf = rest;
     Ok(ProgressReport {
         stage: stage.0,
         max_stage: max_stage.0,
         progress: progress.0,
-        stage_info: Vec::from_slice(alloc, info)?,
+        stage_info,
     })
 }

@@ -1,7 +1,7 @@
 //! Statement packets.
 
 ghost use Rattle.std.specs.Prelude.{◌≡◌, List, Ok};
-ghost use Rattle.mysql_wire.specs.Wire.{GivesPart};
+ghost use Rattle.mysql_wire.specs.Wire.{Gives, GivesPart};
 ghost use Rattle.mysql_packets.specs.Packets.{statement_at, statement_fields_at};
 ghost use Rattle.mysql_packets.specs.Views.{statement_view};
 
@@ -72,15 +72,18 @@ fn statement_fields(alloc: Global, buf: &mut ParseBuf) -> Result<StmtPacket, Wir
 }
 
 /// A statement packet at the front of the bytes. Refuses UnexpectedEof below twelve bytes, then BadConstant for another
-/// first byte than 00.
+/// first byte than 00; all bytes are then left.
 ///
 /// MySQL: Client/Server Protocol, "COM_STMT_PREPARE Response".
 #[tactic(auto, unfolding(crate::specs::Packets::statement_at))]
 pub fn statement_of(alloc: Global, buf: &mut ParseBuf) -> Result<StmtPacket, WireError>
-    ensures { GivesPart statement_view buf.new.0.now result (statement_at buf.old.0.now) }
+    ensures { Gives statement_view buf.old.0.now buf.new.0.now result (statement_at buf.old.0.now) }
 {
     if buf.len() < 12 {
         return Err(WireError::UnexpectedEof);
     }
-    statement_fields(alloc, buf)
+    let mut rest = *buf;
+    let packet = statement_fields(alloc, &mut rest)?;
+    *buf = rest;
+    Ok(packet)
 }

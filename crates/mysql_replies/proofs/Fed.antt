@@ -102,6 +102,7 @@ next_short c first_id limit fed piece old answer f r = record {
   };
   whole = r.whole;
   reply = fresh_decides c (numbered 0 (f.payloads ++ r.read)) (after_numbered 0 (f.payloads ++ r.read) stream.Open) r.whole (f.goes_on r.read stream.Open r.whole r.decided);
+  unfinished = r.unfinished;
   results = r.results;
   progress = r.progress;
   end = r.end ∙ ap (λ n. FaultAt n faults.Memory) (omega (arith, f.count, length-append f.payloads r.read));
@@ -117,6 +118,7 @@ short_grows c first_id limit fed piece answer s = record {
   };
   whole = s.whole;
   reply = s.reply;
+  unfinished = s.unfinished;
   results = s.results;
   progress = s.progress;
   end = s.end;

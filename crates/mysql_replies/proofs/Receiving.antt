@@ -22,7 +22,7 @@ use Rattle.mysql_replies.specs.declared.fault.ReplyFault.{ReplyFault}
 use Rattle.mysql_replies.specs.declared.fault.ReplyFault.TheVariants as faults
 use Rattle.mysql_replies.specs.declared.state.ReplyState.{ReplyState}
 use Rattle.mysql_replies.specs.Grammar.{Payload, Ended, Results, last}
-use Rattle.mysql_replies.specs.Reply.{Answer, FaultAt, reports, before_end, end_of, rest_of, Standing, GoingOn, Answered, Progressing, Continues}
+use Rattle.mysql_replies.specs.Reply.{Answer, FaultAt, Unfinished, reports, before_end, end_of, rest_of, Standing, GoingOn, Answered, Progressing, Continues}
 use Rattle.mysql_replies.specs.Reply as reply
 use Rattle.mysql_replies.specs.Bytes.{numbers_left, numbered, after_numbered, DecidesNumbered}
 use Rattle.mysql_replies.specs.Holding.{Held, SplitDecides, DecidesFrom, DecidesOver, GoesOnOver, TakesAll, RunsShort, StandsShort, count_of, fault_of}
@@ -214,9 +214,14 @@ goes_on_wrong_number laws start s after first codec new from_src from_dst src ds
     (decides_more laws (standing_of start) first.limit (packet_number first from_dst) (held first from_src from_dst) payloads s codec src dst r more (record { payloads = []; rest_bytes = held codec src dst ++ more; rest = OutOfSync }) ((laws.refused codec src dst more).1 due) answer
     (decides_refused s OutOfSync faults.OutOfSync answer going settled (end_wrong_number s.count (awaited_view s.awaited) some) known))
 
+-- A reply that goes on is unfinished.
+unfinished_at : (count : ℕ) (awaited : reply.Awaited) → IsAwaiting awaited → end_of count stream.Open (ending_at awaited) ≡ Unfinished
+unfinished_at count reply.Nothing awaiting = absurd awaiting
+unfinished_at count awaited awaiting = refl
+
 -- Memory ran out after some payloads.
-pub runs_short : (start s : ReplyState) (first codec : Codec) (from_src from_dst src dst : List ℕ) (payloads : List Payload) → Since start first from_src from_dst payloads s codec src dst → start.fault ≡ None → s.fault ≡ None → s.count ≡ start.count + length payloads → IsSettled s.context (awaited_view s.awaited) → RunsShort (held_of start first from_src from_dst) (held first from_src from_dst) (faulted_at (progressing_of s) faults.Memory)
-runs_short start s first codec from_src from_dst src dst payloads r began going count settled =
+pub runs_short : (start s : ReplyState) (first codec : Codec) (from_src from_dst src dst : List ℕ) (payloads : List Payload) → Since start first from_src from_dst payloads s codec src dst → start.fault ≡ None → s.fault ≡ None → s.count ≡ start.count + length payloads → IsSettled s.context (awaited_view s.awaited) → IsAwaiting (awaited_view s.awaited) → RunsShort (held_of start first from_src from_dst) (held first from_src from_dst) (faulted_at (progressing_of s) faults.Memory)
+runs_short start s first codec from_src from_dst src dst payloads r began going count settled awaiting =
     let whole : Answer = record (faulted_at (progressing_of s) faults.Memory) { end = end_of s.count stream.Open (ending_at (awaited_view s.awaited)) } in
     let decided : DecidesNumbered (standing_of s) [] stream.Open whole = subst (λ f. DecidesNumbered (faulted (progressing_of s) f) [] stream.Open whole) (sym going)
     (decides_none (GoingOn (progressing_of s)) stream.Open whole (stops s stream.Open whole settled refl refl refl)) in
@@ -225,6 +230,7 @@ runs_short start s first codec from_src from_dst src dst payloads r began going 
       first = record { more = held codec src dst; joined = r.read.joined; within = r.read.within };
       whole = whole;
       decided = subst (λ ps. DecidesNumbered (standing_of start) ps stream.Open whole) (append-nil payloads) (r.goes_on [] stream.Open whole decided);
+      unfinished = unfinished_at s.count (awaited_view s.awaited) awaiting;
       results = refl;
       progress = refl;
       end = ap (λ n. FaultAt n faults.Memory) (count ∙ ap (λ f. count_of (faulted (progressing_of start) f) + length payloads) (sym began));
@@ -363,19 +369,19 @@ refused_goes_on laws start s after first codec new from_src from_dst src dst src
 refused_goes_on laws start s after first codec new from_src from_dst src dst src' dst' refusals.Memory fault t began some e is due =
     subst (λ f. UnlessMemory {X = Unit {0}} (Err f) (GoesOnOver (held_of start first from_src from_dst) [] (held_of after new src' dst'))) (sym e) tt
 
-taking_short : (start s : ReplyState) (first codec : Codec) (from_src from_dst src dst : List ℕ) → Taking start first from_src from_dst s codec src dst → start.fault ≡ None → RunsShort (held_of start first from_src from_dst) (held first from_src from_dst) (faulted_at (progressing_of s) faults.Memory)
-taking_short start s first codec from_src from_dst src dst t began = runs_short start s first codec from_src from_dst src dst t.payloads t.received began t.going t.count t.reading.settled
+taking_short : (start s : ReplyState) (first codec : Codec) (from_src from_dst src dst : List ℕ) → Taking start first from_src from_dst s codec src dst → start.fault ≡ None → IsAwaiting (awaited_view s.awaited) → RunsShort (held_of start first from_src from_dst) (held first from_src from_dst) (faulted_at (progressing_of s) faults.Memory)
+taking_short start s first codec from_src from_dst src dst t began awaiting = runs_short start s first codec from_src from_dst src dst t.payloads t.received began t.going t.count t.reading.settled awaiting
 
-pub failed_short : (start s after : ReplyState) (first codec new : Codec) (from_src from_dst src dst src' dst' : List ℕ) (fault : ReplyFault) → Taking start first from_src from_dst s codec src dst → start.fault ≡ None → after ≡ record s { fault = Some fault } → OnMemory {X = Unit {0}} (Err fault) (StandsShort (held_of start first from_src from_dst) (held first from_src from_dst) (held_of after new src' dst'))
-failed_short start s after first codec new from_src from_dst src dst src' dst' faults.Memory t began is =
-    (faulted_at (progressing_of s) faults.Memory, ap standing_of is, taking_short start s first codec from_src from_dst src dst t began)
-failed_short start s after first codec new from_src from_dst src dst src' dst' fault t began is = tt
+pub failed_short : (start s after : ReplyState) (first codec new : Codec) (from_src from_dst src dst src' dst' : List ℕ) (fault : ReplyFault) → Taking start first from_src from_dst s codec src dst → start.fault ≡ None → IsAwaiting (awaited_view s.awaited) → after ≡ record s { fault = Some fault } → OnMemory {X = Unit {0}} (Err fault) (StandsShort (held_of start first from_src from_dst) (held first from_src from_dst) (held_of after new src' dst'))
+failed_short start s after first codec new from_src from_dst src dst src' dst' faults.Memory t began awaiting is =
+    (faulted_at (progressing_of s) faults.Memory, ap standing_of is, taking_short start s first codec from_src from_dst src dst t began awaiting)
+failed_short start s after first codec new from_src from_dst src dst src' dst' fault t began awaiting is = tt
 
-pub taken_short : (start s after : ReplyState) (first codec new : Codec) (from_src from_dst src dst src' dst' : List ℕ) (r : Result Unit ReplyFault) → Taking start first from_src from_dst s codec src dst → start.fault ≡ None → OnMemory r (IsShortOf s after) → OnMemory r (StandsShort (held_of start first from_src from_dst) (held first from_src from_dst) (held_of after new src' dst'))
-taken_short start s after first codec new from_src from_dst src dst src' dst' (Ok x) t began short = tt
-taken_short start s after first codec new from_src from_dst src dst src' dst' (Err faults.Memory) t began short =
-    (faulted_at (progressing_of s) faults.Memory, short, taking_short start s first codec from_src from_dst src dst t began)
-taken_short start s after first codec new from_src from_dst src dst src' dst' (Err fault) t began short = tt
+pub taken_short : (start s after : ReplyState) (first codec new : Codec) (from_src from_dst src dst src' dst' : List ℕ) (r : Result Unit ReplyFault) → Taking start first from_src from_dst s codec src dst → start.fault ≡ None → IsAwaiting (awaited_view s.awaited) → OnMemory r (IsShortOf s after) → OnMemory r (StandsShort (held_of start first from_src from_dst) (held first from_src from_dst) (held_of after new src' dst'))
+taken_short start s after first codec new from_src from_dst src dst src' dst' (Ok x) t began awaiting short = tt
+taken_short start s after first codec new from_src from_dst src dst src' dst' (Err faults.Memory) t began awaiting short =
+    (faulted_at (progressing_of s) faults.Memory, short, taking_short start s first codec from_src from_dst src dst t began awaiting)
+taken_short start s after first codec new from_src from_dst src dst src' dst' (Err fault) t began awaiting short = tt
 
 -- A payload was refused.
 pub taken_goes_on : FramingLaws → (start s next : ReplyState) (first codec new : Codec) (from_src from_dst src dst src' dst' payload : List ℕ) (r : Result Unit ReplyFault) → is_err r ≡ true → Taking start first from_src from_dst s codec src dst → start.fault ≡ None → HandsOut codec src dst new src' payload → dst' ≡ [] → IfErr r (λ fault. next.fault ≡ Some fault) → UnlessMemory r (GoesOverNumbered s payload next) → UnlessMemory r (GoesOnOver (held_of start first from_src from_dst) [] (held_of next new src' dst'))
@@ -499,6 +505,7 @@ piece_short laws s codec src src' dst piece faults.Memory here there fed same (a
     first = subst (λ bytes. StandFirst codec.limit (OnFrom (packet_number codec dst)) bytes short.read) (ap (λ k. held codec k dst) fed ∙ laws.piece codec src dst piece) short.first;
     whole = short.whole;
     decided = short.decided;
+    unfinished = short.unfinished;
     results = short.results;
     progress = short.progress;
     end = short.end;

@@ -11,7 +11,7 @@ use Rattle.mysql_wire.specs.Stream.Rest.{TooLarge}
 use Rattle.mysql_replies.specs.declared.context.Context.{Context}
 use Rattle.mysql_replies.specs.declared.fault.ReplyFault.TheVariants.{Memory}
 use Rattle.mysql_replies.specs.Grammar.{Payload}
-use Rattle.mysql_replies.specs.Reply.{Answer, FaultAt, IsReply, Standing, GoingOn, Answered, Continues}
+use Rattle.mysql_replies.specs.Reply.{Answer, FaultAt, Unfinished, IsReply, Standing, GoingOn, Answered, Continues}
 
 -- How many more payloads can be numbered after so many: numbers are below 2^64 - 1.
 abbrev pub numbers_left : ℕ → ℕ
@@ -32,12 +32,13 @@ pub record IsReplyOf (c : Context) (first_id limit : ℕ) (bytes : List ℕ) (an
   pub reply : IsReply c (numbered 0 split.payloads) (after_numbered 0 split.payloads split.rest) answer
 
 -- The answer where memory ran out: the results and the reports of the first payloads of the bytes, however many
--- were read, and their number.
+-- were read, and their number. Each of them has its place, and the reply goes on behind them.
 pub record IsShortReplyOf (c : Context) (first_id limit : ℕ) (bytes : List ℕ) (answer : Answer) : Type 0 where
   pub read : List Payload
   pub first : StandFirst limit (OnFrom first_id) bytes read
   pub whole : Answer
   pub reply : IsReply c (numbered 0 read) (after_numbered 0 read stream.Open) whole
+  pub unfinished : whole.end ≡ Unfinished
   pub results : answer.results ≡ whole.results
   pub progress : answer.progress ≡ whole.progress
   pub end : answer.end ≡ FaultAt (length read) Memory

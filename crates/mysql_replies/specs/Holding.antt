@@ -10,7 +10,7 @@ use Rattle.mysql_replies.specs.declared.context.Context.{Context}
 use Rattle.mysql_replies.specs.declared.fault.ReplyFault.{ReplyFault}
 use Rattle.mysql_replies.specs.declared.fault.ReplyFault.TheVariants.{Memory}
 use Rattle.mysql_replies.specs.Grammar.{Payload}
-use Rattle.mysql_replies.specs.Reply.{Answer, End, FaultAt, Standing, GoingOn, Answered, fresh}
+use Rattle.mysql_replies.specs.Reply.{Answer, End, FaultAt, Unfinished, Standing, GoingOn, Answered, fresh}
 use Rattle.mysql_replies.specs.Bytes.{DecidesNumbered, IsReplyOf}
 
 -- What is held: what stands of the reply, and the bytes of the packet that hasn't come whole, with the number of
@@ -75,12 +75,14 @@ pub record TakesAll (old : Held) (bytes : List ℕ) (new : Held) : Type 0 where
       DecidesNumbered new.standing payloads rest answer → DecidesNumbered old.standing (split.payloads ++ payloads) rest answer
 
 -- Memory ran out over these bytes: the answer has the results and the reports of the payloads read before and of the
--- first payloads of the bytes, however many were read, and their number.
+-- first payloads of the bytes, however many were read, and their number. Each of them has its place, and the reply goes on
+-- behind them.
 pub record RunsShort (old : Held) (bytes : List ℕ) (answer : Answer) : Type 0 where
   pub read : List Payload
   pub first : StandFirst old.limit (OnFrom old.number) bytes read
   pub whole : Answer
   pub decided : DecidesNumbered old.standing read stream.Open whole
+  pub unfinished : whole.end ≡ Unfinished
   pub results : answer.results ≡ whole.results
   pub progress : answer.progress ≡ whole.progress
   pub end : answer.end ≡ FaultAt (count_of old.standing + length read) Memory

@@ -127,7 +127,7 @@ impl ReplyReader {
 
     /// Reads the next bytes. Answers the fault of the first payload that has no place, or of the bytes after the payloads;
     /// from then on it answers that fault and changes nothing. Where memory ran out it answers Memory from then on, and
-    /// what was read of the payloads before stays.
+    /// what was read of the payloads before stays: each of them has its place in a reply that goes on behind them.
     pub fn feed(&mut self, piece: &[u8]) -> Result<(), ReplyFault>
         ensures stays { IfSome (fault_of self.old.standing) (λ fault. (result ≡ Err fault) × (self.new ≡ self.old)) }
         ensures going { OnOk result (fault_of self.new.standing ≡ None) }

@@ -3,8 +3,15 @@ use Rattle.std.specs.List.{flat_map}
 use Rattle.std.proofs.lemmas.List.{take_all}
 use Rattle.mysql_commands.specs.Audit.{IsAbout}
 use Rattle.mysql_commands.specs.Receiving.{audit_of}
-use Rattle.mysql_commands.proofs.Receiving.{pieces_more, received, received_next, audit_by, memory_of}
+use Rattle.mysql_commands.proofs.Receiving.{SoFar, so_far_nothing, pieces_more, feeds_of, received, received_next, audit_by, memory_of}
 use Rattle.mysql_commands.proofs.whole.receive.Goals as goal
+
+pub pieces-init : goal.pieces-init
+pieces-init c = record {
+  about = c.in_ok-receiver.ensures.about;
+  limit = c.in_ok-receiver.ensures.limit;
+  so_far = subst (λ h. SoFar c.in_ok-receiver.receiver.conversation c.in_ok-receiver.receiver.limit [] h) (sym c.in_ok-receiver.ensures.held) (so_far_nothing c.reader_laws.ensures _ _);
+}
 
 pub pieces-preserved : goal.pieces-preserved
 pieces-preserved c =
@@ -14,10 +21,10 @@ pieces-preserved c =
     record {
       about = subst (λ k. IsAbout k c.args.query.now c.args.stmt_id) (sym c.feed-answer.ensures.conversation) inv.about;
       limit = c.feed-answer.ensures.limit ∙ inv.limit;
-      on = received_next mid new (flat_map (λ piece. piece.now) (take c.pieces.piece-index c.args.pieces.now)) _ (flat_map (λ piece. piece.now) (take (c.pieces.piece-index + 1) c.args.pieces.now))
+      so_far = received_next c.reader_laws.ensures mid new (flat_map (λ piece. piece.now) (take c.pieces.piece-index c.args.pieces.now)) _ (flat_map (λ piece. piece.now) (take (c.pieces.piece-index + 1) c.args.pieces.now))
           c.feed-answer.ensures.conversation c.feed-answer.ensures.limit c.are_bytes.ensures
           (pieces_more (λ piece. piece.now) c.args.pieces.now c.pieces.piece-index (record { ref_ptr = (0, 0); now = [] }) (omega arith))
-          inv.on c.feed-answer.ensures.goes_on;
+          inv.so_far (feeds_of mid new _ c.feed-answer.result c.feed-answer.ensures.answer c.feed-answer.ensures.goes_on c.feed-answer.ensures.short c.feed-answer.ensures.takes c.feed-answer.ensures.stays);
     }
 
 pub returns-clause-audit : goal.returns-clause-audit
@@ -29,7 +36,7 @@ returns-clause-audit c =
       v.conversation,
       inv.about,
       audit_by v.conversation c.args.limit (flat_map (λ piece. piece.now) c.args.pieces.now) (audit_of c.finish.result)
-          (received v c.args.limit (flat_map (λ piece. piece.now) (take c.pieces.piece-index c.args.pieces.now)) (flat_map (λ piece. piece.now) c.args.pieces.now) (audit_of c.finish.result) inv.limit all inv.on c.finish.ensures) none,
+          (received v c.args.limit (flat_map (λ piece. piece.now) (take c.pieces.piece-index c.args.pieces.now)) (flat_map (λ piece. piece.now) c.args.pieces.now) (audit_of c.finish.result) inv.limit all inv.so_far c.finish.ensures) none,
     )
 
 pub returns-clause-memory : goal.returns-clause-memory
@@ -41,5 +48,5 @@ returns-clause-memory c =
       v.conversation,
       inv.about,
       memory_of v.conversation c.args.limit (flat_map (λ piece. piece.now) c.args.pieces.now) (audit_of c.finish.result)
-          (received v c.args.limit (flat_map (λ piece. piece.now) (take c.pieces.piece-index c.args.pieces.now)) (flat_map (λ piece. piece.now) c.args.pieces.now) (audit_of c.finish.result) inv.limit all inv.on c.finish.ensures) memory,
+          (received v c.args.limit (flat_map (λ piece. piece.now) (take c.pieces.piece-index c.args.pieces.now)) (flat_map (λ piece. piece.now) c.args.pieces.now) (audit_of c.finish.result) inv.limit all inv.so_far c.finish.ensures) memory,
     )

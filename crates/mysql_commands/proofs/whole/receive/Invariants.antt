@@ -1,14 +1,14 @@
 use Rattle.std.proofs.Common.{◌≡◌, take}
 use Rattle.std.specs.List.{flat_map}
 use Rattle.mysql_commands.specs.Audit.{IsAbout}
-use Rattle.mysql_commands.specs.GoingOn.{GoesOn, held_at_start}
 use Rattle.mysql_commands.specs.Received.{held_by}
+use Rattle.mysql_commands.proofs.Receiving.{SoFar}
 use Rattle.mysql_commands.proofs.whole.receive.Given as goal
 
--- what is held decides over the bytes to come what a new receiver decides over the pieces so far and them
+-- what is held is what the pieces so far lead to
 abbrev pub invariant-pieces : goal.invariant-pieces
 invariant-pieces l = record {
   about : IsAbout l.receiver.conversation l.fn.query l.fn.stmt_id;
   limit : l.receiver.limit ≡ l.fn.limit;
-  on : GoesOn l.receiver.conversation l.receiver.limit held_at_start (flat_map (λ piece. piece.now) (take l.piece-index l.pieces)) (held_by l.receiver);
+  so_far : SoFar l.receiver.conversation l.receiver.limit (flat_map (λ piece. piece.now) (take l.piece-index l.pieces)) (held_by l.receiver);
 }

@@ -43,7 +43,7 @@ returns-then-is_err-clause-goes_on g c =
 
 pub returns-then-is_err-clause-short : goal.returns-then-is_err-clause-short
 returns-then-is_err-clause-short g c =
-    taken_short c.args.state.now c.packets.state c.take-taken.new.self c.args.codec.now c.packets.codec c.decode.new.self (g.B.Buf.unread c.args.src.now) c.args.dst.now.items (g.B.Buf.unread c.packets.src) c.packets.dst.items (g.B.Buf.unread c.decode.new.src) c.clear.new.self.items c.take-taken.result c.packets.invariant c.requires.going c.take-taken.ensures.short
+    taken_short c.args.state.now c.packets.state c.take-taken.new.self c.args.codec.now c.packets.codec c.decode.new.self (g.B.Buf.unread c.args.src.now) c.args.dst.now.items (g.B.Buf.unread c.packets.src) c.packets.dst.items (g.B.Buf.unread c.decode.new.src) c.clear.new.self.items c.take-taken.result c.packets.invariant c.requires.going (c.is_over.ensures.awaiting c.if-is_over.false) c.take-taken.ensures.short
 
 pub packets-smaller : goal.packets-smaller
 packets-smaller g c =
@@ -90,4 +90,4 @@ returns-in-Err-clause-goes_on g c =
 pub returns-in-Err-clause-short : goal.returns-in-Err-clause-short
 returns-in-Err-clause-short g c =
     let is = c.fail-in-Err.ensures.state ∙ ap (λ f. record c.packets.state { fault = Some f }) (sym c.fail-in-Err.ensures.same) in
-    failed_short c.args.state.now c.packets.state c.fail-in-Err.new.self c.args.codec.now c.packets.codec c.decode.new.self (g.B.Buf.unread c.args.src.now) c.args.dst.now.items (g.B.Buf.unread c.packets.src) c.packets.dst.items (g.B.Buf.unread c.decode.new.src) c.decode.new.dst.items c.fail-in-Err.result c.packets.invariant c.requires.going is
+    failed_short c.args.state.now c.packets.state c.fail-in-Err.new.self c.args.codec.now c.packets.codec c.decode.new.self (g.B.Buf.unread c.args.src.now) c.args.dst.now.items (g.B.Buf.unread c.packets.src) c.packets.dst.items (g.B.Buf.unread c.decode.new.src) c.decode.new.dst.items c.fail-in-Err.result c.packets.invariant c.requires.going (c.is_over.ensures.awaiting c.if-is_over.false) is
