@@ -53,7 +53,7 @@ pub enum BindError {
     #[error("placeholder {0} does not stand alone")]
     NotAlone(usize),
     /// The set gives the query no values. This is never `Memory`.
-    #[error("{0}")]
+    #[error(transparent)]
     Params(ParamsError),
     /// The values are not as many as the placeholders.
     #[error("the values are not as many as the placeholders")]
