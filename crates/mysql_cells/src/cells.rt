@@ -2,7 +2,9 @@
 
 ghost use Rattle.mysql_cells.specs.Cells.{bin_len, cell, cell_at, is_unsigned as is_sent_unsigned, text_cell_at, type_number, value_at};
 ghost use Rattle.mysql_raw.specs.Wire.{Gives, GivesPart, or_end};
-ghost use Rattle.std.specs.Prelude.{◌≡◌};
+ghost use Rattle.mysql_cells.specs.declared.cell_form.CellForm.TheVariants as cell_form;
+ghost use Rattle.mysql_raw.specs.WireError.TheVariants as wire;
+ghost use Rattle.std.specs.Prelude.{◌≡◌, ◌≢◌, Err, IfNone, IfSome, Ok};
 
 use crate::cell_form::CellForm;
 use crate::cell_values::{date, form, time, whole1, whole2, whole4, whole8};
@@ -12,6 +14,25 @@ use mysql_buf::{BufMutExt, ParseBuf, lenenc_str_len};
 use mysql_queries::ByteString;
 use mysql_raw::{IntRepr, LeI64, LeU32, LeU64, MySerialize, WireError};
 use std::alloc::{AllocError, Global};
+
+/// The value of a cell that needs no memory; None where the bytes end before it does. What is left then isn't said.
+fn plain_value(form: CellForm, unsigned: bool, buf: &mut ParseBuf) -> Option<Value>
+    ensures some { IfSome result (λ value. value_at form unsigned buf.old.0.now ≡ Ok (value, buf.new.0.now)) }
+    ensures none { IfNone result (form ≢ cell_form.Counted → form ≢ cell_form.Without → value_at form unsigned buf.old.0.now ≡ Err wire.UnexpectedEof) }
+{
+    match form {
+        CellForm::Nothing => Some(Value::NULL),
+        CellForm::Whole1 => Some(whole1(unsigned, buf.checked_eat_u8()?)),
+        CellForm::Whole2 => Some(whole2(unsigned, buf.checked_eat_u16_le()?)),
+        CellForm::Whole4 => Some(whole4(unsigned, buf.checked_eat_u32_le()?)),
+        CellForm::Whole8 => Some(whole8(unsigned, buf.checked_eat_u64_le()?)),
+        CellForm::FloatBits => Some(Value::Float(buf.checked_eat_u32_le()?)),
+        CellForm::DoubleBits => Some(Value::Double(buf.checked_eat_u64_le()?)),
+        CellForm::DateAndTime => Some(date(buf.checked_eat_u8_str()?)),
+        CellForm::Duration => Some(time(buf.checked_eat_u8_str()?)),
+        CellForm::Counted | CellForm::Without => None,
+    }
+}
 
 /// The value of the cell that stands first, by its form. What is left after a refusal isn't said.
 fn cell_value(
@@ -23,20 +44,12 @@ fn cell_value(
     ensures { GivesPart (λ x. x) buf.new.0.now result (value_at form unsigned buf.old.0.now) }
 {
     match form {
-        CellForm::Nothing => Ok(Value::NULL),
-        CellForm::Whole1 => Ok(whole1(unsigned, there(buf.checked_eat_u8())?)),
-        CellForm::Whole2 => Ok(whole2(unsigned, there(buf.checked_eat_u16_le())?)),
-        CellForm::Whole4 => Ok(whole4(unsigned, there(buf.checked_eat_u32_le())?)),
-        CellForm::Whole8 => Ok(whole8(unsigned, there(buf.checked_eat_u64_le())?)),
-        CellForm::FloatBits => Ok(Value::Float(there(buf.checked_eat_u32_le())?)),
-        CellForm::DoubleBits => Ok(Value::Double(there(buf.checked_eat_u64_le())?)),
         CellForm::Counted => {
             let held = there(buf.checked_eat_lenenc_str())?;
             Ok(Value::Bytes(ByteString::copy(alloc, held)?))
         }
-        CellForm::DateAndTime => Ok(date(there(buf.checked_eat_u8_str())?)),
-        CellForm::Duration => Ok(time(there(buf.checked_eat_u8_str())?)),
         CellForm::Without => Err(WireError::UnsupportedType),
+        _ => there(plain_value(form, unsigned, buf)),
     }
 }
 

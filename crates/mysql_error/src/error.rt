@@ -8,21 +8,28 @@ use thiserror::Error;
 
 /// Why bytes could not be read as a field, or a field not be written.
 /// (MySQL: Client/Server Protocol, "Protocol Basics: Basic Data Types".)
-#[derive(Clone, Copy, Debug, PartialEq, Eq)]
+#[derive(Clone, Copy, Debug, PartialEq, Eq, Error)]
 pub enum WireError {
     /// The bytes end before the field does.
+    #[error("the bytes end before the field does")]
     UnexpectedEof = 1,
     /// Other bytes stand where the protocol has fixed ones.
+    #[error("other bytes stand where the protocol has fixed ones")]
     BadConstant = 2,
     /// A number stands there that is none of those that are listed for the field.
+    #[error("the number is none of those that are listed for the field")]
     UnknownValue = 3,
     /// A length that the field can't have.
+    #[error("the field can't have that length")]
     BadLength = 4,
     /// A type of values that isn't read here.
+    #[error("values of that type are not read")]
     UnsupportedType = 5,
     /// More bytes are asked for than the field can hold.
+    #[error("more bytes than the field can hold")]
     TooManyBytes = 6,
     /// A growth of a buffer was refused.
+    #[error("out of memory")]
     Memory = 7,
 }
 

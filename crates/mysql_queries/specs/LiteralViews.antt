@@ -1,6 +1,6 @@
 -- A literal that was read, as the definitions have it.
 -- MySQL Reference Manual, "Literal Values".
-use Rattle.std.specs.Prelude.{◌≡◌, ◌++◌, ℕ, List}
+use Rattle.std.specs.Prelude.{◌≡◌, ◌++◌, ℕ, List, []}
 use Rattle.mysql_queries.specs.LiteralRuns.{IsLiteralRun}
 use Rattle.mysql_queries.specs.Literals.{IsLiteral}
 use Rattle.mysql_queries.specs.declared.content.Content.{Content}
@@ -13,6 +13,12 @@ abbrev pub literal_content : Literal → List ℕ → Content
 literal_content Null items = content.Null
 literal_content (Number z) items = content.Number z
 literal_content Bytes items = content.Bytes items
+
+-- the buffer holds nothing beside a literal that has no bytes
+abbrev pub IsHeld : Literal → List ℕ → Type 0
+IsHeld Null items = items ≡ []
+IsHeld (Number z) items = items ≡ []
+IsHeld Bytes items = Unit {0}
 
 -- no run at the front of the text is a literal
 abbrev pub IsNoLiteral : List ℕ → Type 0

@@ -1,7 +1,7 @@
 //! Literals at the front of a text.
 
 ghost use Rattle.mysql_queries.specs.LiteralRuns.{IsLiteralRun, begins_hex};
-ghost use Rattle.mysql_queries.specs.LiteralViews.{IsNoLiteral, literal_content};
+ghost use Rattle.mysql_queries.specs.LiteralViews.{IsHeld, IsNoLiteral, literal_content};
 ghost use Rattle.mysql_queries.specs.Literals.{IsLiteral, lower};
 ghost use Rattle.mysql_error.specs.declared.error.WireError.TheVariants as wire;
 ghost use Rattle.std.specs.Prelude.{
@@ -13,6 +13,7 @@ ghost use Rattle.std.specs.Prelude.{
   ◌≡◌,
   ◌≤◌,
   ◌↔◌,
+  [],
   IfNone,
   IfOk,
   IfSome,
@@ -79,7 +80,6 @@ fn literal_len(text: &[u8], buf: &mut Vec<u8>) -> Result<Option<(Literal, usize)
     ensures none { IfOk result (λ found. IfNone found (IsNoLiteral text.now)) }
     ensures full { OnErr result (vec_capacity buf.old < length text.now) }
 {
-    buf.clear();
     if null_first(text) {
         return Ok(Some((Literal::Null, 4)));
     }
@@ -101,7 +101,7 @@ fn literal_len(text: &[u8], buf: &mut Vec<u8>) -> Result<Option<(Literal, usize)
     }
 }
 
-/// Reads the literal at the front of a text, and gives what follows it. The buffer is cleared, and a literal's bytes are put into it.
+/// Reads the literal at the front of a text, and gives what follows it. What the buffer held goes, and a literal's bytes are put into it.
 ///
 /// All that stands there of the literal's form is read: all digits, `0x` with all hexadecimal digits, a body in single quotes to its closing quote. None where that is no literal.
 ///
@@ -116,10 +116,18 @@ pub fn read_literal<'a>(
         × IsLiteralRun run x.1.now × IsLiteral run (literal_content x.0 buf.new.items))) }
     // Nothing is read only where that is no literal.
     ensures none { IfOk result (λ found. IfNone found (IsNoLiteral text.entry.now)) }
+    // The buffer holds the bytes of a literal of bytes, else nothing.
+    ensures held { IfOk result (λ found. IfSome found (λ x. IsHeld x.0 buf.new.items)) }
+    ensures empty { IfOk result (λ found. IfNone found (buf.new.items ≡ [])) }
+    ensures refused { OnErr result (buf.new.items ≡ []) }
     ensures memory { IsOkUnless result wire.Memory }
     ensures full { OnErr result (vec_capacity buf.old < length text.entry.now) }
 {
-    match literal_len(text, buf)? {
+    let found = literal_len(text, buf);
+    if !matches!(found, Ok(Some((Literal::Bytes, _)))) {
+        buf.clear();
+    }
+    match found? {
         Some((literal, len)) => Ok(Some((literal, &text[len..]))),
         None => Ok(None),
     }

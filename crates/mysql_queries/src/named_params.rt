@@ -8,7 +8,7 @@ ghost use Rattle.std.specs.List.{join_with_byte};
 ghost use Rattle.std.specs.Prelude.{◌≡◌, ◌⊎◌, IfErr, IfOk, OnOk, false, map, true};
 ghost use Rattle.mysql_queries.specs.declared.named_params.NamedParamsError.TheVariants as named_params_error;
 
-use crate::placeholders::{Place, find_places, is_mixed};
+use crate::placeholders::{Place, is_mixed, places};
 use std::alloc::{AllocError, AllocFailed, Global};
 use std::borrow::CowSlice;
 use std::marker::Model;
@@ -74,7 +74,7 @@ impl<'a> ParsedNamedParams<'a> {
         ensures one_kind { OnOk result (HasMixed query.entry.now false) }
         ensures mixed { IfErr result (λ e. (e ≡ named_params_error.Memory) ⊎ ((e ≡ named_params_error.Mixed (record {})) × HasMixed query.entry.now true)) }
     {
-        let places = find_places(alloc, query)?;
+        let places = places(alloc, query)?;
         if is_mixed(&places) {
             return Err(NamedParamsError::Mixed(MixedParamsError));
         }

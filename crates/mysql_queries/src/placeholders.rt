@@ -1,12 +1,10 @@
 //! The placeholders of a query.
 
 ghost use Rattle.mysql_queries.specs.Queries.{HasPlaces, first_not_alone as first_apart, is_joining, is_mixed as has_both_kinds, is_name, is_place, place_at, stands_alone};
-ghost use Rattle.mysql_error.specs.declared.error.WireError.TheVariants as wire;
 ghost use Rattle.std.specs.List.{AllByRecursion, list_any};
-ghost use Rattle.std.specs.Prelude.{◌+◌, ◌<◌, ◌≡◌, ◌≤◌, IfNone, IfOk, IfSome, IsOkUnless, drop, false, length, not, take, true};
+ghost use Rattle.std.specs.Prelude.{◌+◌, ◌<◌, ◌≡◌, ◌≤◌, IfNone, IfOk, IfSome, drop, false, length, not, take, true};
 
 use crate::tokens::{TokenKind, kind_at, token_end};
-use mysql_error::WireError;
 use std::alloc::{AllocError, Global};
 
 /// A placeholder of a query, from `start` up to `end`: a name such as `:a`, or a question mark.
@@ -84,7 +82,9 @@ fn place_of(query: &[u8], start: usize, len: usize) -> Option<Place>
 }
 
 /// The placeholders of a query, in order.
-pub fn find_places(alloc: Global, query: &[u8]) -> Result<Vec<Place>, AllocError>
+///
+/// Strings, quoted identifiers and comments hold none. What stands between `/*!` or `/*+` and its end is read as the query's own.
+pub fn places(alloc: Global, query: &[u8]) -> Result<Vec<Place>, AllocError>
     ensures { IfOk result (λ v. HasPlaces query.now v.items) }
 {
     let mut found = Vec::new(alloc);
@@ -97,19 +97,6 @@ pub fn find_places(alloc: Global, query: &[u8]) -> Result<Vec<Place>, AllocError
         at += len;
     }
     Ok(found)
-}
-
-/// The placeholders of a query, in order.
-///
-/// Strings, quoted identifiers and comments hold none. What stands between `/*!` or `/*+` and its end is read as the query's own.
-///
-/// # Errors
-/// `Memory`.
-pub fn places(alloc: Global, query: &[u8]) -> Result<Vec<Place>, WireError>
-    ensures places { IfOk result (λ v. HasPlaces query.now v.items) }
-    ensures memory { IsOkUnless result wire.Memory }
-{
-    Ok(find_places(alloc, query)?)
 }
 
 fn any_name(places: &[Place]) -> bool

@@ -1,16 +1,15 @@
 //! The bytes of an execution.
 
-ghost use Rattle.std.specs.Prelude.{◌≡◌, ◌≤◌, ◌<◌, ◌^◌, ◌++◌, IsOkUnless, List, OnOk, flat_map, length, map, ℕ};
+ghost use Rattle.std.specs.Prelude.{◌≡◌, ◌≤◌, ◌<◌, ◌^◌, ◌++◌, OnOk, flat_map, length, map};
 ghost use Rattle.std.specs.List.{AllByRecursion};
 ghost use Rattle.mysql_values.specs.AsSql.{FitsFields};
 ghost use Rattle.mysql_values.specs.Cells.{cell};
 ghost use Rattle.mysql_session.specs.Commands.{execute_command, is_null as is_no_value, null_bitmap, null_bits as bits_of, type_bytes};
-ghost use Rattle.mysql_session.specs.declared.refusal.Refusal.TheVariants.{Memory};
 
-use crate::refusal::Refusal;
 use mysql_values::Value;
 use mysql_values::laws::fields_fit;
 use mysql_wire::MySerialize;
+use std::alloc::AllocError;
 
 fn is_null(value: &Value) -> bool
     ensures { result ≡ is_no_value value.now }
@@ -33,10 +32,9 @@ fn null_bits(count: u32, values: &[&Value]) -> u8
 }
 
 /// Appends a bit for each value, eight to a byte.
-fn put_null_bitmap(values: &[&Value], command: &mut Vec<u8>) -> Result<(), Refusal>
+fn put_null_bitmap(values: &[&Value], command: &mut Vec<u8>) -> Result<(), AllocError>
     requires { length values.now ≤ 65535 }
-    ensures ok { OnOk result (command.new.items ≡ command.old.items ++ null_bitmap (map (λ value. value.now) values.now)) }
-    ensures err { IsOkUnless result Memory }
+    ensures { OnOk result (command.new.items ≡ command.old.items ++ null_bitmap (map (λ value. value.now) values.now)) }
 {
     for k in 0..(values.len() + 7) / 8 {
         command.push(null_bits(8, &values[8 * k..]))?;
@@ -45,9 +43,8 @@ fn put_null_bitmap(values: &[&Value], command: &mut Vec<u8>) -> Result<(), Refus
 }
 
 /// Appends the type of each value.
-fn put_types(values: &[&Value], command: &mut Vec<u8>) -> Result<(), Refusal>
-    ensures ok { OnOk result (command.new.items ≡ command.old.items ++ flat_map type_bytes (map (λ value. value.now) values.now)) }
-    ensures err { IsOkUnless result Memory }
+fn put_types(values: &[&Value], command: &mut Vec<u8>) -> Result<(), AllocError>
+    ensures { OnOk result (command.new.items ≡ command.old.items ++ flat_map type_bytes (map (λ value. value.now) values.now)) }
 {
     for value in values {
         let value: &Value = *value;
@@ -58,10 +55,9 @@ fn put_types(values: &[&Value], command: &mut Vec<u8>) -> Result<(), Refusal>
 }
 
 /// Appends the cell of each value.
-fn put_cells(values: &[&Value], command: &mut Vec<u8>) -> Result<(), Refusal>
+fn put_cells(values: &[&Value], command: &mut Vec<u8>) -> Result<(), AllocError>
     ensures ok { OnOk result (command.new.items ≡ command.old.items ++ flat_map cell (map (λ value. value.now) values.now)) }
     ensures fit { OnOk result (AllByRecursion (λ value. FitsFields value) (map (λ value. value.now) values.now)) }
-    ensures err { IsOkUnless result Memory }
 {
     for value in values {
         fields_fit(*value);
@@ -75,11 +71,10 @@ pub(crate) fn put_execution(
     stmt_id: u32,
     values: &[&Value],
     command: &mut Vec<u8>,
-) -> Result<(), Refusal>
+) -> Result<(), AllocError>
     requires { length values.now ≤ 65535 }
     ensures ok { OnOk result (command.new.items ≡ command.old.items ++ execute_command stmt_id (map (λ value. value.now) values.now)) }
     ensures fit { OnOk result (AllByRecursion (λ value. FitsFields value) (map (λ value. value.now) values.now)) }
-    ensures err { IsOkUnless result Memory }
 {
     command.push(0x17)?;
     command.extend_from_slice(&stmt_id.to_le_bytes())?;

@@ -1,8 +1,10 @@
 //! Parameter sets as executions of a prepared statement.
 
-ghost use Rattle.std.specs.Prelude.{◌≡◌, ◌<◌, ◌≤◌, ◌++◌, ◌⊎◌, Err, IfErr, IfOk, None, Ok, OnErr, OnOk, Some, is_none, length, map, take, vec_len};
+ghost use Rattle.std.specs.Prelude.{◌≡◌, ◌<◌, ◌≤◌, ◌++◌, ◌⊎◌, Err, IfErr, IfOk, None, Ok, OnErr, OnOk, Some, false, is_none, length, map, take, true, vec_len};
 ghost use Rattle.mysql_values.specs.Binding.{first_float as float_at};
 ghost use Rattle.mysql_values.specs.Params.{values_over};
+ghost use Rattle.mysql_values.specs.Parsed.{HasNames};
+ghost use Rattle.mysql_values.specs.Queries.{HasMixed, IsParsed};
 ghost use Rattle.mysql_values.specs.Values.{content_of};
 ghost use Rattle.mysql_values.specs.declared.params.ParamsError.{ParamsError as ParamsErrorOf};
 ghost use Rattle.mysql_wire.specs.Framing.{framing};
@@ -18,7 +20,7 @@ use mysql_values::{
     NamedParamsError, Params, ParamsError, ParsedNamedParams, SetError, Value, places,
 };
 use mysql_wire::packet_to_chunks;
-use std::alloc::Global;
+use std::alloc::{AllocError, Global};
 
 /// A statement that is sent: its query, how many placeholders it has, and its id.
 #[derive(Drop)]
@@ -91,17 +93,27 @@ fn check_values(values: &[&Value], places: usize, set: usize) -> Result<(), Refu
     }
 }
 
-/// The query parsed. Refuses `Mixed`, then `TooManyPlaces`.
+/// The query parsed. Refuses `Mixed`.
+fn parsed<'q>(alloc: Global, query: &'q [u8]) -> Result<ParsedNamedParams<'q>, Refusal>
+    ensures query { IfOk result (λ parsed. IsParsed query.entry.now parsed.query) }
+    ensures names { IfOk result (λ parsed. HasNames query.entry.now parsed.names) }
+    ensures one_kind { OnOk result (HasMixed query.entry.now false) }
+    ensures mixed { IfErr result (λ e. (e ≡ refusals.Memory) ⊎ ((e ≡ refusals.Mixed) × HasMixed query.entry.now true)) }
+{
+    match ParsedNamedParams::parse(alloc, query) {
+        Ok(parsed) => Ok(parsed),
+        Err(NamedParamsError::Mixed(_)) => Err(Refusal::Mixed),
+        Err(NamedParamsError::Memory) => Err(Refusal::Memory),
+    }
+}
+
+/// The query as a statement. Refuses `Mixed`, then `TooManyPlaces`.
 fn statement_of<'q>(alloc: Global, query: &'q [u8], id: u32) -> Result<Statement<'q>, Refusal>
     ensures ok { IfOk result (λ statement. IsStatement query.entry.now statement.parsed statement.places × (statement.id ≡ id)) }
     ensures err { IfErr result (RefusesStatement query.entry.now) }
 {
     tokens_of_a_text();
-    let parsed = match ParsedNamedParams::parse(alloc, query) {
-        Ok(parsed) => parsed,
-        Err(NamedParamsError::Mixed(_)) => return Err(Refusal::Mixed),
-        Err(NamedParamsError::Memory) => return Err(Refusal::Memory),
-    };
+    let parsed = parsed(alloc, query)?;
     let Ok(places) = places(alloc, query) else {
         return Err(Refusal::Memory);
     };
@@ -110,6 +122,16 @@ fn statement_of<'q>(alloc: Global, query: &'q [u8], id: u32) -> Result<Statement
         return Err(Refusal::TooManyPlaces);
     }
     Ok(Statement { parsed, places, id })
+}
+
+/// The command that prepares a query.
+fn prepare_of(alloc: Global, parsed: &[u8]) -> Result<Vec<u8>, AllocError>
+    ensures { IfOk result (λ command. command.items ≡ prepare_command parsed.now) }
+{
+    let mut command = Vec::new(alloc);
+    command.push(0x16)?;
+    command.extend_from_slice(parsed)?;
+    Ok(command)
 }
 
 /// Appends the prepare. Refuses `PrepareTooLarge`.
@@ -124,9 +146,7 @@ fn put_prepare(
     ensures err { IfErr result (λ refusal. (refusal ≡ refusals.Memory) ⊎ ((refusal ≡ refusals.PrepareTooLarge) × (room < length (prepare_command statement.now.parsed.query)))) }
     ensures kept { OnErr result (out.new.items ≡ out.old.items) }
 {
-    let mut command = Vec::new(alloc);
-    command.push(0x16)?;
-    command.extend_from_slice(statement.parsed.query())?;
+    let command = prepare_of(alloc, statement.parsed.query())?;
     if command.len() > room {
         return Err(Refusal::PrepareTooLarge);
     }

@@ -26,6 +26,7 @@ pub enum Status {
 }
 
 /// Why a run stops before its end.
+#[derive(Drop)]
 enum Stop {
     Sending(Refusal),
     Receiving(ReceiverError),
@@ -97,18 +98,21 @@ fn write_stream<W: Write>(output: &mut W, stream: &[u8]) -> io::Result<()> {
     writeln!(output)
 }
 
+/// Writes bytes in hexadecimal behind an `x`.
+fn write_bytes<W: Write>(output: &mut W, bytes: &[u8]) -> io::Result<()> {
+    write!(output, " x")?;
+    for byte in bytes {
+        write!(output, "{byte:02x}")?;
+    }
+    Ok(())
+}
+
 /// Writes a content: `null`, a number, or `x` and bytes in hexadecimal.
 fn write_content<W: Write>(output: &mut W, content: &Content) -> io::Result<()> {
     match content {
         Content::Null => write!(output, " null"),
         Content::Number(number) => write!(output, " {number}"),
-        Content::Bytes(bytes) => {
-            write!(output, " x")?;
-            for byte in bytes.as_slice() {
-                write!(output, "{byte:02x}")?;
-            }
-            Ok(())
-        }
+        Content::Bytes(bytes) => write_bytes(output, bytes.as_slice()),
     }
 }
 
@@ -148,8 +152,8 @@ fn audit_by_bytes(alloc: Global, stream: &[u8]) -> Result<Audit, Stop> {
     Ok(receiver.finish())
 }
 
-/// Sends the worked set, writes the stream, reads it back byte by byte and writes the audit.
-fn worked_run<W: Write>(alloc: Global, output: &mut W) -> Result<Status, Stop> {
+/// The stream that carries the worked set.
+fn worked_stream(alloc: Global) -> Result<Vec<u8>, Stop> {
     let mut sets = Vec::new(alloc);
     sets.push(worked_set(alloc)?)?;
     let mut stream = Vec::new(alloc);
@@ -162,13 +166,24 @@ fn worked_run<W: Write>(alloc: Global, output: &mut W) -> Result<Status, Stop> {
         LIMIT,
         &mut stream,
     )?;
+    Ok(stream)
+}
+
+/// The status of a run whose stream ends so.
+fn status_of(end: End) -> Status {
+    match end {
+        End::Whole => Status::Whole,
+        _ => Status::Refused,
+    }
+}
+
+/// Sends the worked set, writes the stream, reads it back byte by byte and writes the audit.
+fn worked_run<W: Write>(alloc: Global, output: &mut W) -> Result<Status, Stop> {
+    let stream = worked_stream(alloc)?;
     write_stream(output, &stream)?;
     let audit = audit_by_bytes(alloc, &stream)?;
     write_audit(output, &audit)?;
-    match audit.end {
-        End::Whole => Ok(Status::Whole),
-        _ => Ok(Status::Refused),
-    }
+    Ok(status_of(audit.end))
 }
 
 /// The name that a refusal is printed by.
@@ -187,6 +202,16 @@ fn refusal_name(refusal: &Refusal) -> &'static str {
         Refusal::RowTooLarge(_) => "RowTooLarge",
         Refusal::LateValue(_, _) => "LateValue",
         Refusal::Memory => "Memory",
+    }
+}
+
+/// The name of what stops a run; None where its output could not be written.
+fn stop_name(stop: &Stop) -> Option<&'static str> {
+    match stop {
+        Stop::Sending(refusal) => Some(refusal_name(refusal)),
+        Stop::Receiving(ReceiverError::Mixed) => Some("Mixed"),
+        Stop::Receiving(ReceiverError::Memory) => Some("Memory"),
+        Stop::Writing => None,
     }
 }
 
@@ -214,15 +239,9 @@ pub fn run<R: Read, W: Write>(
     }
     match worked_run(alloc, output) {
         Ok(status) => status,
-        Err(Stop::Sending(refusal)) => {
-            end_with(output, Status::Refused, "refused: ", refusal_name(&refusal))
-        }
-        Err(Stop::Receiving(ReceiverError::Mixed)) => {
-            end_with(output, Status::Refused, "refused: ", "Mixed")
-        }
-        Err(Stop::Receiving(ReceiverError::Memory)) => {
-            end_with(output, Status::Refused, "refused: ", "Memory")
-        }
-        Err(Stop::Writing) => Status::Usage,
+        Err(stop) => match stop_name(&stop) {
+            Some(name) => end_with(output, Status::Refused, "refused: ", name),
+            None => Status::Usage,
+        },
     }
 }

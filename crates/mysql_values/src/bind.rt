@@ -39,8 +39,7 @@ use mysql_cells::Value;
 use mysql_cells::as_sql::{AsSqlError, push_literal};
 use mysql_queries::laws::{filled_text_is_read, pieces_of_a_query};
 use mysql_queries::named_params::names_among;
-use mysql_queries::placeholders::find_places;
-use mysql_queries::{Place, first_not_alone, is_mixed};
+use mysql_queries::{Place, first_not_alone, is_mixed, places};
 use std::alloc::{AllocError, AllocFailed, Global};
 use thiserror::Error;
 
@@ -54,7 +53,7 @@ pub enum BindError {
     #[error("placeholder {0} does not stand alone")]
     NotAlone(usize),
     /// The set gives the query no values. This is never `Memory`.
-    #[error("{0}")]
+    #[error(transparent)]
     Params(ParamsError),
     /// The values are not as many as the placeholders.
     #[error("the values are not as many as the placeholders")]
@@ -192,7 +191,7 @@ pub fn bind_text(
 {
     pieces_of_a_query();
     filled_text_is_read();
-    let places = find_places(alloc, query)?;
+    let places = places(alloc, query)?;
     check_places(&places)?;
     let values = values_to_bind(alloc, query, &places, params)?;
     let start = out.len();

@@ -25,7 +25,7 @@ pub enum Params {
 
 /// The first name of a query for which a set has no value.
 #[derive(Debug, PartialEq, Eq, Hash, Drop, Error)]
-#[error("a named parameter of the query has no value")]
+#[error("the named parameter {name} has no value", name = .0.as_slice().escape_ascii())]
 pub struct MissingNamedParameterError(pub ByteString);
 
 /// A set of the other kind than the query's placeholders.
@@ -42,9 +42,9 @@ pub enum ParamsConfusionError {
 /// Why a set gives a query no values.
 #[derive(Debug, PartialEq, Eq, Hash, Drop, Error)]
 pub enum ParamsError {
-    #[error("{0}")]
+    #[error(transparent)]
     Missing(MissingNamedParameterError),
-    #[error("{0}")]
+    #[error(transparent)]
     Confusion(ParamsConfusionError),
     #[error("out of memory")]
     Memory,
@@ -69,10 +69,10 @@ impl<T: Drop> From<AllocFailed<T>> for ParamsError {
 /// Why no parameter set is made of what was handed in.
 #[derive(Debug, PartialEq, Eq, Hash, Drop, Error)]
 pub enum SetError {
-    #[error("{0}")]
+    #[error(transparent)]
     Params(ParamsError),
     /// The first name that an earlier pair has too.
-    #[error("a named parameter is given twice")]
+    #[error("the named parameter {name} is given twice", name = .0.as_slice().escape_ascii())]
     Redefined(ByteString),
     /// The least place whose value is too long.
     #[error("the value at place {0} is too long")]

@@ -14,4 +14,4 @@ returns-clause-ok c =
     c.put_null_bitmap.new.command.items c.push-3.new.self.items c.put_types.new.command.items c.put_cells.new.command.items
     c.if-is_empty.ensures c.in_ok-push.ensures.items (c.in_ok-extend_from_slice.ensures.items ∙ ap (λ l. c.push.new.self.items ++ l) c.to_le_bytes.ensures) c.in_ok-push-2.ensures.items
     (c.in_ok-extend_from_slice-2.ensures.items ∙ ap (λ l. c.push-2.new.self.items ++ l) c.to_le_bytes-2.ensures)
-    c.in_ok-put_null_bitmap.ensures.ok c.in_ok-push-3.ensures.items c.in_ok-put_types.ensures.ok c.in_ok-put_cells.ensures.ok
+    c.in_ok-put_null_bitmap.ensures c.in_ok-push-3.ensures.items c.in_ok-put_types.ensures c.in_ok-put_cells.ensures.ok

@@ -6,5 +6,5 @@ pub loop-k-preserved : goal.loop-k-preserved
 loop-k-preserved c =
     one_more_byte c.args.values.now c.args.command.now.items c.loop-k.command.items c.push.new.self.items c.loop-k.k c.null_bits.result c.loop-k.invariant c.null_bits.ensures.bits c.in_ok-push.ensures.items
 
-pub returns-clause-ok : goal.returns-clause-ok
-returns-clause-ok c = all_bytes c.args.values.now c.args.command.now.items c.loop-k.command.items c.loop-k.k c.loop-k.invariant (omega arith)
+pub returns : goal.returns
+returns c = all_bytes c.args.values.now c.args.command.now.items c.loop-k.command.items c.loop-k.k c.loop-k.invariant (omega arith)

@@ -1,6 +1,6 @@
 use Rattle.std.proofs.Common.{length, ◌-◌, ◌≤◌}
 use Rattle.mysql_queries.proofs.PlaceLists.{Found}
-use Rattle.mysql_queries.proofs.placeholders.find_places.Given as goal
+use Rattle.mysql_queries.proofs.placeholders.places.Given as goal
 
 abbrev pub invariant-loop-at : goal.invariant-loop-at
 invariant-loop-at l = record { in_range : l.at ≤ length l.query; found : Found l.query l.at l.found.items }

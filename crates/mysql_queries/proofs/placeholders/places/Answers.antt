@@ -1,8 +1,8 @@
 use Rattle.std.proofs.Common.{◌≡◌, ◌≤◌, ◌+◌, ◌++◌, [], ◌∷◌, length, take, drop, arith, subst, sym, ap, ◌∙◌, length-drop}
 use Rattle.mysql_queries.specs.Tokens.{IsToken}
 use Rattle.mysql_queries.proofs.PlaceLists.{Found, found_more, found_same, found_all, token_there, to_end}
-use Rattle.mysql_queries.proofs.placeholders.find_places.Goals as goal
-use Rattle.mysql_queries.proofs.placeholders.find_places.Goals.{in-Some+in_ok-push, in_default}
+use Rattle.mysql_queries.proofs.placeholders.places.Goals as goal
+use Rattle.mysql_queries.proofs.placeholders.places.Goals.{in-Some+in_ok-push, in_default}
 
 in_range : (c : goal.Joined-place_of) → c.loop-at.at + c.token_end-len.result ≤ length c.args.query.now
 in_range c =
