@@ -1,2 +1,3 @@
 pub mod AttributeMaps
 pub mod AttributeReading
+pub mod AttributeWriting

@@ -4,6 +4,7 @@ use Rattle.std.proofs.lemmas.Bool.{cases_lt}
 use Rattle.std.proofs.lemmas.Bool.Decides.{nat_tests}
 use Rattle.std.proofs.lemmas.List.{flat_map_more, length-take-le, take_all, take_more}
 use Rattle.std.proofs.lemmas.List.Folds.{flat_map-map}
+use Rattle.std.proofs.Math.Seq.{take-append_seam}
 use Rattle.std.specs.List.{flat_map}
 use Rattle.std.specs.Str.{IsUtf8, chars, is_utf8}
 use Rattle.std.proofs.lemmas.Str.{IsUtf8-from_is_utf8, is_utf8-from_IsUtf8}
@@ -117,6 +118,19 @@ one_more written all i x old now new inside here before put =
     ∙ ap (λ (bytes : List ℕ). bytes ++ written x) before
     ∙ flat_map_more written old (take i all) x
     ∙ ap (λ bytes. old ++ flat_map written bytes) (ap (λ y. take i all ++ y ∷ []) here ∙ sym (take_more all i x inside))
+
+-- all elements, as a loop goes over them
+pub all_elements : {X : Type 0} (written : X → List ℕ) (all : List X) (i : ℕ) (old now : List ℕ) → length all ≤ i → now ≡ old ++ flat_map written (take i all)
+    → now ≡ old ++ flat_map written all
+all_elements {X} written all i old now h before = before ∙ ap (λ (xs : List X). old ++ flat_map written xs) (take_all i all h)
+
+-- what was put is cut off again
+pub cut_back : (old now new cut more : List ℕ) (n : ℕ) → n ≡ length old → now ≡ old ++ more → new ≡ now → cut ≡ take n new → cut ≡ old
+cut_back old now new cut more n len before same taken =
+    taken
+    ∙ ap (take n) (same ∙ before)
+    ∙ ap (λ (k : ℕ). take k (old ++ more)) len
+    ∙ take-append_seam old more
 
 -- all sets, as a loop goes over them
 pub all_sids : (written : SidParts → List ℕ) (sids : List Sid) (i : ℕ) → length sids ≤ i → flat_map (λ sid. written (sid_view sid)) (take i sids) ≡ flat_map written (map sid_view sids)

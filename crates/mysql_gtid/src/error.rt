@@ -4,44 +4,61 @@ ghost use Rattle.std.specs.Prelude.{◌≡◌};
 ghost use Rattle.mysql_gtid.specs.declared.error.SidError.TheVariants.{Memory};
 
 use std::alloc::{AllocError, AllocFailed};
-use thiserror::Error;
+use std::error::Error;
+use std::fmt;
 
 /// Why a text is no set of global transaction identifiers; what stands leftmost counts.
 ///
 /// MySQL Reference Manual, "GTID Sets".
-#[derive(Clone, Copy, Debug, PartialEq, Eq, Hash, Error)]
+#[derive(Clone, Copy, Debug, PartialEq, Eq, Hash)]
 pub enum SidError {
     /// There is no colon.
-    #[error("no colon behind the UUID")]
     NoColon = 1,
     /// What stands before the first colon is no UUID.
-    #[error("no UUID before the first colon")]
     BadUuid = 2,
     /// Nothing stands behind the first colon.
-    #[error("nothing behind the UUID")]
     Empty = 3,
     /// What stands before the intervals is no tag.
-    #[error("no tag before the intervals")]
     BadTag = 4,
     /// What stands behind the UUID begins with no digit, and no colon follows.
-    #[error("no intervals behind the UUID")]
     NoIntervals = 5,
     /// An interval is neither a whole number below 2^64 nor two with a hyphen between.
-    #[error("an interval must be one number or two with a hyphen between")]
     BadInterval = 6,
     /// An interval begins at 0.
-    #[error("transactions are numbered from 1")]
     ZeroGno = 7,
     /// An interval ends before it begins.
-    #[error("an interval can't end before it begins")]
     StartNotBelowEnd = 8,
     /// The number after an interval's last isn't below 2^64.
-    #[error("an interval ends at the greatest number")]
     Overflow = 9,
     /// A growth of a buffer was refused.
-    #[error("out of memory")]
     Memory = 10,
 }
+
+impl SidError {
+    // What is printed.
+    fn text(self) -> &'static str {
+        match self {
+            SidError::NoColon => "no colon behind the UUID",
+            SidError::BadUuid => "no UUID before the first colon",
+            SidError::Empty => "nothing behind the UUID",
+            SidError::BadTag => "no tag before the intervals",
+            SidError::NoIntervals => "no intervals behind the UUID",
+            SidError::BadInterval => "an interval must be one number or two with a hyphen between",
+            SidError::ZeroGno => "transactions are numbered from 1",
+            SidError::StartNotBelowEnd => "an interval can't end before it begins",
+            SidError::Overflow => "an interval ends at the greatest number",
+            SidError::Memory => "out of memory",
+        }
+    }
+}
+
+impl fmt::Display for SidError {
+    fn fmt<W: fmt::Write>(&self, f: &mut fmt::Formatter<W>) -> fmt::Result {
+        f.write_str(self.text())
+    }
+}
+
+impl Error for SidError {}
 
 impl From<AllocError> for SidError {
     ghost from_gives = { λ _ e. e ≡ Memory };
