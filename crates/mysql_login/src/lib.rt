@@ -15,7 +15,11 @@ pub use mysql_auth::{
     InvalidPublicKeyRequest, InvalidPublicKeyResponse, OldAuthSwitchRequest, PublicKeyRequest,
     PublicKeyRequestHeader, PublicKeyResponse, PublicKeyResponseHeader, parse_parsec_salt,
 };
+pub use mysql_buf::ParseBuf;
+pub use mysql_const::{CapabilityFlags, MariadbCapabilities, StatusFlags};
 pub use mysql_handshake::HandshakePacket;
+pub use mysql_raw::{MyDeserialize, MySerialize, ParseExt, Readable, WireError};
+pub use mysql_raw_consts::Either;
 pub use mysql_repl::{
     BinlogDumpFlags, BinlogRequest, ComBinlogDump, ComBinlogDumpGtid, ComBinlogDumpGtidHeader,
     ComBinlogDumpHeader, ComRegisterSlave, ComRegisterSlaveHeader, ComTableDump,

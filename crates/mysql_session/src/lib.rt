@@ -12,11 +12,14 @@ mod text_queries;
 
 pub use mysql_commands::{Audit, End, Receiver, ReceiverError, StreamFault, receive};
 pub use mysql_const::{CapabilityFlags, StatusFlags};
-pub use mysql_packets::OkPacket;
+pub use mysql_packets::{Column, OkPacket, ProgressReport, ServerError, StmtPacket};
 pub use mysql_replies::{
     Reply, ReplyEnd, ReplyFault, ReplyKind, ReplyReader, ReplyResult, read_reply,
 };
-pub use mysql_values::{Content, Params, ParamsError, SetError, Value};
+pub use mysql_values::{
+    ByteString, Content, MissingNamedParameterError, Params, ParamsConfusionError, ParamsError,
+    SetError, Value,
+};
 pub use program::{Status, run};
 pub use refusal::Refusal;
 pub use road::Road;

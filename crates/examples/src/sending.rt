@@ -1,0 +1,38 @@
+//! One query with named parameters, sent by both roads.
+
+use mysql_session::{Params, Refusal, Road, Value, send};
+use std::alloc::Global;
+use std::collections::HashMap;
+use std::io::{Result, Write};
+
+fn named(alloc: Global, name: &[u8], value: Value) -> core::result::Result<Params, Refusal> {
+    let mut values = HashMap::new(alloc);
+    let _ = values.insert(Vec::from_slice(alloc, name)?, value)?;
+    Ok(Params::Named(values))
+}
+
+fn sent(alloc: Global, query: &[u8], value: Value) -> core::result::Result<Vec<u8>, Refusal> {
+    let mut sets = Vec::new(alloc);
+    sets.push(named(alloc, b"a", value)?)?;
+    let mut out = Vec::new(alloc);
+    send(alloc, query, &sets, Road::Text, 1, 1 << 24, &mut out)?;
+    send(alloc, query, &sets, Road::Execute, 1, 1 << 24, &mut out)?;
+    Ok(out)
+}
+
+/// Prints how many bytes are sent, or why nothing is.
+fn say<W: Write>(alloc: Global, query: &[u8], value: Value, out: &mut W) -> Result<()> {
+    match sent(alloc, query, value) {
+        Ok(stream) => writeln!(out, "{} bytes", stream.len()),
+        Err(refusal) => writeln!(out, "{refusal}"),
+    }
+}
+
+/// Sends a query, and three that are refused.
+pub fn send_both_roads<W: Write>(alloc: Global, out: &mut W) -> Result<()> {
+    say(alloc, b"SELECT :a", Value::Int(1), out)?;
+    say(alloc, b"SELECT :a, ?", Value::Int(1), out)?;
+    say(alloc, b"SELECT 1-:a", Value::Int(1), out)?;
+    say(alloc, b"SELECT :b", Value::Int(1), out)?;
+    say(alloc, b"SELECT :a", Value::Float(0), out)
+}
