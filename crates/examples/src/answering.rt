@@ -1,7 +1,8 @@
 //! A server's handshake, and the client's answer to it.
 
 use mysql_login::{
-    CapabilityFlags, HandshakePacket, HandshakeResponse, MySerialize, ParseBuf, ParseExt, WireError,
+    CapabilityFlags, Flags, HandshakePacket, HandshakeResponse, MySerialize, ParseBuf, ParseExt,
+    WireError,
 };
 use std::alloc::Global;
 use std::borrow::CowSlice;

@@ -15,6 +15,7 @@ pub use mysql_auth::{
     InvalidPublicKeyRequest, InvalidPublicKeyResponse, OldAuthSwitchRequest, PublicKeyRequest,
     PublicKeyRequestHeader, PublicKeyResponse, PublicKeyResponseHeader, parse_parsec_salt,
 };
+pub use bitflags::Flags;
 pub use mysql_buf::ParseBuf;
 pub use mysql_const::{CapabilityFlags, MariadbCapabilities, StatusFlags};
 pub use mysql_handshake::HandshakePacket;
