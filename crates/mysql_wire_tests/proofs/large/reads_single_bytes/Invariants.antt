@@ -1,5 +1,5 @@
 use Rattle.mysql_wire.specs.Codec.{CanGoOn}
-use Rattle.mysql_wire_tests.proofs.large.a_long_packet_byte_by_byte.Given as goal
+use Rattle.mysql_wire_tests.proofs.large.reads_single_bytes.Given as goal
 
 -- the packet isn't whole yet
 abbrev pub invariant-loop : goal.invariant-loop

@@ -1,5 +1,5 @@
 use Rattle.mysql_wire.specs.Codec.{CanGoOn}
-use Rattle.mysql_wire_tests.proofs.large.a_full_chunk_in_small_pieces.Given as goal
+use Rattle.mysql_wire_tests.proofs.large.reads_small_pieces.Given as goal
 
 -- the packet isn't whole yet
 abbrev pub invariant-loop : goal.invariant-loop

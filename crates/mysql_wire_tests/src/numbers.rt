@@ -1,0 +1,127 @@
+//! Numbers in their representations.
+
+use crate::support::Asserting;
+use mysql_buf::ParseBuf;
+use mysql_raw::{
+    IntRepr, LeI16, LeI24, LeI32, LeI56, LeI64, LeU16, LeU24, LeU32, LeU32LowerHalf,
+    LeU32UpperHalf, LeU48, LeU56, LeU64, LenEnc, ParseExt, RawInt, VarLen, WireError,
+};
+use std::alloc::Global;
+use std::fmt::Debug;
+use std::test::*;
+use tests_support::{
+    Assert, assert_cut_off, assert_equal, assert_same, assert_written, first_of, once_more, whole,
+};
+
+// Asserts that a number in a representation, through its bound, is written as these bytes, and that they are read as it.
+fn assert_number<T: IntRepr<Primitive = P>, P: Copy + PartialEq + Debug + Drop>(
+    assert: &impl Assert,
+    alloc: Global,
+    number: P,
+    bytes: &[u8],
+) {
+    let value: RawInt<T> = RawInt::new(number);
+    assert_written(assert, alloc, &value, bytes);
+    assert_same(
+        assert,
+        &whole::<RawInt<T>, ()>(assert, alloc, (), bytes).0,
+        &number,
+    );
+}
+
+#[test]
+fn unsigned_numbers(rt: HostRuntime) {
+    let assert = Asserting(&rt);
+    let alloc = rt.alloc();
+    let eight: [u8; 8] = [1, 2, 3, 4, 5, 6, 7, 8];
+    assert_number::<u8, u8>(&assert, alloc, 7, &[7]);
+    assert_number::<LeU16, u16>(&assert, alloc, 0x0201, &eight[..2]);
+    assert_number::<LeU24, u32>(&assert, alloc, 0x03_0201, &eight[..3]);
+    assert_number::<LeU32, u32>(&assert, alloc, 0x0403_0201, &eight[..4]);
+    assert_number::<LeU48, u64>(&assert, alloc, 0x0605_0403_0201, &eight[..6]);
+    assert_number::<LeU56, u64>(&assert, alloc, 0x07_0605_0403_0201, &eight[..7]);
+    assert_number::<LeU64, u64>(&assert, alloc, 0x0807_0605_0403_0201, &eight);
+}
+
+#[test]
+fn halves_and_lengths(rt: HostRuntime) {
+    let assert = Asserting(&rt);
+    let alloc = rt.alloc();
+    assert_number::<LeU32LowerHalf, u32>(&assert, alloc, 0x0605, &[5, 6]);
+    assert_number::<LeU32UpperHalf, u32>(&assert, alloc, 0x0403_0000, &[3, 4]);
+    assert_number::<LenEnc, u64>(&assert, alloc, 251, &[0xfc, 0xfb, 0]);
+    assert_number::<VarLen, u64>(&assert, alloc, 128, &[1, 2]);
+}
+
+#[test]
+fn signed_numbers(rt: HostRuntime) {
+    let assert = Asserting(&rt);
+    let alloc = rt.alloc();
+    let ones: [u8; 7] = [0xff; 7];
+    assert_number::<i8, i8>(&assert, alloc, -1, &[0xff]);
+    assert_number::<LeI16, i16>(&assert, alloc, -2, &[0xfe, 0xff]);
+    assert_number::<LeI24, i32>(&assert, alloc, -2, &[0xfe, 0xff, 0xff]);
+    assert_number::<LeI32, i32>(&assert, alloc, -3, &[0xfd, 0xff, 0xff, 0xff]);
+    assert_number::<LeI56, i64>(
+        &assert,
+        alloc,
+        -4,
+        &[0xfc, 0xff, 0xff, 0xff, 0xff, 0xff, 0xff],
+    );
+    assert_number::<LeI64, i64>(
+        &assert,
+        alloc,
+        -5,
+        &[0xfb, 0xff, 0xff, 0xff, 0xff, 0xff, 0xff, 0xff],
+    );
+}
+
+// Asserts that the number which stands first is this one.
+fn assert_first<T: IntRepr<Primitive = P>, P: Copy + PartialEq + Debug + Drop>(
+    assert: &impl Assert,
+    alloc: Global,
+    buf: &mut ParseBuf<'_>,
+    wanted: P,
+) {
+    assert_same(
+        assert,
+        &first_of::<RawInt<T>, ()>(assert, alloc, (), buf).0,
+        &wanted,
+    );
+}
+
+#[test]
+fn numbers_one_after_another(rt: HostRuntime) {
+    let assert = Asserting(&rt);
+    let alloc = rt.alloc();
+    let mut buf = ParseBuf(&[1, 2, 3, 4, 5, 6, 7, 0xfe, 0xff, 0xff, 3, 4, 9]);
+    assert_first::<LeU56, u64>(&assert, alloc, &mut buf, 0x07_0605_0403_0201);
+    assert_first::<LeI24, i32>(&assert, alloc, &mut buf, -2);
+    assert_first::<LeU32UpperHalf, u32>(&assert, alloc, &mut buf, 0x0403_0000);
+    assert_equal(&assert, buf.len(), 1);
+}
+
+#[test]
+fn a_number_that_is_there(rt: HostRuntime) {
+    let assert = Asserting(&rt);
+    let mut buf = ParseBuf(&[7, 8]);
+    let first = buf.parse_unchecked::<RawInt<u8>>(rt.alloc(), ());
+    // A number asks for no memory.
+    assert_same(
+        &assert,
+        &once_more(&assert, first, Err(WireError::Memory)).0,
+        &7,
+    );
+    assert_equal(&assert, buf.len(), 1);
+}
+
+#[test]
+fn numbers_cut_off(rt: HostRuntime) {
+    let assert = Asserting(&rt);
+    let alloc = rt.alloc();
+    let varlen = [0xff, 1, 2, 3, 4, 5, 6, 7, 8];
+    assert_cut_off::<RawInt<u8>, ()>(&assert, alloc, (), &[1], 0, 1);
+    assert_cut_off::<RawInt<LeU24>, ()>(&assert, alloc, (), &[1, 2, 3], 0, 3);
+    assert_cut_off::<RawInt<LenEnc>, ()>(&assert, alloc, (), &[0xfd, 1, 2, 3], 0, 4);
+    assert_cut_off::<RawInt<VarLen>, ()>(&assert, alloc, (), &varlen, 0, 9);
+}
