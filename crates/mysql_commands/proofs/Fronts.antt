@@ -130,6 +130,9 @@ types_over c s t own types h e = elim (place_count c.query == 0) as (λ b. cond 
     by_own None (Some ts) k x = ap (λ (o : Option Types). ok_or o NoTypes) (h.types ts k ∙ sym k) ∙ x
     by_own None None k x = let y : ok_or {T = Types} {E = StreamFault} None NoTypes ≡ Ok types = ap (λ (o : Option Types). ok_or o NoTypes) (sym k) ∙ x in absurd cc
 
+set_over : (s t : Standing) (head : layout.ExecuteHead) (types : Types) (set : Set) → t.pieces ≡ s.pieces → set_at s.pieces head.nulls 0 types head.cells ≡ Ok set → set_at t.pieces head.nulls 0 types head.cells ≡ Ok set
+set_over s t head types set h e = ap (λ (f : ℕ → Option (List ℕ)). set_at f head.nulls 0 types head.cells) h ∙ e
+
 execute_over : (c : Conversation) (s t : Standing) (body : List ℕ) (set : Set) → Extends s t → execute_at c s body ≡ Ok set → execute_at c t body ≡ Ok set
 unfolding execute_at
 execute_over c s t body set h e =
@@ -139,7 +142,7 @@ execute_over c s t body set h e =
     bind_from (must NotPrepared t.prepared) (λ prepared. execute_head c body >>= λ head. types_in_force c t head.own >>= λ types. set_at t.pieces head.nulls 0 types head.cells) 0 set (must_from NotPrepared t.prepared (h.prepared (must_ok NotPrepared s.prepared a.0 a.1)))
     (bind_from (execute_head c body) (λ head. types_in_force c t head.own >>= λ types. set_at t.pieces head.nulls 0 types head.cells) b.0 set b.1
     (bind_from (types_in_force c t b.0.own) (λ types. set_at t.pieces b.0.nulls 0 types b.0.cells) d.0 set (types_over c s t b.0.own d.0 h d.1)
-    (ap (λ (f : ℕ → Option (List ℕ)). set_at f b.0.nulls 0 d.0 b.0.cells) h.pieces ∙ d.2)))
+    (set_over s t b.0 d.0 set h.pieces d.2)))
 
 bulk_over : (c : Conversation) (s t : Standing) (body : List ℕ) (sets : List Set) → Extends s t → bulk_at c s body ≡ Ok sets → bulk_at c t body ≡ Ok sets
 unfolding bulk_at

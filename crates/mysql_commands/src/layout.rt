@@ -97,11 +97,7 @@ pub fn long_data<'a>(conversation: &Conversation, body: &'a [u8]) -> Result<Piec
 fn bitmap_len(places: usize) -> usize
     ensures { result ≡ (places + 7) / 8 }
 {
-    if places % 8 == 0 {
-        places / 8
-    } else {
-        places / 8 + 1
-    }
+    places.div_ceil(8)
 }
 
 #[tactic(auto, unfolding(crate::specs::Layout::binding_at))]

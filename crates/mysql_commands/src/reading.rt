@@ -209,5 +209,8 @@ pub fn waits(conversation: &Conversation, standing: &Standing) -> bool
 fn has_pieces(standing: &Standing, place: usize) -> bool
     ensures { result ≡ is_some (piece_kept standing.now.pieces.items place) }
 {
-    matches!(standing.pieces.get(place), Some(Some(_)))
+    match standing.pieces.get(place) {
+        Some(piece) => piece.is_some(),
+        None => false,
+    }
 }

@@ -1,5 +1,4 @@
-use Rattle.std.proofs.Common.{◌∙◌, ap, Some, None, refl, sym, arith}
-use Rattle.std.specs.Prelude.{Err}
+use Rattle.std.proofs.Common.{◌∙◌, ap, Some, sym, arith}
 use Rattle.mysql_commands.proofs.Receiving.{fed_feed, fed_short, fed_takes, stays_on, unless_by, on_by}
 use Rattle.mysql_commands.proofs.receiver.Receiver.feed.Goals as goal
 
