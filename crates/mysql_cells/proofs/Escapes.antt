@@ -1,7 +1,8 @@
 -- Copying runs of bytes that stand for themselves, and what stands for the bytes between.
-use Rattle.std.proofs.Common.{◌≡◌, ℕ, ◌+◌, ◌-◌, ◌<◌, ◌≤◌, List, [], ◌∷◌, ◌++◌, length, take, drop, get_or, flat_map, refl, sym, ap, ◌∙◌, subst, arith, append_assoc, append-nil, length-drop}
+use Rattle.std.proofs.Common.{◌≡◌, ℕ, ◌+◌, ◌-◌, ◌/◌, ◌%◌, ◌<◌, ◌≤◌, List, [], ◌∷◌, ◌++◌, length, take, drop, get_or, flat_map, refl, sym, ap, ◌∙◌, subst, arith, append_assoc, append-nil, length-drop}
 use Rattle.std.proofs.lemmas.List.{take_more, get_or-drop, take_all}
 use Rattle.std.proofs.lemmas.List.Concat.{flat_map-append}
+use Rattle.mysql_queries.specs.Written.{hex_digit}
 use Rattle.mysql_cells.proofs.Appended.{kept_behind}
 
 -- What was appended behind `old`, with the run that was not copied yet, stands for the first i bytes.
@@ -14,6 +15,14 @@ pub record IsEscaped (f : ℕ → List ℕ) (old out bytes : List ℕ) (start i 
 images_more : (f : ℕ → List ℕ) (bytes : List ℕ) (i : ℕ) → i < length bytes → flat_map f (take (i + 1) bytes) ≡ flat_map f (take i bytes) ++ f (get_or bytes i 0)
 images_more f bytes i h =
     ap (flat_map f) (take_more bytes i 0 h) ∙ flat_map-append f (take i bytes) (get_or bytes i 0 ∷ []) ∙ ap (λ t. flat_map f (take i bytes) ++ t) (append-nil (f (get_or bytes i 0)))
+
+-- two digits are put behind those of the bytes before
+pub hexadecimal_more : (init out new bytes : List ℕ) (i high low : ℕ) → i < length bytes → out ≡ init ++ flat_map (λ b. hex_digit (b / 16) ∷ hex_digit (b % 16) ∷ []) (take i bytes) → new ≡ out ++ high ∷ low ∷ [] →
+    high ≡ hex_digit (get_or bytes i 0 / 16) → low ≡ hex_digit (get_or bytes i 0 % 16) → new ≡ init ++ flat_map (λ b. hex_digit (b / 16) ∷ hex_digit (b % 16) ∷ []) (take (i + 1) bytes)
+hexadecimal_more init out new bytes i high low h e put first second =
+    let digits : ℕ → List ℕ = λ b. hex_digit (b / 16) ∷ hex_digit (b % 16) ∷ [] in
+    put ∙ ap (λ t. t ++ high ∷ low ∷ []) e ∙ append_assoc init (flat_map digits (take i bytes)) (high ∷ low ∷ [])
+    ∙ ap (λ t. init ++ t) (ap (λ d. flat_map digits (take i bytes) ++ d ∷ low ∷ []) first ∙ ap (λ d. flat_map digits (take i bytes) ++ hex_digit (get_or bytes i 0 / 16) ∷ d ∷ []) second ∙ sym (images_more digits bytes i h))
 
 -- one byte more of a run
 run_more : (bytes : List ℕ) (start i : ℕ) → start ≤ i → i < length bytes → take (i + 1 - start) (drop start bytes) ≡ take (i - start) (drop start bytes) ++ get_or bytes i 0 ∷ []
