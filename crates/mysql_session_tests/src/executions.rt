@@ -1,176 +1,318 @@
-//! Sets sent by prepared execution.
+//! Prepared statements and their executions, sent and read.
 
-use crate::support;
-use crate::support::{assert_holds, bytes, named, read_by_bytes, read_whole, sent};
-use mysql_session::{Audit, Content, End, Params, Refusal, Road, Value};
-use std::alloc::{AllocError, Global};
+use crate::audits::{Stream, Want, WantedSet, assert_packets, assert_streams};
+use crate::sending::{Given, RoundTrip, Sending, Set, assert_appended, assert_round_trips};
+use crate::support::Asserting;
+use mysql_session::{End, Road, StreamFault};
+use std::alloc::Global;
+use tests_support::Assert;
 
 const QUERY: &[u8] = b"SELECT :a";
 
-/// Whether one value is sent as this stream, and read back as this content.
-fn goes_round(
-    alloc: Global,
-    value: Value,
-    stream: &[u8],
-    wanted: &Content,
-) -> Result<bool, AllocError> {
-    support::goes_round(alloc, QUERY, Road::Execute, value, stream, wanted)
-}
+const PREPARE: &[u8] = b"\x09\0\0\0\x16SELECT ?";
+
+const EXECUTE_1: &[u8] = b"\x16\0\0\0\x17\x01\0\0\0\0\x01\0\0\0\0\x01\x08\0\x01\0\0\0\0\0\0\0";
+
+const EXECUTE_NULL: &[u8] = b"\x0e\0\0\0\x17\x01\0\0\0\0\x01\0\0\0\x01\x01\x06\0";
+
+const LONG_DATA: &[u8] = b"\x08\0\0\0\x18\x01\0\0\0\0\0x";
+
+const ONE: WantedSet = &[Want::Number(1)];
+
+const SENT: [RoundTrip; 8] = [
+    (
+        (Road::Execute, QUERY, &[Set::A(Given::Int(1))], 1000),
+        b"\x09\0\0\0\x16SELECT ?\x16\0\0\0\x17\x01\0\0\0\0\x01\0\0\0\0\x01\x08\0\x01\0\0\0\0\0\0\0",
+        &[ONE],
+    ),
+    (
+        (Road::Execute, QUERY, &[Set::A(Given::Null)], 1000),
+        b"\x09\0\0\0\x16SELECT ?\x0e\0\0\0\x17\x01\0\0\0\0\x01\0\0\0\x01\x01\x06\0",
+        &[&[Want::Null]],
+    ),
+    // A placeholder that does not stand alone.
+    (
+        (
+            Road::Execute,
+            b"SELECT 1-:a",
+            &[Set::A(Given::Int(5))],
+            1000,
+        ),
+        b"\x0b\0\0\0\x16SELECT 1-?\x16\0\0\0\x17\x01\0\0\0\0\x01\0\0\0\0\x01\x08\0\x05\0\0\0\0\0\0\0",
+        &[&[Want::Number(5)]],
+    ),
+    (
+        (
+            Road::Execute,
+            QUERY,
+            &[Set::A(Given::Day(2024, 2, 29))],
+            1000,
+        ),
+        b"\x09\0\0\0\x16SELECT ?\x13\0\0\0\x17\x01\0\0\0\0\x01\0\0\0\0\x01\x0c\0\x04\xe8\x07\x02\x1d",
+        &[&[Want::Bytes(b"2024-02-29")]],
+    ),
+    // The sign of a time of all zeros does not count.
+    (
+        (Road::Execute, QUERY, &[Set::A(Given::ZeroTime)], 1000),
+        b"\x09\0\0\0\x16SELECT ?\x0f\0\0\0\x17\x01\0\0\0\0\x01\0\0\0\0\x01\x0b\0\0",
+        &[&[Want::Bytes(b"000:00:00")]],
+    ),
+    // One prepare, and two executions, of which the first has an unsigned number.
+    (
+        (
+            Road::Execute,
+            QUERY,
+            &[Set::A(Given::UInt(255)), Set::A(Given::Int(-1))],
+            1000,
+        ),
+        b"\x09\0\0\0\x16SELECT ?\x16\0\0\0\x17\x01\0\0\0\0\x01\0\0\0\0\x01\x08\x80\xff\0\0\0\0\0\0\0\x16\0\0\0\x17\x01\0\0\0\0\x01\0\0\0\0\x01\x08\0\xff\xff\xff\xff\xff\xff\xff\xff",
+        &[&[Want::Number(255)], &[Want::Number(-1)]],
+    ),
+    (
+        (
+            Road::Execute,
+            QUERY,
+            &[Set::A(Given::Int(1)), Set::A(Given::Int(10))],
+            26,
+        ),
+        b"\x09\0\0\0\x16SELECT ?\x16\0\0\0\x17\x01\0\0\0\0\x01\0\0\0\0\x01\x08\0\x01\0\0\0\0\0\0\0\x16\0\0\0\x17\x01\0\0\0\0\x01\0\0\0\0\x01\x08\0\x0a\0\0\0\0\0\0\0",
+        &[ONE, &[Want::Number(10)]],
+    ),
+    ((Road::Execute, QUERY, &[], 1000), PREPARE, &[]),
+];
 
 #[test]
-fn a_number(rt: HostRuntime) {
-    let alloc = rt.alloc();
-    let stream: &[u8] =
-        b"\x09\0\0\0\x16SELECT ?\x16\0\0\0\x17\x01\0\0\0\0\x01\0\0\0\0\x01\x08\0\x01\0\0\0\0\0\0\0";
-    let wanted = Content::Number(1);
-    assert_holds(
-        &rt,
-        goes_round(alloc, Value::Int(1), stream, &wanted),
-        goes_round(alloc, Value::Int(1), stream, &wanted),
-    );
+fn sent_by_execute(rt: HostRuntime) {
+    assert_round_trips(&Asserting(&rt), rt.alloc(), &SENT);
 }
 
-#[test]
-fn null(rt: HostRuntime) {
-    let alloc = rt.alloc();
-    let stream: &[u8] = b"\x09\0\0\0\x16SELECT ?\x0e\0\0\0\x17\x01\0\0\0\0\x01\0\0\0\x01\x01\x06\0";
-    assert_holds(
-        &rt,
-        goes_round(alloc, Value::NULL, stream, &Content::Null),
-        goes_round(alloc, Value::NULL, stream, &Content::Null),
-    );
-}
+const ONE_BY_TEXT: Sending = (Road::Text, QUERY, &[Set::A(Given::Int(1))], 1000);
 
-/// A placeholder that does not stand alone is executed.
-fn minus(alloc: Global) -> Result<bool, AllocError> {
-    let stream: &[u8] =
-        b"\x0b\0\0\0\x16SELECT 1-?\x16\0\0\0\x17\x01\0\0\0\0\x01\0\0\0\0\x01\x08\0\x05\0\0\0\0\0\0\0";
-    support::goes_round(
-        alloc,
-        b"SELECT 1-:a",
-        Road::Execute,
-        Value::Int(5),
-        stream,
-        &Content::Number(5),
-    )
-}
+const TWO_BY_EXECUTE: Sending = (Road::Execute, QUERY, &[Set::A(Given::Int(2))], 1000);
 
-#[test]
-fn not_alone(rt: HostRuntime) {
-    assert_holds(&rt, minus(rt.alloc()), minus(rt.alloc()));
-}
-
-fn text(alloc: Global, text: &[u8]) -> Result<Content, AllocError> {
-    match bytes(alloc, text)? {
-        Value::Bytes(bytes) => Ok(Content::Bytes(bytes)),
-        _ => Ok(Content::Null),
-    }
-}
-
-fn date(alloc: Global) -> Result<bool, AllocError> {
-    let stream: &[u8] =
-        b"\x09\0\0\0\x16SELECT ?\x13\0\0\0\x17\x01\0\0\0\0\x01\0\0\0\0\x01\x0c\0\x04\xe8\x07\x02\x1d";
-    goes_round(
-        alloc,
-        Value::Date(2024, 2, 29, 0, 0, 0, 0),
-        stream,
-        &text(alloc, b"2024-02-29")?,
-    )
-}
-
-/// The sign of a time of all zeros does not count.
-fn time(alloc: Global) -> Result<bool, AllocError> {
-    let stream: &[u8] = b"\x09\0\0\0\x16SELECT ?\x0f\0\0\0\x17\x01\0\0\0\0\x01\0\0\0\0\x01\x0b\0\0";
-    goes_round(
-        alloc,
-        Value::Time(true, 0, 0, 0, 0, 0),
-        stream,
-        &text(alloc, b"000:00:00")?,
-    )
-}
-
-#[test]
-fn dates_and_times(rt: HostRuntime) {
-    assert_holds(&rt, date(rt.alloc()), date(rt.alloc()));
-    assert_holds(&rt, time(rt.alloc()), time(rt.alloc()));
-}
-
-/// Whether the audit is whole and has two sets of one number each, which are the wanted ones.
-fn says_two(audit: Option<Audit>, first: i128, second: i128) -> bool {
-    match audit {
-        Some(audit) => {
-            matches!(audit.end, End::Whole)
-                && audit.sets.len() == 2
-                && audit.sets[0].len() == 1
-                && audit.sets[1].len() == 1
-                && audit.sets[0][0] == Content::Number(first)
-                && audit.sets[1][0] == Content::Number(second)
-        }
-        None => false,
-    }
-}
-
-fn read_as_two(alloc: Global, out: &[u8], first: i128, second: i128) -> bool {
-    says_two(read_whole(alloc, QUERY, 1000, out), first, second)
-        && says_two(read_by_bytes(alloc, QUERY, 1000, out), first, second)
-}
-
-/// One prepare, and two executions, of which the first has an unsigned number.
-fn two(alloc: Global) -> Result<bool, AllocError> {
-    let mut sets = Vec::new(alloc);
-    sets.push(named(alloc, b"a", Value::UInt(255))?)?;
-    sets.push(named(alloc, b"a", Value::Int(-1))?)?;
-    let mut out = Vec::new(alloc);
-    let stream: &[u8] =
-        b"\x09\0\0\0\x16SELECT ?\x16\0\0\0\x17\x01\0\0\0\0\x01\0\0\0\0\x01\x08\x80\xff\0\0\0\0\0\0\0\x16\0\0\0\x17\x01\0\0\0\0\x01\0\0\0\0\x01\x08\0\xff\xff\xff\xff\xff\xff\xff\xff";
-    Ok(
-        sent(alloc, QUERY, &sets, Road::Execute, 1000, &mut out).is_ok()
-            && out.as_slice() == stream
-            && read_as_two(alloc, &out, 255, -1),
-    )
-}
-
-#[test]
-fn two_sets(rt: HostRuntime) {
-    assert_holds(&rt, two(rt.alloc()), two(rt.alloc()));
-}
-
-/// Whether the prepare is sent for no sets, and refused where it is too large.
-fn prepared(alloc: Global) -> Result<bool, AllocError> {
-    let none: &[Params] = &[];
-    let mut out = Vec::new(alloc);
-    let refused = sent(alloc, QUERY, none, Road::Execute, 4, &mut out);
-    Ok(
-        matches!(refused, Err(Refusal::PrepareTooLarge))
-            && sent(alloc, QUERY, none, Road::Execute, 1000, &mut out).is_ok()
-            && out.as_slice() == b"\x09\0\0\0\x16SELECT ?".as_slice(),
-    )
-}
-
-#[test]
-fn no_sets(rt: HostRuntime) {
-    assert_holds(&rt, prepared(rt.alloc()), prepared(rt.alloc()));
-}
-
-fn numbers(alloc: Global, number: i64) -> Result<Vec<Params>, AllocError> {
-    let mut sets = Vec::new(alloc);
-    sets.push(named(alloc, b"a", Value::Int(number))?)?;
-    Ok(sets)
-}
-
-/// Whether a set by text, and one by execute behind it, read as both.
-fn both(alloc: Global) -> Result<bool, AllocError> {
-    let first = numbers(alloc, 1)?;
-    let second = numbers(alloc, 2)?;
-    let mut out = Vec::new(alloc);
-    Ok(
-        sent(alloc, QUERY, &first, Road::Text, 1000, &mut out).is_ok()
-            && sent(alloc, QUERY, &second, Road::Execute, 1000, &mut out).is_ok()
-            && read_as_two(alloc, &out, 1, 2),
-    )
-}
-
+/// A set by text, and one by execute behind it.
 #[test]
 fn both_roads(rt: HostRuntime) {
-    assert_holds(&rt, both(rt.alloc()), both(rt.alloc()));
+    let assert = Asserting(&rt);
+    let alloc = rt.alloc();
+    let mut out = Vec::new(alloc);
+    assert_appended(&assert, alloc, ONE_BY_TEXT, &mut out);
+    assert_appended(&assert, alloc, TWO_BY_EXECUTE, &mut out);
+    assert_packets(
+        &assert,
+        alloc,
+        QUERY,
+        &[out.as_slice()],
+        &[ONE, &[Want::Number(2)]],
+        End::Whole,
+    );
+}
+
+const CELLS: [Stream; 13] = [
+    (&[PREPARE, EXECUTE_1], &[ONE], End::Whole),
+    (&[PREPARE, EXECUTE_NULL], &[&[Want::Null]], End::Whole),
+    (
+        &[
+            PREPARE,
+            b"\x13\0\0\0\x17\x01\0\0\0\0\x01\0\0\0\0\x01\x0c\0\x04\xe8\x07\x02\x1d",
+        ],
+        &[&[Want::Bytes(b"2024-02-29")]],
+        End::Whole,
+    ),
+    (
+        &[
+            PREPARE,
+            b"\x0f\0\0\0\x17\x01\0\0\0\0\x01\0\0\0\0\x01\x0b\0\0",
+        ],
+        &[&[Want::Bytes(b"000:00:00")]],
+        End::Whole,
+    ),
+    (
+        &[
+            PREPARE,
+            b"\x12\0\0\0\x17\x01\0\0\0\0\x01\0\0\0\0\x01\xfd\0\xfc\x01\0a",
+        ],
+        &[&[Want::Bytes(b"a")]],
+        End::Whole,
+    ),
+    (
+        &[
+            PREPARE,
+            b"\x0f\0\0\0\x17\x01\0\0\0\0\x01\0\0\0\0\x01\xfd\0\xfb",
+        ],
+        &[&[Want::Bytes(b"")]],
+        End::Whole,
+    ),
+    (
+        &[
+            PREPARE,
+            b"\x14\0\0\0\x17\x01\0\0\0\0\x01\0\0\0\0\x01\x0c\0\x05\xe8\x07\x02\x1dc",
+        ],
+        &[&[Want::Bytes(b"2024-02-29")]],
+        End::Whole,
+    ),
+    (
+        &[
+            PREPARE,
+            b"\x0f\0\0\0\x17\x01\0\0\0\0\x01\0\0\0\0\x01\x01\x80\xff",
+        ],
+        &[&[Want::Number(255)]],
+        End::Whole,
+    ),
+    (
+        &[
+            PREPARE,
+            b"\x0f\0\0\0\x17\x01\0\0\0\0\x01\0\0\0\0\x01\x01\0\xff",
+        ],
+        &[&[Want::Number(-1)]],
+        End::Whole,
+    ),
+    (
+        &[
+            PREPARE,
+            b"\x0e\0\0\0\x17\x01\0\0\0\0\x01\0\0\0\x01\x01\x04\0",
+        ],
+        &[&[Want::Null]],
+        End::Whole,
+    ),
+    (
+        &[
+            PREPARE,
+            b"\x12\0\0\0\x17\x01\0\0\0\0\x01\0\0\0\0\x01\x04\0\0\0\x80\x3f",
+        ],
+        &[],
+        End::Fault(1, StreamFault::Float),
+    ),
+    (
+        &[PREPARE, b"\x0e\0\0\0\x17\x01\0\0\0\0\x01\0\0\0\0\x01\xf3\0"],
+        &[],
+        End::Fault(1, StreamFault::BadType),
+    ),
+    (
+        &[
+            PREPARE,
+            b"\x16\0\0\0\x17\x01\0\0\0\0\x01\0\0\0\0\x01\x08\x40\0\0\0\0\0\0\0\0",
+        ],
+        &[],
+        End::Fault(1, StreamFault::BadType),
+    ),
+];
+
+const BAD_EXECUTE: End = End::Fault(1, StreamFault::BadExecute);
+
+const FAULTS: [Stream; 7] = [
+    (&[EXECUTE_1], &[], End::Fault(0, StreamFault::NotPrepared)),
+    (
+        &[
+            PREPARE,
+            b"\x16\0\0\0\x17\x02\0\0\0\0\x01\0\0\0\0\x01\x08\0\x01\0\0\0\0\0\0\0",
+        ],
+        &[],
+        End::Fault(1, StreamFault::WrongId),
+    ),
+    // A byte behind the cell, a cursor, a count of 2, and types that stand neither way.
+    (
+        &[
+            PREPARE,
+            b"\x17\0\0\0\x17\x01\0\0\0\0\x01\0\0\0\0\x01\x08\0\x01\0\0\0\0\0\0\0\0",
+        ],
+        &[],
+        BAD_EXECUTE,
+    ),
+    (
+        &[
+            PREPARE,
+            b"\x16\0\0\0\x17\x01\0\0\0\x01\x01\0\0\0\0\x01\x08\0\x01\0\0\0\0\0\0\0",
+        ],
+        &[],
+        BAD_EXECUTE,
+    ),
+    (
+        &[
+            PREPARE,
+            b"\x16\0\0\0\x17\x01\0\0\0\0\x02\0\0\0\0\x01\x08\0\x01\0\0\0\0\0\0\0",
+        ],
+        &[],
+        BAD_EXECUTE,
+    ),
+    (
+        &[PREPARE, b"\x0c\0\0\0\x17\x01\0\0\0\0\x01\0\0\0\0\x02"],
+        &[],
+        BAD_EXECUTE,
+    ),
+    (
+        &[b"\x09\0\0\0\x16SELECT !"],
+        &[],
+        End::Fault(0, StreamFault::PrepareMismatch),
+    ),
+];
+
+const TYPED_5: &[u8] = b"\x0f\0\0\0\x17\x01\0\0\0\0\x01\0\0\0\0\x01\x01\0\x05";
+
+const UNTYPED_7: &[u8] = b"\x0d\0\0\0\x17\x01\0\0\0\0\x01\0\0\0\0\0\x07";
+
+const FIVE: WantedSet = &[Want::Number(5)];
+
+const SEVEN: WantedSet = &[Want::Number(7)];
+
+/// Types that are kept up to the next prepare, and long data.
+const KEPT: [Stream; 6] = [
+    (&[PREPARE, TYPED_5, UNTYPED_7], &[FIVE, SEVEN], End::Whole),
+    (
+        &[PREPARE, TYPED_5, UNTYPED_7, PREPARE, UNTYPED_7],
+        &[FIVE, SEVEN],
+        End::Fault(4, StreamFault::NoTypes),
+    ),
+    (&[PREPARE, LONG_DATA], &[], End::WaitingPieces),
+    (
+        &[PREPARE, b"\x07\0\0\0\x18\x01\0\0\0\x01\0"],
+        &[],
+        End::Fault(1, StreamFault::BadPlace),
+    ),
+    (
+        &[PREPARE, LONG_DATA, EXECUTE_NULL],
+        &[&[Want::Bytes(b"x")]],
+        End::Whole,
+    ),
+    (
+        &[PREPARE, LONG_DATA, LONG_DATA, EXECUTE_NULL],
+        &[&[Want::Bytes(b"xx")]],
+        End::Whole,
+    ),
+];
+
+#[test]
+fn cells(rt: HostRuntime) {
+    assert_streams(&Asserting(&rt), rt.alloc(), QUERY, &CELLS);
+}
+
+#[test]
+fn faults(rt: HostRuntime) {
+    assert_streams(&Asserting(&rt), rt.alloc(), QUERY, &FAULTS);
+}
+
+#[test]
+fn kept_types_and_long_data(rt: HostRuntime) {
+    assert_streams(&Asserting(&rt), rt.alloc(), QUERY, &KEPT);
+}
+
+/// Asserts that an execution is refused that is cut off before the end of its payload.
+fn assert_cut_off<'a>(
+    assert: &impl Assert,
+    alloc: Global,
+    prepare: &'a [u8],
+    header: &'a [u8],
+    payload: &'a [u8],
+) {
+    let packets = [prepare, header, payload];
+    assert_packets(assert, alloc, QUERY, &packets, &[], BAD_EXECUTE);
+}
+
+#[test]
+fn cut_off(rt: HostRuntime) {
+    for len in 5..22u8 {
+        let header = [len, 0, 0, 0];
+        let payload = &EXECUTE_1[4..4 + len as usize];
+        assert_cut_off(&Asserting(&rt), rt.alloc(), PREPARE, &header, payload);
+    }
 }

@@ -1,10 +1,20 @@
-//! Tests of `mysql_session` from outside: parameter sets that are sent and read back, in one piece and byte by byte.
+//! Tests of `mysql_session` from outside: parameter sets that are sent and read back, streams of commands and replies, in one
+//! piece and byte by byte.
 //!
-//! At most one allocation of a run is refused. So a call that answers that memory was refused is called once more.
+//! At most one allocation of a run is refused. So a call that answers that memory was refused is made once more, and then has
+//! to answer.
 #![tactic(auto)]
 
 #[cfg(test)]
+mod audits;
+#[cfg(test)]
+mod bulk;
+#[cfg(test)]
 mod executions;
+#[cfg(test)]
+mod expected;
+#[cfg(test)]
+mod faults;
 #[cfg(test)]
 mod large;
 #[cfg(test)]
@@ -13,6 +23,10 @@ mod program;
 mod refusals;
 #[cfg(test)]
 mod replies;
+#[cfg(test)]
+mod rows;
+#[cfg(test)]
+mod sending;
 #[cfg(test)]
 mod support;
 #[cfg(test)]

@@ -1,9 +1,11 @@
 //! The program's function.
 
+use crate::support::Asserting;
 use mysql_session::{Status, run};
-use std::alloc::Global;
+use std::alloc::{AllocError, Global};
 use std::io;
 use std::io::Write;
+use tests_support::{Assert, assert_answer, assert_equal, once_more};
 
 /// A writer that takes so many bytes, and then fails.
 #[derive(Drop)]
@@ -34,36 +36,62 @@ fn status_of(alloc: Global, left: usize) -> Status {
     run(alloc, &[], &mut input, &mut Failing { left })
 }
 
+const LINES: &[u8] = b"09 00 00 00 03 53 45 4c 45 43 54 20 31\nset 0: 1\nend: whole\n";
+
+/// Whether a run that ends with this status prints so.
+fn is_printed(status: Status, output: &[u8]) -> bool {
+    match status {
+        Status::Whole => output == LINES,
+        Status::Refused => output.ends_with(b" Memory\n"),
+        // The output's own buffer could not grow.
+        Status::Usage => LINES.starts_with(output),
+    }
+}
+
+/// Whether the run does what it is asked for. Else it says that memory was refused.
+fn is_whole(assert: &impl Assert, alloc: Global) -> bool {
+    let mut input: &[u8] = b"";
+    let mut output = Vec::new(alloc);
+    let status = run(alloc, &[], &mut input, &mut output);
+    assert.holds(is_printed(status, output.as_slice()));
+    status == Status::Whole
+}
+
 #[test]
 fn prints(rt: HostRuntime) {
-    let mut input: &[u8] = b"";
-    let mut output = Vec::new(rt.alloc());
-    let status = run(rt.alloc(), &[], &mut input, &mut output);
-    let lines: &[u8] = b"09 00 00 00 03 53 45 4c 45 43 54 20 31\nset 0: 1\nend: whole\n";
-    let refused = status == Status::Refused && output.as_slice().ends_with(b" Memory\n");
-    let printed = status == Status::Whole && output.as_slice() == lines;
-    // The output's own buffer may be what can't grow.
-    let cut_off = status == Status::Usage && lines.starts_with(output.as_slice());
-    assert!(rt; printed || refused || cut_off);
+    let assert = Asserting(&rt);
+    let first = is_whole(&assert, rt.alloc());
+    let second = is_whole(&assert, rt.alloc());
+    assert.holds(first || second);
 }
 
 #[test]
 fn a_failing_writer_ends_the_run(rt: HostRuntime) {
     for left in 0..10 {
-        assert!(rt; status_of(rt.alloc(), left) != Status::Whole);
+        let first = status_of(rt.alloc(), left);
+        let second = status_of(rt.alloc(), left);
+        assert_answer(
+            &Asserting(&rt),
+            first,
+            second,
+            Status::Refused,
+            Status::Usage,
+        );
     }
+}
+
+fn one_word(alloc: Global) -> Result<Vec<String>, AllocError> {
+    let mut words = Vec::new(alloc);
+    words.push(String::from_str(alloc, "help")?)?;
+    Ok(words)
 }
 
 #[test]
 fn unknown_words(rt: HostRuntime) {
-    let mut words = Vec::new(rt.alloc());
-    let Ok(word) = String::from_str(rt.alloc(), "help") else {
-        return;
-    };
-    if words.push(word).is_err() {
-        return;
-    }
+    let assert = Asserting(&rt);
+    let words = once_more(&assert, one_word(rt.alloc()), one_word(rt.alloc()));
     let mut input: &[u8] = b"";
     let mut output = Vec::new(rt.alloc());
-    assert!(rt; run(rt.alloc(), &words, &mut input, &mut output) == Status::Usage);
+    let status = run(rt.alloc(), words.as_slice(), &mut input, &mut output);
+    assert_equal(&assert, status, Status::Usage);
 }

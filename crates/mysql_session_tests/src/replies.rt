@@ -1,45 +1,142 @@
-//! Replies to commands.
+//! Replies of one packet: OK, an error, a file that is asked for; progress reports before them.
 
-use mysql_session::{
-    CapabilityFlags, Reply, ReplyEnd, ReplyFault, ReplyKind, ReplyResult, read_reply,
-};
-use std::alloc::Global;
+use crate::expected::{Expected, Row, assert_reads, assert_replies};
+use crate::support::Asserting;
+use mysql_session::{CapabilityFlags, ReplyEnd, ReplyFault, StatusFlags};
 
-/// An OK packet with one affected row, whose number goes on from a command of two chunks.
-const DONE: [u8; 11] = [7, 0, 0, 2, 0, 1, 0, 2, 0, 0, 0];
+const TEXT: CapabilityFlags = CapabilityFlags::CLIENT_PROTOCOL_41;
 
-fn read(alloc: Global, first_id: u8) -> Reply {
-    read_reply(
-        alloc,
-        ReplyKind::Text,
-        CapabilityFlags::CLIENT_PROTOCOL_41,
-        first_id,
-        1000,
-        &[&DONE],
-    )
-}
+const WITH_PROGRESS: CapabilityFlags = CapabilityFlags(0x2000_0200);
 
-/// The reply, read once more where a growth was refused.
-fn reply(alloc: Global, first_id: u8) -> Reply {
-    let first = read(alloc, first_id);
-    match first.end {
-        ReplyEnd::Fault(_, ReplyFault::Memory) => read(alloc, first_id),
-        _ => first,
-    }
-}
+const AUTOCOMMIT: StatusFlags = StatusFlags(2);
 
-fn is_done(reply: &Reply) -> bool {
-    match reply.results.as_slice() {
-        [ReplyResult::Ok(packet)] => packet.affected_rows() == 1,
-        _ => false,
-    }
+/// An OK packet with number 1: one row was changed.
+const DONE: [u8; 11] = [7, 0, 0, 1, 0, 1, 0, 2, 0, 0, 0];
+
+const CHANGED_ONE: Expected = Expected::Ok(1, AUTOCOMMIT);
+
+/// An OK packet that says that another result follows.
+const MORE: &[u8] = b"\x07\0\0\x01\0\0\0\x0a\0\0\0";
+
+const PROGRESS: &[u8] =
+    b"\x14\x00\x00\x01\xff\xff\xff\x01\x01\x0a\xcc\x5b\x00\x0astage name\x07\x00\x00\x02\x00\x01\x00\x02\x00\x00\x00";
+
+const REPLIES: [Row; 7] = [
+    (&[&DONE], &[CHANGED_ONE], ReplyEnd::Whole),
+    (
+        &[b"\x07\0\0\x01\0\x01\0\x02\0\0"],
+        &[],
+        ReplyEnd::Unfinished,
+    ),
+    (
+        &[MORE],
+        &[Expected::Ok(0, StatusFlags(0x0a))],
+        ReplyEnd::Unfinished,
+    ),
+    (
+        &[MORE, b"\x07\0\0\x02\0\x05\0\x02\0\0\0"],
+        &[
+            Expected::Ok(0, StatusFlags(0x0a)),
+            Expected::Ok(5, AUTOCOMMIT),
+        ],
+        ReplyEnd::Whole,
+    ),
+    (
+        &[b"\x17\x00\x00\x01\xff\x48\x04#HY000No tables used"],
+        &[Expected::Error(1096, b"HY000", b"No tables used")],
+        ReplyEnd::Whole,
+    ),
+    (
+        &[b"\x01\0\0\x01\xfb"],
+        &[Expected::File(b"")],
+        ReplyEnd::Whole,
+    ),
+    // Without the capability a progress report is an error packet.
+    (&[PROGRESS], &[], ReplyEnd::Fault(0, ReplyFault::BadError)),
+];
+
+#[test]
+fn one_packet(rt: HostRuntime) {
+    assert_replies(&Asserting(&rt), rt.alloc(), TEXT, &REPLIES);
 }
 
 #[test]
+fn a_progress_report(rt: HostRuntime) {
+    assert_reads(
+        &Asserting(&rt),
+        rt.alloc(),
+        (WITH_PROGRESS, 1),
+        PROGRESS,
+        &[(1, 10, 23500, b"stage name")],
+        &[CHANGED_ONE],
+        ReplyEnd::Whole,
+    );
+}
+
+/// An OK packet whose number goes on from a command of two chunks.
+const DONE_AFTER_TWO_CHUNKS: [u8; 11] = [7, 0, 0, 2, 0, 1, 0, 2, 0, 0, 0];
+
+const OUT_OF_SYNC: ReplyEnd = ReplyEnd::Fault(0, ReplyFault::OutOfSync);
+
+/// Packets, the number that is due first, and what is read then.
+const NUMBERED: [(&[u8], u8, &[Expected], ReplyEnd); 4] = [
+    (&DONE, 0, &[], OUT_OF_SYNC),
+    (&DONE, 1, &[CHANGED_ONE], ReplyEnd::Whole),
+    (&DONE_AFTER_TWO_CHUNKS, 1, &[], OUT_OF_SYNC),
+    (&DONE_AFTER_TWO_CHUNKS, 2, &[CHANGED_ONE], ReplyEnd::Whole),
+];
+
+#[test]
 fn numbered_on_from_the_command(rt: HostRuntime) {
-    let whole = reply(rt.alloc(), 2);
-    assert!(rt; is_done(&whole));
-    assert!(rt; matches!(whole.end, ReplyEnd::Whole));
-    let other = reply(rt.alloc(), 1);
-    assert!(rt; matches!(other.end, ReplyEnd::Fault(0, ReplyFault::OutOfSync)));
+    for (stream, id, results, end) in NUMBERED {
+        assert_reads(
+            &Asserting(&rt),
+            rt.alloc(),
+            (TEXT, id),
+            stream,
+            &[],
+            results,
+            end,
+        );
+    }
+}
+
+/// Two OK packets from this number on; the first says that another follows.
+fn two(id: u8) -> [u8; 22] {
+    let next = id.wrapping_add(1);
+    [
+        7, 0, 0, id, 0, 0, 0, 0x0a, 0, 0, 0, 7, 0, 0, next, 0, 5, 0, 2, 0, 0, 0,
+    ]
+}
+
+#[test]
+fn each_first_id(rt: HostRuntime) {
+    let assert = Asserting(&rt);
+    let results = [
+        Expected::Ok(0, StatusFlags(0x0a)),
+        Expected::Ok(5, AUTOCOMMIT),
+    ];
+    for id in 0..=255u8 {
+        let stream = two(id);
+        let whole = ReplyEnd::Whole;
+        assert_reads(
+            &assert,
+            rt.alloc(),
+            (TEXT, id),
+            &stream,
+            &[],
+            &results,
+            whole,
+        );
+        let next = id.wrapping_add(1);
+        assert_reads(
+            &assert,
+            rt.alloc(),
+            (TEXT, next),
+            &stream,
+            &[],
+            &[],
+            OUT_OF_SYNC,
+        );
+    }
 }

@@ -1,97 +1,239 @@
-//! Sets sent by text.
+//! Text queries, sent and read.
 
-use crate::support;
-use crate::support::{assert_holds, bytes, named, sent};
-use mysql_session::{Content, Params, Road, Value};
-use std::alloc::{AllocError, Global};
+use crate::audits::{Stream, Want, WantedSet, assert_audits, assert_streams};
+use crate::sending::{Given, RoundTrip, Set, assert_round_trips};
+use crate::support::Asserting;
+use mysql_session::{End, Receiver, ReceiverError, Road, StreamFault};
+use tests_support::assert_answer;
 
-/// Whether one value is sent as this stream, and read back as this content.
-fn goes_round(
-    alloc: Global,
-    value: Value,
-    stream: &[u8],
-    wanted: &Content,
-) -> Result<bool, AllocError> {
-    support::goes_round(alloc, b"SELECT :a", Road::Text, value, stream, wanted)
-}
+const ONE: WantedSet = &[Want::Number(1)];
+
+const QUERY: &[u8] = b"SELECT :a";
+
+/// Values of `:a` in `SELECT :a`. Bytes that look like more of the query stay in their place.
+const SENT: [RoundTrip; 10] = [
+    (
+        (Road::Text, QUERY, &[Set::A(Given::Int(1))], 1000),
+        b"\x09\0\0\0\x03SELECT 1",
+        &[ONE],
+    ),
+    (
+        (Road::Text, QUERY, &[Set::A(Given::Int(1))], 13),
+        b"\x09\0\0\0\x03SELECT 1",
+        &[ONE],
+    ),
+    (
+        (
+            Road::Text,
+            QUERY,
+            &[Set::A(Given::UInt(18446744073709551615))],
+            1000,
+        ),
+        b"\x1c\0\0\0\x03SELECT 18446744073709551615",
+        &[&[Want::Number(18446744073709551615)]],
+    ),
+    (
+        (Road::Text, QUERY, &[Set::A(Given::Null)], 1000),
+        b"\x0c\0\0\0\x03SELECT NULL",
+        &[&[Want::Null]],
+    ),
+    (
+        (
+            Road::Text,
+            QUERY,
+            &[Set::A(Given::Bytes(b"x' OR :b"))],
+            1000,
+        ),
+        b"\x13\0\0\0\x03SELECT 'x\\' OR :b'",
+        &[&[Want::Bytes(b"x' OR :b")]],
+    ),
+    (
+        (Road::Text, QUERY, &[Set::A(Given::Day(2024, 2, 29))], 1000),
+        b"\x14\0\0\0\x03SELECT '2024-02-29'",
+        &[&[Want::Bytes(b"2024-02-29")]],
+    ),
+    (
+        (Road::Text, QUERY, &[Set::A(Given::ZeroTime)], 1000),
+        b"\x13\0\0\0\x03SELECT '000:00:00'",
+        &[&[Want::Bytes(b"000:00:00")]],
+    ),
+    (
+        (
+            Road::Text,
+            QUERY,
+            &[Set::A(Given::Int(1)), Set::A(Given::Int(-2))],
+            1000,
+        ),
+        b"\x09\0\0\0\x03SELECT 1\x0a\0\0\0\x03SELECT -2",
+        &[ONE, &[Want::Number(-2)]],
+    ),
+    (
+        (
+            Road::Text,
+            QUERY,
+            &[Set::A(Given::Int(1)), Set::A(Given::Int(10))],
+            14,
+        ),
+        b"\x09\0\0\0\x03SELECT 1\x0a\0\0\0\x03SELECT 10",
+        &[ONE, &[Want::Number(10)]],
+    ),
+    ((Road::Text, QUERY, &[], 1000), b"", &[]),
+];
 
 #[test]
-fn a_number(rt: HostRuntime) {
+fn sent(rt: HostRuntime) {
+    assert_round_trips(&Asserting(&rt), rt.alloc(), &SENT);
+}
+
+const SELECT_1: &[u8] = b"\x09\0\0\0\x03SELECT 1";
+
+#[test]
+fn within_the_limit(rt: HostRuntime) {
+    let assert = Asserting(&rt);
     let alloc = rt.alloc();
-    let stream: &[u8] = b"\x09\0\0\0\x03SELECT 1";
-    let wanted = Content::Number(1);
-    assert_holds(
-        &rt,
-        goes_round(alloc, Value::Int(1), stream, &wanted),
-        goes_round(alloc, Value::Int(1), stream, &wanted),
-    );
+    assert_audits(&assert, alloc, QUERY, 13, SELECT_1, &[ONE], End::Whole);
+    let too_large = End::Fault(0, StreamFault::TooLarge);
+    // The header alone tells.
+    assert_audits(&assert, alloc, QUERY, 8, &SELECT_1[..4], &[], too_large);
+    assert_audits(&assert, alloc, QUERY, 8, SELECT_1, &[], too_large);
 }
 
 #[test]
-fn the_largest_number(rt: HostRuntime) {
-    let alloc = rt.alloc();
-    let stream: &[u8] = b"\x1c\0\0\0\x03SELECT 18446744073709551615";
-    let wanted = Content::Number(18446744073709551615);
-    let value = 18446744073709551615;
-    assert_holds(
-        &rt,
-        goes_round(alloc, Value::UInt(value), stream, &wanted),
-        goes_round(alloc, Value::UInt(value), stream, &wanted),
-    );
-}
-
-#[test]
-fn null(rt: HostRuntime) {
-    let alloc = rt.alloc();
-    let stream: &[u8] = b"\x0c\0\0\0\x03SELECT NULL";
-    assert_holds(
-        &rt,
-        goes_round(alloc, Value::NULL, stream, &Content::Null),
-        goes_round(alloc, Value::NULL, stream, &Content::Null),
-    );
-}
-
-/// Whether bytes that look like more of the query stay in their place.
-fn bytes_stay(alloc: Global) -> Result<bool, AllocError> {
-    let value = bytes(alloc, b"x' OR :b")?;
-    let content = match bytes(alloc, b"x' OR :b")? {
-        Value::Bytes(bytes) => Content::Bytes(bytes),
-        _ => Content::Null,
-    };
-    goes_round(alloc, value, b"\x13\0\0\0\x03SELECT 'x\\' OR :b'", &content)
-}
-
-#[test]
-fn bytes_in_quotes(rt: HostRuntime) {
-    assert_holds(&rt, bytes_stay(rt.alloc()), bytes_stay(rt.alloc()));
-}
-
-/// Whether several sets go into commands of their own, each from number 0, behind what stands.
-fn several(alloc: Global) -> Result<bool, AllocError> {
-    let mut sets = Vec::new(alloc);
-    sets.push(named(alloc, b"a", Value::Int(1))?)?;
-    sets.push(named(alloc, b"a", Value::Int(-2))?)?;
-    let mut out = Vec::from_slice(alloc, b"front")?;
-    if sent(alloc, b"SELECT :a", &sets, Road::Text, 1000, &mut out).is_err() {
-        return Ok(false);
+fn cut_off(rt: HostRuntime) {
+    for len in 1..13 {
+        assert_audits(
+            &Asserting(&rt),
+            rt.alloc(),
+            QUERY,
+            1000,
+            &SELECT_1[..len],
+            &[],
+            End::UnfinishedPacket,
+        );
     }
-    let stream: &[u8] = b"front\x09\0\0\0\x03SELECT 1\x0a\0\0\0\x03SELECT -2";
-    Ok(out.as_slice() == stream)
+}
+
+const MISMATCH: End = End::Fault(0, StreamFault::TextMismatch);
+
+const STREAMS: [Stream; 13] = [
+    (&[], &[], End::Whole),
+    (&[SELECT_1], &[ONE], End::Whole),
+    // Out of sync once the chunk is whole.
+    (
+        &[b"\x09\0\0\x01\x03SELECT 1"],
+        &[],
+        End::Fault(0, StreamFault::OutOfSync),
+    ),
+    (&[b"\x09\0\0\x01\x03SELECT "], &[], End::UnfinishedPacket),
+    (
+        &[b"\0\0\0\0"],
+        &[],
+        End::Fault(0, StreamFault::EmptyCommand),
+    ),
+    (
+        &[b"\x01\0\0\0\x01"],
+        &[],
+        End::Fault(0, StreamFault::OtherCommand),
+    ),
+    (
+        &[b"\x13\0\0\0\x03SELECT 'x\\' OR :b'"],
+        &[&[Want::Bytes(b"x' OR :b")]],
+        End::Whole,
+    ),
+    (
+        &[b"\x10\0\0\0\x03SELECT 'a''b\\x'"],
+        &[&[Want::Bytes(b"a'bx")]],
+        End::Whole,
+    ),
+    (
+        &[b"\x1c\0\0\0\x03SELECT 18446744073709551615"],
+        &[&[Want::Number(18446744073709551615)]],
+        End::Whole,
+    ),
+    (
+        &[b"\x1c\0\0\0\x03SELECT 18446744073709551616"],
+        &[],
+        MISMATCH,
+    ),
+    (
+        &[b"\x14\0\0\0\x03SELECT '2024-02-29'"],
+        &[&[Want::Bytes(b"2024-02-29")]],
+        End::Whole,
+    ),
+    (
+        &[b"\x13\0\0\0\x03SELECT '000:00:00'"],
+        &[&[Want::Bytes(b"000:00:00")]],
+        End::Whole,
+    ),
+    (
+        &[SELECT_1, b"\x0a\0\0\0\x03SELECT +1"],
+        &[ONE],
+        End::Fault(1, StreamFault::TextMismatch),
+    ),
+];
+
+#[test]
+fn read(rt: HostRuntime) {
+    assert_streams(&Asserting(&rt), rt.alloc(), QUERY, &STREAMS);
+}
+
+const OVER_TWO_PLACES: [Stream; 4] = [
+    (
+        &[b"\x12\0\0\0\x03SELECT 'x, ', 'y'"],
+        &[&[Want::Bytes(b"x, "), Want::Bytes(b"y")]],
+        End::Whole,
+    ),
+    (
+        &[b"\x12\0\0\0\x03SELECT nUlL, 0x4a"],
+        &[&[Want::Null, Want::Bytes(b"J")]],
+        End::Whole,
+    ),
+    (&[b"\x0d\0\0\0\x03SELECT +5, 1"], &[], MISMATCH),
+    (&[b"\x0d\0\0\0\x03SELECT  1, 2"], &[], MISMATCH),
+];
+
+/// Queries, each with the streams over it.
+const OVER_OTHER_QUERIES: [(&[u8], &[Stream]); 4] = [
+    (b"SELECT :a, :b", &OVER_TWO_PLACES),
+    (
+        b"SELECT :a, :a",
+        &[(
+            &[b"\x0c\0\0\0\x03SELECT 1, 2"],
+            &[&[Want::Number(1), Want::Number(2)]],
+            End::Whole,
+        )],
+    ),
+    // In a comment for the server.
+    (
+        b"SELECT /*! :a */",
+        &[(&[b"\x10\0\0\0\x03SELECT /*! 1 */"], &[ONE], End::Whole)],
+    ),
+    (
+        b"SELECT 1-:a",
+        &[(
+            &[b"\x0b\0\0\0\x03SELECT 1-5"],
+            &[],
+            End::Fault(0, StreamFault::NotAlone),
+        )],
+    ),
+];
+
+#[test]
+fn over_other_queries(rt: HostRuntime) {
+    for (query, streams) in OVER_OTHER_QUERIES {
+        assert_streams(&Asserting(&rt), rt.alloc(), query, streams);
+    }
 }
 
 #[test]
-fn several_sets(rt: HostRuntime) {
-    assert_holds(&rt, several(rt.alloc()), several(rt.alloc()));
-}
-
-/// Whether no sets append nothing.
-fn nothing_sent(alloc: Global) -> Result<bool, AllocError> {
-    let none: &[Params] = &[];
-    let mut out = Vec::new(alloc);
-    Ok(sent(alloc, b"SELECT :a", none, Road::Text, 1000, &mut out).is_ok() && out.is_empty())
-}
-
-#[test]
-fn no_sets(rt: HostRuntime) {
-    assert_holds(&rt, nothing_sent(rt.alloc()), nothing_sent(rt.alloc()));
+fn names_and_marks_together(rt: HostRuntime) {
+    let first = Receiver::new(rt.alloc(), b":a ?", 1, 1000).err();
+    let second = Receiver::new(rt.alloc(), b":a ?", 1, 1000).err();
+    assert_answer(
+        &Asserting(&rt),
+        first,
+        second,
+        Some(ReceiverError::Memory),
+        Some(ReceiverError::Mixed),
+    );
 }

@@ -11,7 +11,9 @@
 mod assert;
 mod fields;
 
-pub use crate::assert::{Assert, assert_bytes, assert_equal, assert_same, once_more};
+pub use crate::assert::{
+    Assert, assert_answer, assert_bytes, assert_equal, assert_same, once_more,
+};
 pub use crate::fields::{
     assert_copied, assert_cut_off, assert_made, assert_reads_back, assert_refused, assert_written,
     first_of, whole, written,

@@ -1,0 +1,202 @@
+//! Sets that are sent, and read back.
+
+use crate::audits::{WantedSet, assert_audits};
+use mysql_session::{End, Params, ParamsError, Refusal, Road, SetError, Value, send};
+use mysql_values::{ByteString, MissingNamedParameterError, ParamsConfusionError};
+use std::alloc::{AllocError, Global};
+use std::collections::HashMap;
+use tests_support::{Assert, assert_bytes, assert_equal, once_more};
+
+/// A value that is sent.
+#[derive(Clone, Copy)]
+pub enum Given {
+    Null,
+    Bytes(&'static [u8]),
+    Int(i64),
+    UInt(u64),
+    Float(u32),
+    Day(u16, u8, u8),
+    ZeroTime,
+}
+
+fn value(alloc: Global, given: Given) -> Result<Value, AllocError> {
+    match given {
+        Given::Null => Ok(Value::NULL),
+        Given::Bytes(bytes) => Ok(Value::Bytes(ByteString::copy(alloc, bytes)?)),
+        Given::Int(number) => Ok(Value::Int(number)),
+        Given::UInt(number) => Ok(Value::UInt(number)),
+        Given::Float(bits) => Ok(Value::Float(bits)),
+        Given::Day(year, month, day) => Ok(Value::Date(year, month, day, 0, 0, 0, 0)),
+        Given::ZeroTime => Ok(Value::Time(true, 0, 0, 0, 0, 0)),
+    }
+}
+
+/// A set that is sent.
+#[derive(Clone, Copy)]
+pub enum Set {
+    Empty,
+    /// One value.
+    List(Given),
+    /// A value for the name `a`.
+    A(Given),
+}
+
+/// A list of one value.
+fn list(alloc: Global, value: Value) -> Result<Params, AllocError> {
+    let mut values = Vec::new(alloc);
+    values.push(value)?;
+    Ok(Params::Positional(values))
+}
+
+/// A set that gives the name `a` a value.
+pub fn named(alloc: Global, value: Value) -> Result<Params, AllocError> {
+    let mut values = HashMap::new(alloc);
+    let name = Vec::from_slice(alloc, b"a")?;
+    match values.insert(name, value) {
+        Ok(_) => Ok(Params::Named(values)),
+        Err(_) => Err(AllocError),
+    }
+}
+
+fn params(alloc: Global, set: Set) -> Result<Params, AllocError> {
+    match set {
+        Set::Empty => Ok(Params::Empty),
+        Set::List(given) => list(alloc, value(alloc, given)?),
+        Set::A(given) => named(alloc, value(alloc, given)?),
+    }
+}
+
+fn all_params(alloc: Global, sets: &[Set]) -> Result<Vec<Params>, AllocError> {
+    let mut all = Vec::new(alloc);
+    for set in sets {
+        all.push(params(alloc, *set)?)?;
+    }
+    Ok(all)
+}
+
+/// Sets of a query, and how they are sent.
+pub type Sending = (Road, &'static [u8], &'static [Set], usize);
+
+fn sent_by(
+    alloc: Global,
+    (road, query, _, limit): Sending,
+    sets: &[Params],
+    out: &mut Vec<u8>,
+) -> Result<(), Refusal> {
+    let limit = limit.max(4).min(16777219);
+    match road {
+        Road::Execute => send(alloc, query, sets, Road::Execute, 1, limit, out),
+        _ => send(alloc, query, sets, Road::Text, 1, limit, out),
+    }
+}
+
+/// Sends sets with the id 1; once more where memory was refused.
+fn sent(
+    assert: &impl Assert,
+    alloc: Global,
+    sending: Sending,
+    out: &mut Vec<u8>,
+) -> Result<(), Refusal> {
+    let (_, _, sets, _) = sending;
+    let sets = once_more(assert, all_params(alloc, sets), all_params(alloc, sets));
+    match sent_by(alloc, sending, sets.as_slice(), out) {
+        Err(Refusal::Memory) => sent_by(alloc, sending, sets.as_slice(), out),
+        answer => answer,
+    }
+}
+
+/// Bytes that have to stay before what is sent.
+fn front(assert: &impl Assert, alloc: Global) -> Vec<u8> {
+    once_more(
+        assert,
+        Vec::from_slice(alloc, b"front"),
+        Vec::from_slice(alloc, b"front"),
+    )
+}
+
+/// Asserts that sets are sent behind what stands.
+pub fn assert_appended(assert: &impl Assert, alloc: Global, sending: Sending, out: &mut Vec<u8>) {
+    assert_equal(assert, sent(assert, alloc, sending, out), Ok(()));
+}
+
+/// Asserts that sets are sent as this stream behind what stands, and read back as these contents.
+fn assert_sent(
+    assert: &impl Assert,
+    alloc: Global,
+    sending: Sending,
+    stream: &[u8],
+    contents: &[WantedSet],
+) {
+    let mut out = front(assert, alloc);
+    assert_appended(assert, alloc, sending, &mut out);
+    assert_equal(assert, out.as_slice().strip_prefix(b"front"), Some(stream));
+    let (_, query, _, limit) = sending;
+    assert_audits(
+        assert,
+        alloc,
+        query,
+        limit.max(4),
+        stream,
+        contents,
+        End::Whole,
+    );
+}
+
+/// Sets that are sent, their stream and its contents.
+pub type RoundTrip = (Sending, &'static [u8], &'static [WantedSet]);
+
+/// Asserts that each of these sets are sent so, and read back.
+pub fn assert_round_trips(assert: &impl Assert, alloc: Global, rows: &[RoundTrip]) {
+    for (sending, stream, contents) in rows {
+        assert_sent(assert, alloc, *sending, stream, contents);
+    }
+}
+
+/// Why sets are refused.
+#[derive(Clone, Copy)]
+pub enum Cause {
+    Mixed,
+    NotAlone(usize),
+    PrepareTooLarge,
+    Missing(usize, &'static [u8]),
+    Confusion(usize, ParamsConfusionError),
+    WrongCount(usize),
+    Float(usize, usize),
+    PacketTooLarge(usize),
+}
+
+fn missing(alloc: Global, name: &[u8]) -> Result<ParamsError, AllocError> {
+    Ok(ParamsError::Missing(MissingNamedParameterError(ByteString::copy(alloc, name)?)))
+}
+
+fn refusal(alloc: Global, cause: Cause) -> Result<Refusal, AllocError> {
+    match cause {
+        Cause::Mixed => Ok(Refusal::Mixed),
+        Cause::NotAlone(place) => Ok(Refusal::NotAlone(place)),
+        Cause::PrepareTooLarge => Ok(Refusal::PrepareTooLarge),
+        Cause::Missing(set, name) => {
+            Ok(Refusal::Params(set, SetError::Params(missing(alloc, name)?)))
+        }
+        Cause::Confusion(set, confusion) => {
+            Ok(Refusal::Params(set, SetError::Params(ParamsError::Confusion(confusion))))
+        }
+        Cause::WrongCount(set) => Ok(Refusal::WrongCount(set)),
+        Cause::Float(set, place) => Ok(Refusal::Float(set, place)),
+        Cause::PacketTooLarge(set) => Ok(Refusal::PacketTooLarge(set)),
+    }
+}
+
+fn assert_refused(assert: &impl Assert, alloc: Global, sending: Sending, cause: Cause) {
+    let mut out = front(assert, alloc);
+    let found = sent(assert, alloc, sending, &mut out);
+    let wanted = once_more(assert, refusal(alloc, cause), refusal(alloc, cause));
+    assert_equal(assert, found, Err(wanted));
+    assert_bytes(assert, out.as_slice(), b"front");
+}
+
+/// Asserts that each of these sets are refused for this cause, and that nothing is appended.
+pub fn assert_refusals(assert: &impl Assert, alloc: Global, rows: &[(Sending, Cause)]) {
+    for (sending, cause) in rows {
+        assert_refused(assert, alloc, *sending, *cause);
+    }
+}
