@@ -1,172 +1,146 @@
 //! Texts that a query and a parameter set make.
 
-use crate::support::{assert_holds, bytes, list, named};
+use crate::support::{Asserting, Given, Set, made_set};
 use mysql_values::{
     BindError, ByteString, MissingNamedParameterError, Params, ParamsConfusionError, ParamsError,
-    Value, bind_text,
+    bind_text,
 };
-use mysql_wire::WireError;
+use std::alloc::{AllocError, Global};
+use tests_support::{Assert, assert_bytes, assert_equal, once_more};
 
-/// What `bind_text` answers over an `out` that begins with `> `, and what stands there behind it.
-fn bound(
-    rt: &HostRuntime,
-    query: &[u8],
-    params: &Params,
-    out: &mut Vec<u8>,
-) -> Result<Option<BindError>, WireError> {
-    out.extend_from_slice(b"> ")?;
-    match bind_text(rt.alloc(), query, params, out) {
-        Ok(()) => Ok(None),
-        Err(BindError::Memory) => Err(WireError::Memory),
-        Err(error) => Ok(Some(error)),
+/// What has to stay before what is bound.
+fn front(assert: &impl Assert, alloc: Global) -> Vec<u8> {
+    once_more(
+        assert,
+        Vec::from_slice(alloc, b"> "),
+        Vec::from_slice(alloc, b"> "),
+    )
+}
+
+/// Binds a text; once more where memory was refused.
+fn bound(alloc: Global, query: &[u8], params: &Params, out: &mut Vec<u8>) -> Result<(), BindError> {
+    match bind_text(alloc, query, params, out) {
+        Err(BindError::Memory) => bind_text(alloc, query, params, out),
+        answer => answer,
     }
 }
 
-/// Whether the set makes this text behind what is there.
-fn binds(rt: &HostRuntime, query: &[u8], params: &Params, text: &[u8]) -> Result<bool, WireError> {
-    let mut out = Vec::new(rt.alloc());
-    let done = bound(rt, query, params, &mut out)?.is_none();
-    Ok(done && out.as_slice().strip_prefix(b"> ") == Some(text))
+fn assert_bound(assert: &impl Assert, alloc: Global, query: &[u8], set: Set, text: &[u8]) {
+    let params = made_set(assert, alloc, set);
+    let mut out = front(assert, alloc);
+    assert_equal(assert, bound(alloc, query, &params, &mut out), Ok(()));
+    assert_equal(assert, out.as_slice().strip_prefix(b"> "), Some(text));
 }
 
-fn is_cause(error: Option<BindError>, cause: &BindError) -> bool {
-    match error {
-        Some(error) => error == *cause,
-        None => false,
-    }
-}
-
-/// Whether the set is refused for this cause, and nothing is appended.
-fn refused(
-    rt: &HostRuntime,
-    query: &[u8],
-    params: &Params,
-    cause: &BindError,
-) -> Result<bool, WireError> {
-    let mut out = Vec::new(rt.alloc());
-    let caused = is_cause(bound(rt, query, params, &mut out)?, cause);
-    Ok(caused && out.as_slice() == b"> ".as_slice())
-}
-
-fn two_values(rt: &HostRuntime) -> Result<bool, WireError> {
-    let time = Value::Time(false, 34, 22, 59, 59, 999999);
-    let values = list(rt, bytes(rt, b"\xff\x00")?, time)?;
-    binds(
-        rt,
+const BOUND: [(&[u8], Set, &[u8]); 7] = [
+    (
         b"SELECT ?, ?",
-        &Params::Positional(values),
+        Set::List(&[
+            Given::Bytes(b"\xff\x00"),
+            Given::Time(false, 34, 22, 59, 59, 999999),
+        ]),
         b"SELECT 0xFF00, '838:59:59.999999'",
-    )
-}
-
-/// Whether `SELECT :a` with this value makes this text.
-fn makes(rt: &HostRuntime, value: Value, text: &[u8]) -> Result<bool, WireError> {
-    binds(rt, b"SELECT :a", &named(rt, b"a", value)?, text)
-}
-
-fn quotes(rt: &HostRuntime) -> Result<bool, WireError> {
-    makes(rt, bytes(rt, b"x' OR :b")?, b"SELECT 'x\\' OR :b'")
-}
-
-fn twice(rt: &HostRuntime) -> Result<bool, WireError> {
-    let params = named(rt, b"a", Value::UInt(18446744073709551615))?;
-    binds(
-        rt,
+    ),
+    (
+        b"SELECT :a",
+        Set::Named(&[(b"a", Given::Bytes(b"x' OR :b"))]),
+        b"SELECT 'x\\' OR :b'",
+    ),
+    (
         b"SELECT :a, :a",
-        &params,
+        Set::Named(&[(b"a", Given::UInt(18446744073709551615))]),
         b"SELECT 18446744073709551615, 18446744073709551615",
-    )
-}
+    ),
+    (
+        b"SELECT :b, :a",
+        Set::Named(&[(b"a", Given::Int(-1)), (b"b", Given::Null)]),
+        b"SELECT NULL, -1",
+    ),
+    (b"SELECT 1", Set::Empty, b"SELECT 1"),
+    (
+        b"SELECT :a",
+        Set::Named(&[(b"a", Given::Date(2024, 2, 29, 0, 0, 0, 0))]),
+        b"SELECT '2024-02-29'",
+    ),
+    // An all-zero time has no sign.
+    (
+        b"SELECT :a",
+        Set::Named(&[(b"a", Given::Time(true, 0, 0, 0, 0, 0))]),
+        b"SELECT '000:00:00'",
+    ),
+];
 
 #[test]
 fn bound_texts(rt: HostRuntime) {
-    assert_holds(&rt, two_values(&rt), two_values(&rt));
-    assert_holds(&rt, quotes(&rt), quotes(&rt));
-    assert_holds(&rt, twice(&rt), twice(&rt));
-    assert_holds(
-        &rt,
-        binds(&rt, b"SELECT 1", &Params::Empty, b"SELECT 1"),
-        binds(&rt, b"SELECT 1", &Params::Empty, b"SELECT 1"),
-    );
+    for (query, set, text) in BOUND {
+        assert_bound(&Asserting(&rt), rt.alloc(), query, set, text);
+    }
 }
+
+/// Why no text is bound.
+#[derive(Clone, Copy)]
+enum Cause {
+    Mixed,
+    NotAlone(usize),
+    Missing(&'static [u8]),
+    Confusion(ParamsConfusionError),
+    WrongCount,
+    Float(usize),
+}
+
+fn missing(alloc: Global, name: &[u8]) -> Result<BindError, AllocError> {
+    let name = ByteString::copy(alloc, name)?;
+    Ok(BindError::Params(ParamsError::Missing(MissingNamedParameterError(name))))
+}
+
+fn error(alloc: Global, cause: Cause) -> Result<BindError, AllocError> {
+    match cause {
+        Cause::Mixed => Ok(BindError::Mixed),
+        Cause::NotAlone(place) => Ok(BindError::NotAlone(place)),
+        Cause::Missing(name) => missing(alloc, name),
+        Cause::Confusion(confusion) => Ok(BindError::Params(ParamsError::Confusion(confusion))),
+        Cause::WrongCount => Ok(BindError::WrongCount),
+        Cause::Float(place) => Ok(BindError::Float(place)),
+    }
+}
+
+/// Asserts that the set is refused for this cause, and that nothing is appended.
+fn assert_not_bound(assert: &impl Assert, alloc: Global, query: &[u8], set: Set, cause: Cause) {
+    let params = made_set(assert, alloc, set);
+    let mut out = front(assert, alloc);
+    let found = bound(alloc, query, &params, &mut out);
+    let wanted = once_more(assert, error(alloc, cause), error(alloc, cause));
+    assert_equal(assert, found, Err(wanted));
+    assert_bytes(assert, out.as_slice(), b"> ");
+}
+
+const ONE: Set = Set::Named(&[(b"a", Given::Int(1))]);
+
+const NOT_BOUND: [(&[u8], Set, Cause); 7] = [
+    (b":a ?", ONE, Cause::Mixed),
+    (b"SELECT 1-:a", ONE, Cause::NotAlone(0)),
+    (b"SELECT ?", Set::Empty, Cause::WrongCount),
+    (
+        b"SELECT ?",
+        ONE,
+        Cause::Confusion(ParamsConfusionError::NamedParamsForPositionalQuery),
+    ),
+    (
+        b"SELECT :a",
+        Set::List(&[Given::Int(1)]),
+        Cause::Confusion(ParamsConfusionError::PositionalParamsForNamedQuery),
+    ),
+    (b"SELECT :a, :b", ONE, Cause::Missing(b"b")),
+    (
+        b"SELECT :a",
+        Set::Named(&[(b"a", Given::Float(0))]),
+        Cause::Float(0),
+    ),
+];
 
 #[test]
-fn bound_dates_and_times(rt: HostRuntime) {
-    assert_holds(
-        &rt,
-        makes(
-            &rt,
-            Value::Date(2024, 2, 29, 0, 0, 0, 0),
-            b"SELECT '2024-02-29'",
-        ),
-        makes(
-            &rt,
-            Value::Date(2024, 2, 29, 0, 0, 0, 0),
-            b"SELECT '2024-02-29'",
-        ),
-    );
-    // An all-zero time has no sign.
-    assert_holds(
-        &rt,
-        makes(&rt, Value::Time(true, 0, 0, 0, 0, 0), b"SELECT '000:00:00'"),
-        makes(&rt, Value::Time(true, 0, 0, 0, 0, 0), b"SELECT '000:00:00'"),
-    );
-}
-
-/// Whether `a` with this value is refused for this cause.
-fn refuses(
-    rt: &HostRuntime,
-    query: &[u8],
-    value: Value,
-    cause: BindError,
-) -> Result<bool, WireError> {
-    refused(rt, query, &named(rt, b"a", value)?, &cause)
-}
-
-fn missing(rt: &HostRuntime) -> Result<bool, WireError> {
-    let name = MissingNamedParameterError(ByteString::copy(rt.alloc(), b"b")?);
-    refuses(
-        rt,
-        b"SELECT :a, :b",
-        Value::Int(1),
-        BindError::Params(ParamsError::Missing(name)),
-    )
-}
-
-fn confusion() -> BindError {
-    BindError::Params(ParamsError::Confusion(ParamsConfusionError::NamedParamsForPositionalQuery))
-}
-
-#[test]
-fn refused_queries(rt: HostRuntime) {
-    assert_holds(
-        &rt,
-        refuses(&rt, b":a ?", Value::Int(1), BindError::Mixed),
-        refuses(&rt, b":a ?", Value::Int(1), BindError::Mixed),
-    );
-    assert_holds(
-        &rt,
-        refuses(&rt, b"SELECT 1-:a", Value::Int(1), BindError::NotAlone(0)),
-        refuses(&rt, b"SELECT 1-:a", Value::Int(1), BindError::NotAlone(0)),
-    );
-}
-
-#[test]
-fn refused_sets(rt: HostRuntime) {
-    assert_holds(
-        &rt,
-        refused(&rt, b"SELECT ?", &Params::Empty, &BindError::WrongCount),
-        refused(&rt, b"SELECT ?", &Params::Empty, &BindError::WrongCount),
-    );
-    assert_holds(
-        &rt,
-        refuses(&rt, b"SELECT ?", Value::Int(1), confusion()),
-        refuses(&rt, b"SELECT ?", Value::Int(1), confusion()),
-    );
-    assert_holds(&rt, missing(&rt), missing(&rt));
-    assert_holds(
-        &rt,
-        refuses(&rt, b"SELECT :a", Value::Float(0), BindError::Float(0)),
-        refuses(&rt, b"SELECT :a", Value::Float(0), BindError::Float(0)),
-    );
+fn not_bound(rt: HostRuntime) {
+    for (query, set, cause) in NOT_BOUND {
+        assert_not_bound(&Asserting(&rt), rt.alloc(), query, set, cause);
+    }
 }

@@ -1,213 +1,181 @@
 //! Cells of the binary and of the text protocol, read and written as fields.
 
-use crate::support::assert_same;
+use crate::support::{Asserting, Given, assert_value, made};
 use mysql_values::{
-    BinValue, ByteString, ClientSide, SerializationSide, ServerSide, TextValue, Value,
-    ValueDeserializer,
+    BinValue, ClientSide, SerializationSide, ServerSide, TextValue, Value, ValueDeserializer,
+    read_text_cell,
 };
 use mysql_wire::constants::{ColumnFlags, ColumnType};
-use mysql_wire::{MySerialize, ParseBuf, ParseExt, WireError};
-use std::alloc::{AllocError, Global};
-use std::process::Abort;
+use mysql_wire::{MySerialize, ParseBuf, WireError};
+use std::alloc::Global;
+use tests_support::{
+    Assert, assert_answer, assert_bytes, assert_cut_off, assert_equal, assert_refused, first_of,
+    once_more,
+};
 
 const SIGNED: ColumnFlags = ColumnFlags(0);
 
 const UNSIGNED: ColumnFlags = ColumnFlags(0x20);
 
-fn bytes(alloc: Global, bytes: &[u8]) -> Result<Value, AllocError> {
-    Ok(Value::Bytes(ByteString::copy(alloc, bytes)?))
-}
+type Binary = ValueDeserializer<BinValue>;
 
-fn assert_left(rt: &impl Abort, buf: &ParseBuf, wanted: &[u8]) {
-    assert_same(rt, &buf.0, &wanted);
-}
+type Text = ValueDeserializer<TextValue>;
 
-/// Asserts that a cell with two bytes behind it was read as this value, and that those are left; or that memory was refused, and
-/// that all bytes are left.
-fn assert_answer<S: Drop>(
-    rt: &impl Abort,
-    answer: Result<ValueDeserializer<S>, WireError>,
-    buf: &ParseBuf,
-    cell: &[u8],
-    wanted: &Value,
-) {
-    match answer {
-        Ok(read) => {
-            assert_same(rt, &read.0, wanted);
-            assert_left(rt, buf, b"..");
-        }
-        Err(error) => {
-            assert_same(rt, &error, &WireError::Memory);
-            assert_left(rt, buf, cell);
-        }
-    }
-}
-
-/// Asserts that a cell with two bytes behind it is read as this value, and that those are left.
-fn assert_read(
-    rt: &impl Abort,
-    alloc: Global,
-    column_type: ColumnType,
-    flags: ColumnFlags,
-    cell: &[u8],
-    wanted: &Value,
-) {
-    let mut buf = ParseBuf(cell);
-    let answer = buf.parse::<ValueDeserializer<BinValue>>(alloc, (column_type, flags));
-    assert_answer(rt, answer, &buf, cell, wanted);
-}
-
-/// Asserts that the cell is refused by this error, and that all bytes are left.
-fn assert_refused(
-    rt: &impl Abort,
-    alloc: Global,
-    column_type: ColumnType,
-    cell: &[u8],
-    wanted: WireError,
-) {
-    let mut buf = ParseBuf(cell);
-    match buf.parse::<ValueDeserializer<BinValue>>(alloc, (column_type, SIGNED)) {
-        Ok(_) => assert!(rt; false),
-        Err(WireError::Memory) => {}
-        Err(error) => assert_same(rt, &error, &wanted),
-    }
-    assert_left(rt, &buf, cell);
-}
-
-/// Asserts that the cell is refused wherever it is cut off.
-fn assert_refused_cut(rt: &impl Abort, alloc: Global, column_type: ColumnType, cell: &[u8]) {
-    for n in 0..cell.len() {
-        assert_refused(rt, alloc, column_type, &cell[..n], WireError::UnexpectedEof);
-    }
-}
-
-/// Asserts that a cell of the text protocol with two bytes behind it is read as this value, and that those are left.
-fn assert_read_as_text(rt: &impl Abort, alloc: Global, cell: &[u8], wanted: &Value) {
-    let mut buf = ParseBuf(cell);
-    let answer = buf.parse::<ValueDeserializer<TextValue>>(alloc, ());
-    assert_answer(rt, answer, &buf, cell, wanted);
-}
-
-/// Whether the value's cell is these bytes, behind what is there, and as long as is counted for it.
-fn writes(alloc: Global, value: &Value, cell: &[u8]) -> Result<bool, AllocError> {
-    let mut out = Vec::from_slice(alloc, b"> ")?;
-    match value.serialize(&mut out) {
-        Ok(()) => Ok(
-            out.as_slice().strip_prefix(b"> ") == Some(cell)
-                && value.bin_len() == cell.len() as u64,
-        ),
-        Err(_) => Ok(out.as_slice() == b"> ".as_slice()),
-    }
-}
-
-/// Asserts that, unless memory was refused before the value was written.
-fn assert_written(rt: &impl Abort, alloc: Global, value: &Value, cell: &[u8]) {
-    assert!(rt; matches!(writes(alloc, value, cell), Ok(true) | Err(_)));
-}
-
-#[test]
-fn numbers_read(rt: HostRuntime) {
-    let tiny = ColumnType::MYSQL_TYPE_TINY;
-    assert_read(&rt, rt.alloc(), tiny, UNSIGNED, b"\xff..", &Value::Int(255));
-    assert_read(&rt, rt.alloc(), tiny, SIGNED, b"\xff..", &Value::Int(-1));
-    let year = ColumnType::MYSQL_TYPE_YEAR;
-    assert_read(
-        &rt,
-        rt.alloc(),
-        year,
+/// Types, flags and cells with two bytes behind them, and the values that are read.
+const BINARY: [(ColumnType, ColumnFlags, &[u8], Given); 10] = [
+    (
+        ColumnType::MYSQL_TYPE_TINY,
+        UNSIGNED,
+        b"\xff..",
+        Given::Int(255),
+    ),
+    (
+        ColumnType::MYSQL_TYPE_TINY,
+        SIGNED,
+        b"\xff..",
+        Given::Int(-1),
+    ),
+    (
+        ColumnType::MYSQL_TYPE_YEAR,
         UNSIGNED,
         b"\xe8\x07..",
-        &Value::Int(2024),
-    );
-    let long = ColumnType::MYSQL_TYPE_LONGLONG;
-    let two_bytes = b"\x02\x01\x00\x00\x00\x00\x00\x00..";
-    assert_read(&rt, rt.alloc(), long, SIGNED, two_bytes, &Value::Int(258));
-    let highest = b"\x00\x00\x00\x00\x00\x00\x00\x80..";
-    assert_read(
-        &rt,
-        rt.alloc(),
-        long,
+        Given::Int(2024),
+    ),
+    (
+        ColumnType::MYSQL_TYPE_LONGLONG,
+        SIGNED,
+        b"\x02\x01\x00\x00\x00\x00\x00\x00..",
+        Given::Int(258),
+    ),
+    (
+        ColumnType::MYSQL_TYPE_LONGLONG,
         UNSIGNED,
-        highest,
-        &Value::UInt(9223372036854775808),
-    );
-}
-
-#[test]
-fn bytes_read(rt: HostRuntime) {
-    let Ok(a) = bytes(rt.alloc(), b"a") else {
-        return;
-    };
-    let Ok(none) = bytes(rt.alloc(), b"") else {
-        return;
-    };
-    let string = ColumnType::MYSQL_TYPE_VAR_STRING;
-    assert_read(&rt, rt.alloc(), string, SIGNED, b"\x01a..", &a);
-    assert_read(&rt, rt.alloc(), string, SIGNED, b"\xfc\x01\x00a..", &a);
-    assert_read(&rt, rt.alloc(), string, SIGNED, b"\xfb..", &none);
-}
-
-#[test]
-fn dates_read(rt: HostRuntime) {
-    let date = Value::Date(2024, 2, 29, 0, 0, 0, 0);
-    let kind = ColumnType::MYSQL_TYPE_DATETIME;
-    assert_read(
-        &rt,
-        rt.alloc(),
-        kind,
+        b"\x00\x00\x00\x00\x00\x00\x00\x80..",
+        Given::UInt(9223372036854775808),
+    ),
+    (
+        ColumnType::MYSQL_TYPE_VAR_STRING,
+        SIGNED,
+        b"\x01a..",
+        Given::Bytes(b"a"),
+    ),
+    (
+        ColumnType::MYSQL_TYPE_VAR_STRING,
+        SIGNED,
+        b"\xfc\x01\x00a..",
+        Given::Bytes(b"a"),
+    ),
+    (
+        ColumnType::MYSQL_TYPE_VAR_STRING,
+        SIGNED,
+        b"\xfb..",
+        Given::Bytes(b""),
+    ),
+    (
+        ColumnType::MYSQL_TYPE_DATETIME,
         SIGNED,
         b"\x04\xe8\x07\x02\x1d..",
-        &date,
-    );
-    assert_read(
-        &rt,
-        rt.alloc(),
-        kind,
+        Given::Date(2024, 2, 29, 0, 0, 0, 0),
+    ),
+    (
+        ColumnType::MYSQL_TYPE_DATETIME,
         SIGNED,
         b"\x05\xe8\x07\x02\x1d\x63..",
-        &date,
-    );
+        Given::Date(2024, 2, 29, 0, 0, 0, 0),
+    ),
+];
+
+fn assert_binary(
+    assert: &impl Assert,
+    alloc: Global,
+    ctx: (ColumnType, ColumnFlags),
+    cell: &[u8],
+    wanted: Given,
+) {
+    let mut buf = ParseBuf(cell);
+    let read = first_of::<Binary, (ColumnType, ColumnFlags)>(assert, alloc, ctx, &mut buf);
+    assert_value(assert, alloc, &read.0, wanted);
+    assert_bytes(assert, buf.0, b"..");
 }
+
+#[test]
+fn binary_cells(rt: HostRuntime) {
+    for (column_type, flags, cell, wanted) in BINARY {
+        assert_binary(
+            &Asserting(&rt),
+            rt.alloc(),
+            (column_type, flags),
+            cell,
+            wanted,
+        );
+    }
+}
+
+/// Types, and cells that are refused wherever they are cut off.
+const WHOLE: [(ColumnType, &[u8]); 3] = [
+    (
+        ColumnType::MYSQL_TYPE_LONGLONG,
+        b"\x02\x01\x00\x00\x00\x00\x00\x00",
+    ),
+    (ColumnType::MYSQL_TYPE_VAR_STRING, b"\xfc\x02\x00ab"),
+    (
+        ColumnType::MYSQL_TYPE_TIME,
+        b"\x08\x01\x01\x00\x00\x00\x02\x03\x04",
+    ),
+];
 
 #[test]
 fn refused_cells(rt: HostRuntime) {
-    assert_refused(
-        &rt,
+    let assert = Asserting(&rt);
+    for (column_type, cell) in WHOLE {
+        assert_cut_off::<Binary, (ColumnType, ColumnFlags)>(
+            &assert,
+            rt.alloc(),
+            (column_type, SIGNED),
+            cell,
+            0,
+            cell.len(),
+        );
+    }
+    assert_refused::<Binary, (ColumnType, ColumnFlags)>(
+        &assert,
         rt.alloc(),
-        ColumnType::MYSQL_TYPE_NEWDATE,
+        (ColumnType::MYSQL_TYPE_NEWDATE, SIGNED),
         b"",
         WireError::UnsupportedType,
     );
-    assert_refused_cut(
-        &rt,
-        rt.alloc(),
-        ColumnType::MYSQL_TYPE_LONGLONG,
-        b"\x02\x01\x00\x00\x00\x00\x00\x00",
-    );
-    assert_refused_cut(
-        &rt,
-        rt.alloc(),
-        ColumnType::MYSQL_TYPE_VAR_STRING,
-        b"\xfc\x02\x00ab",
-    );
-    assert_refused_cut(
-        &rt,
-        rt.alloc(),
-        ColumnType::MYSQL_TYPE_TIME,
-        b"\x08\x01\x01\x00\x00\x00\x02\x03\x04",
-    );
+}
+
+fn assert_text(assert: &impl Assert, alloc: Global, cell: &[u8], wanted: Given) {
+    let mut buf = ParseBuf(cell);
+    let read = first_of::<Text, ()>(assert, alloc, (), &mut buf);
+    assert_value(assert, alloc, &read.0, wanted);
+    assert_bytes(assert, buf.0, b"..");
+}
+
+/// Why a cell of the text protocol is refused, all of it left.
+fn text_refusal(assert: &impl Assert, alloc: Global, cell: &[u8]) -> Option<WireError> {
+    let mut buf = ParseBuf(cell);
+    let refusal = read_text_cell(alloc, &mut buf).err();
+    assert_bytes(assert, buf.0, cell);
+    refusal
 }
 
 #[test]
 fn text_cells(rt: HostRuntime) {
-    let Ok(five) = bytes(rt.alloc(), b"5") else {
-        return;
-    };
-    assert_read_as_text(&rt, rt.alloc(), b"\x015..", &five);
-    assert_read_as_text(&rt, rt.alloc(), b"\xfb..", &Value::NULL);
-    let mut buf = ParseBuf(b"\xff..");
-    let refused = buf.parse::<ValueDeserializer<TextValue>>(rt.alloc(), ());
-    assert!(rt; matches!(refused, Err(WireError::BadLength)) && buf.0.len() == 3);
+    let assert = Asserting(&rt);
+    assert_text(&assert, rt.alloc(), b"\x015..", Given::Bytes(b"5"));
+    assert_text(&assert, rt.alloc(), b"\xfb..", Given::Null);
+    for cell in [&b"\xff"[..], b"\xff.."] {
+        assert_refused::<Text, ()>(&assert, rt.alloc(), (), cell, WireError::BadLength);
+        assert_answer(
+            &assert,
+            text_refusal(&assert, rt.alloc(), cell),
+            text_refusal(&assert, rt.alloc(), cell),
+            Some(WireError::Memory),
+            Some(WireError::BadLength),
+        );
+    }
 }
 
 fn bit_offset<S: SerializationSide>() -> usize {
@@ -216,31 +184,50 @@ fn bit_offset<S: SerializationSide>() -> usize {
 
 #[test]
 fn offsets_of_bits(rt: HostRuntime) {
-    assert!(rt; bit_offset::<ServerSide>() == 2 && bit_offset::<ClientSide>() == 0);
+    let assert = Asserting(&rt);
+    assert_equal(&assert, bit_offset::<ServerSide>(), 2);
+    assert_equal(&assert, bit_offset::<ClientSide>(), 0);
+}
+
+/// Values and their cells.
+const WRITTEN: [(Given, &[u8]); 4] = [
+    (
+        Given::Date(2024, 2, 29, 0, 0, 0, 0),
+        b"\x04\xe8\x07\x02\x1d",
+    ),
+    (
+        Given::Time(true, 1, 2, 3, 4, 5),
+        b"\x0c\x01\x01\x00\x00\x00\x02\x03\x04\x05\x00\x00\x00",
+    ),
+    (Given::Time(true, 0, 0, 0, 0, 0), b"\x00"),
+    (Given::Bytes(b"a"), b"\x01a"),
+];
+
+/// Asserts that a value's cell is these bytes, behind what is there, and as long as is counted for it.
+fn assert_cell(assert: &impl Assert, alloc: Global, value: &Value, cell: &[u8]) {
+    let first = Vec::from_slice(alloc, b"> ");
+    let mut out = once_more(assert, first, Vec::from_slice(alloc, b"> "));
+    if value.serialize(&mut out).is_err() {
+        // Memory was refused: nothing was written.
+        assert_bytes(assert, out.as_slice(), b"> ");
+        assert.holds(value.serialize(&mut out).is_ok());
+    }
+    assert_equal(assert, out.as_slice().strip_prefix(b"> "), Some(cell));
+    assert_equal(assert, value.bin_len(), cell.len() as u64);
 }
 
 #[test]
 fn cells_written(rt: HostRuntime) {
-    let date = Value::Date(2024, 2, 29, 0, 0, 0, 0);
-    let time = Value::Time(true, 1, 2, 3, 4, 5);
-    assert_written(&rt, rt.alloc(), &date, b"\x04\xe8\x07\x02\x1d");
-    assert_written(
-        &rt,
-        rt.alloc(),
-        &time,
-        b"\x0c\x01\x01\x00\x00\x00\x02\x03\x04\x05\x00\x00\x00",
-    );
-    let zero = Value::Time(true, 0, 0, 0, 0, 0);
-    assert_written(&rt, rt.alloc(), &zero, b"\x00");
-    let Ok(a) = bytes(rt.alloc(), b"a") else {
-        return;
-    };
-    assert_written(&rt, rt.alloc(), &a, b"\x01a");
+    let assert = Asserting(&rt);
+    for (given, cell) in WRITTEN {
+        let value = made(&assert, rt.alloc(), given);
+        assert_cell(&assert, rt.alloc(), &value, cell);
+    }
 }
 
 #[test]
 fn types_sent(rt: HostRuntime) {
-    let number = Value::UInt(1);
-    assert!(rt; number.column_type() == 8);
-    assert!(rt; number.is_unsigned());
+    let assert = Asserting(&rt);
+    assert_equal(&assert, Value::UInt(1).column_type(), 8);
+    assert.holds(Value::UInt(1).is_unsigned());
 }

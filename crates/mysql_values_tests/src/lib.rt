@@ -1,7 +1,7 @@
 //! Tests of `mysql_values` from outside: worked rows of placeholders, literals, parameters and texts.
 //!
-//! At most one allocation of a run is refused. A call that answers that memory was refused is looked at for what has to stand
-//! then, and the test is tried once more.
+//! At most one allocation of a run is refused. So a call that answers that memory was refused is made once more, and then has
+//! to answer.
 #![tactic(auto)]
 
 #[cfg(test)]

@@ -1,84 +1,89 @@
 //! Literals at the front of a text.
 
-use crate::support::assert_holds;
+use crate::support::Asserting;
 use mysql_values::{Literal, read_literal};
 use mysql_wire::WireError;
+use std::alloc::Global;
+use tests_support::{Assert, assert_bytes, assert_equal, once_more};
 
-/// Texts, the literal that stands first, its bytes, and how many bytes are left behind it.
-const LITERALS: [(&[u8], Literal, &[u8], usize); 9] = [
-    (b"null)", Literal::Null, b"", 1),
-    (b"nUlL", Literal::Null, b"", 0),
-    (b"007", Literal::Number(7), b"", 0),
+/// Texts, the literal that stands first with what follows it, and the bytes that are then in the buffer.
+const LITERALS: [(&[u8], Literal, &[u8], &[u8]); 9] = [
+    (b"null)", Literal::Null, b")", b""),
+    (b"nUlL", Literal::Null, b"", b""),
+    (b"007", Literal::Number(7), b"", b""),
     (
         b"18446744073709551615",
         Literal::Number(18446744073709551615),
         b"",
-        0,
+        b"",
     ),
     (
         b"-9223372036854775808",
         Literal::Number(-9223372036854775808),
         b"",
-        0,
+        b"",
     ),
-    (b"'a'b", Literal::Bytes, b"a", 1),
-    (b"'a''b\\x'", Literal::Bytes, b"a'bx", 0),
-    (b"'\\%\\_\\n\\0'", Literal::Bytes, b"\\%\\_\n\0", 0),
-    (b"0x4a6B,", Literal::Bytes, b"Jk", 1),
+    (b"'a'b", Literal::Bytes, b"b", b"a"),
+    (b"'a''b\\x'", Literal::Bytes, b"", b"a'bx"),
+    (b"'\\%\\_\\n\\0'", Literal::Bytes, b"", b"\\%\\_\n\0"),
+    (b"0x4a6B,", Literal::Bytes, b",", b"Jk"),
 ];
 
-/// Texts that begin with no literal.
-const OTHERS: [&[u8]; 9] = [
+/// Texts that begin with no literal, and leave an empty buffer.
+const OTHERS: [&[u8]; 8] = [
     b"0x4",
     b"0xg",
     b"-",
     b"+5",
     b"-9223372036854775809",
     b"18446744073709551616",
-    b"'open",
     b"\"a\"",
     b"",
 ];
 
-/// Whether the literal that was found is this one, with these bytes, and so many bytes are left.
-fn is_found(
-    found: Option<(Literal, &[u8])>,
-    buf: &[u8],
-    literal: Literal,
-    bytes: &[u8],
-    left: usize,
-) -> bool {
-    match found {
-        Some((found, rest)) => found == literal && rest.len() == left && buf == bytes,
-        None => false,
+/// A buffer that holds something.
+fn filled(assert: &impl Assert, alloc: Global) -> Vec<u8> {
+    once_more(
+        assert,
+        Vec::from_slice(alloc, b"before"),
+        Vec::from_slice(alloc, b"before"),
+    )
+}
+
+/// The literal that stands first and what follows it. It is read once more where memory was refused.
+fn literal_of<'a>(
+    text: &'a [u8],
+    buf: &mut Vec<u8>,
+) -> Result<Option<(Literal, &'a [u8])>, WireError> {
+    let answer = read_literal(text, buf);
+    if answer.is_err() {
+        return read_literal(text, buf);
     }
+    answer
 }
 
-/// What is read with a buffer that has room.
-fn reads(
-    rt: &HostRuntime,
+fn assert_read(
+    assert: &impl Assert,
+    alloc: Global,
     text: &[u8],
-    literal: Literal,
+    wanted: Option<(Literal, &[u8])>,
     bytes: &[u8],
-    left: usize,
-) -> Result<bool, WireError> {
-    let mut buf = Vec::with_capacity(rt.alloc(), text.len())?;
-    let found = read_literal(text, &mut buf)?;
-    Ok(is_found(found, buf.as_slice(), literal, bytes, left))
-}
-
-fn refuses(rt: &HostRuntime, text: &[u8]) -> Result<bool, WireError> {
-    let mut buf = Vec::with_capacity(rt.alloc(), text.len())?;
-    Ok(read_literal(text, &mut buf)?.is_none())
+) {
+    let mut buf = filled(assert, alloc);
+    let found = literal_of(text, &mut buf);
+    assert.holds(found == Ok(wanted));
+    assert_bytes(assert, buf.as_slice(), bytes);
 }
 
 #[test]
 fn literals(rt: HostRuntime) {
-    for (text, literal, bytes, left) in LITERALS {
-        assert_holds(
-            &rt,
-            reads(&rt, text, literal, bytes, left),
-            reads(&rt, text, literal, bytes, left),
+    for (text, literal, rest, bytes) in LITERALS {
+        assert_read(
+            &Asserting(&rt),
+            rt.alloc(),
+            text,
+            Some((literal, rest)),
+            bytes,
         );
     }
 }
@@ -86,6 +91,13 @@ fn literals(rt: HostRuntime) {
 #[test]
 fn no_literals(rt: HostRuntime) {
     for text in OTHERS {
-        assert_holds(&rt, refuses(&rt, text), refuses(&rt, text));
+        assert_read(&Asserting(&rt), rt.alloc(), text, None, b"");
     }
+}
+
+#[test]
+fn a_string_that_nothing_closes(rt: HostRuntime) {
+    let assert = Asserting(&rt);
+    let mut buf = filled(&assert, rt.alloc());
+    assert_equal(&assert, literal_of(b"'open", &mut buf), Ok(None));
 }

@@ -1,185 +1,199 @@
 //! The values that a set gives a query.
 
-use crate::support::{assert_holds, bytes, insert, list, named};
+use crate::support::{Asserting, Given, Set, assert_value, made_set};
 use mysql_values::{
-    MissingNamedParameterError, Params, ParamsConfusionError, ParamsError, ParsedNamedParams, Value,
+    ByteString, MissingNamedParameterError, Params, ParamsConfusionError, ParamsError,
+    ParsedNamedParams, Value,
 };
-use mysql_wire::WireError;
-use std::collections::HashMap;
+use std::alloc::{AllocError, Global};
+use tests_support::{Assert, assert_answer, once_more};
 
-/// `a` twice and `b`.
-fn names(rt: &HostRuntime) -> Result<Vec<Vec<u8>>, WireError> {
-    let mut names = Vec::new(rt.alloc());
-    for name in [b"a", b"b", b"a"] {
-        names.push(Vec::from_slice(rt.alloc(), name)?)?;
+fn copied(alloc: Global, names: &[&[u8]]) -> Result<Vec<Vec<u8>>, AllocError> {
+    let mut copies = Vec::new(alloc);
+    for name in names {
+        copies.push(Vec::from_slice(alloc, name)?)?;
     }
-    Ok(names)
+    Ok(copies)
 }
 
-/// 5 for `a` and text for `b`.
-fn set(rt: &HostRuntime) -> Result<Params, WireError> {
-    let mut values = HashMap::new(rt.alloc());
-    insert(rt, &mut values, b"a", Value::Int(5))?;
-    insert(rt, &mut values, b"b", bytes(rt, b"x")?)?;
-    Ok(Params::Named(values))
+fn made_names(assert: &impl Assert, alloc: Global, names: &[&[u8]]) -> Vec<Vec<u8>> {
+    once_more(assert, copied(alloc, names), copied(alloc, names))
 }
 
-/// An error, but want of memory.
-fn error_of<T: Drop>(answer: Result<T, ParamsError>) -> Result<Option<ParamsError>, WireError> {
-    match answer {
-        Ok(_) => Ok(None),
-        Err(ParamsError::Memory) => Err(WireError::Memory),
-        Err(error) => Ok(Some(error)),
+fn parsed<'a>(assert: &impl Assert, alloc: Global, query: &'a [u8]) -> ParsedNamedParams<'a> {
+    let first = ParsedNamedParams::parse(alloc, query);
+    once_more(assert, first, ParsedNamedParams::parse(alloc, query))
+}
+
+fn assert_lent(assert: &impl Assert, alloc: Global, values: &[&Value], wanted: &[Given]) {
+    assert.holds(values.len() == wanted.len());
+    for (value, given) in values.iter().zip(wanted.iter()) {
+        assert_value(assert, alloc, *value, *given);
     }
 }
 
-/// Want of memory stays an error. For any other cause the test does not hold.
-fn no_values(error: ParamsError) -> Result<bool, WireError> {
-    match error {
-        ParamsError::Memory => Err(WireError::Memory),
-        _ => Ok(false),
+fn assert_values(assert: &impl Assert, alloc: Global, values: &[Value], wanted: &[Given]) {
+    assert.holds(values.len() == wanted.len());
+    for (value, given) in values.iter().zip(wanted.iter()) {
+        assert_value(assert, alloc, value, *given);
     }
 }
 
-/// The query, which has no placeholders of both kinds.
-fn parsed<'a>(rt: &HostRuntime, query: &'a [u8]) -> Result<ParsedNamedParams<'a>, WireError> {
-    match ParsedNamedParams::parse(rt.alloc(), query) {
-        Ok(query) => Ok(query),
-        Err(_) => Err(WireError::Memory),
-    }
+/// Asserts the values that a set lends a query.
+fn assert_lends(assert: &impl Assert, alloc: Global, query: &[u8], set: Set, wanted: &[Given]) {
+    let query = parsed(assert, alloc, query);
+    let params = made_set(assert, alloc, set);
+    let first = params.values_for(alloc, &query);
+    let values = once_more(assert, first, params.values_for(alloc, &query));
+    assert_lent(assert, alloc, values.as_slice(), wanted);
 }
 
-/// The values of `a`, `b`, `a`.
-fn are_looked_up(rt: &HostRuntime, values: &[Value]) -> Result<bool, WireError> {
-    let text = bytes(rt, b"x")?;
-    Ok(
-        values.len() == 3
-            && values[0] == Value::Int(5)
-            && values[1] == text
-            && values[2] == Value::Int(5),
-    )
+/// Asserts the values that a set gives these names.
+fn assert_gives(assert: &impl Assert, alloc: Global, names: &[&[u8]], set: Set, wanted: &[Given]) {
+    let names = made_names(assert, alloc, names);
+    let first = made_set(assert, alloc, set).into_values(alloc, Some(names.as_slice()));
+    let second = made_set(assert, alloc, set).into_values(alloc, Some(names.as_slice()));
+    let values = once_more(assert, first, second);
+    assert_values(assert, alloc, values.as_slice(), wanted);
 }
 
-/// The values of `a`, `b`, `a`, lent.
-fn are_lent(values: &[&Value], text: &Value) -> bool {
-    let five = Value::Int(5);
-    values == [&five, text, &five].as_slice()
-}
-
-fn lends(
-    rt: &HostRuntime,
-    params: &Params,
-    query: &ParsedNamedParams<'_>,
-    text: &Value,
-) -> Result<bool, WireError> {
-    match params.values_for(rt.alloc(), query) {
-        Ok(values) => Ok(are_lent(&values, text)),
-        Err(error) => no_values(error),
-    }
-}
-
-fn lent(rt: &HostRuntime) -> Result<bool, WireError> {
-    let query = parsed(rt, b":a, :b, :a")?;
-    lends(rt, &set(rt)?, &query, &bytes(rt, b"x")?)
-}
-
-fn copied(rt: &HostRuntime) -> Result<bool, WireError> {
-    let names = names(rt)?;
-    match set(rt)?.into_values(rt.alloc(), Some(&names)) {
-        Ok(values) => are_looked_up(rt, &values),
-        Err(error) => no_values(error),
-    }
-}
-
-/// A list of the values of `a`, `b`, `a`.
-fn are_listed(rt: &HostRuntime, params: &Params) -> Result<bool, WireError> {
+fn assert_list(assert: &impl Assert, alloc: Global, params: &Params, wanted: &[Given]) {
     match params {
-        Params::Positional(values) => are_looked_up(rt, values),
-        _ => Ok(false),
+        Params::Positional(values) => assert_values(assert, alloc, values.as_slice(), wanted),
+        _ => assert.holds(false),
     }
 }
 
-fn by_place(rt: &HostRuntime) -> Result<bool, WireError> {
-    let names = names(rt)?;
-    match set(rt)?.into_positional(rt.alloc(), &names) {
-        Ok(params) => are_listed(rt, &params),
-        Err(error) => no_values(error),
-    }
+/// Asserts the list of the values that a set gives these names.
+fn assert_places(assert: &impl Assert, alloc: Global, names: &[&[u8]], set: Set, wanted: &[Given]) {
+    let names = made_names(assert, alloc, names);
+    let first = made_set(assert, alloc, set).into_positional(alloc, names.as_slice());
+    let second = made_set(assert, alloc, set).into_positional(alloc, names.as_slice());
+    let params = once_more(assert, first, second);
+    assert_list(assert, alloc, &params, wanted);
 }
 
-#[test]
-fn values_by_name(rt: HostRuntime) {
-    assert_holds(&rt, lent(&rt), lent(&rt));
-    assert_holds(&rt, copied(&rt), copied(&rt));
-    assert_holds(&rt, by_place(&rt), by_place(&rt));
-}
-
-fn are_in_order(values: &[Value]) -> bool {
-    values.len() == 2 && values[0] == Value::Int(1) && values[1] == Value::NULL
-}
-
-/// A list stays as it is.
-fn in_order(rt: &HostRuntime) -> Result<bool, WireError> {
-    let list = list(rt, Value::Int(1), Value::NULL)?;
-    match Params::Positional(list).into_values(rt.alloc(), Some(&[])) {
-        Ok(values) => Ok(are_in_order(&values)),
-        Err(error) => no_values(error),
-    }
-}
-
-fn is_missing(error: Option<ParamsError>, name: &[u8]) -> bool {
-    match error {
-        Some(ParamsError::Missing(MissingNamedParameterError(found))) => found.as_slice() == name,
-        _ => false,
-    }
-}
-
-/// The first name without an entry.
-fn missing(rt: &HostRuntime) -> Result<bool, WireError> {
-    let names = names(rt)?;
-    let params = named(rt, b"a", Value::Int(5))?;
-    let error = error_of(params.into_positional(rt.alloc(), &names))?;
-    Ok(is_missing(error, b"b"))
-}
-
-fn is_confusion(error: Option<ParamsError>, confusion: ParamsConfusionError) -> bool {
-    error == Some(ParamsError::Confusion(confusion))
-}
-
-/// A set of the other kind than the query's placeholders.
-fn confused(
-    rt: &HostRuntime,
-    params: &Params,
-    query: &[u8],
-    confusion: ParamsConfusionError,
-) -> Result<bool, WireError> {
-    let query = parsed(rt, query)?;
-    let error = error_of(params.values_for(rt.alloc(), &query))?;
-    Ok(is_confusion(error, confusion))
-}
-
-fn names_for_marks(rt: &HostRuntime) -> Result<bool, WireError> {
-    confused(
-        rt,
-        &set(rt)?,
+/// Queries, their names, sets, and the values that they give.
+const GIVEN: [(&[u8], &[&[u8]], Set, &[Given]); 2] = [
+    (
+        b":a, :b, :a",
+        &[b"a", b"b", b"a"],
+        Set::Named(&[(b"a", Given::Int(5)), (b"b", Given::Bytes(b"x"))]),
+        &[Given::Int(5), Given::Bytes(b"x"), Given::Int(5)],
+    ),
+    // A list stays as it is.
+    (
         b"?, ?",
-        ParamsConfusionError::NamedParamsForPositionalQuery,
-    )
-}
-
-fn marks_for_names(rt: &HostRuntime) -> Result<bool, WireError> {
-    confused(
-        rt,
-        &Params::Positional(Vec::new(rt.alloc())),
-        b":a",
-        ParamsConfusionError::PositionalParamsForNamedQuery,
-    )
-}
+        &[],
+        Set::List(&[Given::Int(1), Given::Null]),
+        &[Given::Int(1), Given::Null],
+    ),
+];
 
 #[test]
-fn other_sets(rt: HostRuntime) {
-    assert_holds(&rt, in_order(&rt), in_order(&rt));
-    assert_holds(&rt, missing(&rt), missing(&rt));
-    assert_holds(&rt, names_for_marks(&rt), names_for_marks(&rt));
-    assert_holds(&rt, marks_for_names(&rt), marks_for_names(&rt));
+fn values_given(rt: HostRuntime) {
+    let assert = Asserting(&rt);
+    for (query, names, set, wanted) in GIVEN {
+        assert_lends(&assert, rt.alloc(), query, set, wanted);
+        assert_gives(&assert, rt.alloc(), names, set, wanted);
+        assert_places(&assert, rt.alloc(), names, set, wanted);
+    }
+}
+
+/// Why a set gives a query no values.
+#[derive(Clone, Copy)]
+enum Cause {
+    Missing(&'static [u8]),
+    Confusion(ParamsConfusionError),
+}
+
+fn error(alloc: Global, cause: Cause) -> Result<ParamsError, AllocError> {
+    match cause {
+        Cause::Missing(name) => {
+            Ok(ParamsError::Missing(MissingNamedParameterError(ByteString::copy(alloc, name)?)))
+        }
+        Cause::Confusion(confusion) => Ok(ParamsError::Confusion(confusion)),
+    }
+}
+
+fn assert_error(
+    assert: &impl Assert,
+    alloc: Global,
+    first: Option<ParamsError>,
+    second: Option<ParamsError>,
+    cause: Cause,
+) {
+    let wanted = once_more(assert, error(alloc, cause), error(alloc, cause));
+    assert_answer(
+        assert,
+        first,
+        second,
+        Some(ParamsError::Memory),
+        Some(wanted),
+    );
+}
+
+/// Asserts why a set gives a query with these names no values.
+fn assert_lends_none(assert: &impl Assert, alloc: Global, query: &[u8], set: Set, cause: Cause) {
+    let query = parsed(assert, alloc, query);
+    let params = made_set(assert, alloc, set);
+    let first = params.values_for(alloc, &query).err();
+    let second = params.values_for(alloc, &query).err();
+    assert_error(assert, alloc, first, second, cause);
+}
+
+fn assert_gives_none(assert: &impl Assert, alloc: Global, names: &[&[u8]], set: Set, cause: Cause) {
+    let names = made_names(assert, alloc, names);
+    let first = made_set(assert, alloc, set).into_values(alloc, Some(names.as_slice()));
+    let second = made_set(assert, alloc, set).into_values(alloc, Some(names.as_slice()));
+    assert_error(assert, alloc, first.err(), second.err(), cause);
+}
+
+/// Queries, their names, sets, and why these give no values.
+const NOT_GIVEN: [(&[u8], &[&[u8]], Set, Cause); 3] = [
+    (
+        b":a, :b, :a",
+        &[b"a", b"b", b"a"],
+        Set::Named(&[(b"a", Given::Int(5))]),
+        Cause::Missing(b"b"),
+    ),
+    (
+        b"?, ?",
+        &[],
+        Set::Named(&[(b"a", Given::Int(5)), (b"b", Given::Bytes(b"x"))]),
+        Cause::Confusion(ParamsConfusionError::NamedParamsForPositionalQuery),
+    ),
+    (
+        b":a",
+        &[b"a"],
+        Set::List(&[]),
+        Cause::Confusion(ParamsConfusionError::PositionalParamsForNamedQuery),
+    ),
+];
+
+#[test]
+fn no_values(rt: HostRuntime) {
+    let assert = Asserting(&rt);
+    for (query, names, set, cause) in NOT_GIVEN {
+        assert_lends_none(&assert, rt.alloc(), query, set, cause);
+        assert_gives_none(&assert, rt.alloc(), names, set, cause);
+    }
+}
+
+const FIVE: Set = Set::Named(&[(b"a", Given::Int(5))]);
+
+/// The list of the values of names, of which one has none.
+#[test]
+fn a_list_that_lacks_a_name(rt: HostRuntime) {
+    let assert = Asserting(&rt);
+    let names = made_names(&assert, rt.alloc(), &[b"a", b"b", b"a"]);
+    let first = made_set(&assert, rt.alloc(), FIVE).into_positional(rt.alloc(), names.as_slice());
+    let second = made_set(&assert, rt.alloc(), FIVE).into_positional(rt.alloc(), names.as_slice());
+    assert_error(
+        &assert,
+        rt.alloc(),
+        first.err(),
+        second.err(),
+        Cause::Missing(b"b"),
+    );
 }

@@ -1,16 +1,14 @@
 //! Placeholders of a query, and the query as it is parsed.
 
-use crate::support::assert_holds;
+use crate::support::Asserting;
 use mysql_values::{MixedParamsError, NamedParamsError, ParsedNamedParams, Place, places};
-use mysql_wire::WireError;
-use std::alloc::Global;
 use std::borrow::CowSlice;
-use std::process::Abort;
+use tests_support::{Assert, assert_answer, assert_bytes, once_more};
 
 /// Start, end, whether a name, whether it stands alone.
 type Expected = (usize, usize, bool, bool);
 
-const NEIGHBOURS: [(&[u8], &[Expected]); 8] = [
+const QUERIES: [(&[u8], &[Expected]); 19] = [
     (b"'a':b", &[(3, 5, true, false)]),
     (b"::a", &[(1, 3, true, false)]),
     (b"SELECT 1-:a", &[(9, 11, true, false)]),
@@ -19,9 +17,6 @@ const NEIGHBOURS: [(&[u8], &[Expected]); 8] = [
     (b"??", &[(0, 1, false, false), (1, 2, false, false)]),
     (b":a-1", &[(0, 2, true, true)]),
     (b":aB", &[(0, 2, true, false)]),
-];
-
-const OTHER_TOKENS: [(&[u8], &[Expected]); 11] = [
     (b"`my:table`", &[]),
     (b"`\\` :a", &[(4, 6, true, true)]),
     (b"'it''s :a \\' ?' :b", &[(16, 18, true, true)]),
@@ -35,39 +30,24 @@ const OTHER_TOKENS: [(&[u8], &[Expected]); 11] = [
     (b"a : b :C", &[]),
 ];
 
-fn are_places(found: &[Place], expected: &[Expected]) -> bool {
-    if found.len() != expected.len() {
-        return false;
-    }
-    for (place, wanted) in found.iter().zip(expected.iter()) {
-        if (place.start, place.end, place.name, place.alone) != *wanted {
-            return false;
-        }
-    }
-    true
-}
-
-/// Whether the query has exactly these placeholders.
-fn has(alloc: Global, query: &[u8], expected: &[Expected]) -> Result<bool, WireError> {
-    let found = places(alloc, query)?;
-    Ok(are_places(&found, expected))
-}
-
-/// Asserts that each query has exactly its placeholders.
-fn assert_places(rt: &impl Abort, alloc: Global, rows: &[(&[u8], &[Expected])]) {
-    for (query, expected) in rows {
-        assert_holds(rt, has(alloc, query, expected), has(alloc, query, expected));
+fn assert_places(assert: &impl Assert, found: &[Place], wanted: &[Expected]) {
+    assert.holds(found.len() == wanted.len());
+    for (place, expected) in found.iter().zip(wanted.iter()) {
+        assert.holds((place.start, place.end, place.name, place.alone) == *expected);
     }
 }
 
 #[test]
-fn neighbours(rt: HostRuntime) {
-    assert_places(&rt, rt.alloc(), &NEIGHBOURS);
-}
-
-#[test]
-fn other_tokens(rt: HostRuntime) {
-    assert_places(&rt, rt.alloc(), &OTHER_TOKENS);
+fn placeholders(rt: HostRuntime) {
+    let assert = Asserting(&rt);
+    for (query, wanted) in QUERIES {
+        let found = once_more(
+            &assert,
+            places(rt.alloc(), query),
+            places(rt.alloc(), query),
+        );
+        assert_places(&assert, found.as_slice(), wanted);
+    }
 }
 
 const PARSED: [(&[u8], &[u8], &[&[u8]]); 4] = [
@@ -77,48 +57,40 @@ const PARSED: [(&[u8], &[u8], &[&[u8]]); 4] = [
     (b"? ?", b"? ?", &[]),
 ];
 
-fn are_names(names: &[CowSlice<'_, u8>], wanted: &[&[u8]]) -> bool {
-    if names.len() != wanted.len() {
-        return false;
+fn assert_names(assert: &impl Assert, names: &[CowSlice<'_, u8>], wanted: &[&[u8]]) {
+    assert.holds(names.len() == wanted.len());
+    for (name, expected) in names.iter().zip(wanted.iter()) {
+        assert_bytes(assert, name.as_slice(), expected);
     }
-    for (name, wanted) in names.iter().zip(wanted.iter()) {
-        if name.as_slice() != *wanted {
-            return false;
-        }
-    }
-    true
 }
 
-/// Whether the query parses to this one with these names.
-fn parses(
-    rt: &HostRuntime,
+fn assert_parsed(
+    assert: &impl Assert,
+    found: &ParsedNamedParams<'_>,
     query: &[u8],
-    parsed: &[u8],
     names: &[&[u8]],
-) -> Result<bool, WireError> {
-    match ParsedNamedParams::parse(rt.alloc(), query) {
-        Ok(found) => Ok(found.query() == parsed && are_names(found.params(), names)),
-        Err(NamedParamsError::Memory) => Err(WireError::Memory),
-        Err(NamedParamsError::Mixed(MixedParamsError)) => Ok(false),
-    }
-}
-
-fn is_mixed(rt: &HostRuntime, query: &[u8]) -> Result<bool, WireError> {
-    match ParsedNamedParams::parse(rt.alloc(), query) {
-        Ok(_) => Ok(false),
-        Err(NamedParamsError::Memory) => Err(WireError::Memory),
-        Err(NamedParamsError::Mixed(MixedParamsError)) => Ok(true),
-    }
+) {
+    assert_bytes(assert, found.query(), query);
+    assert_names(assert, found.params(), names);
 }
 
 #[test]
 fn parsed_queries(rt: HostRuntime) {
+    let assert = Asserting(&rt);
     for (query, parsed, names) in PARSED {
-        assert_holds(
-            &rt,
-            parses(&rt, query, parsed, names),
-            parses(&rt, query, parsed, names),
-        );
+        let first = ParsedNamedParams::parse(rt.alloc(), query);
+        let second = ParsedNamedParams::parse(rt.alloc(), query);
+        assert_parsed(&assert, &once_more(&assert, first, second), parsed, names);
     }
-    assert_holds(&rt, is_mixed(&rt, b":a ?"), is_mixed(&rt, b":a ?"));
+}
+
+#[test]
+fn names_and_marks_together(rt: HostRuntime) {
+    assert_answer(
+        &Asserting(&rt),
+        ParsedNamedParams::parse(rt.alloc(), b":a ?").err(),
+        ParsedNamedParams::parse(rt.alloc(), b":a ?").err(),
+        Some(NamedParamsError::Memory),
+        Some(NamedParamsError::Mixed(MixedParamsError)),
+    );
 }

@@ -1,10 +1,22 @@
 //! Texts of a query, read back as contents.
 
-use crate::support::assert_holds;
-use mysql_values::{ByteString, Content, first_not_alone, places, read_text};
+use crate::support::{Asserting, Want, meets};
+use mysql_values::{Content, first_not_alone, places, read_text};
 use mysql_wire::WireError;
+use std::alloc::Global;
+use tests_support::{Assert, once_more};
 
 const QUERY: &[u8] = b"SELECT :a, :b";
+
+/// Texts, and the contents that they carry.
+const TEXTS: [(&[u8], [Want; 2]); 3] = [
+    (
+        b"SELECT 'x, ', 'y'",
+        [Want::Bytes(b"x, "), Want::Bytes(b"y")],
+    ),
+    (b"SELECT nUlL, 0x4a", [Want::Null, Want::Bytes(b"J")]),
+    (b"SELECT 1, 2", [Want::Number(1), Want::Number(2)]),
+];
 
 /// Texts that carry no two literals of the query.
 const OTHERS: [&[u8]; 6] = [
@@ -16,62 +28,43 @@ const OTHERS: [&[u8]; 6] = [
     b"",
 ];
 
-/// What a text is read as; None also where a placeholder doesn't stand alone.
-fn read(rt: &HostRuntime, text: &[u8]) -> Result<Option<Vec<Content>>, WireError> {
-    let found = places(rt.alloc(), QUERY)?;
+/// What a text is read as.
+fn read(alloc: Global, text: &[u8]) -> Result<Option<Vec<Content>>, WireError> {
+    let found = places(alloc, QUERY)?;
     if first_not_alone(&found).is_some() {
-        return Ok(None);
+        return Err(WireError::BadLength);
     }
-    read_text(rt.alloc(), QUERY, &found, text)
+    read_text(alloc, QUERY, &found, text)
 }
 
-fn reads_two(
-    rt: &HostRuntime,
-    text: &[u8],
-    first: &Content,
-    second: &Content,
-) -> Result<bool, WireError> {
-    match read(rt, text)? {
-        Some(contents) => {
-            Ok(contents.len() == 2 && contents[0] == *first && contents[1] == *second)
-        }
-        None => Ok(false),
+fn assert_contents(assert: &impl Assert, contents: &[Content], wanted: &[Want]) {
+    assert.holds(contents.len() == wanted.len());
+    for (content, want) in contents.iter().zip(wanted.iter()) {
+        assert.holds(meets(content, *want));
     }
 }
 
-fn bytes(rt: &HostRuntime, bytes: &[u8]) -> Result<Content, WireError> {
-    Ok(Content::Bytes(ByteString::copy(rt.alloc(), bytes)?))
-}
-
-fn strings(rt: &HostRuntime) -> Result<bool, WireError> {
-    let x = bytes(rt, b"x, ")?;
-    let y = bytes(rt, b"y")?;
-    reads_two(rt, b"SELECT 'x, ', 'y'", &x, &y)
-}
-
-fn hexadecimal(rt: &HostRuntime) -> Result<bool, WireError> {
-    let j = bytes(rt, b"J")?;
-    reads_two(rt, b"SELECT nUlL, 0x4a", &Content::Null, &j)
-}
-
-fn numbers(rt: &HostRuntime) -> Result<bool, WireError> {
-    reads_two(rt, b"SELECT 1, 2", &Content::Number(1), &Content::Number(2))
+fn assert_carries(assert: &impl Assert, found: Option<Vec<Content>>, wanted: &[Want]) {
+    match found {
+        Some(contents) => assert_contents(assert, contents.as_slice(), wanted),
+        None => assert.holds(false),
+    }
 }
 
 #[test]
 fn foreign_texts(rt: HostRuntime) {
-    assert_holds(&rt, strings(&rt), strings(&rt));
-    assert_holds(&rt, hexadecimal(&rt), hexadecimal(&rt));
-    assert_holds(&rt, numbers(&rt), numbers(&rt));
-}
-
-fn refuses(rt: &HostRuntime, text: &[u8]) -> Result<bool, WireError> {
-    Ok(read(rt, text)?.is_none())
+    let assert = Asserting(&rt);
+    for (text, wanted) in TEXTS {
+        let found = once_more(&assert, read(rt.alloc(), text), read(rt.alloc(), text));
+        assert_carries(&assert, found, &wanted);
+    }
 }
 
 #[test]
 fn other_texts(rt: HostRuntime) {
+    let assert = Asserting(&rt);
     for text in OTHERS {
-        assert_holds(&rt, refuses(&rt, text), refuses(&rt, text));
+        let found = once_more(&assert, read(rt.alloc(), text), read(rt.alloc(), text));
+        assert.holds(found.is_none());
     }
 }

@@ -1,96 +1,104 @@
-//! SQL texts of values.
+//! SQL texts of values, and what values mean.
 
-use crate::support::{assert_holds, bytes};
+use crate::support::{Asserting, Given, Want, made, meets};
 use mysql_values::{AsSqlError, Content, Value};
-use mysql_wire::WireError;
+use std::alloc::Global;
+use tests_support::{Assert, assert_answer, assert_copied, once_more};
 
-fn has_text(
-    rt: &HostRuntime,
+/// Values, and their texts: with backslash escapes, and without.
+const TEXTS: [(Given, &str, &str); 3] = [
+    (Given::Bytes(b"a'b\\"), "'a\\'b\\\\'", "'a''b\\'"),
+    (Given::Bytes(b"\xfe\x01"), "0xFE01", "0xFE01"),
+    // The sign of an all-zero time stays.
+    (
+        Given::Time(true, 0, 0, 0, 0, 0),
+        "'-000:00:00'",
+        "'-000:00:00'",
+    ),
+];
+
+fn assert_text(
+    assert: &impl Assert,
+    alloc: Global,
     value: &Value,
     no_backslash_escape: bool,
     text: &str,
-) -> Result<bool, WireError> {
-    match value.as_sql(rt.alloc(), no_backslash_escape) {
-        Ok(sql) => Ok(sql.as_str() == text),
-        Err(AsSqlError::Memory) => Err(WireError::Memory),
-        Err(AsSqlError::Float) => Ok(false),
-    }
+) {
+    let first = value.as_sql(alloc, no_backslash_escape);
+    let second = value.as_sql(alloc, no_backslash_escape);
+    assert.holds(once_more(assert, first, second).as_str() == text);
 }
 
-/// Whether the value has this text: with backslash escapes, and without.
-fn has_texts(
-    rt: &HostRuntime,
-    value: &Value,
-    escaped: &str,
-    doubled: &str,
-) -> Result<bool, WireError> {
-    Ok(has_text(rt, value, false, escaped)? && has_text(rt, value, true, doubled)?)
-}
-
-fn of_quotes(rt: &HostRuntime) -> Result<bool, WireError> {
-    let value = bytes(rt, b"a'b\\")?;
-    has_texts(rt, &value, "'a\\'b\\\\'", "'a''b\\'")
-}
-
-fn of_bytes(rt: &HostRuntime) -> Result<bool, WireError> {
-    let value = bytes(rt, b"\xfe\x01")?.clone(rt.alloc())?;
-    has_texts(rt, &value, "0xFE01", "0xFE01")
-}
-
-/// `as_sql` keeps the sign of an all-zero time.
-fn of_zero(rt: &HostRuntime) -> Result<bool, WireError> {
-    let value = Value::Time(true, 0, 0, 0, 0, 0);
-    has_texts(rt, &value, "'-000:00:00'", "'-000:00:00'")
-}
-
-fn of_a_float(rt: &HostRuntime) -> Result<bool, WireError> {
-    match Value::Double(0).as_sql(rt.alloc(), false) {
-        Err(AsSqlError::Memory) => Err(WireError::Memory),
-        answer => Ok(answer == Err(AsSqlError::Float)),
-    }
-}
-
-/// Whether the value means these bytes.
-fn means(rt: &HostRuntime, value: Value, text: &[u8]) -> Result<bool, WireError> {
-    match value.into_content(rt.alloc())? {
-        Some(Content::Bytes(bytes)) => Ok(bytes.as_slice() == text),
-        Some(_) | None => Ok(false),
-    }
-}
-
-fn of_dates(rt: &HostRuntime) -> Result<bool, WireError> {
-    let day = Value::Date(2024, 2, 29, 0, 0, 0, 0);
-    let moment = Value::Date(2024, 2, 29, 1, 2, 3, 4);
-    Ok(means(rt, day, b"2024-02-29")? && means(rt, moment, b"2024-02-29 01:02:03.000004")?)
-}
-
-/// An all-zero time means the positive one.
-fn of_times(rt: &HostRuntime) -> Result<bool, WireError> {
-    let none = Value::Time(true, 0, 0, 0, 0, 0);
-    let some = Value::Time(true, 1, 2, 3, 4, 5);
-    Ok(means(rt, none, b"000:00:00")? && means(rt, some, b"-026:03:04.000005")?)
-}
-
-fn means_nothing(rt: &HostRuntime, value: Value) -> Result<bool, WireError> {
-    Ok(value.into_content(rt.alloc())?.is_none())
-}
-
-fn of_others(rt: &HostRuntime) -> Result<bool, WireError> {
-    let value = bytes(rt, b"a'b\\")?;
-    Ok(means(rt, value, b"a'b\\")? && means_nothing(rt, Value::Float(0))?)
-}
-
-#[test]
-fn contents(rt: HostRuntime) {
-    assert_holds(&rt, of_dates(&rt), of_dates(&rt));
-    assert_holds(&rt, of_times(&rt), of_times(&rt));
-    assert_holds(&rt, of_others(&rt), of_others(&rt));
+fn assert_texts(assert: &impl Assert, alloc: Global, given: Given, escaped: &str, doubled: &str) {
+    let value = made(assert, alloc, given);
+    assert_copied(assert, &value, value.clone(alloc), value.clone(alloc));
+    assert_text(assert, alloc, &value, false, escaped);
+    assert_text(assert, alloc, &value, true, doubled);
 }
 
 #[test]
 fn sql_texts(rt: HostRuntime) {
-    assert_holds(&rt, of_quotes(&rt), of_quotes(&rt));
-    assert_holds(&rt, of_bytes(&rt), of_bytes(&rt));
-    assert_holds(&rt, of_zero(&rt), of_zero(&rt));
-    assert_holds(&rt, of_a_float(&rt), of_a_float(&rt));
+    for (given, escaped, doubled) in TEXTS {
+        assert_texts(&Asserting(&rt), rt.alloc(), given, escaped, doubled);
+    }
+}
+
+#[test]
+fn no_text_of_a_float(rt: HostRuntime) {
+    assert_answer(
+        &Asserting(&rt),
+        Value::Double(0).as_sql(rt.alloc(), false).err(),
+        Value::Double(0).as_sql(rt.alloc(), false).err(),
+        Some(AsSqlError::Memory),
+        Some(AsSqlError::Float),
+    );
+}
+
+/// Values, and their contents.
+const CONTENTS: [(Given, Option<Want>); 9] = [
+    (
+        Given::Date(2024, 2, 29, 0, 0, 0, 0),
+        Some(Want::Bytes(b"2024-02-29")),
+    ),
+    (
+        Given::Date(2024, 2, 29, 1, 2, 3, 4),
+        Some(Want::Bytes(b"2024-02-29 01:02:03.000004")),
+    ),
+    // An all-zero time means the positive one.
+    (
+        Given::Time(true, 0, 0, 0, 0, 0),
+        Some(Want::Bytes(b"000:00:00")),
+    ),
+    (
+        Given::Time(true, 1, 2, 3, 4, 5),
+        Some(Want::Bytes(b"-026:03:04.000005")),
+    ),
+    (Given::Bytes(b"a'b\\"), Some(Want::Bytes(b"a'b\\"))),
+    (Given::Null, Some(Want::Null)),
+    (Given::Int(-1), Some(Want::Number(-1))),
+    (Given::UInt(1), Some(Want::Number(1))),
+    (Given::Float(0), None),
+];
+
+fn is_meant(content: Option<Content>, wanted: Option<Want>) -> bool {
+    match content {
+        Some(content) => match wanted {
+            Some(want) => meets(&content, want),
+            None => false,
+        },
+        None => wanted.is_none(),
+    }
+}
+
+fn assert_means(assert: &impl Assert, alloc: Global, given: Given, wanted: Option<Want>) {
+    let first = made(assert, alloc, given).into_content(alloc);
+    let second = made(assert, alloc, given).into_content(alloc);
+    assert.holds(is_meant(once_more(assert, first, second), wanted));
+}
+
+#[test]
+fn contents(rt: HostRuntime) {
+    for (given, wanted) in CONTENTS {
+        assert_means(&Asserting(&rt), rt.alloc(), given, wanted);
+    }
 }

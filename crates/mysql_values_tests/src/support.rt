@@ -1,55 +1,136 @@
-//! What the tests share.
+//! How a test of this crate ends, and the values and sets of its tables.
 
-use mysql_values::{ByteString, Params, Value};
-use mysql_wire::WireError;
+ghost use Rattle.std.specs.Prelude.{◌≡◌, true};
+
+use mysql_values::{ByteString, Content, Params, Value};
+use std::alloc::{AllocError, Global};
 use std::collections::HashMap;
-use std::fmt::Debug;
 use std::process::Abort;
+use tests_support::{Assert, assert_same, once_more};
 
-/// Asserts that a value is the wanted one.
-pub fn assert_same<T: PartialEq + Debug>(rt: &impl Abort, value: &T, wanted: &T) {
-    assert_eq!(rt; *value, *wanted);
-}
+/// Ends a test by an assertion.
+#[derive(Drop)]
+pub struct Asserting<'a, R>(pub &'a R);
 
-/// Asserts that a test holds. It is made twice, and the second counts where a growth was refused in the first: of a run at
-/// most one is refused.
-pub fn assert_holds(
-    rt: &impl Abort,
-    first: Result<bool, WireError>,
-    second: Result<bool, WireError>,
-) {
-    match first {
-        Ok(found) => assert!(rt; found),
-        Err(_) => assert_same(rt, &second, &Ok(true)),
+impl<R: Abort> Assert for Asserting<'_, R> {
+    fn holds(&self, is_so: bool)
+        ensures { is_so ≡ true }
+    {
+        assert!(self.0; is_so);
     }
 }
 
-pub fn bytes(rt: &HostRuntime, bytes: &[u8]) -> Result<Value, WireError> {
-    Ok(Value::Bytes(ByteString::copy(rt.alloc(), bytes)?))
+/// A value of a table.
+#[derive(Clone, Copy)]
+pub enum Given {
+    Null,
+    Bytes(&'static [u8]),
+    Int(i64),
+    UInt(u64),
+    Float(u32),
+    Double(u64),
+    Date(u16, u8, u8, u8, u8, u8, u32),
+    Time(bool, u32, u8, u8, u8, u32),
 }
 
-/// Two values as a list.
-pub fn list(rt: &HostRuntime, first: Value, second: Value) -> Result<Vec<Value>, WireError> {
-    let mut values = Vec::with_capacity(rt.alloc(), 2)?;
-    values.push(first)?;
-    values.push(second)?;
+fn value(alloc: Global, given: Given) -> Result<Value, AllocError> {
+    match given {
+        Given::Null => Ok(Value::NULL),
+        Given::Bytes(bytes) => Ok(Value::Bytes(ByteString::copy(alloc, bytes)?)),
+        Given::Int(number) => Ok(Value::Int(number)),
+        Given::UInt(number) => Ok(Value::UInt(number)),
+        Given::Float(bits) => Ok(Value::Float(bits)),
+        Given::Double(bits) => Ok(Value::Double(bits)),
+        Given::Date(year, month, day, hour, minute, second, micros) => {
+            Ok(Value::Date(year, month, day, hour, minute, second, micros))
+        }
+        Given::Time(negative, days, hours, minutes, seconds, micros) => {
+            Ok(Value::Time(negative, days, hours, minutes, seconds, micros))
+        }
+    }
+}
+
+/// The value itself.
+pub fn made(assert: &impl Assert, alloc: Global, given: Given) -> Value {
+    once_more(assert, value(alloc, given), value(alloc, given))
+}
+
+/// Asserts that a value is this one of a table.
+pub fn assert_value(assert: &impl Assert, alloc: Global, found: &Value, wanted: Given) {
+    assert_same(assert, found, &made(assert, alloc, wanted));
+}
+
+/// A set of a table.
+#[derive(Clone, Copy)]
+pub enum Set {
+    Empty,
+    List(&'static [Given]),
+    Named(&'static [(&'static [u8], Given)]),
+}
+
+fn list(alloc: Global, given: &[Given]) -> Result<Vec<Value>, AllocError> {
+    let mut values = Vec::new(alloc);
+    for one in given {
+        values.push(value(alloc, *one)?)?;
+    }
     Ok(values)
 }
 
 /// Gives a name a value.
-pub fn insert(
-    rt: &HostRuntime,
+fn insert(
+    alloc: Global,
     values: &mut HashMap<Vec<u8>, Value>,
     name: &[u8],
-    value: Value,
-) -> Result<(), WireError> {
-    let _ = values.insert(Vec::from_slice(rt.alloc(), name)?, value)?;
-    Ok(())
+    given: Given,
+) -> Result<(), AllocError> {
+    let value = value(alloc, given)?;
+    let name = Vec::from_slice(alloc, name)?;
+    match values.insert(name, value) {
+        Ok(_) => Ok(()),
+        Err(_) => Err(AllocError),
+    }
 }
 
-/// A set with one name.
-pub fn named(rt: &HostRuntime, name: &[u8], value: Value) -> Result<Params, WireError> {
-    let mut values = HashMap::new(rt.alloc());
-    insert(rt, &mut values, name, value)?;
-    Ok(Params::Named(values))
+fn entries(alloc: Global, given: &[(&[u8], Given)]) -> Result<HashMap<Vec<u8>, Value>, AllocError> {
+    let mut values = HashMap::new(alloc);
+    for (name, one) in given {
+        insert(alloc, &mut values, name, *one)?;
+    }
+    Ok(values)
+}
+
+fn params(alloc: Global, set: Set) -> Result<Params, AllocError> {
+    match set {
+        Set::Empty => Ok(Params::Empty),
+        Set::List(given) => Ok(Params::Positional(list(alloc, given)?)),
+        Set::Named(given) => Ok(Params::Named(entries(alloc, given)?)),
+    }
+}
+
+/// The set itself.
+pub fn made_set(assert: &impl Assert, alloc: Global, set: Set) -> Params {
+    once_more(assert, params(alloc, set), params(alloc, set))
+}
+
+/// A content that is expected.
+#[derive(Clone, Copy)]
+pub enum Want {
+    Null,
+    Number(i128),
+    Bytes(&'static [u8]),
+}
+
+/// Whether a content is the expected one.
+pub fn meets(content: &Content, want: Want) -> bool {
+    match content {
+        Content::Null => matches!(want, Want::Null),
+        Content::Number(number) => match want {
+            Want::Number(wanted) => *number == wanted,
+            _ => false,
+        },
+        Content::Bytes(bytes) => match want {
+            Want::Bytes(wanted) => bytes.as_slice() == wanted,
+            _ => false,
+        },
+    }
 }
