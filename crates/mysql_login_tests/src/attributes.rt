@@ -1,30 +1,29 @@
 //! Attributes of a connection.
 
-use crate::support::{
-    assert_made, assert_owned, assert_refused, assert_texts, once_more, one_text, whole,
-};
+use crate::support::{Asserting, assert_each_refused, assert_owned, assert_texts, one_text};
 use mysql_login::ConnectAttributes;
 use mysql_raw::WireError;
 use std::alloc::{AllocError, Global};
-use std::process::Abort;
+use tests_support::{Assert, assert_copied, assert_made, assert_reads_back, once_more, whole};
 
 // Asserts that these bytes are attributes whose texts, one after another, are the wanted bytes.
-fn assert_read(rt: &impl Abort, alloc: Global, bytes: &[u8], wanted: &[u8]) {
-    let all = whole::<ConnectAttributes, ()>(rt, alloc, (), bytes);
-    let texts = once_more(rt, all.texts(alloc), all.texts(alloc));
-    assert_texts(rt, alloc, &texts, wanted);
+fn assert_read(assert: &impl Assert, alloc: Global, bytes: &[u8], wanted: &[u8]) {
+    let all = whole::<ConnectAttributes, ()>(assert, alloc, (), bytes);
+    let texts = once_more(assert, all.texts(alloc), all.texts(alloc));
+    assert_texts(assert, alloc, &texts, wanted);
 }
 
 #[test]
-fn a_repeated_key_keeps_its_place(rt: HostRuntime) {
-    let bytes = b"\x0c\x01a\x011\x01b\x012\x01a\x013";
-    assert_read(&rt, rt.alloc(), bytes, b"a3b2");
-}
-
-#[test]
-fn keys_of_the_same_lossy_text(rt: HostRuntime) {
-    let bytes = b"\x08\x01\xff\x011\x01\xfe\x012";
-    assert_read(&rt, rt.alloc(), bytes, "\u{fffd}2".as_bytes());
+fn texts_that_are_read(rt: HostRuntime) {
+    let assert = Asserting(&rt);
+    // A repeated key keeps its place and has its last value, and so have keys of the same lossy text.
+    let rows: [(&[u8], &[u8]); 2] = [
+        (b"\x0c\x01a\x011\x01b\x012\x01a\x013", b"a3b2"),
+        (b"\x08\x01\xff\x011\x01\xfe\x012", "\u{fffd}2".as_bytes()),
+    ];
+    for (bytes, wanted) in rows {
+        assert_read(&assert, rt.alloc(), bytes, wanted);
+    }
 }
 
 // One attribute.
@@ -34,35 +33,49 @@ fn attribute(alloc: Global) -> Result<ConnectAttributes<'static>, AllocError> {
 
 const ATTRIBUTE: &[u8] = b"\x0a\x03key\x05value";
 
-#[test]
-fn written_after_their_total(rt: HostRuntime) {
-    let alloc = rt.alloc();
-    assert_made(&rt, alloc, attribute(alloc), attribute(alloc), ATTRIBUTE);
+// The attribute, which borrows its bytes.
+fn read(assert: &impl Assert, alloc: Global) -> ConnectAttributes<'static> {
+    whole::<ConnectAttributes, ()>(assert, alloc, (), ATTRIBUTE)
 }
 
 #[test]
-fn copies_are_written(rt: HostRuntime) {
+fn written_after_their_total(rt: HostRuntime) {
+    let assert = Asserting(&rt);
     let alloc = rt.alloc();
-    let all = once_more(&rt, attribute(alloc), attribute(alloc));
-    assert_made(&rt, alloc, all.clone(alloc), all.clone(alloc), ATTRIBUTE);
-    assert_owned(&rt, alloc, all.into_owned(alloc), ATTRIBUTE);
+    assert_made(
+        &assert,
+        alloc,
+        attribute(alloc),
+        attribute(alloc),
+        ATTRIBUTE,
+    );
+    assert_reads_back::<ConnectAttributes, ()>(&assert, alloc, (), ATTRIBUTE);
+}
+
+#[test]
+fn copies(rt: HostRuntime) {
+    let assert = Asserting(&rt);
+    let alloc = rt.alloc();
+    let all = read(&assert, alloc);
+    assert_copied(&assert, &all, all.clone(alloc), all.clone(alloc));
+    assert_owned(
+        &assert,
+        &all,
+        read(&assert, alloc).into_owned(alloc),
+        read(&assert, alloc).into_owned(alloc),
+    );
 }
 
 #[test]
 fn a_total_that_does_not_match(rt: HostRuntime) {
     // The first total ends within a value, the second past the bytes, the third is the largest.
-    let bad: [&[u8]; 3] = [
-        b"\x03\x01a\x011",
-        b"\x05\x01a\x011",
-        b"\xfe\xff\xff\xff\xff\xff\xff\xff\xff\x01a\x011",
-    ];
-    for bytes in bad {
-        assert_refused::<ConnectAttributes, ()>(
-            &rt,
-            rt.alloc(),
-            (),
-            bytes,
+    let rows: [(&[u8], WireError); 3] = [
+        (b"\x03\x01a\x011", WireError::UnexpectedEof),
+        (b"\x05\x01a\x011", WireError::UnexpectedEof),
+        (
+            b"\xfe\xff\xff\xff\xff\xff\xff\xff\xff\x01a\x011",
             WireError::UnexpectedEof,
-        );
-    }
+        ),
+    ];
+    assert_each_refused::<ConnectAttributes>(&Asserting(&rt), rt.alloc(), &rows);
 }

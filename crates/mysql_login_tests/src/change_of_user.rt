@@ -1,17 +1,19 @@
 //! The command that logs another user in.
 
-use crate::support::{
-    assert_copied, assert_cut_off, assert_made, assert_owned, assert_refused, assert_same,
-    assert_written, once_more, one_text, whole,
-};
-use mysql_auth::AuthPlugin;
+use crate::support::{Asserting, assert_owned, one_text};
 use mysql_const::CapabilityFlags;
-use mysql_login::{ComChangeUser, ComChangeUserMoreData};
+use mysql_login::{AuthPlugin, ComChangeUser, ComChangeUserMoreData};
 use mysql_raw::WireError;
 use std::alloc::{AllocError, Global};
 use std::borrow::CowSlice;
+use tests_support::{
+    Assert, assert_copied, assert_cut_off, assert_made, assert_reads_back, assert_refused,
+    assert_written, whole,
+};
 
 const COMMAND: &[u8] = b"\x11root\0\x02abdb\0\x2d\0mysql_native_password\0\x04\x01a\x011";
+
+const MORE: &[u8] = b"\x2d\0dialog\0\x04\x01a\x011";
 
 const FLAGS: CapabilityFlags = CapabilityFlags(0x180000);
 
@@ -29,49 +31,95 @@ fn command(alloc: Global) -> Result<ComChangeUser<'static>, AllocError> {
     Ok(command)
 }
 
+// The command, which borrows its bytes.
+fn read(assert: &impl Assert, alloc: Global) -> ComChangeUser<'static> {
+    whole::<ComChangeUser, CapabilityFlags>(assert, alloc, FLAGS, COMMAND)
+}
+
+// What stands behind the database, which borrows its bytes.
+fn read_more(assert: &impl Assert, alloc: Global) -> ComChangeUserMoreData<'static> {
+    whole::<ComChangeUserMoreData, CapabilityFlags>(assert, alloc, FLAGS, MORE)
+}
+
 #[test]
 fn a_command_is_written(rt: HostRuntime) {
     let alloc = rt.alloc();
-    assert_made(&rt, alloc, command(alloc), command(alloc), COMMAND);
+    assert_made(
+        &Asserting(&rt),
+        alloc,
+        command(alloc),
+        command(alloc),
+        COMMAND,
+    );
 }
 
 #[test]
 fn a_command_is_copied(rt: HostRuntime) {
+    let assert = Asserting(&rt);
     let alloc = rt.alloc();
-    let command = once_more(&rt, command(alloc), command(alloc));
-    assert_copied(&rt, &command, command.clone(alloc), command.clone(alloc));
+    let command = read(&assert, alloc);
+    assert_copied(
+        &assert,
+        &command,
+        command.clone(alloc),
+        command.clone(alloc),
+    );
 }
 
 #[test]
-fn an_owned_command_is_written(rt: HostRuntime) {
+fn a_command_is_owned(rt: HostRuntime) {
+    let assert = Asserting(&rt);
     let alloc = rt.alloc();
-    let command = once_more(&rt, command(alloc), command(alloc));
-    assert_owned(&rt, alloc, command.into_owned(alloc), COMMAND);
+    assert_owned(
+        &assert,
+        &read(&assert, alloc),
+        read(&assert, alloc).into_owned(alloc),
+        read(&assert, alloc).into_owned(alloc),
+    );
 }
 
 #[test]
-fn no_attributes_are_written(rt: HostRuntime) {
+fn more_data_is_copied(rt: HostRuntime) {
+    let assert = Asserting(&rt);
     let alloc = rt.alloc();
-    let command = ComChangeUser::new().with_more_data(Some(ComChangeUserMoreData::new(33)));
-    assert_written(&rt, alloc, &command, b"\x11\0\0\0\x21\0\0");
+    let more = read_more(&assert, alloc);
+    assert_written(&assert, alloc, &more, MORE);
+    assert_copied(&assert, &more, more.clone(alloc), more.clone(alloc));
 }
 
 #[test]
-fn a_bare_command_is_written(rt: HostRuntime) {
-    let command: ComChangeUser = Default::default();
-    assert_written(&rt, rt.alloc(), &command, b"\x11\0\0\0");
+fn more_data_is_owned(rt: HostRuntime) {
+    let assert = Asserting(&rt);
+    let alloc = rt.alloc();
+    assert_owned(
+        &assert,
+        &read_more(&assert, alloc),
+        read_more(&assert, alloc).into_owned(alloc),
+        read_more(&assert, alloc).into_owned(alloc),
+    );
+}
+
+#[test]
+fn commands_without_parts_are_written(rt: HostRuntime) {
+    let assert = Asserting(&rt);
+    let bare: ComChangeUser = Default::default();
+    assert_written(&assert, rt.alloc(), &bare, b"\x11\0\0\0");
+    let no_attributes = ComChangeUser::new().with_more_data(Some(ComChangeUserMoreData::new(33)));
+    assert_written(&assert, rt.alloc(), &no_attributes, b"\x11\0\0\0\x21\0\0");
 }
 
 #[test]
 fn a_command_is_read(rt: HostRuntime) {
-    let command = whole::<ComChangeUser, CapabilityFlags>(&rt, rt.alloc(), FLAGS, COMMAND);
-    assert_written(&rt, rt.alloc(), &command, COMMAND);
+    let assert = Asserting(&rt);
+    assert_reads_back::<ComChangeUser, CapabilityFlags>(&assert, rt.alloc(), FLAGS, COMMAND);
+    // The command may end behind the database.
+    let _ = whole::<ComChangeUser, CapabilityFlags>(&assert, rt.alloc(), FLAGS, &COMMAND[..12]);
 }
 
 #[test]
 fn another_command(rt: HostRuntime) {
     assert_refused::<ComChangeUser, CapabilityFlags>(
-        &rt,
+        &Asserting(&rt),
         rt.alloc(),
         FLAGS,
         b"\x12\0\0\0",
@@ -81,9 +129,15 @@ fn another_command(rt: HostRuntime) {
 
 #[test]
 fn a_command_that_is_cut_off(rt: HostRuntime) {
+    let assert = Asserting(&rt);
     let alloc = rt.alloc();
-    assert_cut_off::<ComChangeUser, CapabilityFlags>(&rt, alloc, FLAGS, COMMAND, 0, 12);
-    // The command may end behind the database.
-    let _ = whole::<ComChangeUser, CapabilityFlags>(&rt, alloc, FLAGS, &COMMAND[..12]);
-    assert_cut_off::<ComChangeUser, CapabilityFlags>(&rt, alloc, FLAGS, COMMAND, 13, COMMAND.len());
+    assert_cut_off::<ComChangeUser, CapabilityFlags>(&assert, alloc, FLAGS, COMMAND, 0, 12);
+    assert_cut_off::<ComChangeUser, CapabilityFlags>(
+        &assert,
+        alloc,
+        FLAGS,
+        COMMAND,
+        13,
+        COMMAND.len(),
+    );
 }

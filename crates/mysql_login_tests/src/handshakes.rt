@@ -1,17 +1,15 @@
 //! Initial handshake packets.
 
-use crate::support::{
-    assert_bytes, assert_cut_off, assert_refused, assert_same, assert_written, once_more, whole,
-};
+use crate::support::{Asserting, assert_each_refused, assert_owned, assert_text};
 use bitflags::Flags;
-use mysql_auth::AuthPlugin;
-use mysql_buf::ParseBuf;
 use mysql_const::{CapabilityFlags, MariadbCapabilities, StatusFlags};
-use mysql_login::HandshakePacket;
-use mysql_raw::{ParseExt, WireError};
+use mysql_login::{AuthPlugin, HandshakePacket};
+use mysql_raw::WireError;
 use std::alloc::{AllocError, Global};
-use std::borrow::CowSlice;
-use std::process::Abort;
+use std::borrow::{CowSlice, CowStr};
+use tests_support::{
+    Assert, assert_bytes, assert_cut_off, assert_same, assert_written, once_more, whole,
+};
 
 /// The handshake of a MariaDB server.
 const MARIADB: &[u8] =
@@ -21,147 +19,184 @@ const MARIADB: &[u8] =
 const MYSQL: &[u8] =
     b"\x0a5.6.4-m7-log\x00\x56\x0a\x00\x00RB3vz&Gr\x00\xff\xff\x08\x02\x00\x0f\xc0\x15\x00\x00\x00\x00\x00\x00\x00\x00\x00\x00+yD&/ZZ305ZG\x00mysql_native_password\x00";
 
+type Version = (u16, u16, u16);
+
+// Asserts that a packet is of these versions of a server and of a MariaDB server.
+fn assert_versions(
+    assert: &impl Assert,
+    packet: &HandshakePacket<'_>,
+    version: Option<Version>,
+    mariadb: Option<Version>,
+) {
+    assert_same(assert, &packet.server_version_parsed(), &version);
+    assert_same(assert, &packet.maria_db_server_version_parsed(), &mariadb);
+}
+
 // A handshake, read.
-fn read<'a>(rt: &impl Abort, alloc: Global, bytes: &'a [u8]) -> HandshakePacket<'a> {
-    whole::<HandshakePacket, ()>(rt, alloc, (), bytes)
+fn read<'a>(assert: &impl Assert, alloc: Global, bytes: &'a [u8]) -> HandshakePacket<'a> {
+    whole::<HandshakePacket, ()>(assert, alloc, (), bytes)
+}
+
+// Asserts that a packet is of this connection, with these capabilities and this plugin.
+fn assert_connection(
+    assert: &impl Assert,
+    packet: &HandshakePacket<'_>,
+    connection_id: u32,
+    capabilities: u32,
+    plugin: &Option<AuthPlugin<'_>>,
+) {
+    assert_same(assert, &packet.connection_id(), &connection_id);
+    assert_same(assert, &packet.capabilities().bits(), &capabilities);
+    assert_same(assert, &packet.auth_plugin(), plugin);
 }
 
 #[test]
 fn of_mariadb(rt: HostRuntime) {
-    let alloc = rt.alloc();
-    let packet = read(&rt, alloc, MARIADB);
-    assert_same(&rt, &packet.server_version_parsed(), &Some((5, 5, 5)));
-    assert_same(
-        &rt,
-        &packet.maria_db_server_version_parsed(),
-        &Some((10, 0, 17)),
-    );
-    assert_same(&rt, &packet.connection_id(), &11);
-    assert_same(&rt, &packet.capabilities().bits(), &0xf7ff);
-    assert_same(&rt, &packet.auth_plugin(), &None);
-    assert_written(&rt, alloc, &packet, MARIADB);
+    let assert = Asserting(&rt);
+    let packet = read(&assert, rt.alloc(), MARIADB);
+    assert_versions(&assert, &packet, Some((5, 5, 5)), Some((10, 0, 17)));
+    assert_connection(&assert, &packet, 11, 0xf7ff, &None);
+    assert_written(&assert, rt.alloc(), &packet, MARIADB);
 }
 
 #[test]
 fn of_mysql(rt: HostRuntime) {
-    let alloc = rt.alloc();
-    let packet = read(&rt, alloc, MYSQL);
-    assert_same(&rt, &packet.server_version_parsed(), &Some((5, 6, 4)));
-    assert_same(&rt, &packet.maria_db_server_version_parsed(), &None);
-    assert_same(&rt, &packet.connection_id(), &2646);
-    assert_same(&rt, &packet.capabilities().bits(), &0xc00f_ffff);
-    assert_same(
-        &rt,
-        &packet.auth_plugin(),
-        &Some(AuthPlugin::MysqlNativePassword),
-    );
-    assert_written(&rt, alloc, &packet, MYSQL);
+    let assert = Asserting(&rt);
+    let packet = read(&assert, rt.alloc(), MYSQL);
+    let plugin = Some(AuthPlugin::MysqlNativePassword);
+    assert_versions(&assert, &packet, Some((5, 6, 4)), None);
+    assert_connection(&assert, &packet, 2646, 0xc00f_ffff, &plugin);
+    assert_written(&assert, rt.alloc(), &packet, MYSQL);
 }
 
-#[test]
-fn fields(rt: HostRuntime) {
-    let packet = read(&rt, rt.alloc(), MYSQL);
-    assert_same(&rt, &packet.protocol_version(), &10);
-    assert_same(&rt, &packet.default_collation(), &8);
+// Asserts that a packet has the numbers of the handshake of a MySQL server.
+fn assert_numbers(assert: &impl Assert, packet: &HandshakePacket<'_>) {
+    assert_same(assert, &packet.protocol_version(), &10);
+    assert_same(assert, &packet.default_collation(), &8);
     assert_same(
-        &rt,
+        assert,
         &packet.status_flags(),
         &StatusFlags::SERVER_STATUS_AUTOCOMMIT,
     );
-    assert_same(&rt, &packet.mariadb_ext_capabilities().bits(), &0);
-    assert_bytes(&rt, packet.server_version_ref(), b"5.6.4-m7-log");
-    assert_bytes(&rt, packet.scramble_1_ref(), b"RB3vz&Gr");
+    assert_same(assert, &packet.mariadb_ext_capabilities().bits(), &0);
+}
+
+// Asserts that a packet has the bytes of the handshake of a MySQL server.
+fn assert_texts(assert: &impl Assert, packet: &HandshakePacket<'_>) {
+    assert_bytes(assert, packet.server_version_ref(), b"5.6.4-m7-log");
+    assert_bytes(assert, packet.scramble_1_ref(), b"RB3vz&Gr");
     assert_same(
-        &rt,
+        assert,
         &packet.scramble_2_ref(),
         &Some(b"+yD&/ZZ305ZG\x00".as_slice()),
     );
     assert_same(
-        &rt,
+        assert,
         &packet.auth_plugin_name_ref(),
         &Some(b"mysql_native_password".as_slice()),
     );
 }
 
 #[test]
+fn fields(rt: HostRuntime) {
+    let assert = Asserting(&rt);
+    let packet = read(&assert, rt.alloc(), MYSQL);
+    assert_numbers(&assert, &packet);
+    assert_texts(&assert, &packet);
+}
+
+// Asserts that the name of a plugin is this text.
+fn assert_name(assert: &impl Assert, name: Option<CowStr<'_>>, wanted: &str) {
+    assert.holds(name.is_some_and(|name| name.as_str() == wanted));
+}
+
+#[test]
 fn texts(rt: HostRuntime) {
+    let assert = Asserting(&rt);
     let alloc = rt.alloc();
-    let packet = read(&rt, alloc, MYSQL);
-    let version = once_more(
-        &rt,
+    let packet = read(&assert, alloc, MYSQL);
+    assert_text(
+        &assert,
         packet.server_version_str(alloc),
         packet.server_version_str(alloc),
+        "5.6.4-m7-log",
     );
-    assert_bytes(&rt, version.as_str().as_bytes(), b"5.6.4-m7-log");
     let name = once_more(
-        &rt,
+        &assert,
         packet.auth_plugin_name_str(alloc),
         packet.auth_plugin_name_str(alloc),
-    )
-    .expect(&rt, "a name");
-    assert_bytes(&rt, name.as_str().as_bytes(), b"mysql_native_password");
-    let nonce = once_more(&rt, packet.nonce(alloc), packet.nonce(alloc));
-    assert_bytes(&rt, nonce.as_slice(), b"RB3vz&Gr+yD&/ZZ305ZG");
+    );
+    assert_name(&assert, name, "mysql_native_password");
 }
 
-// The handshake of a MariaDB server with another byte in a place.
-fn with_byte(alloc: Global, place: usize, byte: u8) -> Result<Vec<u8>, AllocError> {
-    let mut bytes = Vec::from_slice(alloc, MARIADB)?;
-    if let Some(found) = bytes.get_mut(place) {
-        *found = byte;
-    }
-    Ok(bytes)
+// Asserts that the nonce of a packet is this.
+fn assert_nonce(assert: &impl Assert, alloc: Global, packet: &HandshakePacket<'_>, wanted: &[u8]) {
+    let nonce = once_more(assert, packet.nonce(alloc), packet.nonce(alloc));
+    assert_bytes(assert, nonce.as_slice(), wanted);
 }
 
-// That handshake with this length of both scrambles, which stands 20 bytes behind the zero of the
-// version, and with more bytes behind it.
-fn with_length(alloc: Global, len: u8) -> Result<Vec<u8>, AllocError> {
-    let mut bytes = with_byte(alloc, 47, len)?;
-    bytes.extend_from_slice(&[1; 130])?;
-    Ok(bytes)
+#[test]
+fn nonces(rt: HostRuntime) {
+    let assert = Asserting(&rt);
+    let alloc = rt.alloc();
+    let packet = read(&assert, alloc, MYSQL);
+    assert_nonce(&assert, alloc, &packet, b"RB3vz&Gr+yD&/ZZ305ZG");
+    let short = b"abcdefgh\x00\x00\x00\x00\x00\x00\x00\x00\x00\x00\x00\x00";
+    assert_nonce(&assert, alloc, &with_version(b"4.1"), short);
 }
 
-// Asserts that a packet with this length of both scrambles holds a second one of `wanted` bytes.
-fn assert_scramble(rt: &impl Abort, alloc: Global, len: u8, wanted: usize) {
-    let bytes = once_more(rt, with_length(alloc, len), with_length(alloc, len));
-    let packet = ParseBuf(bytes.as_slice())
-        .parse::<HandshakePacket>(alloc, ())
-        .expect(rt, "a handshake");
-    let scramble = packet.scramble_2_ref().expect(rt, "a scramble");
-    assert_same(rt, &scramble.len(), &wanted);
+// Handshakes that say 128, 20 and 0 bytes of both scrambles, of which the second has 120, 13 and 13.
+const SCRAMBLES: [(&[u8], usize); 3] = [
+    (
+        b"\x0a8.0\x00\x07\x00\x00\x00abcdefgh\x00\x00\x80\x2d\x02\x00\x00\x00\x80\x00\x00\x00\x00\x00\x00\x00\x00\x00\x00012345678901234567890123456789012345678901234567890123456789012345678901234567890123456789012345678901234567890123456789",
+        120,
+    ),
+    (
+        b"\x0a8.0\x00\x07\x00\x00\x00abcdefgh\x00\x00\x80\x2d\x02\x00\x00\x00\x14\x00\x00\x00\x00\x00\x00\x00\x00\x00\x000123456789012",
+        13,
+    ),
+    (
+        b"\x0a8.0\x00\x07\x00\x00\x00abcdefgh\x00\x00\x80\x2d\x02\x00\x00\x00\x00\x00\x00\x00\x00\x00\x00\x00\x00\x00\x000123456789012",
+        13,
+    ),
+];
+
+// Asserts that the second scramble of a packet has so many bytes.
+fn assert_scramble(assert: &impl Assert, packet: &HandshakePacket<'_>, len: usize) {
+    let found = packet.scramble_2_ref().map(|scramble| scramble.len());
+    assert_same(assert, &found, &Some(len));
 }
 
 #[test]
 fn second_scrambles(rt: HostRuntime) {
-    assert_scramble(&rt, rt.alloc(), 128, 120);
-    assert_scramble(&rt, rt.alloc(), 20, 13);
-    assert_scramble(&rt, rt.alloc(), 0, 13);
+    let assert = Asserting(&rt);
+    for (bytes, len) in SCRAMBLES {
+        let packet = read(&assert, rt.alloc(), bytes);
+        assert_scramble(&assert, &packet, len);
+    }
 }
 
 #[test]
 fn cut_off(rt: HostRuntime) {
+    let assert = Asserting(&rt);
     let alloc = rt.alloc();
-    assert_cut_off::<HandshakePacket, ()>(&rt, alloc, (), MARIADB, 0, MARIADB.len());
+    assert_cut_off::<HandshakePacket, ()>(&assert, alloc, (), MARIADB, 0, MARIADB.len());
     // The name of a plugin may end anywhere, so those bytes are read.
-    assert_cut_off::<HandshakePacket, ()>(&rt, alloc, (), MYSQL, 0, 58);
-    let _ = read(&rt, alloc, &MYSQL[..58]);
+    assert_cut_off::<HandshakePacket, ()>(&assert, alloc, (), MYSQL, 0, 58);
+    let _ = read(&assert, alloc, &MYSQL[..58]);
 }
 
 #[test]
 fn an_unknown_status(rt: HostRuntime) {
-    let alloc = rt.alloc();
-    let bytes = once_more(&rt, with_byte(alloc, 43, 4), with_byte(alloc, 43, 4));
-    assert_refused::<HandshakePacket, ()>(
-        &rt,
-        alloc,
-        (),
-        bytes.as_slice(),
+    let rows: [(&[u8], WireError); 1] = [(
+        b"\x0a5.5.5-10.0.17-MariaDB-log\x00\x0b\x00\x00\x00dvH@I-CJ\x00\xff\xf7\x08\x04\x00\x00\x00\x00\x00\x00\x00\x00\x00\x00\x00\x00\x00\x00*4d|cZwk4^]:\x00",
         WireError::UnknownValue,
-    );
+    )];
+    assert_each_refused::<HandshakePacket>(&Asserting(&rt), rt.alloc(), &rows);
 }
 
 // A handshake with a name and an extended capability.
-fn made<'a>() -> HandshakePacket<'a> {
+fn made() -> HandshakePacket<'static> {
     HandshakePacket::new(
         10,
         CowSlice::Borrowed(b"8.0.1"),
@@ -181,19 +216,26 @@ const MADE: &[u8] =
 
 #[test]
 fn a_packet_made(rt: HostRuntime) {
+    let assert = Asserting(&rt);
     let packet = made();
-    assert_written(&rt, rt.alloc(), &packet, MADE);
-    assert_same(&rt, &read(&rt, rt.alloc(), MADE), &packet);
+    assert_written(&assert, rt.alloc(), &packet, MADE);
+    assert_same(&assert, &read(&assert, rt.alloc(), MADE), &packet);
 }
 
 #[test]
 fn a_packet_owned(rt: HostRuntime) {
+    let assert = Asserting(&rt);
     let alloc = rt.alloc();
     let packet = made();
-    let copy = once_more(&rt, packet.clone(alloc), packet.clone(alloc));
-    assert_same(&rt, &copy, &packet);
-    let owned = copy.into_owned(alloc).expect(&rt, "an owned packet");
-    assert_same(&rt, &owned, &packet);
+    assert_owned(
+        &assert,
+        &packet,
+        made().into_owned(alloc),
+        made().into_owned(alloc),
+    );
+    // A copy that owns its bytes gives them on without memory.
+    let copy = once_more(&assert, packet.clone(alloc), packet.clone(alloc));
+    assert_owned(&assert, &packet, copy.into_owned(alloc), Err(AllocError));
 }
 
 // A handshake with this version and no second scramble.
@@ -212,38 +254,18 @@ fn with_version<'a>(version: &'a [u8]) -> HandshakePacket<'a> {
 }
 
 #[test]
-fn a_short_nonce(rt: HostRuntime) {
-    let alloc = rt.alloc();
-    let packet = with_version(b"4.1");
-    let nonce = once_more(&rt, packet.nonce(alloc), packet.nonce(alloc));
-    assert_bytes(
-        &rt,
-        nonce.as_slice(),
-        b"abcdefgh\x00\x00\x00\x00\x00\x00\x00\x00\x00\x00\x00\x00",
-    );
-    assert_same(&rt, &packet.server_version_parsed(), &None);
-}
-
-type Version = (u16, u16, u16);
-
-// Asserts that a text begins with these versions of a server and of a MariaDB server.
-fn assert_versions(
-    rt: &impl Abort,
-    text: &[u8],
-    version: Option<Version>,
-    mariadb: Option<Version>,
-) {
-    let packet = with_version(text);
-    assert_same(rt, &packet.server_version_parsed(), &version);
-    assert_same(rt, &packet.maria_db_server_version_parsed(), &mariadb);
-}
-
-#[test]
 fn versions(rt: HostRuntime) {
-    assert_versions(&rt, b"8.0.1234", Some((8, 0, 123)), None);
-    assert_versions(&rt, b"100.0.1", None, None);
-    assert_versions(&rt, b"5.5.5-MariaDB", Some((5, 5, 5)), Some((5, 5, 5)));
-    assert_versions(&rt, b"11.4.2-MariaDB", Some((11, 4, 2)), Some((11, 4, 2)));
-    assert_versions(&rt, b"5x5x5-10.0.17-MariaDB", None, None);
-    assert_versions(&rt, b"5.5.5-10.0.17", Some((5, 5, 5)), None);
+    let assert = Asserting(&rt);
+    let rows: [(&[u8], Option<Version>, Option<Version>); 7] = [
+        (b"4.1", None, None),
+        (b"8.0.1234", Some((8, 0, 123)), None),
+        (b"100.0.1", None, None),
+        (b"5.5.5-MariaDB", Some((5, 5, 5)), Some((5, 5, 5))),
+        (b"11.4.2-MariaDB", Some((11, 4, 2)), Some((11, 4, 2))),
+        (b"5x5x5-10.0.17-MariaDB", None, None),
+        (b"5.5.5-10.0.17", Some((5, 5, 5)), None),
+    ];
+    for (text, version, mariadb) in rows {
+        assert_versions(&assert, &with_version(text), version, mariadb);
+    }
 }

@@ -1,16 +1,15 @@
 //! Answers to the handshake.
 
-use crate::support::{
-    assert_bytes, assert_copied, assert_cut_off, assert_made, assert_same, assert_texts, once_more,
-    one_text, whole, written,
-};
+use crate::support::{Asserting, assert_texts, one_text};
 use indexmap::IndexMap;
-use mysql_auth::AuthPlugin;
 use mysql_const::CapabilityFlags;
-use mysql_login::HandshakeResponse;
+use mysql_login::{AuthPlugin, HandshakeResponse};
 use std::alloc::{AllocError, Global};
 use std::borrow::CowSlice;
-use std::process::Abort;
+use tests_support::{
+    Assert, assert_bytes, assert_copied, assert_cut_off, assert_made, assert_same, once_more,
+    whole, written,
+};
 
 const OF_ROOT: &[u8] =
     b"\x05\xa2\xae\x81\0\0\0\x01\x2d\0\0\0\0\0\0\0\0\0\0\0\0\0\0\0\0\0\0\0\0\0\0\0root\0\0mysql_native_password\0";
@@ -52,16 +51,17 @@ fn with_attributes(alloc: Global) -> Result<HandshakeResponse<'static>, AllocErr
 
 #[test]
 fn the_answer_of_root(rt: HostRuntime) {
+    let assert = Asserting(&rt);
     let alloc = rt.alloc();
     assert_made(
-        &rt,
+        &assert,
         alloc,
         response_of_root(alloc, None, None),
         response_of_root(alloc, None, None),
         OF_ROOT,
     );
     assert_made(
-        &rt,
+        &assert,
         alloc,
         response_of_root(alloc, database(), None),
         response_of_root(alloc, database(), None),
@@ -71,9 +71,10 @@ fn the_answer_of_root(rt: HostRuntime) {
 
 #[test]
 fn an_answer_with_attributes(rt: HostRuntime) {
+    let assert = Asserting(&rt);
     let alloc = rt.alloc();
     assert_made(
-        &rt,
+        &assert,
         alloc,
         with_attributes(alloc),
         with_attributes(alloc),
@@ -83,42 +84,73 @@ fn an_answer_with_attributes(rt: HostRuntime) {
 
 #[test]
 fn an_answer_is_copied(rt: HostRuntime) {
+    let assert = Asserting(&rt);
     let alloc = rt.alloc();
-    let response = once_more(&rt, with_attributes(alloc), with_attributes(alloc));
-    assert_copied(&rt, &response, response.clone(alloc), response.clone(alloc));
+    let response = whole::<HandshakeResponse, ()>(&assert, alloc, (), WITH_ATTRIBUTES);
+    assert_copied(
+        &assert,
+        &response,
+        response.clone(alloc),
+        response.clone(alloc),
+    );
 }
 
-#[test]
-fn an_answer_is_read(rt: HostRuntime) {
-    let response = whole::<HandshakeResponse, ()>(&rt, rt.alloc(), (), WITH_ATTRIBUTES);
-    assert_bytes(&rt, response.user(), b"root");
-    assert_bytes(&rt, response.scramble_buf(), b"");
-    assert_same(&rt, &response.collation(), &45);
-    assert_same(&rt, &response.db_name(), &Some(b"mydb".as_slice()));
+// Asserts that an answer has the fields of the one with attributes.
+fn assert_fields(assert: &impl Assert, response: &HandshakeResponse<'_>) {
+    assert_bytes(assert, response.user(), b"root");
+    assert_bytes(assert, response.scramble_buf(), b"");
+    assert_same(assert, &response.collation(), &45);
+    assert_same(assert, &response.db_name(), &Some(b"mydb".as_slice()));
     assert_same(
-        &rt,
+        assert,
         &response.auth_plugin(),
         &Some(&AuthPlugin::MysqlNativePassword),
     );
 }
 
 #[test]
+fn an_answer_is_read(rt: HostRuntime) {
+    let assert = Asserting(&rt);
+    let response = whole::<HandshakeResponse, ()>(&assert, rt.alloc(), (), WITH_ATTRIBUTES);
+    assert_fields(&assert, &response);
+}
+
+// Asserts that there are texts, and that they are these.
+fn assert_attributes(
+    assert: &impl Assert,
+    alloc: Global,
+    texts: Option<IndexMap<String, String>>,
+    wanted: &[u8],
+) {
+    match texts {
+        Some(texts) => assert_texts(assert, alloc, &texts, wanted),
+        None => assert.holds(false),
+    }
+}
+
+#[test]
 fn attributes_of_an_answer(rt: HostRuntime) {
+    let assert = Asserting(&rt);
     let alloc = rt.alloc();
-    let response = whole::<HandshakeResponse, ()>(&rt, alloc, (), WITH_ATTRIBUTES);
+    let response = whole::<HandshakeResponse, ()>(&assert, alloc, (), WITH_ATTRIBUTES);
     let texts = once_more(
-        &rt,
+        &assert,
         response.connect_attributes(alloc),
         response.connect_attributes(alloc),
-    )
-    .expect(&rt, "attributes");
-    assert_texts(&rt, alloc, &texts, b"a1");
+    );
+    assert_attributes(&assert, alloc, texts, b"a1");
 }
 
 #[test]
 fn an_answer_that_is_cut_off(rt: HostRuntime) {
-    let len = WITH_ATTRIBUTES.len();
-    assert_cut_off::<HandshakeResponse, ()>(&rt, rt.alloc(), (), WITH_ATTRIBUTES, 0, len);
+    assert_cut_off::<HandshakeResponse, ()>(
+        &Asserting(&rt),
+        rt.alloc(),
+        (),
+        WITH_ATTRIBUTES,
+        0,
+        WITH_ATTRIBUTES.len(),
+    );
 }
 
 // An answer with a scramble of two bytes to a server before version 5.5.3.
@@ -140,22 +172,27 @@ fn with_scramble(
 }
 
 // Asserts that such an answer, with these capabilities, is written with this ending.
-fn assert_scramble(rt: &impl Abort, alloc: Global, capabilities: u32, ending: &[u8]) {
+fn assert_scramble(assert: &impl Assert, alloc: Global, capabilities: u32, ending: &[u8]) {
     let response = once_more(
-        rt,
+        assert,
         with_scramble(alloc, capabilities),
         with_scramble(alloc, capabilities),
     );
-    let bytes = written(rt, alloc, &response);
-    assert!(rt; bytes.as_slice().ends_with(ending));
-    assert_same(rt, &response.collation(), &33);
+    let bytes = written(assert, alloc, &response);
+    assert.holds(bytes.as_slice().ends_with(ending));
+    assert_same(assert, &response.collation(), &33);
 }
 
 #[test]
 fn forms_of_the_scramble(rt: HostRuntime) {
-    let alloc = rt.alloc();
+    let assert = Asserting(&rt);
     // After a length-encoded number, after a byte, before a zero.
-    assert_scramble(&rt, alloc, 0x200000, b"\0\x02ab");
-    assert_scramble(&rt, alloc, 0x8000, b"\0\x02ab");
-    assert_scramble(&rt, alloc, 0, b"\0ab\0");
+    let rows: [(u32, &[u8]); 3] = [
+        (0x200000, b"\0\x02ab"),
+        (0x8000, b"\0\x02ab"),
+        (0, b"\0ab\0"),
+    ];
+    for (capabilities, ending) in rows {
+        assert_scramble(&assert, rt.alloc(), capabilities, ending);
+    }
 }

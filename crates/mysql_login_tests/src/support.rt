@@ -1,135 +1,97 @@
 //! What the tests share.
 
+ghost use Rattle.std.specs.Prelude.{◌≡◌, true};
+
 use indexmap::IndexMap;
-use mysql_buf::ParseBuf;
-use mysql_raw::{MyDeserialize, MySerialize, ParseExt, Readable, WireError};
+use mysql_login::{GnoInterval, Sid, Tag};
+use mysql_raw::{MyDeserialize, MySerialize, Readable, WireError};
 use std::alloc::{AllocError, Global};
+use std::borrow::CowStr;
 use std::fmt::Debug;
 use std::process::Abort;
+use tests_support::{
+    Assert, assert_bytes, assert_cut_off, assert_reads_back, assert_refused, assert_same,
+    assert_written, once_more,
+};
 
-/// Asserts that a value is the wanted one.
-pub fn assert_same<T: PartialEq + Debug>(rt: &impl Abort, value: &T, wanted: &T) {
-    assert_eq!(rt; *value, *wanted);
-}
+/// Ends a test by an assertion.
+#[derive(Drop)]
+pub struct Asserting<'a, R>(pub &'a R);
 
-/// Asserts that bytes are the wanted ones.
-pub fn assert_bytes(rt: &impl Abort, bytes: &[u8], wanted: &[u8]) {
-    assert_eq!(rt; bytes, wanted);
-}
-
-/// The bytes of a value.
-pub fn written<T: MySerialize>(rt: &impl Abort, alloc: Global, value: &T) -> Vec<u8> {
-    let mut out = Vec::new(alloc);
-    if value.serialize(&mut out).is_err() {
-        // Memory was refused: nothing was written.
-        assert!(rt; out.is_empty());
-        assert!(rt; value.serialize(&mut out).is_ok());
+impl<R: Abort> Assert for Asserting<'_, R> {
+    fn holds(&self, is_so: bool)
+        ensures { is_so ≡ true }
+    {
+        assert!(self.0; is_so);
     }
-    out
 }
 
-/// Asserts that a value is written as these bytes.
-pub fn assert_written<T: MySerialize>(rt: &impl Abort, alloc: Global, value: &T, bytes: &[u8]) {
-    assert_bytes(rt, written(rt, alloc, value).as_slice(), bytes);
-}
-
-/// The value that these bytes are, with none left. It is read once more where memory was refused.
-pub fn whole<'a, T: MyDeserialize<'a> + Readable<Ctx = C>, C: Copy + Drop>(
-    rt: &impl Abort,
-    alloc: Global,
-    ctx: C,
-    bytes: &'a [u8],
-) -> T {
-    let mut buf = ParseBuf(bytes);
-    let value = match buf.parse::<T>(alloc, ctx) {
-        Ok(value) => value,
-        Err(error) => {
-            assert_same(rt, &error, &WireError::Memory);
-            assert_bytes(rt, buf.0, bytes);
-            buf.parse::<T>(alloc, ctx).expect(rt, "a value")
-        }
-    };
-    assert!(rt; buf.is_empty());
-    value
-}
-
-/// Asserts that these bytes are refused for this cause, and that all are left.
-pub fn assert_refused<'a, T: MyDeserialize<'a> + Readable<Ctx = C> + Drop, C: Drop>(
-    rt: &impl Abort,
-    alloc: Global,
-    ctx: C,
-    bytes: &'a [u8],
-    cause: WireError,
+/// Asserts that a text, or the same text asked for once more, is the wanted one.
+pub fn assert_text<E: Drop>(
+    assert: &impl Assert,
+    first: Result<CowStr<'_>, E>,
+    second: Result<CowStr<'_>, E>,
+    wanted: &str,
 ) {
-    let mut buf = ParseBuf(bytes);
-    match buf.parse::<T>(alloc, ctx) {
-        Ok(_) => assert!(rt; false),
-        Err(error) => assert_same(rt, &error, &cause),
-    }
-    assert_bytes(rt, buf.0, bytes);
+    let text = once_more(assert, first, second);
+    assert_bytes(assert, text.as_str().as_bytes(), wanted.as_bytes());
 }
 
-/// Asserts that each prefix of these bytes that has at least `from` and less than `to` is cut off.
-pub fn assert_cut_off<'a, T: MyDeserialize<'a> + Readable<Ctx = C> + Drop, C: Copy + Drop>(
-    rt: &impl Abort,
-    alloc: Global,
-    ctx: C,
-    bytes: &'a [u8],
-    from: usize,
-    to: usize,
-) {
-    for len in from..to {
-        let front = bytes.get(..len).expect(rt, "a prefix");
-        assert_refused::<T, C>(rt, alloc, ctx, front, WireError::UnexpectedEof);
-    }
-}
-
-/// What a call made that needs memory, or the same call once more.
-pub fn once_more<T: Drop, E: Debug + Drop>(
-    rt: &impl Abort,
+/// Asserts that what was made to borrow nothing, or the same made once more, is the value that it was made of.
+pub fn assert_owned<T: PartialEq + Debug + Drop, E: Drop>(
+    assert: &impl Assert,
+    value: &T,
     first: Result<T, E>,
     second: Result<T, E>,
-) -> T {
-    match first {
-        Ok(value) => value,
-        Err(_) => second.expect(rt, "memory is refused once"),
+) {
+    let owned = once_more(assert, first, second);
+    assert_same(assert, &owned, value);
+}
+
+/// Asserts that a packet is written as these bytes, that they are read as a packet which is written as the same bytes, and
+/// that each prefix shorter than `len` is cut off.
+pub fn assert_packet<'a, T: MySerialize + MyDeserialize<'a> + Readable<Ctx = ()> + Drop>(
+    assert: &impl Assert,
+    alloc: Global,
+    packet: &impl MySerialize,
+    bytes: &'a [u8],
+    len: usize,
+) {
+    assert_written(assert, alloc, packet, bytes);
+    assert_reads_back::<T, ()>(assert, alloc, (), bytes);
+    assert_cut_off::<T, ()>(assert, alloc, (), bytes, 0, len);
+}
+
+/// Asserts that each of these bytes is refused for its cause.
+pub fn assert_each_refused<'a, T: MyDeserialize<'a> + Readable<Ctx = ()> + Drop>(
+    assert: &impl Assert,
+    alloc: Global,
+    rows: &[(&'a [u8], WireError)],
+) {
+    for (bytes, cause) in rows {
+        assert_refused::<T, ()>(assert, alloc, (), *bytes, *cause);
     }
 }
 
-/// Asserts that what a call made, or the same call once more, is written as these bytes.
-pub fn assert_made<T: MySerialize + Drop>(
-    rt: &impl Abort,
-    alloc: Global,
-    first: Result<T, AllocError>,
-    second: Result<T, AllocError>,
-    bytes: &[u8],
-) {
-    let made = once_more(rt, first, second);
-    assert_written(rt, alloc, &made, bytes);
+/// A set of this source, with the transactions from 1 on that are less than `end`.
+pub fn set(assert: &impl Assert, alloc: Global, uuid: [u8; 16], end: u64) -> Sid<'static> {
+    let interval = GnoInterval::new(1, end);
+    once_more(
+        assert,
+        Sid::new(alloc, uuid).with_interval(interval),
+        Sid::new(alloc, uuid).with_interval(interval),
+    )
 }
 
-/// Asserts that a copy, or the same copy once more, is the value that was copied.
-pub fn assert_copied<T: PartialEq + Debug + Drop>(
-    rt: &impl Abort,
-    value: &T,
-    first: Result<T, AllocError>,
-    second: Result<T, AllocError>,
-) {
-    let copy = once_more(rt, first, second);
-    assert_same(rt, &copy, value);
+/// A set of the tag `app` with the transactions 1 to 99.
+pub fn tagged_set(assert: &impl Assert, alloc: Global) -> Sid<'static> {
+    let tag = once_more(assert, Tag::try_from("app"), Tag::try_from("app"));
+    set(assert, alloc, *b"aaaaaaaaaaaaaaaa", 100).with_tag(tag)
 }
 
-/// Asserts that what borrows nothing is written as these bytes, where memory was not refused.
-pub fn assert_owned<T: MySerialize + Drop, E: Drop>(
-    rt: &impl Abort,
-    alloc: Global,
-    owned: Result<T, E>,
-    bytes: &[u8],
-) {
-    match owned {
-        Ok(owned) => assert_written(rt, alloc, &owned, bytes),
-        Err(_) => {}
-    }
+/// A set without a tag, with the transactions 1 to 49.
+pub fn untagged_set(assert: &impl Assert, alloc: Global) -> Sid<'static> {
+    set(assert, alloc, *b"bbbbbbbbbbbbbbbb", 50)
 }
 
 /// One pair of texts.
@@ -148,13 +110,13 @@ pub fn one_text(
 
 /// Asserts that these pairs of texts, one after another, are the wanted bytes.
 pub fn assert_texts(
-    rt: &impl Abort,
+    assert: &impl Assert,
     alloc: Global,
     texts: &IndexMap<String, String>,
     wanted: &[u8],
 ) {
-    let all = once_more(rt, joined(alloc, texts), joined(alloc, texts));
-    assert_bytes(rt, all.as_slice(), wanted);
+    let all = once_more(assert, joined(alloc, texts), joined(alloc, texts));
+    assert_bytes(assert, all.as_slice(), wanted);
 }
 
 // Each pair of texts in its order, as bytes one after another.

@@ -1,0 +1,111 @@
+//! Sets of global transaction identifiers as bytes.
+
+use crate::support::{Asserting, assert_each_refused, set, tagged_set, untagged_set};
+use mysql_login::{GnoInterval, Sid, SidBlock};
+use mysql_raw::WireError;
+use std::alloc::Global;
+use std::borrow::CowSlice;
+use tests_support::{
+    Assert, assert_copied, assert_cut_off, assert_equal, assert_reads_back, assert_same,
+    assert_written, whole,
+};
+
+// A set with the transactions 1 to 99.
+const SET: &[u8] =
+    b"aaaaaaaaaaaaaaaa\x01\x00\x00\x00\x00\x00\x00\x00\x01\x00\x00\x00\x00\x00\x00\x00\x64\x00\x00\x00\x00\x00\x00\x00";
+
+#[test]
+fn a_set_is_written(rt: HostRuntime) {
+    let assert = Asserting(&rt);
+    // Its tag is not written with it.
+    let tagged = tagged_set(&assert, rt.alloc());
+    assert_written(&assert, rt.alloc(), &tagged, SET);
+    assert_copied(
+        &assert,
+        &tagged,
+        tagged.clone(rt.alloc()),
+        tagged.clone(rt.alloc()),
+    );
+}
+
+// Asserts that a set is the one above.
+fn assert_is_set(assert: &impl Assert, sid: &Sid<'_>) {
+    assert_equal(assert, sid.uuid(), *b"aaaaaaaaaaaaaaaa");
+    assert.holds(sid.tag().is_none());
+    assert_equal(
+        assert,
+        sid.intervals(),
+        [GnoInterval::new(1, 100)].as_slice(),
+    );
+}
+
+#[test]
+fn a_set_is_read(rt: HostRuntime) {
+    let assert = Asserting(&rt);
+    assert_is_set(&assert, &whole::<Sid, ()>(&assert, rt.alloc(), (), SET));
+    assert_cut_off::<Sid, ()>(&assert, rt.alloc(), (), SET, 0, SET.len());
+    // More intervals than there are bytes.
+    let many: [(&[u8], WireError); 1] = [(
+        b"aaaaaaaaaaaaaaaa\xff\xff\xff\xff\xff\xff\xff\xff",
+        WireError::UnexpectedEof,
+    )];
+    assert_each_refused::<Sid>(&assert, rt.alloc(), &many);
+}
+
+#[test]
+fn an_interval(rt: HostRuntime) {
+    let assert = Asserting(&rt);
+    let interval = whole::<GnoInterval, ()>(&assert, rt.alloc(), (), &SET[24..]);
+    assert_equal(&assert, interval.start(), 1);
+    assert_equal(&assert, interval.end(), 100);
+    assert_written(&assert, rt.alloc(), &interval, &SET[24..]);
+}
+
+#[test]
+fn sets_are_equal(rt: HostRuntime) {
+    let assert = Asserting(&rt);
+    let sid = set(&assert, rt.alloc(), *b"aaaaaaaaaaaaaaaa", 100);
+    assert_same(
+        &assert,
+        &sid,
+        &set(&assert, rt.alloc(), *b"aaaaaaaaaaaaaaaa", 100),
+    );
+    // A tag makes it another one.
+    assert.holds(sid != tagged_set(&assert, rt.alloc()));
+}
+
+// A block of two sets.
+const BLOCK: &[u8] =
+    b"\x00\x02\x00\x00\x00\x00\x00\x01aaaaaaaaaaaaaaaa\x06app\x01\x00\x00\x00\x00\x00\x00\x00\x01\x00\x00\x00\x00\x00\x00\x00\x64\x00\x00\x00\x00\x00\x00\x00bbbbbbbbbbbbbbbb\x00\x01\x00\x00\x00\x00\x00\x00\x00\x01\x00\x00\x00\x00\x00\x00\x00\x32\x00\x00\x00\x00\x00\x00\x00";
+
+#[test]
+fn a_block(rt: HostRuntime) {
+    let assert = Asserting(&rt);
+    let sids = [
+        tagged_set(&assert, rt.alloc()),
+        untagged_set(&assert, rt.alloc()),
+    ];
+    assert_block(&assert, rt.alloc(), &sids, BLOCK);
+    assert_reads_back::<SidBlock, ()>(&assert, rt.alloc(), (), BLOCK);
+    assert_cut_off::<SidBlock, ()>(&assert, rt.alloc(), (), BLOCK, 0, BLOCK.len());
+}
+
+// Asserts that a block of these sets is written as these bytes, and has their length.
+fn assert_block(assert: &impl Assert, alloc: Global, sids: &[Sid<'_>], bytes: &[u8]) {
+    let block = SidBlock(CowSlice::Borrowed(sids));
+    assert_equal(assert, block.byte_len() as usize, bytes.len());
+    assert_written(assert, alloc, &block, bytes);
+}
+
+#[test]
+fn blocks_without_a_tag(rt: HostRuntime) {
+    let assert = Asserting(&rt);
+    assert_block(&assert, rt.alloc(), &[], b"\0\0\0\0\0\0\0\0");
+    let sids = [untagged_set(&assert, rt.alloc())];
+    assert_block(
+        &assert,
+        rt.alloc(),
+        &sids,
+        b"\x01\x00\x00\x00\x00\x00\x00\x00bbbbbbbbbbbbbbbb\x01\x00\x00\x00\x00\x00\x00\x00\x01\x00\x00\x00\x00\x00\x00\x00\x32\x00\x00\x00\x00\x00\x00\x00",
+    );
+}

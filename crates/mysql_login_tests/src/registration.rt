@@ -1,0 +1,116 @@
+//! The packets of names and numbers alone: registration of a replica, dumps of a table, and acknowledgements.
+
+use crate::support::{Asserting, assert_each_refused, assert_packet, assert_text};
+use mysql_login::{ComRegisterSlave, ComTableDump, SemiSyncAckPacket};
+use mysql_raw::WireError;
+use std::alloc::Global;
+use std::borrow::CowSlice;
+use tests_support::{Assert, assert_bytes, assert_copied};
+
+const TABLE: &[u8] = b"\x13\x02db\x01t";
+
+const REPLICA: &[u8] =
+    b"\x15\x02\x01\x00\x00\x04host\x01u\x00\xea\x0c\x03\x00\x00\x00\x04\x00\x00\x00";
+
+const ACKNOWLEDGED: &[u8] = b"\xef\x01\x02\x00\x00\x00\x00\x00\x00binlog.1";
+
+#[test]
+fn a_table(rt: HostRuntime) {
+    let assert = Asserting(&rt);
+    let packet = ComTableDump::new(CowSlice::Borrowed(b"db"), CowSlice::Borrowed(b"t"));
+    assert_packet::<ComTableDump>(&assert, rt.alloc(), &packet, TABLE, TABLE.len());
+    let rows: [(&[u8], WireError); 1] = [(b"\x12", WireError::BadConstant)];
+    assert_each_refused::<ComTableDump>(&assert, rt.alloc(), &rows);
+}
+
+// Asserts that a table has these names, of which the first is no text.
+fn assert_names_of_a_table(assert: &impl Assert, alloc: Global, packet: &ComTableDump<'_>) {
+    assert_bytes(assert, packet.database_raw(), b"d\xff");
+    assert_bytes(assert, packet.table_raw(), b"t");
+    assert_text(
+        assert,
+        packet.database(alloc),
+        packet.database(alloc),
+        "d\u{fffd}",
+    );
+    assert_text(assert, packet.table(alloc), packet.table(alloc), "t");
+}
+
+#[test]
+fn names_of_a_table(rt: HostRuntime) {
+    let assert = Asserting(&rt);
+    let alloc = rt.alloc();
+    let packet = ComTableDump::new(CowSlice::Borrowed(b"d\xff"), CowSlice::Borrowed(b"t"));
+    assert_names_of_a_table(&assert, alloc, &packet);
+    assert_copied(&assert, &packet, packet.clone(alloc), packet.clone(alloc));
+}
+
+#[test]
+fn a_replica(rt: HostRuntime) {
+    let packet = ComRegisterSlave::new(0x102)
+        .with_hostname(CowSlice::Borrowed(b"host"))
+        .with_user(CowSlice::Borrowed(b"u"))
+        .with_password(CowSlice::Borrowed(b""))
+        .with_port(3306)
+        .with_replication_rank(3)
+        .with_master_id(4);
+    assert_packet::<ComRegisterSlave>(&Asserting(&rt), rt.alloc(), &packet, REPLICA, REPLICA.len());
+}
+
+#[test]
+fn no_replica(rt: HostRuntime) {
+    let rows: [(&[u8], WireError); 2] = [
+        (b"\x14\x01\x00\x00\x00", WireError::BadConstant),
+        (b"\x14\x01\x00\x00", WireError::UnexpectedEof),
+    ];
+    assert_each_refused::<ComRegisterSlave>(&Asserting(&rt), rt.alloc(), &rows);
+}
+
+// Asserts that a replica has these names.
+fn assert_names_of_a_replica(assert: &impl Assert, alloc: Global, packet: &ComRegisterSlave<'_>) {
+    assert_text(assert, packet.hostname(alloc), packet.hostname(alloc), "h");
+    assert_text(assert, packet.user(alloc), packet.user(alloc), "u");
+    assert_text(assert, packet.password(alloc), packet.password(alloc), "p");
+}
+
+#[test]
+fn names_of_a_replica(rt: HostRuntime) {
+    let assert = Asserting(&rt);
+    let alloc = rt.alloc();
+    let packet = ComRegisterSlave::new(1)
+        .with_hostname(CowSlice::Borrowed(b"h"))
+        .with_user(CowSlice::Borrowed(b"u"))
+        .with_password(CowSlice::Borrowed(b"p"));
+    assert_names_of_a_replica(&assert, alloc, &packet);
+    assert_copied(&assert, &packet, packet.clone(alloc), packet.clone(alloc));
+}
+
+#[test]
+fn an_acknowledgement(rt: HostRuntime) {
+    let assert = Asserting(&rt);
+    let packet = SemiSyncAckPacket::new(0, CowSlice::Borrowed(b""))
+        .with_position(0x201)
+        .with_filename(CowSlice::Borrowed(b"binlog.1"));
+    assert_packet::<SemiSyncAckPacket>(&assert, rt.alloc(), &packet, ACKNOWLEDGED, 9);
+    assert_text(
+        &assert,
+        packet.filename(rt.alloc()),
+        packet.filename(rt.alloc()),
+        "binlog.1",
+    );
+}
+
+#[test]
+fn no_acknowledgement(rt: HostRuntime) {
+    let rows: [(&[u8], WireError); 2] = [
+        (
+            b"\xee\x01\x00\x00\x00\x00\x00\x00\x00",
+            WireError::BadConstant,
+        ),
+        (
+            b"\xee\x01\x00\x00\x00\x00\x00\x00",
+            WireError::UnexpectedEof,
+        ),
+    ];
+    assert_each_refused::<SemiSyncAckPacket>(&Asserting(&rt), rt.alloc(), &rows);
+}

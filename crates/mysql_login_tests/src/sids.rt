@@ -1,0 +1,126 @@
+//! Sets of global transaction identifiers read from texts and printed.
+
+use crate::support::Asserting;
+use mysql_login::{GnoInterval, Sid, SidError};
+use std::alloc::{AllocError, Global};
+use tests_support::{Assert, assert_bytes, assert_equal, assert_same, once_more};
+
+// The set of a text.
+fn parsed(assert: &impl Assert, alloc: Global, text: &str) -> Sid<'static> {
+    once_more(assert, Sid::parse(alloc, text), Sid::parse(alloc, text))
+}
+
+fn printed(alloc: Global, sid: &Sid<'_>) -> Result<String, AllocError> {
+    format!(in alloc; "{sid}")
+}
+
+// Asserts that a text is read as a set, which is printed as this text.
+fn assert_printed(assert: &impl Assert, alloc: Global, text: &str, wanted: &str) {
+    let sid = parsed(assert, alloc, text);
+    let found = once_more(assert, printed(alloc, &sid), printed(alloc, &sid));
+    assert_bytes(assert, found.as_str().as_bytes(), wanted.as_bytes());
+}
+
+#[test]
+fn printed_sets(rt: HostRuntime) {
+    let assert = Asserting(&rt);
+    // The source is printed in lower case, and each interval in its shortest form.
+    let rows = [
+        (
+            "3E11FA47-71CA-11E1-9E33-C80AA9429562:1-5:10-15",
+            "3e11fa47-71ca-11e1-9e33-c80aa9429562:1-5:10-15",
+        ),
+        (
+            "3E11FA47-71CA-11E1-9E33-C80AA9429562:domain_a:1-5:10-20",
+            "3e11fa47-71ca-11e1-9e33-c80aa9429562:domain_a:1-5:10-20",
+        ),
+        (
+            "3E11FA47-71CA-11E1-9E33-C80AA9429562:app:7",
+            "3e11fa47-71ca-11e1-9e33-c80aa9429562:app:7",
+        ),
+        (
+            "3E11FA47-71CA-11E1-9E33-C80AA9429562:4-4:007",
+            "3e11fa47-71ca-11e1-9e33-c80aa9429562:4:7",
+        ),
+    ];
+    for (text, wanted) in rows {
+        assert_printed(&assert, rt.alloc(), text, wanted);
+    }
+}
+
+#[test]
+fn texts_that_are_printed_as_they_are(rt: HostRuntime) {
+    let assert = Asserting(&rt);
+    let rows = [
+        "3e11fa47-71ca-11e1-9e33-c80aa9429562:domain_a:1-5:10-20",
+        "3e11fa47-71ca-11e1-9e33-c80aa9429562:42",
+        "3e11fa47-71ca-11e1-9e33-c80aa9429562:app:7",
+    ];
+    for text in rows {
+        assert_printed(&assert, rt.alloc(), text, text);
+    }
+}
+
+// Asserts that a set has no tag and these intervals.
+fn assert_intervals(assert: &impl Assert, sid: &Sid<'_>, wanted: &[GnoInterval]) {
+    assert.holds(sid.tag().is_none());
+    assert_same(assert, &sid.intervals(), &wanted);
+}
+
+#[test]
+fn intervals_of_a_text(rt: HostRuntime) {
+    let assert = Asserting(&rt);
+    let text = "3E11FA47-71CA-11E1-9E33-C80AA9429562:1-5:10-15";
+    let wanted = [GnoInterval::new(1, 6), GnoInterval::new(10, 16)];
+    assert_intervals(&assert, &parsed(&assert, rt.alloc(), text), &wanted);
+}
+
+// Asserts that a text is refused for this cause. It is read once more where memory was refused.
+fn assert_fault(assert: &impl Assert, alloc: Global, text: &str, cause: SidError) {
+    let mut found = Sid::parse(alloc, text).err();
+    if found == Some(SidError::Memory) {
+        found = Sid::parse(alloc, text).err();
+    }
+    assert_equal(assert, found, Some(cause));
+}
+
+#[test]
+fn refused_texts(rt: HostRuntime) {
+    let assert = Asserting(&rt);
+    let rows = [
+        ("3E11FA47-71CA-11E1-9E33-C80AA9429562", SidError::NoColon),
+        ("3E11FA47-71CA-11E1-9E33-C80AA94295620:1", SidError::BadUuid),
+        ("3E11FA47-71CA-11E1-9E33-C80AA9429562:", SidError::Empty),
+        (
+            "3E11FA47-71CA-11E1-9E33-C80AA9429562:Tag:23",
+            SidError::BadTag,
+        ),
+        (
+            "3E11FA47-71CA-11E1-9E33-C80AA9429562:Tag",
+            SidError::NoIntervals,
+        ),
+        (
+            "3E11FA47-71CA-11E1-9E33-C80AA9429562:app",
+            SidError::NoIntervals,
+        ),
+        (
+            "3E11FA47-71CA-11E1-9E33-C80AA9429562:0-3",
+            SidError::ZeroGno,
+        ),
+        (
+            "3E11FA47-71CA-11E1-9E33-C80AA9429562:4-3",
+            SidError::StartNotBelowEnd,
+        ),
+        (
+            "3E11FA47-71CA-11E1-9E33-C80AA9429562:20-",
+            SidError::BadInterval,
+        ),
+        (
+            "3E11FA47-71CA-11E1-9E33-C80AA9429562:18446744073709551615",
+            SidError::Overflow,
+        ),
+    ];
+    for (text, cause) in rows {
+        assert_fault(&assert, rt.alloc(), text, cause);
+    }
+}

@@ -1,0 +1,66 @@
+//! Tags of texts.
+
+use crate::support::{Asserting, assert_owned};
+use mysql_login::{InvalidTag, Tag};
+use std::borrow::CowStr;
+use tests_support::{Assert, assert_copied, assert_equal, once_more};
+
+// A text as a tag, twice: by either call.
+fn tag<'a>(assert: &impl Assert, text: &'a str) -> Tag<'a> {
+    once_more(
+        assert,
+        Tag::try_from(text),
+        Tag::new(CowStr::Borrowed(text)),
+    )
+}
+
+// Asserts that a text is a tag, which gives it back.
+fn assert_accepted(assert: &impl Assert, text: &str) {
+    let tag = tag(assert, text);
+    assert.holds(tag.as_str() == text);
+    let made = Tag::new(CowStr::Borrowed(text)).ok();
+    assert_equal(assert, made, Some(tag));
+}
+
+#[test]
+fn tags(rt: HostRuntime) {
+    let assert = Asserting(&rt);
+    for text in ["_", "domain_1", "abcdefghijklmnopqrstuvwxyz123456"] {
+        assert_accepted(&assert, text);
+    }
+}
+
+// Asserts that a text is refused for this fault.
+fn assert_fault(assert: &impl Assert, text: &str, fault: InvalidTag) {
+    assert_equal(assert, Tag::try_from(text).err(), Some(fault));
+    assert_equal(assert, Tag::new(CowStr::Borrowed(text)).err(), Some(fault));
+}
+
+#[test]
+fn refused_tags(rt: HostRuntime) {
+    let assert = Asserting(&rt);
+    let rows = [
+        ("", InvalidTag::Empty),
+        ("abcdefghijklmnopqrstuvwxyz1234567", InvalidTag::TooLong(33)),
+        ("1tag", InvalidTag::InvalidFirstChar('1')),
+        ("tAg", InvalidTag::InvalidChar('A')),
+        ("t\u{e9}g", InvalidTag::InvalidChar('\u{e9}')),
+    ];
+    for (text, fault) in rows {
+        assert_fault(&assert, text, fault);
+    }
+}
+
+#[test]
+fn tags_owned(rt: HostRuntime) {
+    let assert = Asserting(&rt);
+    let alloc = rt.alloc();
+    let app = tag(&assert, "app");
+    assert_copied(&assert, &app, app.clone(alloc), app.clone(alloc));
+    assert_owned(
+        &assert,
+        &app,
+        tag(&assert, "app").into_owned(alloc),
+        tag(&assert, "app").into_owned(alloc),
+    );
+}
