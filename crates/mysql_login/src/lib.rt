@@ -8,6 +8,7 @@ pub mod laws;
 pub use crate::change_user::{
     ComChangeUser, ComChangeUserHeader, ComChangeUserMoreData, InvalidComChangeUserHeader,
 };
+pub use bitflags::Flags;
 pub use mysql_attributes::ConnectAttributes;
 pub use mysql_auth::{
     AuthMoreData, AuthMoreDataHeader, AuthPlugin, AuthPluginData, AuthSwitchRequest,
@@ -15,7 +16,6 @@ pub use mysql_auth::{
     InvalidPublicKeyRequest, InvalidPublicKeyResponse, OldAuthSwitchRequest, PublicKeyRequest,
     PublicKeyRequestHeader, PublicKeyResponse, PublicKeyResponseHeader, parse_parsec_salt,
 };
-pub use bitflags::Flags;
 pub use mysql_buf::ParseBuf;
 pub use mysql_const::{CapabilityFlags, MariadbCapabilities, StatusFlags};
 pub use mysql_handshake::HandshakePacket;
