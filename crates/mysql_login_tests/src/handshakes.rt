@@ -107,7 +107,10 @@ fn fields(rt: HostRuntime) {
 
 // Asserts that the name of a plugin is this text.
 fn assert_name(assert: &impl Assert, name: Option<CowStr<'_>>, wanted: &str) {
-    assert.holds(name.is_some_and(|name| name.as_str() == wanted));
+    match name {
+        Some(name) => assert_bytes(assert, name.as_str().as_bytes(), wanted.as_bytes()),
+        None => assert.holds(false),
+    }
 }
 
 #[test]
