@@ -3,15 +3,16 @@
 use mysql_session::{Params, Refusal, Road, Value, send};
 use std::alloc::Global;
 use std::collections::HashMap;
-use std::io::{Result, Write};
+use std::io;
+use std::io::Write;
 
-fn named(alloc: Global, name: &[u8], value: Value) -> core::result::Result<Params, Refusal> {
+fn named(alloc: Global, name: &[u8], value: Value) -> Result<Params, Refusal> {
     let mut values = HashMap::new(alloc);
     let _ = values.insert(Vec::from_slice(alloc, name)?, value)?;
     Ok(Params::Named(values))
 }
 
-fn sent(alloc: Global, query: &[u8], value: Value) -> core::result::Result<Vec<u8>, Refusal> {
+fn sent(alloc: Global, query: &[u8], value: Value) -> Result<Vec<u8>, Refusal> {
     let mut sets = Vec::new(alloc);
     sets.push(named(alloc, b"a", value)?)?;
     let mut out = Vec::new(alloc);
@@ -21,7 +22,7 @@ fn sent(alloc: Global, query: &[u8], value: Value) -> core::result::Result<Vec<u
 }
 
 /// Prints how many bytes are sent, or why nothing is.
-fn say<W: Write>(alloc: Global, query: &[u8], value: Value, out: &mut W) -> Result<()> {
+fn say<W: Write>(alloc: Global, query: &[u8], value: Value, out: &mut W) -> io::Result<()> {
     match sent(alloc, query, value) {
         Ok(stream) => writeln!(out, "{} bytes", stream.len()),
         Err(refusal) => writeln!(out, "{refusal}"),
@@ -29,7 +30,7 @@ fn say<W: Write>(alloc: Global, query: &[u8], value: Value, out: &mut W) -> Resu
 }
 
 /// Sends a query, and three that are refused.
-pub fn send_both_roads<W: Write>(alloc: Global, out: &mut W) -> Result<()> {
+pub fn send_both_roads<W: Write>(alloc: Global, out: &mut W) -> io::Result<()> {
     say(alloc, b"SELECT :a", Value::Int(1), out)?;
     say(alloc, b"SELECT :a, ?", Value::Int(1), out)?;
     say(alloc, b"SELECT 1-:a", Value::Int(1), out)?;
