@@ -2,13 +2,11 @@
 
 use mysql_session::{Content, Receiver};
 use std::alloc::Global;
-use std::io::{Error, ErrorKind, Read, Result, Write};
+use std::io::{Read, Write};
 
 /// Prints the parameter sets of a stream of commands about `SELECT :a, :b`, which comes in pieces of at most 16 bytes.
-pub fn audit<R: Read, W: Write>(alloc: Global, stream: &mut R, out: &mut W) -> Result<()> {
-    let Ok(mut receiver) = Receiver::new(alloc, b"SELECT :a, :b", 1, 1 << 24) else {
-        return Err(Error::from(ErrorKind::OutOfMemory));
-    };
+pub fn audit<R: Read, W: Write>(alloc: Global, stream: &mut R, out: &mut W) -> anyhow::Result<()> {
+    let mut receiver = Receiver::new(alloc, b"SELECT :a, :b", 1, 1 << 24)?;
     let mut piece = [0; 16];
     for _ in 0..u64::MAX {
         let count = stream.read(&mut piece)?;
@@ -27,5 +25,6 @@ pub fn audit<R: Read, W: Write>(alloc: Global, stream: &mut R, out: &mut W) -> R
         }
         writeln!(out)?;
     }
-    writeln!(out, "{:?}", audit.end)
+    writeln!(out, "{}", audit.end)?;
+    Ok(())
 }

@@ -8,9 +8,10 @@ mod sending;
 use std::fs::File;
 use std::io;
 
-fn main(rt: HostRuntime) -> io::Result<()> {
+fn main(rt: HostRuntime) -> anyhow::Result<()> {
     let mut stream = File::open(&rt, "stream.bin")?;
     auditing::audit(rt.alloc(), &mut stream, &mut io::writer(&rt))?;
     sending::send_both_roads(rt.alloc(), &mut io::writer(&rt))?;
-    answering::answer(rt.alloc(), &mut io::writer(&rt))
+    answering::answer(rt.alloc(), &mut io::writer(&rt))?;
+    Ok(())
 }

@@ -3,7 +3,7 @@ use Rattle.std.proofs.Common.{◌≡◌, ◌≢◌, ◌==◌, ◌<◌, ◌≤◌
 use Rattle.std.proofs.lemmas.Bool.{eqb-false, eqb-true}
 use Rattle.std.proofs.lemmas.List.{length-drop}
 use Rattle.mysql_buf.specs.FirstBytes.{first-some}
-use Rattle.mysql_buf.specs.Reading.{first, le_at, lenenc_int_at, slice_at, then_at}
+use Rattle.mysql_buf.specs.Reading.{first, little_at, lenenc_int_at, bytes_at, then_at}
 use Rattle.mysql_raw.specs.Laws.{bind_ok}
 use Rattle.mysql_raw.specs.Wire.{Reading, Refuses, or_end, ◌>>=◌}
 use Rattle.mysql_raw.specs.WireError.{WireError}
@@ -20,7 +20,7 @@ first-shorter {X} n value bytes p h =
 
 -- what a number's first byte leaves is all that is there for the rest of it
 tail-shorter : (one two three eight : Bool) (b : ℕ) (bs : List ℕ) (p : ℕ × List ℕ)
-    → (if one then Some (b, bs) else if two then le_at 2 bs else if three then le_at 3 bs else if eight then le_at 8 bs else Some (0, bs)) ≡ Some p
+    → (if one then Some (b, bs) else if two then little_at 2 bs else if three then little_at 3 bs else if eight then little_at 8 bs else Some (0, bs)) ≡ Some p
     → length p.1 ≤ length bs
 tail-shorter true two three eight b bs p h = let e : (b, bs) ≡ p = cc in let n = ap (λ (q : ℕ × List ℕ). length q.1) e in omega arith
 tail-shorter false true three eight b bs p h = first-shorter 2 _ bs p h
@@ -38,11 +38,11 @@ stands (Some y) x h = cc
 
 text-shorter : (bytes : List ℕ) (p : List ℕ × List ℕ) → lenenc_text_at bytes ≡ Ok p → length p.1 < length bytes
 text-shorter bytes p h = go (lenenc_int_at bytes) refl h where
-  go : (o : Option (ℕ × List ℕ)) → lenenc_int_at bytes ≡ o → or_end (then_at o slice_at) ≡ Ok p → length p.1 < length bytes
+  go : (o : Option (ℕ × List ℕ)) → lenenc_int_at bytes ≡ o → or_end (then_at o bytes_at) ≡ Ok p → length p.1 < length bytes
   go None e h = absurd cc
   go (Some q) e h =
       let number = number-shorter bytes q e in
-      let text = first-shorter q.0 _ q.1 p (stands (slice_at q.0 q.1) p h) in
+      let text = first-shorter q.0 _ q.1 p (stands (bytes_at q.0 q.1) p h) in
       omega arith
 
 -- an attribute takes a byte at least

@@ -1,5 +1,6 @@
 -- The attributes of a connection.
 -- (MySQL: Client/Server Protocol, "Protocol::HandshakeResponse41", the connection's attributes as pairs of a key and a value.)
+-- A reading takes bytes from the front: x.0 is what was read and x.1 the bytes left; the first refusal counts.
 use Rattle.std.specs.Prelude.{ℕ, zero, suc, nat_eq, List, [], ◌∷◌, ◌++◌, length, Ok, Err}
 use Rattle.std.specs.Cmp.Lexicographic.{pointwise}
 use Rattle.std.specs.List.{flat_map}

@@ -1,5 +1,6 @@
 -- Parts of a packet that stand there by the client's capabilities.
 -- (MySQL: Client/Server Protocol, "Protocol::HandshakeResponse41" and "COM_CHANGE_USER".)
+-- A reading takes bytes from the front: x.0 is what was read and x.1 the bytes left; the first refusal counts.
 use Rattle.std.specs.Prelude.{ℕ, Bool, true, false, if◌then◌else◌, List, [], ◌∷◌, ◌++◌, Option, Some, None, Ok}
 use Rattle.std.specs.Int.RustNames.{bit_or}
 use Rattle.std.specs.List.{after_first, before_first}

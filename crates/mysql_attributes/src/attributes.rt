@@ -7,7 +7,7 @@ ghost use Rattle.std.specs.String.{string_bytes};
 ghost use Rattle.mysql_attributes.specs.Attributes.{Attribute, attribute, attribute_at, attributes, attributes_at, kept_attributes_at, with_attribute, with_last_values};
 ghost use Rattle.mysql_attributes.specs.AttributeViews.{attributes_view, lossy_attribute, lossy_text, shown_attribute, text_attribute};
 ghost use Rattle.mysql_raw.specs.Laws.{unsized};
-ghost use Rattle.mysql_raw.specs.Wire.{Appends, GivesPart};
+ghost use Rattle.mysql_raw.specs.Wire.{Appends, GivesPart, TellsPart};
 ghost use Rattle.mysql_raw.specs.WireError.TheVariants as wire;
 
 use bstr::ByteSlice;
@@ -214,7 +214,7 @@ fn parse_attribute<'de>(
     alloc: Global,
     rest: &mut ParseBuf<'de>,
 ) -> Result<(RawBytes<'de, LenEnc>, RawBytes<'de, LenEnc>), WireError>
-    ensures { GivesPart shown_attribute rest.new.0.now result (attribute_at rest.old.0.now) }
+    ensures { TellsPart shown_attribute rest.new.0.now result (attribute_at rest.old.0.now) }
 {
     let key = rest.parse(alloc, ())?;
     let value = rest.parse(alloc, ())?;

@@ -5,7 +5,7 @@ ghost use Rattle.std.specs.Cow.{cow_slice_items};
 ghost use Rattle.mysql_attributes.specs.Parts.{if_held, if_there, or_empty, plugin_before_zero_at, plugin_to_zero_at};
 ghost use Rattle.mysql_attributes.specs.AttributeViews.{attributes_view, text_attribute};
 ghost use Rattle.mysql_auth.specs.Views.{plugin_view};
-ghost use Rattle.mysql_raw.specs.Wire.{GivesPart};
+ghost use Rattle.mysql_raw.specs.Wire.{AnswersPart, TellsPart};
 ghost use Rattle.mysql_raw.specs.WireError.TheVariants as wire;
 ghost use Rattle.mysql_raw_consts.specs.Flags.{contains};
 
@@ -52,7 +52,7 @@ pub fn parse_if<'de, T: MyDeserialize<'de>>(
     ctx: T::Ctx,
     rest: &mut ParseBuf<'de>,
 ) -> Result<Option<T>, WireError>
-    ensures { GivesPart (option_map T.shown) rest.new.0.now result (if_there is_there (T.read_at ctx) rest.old.0.now) }
+    ensures { AnswersPart T.AsksForMemory (option_map T.shown) rest.new.0.now result (if_there is_there (T.read_at ctx) rest.old.0.now) }
 {
     if !is_there {
         return Ok(None);
@@ -79,7 +79,7 @@ pub fn plugin_before_zero<'de>(
     is_there: bool,
     rest: &mut ParseBuf<'de>,
 ) -> Result<Option<AuthPlugin<'de>>, WireError>
-    ensures { GivesPart (option_map plugin_view) rest.new.0.now result (if_there is_there plugin_before_zero_at rest.old.0.now) }
+    ensures { TellsPart (option_map plugin_view) rest.new.0.now result (if_there is_there plugin_before_zero_at rest.old.0.now) }
 {
     if !is_there {
         return Ok(None);

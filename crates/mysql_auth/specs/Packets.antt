@@ -1,5 +1,6 @@
 -- How the packets of an exchange are written and read.
 -- (MySQL: Client/Server Protocol, "Protocol::AuthMoreData" and "Protocol::AuthSwitchRequest".)
+-- A reading takes bytes from the front: x.0 is what was read and x.1 the bytes left; the first refusal counts.
 use Rattle.std.specs.Prelude.{ℕ, ◌∷◌, ◌++◌, [], List, Ok}
 use Rattle.std.specs.List.{concat}
 use Rattle.byteorder.specs.Endian.{little_bytes}

@@ -1,5 +1,6 @@
 -- What plugins send.
 -- (MySQL: Client/Server Protocol, "Authentication Methods"; MariaDB: "Pluggable Authentication".)
+-- A reading takes bytes from the front: x.0 is what was read and x.1 the bytes left; the first refusal counts.
 use Rattle.std.specs.Prelude.{ℕ, List, [], ◌∷◌, ◌++◌}
 
 -- the data of a plugin, by its kind

@@ -1,6 +1,6 @@
 //! Packets of the plugin `caching_sha2_password`.
 
-ghost use Rattle.std.specs.Prelude.{Some, ℕ};
+ghost use Rattle.std.specs.Prelude.{Some, ℕ, false};
 ghost use Rattle.byteorder.specs.Endian.{little_bytes};
 ghost use Rattle.mysql_raw_consts.specs.ConstantLaws.{constant_at-sized};
 ghost use Rattle.mysql_raw_consts.specs.Constants.{constant_at};
@@ -35,6 +35,8 @@ impl Readable for PublicKeyRequest {
     type Ctx = ();
 
     ghost SIZE = { Some 1 };
+
+    ghost AsksForMemory = { false };
 
     ghost Shown = { ℕ };
 

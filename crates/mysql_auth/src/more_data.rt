@@ -1,6 +1,6 @@
 //! More data, and the server's public key.
 
-ghost use Rattle.std.specs.Prelude.{◌≡◌, IfOk, List, None, [], ℕ, IsOkUnless};
+ghost use Rattle.std.specs.Prelude.{◌≡◌, IfOk, List, None, [], ℕ, IsOkUnless, false};
 ghost use Rattle.std.proofs.Common.{lit<};
 ghost use Rattle.std.specs.Cow.{cow_slice_items, cow_str_bytes};
 ghost use Rattle.std.specs.Str.{encode_utf8_all};
@@ -76,6 +76,8 @@ impl<'a> Readable for AuthMoreData<'a> {
     type Ctx = ();
 
     ghost SIZE = { None };
+
+    ghost AsksForMemory = { false };
 
     ghost Shown = { List ℕ };
 
@@ -166,6 +168,8 @@ impl<'a> Readable for PublicKeyResponse<'a> {
     type Ctx = ();
 
     ghost SIZE = { None };
+
+    ghost AsksForMemory = { false };
 
     ghost Shown = { List ℕ };
 

@@ -1,6 +1,6 @@
 //! Authentication plugins.
 
-ghost use Rattle.std.specs.Prelude.{◌≡◌, ◌++◌, ◌∷◌, [], IfOk, MatchOption, None, Ok, Some, ℕ};
+ghost use Rattle.std.specs.Prelude.{◌≡◌, ◌++◌, ◌∷◌, [], IfOk, MatchOption, None, Ok, Some, ℕ, false};
 ghost use Rattle.mysql_auth.specs.Plugins.{Keeps, Plugin, plugin_name, plugin_named, plugin_at, with_data, without_zero};
 ghost use Rattle.mysql_auth.specs.Views.{plugin_view};
 ghost use Rattle.mysql_raw.specs.Laws.{unsized};
@@ -175,6 +175,8 @@ impl<'a> Readable for AuthPlugin<'a> {
     type Ctx = ();
 
     ghost SIZE = { None };
+
+    ghost AsksForMemory = { false };
 
     ghost Shown = { Plugin };
 

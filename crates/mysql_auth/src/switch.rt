@@ -1,6 +1,6 @@
 //! Requests for another plugin.
 
-ghost use Rattle.std.specs.Prelude.{◌≡◌, IfOk, None, Some, ℕ};
+ghost use Rattle.std.specs.Prelude.{◌≡◌, IfOk, None, Some, ℕ, false};
 ghost use Rattle.std.specs.Cow.{cow_slice_items};
 ghost use Rattle.byteorder.specs.Endian.{little_bytes};
 ghost use Rattle.mysql_auth.specs.Packets.{SwitchFields, switch, switch_at};
@@ -52,6 +52,8 @@ impl Readable for OldAuthSwitchRequest {
     type Ctx = ();
 
     ghost SIZE = { Some 1 };
+
+    ghost AsksForMemory = { false };
 
     ghost Shown = { ℕ };
 
@@ -158,6 +160,8 @@ impl<'a> Readable for AuthSwitchRequest<'a> {
     type Ctx = ();
 
     ghost SIZE = { None };
+
+    ghost AsksForMemory = { false };
 
     ghost Shown = { SwitchFields };
 

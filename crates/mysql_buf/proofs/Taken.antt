@@ -5,11 +5,11 @@ use Rattle.std.specs.declared.alloc.Global.{Global}
 use Rattle.std.specs.Io.KnownBytes.{Consumes}
 use Rattle.byteorder.specs.Endian.{ReadsNumber, little_number}
 use Rattle.mysql_buf.specs.FirstBytes.{first-enough}
-use Rattle.mysql_buf.specs.Reading.{le_at}
+use Rattle.mysql_buf.specs.Reading.{little_at}
 use Rattle.mysql_buf.specs.Streams.{Takes, begun_lenenc_int_at, begun_lenenc_str_at}
 
 -- a first byte that says how many bytes follow, and these
-pub takes_marked : (b n : ℕ) → ((bs : List ℕ) → begun_lenenc_int_at (b ∷ bs) ≡ le_at n bs) → (old mid new : Option (List ℕ)) (x : ℕ)
+pub takes_marked : (b n : ℕ) → ((bs : List ℕ) → begun_lenenc_int_at (b ∷ bs) ≡ little_at n bs) → (old mid new : Option (List ℕ)) (x : ℕ)
     → Consumes old mid (b ∷ []) → ReadsNumber little_number n mid new x → Takes begun_lenenc_int_at old new x
 takes_marked b n marks None mid new x h k = tt
 takes_marked b n marks (Some xs) None new x h k = absurd h
@@ -24,7 +24,7 @@ takes_marked b n marks (Some (y ∷ xs)) (Some ys) (Some zs) x h k =
     rw (same, marks xs, first-enough n (little_number n) xs enough, number, left) refl
 
 -- the same for a read that may be refused
-pub takes_marked_if_ok : {E : Type 0} (b n : ℕ) → ((bs : List ℕ) → begun_lenenc_int_at (b ∷ bs) ≡ le_at n bs) → (old mid new : Option (List ℕ)) (r : Result ℕ E)
+pub takes_marked_if_ok : {E : Type 0} (b n : ℕ) → ((bs : List ℕ) → begun_lenenc_int_at (b ∷ bs) ≡ little_at n bs) → (old mid new : Option (List ℕ)) (r : Result ℕ E)
     → Consumes old mid (b ∷ []) → IfOk r (ReadsNumber little_number n mid new) → IfOk r (Takes begun_lenenc_int_at old new)
 takes_marked_if_ok b n marks old mid new (Ok x) h k = takes_marked b n marks old mid new x h k
 takes_marked_if_ok b n marks old mid new (Err e) h k = tt

@@ -5,7 +5,7 @@ use Rattle.std.specs.Int.{Width, byte_len, cast_unsigned}
 use Rattle.std.specs.List.{AllByRecursion, after_first, before_first}
 use Rattle.byteorder.specs.Endian.{big_bytes, little_bytes}
 use Rattle.mysql_buf.specs.Bytes.{AreBytes}
-use Rattle.mysql_buf.specs.Reading.{be_at, be_signed_at, is_zero, le_at, le_signed_at, lenenc_int_at, lenenc_str_at, u8_str_at, u32_str_at}
+use Rattle.mysql_buf.specs.Reading.{big_at, big_signed_at, is_zero, little_at, little_signed_at, lenenc_int_at, lenenc_str_at, u8_str_at, u32_str_at}
 use Rattle.mysql_buf.specs.Varlen.{varlen, varlen_at}
 use Rattle.mysql_buf.specs.Writing.{front, lenenc_int, lenenc_str, u8_str, u32_str}
 
@@ -20,19 +20,19 @@ ReadsBack {X = X} Fits written at = (x : X) (rest : List ℕ) → Fits x → at 
 
 -- a number that fits n bytes
 abbrev pub LittleReadsBack : Type 0
-LittleReadsBack = (n : ℕ) → ReadsBack (λ x. x < 256 ^ n) (little_bytes n) (le_at n)
+LittleReadsBack = (n : ℕ) → ReadsBack (λ x. x < 256 ^ n) (little_bytes n) (little_at n)
 
 abbrev pub BigReadsBack : Type 0
-BigReadsBack = (n : ℕ) → ReadsBack (λ x. x < 256 ^ n) (big_bytes n) (be_at n)
+BigReadsBack = (n : ℕ) → ReadsBack (λ x. x < 256 ^ n) (big_bytes n) (big_at n)
 
 -- a signed number of some width that fits n bytes
 abbrev pub LittleSignedReadsBack : Type 0
 LittleSignedReadsBack = (width : Width) (n : ℕ) → 1 ≤ n → n ≤ byte_len width →
-    ReadsBack (FitsBytes n) (λ z. little_bytes n (cast_unsigned width z)) (le_signed_at n)
+    ReadsBack (FitsBytes n) (λ z. little_bytes n (cast_unsigned width z)) (little_signed_at n)
 
 abbrev pub BigSignedReadsBack : Type 0
 BigSignedReadsBack = (width : Width) (n : ℕ) → 1 ≤ n → n ≤ byte_len width →
-    ReadsBack (FitsBytes n) (λ z. big_bytes n (cast_unsigned width z)) (be_signed_at n)
+    ReadsBack (FitsBytes n) (λ z. big_bytes n (cast_unsigned width z)) (big_signed_at n)
 
 -- a length-encoded number, and a text after one
 abbrev pub LenencIntReadsBack : Type 0

@@ -11,7 +11,7 @@ use Rattle.byteorder.specs.Endian.{big_bytes, big_number, little_bytes, little_n
 use Rattle.byteorder.specs.Numbers.{big_from-bytes, big_number-reads_back, length-bytes_high_first, length-bytes_low_first, little_from-bytes, little_number-reads_back}
 use Rattle.mysql_buf.specs.FirstBytes.{first-enough}
 use Rattle.mysql_buf.specs.Laws.{FitsBytes}
-use Rattle.mysql_buf.specs.Reading.{be_at, be_signed_at, first, le_at, le_signed_at, slice_at}
+use Rattle.mysql_buf.specs.Reading.{big_at, big_signed_at, first, little_at, little_signed_at, bytes_at}
 
 -- what the first n bytes hold is read, and what follows them is left
 pub first-append : {X : Type 0} (n : ℕ) (value : List ℕ → X) (bytes rest : List ℕ) → length bytes ≡ n → first n value (bytes ++ rest) ≡ Some (value (bytes ++ rest), rest)
@@ -20,13 +20,13 @@ first-append n value bytes rest len =
     let enough = first-enough n value (bytes ++ rest) (omega arith) in
     rw (enough, drop_at bytes rest n len) refl
 
-pub slice_at-append : (text rest : List ℕ) → slice_at (length text) (text ++ rest) ≡ Some (text, rest)
-slice_at-append text rest = rw (first-append (length text) (take (length text)) text rest refl, take_at text rest (length text) refl) refl
+pub bytes_at-append : (text rest : List ℕ) → bytes_at (length text) (text ++ rest) ≡ Some (text, rest)
+bytes_at-append text rest = rw (first-append (length text) (take (length text)) text rest refl, take_at text rest (length text) refl) refl
 
-pub little-reads_back : (n x : ℕ) (rest : List ℕ) → x < 256 ^ n → le_at n (little_bytes n x ++ rest) ≡ Some (x, rest)
+pub little-reads_back : (n x : ℕ) (rest : List ℕ) → x < 256 ^ n → little_at n (little_bytes n x ++ rest) ≡ Some (x, rest)
 little-reads_back n x rest h = rw (first-append n (little_number n) (little_bytes n x) rest (length-bytes_low_first 0 n x), little_number-reads_back n x rest h) refl
 
-pub big-reads_back : (n x : ℕ) (rest : List ℕ) → x < 256 ^ n → be_at n (big_bytes n x ++ rest) ≡ Some (x, rest)
+pub big-reads_back : (n x : ℕ) (rest : List ℕ) → x < 256 ^ n → big_at n (big_bytes n x ++ rest) ≡ Some (x, rest)
 big-reads_back n x rest h = rw (first-append n (big_number n) (big_bytes n x) rest (length-bytes_high_first n x), big_number-reads_back n x rest h) refl
 
 -- two ways to write the size of n bytes
@@ -76,7 +76,7 @@ twos_complement-low w n (negsuc x) low high fits =
     rw (left, le-ltb (256 ^ n - suc x) (2 ^ (8 * n - 1)) above, ← size) (omega (arith, ints))
 
 pub little-signed-reads_back : (w : Width) (n : ℕ) (z : ℤ) (rest : List ℕ) → 1 ≤ n → n ≤ byte_len w → FitsBytes n z
-    → le_signed_at n (little_bytes n (cast_unsigned w z) ++ rest) ≡ Some (z, rest)
+    → little_signed_at n (little_bytes n (cast_unsigned w z) ++ rest) ≡ Some (z, rest)
 little-signed-reads_back w n z rest low high fits =
     let x = cast_unsigned w z in
     let number : little_number n (little_bytes n (cast_unsigned w z) ++ rest) ≡ cast_unsigned w z % 256 ^ n =
@@ -84,7 +84,7 @@ little-signed-reads_back w n z rest low high fits =
     rw (first-append n (λ b. twos_complement n (little_number n b)) (little_bytes n (cast_unsigned w z)) rest (length-bytes_low_first 0 n (cast_unsigned w z)), number, twos_complement-low w n z low high fits) refl
 
 pub big-signed-reads_back : (w : Width) (n : ℕ) (z : ℤ) (rest : List ℕ) → 1 ≤ n → n ≤ byte_len w → FitsBytes n z
-    → be_signed_at n (big_bytes n (cast_unsigned w z) ++ rest) ≡ Some (z, rest)
+    → big_signed_at n (big_bytes n (cast_unsigned w z) ++ rest) ≡ Some (z, rest)
 big-signed-reads_back w n z rest low high fits =
     let number : big_number n (big_bytes n (cast_unsigned w z) ++ rest) ≡ cast_unsigned w z % 256 ^ n = big_from-bytes n (cast_unsigned w z) rest in
     rw (first-append n (λ b. twos_complement n (big_number n b)) (big_bytes n (cast_unsigned w z)) rest (length-bytes_high_first n (cast_unsigned w z)), number, twos_complement-low w n z low high fits) refl

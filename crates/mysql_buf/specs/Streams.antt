@@ -2,7 +2,7 @@
 -- (MySQL: Client/Server Protocol, "Protocol::LengthEncodedInteger" and "Protocol::LengthEncodedString".)
 use Rattle.std.specs.Prelude.{◌≡◌, ◌⊎◌, ℕ, ◌==◌, if◌then◌else◌, List, [], ◌∷◌, Option, None, Some, ⊤}
 use Rattle.std.specs.Io.KnownBytes.{Keeps}
-use Rattle.mysql_buf.specs.Reading.{lenenc_int_at, slice_at, then_at}
+use Rattle.mysql_buf.specs.Reading.{lenenc_int_at, bytes_at, then_at}
 
 -- a length-encoded number, where fb and ff begin none
 abbrev pub begun_lenenc_int_at : List ℕ → Option (ℕ × List ℕ)
@@ -11,7 +11,7 @@ begun_lenenc_int_at (b ∷ bs) = if b == 251 then None else if b == 255 then Non
 
 -- such a number and that many bytes
 abbrev pub begun_lenenc_str_at : List ℕ → Option (List ℕ × List ℕ)
-begun_lenenc_str_at bytes = then_at (begun_lenenc_int_at bytes) slice_at
+begun_lenenc_str_at bytes = then_at (begun_lenenc_int_at bytes) bytes_at
 
 -- a read took what stands first in the stream, where its bytes are known
 abbrev pub Takes : {X : Type 0} → (List ℕ → Option (X × List ℕ)) → Option (List ℕ) → Option (List ℕ) → X → Type 0

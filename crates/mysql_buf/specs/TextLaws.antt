@@ -7,10 +7,10 @@ use Rattle.std.proofs.lemmas.List.{length-drop, length-take, take_at}
 use Rattle.std.specs.List.{AllByRecursion, after_first, before_first, position_or_len}
 use Rattle.byteorder.specs.Endian.{little_bytes, little_number}
 use Rattle.byteorder.specs.Numbers.{little_from-lt}
-use Rattle.mysql_buf.specs.NumberLaws.{little-reads_back, slice_at-append}
+use Rattle.mysql_buf.specs.NumberLaws.{little-reads_back, bytes_at-append}
 use Rattle.mysql_buf.specs.FirstBytes.{first-some}
 use Rattle.mysql_buf.specs.Bytes.{AreBytes}
-use Rattle.mysql_buf.specs.Reading.{is_zero, le_at, lenenc_int_at, lenenc_str_at, slice_at, then_at, u8_str_at, u32_str_at}
+use Rattle.mysql_buf.specs.Reading.{is_zero, little_at, lenenc_int_at, lenenc_str_at, bytes_at, then_at, u8_str_at, u32_str_at}
 use Rattle.mysql_buf.specs.Writing.{front, lenenc_int, lenenc_str, u8_str, u32_str}
 
 pub lenenc_int-reads_back : (n : ℕ) (rest : List ℕ) → n < 2 ^ 64 → lenenc_int_at (lenenc_int n ++ rest) ≡ Some (n, rest)
@@ -28,7 +28,7 @@ lenenc_int-reads_back n rest h = elim (cases_lt n 251) [
 pub lenenc_str-reads_back : (text rest : List ℕ) → length text < 2 ^ 64 → lenenc_str_at (lenenc_str text ++ rest) ≡ Some (text, rest)
 lenenc_str-reads_back text rest h =
     let regroup : lenenc_str text ++ rest ≡ lenenc_int (length text) ++ (text ++ rest) = append_assoc (lenenc_int (length text)) text rest in
-    rw (regroup, lenenc_int-reads_back (length text) (text ++ rest) h) (slice_at-append text rest)
+    rw (regroup, lenenc_int-reads_back (length text) (text ++ rest) h) (bytes_at-append text rest)
 
 -- behind a text and one byte
 drop-past : (text rest : List ℕ) → drop (suc (length text)) (text ++ 0 ∷ rest) ≡ rest
@@ -42,8 +42,8 @@ front-bound text most = omega (arith, length-take most text)
 
 -- the number of bytes, and these
 counted-reads_back : (n : ℕ) (text rest : List ℕ) → length text < 256 ^ n
-    → then_at (le_at n (little_bytes n (length text) ++ (text ++ rest))) slice_at ≡ Some (text, rest)
-counted-reads_back n text rest h = rw (little-reads_back n (length text) (text ++ rest) h) (slice_at-append text rest)
+    → then_at (little_at n (little_bytes n (length text) ++ (text ++ rest))) bytes_at ≡ Some (text, rest)
+counted-reads_back n text rest h = rw (little-reads_back n (length text) (text ++ rest) h) (bytes_at-append text rest)
 
 pub u8_str-reads_back : (text rest : List ℕ) → u8_str_at (u8_str text ++ rest) ≡ Some (front text 255, rest)
 u8_str-reads_back text rest =
@@ -96,7 +96,7 @@ length-at_most n = elim (cases_lt n (2 ^ 24)) [
 ]
 
 -- what a number of k bytes leaves
-pub left-of : (k : ℕ) (bs : List ℕ) (n : ℕ) (rest : List ℕ) → AreBytes bs → le_at k bs ≡ Some (n, rest) → (n < 256 ^ k) × (length rest + k ≡ length bs)
+pub left-of : (k : ℕ) (bs : List ℕ) (n : ℕ) (rest : List ℕ) → AreBytes bs → little_at k bs ≡ Some (n, rest) → (n < 256 ^ k) × (length rest + k ≡ length bs)
 left-of k bs n rest small h =
     let p = first-some k (little_number k) bs (n, rest) h in
     let number : n ≡ little_number k bs = ap (λ p. p.0) p.1 in
@@ -121,19 +121,19 @@ lenenc_int-shortest n (b ∷ bs) rest small h = elim (cases_lt b 251) [
       rw (← number, ← left, lt-ltb b 251 one) (omega arith)
   | inr more ↦ elim (eqb_tells b 252) [
     | inl two ↦
-        let at : le_at 2 bs ≡ Some (n, rest) = rw (le-ltb b 251 more, two.0) at h in
+        let at : little_at 2 bs ≡ Some (n, rest) = rw (le-ltb b 251 more, two.0) at h in
         let p = left-of 2 bs n rest (λ i. small (suc i)) at in
         let e = length-below_16 n (omega (arith, p.0)) in
         omega (arith, e, p.1)
     | inr not2 ↦ elim (eqb_tells b 253) [
       | inl three ↦
-          let at : le_at 3 bs ≡ Some (n, rest) = rw (le-ltb b 251 more, not2.0, three.0) at h in
+          let at : little_at 3 bs ≡ Some (n, rest) = rw (le-ltb b 251 more, not2.0, three.0) at h in
           let p = left-of 3 bs n rest (λ i. small (suc i)) at in
           let e = length-below_24 n (omega (arith, p.0)) in
           omega (arith, e, p.1)
       | inr not3 ↦ elim (eqb_tells b 254) [
         | inl eight ↦
-            let at : le_at 8 bs ≡ Some (n, rest) = rw (le-ltb b 251 more, not2.0, not3.0, eight.0) at h in
+            let at : little_at 8 bs ≡ Some (n, rest) = rw (le-ltb b 251 more, not2.0, not3.0, eight.0) at h in
             let p = left-of 8 bs n rest (λ i. small (suc i)) at in
             let e = length-at_most n in
             omega (arith, e, p.1)

@@ -3,7 +3,7 @@
 use Rattle.std.specs.Prelude.{ℕ, ◌+◌, ◌-◌, ◌*◌, ◌/◌, ◌^◌, ◌==◌, nat_lt, if◌then◌else◌, List, [], ◌∷◌, Option, None}
 use Rattle.std.specs.Int.{w8, trailing_ones}
 use Rattle.byteorder.specs.Endian.{little_bytes, little_number}
-use Rattle.mysql_buf.specs.Reading.{first, le_at}
+use Rattle.mysql_buf.specs.Reading.{first, little_at}
 
 -- how many bytes a number takes: the fewest that hold it with seven bits each, and 9 from 2 ^ 56 on
 abbrev pub varlen_size : ℕ → ℕ
@@ -26,9 +26,11 @@ marked size n = n * 2 ^ size + (2 ^ (size - 1) - 1)
 abbrev pub varlen : ℕ → List ℕ
 varlen n = if nat_lt n (2 ^ 56) then little_bytes (varlen_size n) (marked (varlen_size n) n) else 255 ∷ little_bytes 8 n
 
--- as many bytes follow the first one as it has low one bits; the value stands above those ones and the zero; after ff it is eight bytes
+-- a number whose first byte is b: as many bytes follow as b has low one bits; the value stands above those ones and the zero
+abbrev pub short_at : ℕ → List ℕ → Option (ℕ × List ℕ)
+short_at b bytes = first (trailing_ones w8 b + 1) (λ bytes. little_number (trailing_ones w8 b + 1) bytes / 2 ^ (trailing_ones w8 b + 1)) bytes
+
+-- a short number; after ff it is eight bytes
 abbrev pub varlen_at : List ℕ → Option (ℕ × List ℕ)
 varlen_at [] = None
-varlen_at (b ∷ bs) =
-    if b == 255 then le_at 8 bs
-    else first (trailing_ones w8 b + 1) (λ bytes. little_number (trailing_ones w8 b + 1) bytes / 2 ^ (trailing_ones w8 b + 1)) (b ∷ bs)
+varlen_at (b ∷ bs) = if b == 255 then little_at 8 bs else short_at b (b ∷ bs)

@@ -14,7 +14,7 @@ use Rattle.mysql_buf.specs.NumberLaws.{first-append, little-reads_back, pow-byte
 use Rattle.mysql_buf.specs.FirstBytes.{first-some}
 use Rattle.mysql_buf.specs.TextLaws.{left-of}
 use Rattle.mysql_buf.specs.Bytes.{AreBytes}
-use Rattle.mysql_buf.specs.Reading.{first, le_at}
+use Rattle.mysql_buf.specs.Reading.{first, little_at}
 use Rattle.mysql_buf.specs.Varlen.{marked, varlen, varlen_at, varlen_size}
 
 -- the zeros below a number's lowest one
@@ -167,7 +167,7 @@ pub varlen-shortest : (n : ℕ) (bytes rest : List ℕ) → AreBytes bytes → v
 varlen-shortest n [] rest small h = absurd (cc)
 varlen-shortest n (b ∷ bs) rest small h = elim (eqb_tells b 255) [
   | inl long ↦
-      let at : le_at 8 bs ≡ Some (n, rest) = rw long.0 at h in
+      let at : little_at 8 bs ≡ Some (n, rest) = rw long.0 at h in
       let p = left-of 8 bs n rest (λ i. small (suc i)) at in
       let e = length-at_most n in
       omega (arith, e, p.1)

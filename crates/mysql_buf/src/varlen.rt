@@ -3,7 +3,7 @@
 ghost use Rattle.std.specs.Prelude.{◌≡◌, ◌<◌, ◌^◌, ◌++◌, OnErr, OnOk, length};
 ghost use Rattle.bytes.specs.Filled.{UsesSpare};
 ghost use Rattle.mysql_buf.specs.Reading.{Checks};
-ghost use Rattle.mysql_buf.specs.Varlen.{marked, varlen, varlen_at, varlen_size};
+ghost use Rattle.mysql_buf.specs.Varlen.{marked, short_at, varlen, varlen_at, varlen_size};
 
 use crate::buf_mut::put_marked;
 use crate::parse_buf::ParseBuf;
@@ -37,13 +37,26 @@ pub fn varlen_uint_size(number: u64) -> usize
 pub fn read_varlen_uint(buf: &mut ParseBuf<'_>) -> Option<u64>
     ensures { Checks (λ x. x) buf.old.0.now buf.new.0.now result (varlen_at buf.old.0.now) }
 {
-    let mut rest = *buf;
-    let first = rest.checked_eat_u8()?;
-    if first == 0xff {
-        let number = rest.checked_eat_u64_le()?;
-        *buf = rest;
-        return Some(number);
+    match buf.0 {
+        [] => None,
+        [first, behind @ ..] => {
+            if *first < 0xff {
+                return read_short(*first, buf);
+            }
+            let mut rest = ParseBuf(behind);
+            let number = rest.checked_eat_u64_le()?;
+            *buf = rest;
+            Some(number)
+        }
     }
+}
+
+// Takes the number of at most eight bytes that this first byte begins.
+#[tactic(auto, unfolding(crate::specs::Reading::first))]
+fn read_short(first: u8, buf: &mut ParseBuf<'_>) -> Option<u64>
+    requires { first < 255 }
+    ensures { Checks (λ x. x) buf.old.0.now buf.new.0.now result (short_at first buf.old.0.now) }
+{
     let size = first.trailing_ones() as usize + 1;
     let bytes = buf.checked_eat(size)?;
     Some(LittleEndian::read_uint(bytes, size) >> size)

@@ -8,7 +8,7 @@ use Rattle.std.proofs.lemmas.Int.{to_z-of_z}
 use Rattle.byteorder.specs.Endian.{little_bytes, little_number}
 use Rattle.byteorder.specs.Numbers.{little_number-reads_back}
 use Rattle.mysql_buf.specs.FirstBytes.{first-enough}
-use Rattle.mysql_buf.specs.NumberLaws.{slice_at-append}
+use Rattle.mysql_buf.specs.NumberLaws.{bytes_at-append}
 use Rattle.mysql_buf.specs.Reading.{u8_str_at}
 use Rattle.mysql_buf.specs.TextLaws.{lenenc_str-reads_back}
 use Rattle.mysql_raw.specs.Laws.{little_at-back}
@@ -72,7 +72,7 @@ counted_back : (size : ℕ) (text rest : List ℕ) → length text ≡ size → 
 counted_back size text rest e =
     let one = first-enough 1 (little_number 1) (size ∷ (text ++ rest)) (omega arith) in
     let n : little_number 1 (size ∷ (text ++ rest)) ≡ length text = omega (arith, e) in
-    rw (one, n) (ap or_end (slice_at-append text rest))
+    rw (one, n) (ap or_end (bytes_at-append text rest))
 
 -- DATES AND TIMES
 

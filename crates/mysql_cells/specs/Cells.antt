@@ -1,15 +1,17 @@
 -- Cells of the binary protocol, as they are written and read, and cells of the text protocol.
 -- MySQL: Client/Server Protocol, "Binary Protocol Value", "Protocol::LengthEncodedInteger", "Text Resultset Row", "Column Definition Flags".
-use Rattle.std.specs.Prelude.{ℕ, pos, ◌+◌, ◌^◌, Bool, true, false, List, [], ◌∷◌, ◌++◌, length, take, drop, Ok, Err, nat_lt, ◌==◌, if◌then◌else◌}
+-- A reading takes bytes from the front: x.0 is what was read and x.1 the bytes left; the first refusal counts.
+use Rattle.std.specs.Prelude.{ℕ, pos, ◌+◌, ◌^◌, Bool, true, false, List, [], ◌∷◌, ◌++◌, length, take, drop, Ok, Err, nat_lt, ◌==◌, ◌||◌, if◌then◌else◌, unwrap_or}
 use Rattle.std.specs.Int.{Width, w8, w16, w32, w64, cast_signed, cast_unsigned}
 use Rattle.std.specs.Int.RustNames.{bit_and}
-use Rattle.std.specs.List.{list_any}
+use Rattle.std.specs.Option.{option_map}
 use Rattle.byteorder.specs.Endian.{little_bytes, little_number}
 use Rattle.mysql_buf.specs.Reading.{lenenc_str_at, u8_str_at}
 use Rattle.mysql_buf.specs.Writing.{lenenc_str}
-use Rattle.mysql_const.specs.ColumnTypes.{column_type_number}
+use Rattle.mysql_const.specs.ColumnTypes.{column_type_named, column_type_number}
 use Rattle.mysql_const.specs.declared.column_flags.ColumnFlags.{ColumnFlags}
 use Rattle.mysql_const.specs.declared.column_type.ColumnType.{ColumnType}
+use Rattle.mysql_const.specs.declared.column_type.ColumnType.TheVariants.{MYSQL_TYPE_NULL, MYSQL_TYPE_TINY, MYSQL_TYPE_SHORT, MYSQL_TYPE_YEAR, MYSQL_TYPE_LONG, MYSQL_TYPE_INT24, MYSQL_TYPE_LONGLONG, MYSQL_TYPE_FLOAT, MYSQL_TYPE_DOUBLE, MYSQL_TYPE_DECIMAL, MYSQL_TYPE_NEWDECIMAL, MYSQL_TYPE_VARCHAR, MYSQL_TYPE_VAR_STRING, MYSQL_TYPE_STRING, MYSQL_TYPE_TINY_BLOB, MYSQL_TYPE_MEDIUM_BLOB, MYSQL_TYPE_LONG_BLOB, MYSQL_TYPE_BLOB, MYSQL_TYPE_ENUM, MYSQL_TYPE_SET, MYSQL_TYPE_BIT, MYSQL_TYPE_JSON, MYSQL_TYPE_GEOMETRY, MYSQL_TYPE_VECTOR, MYSQL_TYPE_DATE, MYSQL_TYPE_DATETIME, MYSQL_TYPE_TIMESTAMP, MYSQL_TYPE_TIME, MYSQL_TYPE_NEWDATE, MYSQL_TYPE_TIMESTAMP2, MYSQL_TYPE_DATETIME2, MYSQL_TYPE_TIME2, MYSQL_TYPE_TYPED_ARRAY, MYSQL_TYPE_UNKNOWN}
 use Rattle.mysql_raw.specs.Forms.{little_at}
 use Rattle.mysql_raw.specs.Wire.{Reading, ◌>>=◌, or_end}
 use Rattle.mysql_raw.specs.WireError.TheVariants.{UnexpectedEof, BadLength, UnsupportedType}
@@ -69,16 +71,20 @@ bin_len (Double bits) = 8
 bin_len (Date year month day hour minute second micros) = 1 + date_size year month day hour minute second micros
 bin_len (Time negative days hours minutes seconds micros) = 1 + time_size days hours minutes seconds micros
 
--- the number of the type that a value is sent by: NULL, VAR_STRING, LONGLONG, FLOAT, DOUBLE, DATETIME or TIME
+-- the type that a value is sent by
+abbrev pub type_of : Value → ColumnType
+type_of NULL = MYSQL_TYPE_NULL
+type_of (Bytes bytes) = MYSQL_TYPE_VAR_STRING
+type_of (Int z) = MYSQL_TYPE_LONGLONG
+type_of (UInt n) = MYSQL_TYPE_LONGLONG
+type_of (Float bits) = MYSQL_TYPE_FLOAT
+type_of (Double bits) = MYSQL_TYPE_DOUBLE
+type_of (Date year month day hour minute second micros) = MYSQL_TYPE_DATETIME
+type_of (Time negative days hours minutes seconds micros) = MYSQL_TYPE_TIME
+
+-- its number
 abbrev pub type_number : Value → ℕ
-type_number NULL = 6
-type_number (Bytes bytes) = 253
-type_number (Int z) = 8
-type_number (UInt n) = 8
-type_number (Float bits) = 4
-type_number (Double bits) = 5
-type_number (Date year month day hour minute second micros) = 12
-type_number (Time negative days hours minutes seconds micros) = 11
+type_number value = column_type_number (type_of value)
 
 -- whether a value is sent by a type without a sign
 abbrev pub is_unsigned : Value → Bool
@@ -93,24 +99,50 @@ is_unsigned (Time negative days hours minutes seconds micros) = false
 
 -- READING
 
--- whether the number is one of these
-abbrev pub is_one_of : List ℕ → ℕ → Bool
-is_one_of numbers t = list_any (λ k. k == t) numbers
-
 -- the form of a type's cells
+abbrev pub form : ColumnType → CellForm
+form MYSQL_TYPE_NULL = Nothing
+form MYSQL_TYPE_TINY = Whole1
+form MYSQL_TYPE_SHORT = Whole2
+form MYSQL_TYPE_YEAR = Whole2
+form MYSQL_TYPE_LONG = Whole4
+form MYSQL_TYPE_INT24 = Whole4
+form MYSQL_TYPE_LONGLONG = Whole8
+form MYSQL_TYPE_FLOAT = FloatBits
+form MYSQL_TYPE_DOUBLE = DoubleBits
+form MYSQL_TYPE_DECIMAL = Counted
+form MYSQL_TYPE_NEWDECIMAL = Counted
+form MYSQL_TYPE_VARCHAR = Counted
+form MYSQL_TYPE_VAR_STRING = Counted
+form MYSQL_TYPE_STRING = Counted
+form MYSQL_TYPE_TINY_BLOB = Counted
+form MYSQL_TYPE_MEDIUM_BLOB = Counted
+form MYSQL_TYPE_LONG_BLOB = Counted
+form MYSQL_TYPE_BLOB = Counted
+form MYSQL_TYPE_ENUM = Counted
+form MYSQL_TYPE_SET = Counted
+form MYSQL_TYPE_BIT = Counted
+form MYSQL_TYPE_JSON = Counted
+form MYSQL_TYPE_GEOMETRY = Counted
+form MYSQL_TYPE_VECTOR = Counted
+form MYSQL_TYPE_DATE = DateAndTime
+form MYSQL_TYPE_DATETIME = DateAndTime
+form MYSQL_TYPE_TIMESTAMP = DateAndTime
+form MYSQL_TYPE_TIME = Duration
+form MYSQL_TYPE_NEWDATE = Without
+form MYSQL_TYPE_TIMESTAMP2 = Without
+form MYSQL_TYPE_DATETIME2 = Without
+form MYSQL_TYPE_TIME2 = Without
+form MYSQL_TYPE_TYPED_ARRAY = Without
+form MYSQL_TYPE_UNKNOWN = Without
+
+-- the form by a type's number; a number without a name has no cells
 abbrev pub form_of : ℕ → CellForm
-form_of t =
-    if t == 6 then Nothing
-    else if t == 1 then Whole1
-    else if is_one_of (2 ∷ 13 ∷ []) t then Whole2
-    else if is_one_of (3 ∷ 9 ∷ []) t then Whole4
-    else if t == 8 then Whole8
-    else if t == 4 then FloatBits
-    else if t == 5 then DoubleBits
-    else if is_one_of (0 ∷ 246 ∷ 15 ∷ 253 ∷ 254 ∷ 249 ∷ 250 ∷ 251 ∷ 252 ∷ 247 ∷ 248 ∷ 16 ∷ 245 ∷ 255 ∷ 242 ∷ []) t then Counted
-    else if is_one_of (10 ∷ 12 ∷ 7 ∷ []) t then DateAndTime
-    else if t == 11 then Duration
-    else Without
+form_of t = unwrap_or (option_map form (column_type_named t)) Without
+
+-- whether a number is the type of a float
+abbrev pub is_float : ℕ → Bool
+is_float t = t == column_type_number MYSQL_TYPE_FLOAT || t == column_type_number MYSQL_TYPE_DOUBLE
 
 -- Int where it fits, else UInt
 abbrev pub unsigned_value : ℕ → Value

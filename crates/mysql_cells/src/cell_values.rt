@@ -2,38 +2,60 @@
 
 ghost use Rattle.std.specs.Prelude.{◌≡◌, ◌+◌, ◌≤◌};
 ghost use Rattle.std.specs.Int.{w8, w16, w32, w64};
-ghost use Rattle.mysql_cells.specs.Cells.{date_of, form_of, part, time_of, unsigned_value, whole_value};
+ghost use Rattle.mysql_cells.specs.Cells.{date_of, form as form_by_type, form_of, part, time_of, unsigned_value, whole_value};
 
 use crate::cell_form::CellForm;
 use crate::value::Value;
 use byteorder::{ByteOrder, LittleEndian};
+use mysql_const::ColumnType;
 
 /// The form of a type's cells.
+fn form_of_type(column_type: ColumnType) -> CellForm
+    ensures { result ≡ form_by_type column_type }
+{
+    match column_type {
+        ColumnType::MYSQL_TYPE_NULL => CellForm::Nothing,
+        ColumnType::MYSQL_TYPE_TINY => CellForm::Whole1,
+        ColumnType::MYSQL_TYPE_SHORT | ColumnType::MYSQL_TYPE_YEAR => CellForm::Whole2,
+        ColumnType::MYSQL_TYPE_LONG | ColumnType::MYSQL_TYPE_INT24 => CellForm::Whole4,
+        ColumnType::MYSQL_TYPE_LONGLONG => CellForm::Whole8,
+        ColumnType::MYSQL_TYPE_FLOAT => CellForm::FloatBits,
+        ColumnType::MYSQL_TYPE_DOUBLE => CellForm::DoubleBits,
+        ColumnType::MYSQL_TYPE_DECIMAL
+        | ColumnType::MYSQL_TYPE_NEWDECIMAL
+        | ColumnType::MYSQL_TYPE_VARCHAR
+        | ColumnType::MYSQL_TYPE_VAR_STRING
+        | ColumnType::MYSQL_TYPE_STRING
+        | ColumnType::MYSQL_TYPE_TINY_BLOB
+        | ColumnType::MYSQL_TYPE_MEDIUM_BLOB
+        | ColumnType::MYSQL_TYPE_LONG_BLOB
+        | ColumnType::MYSQL_TYPE_BLOB
+        | ColumnType::MYSQL_TYPE_ENUM
+        | ColumnType::MYSQL_TYPE_SET
+        | ColumnType::MYSQL_TYPE_BIT
+        | ColumnType::MYSQL_TYPE_JSON
+        | ColumnType::MYSQL_TYPE_GEOMETRY
+        | ColumnType::MYSQL_TYPE_VECTOR => CellForm::Counted,
+        ColumnType::MYSQL_TYPE_DATE
+        | ColumnType::MYSQL_TYPE_DATETIME
+        | ColumnType::MYSQL_TYPE_TIMESTAMP => CellForm::DateAndTime,
+        ColumnType::MYSQL_TYPE_TIME => CellForm::Duration,
+        ColumnType::MYSQL_TYPE_NEWDATE
+        | ColumnType::MYSQL_TYPE_TIMESTAMP2
+        | ColumnType::MYSQL_TYPE_DATETIME2
+        | ColumnType::MYSQL_TYPE_TIME2
+        | ColumnType::MYSQL_TYPE_TYPED_ARRAY
+        | ColumnType::MYSQL_TYPE_UNKNOWN => CellForm::Without,
+    }
+}
+
+/// The form of the cells of the type with this number; a number without a name has none.
 pub fn form(number: u8) -> CellForm
     ensures { result ≡ form_of number }
 {
-    if number == 6 {
-        CellForm::Nothing
-    } else if number == 1 {
-        CellForm::Whole1
-    } else if matches!(number, 2 | 13) {
-        CellForm::Whole2
-    } else if matches!(number, 3 | 9) {
-        CellForm::Whole4
-    } else if number == 8 {
-        CellForm::Whole8
-    } else if number == 4 {
-        CellForm::FloatBits
-    } else if number == 5 {
-        CellForm::DoubleBits
-    } else if matches!(number, 0 | 15 | 16 | 242 | 245..=255) {
-        CellForm::Counted
-    } else if matches!(number, 7 | 10 | 12) {
-        CellForm::DateAndTime
-    } else if number == 11 {
-        CellForm::Duration
-    } else {
-        CellForm::Without
+    match ColumnType::try_from(number) {
+        Ok(column_type) => form_of_type(column_type),
+        Err(_) => CellForm::Without,
     }
 }
 

@@ -1,6 +1,6 @@
 //! Cells: values as the binary protocol carries them, and as rows of the text protocol do.
 
-ghost use Rattle.mysql_cells.specs.Cells.{bin_len, cell, cell_at, is_unsigned as is_sent_unsigned, text_cell_at, type_number, value_at};
+ghost use Rattle.mysql_cells.specs.Cells.{bin_len, cell, cell_at, is_unsigned as is_sent_unsigned, text_cell_at, type_of, value_at};
 ghost use Rattle.mysql_raw.specs.Wire.{Gives, GivesPart, or_end};
 ghost use Rattle.mysql_cells.specs.declared.cell_form.CellForm.TheVariants as cell_form;
 ghost use Rattle.mysql_raw.specs.WireError.TheVariants as wire;
@@ -11,6 +11,7 @@ use crate::cell_values::{date, form, time, whole1, whole2, whole4, whole8};
 use crate::cell_writing::{date_size, put_date, put_time, time_size};
 use crate::value::Value;
 use mysql_buf::{BufMutExt, ParseBuf, lenenc_str_len};
+use mysql_const::ColumnType;
 use mysql_queries::ByteString;
 use mysql_raw::{IntRepr, LeI64, LeU32, LeU64, MySerialize, WireError};
 use std::alloc::{AllocError, Global};
@@ -156,20 +157,20 @@ impl Value {
         }
     }
 
-    /// The number of the type that the value is sent by: NULL 6, VAR_STRING 253 for bytes, LONGLONG 8, FLOAT 4, DOUBLE 5, DATETIME 12, TIME 11.
+    /// The type that the value is sent by: VAR_STRING for bytes, LONGLONG for whole numbers, DATETIME for dates.
     ///
     /// Follows "Binary Protocol Value" of the client/server protocol documentation.
-    pub fn column_type(&self) -> u8
-        ensures { result ≡ type_number self.now }
+    pub fn column_type(&self) -> ColumnType
+        ensures { result ≡ type_of self.now }
     {
         match self {
-            Value::NULL => 6,
-            Value::Bytes(_) => 253,
-            Value::Int(_) | Value::UInt(_) => 8,
-            Value::Float(_) => 4,
-            Value::Double(_) => 5,
-            Value::Date(..) => 12,
-            Value::Time(..) => 11,
+            Value::NULL => ColumnType::MYSQL_TYPE_NULL,
+            Value::Bytes(_) => ColumnType::MYSQL_TYPE_VAR_STRING,
+            Value::Int(_) | Value::UInt(_) => ColumnType::MYSQL_TYPE_LONGLONG,
+            Value::Float(_) => ColumnType::MYSQL_TYPE_FLOAT,
+            Value::Double(_) => ColumnType::MYSQL_TYPE_DOUBLE,
+            Value::Date(..) => ColumnType::MYSQL_TYPE_DATETIME,
+            Value::Time(..) => ColumnType::MYSQL_TYPE_TIME,
         }
     }
 

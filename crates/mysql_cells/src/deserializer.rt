@@ -84,7 +84,6 @@ impl Readable for ValueDeserializer<BinValue> {
 }
 
 /// Whether a column's whole numbers have no sign.
-#[tactic(auto, unfolding(bitflags::proofs::OnLiterals::bitflags_on_literals))]
 fn without_sign(flags: ColumnFlags) -> bool
     ensures { result ≡ has_no_sign flags }
 {

@@ -10,7 +10,7 @@ use std::alloc::{AllocError, Global};
 /// Two values are equal where their fields are, floats by their bits. No field is checked: a date may have month 13.
 ///
 /// Follows "Binary Protocol Value" of the client/server protocol documentation.
-#[derive(Debug, PartialEq, Eq, Hash, Drop)]
+#[derive(Debug, PartialEq, Eq, Drop)]
 pub enum Value {
     NULL,
     Bytes(ByteString),

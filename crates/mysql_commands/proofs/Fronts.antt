@@ -8,7 +8,8 @@ use Rattle.std.proofs.lemmas.Bool.{cases_lt, ne_eqb, or_parts, ltb-true}
 use Rattle.std.proofs.lemmas.List.{length-take, get_or-take}
 use Rattle.mysql_commands.specs.declared.fault.StreamFault.{StreamFault}
 use Rattle.mysql_commands.specs.declared.fault.StreamFault.TheVariants.{NotPrepared, NoTypes, NoRows, BadBulk, PiecesBeforeBulk, BadPlace}
-use Rattle.mysql_commands.specs.Fields.{◌>>=◌, must, number_at}
+use Rattle.mysql_commands.specs.Fields.{must, little_at}
+use Rattle.mysql_wire.specs.Wire.{◌>>=◌}
 use Rattle.mysql_commands.specs.Query.{place_count}
 use Rattle.mysql_commands.proofs.Readable.{readable as is_readable}
 use Rattle.mysql_commands.specs.Layout.{Conversation, Command, command_of, Types, Piece, piece_at, id_at, execute_head, bulk_head}
@@ -213,8 +214,8 @@ ok_is x y h = cc
 -- a piece is for a place of the query
 piece_place : (c : Conversation) (body : List ℕ) (p : Piece) → piece_at c body ≡ Ok p → p.place < place_count c.query
 piece_place c body p e =
-    let a = bind_ok (id_at c body) (λ rest. number_at BadPlace 2 rest >>= λ place. must BadPlace (nat_lt place.0 (place_count c.query)) >>= λ there. Ok (record { place = place.0; bytes = place.1 })) p e in
-    let b = bind_ok (number_at BadPlace 2 a.0) (λ place. must BadPlace (nat_lt place.0 (place_count c.query)) >>= λ there. Ok (record { place = place.0; bytes = place.1 })) p a.2 in
+    let a = bind_ok (id_at c body) (λ rest. little_at BadPlace 2 rest >>= λ place. must BadPlace (nat_lt place.0 (place_count c.query)) >>= λ there. Ok (record { place = place.0; bytes = place.1 })) p e in
+    let b = bind_ok (little_at BadPlace 2 a.0) (λ place. must BadPlace (nat_lt place.0 (place_count c.query)) >>= λ there. Ok (record { place = place.0; bytes = place.1 })) p a.2 in
     let d = bind_ok (must BadPlace (nat_lt b.0.0 (place_count c.query))) (λ there. Ok (record { place = b.0.0; bytes = b.0.1 })) p b.2 in
     let lt : b.0.0 < place_count c.query = ltb-true b.0.0 (place_count c.query) (must_ok BadPlace (nat_lt b.0.0 (place_count c.query)) d.0 d.1) in
     let same : b.0.0 ≡ p.place = ap (λ (q : Piece). q.place) (ok_is (record { place = b.0.0; bytes = b.0.1 }) p d.2) in

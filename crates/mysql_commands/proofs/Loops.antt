@@ -7,7 +7,7 @@ use Rattle.std.proofs.lemmas.List.{append-nil, drop_all}
 use Rattle.mysql_commands.specs.declared.fault.StreamFault.{StreamFault}
 use Rattle.mysql_commands.specs.declared.refusal.Refusal.{Refusal}
 use Rattle.mysql_commands.specs.declared.refusal.Refusal.TheVariants as refusal
-use Rattle.mysql_commands.specs.Fields.{◌>>=◌}
+use Rattle.mysql_wire.specs.Wire.{◌>>=◌}
 use Rattle.mysql_commands.specs.Layout.{Types, type_at, types_at}
 use Rattle.mysql_commands.specs.declared.fault.StreamFault.TheVariants.{BadExecute, BadBulk}
 use Rattle.mysql_commands.specs.declared.param_type.ParamType.{ParamType}

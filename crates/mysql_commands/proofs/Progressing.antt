@@ -1,13 +1,12 @@
 -- A run over the payloads that a codec hands out.
-use Rattle.std.proofs.Common.{◌≡◌, ℕ, ◌+◌, ◌-◌, ◌^◌, ◌<◌, Bool, true, false, List, [], ◌∷◌, ◌++◌, length, take, get_or, Some, None, Err, refl, sym, ap, subst, ◌∙◌, arith, inl, inr, append_assoc}
-use Rattle.std.specs.Prelude.{◌==◌, ◌||◌, not}
+use Rattle.std.proofs.Common.{◌≡◌, ℕ, ◌+◌, ◌-◌, ◌^◌, ◌<◌, true, false, List, [], ◌∷◌, ◌++◌, length, take, get_or, Some, None, Err, refl, sym, ap, subst, ◌∙◌, arith, inl, inr, append_assoc}
 use Rattle.std.specs.List.{flat_map}
-use Rattle.std.proofs.lemmas.Bool.{ne_eqb}
 use Rattle.std.proofs.lemmas.List.{append-nil, length-append, get_or-append-add}
 use Rattle.std.proofs.lemmas.List.Concat.{flat_map-append}
 use Rattle.std.proofs.Math.Seq.{take-append_seam}
 use Rattle.mysql_wire.specs.Bytes.{AreBytes}
-use Rattle.mysql_wire.specs.Codec.{Codec, HandsOut, Waits, RefusesBy, IsDue, held, packet_number, error_of}
+use Rattle.mysql_wire.specs.Codec.{Codec, HandsOut, RefusesBy, IsDue, held, packet_number, error_of}
+use Rattle.mysql_wire.specs.Incoming.{Incoming, ReadsOn, codec_by}
 use Rattle.mysql_wire.specs.Reader.{HasRead}
 use Rattle.mysql_wire.specs.Stream.{Rest, IsSplit, IsRest, IsFault, framings, first_number}
 use Rattle.mysql_wire.specs.Stream.Rest.{Empty as EmptyRest, TooLarge as TooLargeRest, OutOfSync as OutOfSyncRest, Open as OpenRest}
@@ -25,12 +24,12 @@ use Rattle.mysql_commands.specs.InForce.{Standing, standing_after}
 use Rattle.mysql_commands.specs.Reading.{Set, ReadsAs, Faulty, PayloadReadsAs, PayloadFaulty}
 use Rattle.mysql_commands.specs.Audit.{Read}
 use Rattle.mysql_commands.specs.Views.{standing_of, sets_of, PayloadJudged}
-use Rattle.mysql_commands.specs.GoingOn.{Held, Fed, Stands, fault_of_rest}
+use Rattle.mysql_commands.specs.GoingOn.{Held, Fed, fault_of_rest}
 use Rattle.mysql_commands.specs.Progress.{ReadOne, OneBy}
-use Rattle.mysql_commands.specs.Receiving.{holds, fault_by, refusal_by, StaysOpen}
+use Rattle.mysql_commands.specs.Receiving.{holds, fault_by, refusal_by, IsOpen}
 use Rattle.mysql_commands.proofs.Looking.{standing_after_nil, standing_after_append}
 use Rattle.mysql_commands.proofs.Auditing.{read_append, one_read, read_longer, faulty_from}
-use Rattle.mysql_commands.proofs.Splits.{some_split, bytes_append, bytes_behind, each_stays}
+use Rattle.mysql_commands.proofs.Splits.{some_split, bytes_behind, each_stays}
 
 pub reads_first : (c : Conversation) (s : Standing) (n : ℕ) (payload : List ℕ) (sets : List Set) → n < 2 ^ 64 - 1 → PayloadReadsAs c s payload sets → ReadsAs c s n [] payload sets
 reads_first c s n payload sets few h = (omega arith, subst (λ (st : Standing). PayloadReadsAs c st payload sets) (sym (standing_after_nil c s)) h)
@@ -88,6 +87,13 @@ module _ (wire : ReaderLaws) (c : Conversation) (limit : ℕ) (old : Progress) (
             ∙ sym (standing_after_append c (standing_of old.standing) b.payloads (payload ∷ []));
       }
 
+  -- the same of a reader whose number was set to 0
+  pub behind_next : (r new next : Incoming) (piece rest : List ℕ) (mid now : Progress) → Behind c limit old bytes (codec_by r) (r.bytes ++ piece) [] mid → ReadsOn r piece true new rest → next ≡ record new { number = 0 } →
+      ReadOne c mid new.payload now → Behind c limit old bytes (codec_by next) (next.bytes ++ rest) [] now
+  behind_next r new next piece rest mid now b h e one =
+      subst (λ (x : Incoming). Behind c limit old bytes (codec_by x) (x.bytes ++ rest) [] now) (sym e)
+      (behind_more (codec_by r) (r.bytes ++ piece) [] (codec_by new) (new.bytes ++ rest) new.payload mid now b h one)
+
   -- the split where what is held is a rest
   here : (codec : Codec) (src packet : List ℕ) (mid : Progress) (b : Behind c limit old bytes codec src packet mid) (rest : Rest) → IsRest codec.limit (packet_number codec packet) (held codec src packet) rest
       → IsSplit limit EachFromZero bytes (record { payloads = b.payloads; rest_bytes = held codec src packet; rest = rest })
@@ -103,39 +109,35 @@ module _ (wire : ReaderLaws) (c : Conversation) (limit : ℕ) (old : Progress) (
   no_fault_of TooLargeRest n = absurd (n tt)
   no_fault_of OutOfSyncRest n = absurd (n tt)
 
-  -- the codec waits for more bytes
-  pub waits_fed : (codec : Codec) (src packet : List ℕ) (next : Codec) (after front : List ℕ) (now : Progress) → Behind c limit old bytes codec src packet now → Waits codec src packet next after front
-      → Fed c limit (holds old [] None) bytes (holds now (held next after front) None)
-  waits_fed codec src packet next after front now b w =
+  -- the reader waits for more bytes
+  pub waits_fed : (r new : Incoming) (piece rest : List ℕ) (now : Progress) → r.number ≡ 0 → Behind c limit old bytes (codec_by r) (r.bytes ++ piece) [] now → ReadsOn r piece false new rest →
+      new ≡ record r { bytes = r.bytes ++ piece; payload = [] } → Fed c limit (holds old [] None) bytes (holds now new.bytes None)
+  waits_fed r new piece rest now zero b w e =
+      let left : held (codec_by r) (r.bytes ++ piece) [] ≡ new.bytes = (wire.between (codec_by r) (r.bytes ++ piece) (refl, b.taken.refused) (omega (arith, zero))).0 ∙ sym (ap (λ (x : Incoming). x.bytes) e) in
       record {
-        split = record { payloads = b.payloads; rest_bytes = held codec src packet; rest = w.rest };
-        is_split = here codec src packet now b w.rest w.is_rest;
+        split = record { payloads = b.payloads; rest_bytes = held (codec_by r) (r.bytes ++ piece) []; rest = w.rest };
+        is_split = here (codec_by r) (r.bytes ++ piece) [] now b w.rest w.is_rest;
         reads = b.reads;
         each = b.each;
         sets = b.sets;
         count = b.count;
-        stands = inr (inr (b.all, no_fault_of w.rest w.no_fault, λ e. (w.held_same, b.standing)));
+        stands = inr (inr (b.all, no_fault_of w.rest w.no_fault, λ _. (sym left, b.standing)));
       }
 
-  pub waits_open : (codec : Codec) (src packet : List ℕ) (next : Codec) (after front : List ℕ) (now : Progress) → AreBytes bytes → Behind c limit old bytes codec src packet now → Waits codec src packet next after front
-      → StaysOpen next after front
-  waits_open codec src packet next after front now are b w =
-      let number : packet_number codec packet ≡ 0 = b.taken.number ∙ ap first_number (each_stays b.payloads) in
-      record {
-        reading = record {
-          joined = refl;
-          within = tt;
-          number = w.number ∙ number;
-          limit_same = refl;
-          refused = w.refused;
-          goes_on = w.goes_on;
-        };
-        bytes = bytes_behind (framings b.payloads EachFromZero) (held next after front) bytes (b.taken.joined ∙ ap (λ k. framings b.payloads EachFromZero ++ k) (sym w.held_same)) are;
+  pub waits_open : (r new : Incoming) (piece rest : List ℕ) (now : Progress) → AreBytes bytes → r.number ≡ 0 → Behind c limit old bytes (codec_by r) (r.bytes ++ piece) [] now → ReadsOn r piece false new rest →
+      new ≡ record r { bytes = r.bytes ++ piece; payload = [] } → IsOpen new
+  waits_open r new piece rest now are zero b w e =
+      let all : held (codec_by r) (r.bytes ++ piece) [] ≡ r.bytes ++ piece = (wire.between (codec_by r) (r.bytes ++ piece) (refl, b.taken.refused) (omega (arith, zero))).0 in
+      let number : packet_number (codec_by r) [] ≡ 0 = b.taken.number ∙ ap first_number (each_stays b.payloads) in
+      subst IsOpen (sym e)
+      (record {
+        reading = record { joined = sym all; within = tt; number = number; limit_same = refl; refused = b.taken.refused; goes_on = λ _. (omega arith, refl) };
+        number = zero;
+        bytes = bytes_behind (framings b.payloads EachFromZero) (r.bytes ++ piece) bytes (b.taken.joined ∙ ap (λ k. framings b.payloads EachFromZero ++ k) all) are;
         rest = w.rest;
         no_fault = w.no_fault;
-        is_rest = subst (λ n. IsRest n 0 (held next after front) w.rest) (sym w.limit)
-            (subst (λ n. IsRest codec.limit n (held next after front) w.rest) number (subst (λ l. IsRest codec.limit (packet_number codec packet) l w.rest) (sym w.held_same) w.is_rest));
-      }
+        is_rest = subst (λ n. IsRest r.limit n (r.bytes ++ piece) w.rest) number (subst (λ l. IsRest r.limit (packet_number (codec_by r) []) l w.rest) all w.is_rest);
+      })
 
   -- want of memory
   pub memory_fed : (codec : Codec) (src packet partial : List ℕ) (mid now : Progress) → AreBytes bytes → Behind c limit old bytes codec src packet mid → sets_of now.sets.items ≡ sets_of mid.sets.items → now.count ≡ mid.count
@@ -217,57 +219,10 @@ module _ (wire : ReaderLaws) (c : Conversation) (limit : ℕ) (old : Progress) (
         );
       }
 
--- what is held behind a payload that was handed out
-pub taken_held : ReaderLaws → (codec : Codec) (src packet : List ℕ) (next : Codec) (after payload front : List ℕ) → HandsOut codec src packet next after payload → front ≡ [] → held (record next { number = 0 }) after front ≡ after
-taken_held wire codec src packet next after payload front h empty =
-    ap (held (record next { number = 0 }) after) empty ∙ (wire.between (record next { number = 0 }) after h.between (omega arith)).0
-
-pub taken_smaller : ReaderLaws → (codec : Codec) (src packet : List ℕ) (next : Codec) (after payload front : List ℕ) → HandsOut codec src packet next after payload → front ≡ []
-    → length (held (record next { number = 0 }) after front) < length (held codec src packet)
-taken_smaller wire codec src packet next after payload front h empty =
-    omega (arith, ap length (taken_held wire codec src packet next after payload front h empty), ap length h.framed, wire.takes_bytes payload after (packet_number codec packet))
-
-not_not : (b : Bool) → not (not b) ≡ b
-not_not true = refl
-not_not false = refl
-
--- whether a packet was begun, by what is left
-pub still_begun : (bytes after : List ℕ) (n : ℕ) → bytes ≡ after → n ≡ length after → (length bytes == 0) ≡ not (not (n == 0))
-still_begun bytes after n e m = ap (λ (l : List ℕ). length l == 0) e ∙ ap (λ (k : ℕ). k == 0) (sym m) ∙ sym (not_not (n == 0))
-
-pub piece_begins : (old piece bytes : List ℕ) (b : Bool) → bytes ≡ old ++ piece → (length old == 0) ≡ not b → (length bytes == 0) ≡ not (b || not (length piece == 0))
-piece_begins old piece bytes b e h = ap (λ (l : List ℕ). length l == 0) e ∙ by old piece b h
-  where
-    by : (old piece : List ℕ) (b : Bool) → (length old == 0) ≡ not b → (length (old ++ piece) == 0) ≡ not (b || not (length piece == 0))
-    by [] piece false h = sym (not_not (length piece == 0))
-    by [] piece true h = absurd cc
-    by (x ∷ xs) piece true h = ne_eqb (length (x ∷ (xs ++ piece))) 0 (λ z. omega (arith, z))
-    by (x ∷ xs) piece false h = let z = ne_eqb (length (x ∷ xs)) 0 (λ z. omega (arith, z)) in absurd cc
-
--- behind a fault it doesn't count what is still held
-pub fed_partial : (c : Conversation) (limit : ℕ) (old : Held) (piece : List ℕ) (now : Progress) (x y : List ℕ) (r : Refusal) → Fed c limit old piece (holds now x (fault_by (Err r))) → Fed c limit old piece (holds now y (fault_by (Err r)))
-fed_partial c limit old piece now x y r h = record { split = h.split; is_split = h.is_split; reads = h.reads; each = h.each; sets = h.sets; count = h.count; stands = by h.stands }
-  where
-    by : Stands c old h.split (length h.reads) (holds now x (fault_by (Err r))) → Stands c old h.split (length h.reads) (holds now y (fault_by (Err r)))
-    by (inl k) = inl k
-    by (inr (inl k)) = inr (inl k)
-    by (inr (inr k)) = inr (inr (k.0, k.1, λ e. absurd cc))
-
 -- a piece comes behind what is held
-module _ (wire : ReaderLaws) (codec : Codec) (header packet piece src : List ℕ) (e : src ≡ header ++ piece) where
-  pub is_held : held codec src packet ≡ held codec header packet ++ piece
-  is_held = ap (λ (l : List ℕ). held codec l packet) e ∙ wire.held codec header packet piece
+pub piece_reads : ReaderLaws → (r : Incoming) (piece : List ℕ) → IsOpen r → HasRead r.limit EachFromZero (r.bytes ++ piece) [] (codec_by r) (r.bytes ++ piece) []
+piece_reads wire r piece o = wire.feeds r.limit EachFromZero r.bytes [] (codec_by r) r.bytes [] piece o.reading
 
-  pub piece_reads : HasRead codec.limit EachFromZero (held codec header packet) [] codec header packet → HasRead codec.limit EachFromZero (held codec src packet) [] codec src packet
-  piece_reads h =
-      subst (λ (l : List ℕ). HasRead codec.limit EachFromZero (held codec l packet) [] codec l packet) (sym e)
-      (subst (λ (l : List ℕ). HasRead codec.limit EachFromZero l [] codec (header ++ piece) packet) (sym (wire.held codec header packet piece))
-      (wire.feeds codec.limit EachFromZero (held codec header packet) [] codec header packet piece h))
-
-  pub piece_bytes : AreBytes (held codec header packet) → AreBytes piece → AreBytes (held codec src packet)
-  piece_bytes p q = subst AreBytes (sym is_held) (bytes_append (held codec header packet) piece p q)
-
-  -- what was held before the piece and the piece are one list of bytes
-  pub piece_fed : (c : Conversation) (limit : ℕ) (old : Progress) (new : Held) → Fed c limit (holds old [] None) (held codec src packet) new → Fed c limit (holds old (held codec header packet) None) piece new
-  piece_fed c limit old new h =
-      record { split = h.split; is_split = subst (λ (l : List ℕ). IsSplit limit EachFromZero l h.split) is_held h.is_split; reads = h.reads; each = h.each; sets = h.sets; count = h.count; stands = h.stands }
+-- what was held before the piece and the piece are one list of bytes
+pub piece_fed : (c : Conversation) (limit : ℕ) (old : Progress) (bytes piece : List ℕ) (new : Held) → Fed c limit (holds old [] None) (bytes ++ piece) new → Fed c limit (holds old bytes None) piece new
+piece_fed c limit old bytes piece new h = record { split = h.split; is_split = h.is_split; reads = h.reads; each = h.each; sets = h.sets; count = h.count; stands = h.stands }

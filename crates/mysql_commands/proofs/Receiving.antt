@@ -7,7 +7,8 @@ use Rattle.std.specs.List.{flat_map}
 use Rattle.std.proofs.lemmas.List.{append-nil, take_more}
 use Rattle.std.proofs.lemmas.List.Concat.{flat_map-append}
 use Rattle.mysql_wire.specs.Bytes.{AreBytes}
-use Rattle.mysql_wire.specs.Codec.{Codec, codec_at, held}
+use Rattle.mysql_wire.specs.Codec.{codec_at}
+use Rattle.mysql_wire.specs.Incoming.{Incoming, incoming_at}
 use Rattle.mysql_wire.specs.Stream.{Rest, Split, IsSplit, IsRest, IsFault}
 use Rattle.mysql_wire.specs.Stream.Rest.{Empty as EmptyRest, TooLarge as TooLargeRest, OutOfSync as OutOfSyncRest, Open as OpenRest}
 use Rattle.mysql_wire.specs.Stream.Numbering.{EachFromZero}
@@ -23,7 +24,7 @@ use Rattle.mysql_commands.specs.InForce.{Standing, is_waiting, standing_after, n
 use Rattle.mysql_commands.specs.Audit.{Audit, Ends, Audited, OutOfMemory, end_by_rest}
 use Rattle.mysql_commands.specs.GoingOn.{Held, held_at_start, DecidesBy, Decides, GoesOn, Fed, Stands, TakesAll, RunsShort}
 use Rattle.mysql_commands.specs.Views.{conversation_of, piece_kept, standing_of, sets_of}
-use Rattle.mysql_commands.specs.Receiving.{StaysOpen, IsMemory, OnMemory, UnlessMemory, answer_by, partial_of, holds, end_by}
+use Rattle.mysql_commands.specs.Receiving.{IsOpen, IsMemory, OnMemory, UnlessMemory, answer_by, holds, end_by}
 use Rattle.mysql_commands.specs.Received.{Received, piece_in, held_by}
 use Rattle.mysql_commands.specs.Inside.{pieces_of, received_of, IsKept}
 use Rattle.mysql_commands.proofs.Looking.{standing_after_nil}
@@ -36,7 +37,7 @@ kept_pieces [] (suc k) = refl
 kept_pieces (x ∷ xs) zero = refl
 kept_pieces (x ∷ xs) (suc k) = kept_pieces xs k
 
-pub held_is : (r : Inside) → held_by (received_of r) ≡ holds r.progress (partial_of r.incoming) r.fault
+pub held_is : (r : Inside) → held_by (received_of r) ≡ holds r.progress r.packets.bytes r.fault
 held_is r = λ i. record {
   count = r.progress.count;
   standing = record {
@@ -44,7 +45,7 @@ held_is r = λ i. record {
     types = (standing_of r.progress.standing).types;
     pieces = λ place. kept_pieces r.progress.standing.pieces.items place i;
   };
-  partial = partial_of r.incoming;
+  partial = r.packets.bytes;
   sets = sets_of r.progress.sets.items;
   fault = r.fault;
 }
@@ -55,29 +56,15 @@ no_bytes : AreBytes []
 no_bytes zero = omega arith
 no_bytes (suc i) = omega arith
 
-nothing_held : ReaderLaws → (limit : ℕ) → held (codec_at 0 limit) [] [] ≡ []
-nothing_held wire limit = (wire.between (codec_at 0 limit) [] (refl, refl) (omega arith)).0
-
-at_start : ReaderLaws → (limit : ℕ) → StaysOpen (codec_at 0 limit) [] []
-at_start wire limit = record {
-  reading = record { joined = refl; within = tt; number = refl; limit_same = refl; refused = refl; goes_on = λ _. (omega arith, refl) };
-  bytes = subst AreBytes (sym (nothing_held wire limit)) no_bytes;
+pub start_open : ReaderLaws → (r : Incoming) (limit : ℕ) → r ≡ incoming_at 0 limit → IsOpen r
+start_open wire r limit e = subst IsOpen (sym e) (record {
+  reading = record { joined = sym (wire.between (codec_at 0 limit) [] (refl, refl) (omega arith)).0; within = tt; number = refl; limit_same = refl; refused = refl; goes_on = λ _. (omega arith, refl) };
+  number = refl;
+  bytes = no_bytes;
   rest = EmptyRest;
   no_fault = λ f. f;
-  is_rest = subst (λ (l : List ℕ). IsRest limit 0 l EmptyRest) (sym (nothing_held wire limit)) (wire.rests limit 0).0;
-}
-
-module _ (wire : ReaderLaws) (codec : Codec) (limit : ℕ) (header packet : List ℕ) (a : codec ≡ codec_at 0 limit) (h : header ≡ []) (p : packet ≡ []) where
-  pub start_stays : StaysOpen codec header packet
-  start_stays =
-      subst (λ (k : Codec). StaysOpen k header packet) (sym a)
-      (subst (λ (l : List ℕ). StaysOpen (codec_at 0 limit) l packet) (sym h) (subst (λ (l : List ℕ). StaysOpen (codec_at 0 limit) [] l) (sym p) (at_start wire limit)))
-
-  pub start_held : held codec header packet ≡ []
-  start_held = ap (λ (k : Codec). held k header packet) a ∙ ap (λ (l : List ℕ). held (codec_at 0 limit) l packet) h ∙ ap (λ (l : List ℕ). held (codec_at 0 limit) [] l) p ∙ nothing_held wire limit
-
-  pub start_begun : (length (held codec header packet) == 0) ≡ not false
-  start_begun = ap (λ (l : List ℕ). length l == 0) start_held
+  is_rest = (wire.rests limit 0).0;
+})
 
 pub holds_start : (pieces : Vec (Option (Vec ℕ))) (sets : Vec (Vec Content)) (partial : List ℕ) → pieces.items ≡ [] → sets.items ≡ [] → partial ≡ []
     → holds (record { standing = record { prepared = false; types = None; pieces = pieces }; sets = sets; count = 0 }) partial None ≡ held_at_start
@@ -129,27 +116,27 @@ stays_on v piece f e =
 module _ (r new : Inside) (v : Received) (piece : List ℕ) (o : Option StreamFault) (view : received_of r ≡ v) (is : new.fault ≡ o) where
   -- what is held of the two
   by_views : (P : Conversation → ℕ → Held → Held → Type 0) → r.fault ≡ None
-      → P (conversation_of r.conversation) r.incoming.codec.limit (holds r.progress (partial_of r.incoming) None) (holds new.progress (partial_of new.incoming) o) → P v.conversation v.limit (held_by v) (held_by (received_of new))
+      → P (conversation_of r.conversation) r.packets.limit (holds r.progress r.packets.bytes None) (holds new.progress new.packets.bytes o) → P v.conversation v.limit (held_by v) (held_by (received_of new))
   by_views P none h =
-      let e : held_by (received_of r) ≡ holds r.progress (partial_of r.incoming) None = held_is r ∙ ap (λ (f : Option StreamFault). holds r.progress (partial_of r.incoming) f) none in
-      let d : held_by (received_of new) ≡ holds new.progress (partial_of new.incoming) o = held_is new ∙ ap (λ (f : Option StreamFault). holds new.progress (partial_of new.incoming) f) is in
+      let e : held_by (received_of r) ≡ holds r.progress r.packets.bytes None = held_is r ∙ ap (λ (f : Option StreamFault). holds r.progress r.packets.bytes f) none in
+      let d : held_by (received_of new) ≡ holds new.progress new.packets.bytes o = held_is new ∙ ap (λ (f : Option StreamFault). holds new.progress new.packets.bytes f) is in
       subst (λ (x : Received). P x.conversation x.limit (held_by x) (held_by (received_of new))) view
-      (subst (λ (x : Held). P (conversation_of r.conversation) r.incoming.codec.limit x (held_by (received_of new))) (sym e)
-      (subst (λ (x : Held). P (conversation_of r.conversation) r.incoming.codec.limit (holds r.progress (partial_of r.incoming) None) x) (sym d) h))
+      (subst (λ (x : Held). P (conversation_of r.conversation) r.packets.limit x (held_by (received_of new))) (sym e)
+      (subst (λ (x : Held). P (conversation_of r.conversation) r.packets.limit (holds r.progress r.packets.bytes None) x) (sym d) h))
 
   pub fed_feed : ReaderLaws → IsKept r → r.fault ≡ None → AreBytes piece → (o ≡ Some Memory → ⊥)
-      → Fed (conversation_of r.conversation) r.incoming.codec.limit (holds r.progress (partial_of r.incoming) None) piece (holds new.progress (partial_of new.incoming) o)
+      → Fed (conversation_of r.conversation) r.packets.limit (holds r.progress r.packets.bytes None) piece (holds new.progress new.packets.bytes o)
       → GoesOn v.conversation v.limit (held_by v) piece (held_by (received_of new))
   fed_feed wire kept none are no_memory fed =
       by_views (λ c limit old after. GoesOn c limit old piece after) none
-      (goes_on wire (conversation_of r.conversation) r.incoming.codec.limit (holds r.progress (partial_of r.incoming) None) (holds new.progress (partial_of new.incoming) o) piece
-      (bytes_append (partial_of r.incoming) piece (kept.stays none).stays.bytes are) refl fed no_memory)
+      (goes_on wire (conversation_of r.conversation) r.packets.limit (holds r.progress r.packets.bytes None) (holds new.progress new.packets.bytes o) piece
+      (bytes_append r.packets.bytes piece (kept.stays none).bytes are) refl fed no_memory)
 
   pub fed_short : r.fault ≡ None → o ≡ Some Memory
-      → Fed (conversation_of r.conversation) r.incoming.codec.limit (holds r.progress (partial_of r.incoming) None) piece (holds new.progress (partial_of new.incoming) o)
+      → Fed (conversation_of r.conversation) r.packets.limit (holds r.progress r.packets.bytes None) piece (holds new.progress new.packets.bytes o)
       → RunsShort v.conversation v.limit (held_by v) piece (held_by (received_of new))
   fed_short none memory fed =
-      by_views (λ c limit old after. RunsShort c limit old piece after) none (short_by (conversation_of r.conversation) r.incoming.codec.limit _ piece _ memory fed)
+      by_views (λ c limit old after. RunsShort c limit old piece after) none (short_by (conversation_of r.conversation) r.packets.limit _ piece _ memory fed)
 
 -- a piece without a fault
 takes_by : (c : Conversation) (limit : ℕ) (old : Held) (piece : List ℕ) (new : Held) → new.fault ≡ None → Fed c limit old piece new → TakesAll c limit old piece new
@@ -172,10 +159,10 @@ takes_by c limit old piece new none fed = by fed.stands
     }
 
 pub fed_takes : (r new : Inside) (v : Received) (piece : List ℕ) → received_of r ≡ v → new.fault ≡ None → r.fault ≡ None
-    → Fed (conversation_of r.conversation) r.incoming.codec.limit (holds r.progress (partial_of r.incoming) None) piece (holds new.progress (partial_of new.incoming) None)
+    → Fed (conversation_of r.conversation) r.packets.limit (holds r.progress r.packets.bytes None) piece (holds new.progress new.packets.bytes None)
     → TakesAll v.conversation v.limit (held_by v) piece (held_by (received_of new))
 fed_takes r new v piece view is none fed =
-    by_views r new v piece None view is (λ c limit old after. TakesAll c limit old piece after) none (takes_by (conversation_of r.conversation) r.incoming.codec.limit _ piece _ refl fed)
+    by_views r new v piece None view is (λ c limit old after. TakesAll c limit old piece after) none (takes_by (conversation_of r.conversation) r.packets.limit _ piece _ refl fed)
 
 -- ---- the end
 
@@ -186,6 +173,10 @@ begun_none false e = refl
 begun_some : (b : Bool) → false ≡ not b → b ≡ true
 begun_some true e = refl
 begun_some false e = absurd cc
+
+told_begun : (b begun : Bool) → begun ≡ not b → b ≡ not begun
+told_begun true begun e = ap not (sym e)
+told_begun false begun e = ap not (sym e)
 
 ends_now : ReaderLaws → (c : Conversation) (s : Standing) (n limit : ℕ) (rest : Rest) (begun : Bool) (bytes : List ℕ) → ¬ IsFault rest → IsRest limit 0 bytes rest → (length bytes == 0) ≡ not begun
     → (if is_waiting c s then ends.WaitingPieces else if begun then ends.UnfinishedPacket else ends.Whole) ≡ end_by_rest c s n rest
@@ -200,19 +191,19 @@ ends_now wire c s n limit OpenRest begun bytes none r b =
 ends_now wire c s n limit TooLargeRest begun bytes none r b = absurd (none tt)
 ends_now wire c s n limit OutOfSyncRest begun bytes none r b = absurd (none tt)
 
-decides_now : ReaderLaws → (c : Conversation) (r : Inside) → IsKept r → (ending : End) → ending ≡ end_by c (holds r.progress [] r.fault) r.incoming.begun r.fault → (o : Option StreamFault) → r.fault ≡ o
-    → DecidesBy c r.incoming.codec.limit (holds r.progress (partial_of r.incoming) r.fault) o [] (record { sets = sets_of r.progress.sets.items; ending = ending })
-decides_now wire c r kept ending is (Some f) e = (refl, is ∙ ap (λ (o : Option StreamFault). end_by c (holds r.progress [] r.fault) r.incoming.begun o) e)
-decides_now wire c r kept ending is None e =
+decides_now : ReaderLaws → (c : Conversation) (r : Inside) → IsKept r → (begun : Bool) → begun ≡ not (length r.packets.bytes == 0) → (ending : End) → ending ≡ end_by c (holds r.progress [] r.fault) begun r.fault → (o : Option StreamFault) → r.fault ≡ o
+    → DecidesBy c r.packets.limit (holds r.progress r.packets.bytes r.fault) o [] (record { sets = sets_of r.progress.sets.items; ending = ending })
+decides_now wire c r kept begun b ending is (Some f) e = (refl, is ∙ ap (λ (o : Option StreamFault). end_by c (holds r.progress [] r.fault) begun o) e)
+decides_now wire c r kept begun b ending is None e =
     let k = kept.stays e in
     let s : Standing = standing_of r.progress.standing in
     let n : ℕ = r.progress.count in
-    let split : Split = record { payloads = []; rest_bytes = partial_of r.incoming; rest = k.stays.rest } in
-    let is_split : IsSplit r.incoming.codec.limit EachFromZero (partial_of r.incoming ++ []) split = record { joined = append-nil (partial_of r.incoming); within = tt; ends = k.stays.is_rest } in
-    let last : ending ≡ end_by_rest c (standing_after c s []) (n + 0) k.stays.rest =
-    is ∙ ap (λ (o : Option StreamFault). end_by c (holds r.progress [] r.fault) r.incoming.begun o) e
-    ∙ ends_now wire c s (n + 0) r.incoming.codec.limit k.stays.rest r.incoming.begun (partial_of r.incoming) k.stays.no_fault k.stays.is_rest k.begun
-    ∙ ap (λ (x : Standing). end_by_rest c x (n + 0) k.stays.rest) (sym (standing_after_nil c s)) in (
+    let split : Split = record { payloads = []; rest_bytes = r.packets.bytes; rest = k.rest } in
+    let is_split : IsSplit r.packets.limit EachFromZero (r.packets.bytes ++ []) split = record { joined = append-nil r.packets.bytes; within = tt; ends = k.is_rest } in
+    let last : ending ≡ end_by_rest c (standing_after c s []) (n + 0) k.rest =
+    is ∙ ap (λ (o : Option StreamFault). end_by c (holds r.progress [] r.fault) begun o) e
+    ∙ ends_now wire c s (n + 0) r.packets.limit k.rest begun r.packets.bytes k.no_fault k.is_rest (told_begun (length r.packets.bytes == 0) begun b)
+    ∙ ap (λ (x : Standing). end_by_rest c x (n + 0) k.rest) (sym (standing_after_nil c s)) in (
       split,
       [],
       is_split,
@@ -220,13 +211,13 @@ decides_now wire c r kept ending is None e =
       record { reads = []; each = record { there = omega arith; each = λ i lt. absurd (omega arith) }; sets = refl; ending = inr (refl, last) },
     )
 
-pub finished : ReaderLaws → (r : Inside) (v : Received) (ending : End) → received_of r ≡ v → IsKept r → ending ≡ end_by (conversation_of r.conversation) (holds r.progress [] r.fault) r.incoming.begun r.fault
+pub finished : ReaderLaws → (r : Inside) (v : Received) (begun : Bool) (ending : End) → received_of r ≡ v → IsKept r → begun ≡ not (length r.packets.bytes == 0) → ending ≡ end_by (conversation_of r.conversation) (holds r.progress [] r.fault) begun r.fault
     → Decides v.conversation v.limit (held_by v) [] (record { sets = sets_of r.progress.sets.items; ending = ending })
-finished wire r v ending view kept is =
+finished wire r v begun ending view kept b is =
     let c = conversation_of r.conversation in
     let a : Audit = record { sets = sets_of r.progress.sets.items; ending = ending } in
     subst (λ (x : Received). Decides x.conversation x.limit (held_by x) [] a) view
-    (subst (λ (h : Held). Decides c r.incoming.codec.limit h [] a) (sym (held_is r)) (decides_now wire c r kept ending is r.fault refl))
+    (subst (λ (h : Held). Decides c r.packets.limit h [] a) (sym (held_is r)) (decides_now wire c r kept begun b ending is r.fault refl))
 
 -- ---- all pieces
 

@@ -2,12 +2,7 @@
 -- MySQL: Client/Server Protocol, "Protocol::FixedLengthInteger".
 use Rattle.std.specs.Prelude.{ℕ, Bool, true, false, List, Result, Ok, Err}
 use Rattle.std.specs.Option.{ok_or}
-use Rattle.mysql_wire.specs.Reading.{le_at, slice_at}
-
-infixl 10 ◌>>=◌
-abbrev pub ◌>>=◌ : {A B F : Type 0} → Result A F → (A → Result B F) → Result B F
-(Ok x) >>= f = f x
-(Err e) >>= f = Err e
+use Rattle.mysql_wire.specs.Reading as buffer
 
 -- goes on where the test holds, and is that fault where it doesn't
 abbrev pub must : {F : Type 0} → F → Bool → Result ℕ F
@@ -16,8 +11,8 @@ must f false = Err f
 
 -- the first n bytes and the rest, or the fault where fewer are there
 abbrev pub bytes_at : {F : Type 0} → F → ℕ → List ℕ → Result (List ℕ × List ℕ) F
-bytes_at f n bytes = ok_or (slice_at n bytes) f
+bytes_at f n bytes = ok_or (buffer.bytes_at n bytes) f
 
 -- the number in the first n bytes, the lowest first, and the rest
-abbrev pub number_at : {F : Type 0} → F → ℕ → List ℕ → Result (ℕ × List ℕ) F
-number_at f n bytes = ok_or (le_at n bytes) f
+abbrev pub little_at : {F : Type 0} → F → ℕ → List ℕ → Result (ℕ × List ℕ) F
+little_at f n bytes = ok_or (buffer.little_at n bytes) f

@@ -6,7 +6,7 @@ use Rattle.std.specs.Option.{option_map}
 use Rattle.mysql_commands.specs.declared.receiver.Receiver.TheInside.{Inside}
 use Rattle.mysql_commands.specs.Query.{IsQuery}
 use Rattle.mysql_commands.specs.Views.{conversation_of, types_kept, sets_of}
-use Rattle.mysql_commands.specs.Receiving.{partial_of, IsOpen}
+use Rattle.mysql_commands.specs.Receiving.{IsOpen}
 use Rattle.mysql_commands.specs.Received.{Received}
 
 abbrev pub pieces_of : List (Option (Vec ℕ)) → List (Option (List ℕ))
@@ -16,12 +16,12 @@ abbrev pub received_of : Inside → Received
 received_of r =
     record {
       conversation = conversation_of r.conversation;
-      limit = r.incoming.codec.limit;
+      limit = r.packets.limit;
       count = r.progress.count;
       prepared = r.progress.standing.prepared;
       types = types_kept r.progress.standing.types;
       pieces = pieces_of r.progress.standing.pieces.items;
-      partial = partial_of r.incoming;
+      partial = r.packets.bytes;
       sets = sets_of r.progress.sets.items;
       fault = r.fault;
     }
@@ -29,4 +29,4 @@ received_of r =
 -- the conversation is about its query; where no fault is held, bytes to come can make what is held of a packet whole
 pub record IsKept (r : Inside) : Type 0 where
   pub query : IsQuery (conversation_of r.conversation).query
-  pub stays : r.fault ≡ None → IsOpen r.incoming
+  pub stays : r.fault ≡ None → IsOpen r.packets

@@ -1,11 +1,16 @@
 -- How commands lie in payloads: what each one says by its own bytes, whatever came before.
 -- MySQL: Client/Server Protocol, "COM_QUERY", "COM_STMT_PREPARE", "COM_STMT_SEND_LONG_DATA", "COM_STMT_EXECUTE"; MariaDB: "COM_STMT_BULK_EXECUTE".
-use Rattle.std.specs.Prelude.{ℕ, zero, suc, ◌+◌, ◌/◌, Bool, List, [], ◌∷◌, Option, Some, None, Result, Ok, nat_lt, nat_le, ◌==◌, ◌||◌, if◌then◌else◌}
+-- A reading takes bytes from the front: x.0 is what was read and x.1 the bytes left; the first refusal counts.
+use Rattle.std.specs.Prelude.{ℕ, zero, suc, ◌+◌, ◌/◌, Bool, List, [], ◌∷◌, Option, Some, None, Result, Ok, is_some, nat_lt, nat_le, ◌==◌, ◌||◌, if◌then◌else◌}
 use Rattle.mysql_commands.specs.declared.fault.StreamFault.{StreamFault}
 use Rattle.mysql_commands.specs.declared.fault.StreamFault.TheVariants.{WrongId, BadExecute, BadType, BadPlace, BadBulk}
 use Rattle.mysql_commands.specs.declared.param_type.ParamType.{ParamType}
-use Rattle.mysql_commands.specs.Fields.{◌>>=◌, must, bytes_at, number_at}
-use Rattle.mysql_values.specs.Cells.{is_one_of}
+use Rattle.mysql_const.specs.ColumnTypes.{column_type_named}
+use Rattle.mysql_const.specs.Commands.{command_named}
+use Rattle.mysql_const.specs.declared.command.Command.{Command as Name}
+use Rattle.mysql_const.specs.declared.command.Command.TheVariants.{COM_QUERY, COM_STMT_PREPARE, COM_STMT_SEND_LONG_DATA, COM_STMT_EXECUTE, COM_STMT_BULK_EXECUTE}
+use Rattle.mysql_commands.specs.Fields.{must, bytes_at, little_at}
+use Rattle.mysql_wire.specs.Wire.{◌>>=◌}
 use Rattle.mysql_commands.specs.Query.{Query, place_count}
 
 -- a conversation: its query, and the id that its statement was given
@@ -21,19 +26,22 @@ pub data Command : Type 0 where
   Bulk : Command
   Other : Command
 
+-- by its name in the protocol
+abbrev pub command_by : Option Name → Command
+command_by (Some COM_QUERY) = Text
+command_by (Some COM_STMT_PREPARE) = Prepare
+command_by (Some COM_STMT_SEND_LONG_DATA) = LongData
+command_by (Some COM_STMT_EXECUTE) = Execute
+command_by (Some COM_STMT_BULK_EXECUTE) = Bulk
+command_by _ = Other
+
 -- by the first byte of a payload
 abbrev pub command_of : ℕ → Command
-command_of b =
-    if b == 3 then Text
-    else if b == 22 then Prepare
-    else if b == 24 then LongData
-    else if b == 23 then Execute
-    else if b == 250 then Bulk
-    else Other
+command_of b = command_by (command_named b)
 
--- the numbers that are names of types
+-- whether a number is that of a type
 abbrev pub is_type : ℕ → Bool
-is_type t = nat_le t 20 || is_one_of (242 ∷ 243 ∷ 245 ∷ 246 ∷ 247 ∷ 248 ∷ 249 ∷ 250 ∷ 251 ∷ 252 ∷ 253 ∷ 254 ∷ 255 ∷ []) t
+is_type t = is_some (column_type_named t)
 
 -- types as they are sent
 abbrev pub Types : Type 0
@@ -42,16 +50,16 @@ Types = List ParamType
 -- the conversation's id in four bytes
 abbrev pub id_at : Conversation → List ℕ → Result (List ℕ) StreamFault
 id_at c bytes = do
-  id ← number_at WrongId 4 bytes
+  id ← little_at WrongId 4 bytes
   same ← must WrongId (id.0 == c.id)
   Ok id.1
 
 -- a pair of a type and a flag
 abbrev pub type_at : StreamFault → List ℕ → Result (ParamType × List ℕ) StreamFault
 type_at short bytes = do
-  t ← number_at short 1 bytes
+  t ← little_at short 1 bytes
   named ← must BadType (is_type t.0)
-  flags ← number_at short 1 t.1
+  flags ← little_at short 1 t.1
   known ← must BadType (flags.0 == 0 || flags.0 == 128)
   Ok (record { number = t.0; unsigned = flags.0 == 128 }, flags.1)
 
@@ -72,7 +80,7 @@ pub record Piece : Type 0 where
 abbrev pub piece_at : Conversation → List ℕ → Result Piece StreamFault
 piece_at c body = do
   rest ← id_at c body
-  place ← number_at BadPlace 2 rest
+  place ← little_at BadPlace 2 rest
   there ← must BadPlace (nat_lt place.0 (place_count c.query))
   Ok (record { place = place.0; bytes = place.1 })
 
@@ -86,7 +94,7 @@ pub record ExecuteHead : Type 0 where
 unfoldable pub binding_at : ℕ → List ℕ → Result ExecuteHead StreamFault
 binding_at n bytes = do
   nulls ← bytes_at BadExecute ((n + 7) / 8) bytes
-  bound ← number_at BadExecute 1 nulls.1
+  bound ← little_at BadExecute 1 nulls.1
   known ← must BadExecute (nat_le bound.0 1)
   if bound.0 == 0 then Ok (record { nulls = nulls.0; own = None; cells = bound.1 })
       else do
@@ -97,9 +105,9 @@ binding_at n bytes = do
 unfoldable pub execute_head : Conversation → List ℕ → Result ExecuteHead StreamFault
 execute_head c body = do
   rest ← id_at c body
-  cursor ← number_at BadExecute 1 rest
+  cursor ← little_at BadExecute 1 rest
   none ← must BadExecute (cursor.0 == 0)
-  count ← number_at BadExecute 4 cursor.1
+  count ← little_at BadExecute 4 cursor.1
   one ← must BadExecute (count.0 == 1)
   if place_count c.query == 0 then Ok (record { nulls = []; own = None; cells = count.1 })
       else binding_at (place_count c.query) count.1
@@ -113,7 +121,7 @@ pub record BulkHead : Type 0 where
 unfoldable pub bulk_head : Conversation → List ℕ → Result BulkHead StreamFault
 bulk_head c body = do
   rest ← id_at c body
-  flags ← number_at BadBulk 2 rest
+  flags ← little_at BadBulk 2 rest
   known ← must BadBulk (flags.0 == 0 || flags.0 == 64 || flags.0 == 128 || flags.0 == 192)
   if nat_lt flags.0 128 then Ok (record { own = None; rows = flags.1 })
       else do

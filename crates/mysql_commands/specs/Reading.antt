@@ -1,5 +1,6 @@
 -- What one payload reads as by what is in force there, or its first fault from the left.
 -- MySQL: Client/Server Protocol, "COM_QUERY", "COM_STMT_PREPARE", "COM_STMT_SEND_LONG_DATA", "COM_STMT_EXECUTE", "Null-Bitmap"; MariaDB: "COM_STMT_BULK_EXECUTE".
+-- A reading takes bytes from the front: x.0 is what was read and x.1 the bytes left; the first refusal counts.
 use Rattle.std.specs.Prelude.{◌≡◌, ◌≢◌, ℕ, zero, suc, ◌+◌, ◌/◌, ◌%◌, ◌<◌, ◌≤◌, ◌^◌, ◌⊎◌, Bool, true, false, List, [], ◌∷◌, length, Option, Some, None, Result, Ok, Err, nat_lt, nat_le, ◌==◌, not, if◌then◌else◌, slice_index, IsTrue, IsFalse, ◌-◌}
 use Rattle.std.specs.Option.{ok_or, option_or}
 use Rattle.mysql_commands.specs.declared.fault.StreamFault.{StreamFault}
@@ -8,11 +9,12 @@ use Rattle.mysql_values.specs.Content.{Content}
 use Rattle.mysql_values.specs.Content.TheVariants as content
 use Rattle.mysql_values.specs.Values.{content_of}
 use Rattle.mysql_values.specs.Queries.{Slices}
-use Rattle.mysql_values.specs.Cells.{is_one_of, cell_at}
+use Rattle.mysql_values.specs.Cells.{is_float, cell_at}
 use Rattle.mysql_wire.specs.WireError.{WireError}
 use Rattle.mysql_wire.specs.WireError.TheVariants.{UnsupportedType}
 use Rattle.mysql_commands.specs.declared.param_type.ParamType.{ParamType}
-use Rattle.mysql_commands.specs.Fields.{◌>>=◌, must, number_at}
+use Rattle.mysql_commands.specs.Fields.{must, little_at}
+use Rattle.mysql_wire.specs.Wire.{◌>>=◌}
 use Rattle.mysql_commands.specs.Query.{place_count, all_alone}
 use Rattle.mysql_commands.specs.Layout.{Conversation, Command, command_of, Types, Piece, piece_at, execute_head, bulk_head}
 use Rattle.mysql_commands.specs.Layout as layout
@@ -34,7 +36,7 @@ or_fault short (Err e) = Err (cell_fault short e)
 -- the content of a cell. A float is refused whatever bytes follow
 unfoldable pub content_at : StreamFault → ParamType → List ℕ → Result (Content × List ℕ) StreamFault
 content_at short t bytes = do
-  exact ← must Float (not (is_one_of (4 ∷ 5 ∷ []) t.number))
+  exact ← must Float (not (is_float t.number))
   v ← or_fault short (cell_at t.number t.unsigned bytes)
   held ← ok_or (content_of v.0) Float
   Ok (held, v.1)
@@ -76,7 +78,7 @@ execute_at c s body = do
 -- a column of a row: an indicator, 0 and a cell or 1 for nothing
 abbrev pub column_at : ParamType → List ℕ → Result (Content × List ℕ) StreamFault
 column_at t bytes = do
-  indicator ← number_at BadBulk 1 bytes
+  indicator ← little_at BadBulk 1 bytes
   known ← must Indicator (nat_le indicator.0 1)
   if indicator.0 == 1 then Ok (content.Null, indicator.1) else content_at BadBulk t indicator.1
 

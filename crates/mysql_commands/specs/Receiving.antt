@@ -1,8 +1,8 @@
 -- What a receiver's parts stand for.
 -- MySQL: Client/Server Protocol, "MySQL Packets" and "Command Phase".
-use Rattle.std.specs.Prelude.{◌≡◌, ℕ, Bool, List, [], Option, Some, None, Result, Ok, Err, ◌==◌, if◌then◌else◌, length, not}
+use Rattle.std.specs.Prelude.{◌≡◌, ℕ, Bool, List, [], Option, Some, None, Result, Ok, Err, if◌then◌else◌}
 use Rattle.mysql_wire.specs.Bytes.{AreBytes}
-use Rattle.mysql_wire.specs.Codec.{Codec, held}
+use Rattle.mysql_wire.specs.Incoming.{Incoming, codec_by}
 use Rattle.mysql_wire.specs.Reader.{HasRead}
 use Rattle.mysql_wire.specs.Stream.{Rest, IsRest, IsFault}
 use Rattle.mysql_wire.specs.Stream.Numbering.{EachFromZero}
@@ -13,7 +13,6 @@ use Rattle.mysql_commands.specs.declared.fault.StreamFault.TheVariants.{TooLarge
 use Rattle.mysql_commands.specs.declared.refusal.Refusal.{Refusal}
 use Rattle.mysql_commands.specs.declared.refusal.Refusal.TheVariants as refusal
 use Rattle.mysql_commands.specs.declared.progress.Progress.{Progress}
-use Rattle.mysql_commands.specs.declared.incoming.Incoming.{Incoming}
 use Rattle.mysql_commands.specs.declared.audit.End.{End}
 use Rattle.mysql_commands.specs.declared.audit.End.TheVariants as ends
 use Rattle.mysql_commands.specs.declared.audit.Audit.{Audit as HeldAudit}
@@ -23,21 +22,14 @@ use Rattle.mysql_commands.specs.Layout.{Conversation}
 use Rattle.mysql_commands.specs.GoingOn.{Held}
 use Rattle.mysql_commands.specs.Views.{standing_of, sets_of}
 
--- the bytes that are held of a packet that isn't whole
-abbrev pub partial_of : Incoming → List ℕ
-partial_of incoming = held incoming.codec incoming.header incoming.packet.items
-
--- what is held begins a packet of a command stream, if it is anything, and bytes to come can still make that whole
-pub record StaysOpen (codec : Codec) (src packet : List ℕ) : Type 0 where
-  pub reading : HasRead codec.limit EachFromZero (held codec src packet) [] codec src packet
-  pub bytes : AreBytes (held codec src packet)
+-- what came of a packet begins one of a command stream, if it is anything, and bytes to come can still make that whole
+pub record IsOpen (r : Incoming) : Type 0 where
+  pub reading : HasRead r.limit EachFromZero r.bytes [] (codec_by r) r.bytes []
+  pub number : r.number ≡ 0
+  pub bytes : AreBytes r.bytes
   pub rest : Rest
   pub no_fault : ¬ IsFault rest
-  pub is_rest : IsRest codec.limit 0 (held codec src packet) rest
-
-pub record IsOpen (incoming : Incoming) : Type 0 where
-  pub stays : StaysOpen incoming.codec incoming.header incoming.packet.items
-  pub begun : (length (partial_of incoming) == 0) ≡ not incoming.begun
+  pub is_rest : IsRest r.limit 0 r.bytes rest
 
 -- the refusal that a codec's error is
 abbrev pub refusal_by : PacketCodecError → Refusal

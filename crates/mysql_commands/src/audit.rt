@@ -1,5 +1,6 @@
 use crate::fault::StreamFault;
 use mysql_values::Content;
+use std::fmt;
 
 /// How a stream of commands ends.
 #[derive(Clone, Copy, Debug, PartialEq, Eq)]
@@ -12,6 +13,17 @@ pub enum End {
     UnfinishedPacket,
     /// The bytes are whole packets.
     Whole,
+}
+
+impl fmt::Display for End {
+    fn fmt<W: fmt::Write>(&self, f: &mut fmt::Formatter<W>) -> fmt::Result {
+        match self {
+            End::Fault(payload, fault) => write!(f, "payload {payload}: {fault}"),
+            End::WaitingPieces => f.write_str("long data waits for an execution"),
+            End::UnfinishedPacket => f.write_str("the last packet is not whole"),
+            End::Whole => f.write_str("whole"),
+        }
+    }
 }
 
 /// What a stream of commands says: the parameter sets of all payloads before the end, place by place, and the end.

@@ -1,17 +1,24 @@
 //! Cells of the binary protocol, and what they mean.
 
 ghost use Rattle.std.specs.Prelude.{◌≡◌};
-ghost use Rattle.mysql_values.specs.Cells.{cell_at};
+ghost use Rattle.mysql_values.specs.Cells.{cell_at, is_float as is_float_type};
 ghost use Rattle.mysql_commands.specs.Reading.{content_at, or_fault};
 ghost use Rattle.mysql_commands.specs.Views.{Gives};
 
 use crate::fault::StreamFault;
-use crate::fields::must;
 use crate::param_type::ParamType;
 use crate::refusal::Refusal;
+use mysql_const::ColumnType;
 use mysql_values::{Content, Value, read_cell};
 use mysql_wire::{ParseBuf, WireError};
 use std::alloc::Global;
+
+/// Whether the number is the type of a float.
+fn is_float(number: u8) -> bool
+    ensures { result ≡ is_float_type number }
+{
+    number == ColumnType::MYSQL_TYPE_FLOAT as u8 || number == ColumnType::MYSQL_TYPE_DOUBLE as u8
+}
 
 /// The value of the cell that stands first. Where bytes are missing it is the fault `short`.
 fn cell_value(
@@ -41,7 +48,9 @@ pub fn cell_content(
 ) -> Result<(Content, &[u8]), Refusal>
     ensures { Gives (λ x. (x.0, x.1.now)) result (content_at short kind bytes.now) }
 {
-    must(StreamFault::Float, !matches!(kind.number, 4 | 5))?;
+    if is_float(kind.number) {
+        return Err(Refusal::Fault(StreamFault::Float));
+    }
     let (value, rest) = cell_value(alloc, short, kind, bytes)?;
     match value.into_content(alloc)? {
         Some(content) => Ok((content, rest)),

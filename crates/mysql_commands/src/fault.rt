@@ -1,3 +1,8 @@
+//! Why a stream of commands is refused.
+
+use std::error::Error;
+use std::fmt;
+
 /// Why a stream of commands is refused: the first field, from the left, that has no allowed value.
 ///
 /// Follows the MySQL Client/Server Protocol, "Command Phase", and MariaDB's "COM_STMT_BULK_EXECUTE".
@@ -44,3 +49,39 @@ pub enum StreamFault {
     /// A growth of memory was refused.
     Memory,
 }
+
+impl StreamFault {
+    // What is printed.
+    fn text(self) -> &'static str {
+        match self {
+            StreamFault::TooLarge => "the packet is larger than max_allowed_packet",
+            StreamFault::OutOfSync => "a chunk has another number than the one that is due",
+            StreamFault::EmptyCommand => "the payload is empty",
+            StreamFault::OtherCommand => "the command is none that is read here",
+            StreamFault::TextMismatch => "the text is not the query with literals in place",
+            StreamFault::NotAlone => "some placeholder of the query does not stand alone",
+            StreamFault::PrepareMismatch => "the prepare is not that of the query",
+            StreamFault::TooManyPlaces => "the query has more than 65535 placeholders",
+            StreamFault::NotPrepared => "the statement is not prepared",
+            StreamFault::WrongId => "the id is another statement's",
+            StreamFault::BadExecute => "the execution is malformed",
+            StreamFault::NoTypes => "there are no types for the values",
+            StreamFault::BadType => "a type is not one of a parameter",
+            StreamFault::Float => "a value is a float",
+            StreamFault::BadPlace => "the long data is for no placeholder",
+            StreamFault::BadBulk => "the bulk execution is malformed",
+            StreamFault::Indicator => "an indicator is neither none nor NULL",
+            StreamFault::NoRows => "the bulk execution has no row",
+            StreamFault::PiecesBeforeBulk => "long data waits before a bulk execution",
+            StreamFault::Memory => "out of memory",
+        }
+    }
+}
+
+impl fmt::Display for StreamFault {
+    fn fmt<W: fmt::Write>(&self, f: &mut fmt::Formatter<W>) -> fmt::Result {
+        f.write_str(self.text())
+    }
+}
+
+impl Error for StreamFault {}

@@ -1,24 +1,14 @@
 //! Fields of a payload, read from the left.
 
-ghost use Rattle.std.specs.Prelude.{◌≡◌, if◌then◌else◌};
-ghost use Rattle.mysql_commands.specs.Fields.{must as must_hold, number_at, bytes_at};
+ghost use Rattle.std.specs.Prelude.{◌≡◌};
+ghost use Rattle.mysql_commands.specs.Fields.{little_at, bytes_at};
 ghost use Rattle.mysql_commands.specs.Layout.{is_type};
 ghost use Rattle.mysql_commands.specs.Views.{Gives};
 
 use crate::fault::StreamFault;
 use crate::refusal::Refusal;
+use mysql_const::ColumnType;
 use mysql_wire::ParseBuf;
-
-/// Goes on where the test holds.
-pub fn must(fault: StreamFault, test: bool) -> Result<(), Refusal>
-    ensures { Gives (λ _. 0) result (must_hold fault test) }
-{
-    if test {
-        Ok(())
-    } else {
-        Err(Refusal::Fault(fault))
-    }
-}
 
 /// The first bytes, and the rest.
 pub fn front(fault: StreamFault, n: usize, bytes: &[u8]) -> Result<(&[u8], &[u8]), Refusal>
@@ -33,7 +23,7 @@ pub fn front(fault: StreamFault, n: usize, bytes: &[u8]) -> Result<(&[u8], &[u8]
 
 /// The number in the first byte, and the rest.
 pub fn number1(fault: StreamFault, bytes: &[u8]) -> Result<(u8, &[u8]), Refusal>
-    ensures { Gives (λ x. (x.0, x.1.now)) result (number_at fault 1 bytes.now) }
+    ensures { Gives (λ x. (x.0, x.1.now)) result (little_at fault 1 bytes.now) }
 {
     let mut buf = ParseBuf(bytes);
     match buf.checked_eat_u8() {
@@ -44,7 +34,7 @@ pub fn number1(fault: StreamFault, bytes: &[u8]) -> Result<(u8, &[u8]), Refusal>
 
 /// The number in the first two bytes, and the rest.
 pub fn number2(fault: StreamFault, bytes: &[u8]) -> Result<(u16, &[u8]), Refusal>
-    ensures { Gives (λ x. (x.0, x.1.now)) result (number_at fault 2 bytes.now) }
+    ensures { Gives (λ x. (x.0, x.1.now)) result (little_at fault 2 bytes.now) }
 {
     let mut buf = ParseBuf(bytes);
     match buf.checked_eat_u16_le() {
@@ -55,7 +45,7 @@ pub fn number2(fault: StreamFault, bytes: &[u8]) -> Result<(u16, &[u8]), Refusal
 
 /// The number in the first four bytes, and the rest.
 pub fn number4(fault: StreamFault, bytes: &[u8]) -> Result<(u32, &[u8]), Refusal>
-    ensures { Gives (λ x. (x.0, x.1.now)) result (number_at fault 4 bytes.now) }
+    ensures { Gives (λ x. (x.0, x.1.now)) result (little_at fault 4 bytes.now) }
 {
     let mut buf = ParseBuf(bytes);
     match buf.checked_eat_u32_le() {
@@ -64,9 +54,9 @@ pub fn number4(fault: StreamFault, bytes: &[u8]) -> Result<(u32, &[u8]), Refusal
     }
 }
 
-/// Whether the number is the name of a type.
+/// Whether the number is that of a type.
 pub fn is_type_number(number: u8) -> bool
     ensures { result ≡ is_type number }
 {
-    matches!(number, 0..=20 | 242 | 243 | 245..=255)
+    ColumnType::try_from(number).is_ok()
 }

@@ -7,7 +7,7 @@ ghost use Rattle.mysql_commands.specs.Query.{place_count};
 ghost use Rattle.mysql_commands.specs.Views.{Gives, conversation_of, execute_head_of, bulk_head_of, piece_of};
 
 use crate::fault::StreamFault;
-use crate::fields::{front, is_type_number, must, number1, number2, number4};
+use crate::fields::{front, is_type_number, number1, number2, number4};
 use crate::param_type::ParamType;
 use crate::refusal::Refusal;
 use crate::statement::Conversation;
@@ -40,16 +40,16 @@ pub fn type_pair(short: StreamFault, bytes: &[u8]) -> Result<(ParamType, &[u8]),
     ensures { Gives (λ x. (x.0, x.1.now)) result (type_at short bytes.now) }
 {
     let (number, rest) = number1(short, bytes)?;
-    must(StreamFault::BadType, is_type_number(number))?;
+    if !is_type_number(number) {
+        return Err(Refusal::Fault(StreamFault::BadType));
+    }
     let (flags, rest) = number1(short, rest)?;
-    must(StreamFault::BadType, flags == 0 || flags == 128)?;
-    Ok((
-        ParamType {
-            number,
-            unsigned: flags == 128,
-        },
-        rest,
-    ))
+    let unsigned = flags == 128;
+    if unsigned || flags == 0 {
+        Ok((ParamType { number, unsigned }, rest))
+    } else {
+        Err(Refusal::Fault(StreamFault::BadType))
+    }
 }
 
 /// Pairs of a type and a flag.
@@ -76,8 +76,11 @@ pub fn id<'a>(conversation: &Conversation, bytes: &'a [u8]) -> Result<&'a [u8], 
     ensures { Gives (λ x. x.now) result (id_at (conversation_of conversation.now) bytes.now) }
 {
     let (id, rest) = number4(StreamFault::WrongId, bytes)?;
-    must(StreamFault::WrongId, id == conversation.id)?;
-    Ok(rest)
+    if id == conversation.id {
+        Ok(rest)
+    } else {
+        Err(Refusal::Fault(StreamFault::WrongId))
+    }
 }
 
 /// The body of a long data command.
@@ -86,11 +89,11 @@ pub fn long_data<'a>(conversation: &Conversation, body: &'a [u8]) -> Result<Piec
 {
     let rest = id(conversation, body)?;
     let (place, bytes) = number2(StreamFault::BadPlace, rest)?;
-    must(
-        StreamFault::BadPlace,
-        (place as usize) < conversation.places.len(),
-    )?;
-    Ok(Piece { place, bytes })
+    if (place as usize) < conversation.places.len() {
+        Ok(Piece { place, bytes })
+    } else {
+        Err(Refusal::Fault(StreamFault::BadPlace))
+    }
 }
 
 // How many bytes hold a bit for each place.
@@ -106,7 +109,9 @@ fn binding(alloc: Global, places: usize, bytes: &[u8]) -> Result<ExecuteHead<'_>
 {
     let (nulls, rest) = front(StreamFault::BadExecute, bitmap_len(places), bytes)?;
     let (bound, rest) = number1(StreamFault::BadExecute, rest)?;
-    must(StreamFault::BadExecute, bound <= 1)?;
+    if bound > 1 {
+        return Err(Refusal::Fault(StreamFault::BadExecute));
+    }
     if bound == 0 {
         return Ok(ExecuteHead {
             nulls,
@@ -133,9 +138,13 @@ pub fn execute_front<'a>(
 {
     let rest = id(conversation, body)?;
     let (cursor, rest) = number1(StreamFault::BadExecute, rest)?;
-    must(StreamFault::BadExecute, cursor == 0)?;
+    if cursor != 0 {
+        return Err(Refusal::Fault(StreamFault::BadExecute));
+    }
     let (count, rest) = number4(StreamFault::BadExecute, rest)?;
-    must(StreamFault::BadExecute, count == 1)?;
+    if count != 1 {
+        return Err(Refusal::Fault(StreamFault::BadExecute));
+    }
     let places = conversation.places.len();
     if places == 0 {
         return Ok(ExecuteHead {
@@ -158,10 +167,9 @@ pub fn bulk_front<'a>(
 {
     let rest = id(conversation, body)?;
     let (flags, rest) = number2(StreamFault::BadBulk, rest)?;
-    must(
-        StreamFault::BadBulk,
-        flags == 0 || flags == 64 || flags == 128 || flags == 192,
-    )?;
+    if !matches!(flags, 0 | 64 | 128 | 192) {
+        return Err(Refusal::Fault(StreamFault::BadBulk));
+    }
     if flags < 128 {
         return Ok(BulkHead {
             own: None,

@@ -9,7 +9,7 @@ ghost use Rattle.mysql_commands.specs.Views.{Gives, sets_of, types_kept, piece_k
 
 use crate::cells::cell_content;
 use crate::fault::StreamFault;
-use crate::fields::{must, number1};
+use crate::fields::number1;
 use crate::layout::{BulkHead, ExecuteHead, bulk_front, execute_front};
 use crate::param_type::ParamType;
 use crate::refusal::Refusal;
@@ -118,11 +118,11 @@ fn column<'a>(
     ensures { Gives (λ x. (x.0, x.1.now)) result (column_at (kind) bytes.now) }
 {
     let (indicator, rest) = number1(StreamFault::BadBulk, bytes)?;
-    must(StreamFault::Indicator, indicator <= 1)?;
-    if indicator == 1 {
-        return Ok((Content::Null, rest));
+    match indicator {
+        0 => cell_content(alloc, StreamFault::BadBulk, kind, rest),
+        1 => Ok((Content::Null, rest)),
+        _ => Err(Refusal::Fault(StreamFault::Indicator)),
     }
-    cell_content(alloc, StreamFault::BadBulk, kind, rest)
 }
 
 /// Rows to the end of the bytes.
@@ -156,7 +156,9 @@ pub fn execute(
     ensures set { Gives (λ x. x.0.items) result (execute_at (conversation_of conversation.now) (standing_of standing.now) body.now) }
     ensures own { IfOk result (λ x. types_kept x.1 ≡ execute_types (conversation_of conversation.now) body.now) }
 {
-    must(StreamFault::NotPrepared, standing.prepared)?;
+    if !standing.prepared {
+        return Err(Refusal::Fault(StreamFault::NotPrepared));
+    }
     let head = execute_front(alloc, conversation, body)?;
     let types = counting(conversation, standing, &head.own)?;
     let set = whole_set(alloc, standing, head.nulls, types, head.cells)?;
@@ -179,15 +181,20 @@ pub fn bulk(
     ensures sets { Gives (λ x. sets_of x.0.items) result (bulk_at (conversation_of conversation.now) (standing_of standing.now) body.now) }
     ensures own { IfOk result (λ x. types_kept x.1 ≡ bulk_types (conversation_of conversation.now) body.now) }
 {
-    must(StreamFault::NotPrepared, standing.prepared)?;
-    must(
-        StreamFault::PiecesBeforeBulk,
-        !waits(conversation, standing),
-    )?;
-    must(StreamFault::BadBulk, conversation.places.len() > 0)?;
+    if !standing.prepared {
+        return Err(Refusal::Fault(StreamFault::NotPrepared));
+    }
+    if waits(conversation, standing) {
+        return Err(Refusal::Fault(StreamFault::PiecesBeforeBulk));
+    }
+    if conversation.places.len() == 0 {
+        return Err(Refusal::Fault(StreamFault::BadBulk));
+    }
     let head = bulk_front(alloc, conversation, body)?;
     let types = counting(conversation, standing, &head.own)?;
-    must(StreamFault::NoRows, head.rows.len() > 0)?;
+    if head.rows.is_empty() {
+        return Err(Refusal::Fault(StreamFault::NoRows));
+    }
     let sets = rows(alloc, types, head.rows)?;
     let BulkHead { own, rows: _ } = head;
     Ok((sets, own))

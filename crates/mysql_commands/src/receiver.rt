@@ -13,15 +13,14 @@ ghost use Rattle.mysql_commands.specs.Views.{conversation_of};
 
 use crate::audit::{Audit, End};
 use crate::fault::StreamFault;
-use crate::incoming::Incoming;
+use crate::incoming::read_piece;
 use crate::progress::Progress;
 use crate::reading::waits;
 use crate::refusal::Refusal;
 use crate::statement::{Conversation, Standing};
-use bytes::BytesMut;
 use mysql_values::{NamedParamsError, ParsedNamedParams, places};
 use mysql_wire::laws::reader_laws;
-use mysql_wire::{PacketCodec, PartialHeader, WireError};
+use mysql_wire::{PacketReader, WireError};
 use std::alloc::{AllocError, Global};
 use std::marker::Model;
 use thiserror::Error;
@@ -90,7 +89,7 @@ fn conversation(alloc: Global, query: &[u8], stmt_id: u32) -> Result<Conversatio
 pub struct Receiver {
     alloc: Global,
     conversation: Conversation,
-    incoming: Incoming,
+    packets: PacketReader,
     progress: Progress,
     fault: Option<StreamFault>,
 }
@@ -172,12 +171,7 @@ impl Receiver {
         Receiver {
             alloc,
             conversation,
-            incoming: Incoming {
-                codec: PacketCodec::at(0, limit),
-                header: PartialHeader::new(),
-                packet: BytesMut::new(alloc),
-                begun: false,
-            },
+            packets: PacketReader::new(alloc, 0, limit),
             progress: Progress {
                 standing: Standing {
                     prepared: false,
@@ -215,10 +209,13 @@ impl Receiver {
         if let Some(fault) = self.fault {
             return Err(fault);
         }
-        match self
-            .incoming
-            .read_piece(self.alloc, &self.conversation, &mut self.progress, piece)
-        {
+        match read_piece(
+            &mut self.packets,
+            self.alloc,
+            &self.conversation,
+            &mut self.progress,
+            piece,
+        ) {
             Ok(()) => Ok(()),
             Err(refusal) => {
                 let fault = fault_of(refusal);
@@ -239,13 +236,13 @@ impl Receiver {
         let end = end_now(
             &self.conversation,
             &self.progress,
-            self.incoming.begun,
+            self.packets.is_begun(),
             self.fault,
         );
         let Receiver {
             alloc: _,
             conversation: _,
-            incoming: _,
+            packets: _,
             progress,
             fault: _,
         } = self;

@@ -8,12 +8,12 @@ ghost use Rattle.mysql_commands.specs.Reading.{prepared_piece};
 ghost use Rattle.mysql_commands.specs.Views.{Gives, piece_of, Judged, PayloadJudged, sets_of, types_kept, conversation_of, standing_of, piece_kept};
 
 use crate::fault::StreamFault;
-use crate::fields::must;
 use crate::layout::{Piece, long_data};
 use crate::param_type::ParamType;
 use crate::reading::{bulk, execute};
 use crate::refusal::Refusal;
 use crate::statement::{Conversation, Standing};
+use mysql_const::Command;
 use mysql_values::{Content, read_text};
 use std::alloc::{AllocError, Global};
 
@@ -201,7 +201,9 @@ fn expected_piece<'a>(
 ) -> Result<Piece<'a>, Refusal>
     ensures { Gives piece_of result (prepared_piece (conversation_of conversation.now) (standing_of standing.now) body.now) }
 {
-    must(StreamFault::NotPrepared, standing.prepared)?;
+    if !standing.prepared {
+        return Err(Refusal::Fault(StreamFault::NotPrepared));
+    }
     long_data(conversation, body)
 }
 
@@ -222,6 +224,17 @@ fn on_long_data(
     Ok(Vec::new(alloc))
 }
 
+/// The first bytes of the commands that are read.
+const COM_QUERY: u8 = Command::COM_QUERY as u8;
+
+const COM_STMT_PREPARE: u8 = Command::COM_STMT_PREPARE as u8;
+
+const COM_STMT_EXECUTE: u8 = Command::COM_STMT_EXECUTE as u8;
+
+const COM_STMT_SEND_LONG_DATA: u8 = Command::COM_STMT_SEND_LONG_DATA as u8;
+
+const COM_STMT_BULK_EXECUTE: u8 = Command::COM_STMT_BULK_EXECUTE as u8;
+
 /// Reads the body of a command.
 fn on_command(
     alloc: Global,
@@ -236,11 +249,11 @@ fn on_command(
     ensures err { OnErr result (standing_of standing.new ≡ standing_of standing.old) }
 {
     match command {
-        3 => text(alloc, conversation, body),
-        22 => on_prepare(alloc, conversation, standing, body),
-        23 => on_execute(alloc, conversation, standing, body),
-        24 => on_long_data(alloc, conversation, standing, body),
-        250 => on_bulk(alloc, conversation, standing, body),
+        COM_QUERY => text(alloc, conversation, body),
+        COM_STMT_PREPARE => on_prepare(alloc, conversation, standing, body),
+        COM_STMT_EXECUTE => on_execute(alloc, conversation, standing, body),
+        COM_STMT_SEND_LONG_DATA => on_long_data(alloc, conversation, standing, body),
+        COM_STMT_BULK_EXECUTE => on_bulk(alloc, conversation, standing, body),
         _ => Err(Refusal::Fault(StreamFault::OtherCommand)),
     }
 }

@@ -56,7 +56,7 @@ impl Default for BinlogDumpFlags {
 }
 
 /// Bits, of which some are no flag of [`BinlogDumpFlags`].
-#[derive(Clone, Copy, PartialEq, Eq, Hash, Debug)]
+#[derive(Clone, Copy, PartialEq, Eq, Debug)]
 pub struct UnknownBinlogDumpFlags(pub u16);
 
 impl Error for UnknownBinlogDumpFlags {}

@@ -24,7 +24,7 @@ pub enum MariadbBulkIndicator {
 }
 
 /// A number that no [`MariadbBulkIndicator`] has.
-#[derive(Clone, Copy, PartialEq, Eq, Hash, Debug)]
+#[derive(Clone, Copy, PartialEq, Eq, Debug)]
 pub struct UnknownMariadbBulkIndicator(pub u8);
 
 impl Error for UnknownMariadbBulkIndicator {}
@@ -106,7 +106,7 @@ impl Default for StmtBulkExecuteFlags {
 }
 
 /// Bits, of which some are no flag of [`StmtBulkExecuteFlags`].
-#[derive(Clone, Copy, PartialEq, Eq, Hash, Debug)]
+#[derive(Clone, Copy, PartialEq, Eq, Debug)]
 pub struct UnknownStmtBulkExecuteFlags(pub u16);
 
 impl Error for UnknownStmtBulkExecuteFlags {}

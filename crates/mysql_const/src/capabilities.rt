@@ -86,7 +86,7 @@ impl Default for CapabilityFlags {
 }
 
 /// Bits, of which some are no flag of [`CapabilityFlags`].
-#[derive(Clone, Copy, PartialEq, Eq, Hash, Debug)]
+#[derive(Clone, Copy, PartialEq, Eq, Debug)]
 pub struct UnknownCapabilityFlags(pub u32);
 
 impl Error for UnknownCapabilityFlags {}
@@ -169,7 +169,7 @@ impl Default for MariadbCapabilities {
 }
 
 /// Bits, of which some are no flag of [`MariadbCapabilities`].
-#[derive(Clone, Copy, PartialEq, Eq, Hash, Debug)]
+#[derive(Clone, Copy, PartialEq, Eq, Debug)]
 pub struct UnknownMariadbCapabilities(pub u32);
 
 impl Error for UnknownMariadbCapabilities {}

@@ -69,7 +69,7 @@ impl Default for ColumnFlags {
 }
 
 /// Bits, of which some are no flag of [`ColumnFlags`].
-#[derive(Clone, Copy, PartialEq, Eq, Hash, Debug)]
+#[derive(Clone, Copy, PartialEq, Eq, Debug)]
 pub struct UnknownColumnFlags(pub u16);
 
 impl Error for UnknownColumnFlags {}

@@ -53,7 +53,7 @@ pub enum ColumnType {
 }
 
 /// A number that no [`ColumnType`] has.
-#[derive(Clone, Copy, PartialEq, Eq, Hash, Debug)]
+#[derive(Clone, Copy, PartialEq, Eq, Debug)]
 pub struct UnknownColumnType(pub u8);
 
 impl Error for UnknownColumnType {}

@@ -53,7 +53,7 @@ pub enum Command {
 }
 
 /// A number that no [`Command`] has.
-#[derive(Clone, Copy, PartialEq, Eq, Hash, Debug)]
+#[derive(Clone, Copy, PartialEq, Eq, Debug)]
 pub struct UnknownCommand(pub u8);
 
 impl Error for UnknownCommand {}

@@ -58,7 +58,7 @@ impl Default for CursorType {
 }
 
 /// Bits, of which some are no flag of [`CursorType`].
-#[derive(Clone, Copy, PartialEq, Eq, Hash, Debug)]
+#[derive(Clone, Copy, PartialEq, Eq, Debug)]
 pub struct UnknownCursorType(pub u8);
 
 impl Error for UnknownCursorType {}
@@ -136,7 +136,7 @@ impl Default for StmtExecuteParamsFlags {
 }
 
 /// Bits, of which some are no flag of [`StmtExecuteParamsFlags`].
-#[derive(Clone, Copy, PartialEq, Eq, Hash, Debug)]
+#[derive(Clone, Copy, PartialEq, Eq, Debug)]
 pub struct UnknownStmtExecuteParamsFlags(pub u8);
 
 impl Error for UnknownStmtExecuteParamsFlags {}
@@ -214,7 +214,7 @@ impl Default for StmtExecuteParamFlags {
 }
 
 /// Bits, of which some are no flag of [`StmtExecuteParamFlags`].
-#[derive(Clone, Copy, PartialEq, Eq, Hash, Debug)]
+#[derive(Clone, Copy, PartialEq, Eq, Debug)]
 pub struct UnknownStmtExecuteParamFlags(pub u8);
 
 impl Error for UnknownStmtExecuteParamFlags {}

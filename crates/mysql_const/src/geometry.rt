@@ -27,7 +27,7 @@ pub enum GeometryType {
 }
 
 /// A number that no [`GeometryType`] has.
-#[derive(Clone, Copy, PartialEq, Eq, Hash, Debug)]
+#[derive(Clone, Copy, PartialEq, Eq, Debug)]
 pub struct UnknownGeometryType(pub u8);
 
 impl Error for UnknownGeometryType {}

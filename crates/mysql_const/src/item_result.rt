@@ -24,7 +24,7 @@ pub enum ItemResult {
 }
 
 /// A number that no [`ItemResult`] has.
-#[derive(Clone, Copy, PartialEq, Eq, Hash, Debug)]
+#[derive(Clone, Copy, PartialEq, Eq, Debug)]
 pub struct UnknownItemResultType(pub i8);
 
 impl Error for UnknownItemResultType {}

@@ -24,7 +24,7 @@ pub enum SessionStateType {
 }
 
 /// A number that no [`SessionStateType`] has.
-#[derive(Clone, Copy, PartialEq, Eq, Hash, Debug)]
+#[derive(Clone, Copy, PartialEq, Eq, Debug)]
 pub struct UnknownSessionStateType(pub u8);
 
 impl Error for UnknownSessionStateType {}

@@ -67,7 +67,7 @@ impl Default for StatusFlags {
 }
 
 /// Bits, of which some are no flag of [`StatusFlags`].
-#[derive(Clone, Copy, PartialEq, Eq, Hash, Debug)]
+#[derive(Clone, Copy, PartialEq, Eq, Debug)]
 pub struct UnknownStatusFlags(pub u16);
 
 impl Error for UnknownStatusFlags {}

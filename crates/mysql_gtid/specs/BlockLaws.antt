@@ -11,7 +11,7 @@ use Rattle.mysql_buf.specs.FirstBytes.{first-enough, first-short}
 use Rattle.mysql_buf.specs.Reading.{first}
 use Rattle.mysql_buf.specs.Writing.{front}
 use Rattle.mysql_raw.specs.Forms.{little_at}
-use Rattle.mysql_raw.specs.Laws.{little_at-back, ok_same, size_is, slice_at-back}
+use Rattle.mysql_raw.specs.Laws.{little_at-back, ok_same, size_is, bytes-back}
 use Rattle.mysql_raw.specs.Wire.{IsSized, Reading, or_end, ◌>>=◌}
 use Rattle.mysql_raw.specs.WireError.TheVariants.{UnexpectedEof}
 use Rattle.mysql_raw_bytes.specs.TextLaws.{varlen_text_at-back}
@@ -125,7 +125,7 @@ sid_at-back tagged sid rest h k =
     rw (
       append_assoc sid.uuid (tag ++ counted) rest,
       append_assoc tag counted rest,
-      slice_at-back 16 sid.uuid (tag ++ (counted ++ rest)) (sym h.uuid),
+      bytes-back 16 sid.uuid (tag ++ (counted ++ rest)) (sym h.uuid),
       tag_at-back tagged sid.tag (counted ++ rest) h.tag k,
       counted-back sid.intervals rest h.count h.intervals,
     ) refl

@@ -4,7 +4,7 @@ use Rattle.std.specs.Prelude.{ℕ, ◌+◌, ◌-◌, ◌^◌, List, [], ◌∷�
 use Rattle.std.specs.Fmt.{decimal}
 use Rattle.std.specs.List.{before_first, after_first, position_or_len, list_all}
 use Rattle.std.specs.Str.Parse.{digits_value, without_leading_plus}
-use Rattle.mysql_gtid.specs.Refusals.{◌>>=◌}
+use Rattle.mysql_raw.specs.Wire.{◌>>=◌}
 use Rattle.mysql_gtid.specs.Tags.{is_digit}
 use Rattle.mysql_gtid.specs.declared.error.SidError.{SidError}
 use Rattle.mysql_gtid.specs.declared.error.SidError.TheVariants.{BadInterval, Overflow, StartNotBelowEnd, ZeroGno}

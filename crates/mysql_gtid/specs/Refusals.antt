@@ -4,11 +4,6 @@ use Rattle.std.specs.Prelude.{◌≡◌, Result, Ok, Err}
 use Rattle.mysql_gtid.specs.declared.error.SidError.{SidError}
 use Rattle.mysql_gtid.specs.declared.error.SidError.TheVariants.{Memory}
 
-infixl 10 ◌>>=◌
-abbrev pub ◌>>=◌ : {A B : Type 0} → Result A SidError → (A → Result B SidError) → Result B SidError
-(Ok x) >>= f = f x
-(Err e) >>= f = Err e
-
 -- What a function refused is what reading refuses, unless memory ran out.
 abbrev pub Refuses : {Y : Type 0} → SidError → Result Y SidError → Type 0
 Refuses Memory read = Unit {0}

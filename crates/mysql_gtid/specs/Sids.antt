@@ -5,7 +5,7 @@ use Rattle.std.specs.Prelude.{ℕ, List, [], ◌∷◌, ◌++◌, Bool, false, O
 use Rattle.std.specs.List.{flat_map, slice_split}
 use Rattle.std.specs.Option.{ok_or}
 use Rattle.uuid.specs.Text.{parsed, hyphenated_text, lower}
-use Rattle.mysql_gtid.specs.Refusals.{◌>>=◌}
+use Rattle.mysql_raw.specs.Wire.{◌>>=◌}
 use Rattle.mysql_gtid.specs.Tags.{is_digit, tag_fault}
 use Rattle.mysql_gtid.specs.Intervals.{intervals_of, interval_text}
 use Rattle.mysql_gtid.specs.declared.error.SidError.{SidError}

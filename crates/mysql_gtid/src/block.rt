@@ -5,7 +5,7 @@ ghost use Rattle.std.specs.Cow.{cow_slice_items};
 ghost use Rattle.std.specs.List.{flat_map};
 ghost use Rattle.mysql_raw.specs.Forms.{bytes_at, little_at};
 ghost use Rattle.mysql_raw.specs.Laws.{unsized};
-ghost use Rattle.mysql_raw.specs.Wire.{Appends, GivesPart};
+ghost use Rattle.mysql_raw.specs.Wire.{Appends, GivesPart, TellsPart};
 ghost use Rattle.mysql_raw_bytes.specs.Texts.{varlen_text_at};
 ghost use Rattle.mysql_raw_lists.specs.Lists.{counted_at, elements_at};
 ghost use Rattle.mysql_gtid.specs.BlockLaws.{block_at-back, interval_at-back, interval_at-sized};
@@ -43,6 +43,8 @@ impl Readable for GnoInterval {
     type Ctx = ();
 
     ghost SIZE = { Some 16 };
+
+    ghost AsksForMemory = { false };
 
     ghost Shown = { GnoInterval };
 
@@ -130,7 +132,7 @@ fn tag_text<'a>(sid: &'a Sid<'_>) -> &'a [u8]
 // The number, the bytes that follow it, of a text.
 #[tactic(auto, unfolding(mysql_buf::specs::Reading::first))]
 fn text_from<'de>(rest: &mut ParseBuf<'de>) -> Result<&'de [u8], WireError>
-    ensures { GivesPart (λ text. text.now) rest.new.0.now result (varlen_text_at rest.old.0.now) }
+    ensures { TellsPart (λ text. text.now) rest.new.0.now result (varlen_text_at rest.old.0.now) }
 {
     let Some(count) = read_varlen_uint(rest) else {
         return Err(WireError::UnexpectedEof);
@@ -159,7 +161,7 @@ fn tag_named(text: &[u8]) -> Result<Option<Tag<'_>>, WireError>
 
 // The tag of a set, which stands in a tagged block alone.
 fn tag_from<'de>(tagged: bool, rest: &mut ParseBuf<'de>) -> Result<Option<Tag<'de>>, WireError>
-    ensures { GivesPart (λ tag. tag) rest.new.0.now result (tag_at tagged rest.old.0.now) }
+    ensures { TellsPart (λ tag. tag) rest.new.0.now result (tag_at tagged rest.old.0.now) }
 {
     if !tagged {
         return Ok(None);
@@ -209,7 +211,7 @@ fn sid_from<'de>(
 
 // Sixteen bytes.
 fn uuid_from(alloc: Global, rest: &mut ParseBuf) -> Result<[u8; UUID_LEN], WireError>
-    ensures { GivesPart (λ uuid. uuid) rest.new.0.now result (bytes_at 16 rest.old.0.now) }
+    ensures { TellsPart (λ uuid. uuid) rest.new.0.now result (bytes_at 16 rest.old.0.now) }
 {
     let uuid: &[u8] = rest.parse(alloc, UUID_LEN)?;
     match <[u8; UUID_LEN]>::try_from(uuid) {

@@ -10,7 +10,7 @@ use std::fmt;
 /// Why a text is no set of global transaction identifiers; what stands leftmost counts.
 ///
 /// MySQL Reference Manual, "GTID Sets".
-#[derive(Clone, Copy, Debug, PartialEq, Eq, Hash)]
+#[derive(Clone, Copy, Debug, PartialEq, Eq)]
 pub enum SidError {
     /// There is no colon.
     NoColon = 1,

@@ -15,27 +15,41 @@ ghost use Rattle.mysql_gtid.specs.Tags.{begins_tag, goes_on_tag, tag_fault};
 use std::alloc::{AllocError, Global};
 use std::borrow::CowStr;
 use std::cmp::Ordering;
+use std::error::Error;
 use std::fmt;
 use std::hash::{Hash, Hasher};
 use std::marker::Model;
-use thiserror::Error;
 
 /// Why a text is no tag.
-#[derive(Clone, Copy, Debug, PartialEq, Eq, Hash, Error)]
+#[derive(Clone, Copy, Debug, PartialEq, Eq, Hash)]
 pub enum InvalidTag {
     /// The text is empty.
-    #[error("a tag can't be empty")]
     Empty,
     /// The text has more than 32 bytes; it has this many.
-    #[error("a tag has at most 32 bytes, not {0}")]
     TooLong(usize),
     /// The first character is this one, which is neither a letter from a to z nor an underscore.
-    #[error("a tag can't begin with {0:?}")]
     InvalidFirstChar(char),
     /// A later character is this one, which is neither a letter from a to z nor an underscore or a digit.
-    #[error("a tag can't hold {0:?}")]
     InvalidChar(char),
 }
+
+// Writes why a tag can't hold a character where it does.
+fn write_char_fault<W: fmt::Write>(f: &mut fmt::Formatter<W>, text: &str, c: char) -> fmt::Result {
+    write!(f, "a tag can't {text} {c:?}")
+}
+
+impl fmt::Display for InvalidTag {
+    fn fmt<W: fmt::Write>(&self, f: &mut fmt::Formatter<W>) -> fmt::Result {
+        match self {
+            InvalidTag::Empty => f.write_str("a tag can't be empty"),
+            InvalidTag::TooLong(len) => write!(f, "a tag has at most 32 bytes, not {len}"),
+            InvalidTag::InvalidFirstChar(c) => write_char_fault(f, "begin with", *c),
+            InvalidTag::InvalidChar(c) => write_char_fault(f, "hold", *c),
+        }
+    }
+}
+
+impl Error for InvalidTag {}
 
 /// Whether a tag may begin with a character.
 fn is_first_char(c: char) -> bool

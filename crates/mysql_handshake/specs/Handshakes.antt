@@ -1,5 +1,6 @@
 -- The initial handshake packet.
 -- (MySQL: Client/Server Protocol, "Protocol::HandshakeV10"; MariaDB: "Connecting", 'Initial handshake packet'.)
+-- A reading takes bytes from the front: x.0 is what was read and x.1 the bytes left; the first refusal counts.
 use Rattle.std.specs.Prelude.{ℕ, ◌+◌, ◌-◌, max, if◌then◌else◌, ◌∷◌, ◌++◌, [], List, length, replicate, Option, None, Some, Ok}
 use Rattle.std.specs.Int.RustNames.{bit_and, bit_or}
 use Rattle.std.specs.List.{concat}
@@ -12,7 +13,7 @@ use Rattle.mysql_handshake.specs.Capabilities.{plugin_auth, secure_connection}
 use Rattle.mysql_raw.specs.Forms.{bytes_at, little_at, upper_half, upper_half_at}
 use Rattle.mysql_raw.specs.Wire.{Reading, ◌>>=◌}
 use Rattle.mysql_raw_bytes.specs.Texts.{bare_at, fixed_text, null_text, null_text_at}
-use Rattle.mysql_raw_consts.specs.Constants.{named_at, zeros_at}
+use Rattle.mysql_raw_consts.specs.Constants.{named_at, skipped_at}
 use Rattle.mysql_raw_consts.specs.Flags.{contains, status_named}
 
 -- what a handshake packet says; of a second scramble the first 247 bytes count
@@ -101,10 +102,10 @@ unfoldable pub fixed_at : List ℕ → Reading FixedFields
 fixed_at bytes = do
   id ← little_at 4 bytes
   scramble ← bytes_at 8 id.1
-  filler ← zeros_at 1 scramble.1
+  filler ← skipped_at 1 scramble.1
   flags ← flags_at filler.1
   len ← little_at 1 flags.1
-  reserved ← zeros_at 6 len.1
+  reserved ← skipped_at 6 len.1
   mariadb ← little_at 4 reserved.1
   Ok (
     record {

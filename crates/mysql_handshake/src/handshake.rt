@@ -1,6 +1,6 @@
 //! The initial handshake packet.
 
-ghost use Rattle.std.specs.Prelude.{[], ◌≡◌, ◌≤◌, IfOk, None, Ok, Some, length, IsOkUnless};
+ghost use Rattle.std.specs.Prelude.{[], ◌≡◌, ◌≤◌, IfOk, None, Ok, Some, length, IsOkUnless, false};
 ghost use Rattle.std.specs.Cow.{cow_slice_items, cow_str_bytes};
 ghost use Rattle.std.specs.Option.{option_map};
 ghost use Rattle.std.specs.Str.{encode_utf8_all};
@@ -14,7 +14,7 @@ ghost use Rattle.mysql_handshake.specs.Handshakes.{HandshakeFields, block_at, fi
 ghost use Rattle.mysql_handshake.specs.Versions.{mariadb_version, version_of};
 ghost use Rattle.mysql_raw.specs.Forms.{bytes_at};
 ghost use Rattle.mysql_raw.specs.Laws.{unsized};
-ghost use Rattle.mysql_raw.specs.Wire.{Gives, GivesPart, Tells};
+ghost use Rattle.mysql_raw.specs.Wire.{Tells, TellsPart};
 ghost use Rattle.mysql_raw_bytes.specs.Texts.{null_text};
 ghost use Rattle.mysql_raw_consts.specs.Either.{either_written};
 ghost use Rattle.mysql_raw_consts.specs.Flags.{contains};
@@ -77,14 +77,12 @@ fn scramble_front(text: &[u8]) -> &[u8]
     front_of(text, SCRAMBLE_2_MAX_LEN)
 }
 
-#[tactic(auto, unfolding(bitflags::proofs::OnLiterals::bitflags_on_literals))]
 fn has_scramble_2(capabilities: CapabilityFlags) -> bool
     ensures { result ≡ contains capabilities.0 secure_connection }
 {
     capabilities.contains(CapabilityFlags::CLIENT_SECURE_CONNECTION)
 }
 
-#[tactic(auto, unfolding(bitflags::proofs::OnLiterals::bitflags_on_literals))]
 fn has_plugin_name(capabilities: CapabilityFlags) -> bool
     ensures { result ≡ contains capabilities.0 plugin_auth }
 {
@@ -452,6 +450,8 @@ impl<'a> Readable for HandshakePacket<'a> {
 
     ghost SIZE = { None };
 
+    ghost AsksForMemory = { false };
+
     ghost Shown = { HandshakeFields };
 
     ghost shown = { handshake_view };
@@ -489,36 +489,42 @@ fn flags_of(
     alloc: Global,
     block: &mut ParseBuf,
 ) -> Result<(CapabilityFlags, u8, StatusFlags), WireError>
-    ensures { GivesPart (λ flags. (flags.0.0, flags.1, flags.2.0)) block.new.0.now result (flags_at block.old.0.now) }
+    ensures { TellsPart (λ flags. (flags.0.0, flags.1, flags.2.0)) block.new.0.now result (flags_at block.old.0.now) }
 {
     let low: RawInt<LeU32LowerHalf> = block.parse(alloc, ())?;
-    let default_collation: RawInt<u8> = block.parse(alloc, ())?;
+    let Some(default_collation) = block.checked_eat_u8() else {
+        return Err(WireError::UnexpectedEof);
+    };
     let status_flags: Const<StatusFlags, LeU16> = block.parse(alloc, ())?;
     let high: RawInt<LeU32UpperHalf> = block.parse(alloc, ())?;
     // All 32 bits have names.
     let capabilities = CapabilityFlags(low.0 | high.0);
-    Ok((capabilities, default_collation.0, status_flags.0))
+    Ok((capabilities, default_collation, status_flags.0))
 }
 
 // The fields of fixed length.
 #[tactic(auto, unfolding(crate::specs::Handshakes::fixed_at, bitflags::proofs::OnLiterals::bitflags_on_literals))]
 fn fixed_block_of(alloc: Global, block: &mut ParseBuf) -> Result<FixedBlock, WireError>
-    ensures { GivesPart fixed_view block.new.0.now result (fixed_at block.old.0.now) }
+    ensures { TellsPart fixed_view block.new.0.now result (fixed_at block.old.0.now) }
 {
-    let connection_id: RawInt<LeU32> = block.parse(alloc, ())?;
+    let Some(connection_id) = block.checked_eat_u32_le() else {
+        return Err(WireError::UnexpectedEof);
+    };
     let scramble_1 = eight_bytes(block)?;
     let _filler: Skip<1> = block.parse(alloc, ())?;
     let (capabilities, default_collation, status_flags) = flags_of(alloc, block)?;
-    let auth_plugin_data_len: RawInt<u8> = block.parse(alloc, ())?;
+    let Some(auth_plugin_data_len) = block.checked_eat_u8() else {
+        return Err(WireError::UnexpectedEof);
+    };
     let _reserved: Skip<6> = block.parse(alloc, ())?;
     let mariadb: RawFlags<MariadbCapabilities, LeU32> = block.parse(alloc, ())?;
     Ok(FixedBlock {
-        connection_id: connection_id.0,
+        connection_id,
         scramble_1,
         capabilities,
         default_collation,
         status_flags,
-        auth_plugin_data_len: auth_plugin_data_len.0,
+        auth_plugin_data_len,
         mariadb_ext_capabilities: mariadb.get(),
     })
 }
@@ -526,7 +532,7 @@ fn fixed_block_of(alloc: Global, block: &mut ParseBuf) -> Result<FixedBlock, Wir
 // The fields of fixed length, which are there together or not at all.
 #[tactic(auto, unfolding(crate::specs::Handshakes::block_at))]
 fn fixed_of(alloc: Global, rest: &mut ParseBuf) -> Result<FixedBlock, WireError>
-    ensures { GivesPart fixed_view rest.new.0.now result (block_at rest.old.0.now) }
+    ensures { TellsPart fixed_view rest.new.0.now result (block_at rest.old.0.now) }
 {
     let block: &[u8] = rest.parse(alloc, 31)?;
     fixed_block_of(alloc, &mut ParseBuf(block))
@@ -540,7 +546,7 @@ fn scramble_2_of<'a>(
     len: u8,
     buf: &mut ParseBuf<'a>,
 ) -> Result<Option<CowSlice<'a, u8>>, WireError>
-    ensures { GivesPart (option_map cow_slice_items) buf.new.0.now result (scramble_at capabilities.0 len buf.old.0.now) }
+    ensures { TellsPart (option_map cow_slice_items) buf.new.0.now result (scramble_at capabilities.0 len buf.old.0.now) }
 {
     if !has_scramble_2(capabilities) {
         return Ok(None);
@@ -570,16 +576,18 @@ fn handshake_of<'a>(
     alloc: Global,
     rest: &mut ParseBuf<'a>,
 ) -> Result<HandshakePacket<'a>, WireError>
-    ensures { GivesPart handshake_view rest.new.0.now result (handshake_at rest.old.0.now) }
+    ensures { TellsPart handshake_view rest.new.0.now result (handshake_at rest.old.0.now) }
 {
-    let protocol_version: RawInt<u8> = rest.parse(alloc, ())?;
+    let Some(protocol_version) = rest.checked_eat_u8() else {
+        return Err(WireError::UnexpectedEof);
+    };
     let server_version: RawBytes<'a, NullBytes> = rest.parse(alloc, ())?;
     let fixed = fixed_of(alloc, rest)?;
     let scramble_2 = scramble_2_of(alloc, fixed.capabilities, fixed.auth_plugin_data_len, rest)?;
     let auth_plugin_name = plugin_name_of(fixed.capabilities, rest);
     let scramble_1 = fixed.scramble_1;
     Ok(HandshakePacket {
-        protocol_version: protocol_version.0,
+        protocol_version,
         server_version: server_version.0,
         connection_id: fixed.connection_id,
         scramble_1,

@@ -1,10 +1,13 @@
 -- The command that logs another user in.
 -- (MySQL: Client/Server Protocol, "COM_CHANGE_USER"; MariaDB: Client/Server Protocol, "COM_CHANGE_USER".)
+-- A reading takes bytes from the front: x.0 is what was read and x.1 the bytes left; the first refusal counts.
 use Rattle.std.specs.Prelude.{◌==◌, ℕ, not, List, [], ◌∷◌, length, Option, Some, None, Ok}
 use Rattle.std.specs.List.{concat}
 use Rattle.byteorder.specs.Endian.{little_bytes}
 use Rattle.mysql_auth.specs.Plugins.{Plugin}
 use Rattle.mysql_buf.specs.Writing.{u8_str}
+use Rattle.mysql_const.specs.Commands.{command_number}
+use Rattle.mysql_const.specs.declared.command.Command.TheVariants.{COM_CHANGE_USER}
 use Rattle.mysql_raw.specs.Forms.{little_at}
 use Rattle.mysql_raw.specs.Wire.{Reading, ◌>>=◌}
 use Rattle.mysql_raw_bytes.specs.Texts.{null_text, null_text_at, u8_text_at}
@@ -46,7 +49,7 @@ pub record ChangeUserFields : Type 0 where
 
 -- the command's number and the fields in that order
 unfoldable pub change_user : ChangeUserFields → List ℕ
-change_user p = concat (little_bytes 1 0x11 ∷ null_text p.user ∷ u8_str p.scramble ∷ null_text p.database ∷ if_held more_data p.more ∷ [])
+change_user p = concat (little_bytes 1 (command_number COM_CHANGE_USER) ∷ null_text p.user ∷ u8_str p.scramble ∷ null_text p.database ∷ if_held more_data p.more ∷ [])
 
 -- the database, and more where a byte follows it
 unfoldable pub database_and_more_at : ℕ → List ℕ → Reading (List ℕ × Option MoreFields)
@@ -58,7 +61,7 @@ database_and_more_at capabilities bytes = do
 -- the fields that stand first
 unfoldable pub change_user_at : ℕ → List ℕ → Reading ChangeUserFields
 change_user_at capabilities bytes = do
-  header ← constant_at 1 0x11 bytes
+  header ← constant_at 1 (command_number COM_CHANGE_USER) bytes
   user ← null_text_at header.1
   scramble ← u8_text_at user.1
   last ← database_and_more_at capabilities scramble.1

@@ -9,11 +9,11 @@ pub use Rattle.mysql_handshake.specs.Versions
 pub use Rattle.mysql_attributes.specs.AttributeViews
 pub use Rattle.mysql_attributes.specs.Attributes
 pub use Rattle.mysql_attributes.specs.Parts
-pub use Rattle.mysql_response.specs.ResponseViews
-pub use Rattle.mysql_response.specs.Responses
-pub use Rattle.mysql_response.specs.SslRequestLaws
-pub use Rattle.mysql_response.specs.SslRequestViews
-pub use Rattle.mysql_response.specs.SslRequests
+pub use Rattle.mysql_handshake_response.specs.ResponseViews
+pub use Rattle.mysql_handshake_response.specs.Responses
+pub use Rattle.mysql_handshake_response.specs.SslRequestLaws
+pub use Rattle.mysql_handshake_response.specs.SslRequestViews
+pub use Rattle.mysql_handshake_response.specs.SslRequests
 pub use Rattle.mysql_attributes.specs.TextViews
 pub use Rattle.mysql_gtid.specs.Tags
 pub use Rattle.mysql_gtid.specs.Intervals

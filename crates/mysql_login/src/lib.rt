@@ -19,6 +19,7 @@ pub use mysql_auth::{
 pub use mysql_buf::ParseBuf;
 pub use mysql_const::{CapabilityFlags, MariadbCapabilities, StatusFlags};
 pub use mysql_handshake::HandshakePacket;
+pub use mysql_handshake_response::{HandshakeResponse, SslRequest};
 pub use mysql_raw::{MyDeserialize, MySerialize, ParseExt, Readable, WireError};
 pub use mysql_raw_consts::Either;
 pub use mysql_repl::{
@@ -29,4 +30,3 @@ pub use mysql_repl::{
     InvalidTag, SemiSyncAckPacket, SemiSyncAckPacketPacketHeader, Sid, SidBlock, SidError, Tag,
     UUID_LEN, UnknownBinlogDumpFlags,
 };
-pub use mysql_response::{HandshakeResponse, SslRequest};

@@ -1,27 +1,30 @@
 //! Attributes of a connection.
 
-use crate::support::{Asserting, assert_each_refused, assert_owned, assert_texts, one_text};
+use crate::support::{Asserting, assert_each_refused, assert_makes, assert_texts, one_text};
 use mysql_login::ConnectAttributes;
 use mysql_raw::WireError;
 use std::alloc::{AllocError, Global};
-use tests_support::{Assert, assert_copied, assert_made, assert_reads_back, once_more, whole};
+use tests_support::{Assert, assert_made, assert_reads_back, once_more, whole};
 
 // Asserts that these bytes are attributes whose texts, one after another, are the wanted bytes.
 fn assert_read(assert: &impl Assert, alloc: Global, bytes: &[u8], wanted: &[u8]) {
     let all = whole::<ConnectAttributes, ()>(assert, alloc, (), bytes);
     let texts = once_more(assert, all.texts(alloc), all.texts(alloc));
-    assert_texts(assert, alloc, &texts, wanted);
+    drop(all);
+    assert_texts(assert, alloc, texts, wanted);
 }
+
+// Attributes, and their texts one after another. A repeated key keeps its place and has its last value, and so have keys of
+// the same lossy text, which is U+FFFD.
+const READ: [(&[u8], &[u8]); 2] = [
+    (b"\x0c\x01a\x011\x01b\x012\x01a\x013", b"a3b2"),
+    (b"\x08\x01\xff\x011\x01\xfe\x012", b"\xef\xbf\xbd2"),
+];
 
 #[test]
 fn texts_that_are_read(rt: HostRuntime) {
     let assert = Asserting(&rt);
-    // A repeated key keeps its place and has its last value, and so have keys of the same lossy text.
-    let rows: [(&[u8], &[u8]); 2] = [
-        (b"\x0c\x01a\x011\x01b\x012\x01a\x013", b"a3b2"),
-        (b"\x08\x01\xff\x011\x01\xfe\x012", "\u{fffd}2".as_bytes()),
-    ];
-    for (bytes, wanted) in rows {
+    for (bytes, wanted) in READ {
         assert_read(&assert, rt.alloc(), bytes, wanted);
     }
 }
@@ -57,25 +60,26 @@ fn copies(rt: HostRuntime) {
     let assert = Asserting(&rt);
     let alloc = rt.alloc();
     let all = read(&assert, alloc);
-    assert_copied(&assert, &all, all.clone(alloc), all.clone(alloc));
-    assert_owned(
+    assert_makes(&assert, all.clone(alloc), all.clone(alloc), all);
+    assert_makes(
         &assert,
-        &all,
         read(&assert, alloc).into_owned(alloc),
         read(&assert, alloc).into_owned(alloc),
+        read(&assert, alloc),
     );
 }
 
+// The first total ends within a value, the second past the bytes, the third is the largest.
+const OTHER_TOTALS: [(&[u8], WireError); 3] = [
+    (b"\x03\x01a\x011", WireError::UnexpectedEof),
+    (b"\x05\x01a\x011", WireError::UnexpectedEof),
+    (
+        b"\xfe\xff\xff\xff\xff\xff\xff\xff\xff\x01a\x011",
+        WireError::UnexpectedEof,
+    ),
+];
+
 #[test]
 fn a_total_that_does_not_match(rt: HostRuntime) {
-    // The first total ends within a value, the second past the bytes, the third is the largest.
-    let rows: [(&[u8], WireError); 3] = [
-        (b"\x03\x01a\x011", WireError::UnexpectedEof),
-        (b"\x05\x01a\x011", WireError::UnexpectedEof),
-        (
-            b"\xfe\xff\xff\xff\xff\xff\xff\xff\xff\x01a\x011",
-            WireError::UnexpectedEof,
-        ),
-    ];
-    assert_each_refused::<ConnectAttributes>(&Asserting(&rt), rt.alloc(), &rows);
+    assert_each_refused::<ConnectAttributes>(&Asserting(&rt), rt.alloc(), &OTHER_TOTALS);
 }

@@ -1,14 +1,13 @@
 //! The command that logs another user in.
 
-use crate::support::{Asserting, assert_owned, one_text};
+use crate::support::{Asserting, assert_makes, assert_writes, one_text};
 use mysql_const::CapabilityFlags;
 use mysql_login::{AuthPlugin, ComChangeUser, ComChangeUserMoreData};
 use mysql_raw::WireError;
 use std::alloc::{AllocError, Global};
 use std::borrow::CowSlice;
 use tests_support::{
-    Assert, assert_copied, assert_cut_off, assert_made, assert_reads_back, assert_refused,
-    assert_written, whole,
+    Assert, assert_cut_off, assert_made, assert_reads_back, assert_refused, assert_written, whole,
 };
 
 const COMMAND: &[u8] = b"\x11root\0\x02abdb\0\x2d\0mysql_native_password\0\x04\x01a\x011";
@@ -58,23 +57,18 @@ fn a_command_is_copied(rt: HostRuntime) {
     let assert = Asserting(&rt);
     let alloc = rt.alloc();
     let command = read(&assert, alloc);
-    assert_copied(
-        &assert,
-        &command,
-        command.clone(alloc),
-        command.clone(alloc),
-    );
+    assert_makes(&assert, command.clone(alloc), command.clone(alloc), command);
 }
 
 #[test]
 fn a_command_is_owned(rt: HostRuntime) {
     let assert = Asserting(&rt);
     let alloc = rt.alloc();
-    assert_owned(
+    assert_makes(
         &assert,
-        &read(&assert, alloc),
         read(&assert, alloc).into_owned(alloc),
         read(&assert, alloc).into_owned(alloc),
+        read(&assert, alloc),
     );
 }
 
@@ -84,18 +78,18 @@ fn more_data_is_copied(rt: HostRuntime) {
     let alloc = rt.alloc();
     let more = read_more(&assert, alloc);
     assert_written(&assert, alloc, &more, MORE);
-    assert_copied(&assert, &more, more.clone(alloc), more.clone(alloc));
+    assert_makes(&assert, more.clone(alloc), more.clone(alloc), more);
 }
 
 #[test]
 fn more_data_is_owned(rt: HostRuntime) {
     let assert = Asserting(&rt);
     let alloc = rt.alloc();
-    assert_owned(
+    assert_makes(
         &assert,
-        &read_more(&assert, alloc),
         read_more(&assert, alloc).into_owned(alloc),
         read_more(&assert, alloc).into_owned(alloc),
+        read_more(&assert, alloc),
     );
 }
 
@@ -103,9 +97,18 @@ fn more_data_is_owned(rt: HostRuntime) {
 fn commands_without_parts_are_written(rt: HostRuntime) {
     let assert = Asserting(&rt);
     let bare: ComChangeUser = Default::default();
-    assert_written(&assert, rt.alloc(), &bare, b"\x11\0\0\0");
-    let no_attributes = ComChangeUser::new().with_more_data(Some(ComChangeUserMoreData::new(33)));
-    assert_written(&assert, rt.alloc(), &no_attributes, b"\x11\0\0\0\x21\0\0");
+    assert_writes(&assert, rt.alloc(), bare, b"\x11\0\0\0");
+    assert_writes(
+        &assert,
+        rt.alloc(),
+        without_attributes(),
+        b"\x11\0\0\0\x21\0\0",
+    );
+}
+
+// A command with a character set alone.
+fn without_attributes() -> ComChangeUser<'static> {
+    ComChangeUser::new().with_more_data(Some(ComChangeUserMoreData::new(33)))
 }
 
 #[test]
@@ -113,7 +116,7 @@ fn a_command_is_read(rt: HostRuntime) {
     let assert = Asserting(&rt);
     assert_reads_back::<ComChangeUser, CapabilityFlags>(&assert, rt.alloc(), FLAGS, COMMAND);
     // The command may end behind the database.
-    let _ = whole::<ComChangeUser, CapabilityFlags>(&assert, rt.alloc(), FLAGS, &COMMAND[..12]);
+    drop(whole::<ComChangeUser, CapabilityFlags>(&assert, rt.alloc(), FLAGS, &COMMAND[..12]));
 }
 
 #[test]

@@ -1,42 +1,47 @@
 //! Requests for the binary log from a place.
 
-use crate::support::{Asserting, assert_each_refused, assert_packet, assert_text};
+use crate::support::{Asserting, assert_each_refused, assert_makes, assert_packet, assert_text};
 use mysql_login::{BinlogDumpFlags, ComBinlogDump};
 use mysql_raw::WireError;
 use std::alloc::Global;
 use std::borrow::CowSlice;
-use tests_support::{Assert, assert_copied, assert_equal, assert_reads_back};
+use tests_support::{Assert, assert_equal, assert_reads_back};
 
 const DUMP: &[u8] = b"\x12\x04\x00\x00\x00\x01\x00\x07\x00\x00\x00log.1";
+
+fn dump() -> ComBinlogDump<'static> {
+    ComBinlogDump::new(7)
+        .with_pos(4)
+        .with_flags(BinlogDumpFlags::BINLOG_DUMP_NON_BLOCK)
+        .with_filename(CowSlice::Borrowed(b"log.1"))
+}
 
 #[test]
 fn a_dump(rt: HostRuntime) {
     let assert = Asserting(&rt);
-    let packet = ComBinlogDump::new(7)
-        .with_pos(4)
-        .with_flags(BinlogDumpFlags::BINLOG_DUMP_NON_BLOCK)
-        .with_filename(CowSlice::Borrowed(b"log.1"));
-    assert_packet::<ComBinlogDump>(&assert, rt.alloc(), &packet, DUMP, 11);
+    assert_packet(&assert, rt.alloc(), dump(), DUMP, 11);
     assert_reads_back::<ComBinlogDump, ()>(&assert, rt.alloc(), (), &DUMP[..11]);
 }
 
+// Bytes, and why they are refused.
+const NO_DUMPS: [(&[u8], WireError); 3] = [
+    (
+        b"\x13\x04\x00\x00\x00\x08\x00\x07\x00\x00\x00",
+        WireError::BadConstant,
+    ),
+    (
+        b"\x12\x04\x00\x00\x00\x08\x00\x07\x00\x00\x00",
+        WireError::UnknownValue,
+    ),
+    (
+        b"\x12\x04\x00\x00\x00\x08\x00\x07\x00\x00",
+        WireError::UnexpectedEof,
+    ),
+];
+
 #[test]
 fn no_dump(rt: HostRuntime) {
-    let rows: [(&[u8], WireError); 3] = [
-        (
-            b"\x13\x04\x00\x00\x00\x08\x00\x07\x00\x00\x00",
-            WireError::BadConstant,
-        ),
-        (
-            b"\x12\x04\x00\x00\x00\x08\x00\x07\x00\x00\x00",
-            WireError::UnknownValue,
-        ),
-        (
-            b"\x12\x04\x00\x00\x00\x08\x00\x07\x00\x00",
-            WireError::UnexpectedEof,
-        ),
-    ];
-    assert_each_refused::<ComBinlogDump>(&Asserting(&rt), rt.alloc(), &rows);
+    assert_each_refused::<ComBinlogDump>(&Asserting(&rt), rt.alloc(), &NO_DUMPS);
 }
 
 // Asserts that a dump has these fields.
@@ -53,5 +58,5 @@ fn fields_of_a_dump(rt: HostRuntime) {
     let alloc = rt.alloc();
     let packet = ComBinlogDump::new(7).with_filename(CowSlice::Borrowed(b"f"));
     assert_fields(&assert, alloc, &packet);
-    assert_copied(&assert, &packet, packet.clone(alloc), packet.clone(alloc));
+    assert_makes(&assert, packet.clone(alloc), packet.clone(alloc), packet);
 }

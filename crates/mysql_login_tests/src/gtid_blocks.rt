@@ -1,13 +1,12 @@
 //! Sets of global transaction identifiers as bytes.
 
-use crate::support::{Asserting, assert_each_refused, set, tagged_set, untagged_set};
+use crate::support::{Asserting, assert_each_refused, assert_makes, set, tagged_set, untagged_set};
 use mysql_login::{GnoInterval, Sid, SidBlock};
 use mysql_raw::WireError;
 use std::alloc::Global;
 use std::borrow::CowSlice;
 use tests_support::{
-    Assert, assert_copied, assert_cut_off, assert_equal, assert_reads_back, assert_same,
-    assert_written, whole,
+    Assert, assert_cut_off, assert_equal, assert_reads_back, assert_written, whole,
 };
 
 // A set with the transactions 1 to 99.
@@ -20,11 +19,11 @@ fn a_set_is_written(rt: HostRuntime) {
     // Its tag is not written with it.
     let tagged = tagged_set(&assert, rt.alloc());
     assert_written(&assert, rt.alloc(), &tagged, SET);
-    assert_copied(
+    assert_makes(
         &assert,
-        &tagged,
         tagged.clone(rt.alloc()),
         tagged.clone(rt.alloc()),
+        tagged,
     );
 }
 
@@ -39,17 +38,20 @@ fn assert_is_set(assert: &impl Assert, sid: &Sid<'_>) {
     );
 }
 
+// More intervals than there are bytes.
+const MANY_INTERVALS: [(&[u8], WireError); 1] = [(
+    b"aaaaaaaaaaaaaaaa\xff\xff\xff\xff\xff\xff\xff\xff",
+    WireError::UnexpectedEof,
+)];
+
 #[test]
 fn a_set_is_read(rt: HostRuntime) {
     let assert = Asserting(&rt);
-    assert_is_set(&assert, &whole::<Sid, ()>(&assert, rt.alloc(), (), SET));
+    let sid = whole::<Sid, ()>(&assert, rt.alloc(), (), SET);
+    assert_is_set(&assert, &sid);
+    drop(sid);
     assert_cut_off::<Sid, ()>(&assert, rt.alloc(), (), SET, 0, SET.len());
-    // More intervals than there are bytes.
-    let many: [(&[u8], WireError); 1] = [(
-        b"aaaaaaaaaaaaaaaa\xff\xff\xff\xff\xff\xff\xff\xff",
-        WireError::UnexpectedEof,
-    )];
-    assert_each_refused::<Sid>(&assert, rt.alloc(), &many);
+    assert_each_refused::<Sid>(&assert, rt.alloc(), &MANY_INTERVALS);
 }
 
 #[test]
@@ -61,17 +63,26 @@ fn an_interval(rt: HostRuntime) {
     assert_written(&assert, rt.alloc(), &interval, &SET[24..]);
 }
 
+// Asserts that two values differ.
+fn assert_other<T: PartialEq + Drop>(assert: &impl Assert, found: T, other: T) {
+    assert.holds(found != other);
+}
+
 #[test]
 fn sets_are_equal(rt: HostRuntime) {
     let assert = Asserting(&rt);
-    let sid = set(&assert, rt.alloc(), *b"aaaaaaaaaaaaaaaa", 100);
-    assert_same(
+    let source = *b"aaaaaaaaaaaaaaaa";
+    assert_equal(
         &assert,
-        &sid,
-        &set(&assert, rt.alloc(), *b"aaaaaaaaaaaaaaaa", 100),
+        set(&assert, rt.alloc(), source, 100),
+        set(&assert, rt.alloc(), source, 100),
     );
     // A tag makes it another one.
-    assert.holds(sid != tagged_set(&assert, rt.alloc()));
+    assert_other(
+        &assert,
+        set(&assert, rt.alloc(), source, 100),
+        tagged_set(&assert, rt.alloc()),
+    );
 }
 
 // A block of two sets.
@@ -86,6 +97,7 @@ fn a_block(rt: HostRuntime) {
         untagged_set(&assert, rt.alloc()),
     ];
     assert_block(&assert, rt.alloc(), &sids, BLOCK);
+    drop(sids);
     assert_reads_back::<SidBlock, ()>(&assert, rt.alloc(), (), BLOCK);
     assert_cut_off::<SidBlock, ()>(&assert, rt.alloc(), (), BLOCK, 0, BLOCK.len());
 }
@@ -97,15 +109,15 @@ fn assert_block(assert: &impl Assert, alloc: Global, sids: &[Sid<'_>], bytes: &[
     assert_written(assert, alloc, &block, bytes);
 }
 
+// A block of one set without a tag.
+const UNTAGGED_BLOCK: &[u8] =
+    b"\x01\x00\x00\x00\x00\x00\x00\x00bbbbbbbbbbbbbbbb\x01\x00\x00\x00\x00\x00\x00\x00\x01\x00\x00\x00\x00\x00\x00\x00\x32\x00\x00\x00\x00\x00\x00\x00";
+
 #[test]
 fn blocks_without_a_tag(rt: HostRuntime) {
     let assert = Asserting(&rt);
     assert_block(&assert, rt.alloc(), &[], b"\0\0\0\0\0\0\0\0");
     let sids = [untagged_set(&assert, rt.alloc())];
-    assert_block(
-        &assert,
-        rt.alloc(),
-        &sids,
-        b"\x01\x00\x00\x00\x00\x00\x00\x00bbbbbbbbbbbbbbbb\x01\x00\x00\x00\x00\x00\x00\x00\x01\x00\x00\x00\x00\x00\x00\x00\x32\x00\x00\x00\x00\x00\x00\x00",
-    );
+    assert_block(&assert, rt.alloc(), &sids, UNTAGGED_BLOCK);
+    drop(sids);
 }

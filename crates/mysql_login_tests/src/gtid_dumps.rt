@@ -1,13 +1,14 @@
 //! Requests for the binary log without the transactions that are known.
 
 use crate::support::{
-    Asserting, assert_each_refused, assert_packet, assert_text, tagged_set, untagged_set,
+    Asserting, assert_each_refused, assert_makes, assert_packet, assert_text, tagged_set,
+    untagged_set,
 };
 use mysql_login::{BinlogDumpFlags, ComBinlogDumpGtid};
 use mysql_raw::WireError;
 use std::alloc::Global;
 use std::borrow::CowSlice;
-use tests_support::{Assert, assert_copied, assert_equal, once_more, whole};
+use tests_support::{Assert, assert_equal, once_more, whole};
 
 // A set of the tag `app` with the transactions 1 to 99, and one without a tag with 1 to 49. The block has 93 bytes.
 const TAGGED: &[u8] =
@@ -56,72 +57,80 @@ fn a_tagged_block(rt: HostRuntime) {
     let assert = Asserting(&rt);
     let packet = with_both(&assert, rt.alloc());
     assert_equal(&assert, packet.flags().0, 4);
-    assert_packet::<ComBinlogDumpGtid>(&assert, rt.alloc(), &packet, TAGGED, TAGGED.len());
+    assert_packet(&assert, rt.alloc(), packet, TAGGED, TAGGED.len());
 }
 
 #[test]
 fn an_untagged_block(rt: HostRuntime) {
     let assert = Asserting(&rt);
     let packet = with_untagged(&assert, rt.alloc());
-    assert_packet::<ComBinlogDumpGtid>(&assert, rt.alloc(), &packet, UNTAGGED, UNTAGGED.len());
+    assert_packet(&assert, rt.alloc(), packet, UNTAGGED, UNTAGGED.len());
 }
+
+// Bytes, and why they are refused.
+const NO_BLOCKS: [(&[u8], WireError); 5] = [
+    // More sets than there are bytes, in a block of 8 bytes, one that is cut off, and one past the end.
+    (
+        b"\x1e\x04\x00\x07\x00\x00\x00\x01\x00\x00\x00f\x04\x00\x00\x00\x00\x00\x00\x00\x08\x00\x00\x00\xff\xff\xff\xff\xff\xff\xff\x00",
+        WireError::UnexpectedEof,
+    ),
+    (
+        b"\x1e\x04\x00\x07\x00\x00\x00\x01\x00\x00\x00f\x04\x00\x00\x00\x00\x00\x00\x00\x07\x00\x00\x00\xff\xff\xff\xff\xff\xff\xff\x00",
+        WireError::UnexpectedEof,
+    ),
+    (
+        b"\x1e\x04\x00\x07\x00\x00\x00\x01\x00\x00\x00f\x04\x00\x00\x00\x00\x00\x00\x00\x09\x00\x00\x00\xff\xff\xff\xff\xff\xff\xff\x00",
+        WireError::UnexpectedEof,
+    ),
+    // A tag that is none, and one that is no text.
+    (
+        b"\x1e\x04\x00\x07\x00\x00\x00\x01\x00\x00\x00f\x04\x00\x00\x00\x00\x00\x00\x00\x22\x00\x00\x00\x00\x01\x00\x00\x00\x00\x00\x01bbbbbbbbbbbbbbbb\x02A\x00\x00\x00\x00\x00\x00\x00\x00",
+        WireError::UnknownValue,
+    ),
+    (
+        b"\x1e\x04\x00\x07\x00\x00\x00\x01\x00\x00\x00f\x04\x00\x00\x00\x00\x00\x00\x00\x22\x00\x00\x00\x00\x01\x00\x00\x00\x00\x00\x01bbbbbbbbbbbbbbbb\x02\xff\x00\x00\x00\x00\x00\x00\x00\x00",
+        WireError::UnknownValue,
+    ),
+];
 
 #[test]
 fn refused_blocks(rt: HostRuntime) {
-    let rows: [(&[u8], WireError); 5] = [
-        // More sets than there are bytes, in a block of 8 bytes, one that is cut off, and one past the end.
-        (
-            b"\x1e\x04\x00\x07\x00\x00\x00\x01\x00\x00\x00f\x04\x00\x00\x00\x00\x00\x00\x00\x08\x00\x00\x00\xff\xff\xff\xff\xff\xff\xff\x00",
-            WireError::UnexpectedEof,
-        ),
-        (
-            b"\x1e\x04\x00\x07\x00\x00\x00\x01\x00\x00\x00f\x04\x00\x00\x00\x00\x00\x00\x00\x07\x00\x00\x00\xff\xff\xff\xff\xff\xff\xff\x00",
-            WireError::UnexpectedEof,
-        ),
-        (
-            b"\x1e\x04\x00\x07\x00\x00\x00\x01\x00\x00\x00f\x04\x00\x00\x00\x00\x00\x00\x00\x09\x00\x00\x00\xff\xff\xff\xff\xff\xff\xff\x00",
-            WireError::UnexpectedEof,
-        ),
-        // A tag that is none, and one that is no text.
-        (
-            b"\x1e\x04\x00\x07\x00\x00\x00\x01\x00\x00\x00f\x04\x00\x00\x00\x00\x00\x00\x00\x22\x00\x00\x00\x00\x01\x00\x00\x00\x00\x00\x01bbbbbbbbbbbbbbbb\x02A\x00\x00\x00\x00\x00\x00\x00\x00",
-            WireError::UnknownValue,
-        ),
-        (
-            b"\x1e\x04\x00\x07\x00\x00\x00\x01\x00\x00\x00f\x04\x00\x00\x00\x00\x00\x00\x00\x22\x00\x00\x00\x00\x01\x00\x00\x00\x00\x00\x01bbbbbbbbbbbbbbbb\x02\xff\x00\x00\x00\x00\x00\x00\x00\x00",
-            WireError::UnknownValue,
-        ),
-    ];
-    assert_each_refused::<ComBinlogDumpGtid>(&Asserting(&rt), rt.alloc(), &rows);
+    assert_each_refused::<ComBinlogDumpGtid>(&Asserting(&rt), rt.alloc(), &NO_BLOCKS);
 }
+
+// Bytes, and why they are refused.
+const NO_FRONTS: [(&[u8], WireError); 3] = [
+    (b"\x1f\x08\x00\x07\x00\x00\x00", WireError::BadConstant),
+    (b"\x1e\x08\x00\x07\x00\x00\x00", WireError::UnknownValue),
+    (b"\x1e\x08\x00\x07\x00\x00", WireError::UnexpectedEof),
+];
 
 #[test]
 fn refused_fronts(rt: HostRuntime) {
-    let rows: [(&[u8], WireError); 3] = [
-        (b"\x1f\x08\x00\x07\x00\x00\x00", WireError::BadConstant),
-        (b"\x1e\x08\x00\x07\x00\x00\x00", WireError::UnknownValue),
-        (b"\x1e\x08\x00\x07\x00\x00", WireError::UnexpectedEof),
-    ];
-    assert_each_refused::<ComBinlogDumpGtid>(&Asserting(&rt), rt.alloc(), &rows);
+    assert_each_refused::<ComBinlogDumpGtid>(&Asserting(&rt), rt.alloc(), &NO_FRONTS);
 }
+
+// A block may say no sets and have more bytes.
+const WITHOUT_SETS: [&[u8]; 2] = [
+    b"\x1e\x04\x00\x07\x00\x00\x00\x01\x00\x00\x00f\x04\x00\x00\x00\x00\x00\x00\x00\x08\x00\x00\x00\x07\x00\x00\x00\x00\x00\x00\x01",
+    b"\x1e\x04\x00\x07\x00\x00\x00\x01\x00\x00\x00f\x04\x00\x00\x00\x00\x00\x00\x00\x0a\x00\x00\x00\x00\x00\x00\x00\x00\x00\x00\x02zz",
+];
 
 #[test]
 fn blocks_without_sets(rt: HostRuntime) {
     let assert = Asserting(&rt);
-    // A block may say no sets and have more bytes.
-    let rows: [&[u8]; 2] = [
-        b"\x1e\x04\x00\x07\x00\x00\x00\x01\x00\x00\x00f\x04\x00\x00\x00\x00\x00\x00\x00\x08\x00\x00\x00\x07\x00\x00\x00\x00\x00\x00\x01",
-        b"\x1e\x04\x00\x07\x00\x00\x00\x01\x00\x00\x00f\x04\x00\x00\x00\x00\x00\x00\x00\x0a\x00\x00\x00\x00\x00\x00\x00\x00\x00\x00\x02zz",
-    ];
-    for bytes in rows {
+    for bytes in WITHOUT_SETS {
         let packet = whole::<ComBinlogDumpGtid, ()>(&assert, rt.alloc(), (), bytes);
         assert_equal(&assert, packet.sids().len(), 0);
+        drop(packet);
     }
 }
 
 // Asserts that a request has these flags.
 fn assert_flags(assert: &impl Assert, packet: ComBinlogDumpGtid<'_>, flags: u16) {
-    assert_equal(assert, packet.flags().0, flags);
+    let found = packet.flags().0;
+    drop(packet);
+    assert_equal(assert, found, flags);
 }
 
 #[test]
@@ -131,6 +140,7 @@ fn flags_say_whether_there_are_sets(rt: HostRuntime) {
     assert_flags(&assert, request().with_flags(through), 0);
     let sids = [untagged_set(&assert, rt.alloc())];
     assert_flags(&assert, request().with_sids(CowSlice::Borrowed(&sids)), 4);
+    drop(sids);
 }
 
 #[test]
@@ -143,6 +153,7 @@ fn fields_of_a_request(rt: HostRuntime) {
         packet.filename(rt.alloc()),
         "f",
     );
+    drop(packet);
 }
 
 #[test]
@@ -150,5 +161,5 @@ fn a_request_is_copied(rt: HostRuntime) {
     let assert = Asserting(&rt);
     let alloc = rt.alloc();
     let packet = with_both(&assert, alloc);
-    assert_copied(&assert, &packet, packet.clone(alloc), packet.clone(alloc));
+    assert_makes(&assert, packet.clone(alloc), packet.clone(alloc), packet);
 }

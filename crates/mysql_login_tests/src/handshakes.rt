@@ -1,6 +1,6 @@
 //! Initial handshake packets.
 
-use crate::support::{Asserting, assert_each_refused, assert_owned, assert_text};
+use crate::support::{Asserting, assert_each_refused, assert_makes, assert_text, assert_writes};
 use bitflags::Flags;
 use mysql_const::{CapabilityFlags, MariadbCapabilities, StatusFlags};
 use mysql_login::{AuthPlugin, HandshakePacket};
@@ -8,7 +8,8 @@ use mysql_raw::WireError;
 use std::alloc::{AllocError, Global};
 use std::borrow::{CowSlice, CowStr};
 use tests_support::{
-    Assert, assert_bytes, assert_cut_off, assert_same, assert_written, once_more, whole,
+    Assert, assert_bytes, assert_cut_off, assert_equal, assert_same, assert_written, once_more,
+    whole,
 };
 
 /// The handshake of a MariaDB server.
@@ -43,11 +44,11 @@ fn assert_connection(
     packet: &HandshakePacket<'_>,
     connection_id: u32,
     capabilities: u32,
-    plugin: &Option<AuthPlugin<'_>>,
+    plugin: Option<AuthPlugin<'_>>,
 ) {
     assert_same(assert, &packet.connection_id(), &connection_id);
     assert_same(assert, &packet.capabilities().bits(), &capabilities);
-    assert_same(assert, &packet.auth_plugin(), plugin);
+    assert_equal(assert, packet.auth_plugin(), plugin);
 }
 
 #[test]
@@ -55,8 +56,8 @@ fn of_mariadb(rt: HostRuntime) {
     let assert = Asserting(&rt);
     let packet = read(&assert, rt.alloc(), MARIADB);
     assert_versions(&assert, &packet, Some((5, 5, 5)), Some((10, 0, 17)));
-    assert_connection(&assert, &packet, 11, 0xf7ff, &None);
-    assert_written(&assert, rt.alloc(), &packet, MARIADB);
+    assert_connection(&assert, &packet, 11, 0xf7ff, None);
+    assert_writes(&assert, rt.alloc(), packet, MARIADB);
 }
 
 #[test]
@@ -65,8 +66,8 @@ fn of_mysql(rt: HostRuntime) {
     let packet = read(&assert, rt.alloc(), MYSQL);
     let plugin = Some(AuthPlugin::MysqlNativePassword);
     assert_versions(&assert, &packet, Some((5, 6, 4)), None);
-    assert_connection(&assert, &packet, 2646, 0xc00f_ffff, &plugin);
-    assert_written(&assert, rt.alloc(), &packet, MYSQL);
+    assert_connection(&assert, &packet, 2646, 0xc00f_ffff, plugin);
+    assert_writes(&assert, rt.alloc(), packet, MYSQL);
 }
 
 // Asserts that a packet has the numbers of the handshake of a MySQL server.
@@ -103,14 +104,17 @@ fn fields(rt: HostRuntime) {
     let packet = read(&assert, rt.alloc(), MYSQL);
     assert_numbers(&assert, &packet);
     assert_texts(&assert, &packet);
+    drop(packet);
 }
 
-// Asserts that the name of a plugin is this text.
-fn assert_name(assert: &impl Assert, name: Option<CowStr<'_>>, wanted: &str) {
-    match name {
-        Some(name) => assert_bytes(assert, name.as_str().as_bytes(), wanted.as_bytes()),
-        None => assert.holds(false),
-    }
+// Asserts that the name of a packet's plugin is this text.
+fn assert_name(assert: &impl Assert, alloc: Global, packet: &HandshakePacket<'_>, wanted: &str) {
+    let name = once_more(
+        assert,
+        packet.auth_plugin_name_str(alloc),
+        packet.auth_plugin_name_str(alloc),
+    );
+    assert_equal(assert, name, Some(CowStr::Borrowed(wanted)));
 }
 
 #[test]
@@ -124,13 +128,12 @@ fn texts(rt: HostRuntime) {
         packet.server_version_str(alloc),
         "5.6.4-m7-log",
     );
-    let name = once_more(
-        &assert,
-        packet.auth_plugin_name_str(alloc),
-        packet.auth_plugin_name_str(alloc),
-    );
-    assert_name(&assert, name, "mysql_native_password");
+    assert_name(&assert, alloc, &packet, "mysql_native_password");
+    drop(packet);
 }
+
+// The nonce of a handshake with no second scramble.
+const SHORT_NONCE: &[u8] = b"abcdefgh\x00\x00\x00\x00\x00\x00\x00\x00\x00\x00\x00\x00";
 
 // Asserts that the nonce of a packet is this.
 fn assert_nonce(assert: &impl Assert, alloc: Global, packet: &HandshakePacket<'_>, wanted: &[u8]) {
@@ -144,8 +147,10 @@ fn nonces(rt: HostRuntime) {
     let alloc = rt.alloc();
     let packet = read(&assert, alloc, MYSQL);
     assert_nonce(&assert, alloc, &packet, b"RB3vz&Gr+yD&/ZZ305ZG");
-    let short = b"abcdefgh\x00\x00\x00\x00\x00\x00\x00\x00\x00\x00\x00\x00";
-    assert_nonce(&assert, alloc, &with_version(b"4.1"), short);
+    drop(packet);
+    let short = with_version(b"4.1");
+    assert_nonce(&assert, alloc, &short, SHORT_NONCE);
+    drop(short);
 }
 
 // Handshakes that say 128, 20 and 0 bytes of both scrambles, of which the second has 120, 13 and 13.
@@ -176,6 +181,7 @@ fn second_scrambles(rt: HostRuntime) {
     for (bytes, len) in SCRAMBLES {
         let packet = read(&assert, rt.alloc(), bytes);
         assert_scramble(&assert, &packet, len);
+        drop(packet);
     }
 }
 
@@ -186,16 +192,18 @@ fn cut_off(rt: HostRuntime) {
     assert_cut_off::<HandshakePacket, ()>(&assert, alloc, (), MARIADB, 0, MARIADB.len());
     // The name of a plugin may end anywhere, so those bytes are read.
     assert_cut_off::<HandshakePacket, ()>(&assert, alloc, (), MYSQL, 0, 58);
-    let _ = read(&assert, alloc, &MYSQL[..58]);
+    drop(read(&assert, alloc, &MYSQL[..58]));
 }
+
+// Bytes, and why they are refused.
+const UNKNOWN_STATUS: [(&[u8], WireError); 1] = [(
+    b"\x0a5.5.5-10.0.17-MariaDB-log\x00\x0b\x00\x00\x00dvH@I-CJ\x00\xff\xf7\x08\x04\x00\x00\x00\x00\x00\x00\x00\x00\x00\x00\x00\x00\x00\x00*4d|cZwk4^]:\x00",
+    WireError::UnknownValue,
+)];
 
 #[test]
 fn an_unknown_status(rt: HostRuntime) {
-    let rows: [(&[u8], WireError); 1] = [(
-        b"\x0a5.5.5-10.0.17-MariaDB-log\x00\x0b\x00\x00\x00dvH@I-CJ\x00\xff\xf7\x08\x04\x00\x00\x00\x00\x00\x00\x00\x00\x00\x00\x00\x00\x00\x00*4d|cZwk4^]:\x00",
-        WireError::UnknownValue,
-    )];
-    assert_each_refused::<HandshakePacket>(&Asserting(&rt), rt.alloc(), &rows);
+    assert_each_refused::<HandshakePacket>(&Asserting(&rt), rt.alloc(), &UNKNOWN_STATUS);
 }
 
 // A handshake with a name and an extended capability.
@@ -220,25 +228,34 @@ const MADE: &[u8] =
 #[test]
 fn a_packet_made(rt: HostRuntime) {
     let assert = Asserting(&rt);
-    let packet = made();
-    assert_written(&assert, rt.alloc(), &packet, MADE);
-    assert_same(&assert, &read(&assert, rt.alloc(), MADE), &packet);
+    assert_writes(&assert, rt.alloc(), made(), MADE);
+    assert_equal(&assert, read(&assert, rt.alloc(), MADE), made());
 }
 
 #[test]
 fn a_packet_owned(rt: HostRuntime) {
     let assert = Asserting(&rt);
     let alloc = rt.alloc();
-    let packet = made();
-    assert_owned(
+    assert_makes(
         &assert,
-        &packet,
         made().into_owned(alloc),
         made().into_owned(alloc),
+        made(),
     );
     // A copy that owns its bytes gives them on without memory.
-    let copy = once_more(&assert, packet.clone(alloc), packet.clone(alloc));
-    assert_owned(&assert, &packet, copy.into_owned(alloc), Err(AllocError));
+    let copy = copy(&assert, alloc, made());
+    assert_makes(&assert, copy.into_owned(alloc), Err(AllocError), made());
+}
+
+// A copy of a packet.
+fn copy<'a>(
+    assert: &impl Assert,
+    alloc: Global,
+    packet: HandshakePacket<'a>,
+) -> HandshakePacket<'static> {
+    let copy = once_more(assert, packet.clone(alloc), packet.clone(alloc));
+    drop(packet);
+    copy
 }
 
 // A handshake with this version and no second scramble.
@@ -256,19 +273,23 @@ fn with_version<'a>(version: &'a [u8]) -> HandshakePacket<'a> {
     )
 }
 
+// Texts, and the versions of a server and of a MariaDB server that they are.
+const VERSIONS: [(&[u8], Option<Version>, Option<Version>); 7] = [
+    (b"4.1", None, None),
+    (b"8.0.1234", Some((8, 0, 123)), None),
+    (b"100.0.1", None, None),
+    (b"5.5.5-MariaDB", Some((5, 5, 5)), Some((5, 5, 5))),
+    (b"11.4.2-MariaDB", Some((11, 4, 2)), Some((11, 4, 2))),
+    (b"5x5x5-10.0.17-MariaDB", None, None),
+    (b"5.5.5-10.0.17", Some((5, 5, 5)), None),
+];
+
 #[test]
 fn versions(rt: HostRuntime) {
     let assert = Asserting(&rt);
-    let rows: [(&[u8], Option<Version>, Option<Version>); 7] = [
-        (b"4.1", None, None),
-        (b"8.0.1234", Some((8, 0, 123)), None),
-        (b"100.0.1", None, None),
-        (b"5.5.5-MariaDB", Some((5, 5, 5)), Some((5, 5, 5))),
-        (b"11.4.2-MariaDB", Some((11, 4, 2)), Some((11, 4, 2))),
-        (b"5x5x5-10.0.17-MariaDB", None, None),
-        (b"5.5.5-10.0.17", Some((5, 5, 5)), None),
-    ];
-    for (text, version, mariadb) in rows {
-        assert_versions(&assert, &with_version(text), version, mariadb);
+    for (text, version, mariadb) in VERSIONS {
+        let packet = with_version(text);
+        assert_versions(&assert, &packet, version, mariadb);
+        drop(packet);
     }
 }

@@ -1,12 +1,12 @@
 //! Plugins and what they send.
 
-use crate::support::{Asserting, assert_owned};
+use crate::support::{Asserting, assert_makes};
 use mysql_auth::without_zero;
 use mysql_login::{AuthPlugin, AuthPluginData, parse_parsec_salt};
 use std::alloc::{AllocError, Global};
 use std::borrow::CowSlice;
 use tests_support::{
-    Assert, assert_bytes, assert_copied, assert_same, assert_written, once_more, whole,
+    Assert, assert_bytes, assert_equal, assert_same, assert_written, once_more, whole,
 };
 
 /// A packet of PARSEC's salt, with a factor of 3.
@@ -15,12 +15,12 @@ const SALT: &[u8] = b"P\x03abcdefghijklmnopqr";
 // Asserts that a name, with and without a zero behind it, is this plugin's, and that the plugin is written by it.
 fn assert_named(assert: &impl Assert, alloc: Global, with_zero: &[u8], plugin: &AuthPlugin<'_>) {
     let name = without_zero(with_zero);
-    assert_same(assert, &AuthPlugin::from_bytes(name), plugin);
-    assert_same(assert, &AuthPlugin::from_bytes(with_zero), plugin);
+    assert_equal(assert, AuthPlugin::from_bytes(name), plugin.borrow());
+    assert_equal(assert, AuthPlugin::from_bytes(with_zero), plugin.borrow());
     assert_bytes(assert, plugin.as_bytes(), name);
     assert_written(assert, alloc, plugin, with_zero);
     let read = whole::<AuthPlugin, ()>(assert, alloc, (), with_zero);
-    assert_same(assert, &read, plugin);
+    assert_equal(assert, read, plugin.borrow());
 }
 
 #[test]
@@ -51,29 +51,33 @@ fn named_plugins(rt: HostRuntime) {
     for (with_zero, plugin) in &rows {
         assert_named(&assert, rt.alloc(), *with_zero, plugin);
     }
+    drop(rows);
 }
 
 #[test]
 fn one_zero_is_taken_off(rt: HostRuntime) {
     let two_zeros = AuthPlugin::from_bytes(b"parsec\x00\x00");
     assert_bytes(&Asserting(&rt), two_zeros.as_bytes(), b"parsec\x00");
+    drop(two_zeros);
 }
+
+// Packets, and the iterations and the salt that they hold.
+const SALTS: [(&[u8], Option<(u32, &[u8; 18])>); 6] = [
+    (SALT, Some((8192, b"abcdefghijklmnopqr"))),
+    (
+        b"P\x14abcdefghijklmnopqr",
+        Some((0x4000_0000, b"abcdefghijklmnopqr")),
+    ),
+    (b"P\x15abcdefghijklmnopqr", None),
+    (b"Q\x03abcdefghijklmnopqr", None),
+    (b"P\x03abcdefghijklmnopq", None),
+    (b"P\x03abcdefghijklmnopqrs", None),
+];
 
 #[test]
 fn salts(rt: HostRuntime) {
     let assert = Asserting(&rt);
-    let rows: [(&[u8], Option<(u32, &[u8; 18])>); 6] = [
-        (SALT, Some((8192, b"abcdefghijklmnopqr"))),
-        (
-            b"P\x14abcdefghijklmnopqr",
-            Some((0x4000_0000, b"abcdefghijklmnopqr")),
-        ),
-        (b"P\x15abcdefghijklmnopqr", None),
-        (b"Q\x03abcdefghijklmnopqr", None),
-        (b"P\x03abcdefghijklmnopq", None),
-        (b"P\x03abcdefghijklmnopqrs", None),
-    ];
-    for (packet, wanted) in rows {
+    for (packet, wanted) in SALTS {
         assert_same(&assert, &parse_parsec_salt(packet), &wanted);
     }
 }
@@ -84,38 +88,52 @@ fn assert_data(
     mut plugin: AuthPlugin<'_>,
     payload: &[u8],
     is_taken: bool,
-    wanted: &AuthPlugin<'_>,
+    wanted: AuthPlugin<'_>,
 ) {
     assert.holds(plugin.read_add_data(payload).is_some() == is_taken);
-    assert_same(assert, &plugin, wanted);
+    assert_equal(assert, plugin, wanted);
+}
+
+fn parsec() -> AuthPlugin<'static> {
+    AuthPlugin::from_bytes(b"parsec")
+}
+
+// PARSEC with what the packet above says.
+fn told() -> AuthPlugin<'static> {
+    AuthPlugin::MariadbParsec {
+        iterations: 8192,
+        ext_salt: *b"abcdefghijklmnopqr",
+    }
+}
+
+fn native() -> AuthPlugin<'static> {
+    AuthPlugin::MysqlNativePassword
 }
 
 #[test]
 fn data_of_a_packet(rt: HostRuntime) {
     let assert = Asserting(&rt);
-    let told = AuthPlugin::MariadbParsec {
-        iterations: 8192,
-        ext_salt: *b"abcdefghijklmnopqr",
-    };
-    let parsec = AuthPlugin::from_bytes(b"parsec");
-    assert_data(&assert, parsec.borrow(), b"P", false, &parsec);
-    assert_data(&assert, parsec.borrow(), SALT, true, &told);
-    let native = AuthPlugin::MysqlNativePassword;
-    assert_data(&assert, native.borrow(), SALT, false, &native);
+    assert_data(&assert, parsec(), b"P", false, parsec());
+    assert_data(&assert, parsec(), SALT, true, told());
+    assert_data(&assert, native(), SALT, false, native());
 }
 
 #[test]
 fn plugins_owned(rt: HostRuntime) {
     let assert = Asserting(&rt);
     let alloc = rt.alloc();
-    let plugin = AuthPlugin::from_bytes(b"dialog");
-    assert_copied(&assert, &plugin, plugin.clone(alloc), plugin.clone(alloc));
-    assert_owned(
+    let plugin = dialog();
+    assert_makes(&assert, plugin.clone(alloc), plugin.clone(alloc), plugin);
+    assert_makes(
         &assert,
-        &plugin,
-        plugin.borrow().into_owned(alloc),
-        plugin.borrow().into_owned(alloc),
+        dialog().into_owned(alloc),
+        dialog().into_owned(alloc),
+        dialog(),
     );
+}
+
+fn dialog() -> AuthPlugin<'static> {
+    AuthPlugin::from_bytes(b"dialog")
 }
 
 fn clear() -> AuthPluginData<'static> {
@@ -125,7 +143,9 @@ fn clear() -> AuthPluginData<'static> {
 #[test]
 fn data_sent(rt: HostRuntime) {
     let assert = Asserting(&rt);
-    assert_bytes(&assert, clear().as_bytes(), b"secret");
+    let secret = clear();
+    assert_bytes(&assert, secret.as_bytes(), b"secret");
+    drop(secret);
     let rows: [(AuthPluginData<'_>, &[u8]); 6] = [
         (AuthPluginData::Old(*b"abcdefgh"), b"abcdefgh\x00"),
         (clear(), b"secret\x00"),
@@ -137,19 +157,31 @@ fn data_sent(rt: HostRuntime) {
     for (sent, bytes) in &rows {
         assert_written(&assert, rt.alloc(), sent, *bytes);
     }
+    drop(rows);
 }
 
 #[test]
 fn data_owned(rt: HostRuntime) {
     let assert = Asserting(&rt);
     let alloc = rt.alloc();
-    assert_owned(
+    assert_makes(
         &assert,
-        &clear(),
         clear().into_owned(alloc),
         clear().into_owned(alloc),
+        clear(),
     );
     // A copy that owns its bytes gives them on without memory.
-    let copy = once_more(&assert, clear().clone(alloc), clear().clone(alloc));
-    assert_owned(&assert, &clear(), copy.into_owned(alloc), Err(AllocError));
+    let copy = copy(&assert, alloc, clear());
+    assert_makes(&assert, copy.into_owned(alloc), Err(AllocError), clear());
+}
+
+// A copy of what is sent.
+fn copy<'a>(
+    assert: &impl Assert,
+    alloc: Global,
+    sent: AuthPluginData<'a>,
+) -> AuthPluginData<'static> {
+    let copy = once_more(assert, sent.clone(alloc), sent.clone(alloc));
+    drop(sent);
+    copy
 }

@@ -1,11 +1,11 @@
 //! The packets of names and numbers alone: registration of a replica, dumps of a table, and acknowledgements.
 
-use crate::support::{Asserting, assert_each_refused, assert_packet, assert_text};
+use crate::support::{Asserting, assert_each_refused, assert_makes, assert_packet, assert_text};
 use mysql_login::{ComRegisterSlave, ComTableDump, SemiSyncAckPacket};
 use mysql_raw::WireError;
 use std::alloc::Global;
 use std::borrow::CowSlice;
-use tests_support::{Assert, assert_bytes, assert_copied};
+use tests_support::{Assert, assert_bytes};
 
 const TABLE: &[u8] = b"\x13\x02db\x01t";
 
@@ -14,13 +14,15 @@ const REPLICA: &[u8] =
 
 const ACKNOWLEDGED: &[u8] = b"\xef\x01\x02\x00\x00\x00\x00\x00\x00binlog.1";
 
+// Bytes, and why they are refused.
+const NO_TABLE: [(&[u8], WireError); 1] = [(b"\x12", WireError::BadConstant)];
+
 #[test]
 fn a_table(rt: HostRuntime) {
     let assert = Asserting(&rt);
     let packet = ComTableDump::new(CowSlice::Borrowed(b"db"), CowSlice::Borrowed(b"t"));
-    assert_packet::<ComTableDump>(&assert, rt.alloc(), &packet, TABLE, TABLE.len());
-    let rows: [(&[u8], WireError); 1] = [(b"\x12", WireError::BadConstant)];
-    assert_each_refused::<ComTableDump>(&assert, rt.alloc(), &rows);
+    assert_packet(&assert, rt.alloc(), packet, TABLE, TABLE.len());
+    assert_each_refused::<ComTableDump>(&assert, rt.alloc(), &NO_TABLE);
 }
 
 // Asserts that a table has these names, of which the first is no text.
@@ -42,28 +44,40 @@ fn names_of_a_table(rt: HostRuntime) {
     let alloc = rt.alloc();
     let packet = ComTableDump::new(CowSlice::Borrowed(b"d\xff"), CowSlice::Borrowed(b"t"));
     assert_names_of_a_table(&assert, alloc, &packet);
-    assert_copied(&assert, &packet, packet.clone(alloc), packet.clone(alloc));
+    assert_makes(&assert, packet.clone(alloc), packet.clone(alloc), packet);
+}
+
+// A replica with these names of it, its user and its password.
+fn with_names(
+    replica: ComRegisterSlave<'static>,
+    hostname: &'static [u8],
+    user: &'static [u8],
+    password: &'static [u8],
+) -> ComRegisterSlave<'static> {
+    replica
+        .with_hostname(CowSlice::Borrowed(hostname))
+        .with_user(CowSlice::Borrowed(user))
+        .with_password(CowSlice::Borrowed(password))
 }
 
 #[test]
 fn a_replica(rt: HostRuntime) {
-    let packet = ComRegisterSlave::new(0x102)
-        .with_hostname(CowSlice::Borrowed(b"host"))
-        .with_user(CowSlice::Borrowed(b"u"))
-        .with_password(CowSlice::Borrowed(b""))
+    let packet = with_names(ComRegisterSlave::new(0x102), b"host", b"u", b"")
         .with_port(3306)
         .with_replication_rank(3)
         .with_master_id(4);
-    assert_packet::<ComRegisterSlave>(&Asserting(&rt), rt.alloc(), &packet, REPLICA, REPLICA.len());
+    assert_packet(&Asserting(&rt), rt.alloc(), packet, REPLICA, REPLICA.len());
 }
+
+// Bytes, and why they are refused.
+const NO_REPLICAS: [(&[u8], WireError); 2] = [
+    (b"\x14\x01\x00\x00\x00", WireError::BadConstant),
+    (b"\x14\x01\x00\x00", WireError::UnexpectedEof),
+];
 
 #[test]
 fn no_replica(rt: HostRuntime) {
-    let rows: [(&[u8], WireError); 2] = [
-        (b"\x14\x01\x00\x00\x00", WireError::BadConstant),
-        (b"\x14\x01\x00\x00", WireError::UnexpectedEof),
-    ];
-    assert_each_refused::<ComRegisterSlave>(&Asserting(&rt), rt.alloc(), &rows);
+    assert_each_refused::<ComRegisterSlave>(&Asserting(&rt), rt.alloc(), &NO_REPLICAS);
 }
 
 // Asserts that a replica has these names.
@@ -77,40 +91,44 @@ fn assert_names_of_a_replica(assert: &impl Assert, alloc: Global, packet: &ComRe
 fn names_of_a_replica(rt: HostRuntime) {
     let assert = Asserting(&rt);
     let alloc = rt.alloc();
-    let packet = ComRegisterSlave::new(1)
-        .with_hostname(CowSlice::Borrowed(b"h"))
-        .with_user(CowSlice::Borrowed(b"u"))
-        .with_password(CowSlice::Borrowed(b"p"));
+    let packet = with_names(ComRegisterSlave::new(1), b"h", b"u", b"p");
     assert_names_of_a_replica(&assert, alloc, &packet);
-    assert_copied(&assert, &packet, packet.clone(alloc), packet.clone(alloc));
+    assert_makes(&assert, packet.clone(alloc), packet.clone(alloc), packet);
+}
+
+fn acknowledgement() -> SemiSyncAckPacket<'static> {
+    SemiSyncAckPacket::new(0, CowSlice::Borrowed(b""))
+        .with_position(0x201)
+        .with_filename(CowSlice::Borrowed(b"binlog.1"))
 }
 
 #[test]
 fn an_acknowledgement(rt: HostRuntime) {
     let assert = Asserting(&rt);
-    let packet = SemiSyncAckPacket::new(0, CowSlice::Borrowed(b""))
-        .with_position(0x201)
-        .with_filename(CowSlice::Borrowed(b"binlog.1"));
-    assert_packet::<SemiSyncAckPacket>(&assert, rt.alloc(), &packet, ACKNOWLEDGED, 9);
+    assert_packet(&assert, rt.alloc(), acknowledgement(), ACKNOWLEDGED, 9);
+    let packet = acknowledgement();
     assert_text(
         &assert,
         packet.filename(rt.alloc()),
         packet.filename(rt.alloc()),
         "binlog.1",
     );
+    drop(packet);
 }
+
+// Bytes, and why they are refused.
+const NO_ACKNOWLEDGEMENTS: [(&[u8], WireError); 2] = [
+    (
+        b"\xee\x01\x00\x00\x00\x00\x00\x00\x00",
+        WireError::BadConstant,
+    ),
+    (
+        b"\xee\x01\x00\x00\x00\x00\x00\x00",
+        WireError::UnexpectedEof,
+    ),
+];
 
 #[test]
 fn no_acknowledgement(rt: HostRuntime) {
-    let rows: [(&[u8], WireError); 2] = [
-        (
-            b"\xee\x01\x00\x00\x00\x00\x00\x00\x00",
-            WireError::BadConstant,
-        ),
-        (
-            b"\xee\x01\x00\x00\x00\x00\x00\x00",
-            WireError::UnexpectedEof,
-        ),
-    ];
-    assert_each_refused::<SemiSyncAckPacket>(&Asserting(&rt), rt.alloc(), &rows);
+    assert_each_refused::<SemiSyncAckPacket>(&Asserting(&rt), rt.alloc(), &NO_ACKNOWLEDGEMENTS);
 }

@@ -1,10 +1,10 @@
 //! Requests that one of two packets carries.
 
-use crate::support::{Asserting, assert_text, untagged_set};
+use crate::support::{Asserting, assert_makes, assert_text, assert_writes, untagged_set};
 use mysql_login::{BinlogDumpFlags, BinlogRequest, Sid};
 use std::alloc::{AllocError, Global};
 use std::borrow::CowSlice;
-use tests_support::{Assert, assert_copied, assert_equal, assert_written, once_more};
+use tests_support::{Assert, assert_equal, once_more};
 
 fn sids(alloc: Global, sid: Sid<'static>) -> Result<Vec<Sid<'static>>, AllocError> {
     let mut sids = Vec::new(alloc);
@@ -27,17 +27,16 @@ fn request(assert: &impl Assert, alloc: Global) -> BinlogRequest<'static> {
 }
 
 // Asserts that the packet which carries a request is written as these bytes.
-fn assert_carried(assert: &impl Assert, alloc: Global, request: &BinlogRequest<'_>, bytes: &[u8]) {
-    let packet = request.as_cmd();
-    assert_written(assert, alloc, &packet, bytes);
+fn assert_carried(assert: &impl Assert, alloc: Global, request: BinlogRequest<'_>, bytes: &[u8]) {
+    assert_writes(assert, alloc, request.as_cmd(), bytes);
+    drop(request);
 }
 
 #[test]
 fn from_a_place(rt: HostRuntime) {
     let assert = Asserting(&rt);
     let bytes: &[u8] = b"\x12\x05\x00\x00\x00\x01\x00\x07\x00\x00\x00f";
-    let request = request(&assert, rt.alloc());
-    assert_carried(&assert, rt.alloc(), &request, bytes);
+    assert_carried(&assert, rt.alloc(), request(&assert, rt.alloc()), bytes);
 }
 
 #[test]
@@ -46,7 +45,7 @@ fn by_transactions(rt: HostRuntime) {
     let bytes: &[u8] =
         b"\x1e\x07\x00\x07\x00\x00\x00\x01\x00\x00\x00f\x05\x00\x00\x00\x01\x00\x00\x00\x30\x00\x00\x00\x01\x00\x00\x00\x00\x00\x00\x00bbbbbbbbbbbbbbbb\x01\x00\x00\x00\x00\x00\x00\x00\x01\x00\x00\x00\x00\x00\x00\x00\x32\x00\x00\x00\x00\x00\x00\x00";
     let request = request(&assert, rt.alloc()).with_use_gtid(true);
-    assert_carried(&assert, rt.alloc(), &request, bytes);
+    assert_carried(&assert, rt.alloc(), request, bytes);
 }
 
 // Asserts that a request has these fields.
@@ -67,12 +66,7 @@ fn fields_of_a_request(rt: HostRuntime) {
     let alloc = rt.alloc();
     let request = BinlogRequest::new(alloc, 7).with_filename(CowSlice::Borrowed(b"f"));
     assert_fields(&assert, alloc, &request);
-    assert_copied(
-        &assert,
-        &request,
-        request.clone(alloc),
-        request.clone(alloc),
-    );
+    assert_makes(&assert, request.clone(alloc), request.clone(alloc), request);
 }
 
 #[test]
@@ -80,10 +74,5 @@ fn a_request_with_sets_is_copied(rt: HostRuntime) {
     let assert = Asserting(&rt);
     let alloc = rt.alloc();
     let request = request(&assert, alloc);
-    assert_copied(
-        &assert,
-        &request,
-        request.clone(alloc),
-        request.clone(alloc),
-    );
+    assert_makes(&assert, request.clone(alloc), request.clone(alloc), request);
 }

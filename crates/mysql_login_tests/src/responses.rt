@@ -1,14 +1,13 @@
 //! Answers to the handshake.
 
-use crate::support::{Asserting, assert_texts, one_text};
+use crate::support::{Asserting, assert_makes, assert_texts, one_text};
 use indexmap::IndexMap;
 use mysql_const::CapabilityFlags;
 use mysql_login::{AuthPlugin, HandshakeResponse};
 use std::alloc::{AllocError, Global};
 use std::borrow::CowSlice;
 use tests_support::{
-    Assert, assert_bytes, assert_copied, assert_cut_off, assert_made, assert_same, once_more,
-    whole, written,
+    Assert, assert_bytes, assert_cut_off, assert_made, assert_same, once_more, whole, written,
 };
 
 const OF_ROOT: &[u8] =
@@ -87,11 +86,11 @@ fn an_answer_is_copied(rt: HostRuntime) {
     let assert = Asserting(&rt);
     let alloc = rt.alloc();
     let response = whole::<HandshakeResponse, ()>(&assert, alloc, (), WITH_ATTRIBUTES);
-    assert_copied(
+    assert_makes(
         &assert,
-        &response,
         response.clone(alloc),
         response.clone(alloc),
+        response,
     );
 }
 
@@ -113,6 +112,7 @@ fn an_answer_is_read(rt: HostRuntime) {
     let assert = Asserting(&rt);
     let response = whole::<HandshakeResponse, ()>(&assert, rt.alloc(), (), WITH_ATTRIBUTES);
     assert_fields(&assert, &response);
+    drop(response);
 }
 
 // Asserts that there are texts, and that they are these.
@@ -123,7 +123,7 @@ fn assert_attributes(
     wanted: &[u8],
 ) {
     match texts {
-        Some(texts) => assert_texts(assert, alloc, &texts, wanted),
+        Some(texts) => assert_texts(assert, alloc, texts, wanted),
         None => assert.holds(false),
     }
 }
@@ -138,6 +138,7 @@ fn attributes_of_an_answer(rt: HostRuntime) {
         response.connect_attributes(alloc),
         response.connect_attributes(alloc),
     );
+    drop(response);
     assert_attributes(&assert, alloc, texts, b"a1");
 }
 
@@ -178,21 +179,23 @@ fn assert_scramble(assert: &impl Assert, alloc: Global, capabilities: u32, endin
         with_scramble(alloc, capabilities),
         with_scramble(alloc, capabilities),
     );
-    let bytes = written(assert, alloc, &response);
-    assert.holds(bytes.as_slice().ends_with(ending));
     assert_same(assert, &response.collation(), &33);
+    let bytes = written(assert, alloc, &response);
+    drop(response);
+    assert.holds(bytes.as_slice().ends_with(ending));
 }
+
+// Capabilities, and the endings: after a length-encoded number, after a byte, before a zero.
+const ENDINGS: [(u32, &[u8]); 3] = [
+    (0x200000, b"\0\x02ab"),
+    (0x8000, b"\0\x02ab"),
+    (0, b"\0ab\0"),
+];
 
 #[test]
 fn forms_of_the_scramble(rt: HostRuntime) {
     let assert = Asserting(&rt);
-    // After a length-encoded number, after a byte, before a zero.
-    let rows: [(u32, &[u8]); 3] = [
-        (0x200000, b"\0\x02ab"),
-        (0x8000, b"\0\x02ab"),
-        (0, b"\0ab\0"),
-    ];
-    for (capabilities, ending) in rows {
+    for (capabilities, ending) in ENDINGS {
         assert_scramble(&assert, rt.alloc(), capabilities, ending);
     }
 }

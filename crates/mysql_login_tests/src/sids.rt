@@ -18,6 +18,7 @@ fn printed(alloc: Global, sid: &Sid<'_>) -> Result<String, AllocError> {
 fn assert_printed(assert: &impl Assert, alloc: Global, text: &str, wanted: &str) {
     let sid = parsed(assert, alloc, text);
     let found = once_more(assert, printed(alloc, &sid), printed(alloc, &sid));
+    drop(sid);
     assert_bytes(assert, found.as_str().as_bytes(), wanted.as_bytes());
 }
 
@@ -72,7 +73,9 @@ fn intervals_of_a_text(rt: HostRuntime) {
     let assert = Asserting(&rt);
     let text = "3E11FA47-71CA-11E1-9E33-C80AA9429562:1-5:10-15";
     let wanted = [GnoInterval::new(1, 6), GnoInterval::new(10, 16)];
-    assert_intervals(&assert, &parsed(&assert, rt.alloc(), text), &wanted);
+    let sid = parsed(&assert, rt.alloc(), text);
+    assert_intervals(&assert, &sid, &wanted);
+    drop(sid);
 }
 
 // Asserts that a text is refused for this cause. It is read once more where memory was refused.

@@ -1,4 +1,7 @@
 //! What the tests share.
+//!
+//! A value that a function drops at its end is taken apart there, part by part, which is dear to prove. So a test hands each
+//! packet to a generic function that takes it, be it `drop`: at a type parameter that is one call.
 
 ghost use Rattle.std.specs.Prelude.{◌≡◌, true};
 
@@ -11,7 +14,7 @@ use std::fmt::Debug;
 use std::process::Abort;
 use tests_support::{
     Assert, assert_bytes, assert_cut_off, assert_reads_back, assert_refused, assert_same,
-    assert_written, once_more,
+    assert_written, once_more, whole,
 };
 
 /// Ends a test by an assertion.
@@ -37,15 +40,34 @@ pub fn assert_text<E: Drop>(
     assert_bytes(assert, text.as_str().as_bytes(), wanted.as_bytes());
 }
 
-/// Asserts that what was made to borrow nothing, or the same made once more, is the value that it was made of.
-pub fn assert_owned<T: PartialEq + Debug + Drop, E: Drop>(
+/// Asserts that what a call made, or the same call once more, is the value that it was made of.
+pub fn assert_makes<T: PartialEq + Debug + Drop, E: Drop>(
     assert: &impl Assert,
-    value: &T,
     first: Result<T, E>,
     second: Result<T, E>,
+    value: T,
 ) {
-    let owned = once_more(assert, first, second);
-    assert_same(assert, &owned, value);
+    let made = once_more(assert, first, second);
+    assert_same(assert, &made, &value);
+}
+
+/// Asserts that a value is written as these bytes.
+pub fn assert_writes<T: MySerialize + Drop>(
+    assert: &impl Assert,
+    alloc: Global,
+    value: T,
+    bytes: &[u8],
+) {
+    assert_written(assert, alloc, &value, bytes);
+}
+
+/// Asserts that a value is written as these bytes, and that they are read as the same value.
+pub fn assert_read_back<
+    'a,
+    T: MySerialize + MyDeserialize<'a> + Readable<Ctx = ()> + PartialEq + Debug + Drop,
+>(assert: &impl Assert, alloc: Global, value: T, bytes: &'a [u8]) {
+    assert_written(assert, alloc, &value, bytes);
+    assert_same(assert, &whole::<T, ()>(assert, alloc, (), bytes), &value);
 }
 
 /// Asserts that a packet is written as these bytes, that they are read as a packet which is written as the same bytes, and
@@ -53,11 +75,11 @@ pub fn assert_owned<T: PartialEq + Debug + Drop, E: Drop>(
 pub fn assert_packet<'a, T: MySerialize + MyDeserialize<'a> + Readable<Ctx = ()> + Drop>(
     assert: &impl Assert,
     alloc: Global,
-    packet: &impl MySerialize,
+    packet: T,
     bytes: &'a [u8],
     len: usize,
 ) {
-    assert_written(assert, alloc, packet, bytes);
+    assert_written(assert, alloc, &packet, bytes);
     assert_reads_back::<T, ()>(assert, alloc, (), bytes);
     assert_cut_off::<T, ()>(assert, alloc, (), bytes, 0, len);
 }
@@ -112,10 +134,11 @@ pub fn one_text(
 pub fn assert_texts(
     assert: &impl Assert,
     alloc: Global,
-    texts: &IndexMap<String, String>,
+    texts: IndexMap<String, String>,
     wanted: &[u8],
 ) {
-    let all = once_more(assert, joined(alloc, texts), joined(alloc, texts));
+    let all = once_more(assert, joined(alloc, &texts), joined(alloc, &texts));
+    drop(texts);
     assert_bytes(assert, all.as_slice(), wanted);
 }
 

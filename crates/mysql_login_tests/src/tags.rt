@@ -1,9 +1,9 @@
 //! Tags of texts.
 
-use crate::support::{Asserting, assert_owned};
+use crate::support::{Asserting, assert_makes};
 use mysql_login::{InvalidTag, Tag};
 use std::borrow::CowStr;
-use tests_support::{Assert, assert_copied, assert_equal, once_more};
+use tests_support::{Assert, assert_equal, once_more};
 
 // A text as a tag, twice: by either call.
 fn tag<'a>(assert: &impl Assert, text: &'a str) -> Tag<'a> {
@@ -56,11 +56,11 @@ fn tags_owned(rt: HostRuntime) {
     let assert = Asserting(&rt);
     let alloc = rt.alloc();
     let app = tag(&assert, "app");
-    assert_copied(&assert, &app, app.clone(alloc), app.clone(alloc));
-    assert_owned(
+    assert_makes(&assert, app.clone(alloc), app.clone(alloc), app);
+    assert_makes(
         &assert,
-        &app,
         tag(&assert, "app").into_owned(alloc),
         tag(&assert, "app").into_owned(alloc),
+        tag(&assert, "app"),
     );
 }

@@ -1,6 +1,7 @@
 -- The packets of a server's reply, each as read from its payload.
 -- MySQL: Client/Server Protocol, "OK_Packet", "EOF_Packet", "ERR_Packet", "Column Definition", "Text Resultset Row",
 -- "Binary Protocol Resultset Row" and "COM_STMT_PREPARE Response"; MariaDB: 'Progress report' of "ERR_Packet".
+-- A reading takes bytes from the front: x.0 is what was read and x.1 the bytes left; the first refusal counts.
 use Rattle.std.specs.Prelude.{ℕ, zero, suc, ◌+◌, ◌/◌, ◌%◌, ◌^◌, List, [], ◌∷◌, length, Bool, Option, Some, None, Ok, ◌==◌, if◌then◌else◌}
 use Rattle.byteorder.specs.Endian.{little_number}
 use Rattle.mysql_cells.specs.declared.value.Value.{Value}
@@ -13,7 +14,7 @@ use Rattle.mysql_wire.specs.Wire.{Reading, ◌>>=◌, from_block}
 use Rattle.mysql_wire.specs.Forms.{bytes_at, lenenc_number_at, little_at}
 use Rattle.mysql_wire.specs.Texts.{lenenc_text_at}
 use Rattle.mysql_wire.specs.Lists.{elements_at}
-use Rattle.mysql_wire.specs.Constants.{constant_at, named_at, text_constant_at, zeros_at}
+use Rattle.mysql_wire.specs.Constants.{constant_at, named_at, text_constant_at, skipped_at}
 use Rattle.mysql_wire.specs.Flags.{contains, status_named}
 
 -- None for a field that holds no bytes.
@@ -42,20 +43,21 @@ abbrev pub session_state_changed : ℕ → Bool
 session_state_changed status = contains status 0x4000
 
 -- What an OK packet says.
-pub record Okay : Type 0 where
+pub record OkPacket : Type 0 where
   pub affected_rows : ℕ
   pub last_insert_id : Option ℕ
-  pub status : ℕ
+  pub status_flags : ℕ
   pub warnings : ℕ
   pub info : Option (List ℕ)
-  pub session_state : Option (List ℕ)
+  pub session_state_info : Option (List ℕ)
 
 -- An id of 0 is none.
 abbrev pub unless_zero : ℕ → Option ℕ
 unless_zero zero = None
 unless_zero (suc n) = Some (suc n)
 
--- What may follow the warnings of an OK packet: the info and the session state.
+-- What may follow the warnings of an OK packet: the info and the session state. The manual has the info as string<EOF> where sessions
+-- aren't tracked; servers write it after its length in each case.
 unfoldable pub info_at : ℕ → ℕ → List ℕ → Reading (List ℕ × List ℕ)
 info_at capabilities status [] = Ok (([], []), [])
 info_at capabilities status (b ∷ bytes) =
@@ -70,7 +72,7 @@ info_at capabilities status (b ∷ bytes) =
       Ok ((info.0, []), info.1))
 
 -- Status, warnings and what follows them; status and warnings are there together or not at all.
-unfoldable pub status_and_info_at : ℕ → ℕ → ℕ → List ℕ → Reading Okay
+unfoldable pub status_and_info_at : ℕ → ℕ → ℕ → List ℕ → Reading OkPacket
 status_and_info_at capabilities affected id bytes = do
   block ← bytes_at 4 bytes
   status ← named_at status_named (little_at 2) block.0
@@ -80,24 +82,24 @@ status_and_info_at capabilities affected id bytes = do
     record {
       affected_rows = affected;
       last_insert_id = unless_zero id;
-      status = status.0.0;
+      status_flags = status.0.0;
       warnings = warnings.0;
       info = unless_empty info.0.0;
-      session_state = unless_empty info.0.1;
+      session_state_info = unless_empty info.0.1;
     },
     info.1,
   )
 
 -- An OK packet.
-unfoldable pub okay_at : ℕ → List ℕ → Reading Okay
-okay_at capabilities bytes = do
+unfoldable pub ok_packet_at : ℕ → List ℕ → Reading OkPacket
+ok_packet_at capabilities bytes = do
   header ← constant_at 1 0 bytes
   affected ← lenenc_number_at header.1
   id ← lenenc_number_at affected.1
   status_and_info_at capabilities affected.0 id.0 id.1
 
 -- The OK packet that ends a result set; its two numbers are passed over.
-unfoldable pub result_set_terminator_at : ℕ → List ℕ → Reading Okay
+unfoldable pub result_set_terminator_at : ℕ → List ℕ → Reading OkPacket
 result_set_terminator_at capabilities bytes = do
   header ← constant_at 1 254 bytes
   affected ← lenenc_number_at header.1
@@ -105,7 +107,7 @@ result_set_terminator_at capabilities bytes = do
   status_and_info_at capabilities 0 0 id.1
 
 -- The EOF packet.
-unfoldable pub old_eof_at : List ℕ → Reading Okay
+unfoldable pub old_eof_at : List ℕ → Reading OkPacket
 old_eof_at bytes = do
   header ← constant_at 1 254 bytes
   block ← bytes_at 4 header.1
@@ -115,71 +117,86 @@ old_eof_at bytes = do
     record {
       affected_rows = 0;
       last_insert_id = None;
-      status = status.0.0;
+      status_flags = status.0.0;
       warnings = warnings.0;
       info = None;
-      session_state = None;
+      session_state_info = None;
     },
     block.1,
   )
 
 -- What an error packet says.
-pub record ServerFault : Type 0 where
-  pub code : ℕ
-  pub state : Option (List ℕ)
-  pub message : List ℕ
+pub record ErrPacket : Type 0 where
+  pub error_code : ℕ
+  pub sql_state : Option (List ℕ)
+  pub error_message : List ℕ
 
 -- An error packet; what follows the code and the state is the message.
-unfoldable pub server_fault_at : ℕ → List ℕ → Reading ServerFault
-server_fault_at capabilities bytes = do
+unfoldable pub err_packet_at : ℕ → List ℕ → Reading ErrPacket
+err_packet_at capabilities bytes = do
   block ← bytes_at 3 bytes
   header ← constant_at 1 255 block.0
   code ← little_at 2 header.1
   if protocol_41 capabilities
       then (constant_at 1 35 block.1 >>= λ marker. bytes_at 5 marker.1 >>= λ state.
-      Ok (record { code = code.0; state = Some state.0; message = state.1 }, []))
-      else Ok (record { code = code.0; state = None; message = block.1 }, [])
+      Ok (record { error_code = code.0; sql_state = Some state.0; error_message = state.1 }, []))
+      else Ok (record { error_code = code.0; sql_state = None; error_message = block.1 }, [])
 
 -- What a progress report says.
-pub record Report : Type 0 where
+pub record ProgressReport : Type 0 where
   pub stage : ℕ
   pub max_stage : ℕ
   pub progress : ℕ
-  pub info : List ℕ
+  pub progress_info : List ℕ
 
--- A progress report, from its first byte ff on.
-unfoldable pub report_at : List ℕ → Reading Report
-report_at bytes = do
-  header ← bytes_at 3 bytes
-  block ← bytes_at 6 header.1
-  count ← little_at 1 block.0
+-- The numbers of a progress report.
+pub record StageProgress : Type 0 where
+  pub stage : ℕ
+  pub max_stage : ℕ
+  pub progress : ℕ
+
+-- They stand behind a count of texts, which is passed over.
+unfoldable pub stage_progress_at : List ℕ → Reading StageProgress
+stage_progress_at bytes = do
+  count ← little_at 1 bytes
   stage ← little_at 1 count.1
   max_stage ← little_at 1 stage.1
   progress ← little_at 3 max_stage.1
+  Ok (record { stage = stage.0; max_stage = max_stage.0; progress = progress.0 }, progress.1)
+
+-- A progress report, from its first byte ff on: ff ff ff, the count of strings (1), and its fields.
+unfoldable pub progress_report_at : List ℕ → Reading ProgressReport
+progress_report_at bytes = do
+  header ← bytes_at 3 bytes
+  block ← bytes_at 6 header.1
+  numbers ← stage_progress_at block.0
   info ← lenenc_text_at block.1
-  Ok (record { stage = stage.0; max_stage = max_stage.0; progress = progress.0; info = info.0 }, info.1)
+  Ok (
+    record { stage = numbers.0.stage; max_stage = numbers.0.max_stage; progress = numbers.0.progress; progress_info = info.0 },
+    info.1,
+  )
 
 -- What a statement packet says.
-pub record Statement : Type 0 where
-  pub id : ℕ
-  pub columns : ℕ
-  pub parameters : ℕ
-  pub warnings : ℕ
+pub record PrepareOk : Type 0 where
+  pub statement_id : ℕ
+  pub num_columns : ℕ
+  pub num_params : ℕ
+  pub warning_count : ℕ
 
 -- The fields of a statement packet: 00, the id, two counts, a filler byte, the warnings.
-unfoldable pub statement_fields_at : List ℕ → Reading Statement
-statement_fields_at bytes = do
+unfoldable pub prepare_ok_fields_at : List ℕ → Reading PrepareOk
+prepare_ok_fields_at bytes = do
   header ← constant_at 1 0 bytes
   id ← little_at 4 header.1
   columns ← little_at 2 id.1
   parameters ← little_at 2 columns.1
-  filler ← zeros_at 1 parameters.1
+  filler ← skipped_at 1 parameters.1
   warnings ← little_at 2 filler.1
-  Ok (record { id = id.0; columns = columns.0; parameters = parameters.0; warnings = warnings.0 }, warnings.1)
+  Ok (record { statement_id = id.0; num_columns = columns.0; num_params = parameters.0; warning_count = warnings.0 }, warnings.1)
 
 -- A statement packet; its twelve bytes are there together or not at all.
-unfoldable pub statement_at : List ℕ → Reading Statement
-statement_at bytes = from_block 12 statement_fields_at bytes
+unfoldable pub prepare_ok_at : List ℕ → Reading PrepareOk
+prepare_ok_at bytes = from_block 12 prepare_ok_fields_at bytes
 
 -- What a column packet says.
 pub record ColumnDefinition : Type 0 where

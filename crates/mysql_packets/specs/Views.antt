@@ -2,37 +2,41 @@
 -- Packets" and "Text Resultset").
 use Rattle.std.specs.Prelude.{ℕ, List, Option, option_map, Vec}
 use Rattle.std.specs.declared.alloc.Global.{Global}
-use Rattle.mysql_packets.specs.declared.okay.OkPacket.{OkPacket}
-use Rattle.mysql_packets.specs.declared.server_fault.ServerError.{ServerError}
-use Rattle.mysql_packets.specs.declared.server_fault.ProgressReport.{ProgressReport}
+use Rattle.mysql_packets.specs.declared.ok_packet.OkPacket.{OkPacket as Ok}
+use Rattle.mysql_packets.specs.declared.err_packet.ServerError.{ServerError}
+use Rattle.mysql_packets.specs.declared.err_packet.ProgressReport.{ProgressReport as Progress}
+use Rattle.mysql_packets.specs.declared.err_packet.StageProgress.{StageProgress as CodeProgress}
 use Rattle.mysql_packets.specs.declared.statement.StmtPacket.{StmtPacket}
 use Rattle.mysql_packets.specs.declared.column.Column.{Column}
 use Rattle.mysql_packets.specs.declared.column.FixedFields.{FixedFields}
 use Rattle.mysql_packets.specs.declared.column.Names.{Names}
-use Rattle.mysql_packets.specs.Packets.{Okay, ServerFault, Report, Statement, ColumnDefinition, ColumnFields, ColumnNames}
+use Rattle.mysql_packets.specs.Packets.{OkPacket, ErrPacket, ProgressReport, StageProgress, PrepareOk, ColumnDefinition, ColumnFields, ColumnNames}
 
 -- Bytes, where there are any.
 abbrev pub bytes_view : Option (Vec ℕ Global) → Option (List ℕ)
 bytes_view bytes = option_map (λ v. v.items) bytes
 
-abbrev pub okay_view : OkPacket → Okay
-okay_view p = record {
+abbrev pub ok_packet_view : Ok → OkPacket
+ok_packet_view p = record {
   affected_rows = p.affected_rows;
   last_insert_id = p.last_insert_id;
-  status = p.status_flags.0;
+  status_flags = p.status_flags.0;
   warnings = p.warnings;
   info = bytes_view p.info;
-  session_state = bytes_view p.session_state_info;
+  session_state_info = bytes_view p.session_state_info;
 }
 
-abbrev pub server_fault_view : ServerError → ServerFault
-server_fault_view p = record { code = p.code; state = bytes_view p.state; message = p.message.items }
+abbrev pub err_packet_view : ServerError → ErrPacket
+err_packet_view p = record { error_code = p.code; sql_state = bytes_view p.state; error_message = p.message.items }
 
-abbrev pub report_view : ProgressReport → Report
-report_view p = record { stage = p.stage; max_stage = p.max_stage; progress = p.progress; info = p.stage_info.items }
+abbrev pub progress_report_view : Progress → ProgressReport
+progress_report_view p = record { stage = p.stage; max_stage = p.max_stage; progress = p.progress; progress_info = p.stage_info.items }
 
-abbrev pub statement_view : StmtPacket → Statement
-statement_view p = record { id = p.statement_id; columns = p.num_columns; parameters = p.num_params; warnings = p.warning_count }
+abbrev pub stage_progress_view : CodeProgress → StageProgress
+stage_progress_view p = record { stage = p.stage; max_stage = p.max_stage; progress = p.progress }
+
+abbrev pub prepare_ok_view : StmtPacket → PrepareOk
+prepare_ok_view p = record { statement_id = p.statement_id; num_columns = p.num_columns; num_params = p.num_params; warning_count = p.warning_count }
 
 abbrev pub column_view : Column → ColumnDefinition
 column_view p = record {

@@ -2,17 +2,14 @@
 
 ghost use Rattle.std.specs.Prelude.{◌≡◌, IfOk, refl};
 ghost use Rattle.std.proofs.Common.{lit<};
-ghost use Rattle.mysql_wire.specs.Wire.{Gives, GivesPart};
+ghost use Rattle.mysql_wire.specs.Wire.{Gives, TellsPart};
 ghost use Rattle.mysql_packets.specs.Packets.{catalog, column_at, column_fields_at, column_names_at, column_with};
 ghost use Rattle.mysql_packets.specs.Views.{column_view, fields_view, names_view};
 
 use crate::texts::text_of;
 use bitflags::Flags;
 use mysql_const::{ColumnFlags, ColumnType};
-use mysql_wire::{
-    Const, ConstBytes, ConstBytesValue, ConstU8, LeU16, LeU32, ParseBuf, ParseExt, RawInt,
-    WireError,
-};
+use mysql_wire::{Const, ConstBytes, ConstBytesValue, ConstU8, ParseBuf, ParseExt, WireError};
 use std::alloc::{AllocError, Global};
 
 /// The catalog of every column, `def`, after its length.
@@ -136,7 +133,7 @@ struct Names<'a> {
 
 #[tactic(auto, unfolding(crate::specs::Packets::column_names_at))]
 fn names_of<'a>(buf: &mut ParseBuf<'a>) -> Result<Names<'a>, WireError>
-    ensures { GivesPart names_view buf.new.0.now result (column_names_at buf.old.0.now) }
+    ensures { TellsPart names_view buf.new.0.now result (column_names_at buf.old.0.now) }
 {
     let schema = text_of(buf)?;
     let table = text_of(buf)?;
@@ -164,20 +161,28 @@ struct FixedFields {
 
 #[tactic(auto, unfolding(crate::specs::Packets::column_fields_at))]
 fn fixed_fields_of(alloc: Global, block: &mut ParseBuf) -> Result<FixedFields, WireError>
-    ensures { GivesPart fields_view block.new.0.now result (column_fields_at block.old.0.now) }
+    ensures { TellsPart fields_view block.new.0.now result (column_fields_at block.old.0.now) }
 {
     block.parse::<ConstU8<FixedLengthFieldsLen, 12>>(alloc, ())?;
-    let character_set = block.parse::<RawInt<LeU16>>(alloc, ())?;
-    let column_length = block.parse::<RawInt<LeU32>>(alloc, ())?;
+    let Some(character_set) = block.checked_eat_u16_le() else {
+        return Err(WireError::UnexpectedEof);
+    };
+    let Some(column_length) = block.checked_eat_u32_le() else {
+        return Err(WireError::UnexpectedEof);
+    };
     let column_type = block.parse::<Const<ColumnType, u8>>(alloc, ())?;
-    let flags = block.parse::<RawInt<LeU16>>(alloc, ())?;
-    let decimals = block.parse::<RawInt<u8>>(alloc, ())?;
+    let Some(flags) = block.checked_eat_u16_le() else {
+        return Err(WireError::UnexpectedEof);
+    };
+    let Some(decimals) = block.checked_eat_u8() else {
+        return Err(WireError::UnexpectedEof);
+    };
     Ok(FixedFields {
-        character_set: character_set.0,
-        column_length: column_length.0,
+        character_set,
+        column_length,
         column_type: column_type.0,
-        flags: ColumnFlags::from_bits_retain(flags.0),
-        decimals: decimals.0,
+        flags: ColumnFlags::from_bits_retain(flags),
+        decimals,
     })
 }
 

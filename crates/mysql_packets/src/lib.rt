@@ -3,14 +3,14 @@
 #![tactic(auto)]
 
 pub mod column;
+pub mod err_packet;
 pub mod laws;
-pub mod okay;
+pub mod ok_packet;
 pub mod row;
-pub mod server_fault;
 pub mod statement;
 mod texts;
 
 pub use column::Column;
-pub use okay::OkPacket;
-pub use server_fault::{ProgressReport, ServerError};
+pub use err_packet::{ProgressReport, ServerError};
+pub use ok_packet::OkPacket;
 pub use statement::StmtPacket;

@@ -1,11 +1,11 @@
 //! Statement packets.
 
 ghost use Rattle.std.specs.Prelude.{◌≡◌, List, Ok};
-ghost use Rattle.mysql_wire.specs.Wire.{Gives, GivesPart};
-ghost use Rattle.mysql_packets.specs.Packets.{statement_at, statement_fields_at};
-ghost use Rattle.mysql_packets.specs.Views.{statement_view};
+ghost use Rattle.mysql_wire.specs.Wire.{Tells, TellsPart};
+ghost use Rattle.mysql_packets.specs.Packets.{prepare_ok_at, prepare_ok_fields_at};
+ghost use Rattle.mysql_packets.specs.Views.{prepare_ok_view};
 
-use mysql_wire::{ConstU8, LeU16, LeU32, ParseBuf, ParseExt, RawInt, Skip, WireError};
+use mysql_wire::{ConstU8, ParseBuf, ParseExt, Skip, WireError};
 use std::alloc::Global;
 
 /// Another byte than 00 begins a statement packet.
@@ -26,48 +26,56 @@ pub struct StmtPacket {
 impl StmtPacket {
     /// The statement's id.
     pub fn statement_id(&self) -> u32
-        ensures { result ≡ (statement_view self.now).id }
+        ensures { result ≡ (prepare_ok_view self.now).statement_id }
     {
         self.statement_id
     }
 
     /// How many columns its rows have.
     pub fn num_columns(&self) -> u16
-        ensures { result ≡ (statement_view self.now).columns }
+        ensures { result ≡ (prepare_ok_view self.now).num_columns }
     {
         self.num_columns
     }
 
     /// How many parameters it takes.
     pub fn num_params(&self) -> u16
-        ensures { result ≡ (statement_view self.now).parameters }
+        ensures { result ≡ (prepare_ok_view self.now).num_params }
     {
         self.num_params
     }
 
     /// How many warnings there are.
     pub fn warning_count(&self) -> u16
-        ensures { result ≡ (statement_view self.now).warnings }
+        ensures { result ≡ (prepare_ok_view self.now).warning_count }
     {
         self.warning_count
     }
 }
 
-#[tactic(auto, unfolding(crate::specs::Packets::statement_fields_at))]
+#[tactic(auto, unfolding(crate::specs::Packets::prepare_ok_fields_at))]
 fn statement_fields(alloc: Global, buf: &mut ParseBuf) -> Result<StmtPacket, WireError>
-    ensures { GivesPart statement_view buf.new.0.now result (statement_fields_at buf.old.0.now) }
+    ensures { TellsPart prepare_ok_view buf.new.0.now result (prepare_ok_fields_at buf.old.0.now) }
 {
     buf.parse::<ConstU8<InvalidStmtPacketStatus, 0>>(alloc, ())?;
-    let statement_id = buf.parse::<RawInt<LeU32>>(alloc, ())?;
-    let num_columns = buf.parse::<RawInt<LeU16>>(alloc, ())?;
-    let num_params = buf.parse::<RawInt<LeU16>>(alloc, ())?;
+    let Some(statement_id) = buf.checked_eat_u32_le() else {
+        return Err(WireError::UnexpectedEof);
+    };
+    let Some(num_columns) = buf.checked_eat_u16_le() else {
+        return Err(WireError::UnexpectedEof);
+    };
+    let Some(num_params) = buf.checked_eat_u16_le() else {
+        return Err(WireError::UnexpectedEof);
+    };
     buf.parse::<Skip<1>>(alloc, ())?;
-    let warning_count = buf.parse::<RawInt<LeU16>>(alloc, ())?;
+    let Some(warning_count) = buf.checked_eat_u16_le() else {
+        return Err(WireError::UnexpectedEof);
+    };
     Ok(StmtPacket {
-        statement_id: statement_id.0,
-        num_columns: num_columns.0,
-        num_params: num_params.0,
-        warning_count: warning_count.0,
+        statement_id,
+        num_columns,
+        num_params,
+        warning_count,
     })
 }
 
@@ -75,9 +83,9 @@ fn statement_fields(alloc: Global, buf: &mut ParseBuf) -> Result<StmtPacket, Wir
 /// first byte than 00; all bytes are then left.
 ///
 /// MySQL: Client/Server Protocol, "COM_STMT_PREPARE Response".
-#[tactic(auto, unfolding(crate::specs::Packets::statement_at))]
+#[tactic(auto, unfolding(crate::specs::Packets::prepare_ok_at))]
 pub fn statement_of(alloc: Global, buf: &mut ParseBuf) -> Result<StmtPacket, WireError>
-    ensures { Gives statement_view buf.old.0.now buf.new.0.now result (statement_at buf.old.0.now) }
+    ensures { Tells prepare_ok_view buf.old.0.now buf.new.0.now result (prepare_ok_at buf.old.0.now) }
 {
     if buf.len() < 12 {
         return Err(WireError::UnexpectedEof);

@@ -3,15 +3,15 @@
 
 pub mod byte_string;
 pub mod content;
-pub mod hexadecimal;
+mod hexadecimal;
 pub mod laws;
 pub mod literals;
 pub mod named_params;
-pub mod numbers;
+mod numbers;
 pub mod placeholders;
-pub mod strings;
+mod strings;
 pub mod texts;
-pub mod tokens;
+mod tokens;
 
 pub use byte_string::ByteString;
 pub use content::Content;

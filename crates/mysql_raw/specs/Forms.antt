@@ -1,22 +1,23 @@
 -- The forms in which numbers are read.
 -- (MySQL: Client/Server Protocol, "Protocol Basics: Integer Types".)
+-- A reading takes bytes from the front: x.0 is what was read and x.1 the bytes left; the first refusal counts.
 use Rattle.std.specs.Prelude.{ℕ, ℤ, ◌*◌, ◌/◌, ◌^◌, List, Ok}
 use Rattle.byteorder.specs.Endian.{little_bytes}
-use Rattle.mysql_buf.specs.Reading.{le_at, le_signed_at, lenenc_int_at, slice_at}
+use Rattle.mysql_buf.specs.Reading as buffer
 use Rattle.mysql_buf.specs.Varlen.{varlen_at}
 use Rattle.mysql_raw.specs.Wire.{Reading, or_end, ◌>>=◌}
 
 -- a number of n bytes, lowest first
 abbrev pub little_at : ℕ → List ℕ → Reading ℕ
-little_at n bytes = or_end (le_at n bytes)
+little_at n bytes = or_end (buffer.little_at n bytes)
 
 -- a signed number of n bytes, lowest first
 abbrev pub signed_at : ℕ → List ℕ → Reading ℤ
-signed_at n bytes = or_end (le_signed_at n bytes)
+signed_at n bytes = or_end (buffer.little_signed_at n bytes)
 
 -- a length-encoded number
 abbrev pub lenenc_number_at : List ℕ → Reading ℕ
-lenenc_number_at bytes = or_end (lenenc_int_at bytes)
+lenenc_number_at bytes = or_end (buffer.lenenc_int_at bytes)
 
 -- a number of variable length
 abbrev pub varlen_number_at : List ℕ → Reading ℕ
@@ -35,4 +36,4 @@ upper_half_at bytes = little_at 2 bytes >>= raised
 
 -- n bytes as they stand
 abbrev pub bytes_at : ℕ → List ℕ → Reading (List ℕ)
-bytes_at n bytes = or_end (slice_at n bytes)
+bytes_at n bytes = or_end (buffer.bytes_at n bytes)

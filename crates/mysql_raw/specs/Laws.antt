@@ -1,19 +1,20 @@
 -- The forms of numbers have their sizes, and what is written in them reads back.
-use Rattle.std.proofs.Common.{◌≡◌, ◌+◌, ◌*◌, ◌/◌, ◌%◌, ◌^◌, ◌<◌, ◌≤◌, nat_lt, true, ℕ, ℤ, List, ◌++◌, length, take, drop, Result, Ok, Err, Option, Some, None, refl, sym, ap, ◌∙◌, inl, inr, arith}
+use Rattle.std.proofs.Common.{◌≡◌, ◌+◌, ◌*◌, ◌/◌, ◌%◌, ◌^◌, ◌<◌, ◌≤◌, nat_lt, Bool, true, false, ℕ, ℤ, List, ◌++◌, length, take, drop, Result, Ok, Err, Option, Some, None, refl, sym, ap, ◌∙◌, inl, inr, arith}
 use Rattle.std.proofs.lemmas.Bool.{cases_lt, le-ltb, lt-ltb, ltb-true}
 use Rattle.std.proofs.lemmas.List.{drop-drop}
 use Rattle.std.specs.Int.{Width, w8, w16, w32, w64, byte_len, cast_unsigned}
 use Rattle.byteorder.specs.Endian.{little_bytes, little_number, twos_complement}
 use Rattle.mysql_buf.specs.FirstBytes.{first-enough, first-short}
 use Rattle.mysql_buf.specs.Laws.{FitsBytes}
-use Rattle.mysql_buf.specs.NumberLaws.{little-reads_back, little-signed-reads_back, slice_at-append}
-use Rattle.mysql_buf.specs.Reading.{first, slice_at}
+use Rattle.mysql_buf.specs.NumberLaws.{little-reads_back, little-signed-reads_back, bytes_at-append}
+use Rattle.mysql_buf.specs.Reading.{first}
+use Rattle.mysql_buf.specs.Reading as buffer
 use Rattle.mysql_buf.specs.TextLaws.{lenenc_int-reads_back}
 use Rattle.mysql_buf.specs.VarlenLaws.{varlen-reads_back}
 use Rattle.mysql_buf.specs.Varlen.{varlen}
 use Rattle.mysql_buf.specs.Writing.{lenenc_int}
 use Rattle.mysql_raw.specs.Forms.{bytes_at, lenenc_number_at, little_at, raised, signed_at, upper_half, upper_half_at, varlen_number_at}
-use Rattle.mysql_raw.specs.Wire.{IsSized, Reading, from_block, or_end, ◌>>=◌}
+use Rattle.mysql_raw.specs.Wire.{Answers, Gives, IsSized, Reading, from_block, or_end, ◌>>=◌}
 use Rattle.mysql_error.specs.declared.error.WireError.{WireError}
 use Rattle.mysql_error.specs.declared.error.WireError.TheVariants.{UnexpectedEof}
 
@@ -117,8 +118,14 @@ pub upper_half_at-sized : IsSized (Some 2) upper_half_at
 upper_half_at-sized = sized-then (Some 2) (little_at 2) raised (little_at-sized 2) raised_rest
 
 -- the slice of a text's length is the text
-pub slice_at-back : (n : ℕ) (text rest : List ℕ) → n ≡ length text → slice_at n (text ++ rest) ≡ Some (text, rest)
-slice_at-back n text rest h = ap (λ (k : ℕ). slice_at k (text ++ rest)) h ∙ slice_at-append text rest
+pub bytes-back : (n : ℕ) (text rest : List ℕ) → n ≡ length text → buffer.bytes_at n (text ++ rest) ≡ Some (text, rest)
+bytes-back n text rest h = ap (λ (k : ℕ). buffer.bytes_at k (text ++ rest)) h ∙ bytes_at-append text rest
+
+-- what a call answered is what reading gives, whether or not it asks for memory
+pub gives : {X Y : Type 0} (asks : Bool) (view : X → Y) (old new : List ℕ) (result : Result X WireError) (reading : Reading Y) → Answers asks view old new result reading → Gives view old new result reading
+gives true view old new result reading h = h
+gives false view old new (Ok x) reading h = h
+gives false view old new (Err e) reading h = (λ _. h.0, h.1)
 
 -- a number that was written is read again, whatever follows
 pub little_at-back : (n x : ℕ) (rest : List ℕ) → x < 256 ^ n → little_at n (little_bytes n x ++ rest) ≡ Ok (x, rest)
@@ -158,4 +165,4 @@ upper_half_at-back n rest h =
     rw (little_at-back 2 (n / 2 ^ 16) rest (omega (arith, h.0))) (ap (λ (k : ℕ). Ok (k, rest)) whole)
 
 pub bytes_at-back : (n : ℕ) (bytes rest : List ℕ) → length bytes ≡ n → bytes_at n (bytes ++ rest) ≡ Ok (bytes, rest)
-bytes_at-back n bytes rest len = ap or_end (slice_at-back n bytes rest (sym len))
+bytes_at-back n bytes rest len = ap or_end (bytes-back n bytes rest (sym len))

@@ -17,6 +17,11 @@ abbrev pub GivesPart : {X Y : Type 0} → (X → Y) → List ℕ → Result X Wi
 GivesPart view new (Ok x) reading = reading ≡ Ok (view x, new)
 GivesPart view new (Err e) reading = Refuses e reading
 
+-- the same of a call that asks for no memory: its refusal is the reading's
+abbrev pub TellsPart : {X Y : Type 0} → (X → Y) → List ℕ → Result X WireError → Reading Y → Type 0
+TellsPart view new (Ok x) reading = reading ≡ Ok (view x, new)
+TellsPart view new (Err e) reading = reading ≡ Err e
+
 -- a call gave what reading gives: the value, seen by view, and what is left; or the same refusal, and all is left
 abbrev pub Gives : {X Y : Type 0} → (X → Y) → List ℕ → List ℕ → Result X WireError → Reading Y → Type 0
 Gives view old new (Ok x) reading = reading ≡ Ok (view x, new)
@@ -26,6 +31,16 @@ Gives view old new (Err e) reading = Refuses e reading × (new ≡ old)
 abbrev pub Tells : {X Y : Type 0} → (X → Y) → List ℕ → List ℕ → Result X WireError → Reading Y → Type 0
 Tells view old new (Ok x) reading = reading ≡ Ok (view x, new)
 Tells view old new (Err e) reading = (reading ≡ Err e) × (new ≡ old)
+
+-- the one or the other, by whether the call may ask for memory
+abbrev pub Answers : {X Y : Type 0} → Bool → (X → Y) → List ℕ → List ℕ → Result X WireError → Reading Y → Type 0
+Answers true view old new result reading = Gives view old new result reading
+Answers false view old new result reading = Tells view old new result reading
+
+-- the same of a part
+abbrev pub AnswersPart : {X Y : Type 0} → Bool → (X → Y) → List ℕ → Result X WireError → Reading Y → Type 0
+AnswersPart true view new result reading = GivesPart view new result reading
+AnswersPart false view new result reading = TellsPart view new result reading
 
 -- these are too few bytes for a value of that size, where there is one
 abbrev pub lacks : Option ℕ → ℕ → Bool
@@ -51,9 +66,9 @@ abbrev pub Appends : {E : Type 0} → Result (Unit {0}) E → List ℕ → List 
 Appends (Ok _) old new bytes = new ≡ old ++ bytes
 Appends (Err _) old new bytes = new ≡ old
 
--- one reading after another
+-- one reading after another; the first refusal counts
 infixl 10 ◌>>=◌
-abbrev pub ◌>>=◌ : {A B : Type 0} → Result A WireError → (A → Result B WireError) → Result B WireError
+abbrev pub ◌>>=◌ : {A B E : Type 0} → Result A E → (A → Result B E) → Result B E
 (Ok x) >>= f = f x
 (Err e) >>= f = Err e
 

@@ -1,6 +1,6 @@
 //! Representations of whole numbers.
 
-ghost use Rattle.std.specs.Prelude.{◌≡◌, ◌%◌, ◌<◌, ◌^◌, List, None, Ok, Option, Some, ◌++◌, length, ℕ};
+ghost use Rattle.std.specs.Prelude.{◌≡◌, ◌%◌, ◌<◌, ◌^◌, List, None, Ok, Option, Some, ◌++◌, false, length, ℕ};
 ghost use Rattle.std.specs.Int.{cast_unsigned, w8, w16, w32, w64};
 ghost use Rattle.byteorder.specs.Endian.{little_bytes};
 ghost use Rattle.mysql_buf.specs.Laws.{FitsBytes};
@@ -83,6 +83,8 @@ impl<T: IntRepr> Readable for RawInt<T> {
     type Ctx = ();
 
     ghost SIZE = { T.SIZE };
+
+    ghost AsksForMemory = { false };
 
     ghost Shown = { T.Primitive };
 

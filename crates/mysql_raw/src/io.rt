@@ -1,7 +1,7 @@
 //! The traits of what is written as bytes and read from them, and reading from a buffer.
 
-ghost use Rattle.std.specs.Prelude.{◌≡◌, ◌++◌, List, Ok, Option, [], false, length, ℕ};
-ghost use Rattle.mysql_raw.specs.Wire.{Reading, Gives, Appends, Suffices, IsSized, lacks};
+ghost use Rattle.std.specs.Prelude.{◌≡◌, ◌++◌, Bool, List, Ok, Option, [], false, length, true, ℕ};
+ghost use Rattle.mysql_raw.specs.Wire.{Reading, Answers, Appends, Suffices, IsSized, lacks};
 
 use mysql_buf::ParseBuf;
 use mysql_error::WireError;
@@ -69,6 +69,9 @@ pub trait Readable: Sized {
 
     ghost SIZE: { Option ℕ };
 
+    // whether reading may ask for memory, and so answer that it was refused
+    ghost AsksForMemory: { Bool } = { true };
+
     // what a value is, apart from where its bytes lie
     ghost Shown: { Type 0 };
 
@@ -105,14 +108,15 @@ pub trait ReadsBack: MySerialize + Readable {
 
 /// A value that is read from the front of a buffer.
 pub trait MyDeserialize<'de>: Readable {
-    /// Reads the value that stands first. A refused call leaves the buffer as it was.
+    /// Reads the value that stands first. A refused call leaves the buffer as it was; that memory was refused is answered only
+    /// by a type that asks for some.
     fn deserialize(
         alloc: Global,
         ctx: Self::Ctx,
         buf: &mut ParseBuf<'de>,
     ) -> Result<Self, WireError>
         requires { Suffices Self.SIZE (length buf.old.0.now) }
-        ensures { Gives Self.shown buf.old.0.now buf.new.0.now result (Self.read_at ctx buf.old.0.now) };
+        ensures { Answers Self.AsksForMemory Self.shown buf.old.0.now buf.new.0.now result (Self.read_at ctx buf.old.0.now) };
 }
 
 /// Reading a value of any type from the front of a buffer. It stands in place of methods of
@@ -137,7 +141,7 @@ pub trait ParseExt<'a>: Sized {
         ctx: T::Ctx,
     ) -> Result<T, WireError>
         requires { Suffices T.SIZE (length (left self.old)) }
-        ensures { Gives T.shown (left self.old) (left self.new) result (T.read_at ctx (left self.old)) }
+        ensures { Answers T.AsksForMemory T.shown (left self.old) (left self.new) result (T.read_at ctx (left self.old)) }
     {
         let mut buf = self.unread();
         let answer = T::deserialize(alloc, ctx, &mut buf);
@@ -152,7 +156,7 @@ pub trait ParseExt<'a>: Sized {
         alloc: Global,
         ctx: T::Ctx,
     ) -> Result<T, WireError>
-        ensures { Gives T.shown (left self.old) (left self.new) result (T.read_at ctx (left self.old)) }
+        ensures { Answers T.AsksForMemory T.shown (left self.old) (left self.new) result (T.read_at ctx (left self.old)) }
     {
         if T::is_too_short(self.unread().0.len()) {
             return Err(WireError::UnexpectedEof);

@@ -1,6 +1,6 @@
 //! Bytes as they stand, and markers.
 
-ghost use Rattle.std.specs.Prelude.{◌≡◌, List, None, Some, length, ℕ};
+ghost use Rattle.std.specs.Prelude.{◌≡◌, List, None, Some, false, length, ℕ};
 ghost use Rattle.mysql_raw.specs.Forms.{bytes_at};
 ghost use Rattle.mysql_raw.specs.Laws.{bytes_at-back, bytes_at-sized, unsized};
 
@@ -33,6 +33,8 @@ impl<const N: usize> Readable for [u8; N] {
     type Ctx = ();
 
     ghost SIZE = { Some N };
+
+    ghost AsksForMemory = { false };
 
     ghost Shown = { List ℕ };
 
@@ -84,6 +86,8 @@ impl<'a> Readable for &'a [u8] {
 
     ghost SIZE = { None };
 
+    ghost AsksForMemory = { false };
+
     ghost Shown = { List ℕ };
 
     ghost shown = { λ x. x.now };
@@ -119,6 +123,8 @@ impl<'a> Readable for ParseBuf<'a> {
     type Ctx = usize;
 
     ghost SIZE = { None };
+
+    ghost AsksForMemory = { false };
 
     ghost Shown = { List ℕ };
 

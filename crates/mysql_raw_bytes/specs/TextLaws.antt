@@ -6,13 +6,13 @@ use Rattle.std.proofs.lemmas.List.{get_or-take, get_or_append_left, length-repli
 use Rattle.std.proofs.lemmas.List.Folds.{length-prefix_len}
 use Rattle.std.proofs.lemmas.List.Sums.{fails_before_first, position_or_len_is}
 use Rattle.std.specs.List.{before_first, position_or_len}
-use Rattle.mysql_buf.specs.NumberLaws.{slice_at-append}
+use Rattle.mysql_buf.specs.NumberLaws.{bytes_at-append}
 use Rattle.mysql_buf.specs.Reading.{is_zero}
 use Rattle.mysql_buf.specs.TextLaws.{front-bound, lenenc_str-reads_back, u8_str-reads_back, u32_str-reads_back}
 use Rattle.mysql_buf.specs.Varlen.{varlen}
 use Rattle.mysql_buf.specs.VarlenLaws.{varlen-reads_back}
 use Rattle.mysql_buf.specs.Writing.{front, lenenc_str, u8_str, u32_str}
-use Rattle.mysql_raw.specs.Laws.{done, first-sized, slice_at-back}
+use Rattle.mysql_raw.specs.Laws.{done, first-sized, bytes-back}
 use Rattle.mysql_raw_bytes.specs.Texts.{bare_at, fixed_text, fixed_text_at, lenenc_text_at, null_text, null_text_at, u8_text_at, u32_text_at, varlen_text, varlen_text_at}
 use Rattle.mysql_raw.specs.Wire.{IsSized, Reading, or_end}
 
@@ -35,17 +35,17 @@ pub varlen_text_at-back : (text rest : List ℕ) → varlen_text_at (varlen_text
 varlen_text_at-back text rest =
     let part = front text (2 ^ 32 - 1) in
     let bound = front-bound text (2 ^ 32 - 1) in
-    rw (append_assoc (varlen (length (front text (2 ^ 32 - 1)))) (front text (2 ^ 32 - 1)) rest, varlen-reads_back (length (front text (2 ^ 32 - 1))) (front text (2 ^ 32 - 1) ++ rest) (omega arith), slice_at-append (front text (2 ^ 32 - 1)) rest) refl
+    rw (append_assoc (varlen (length (front text (2 ^ 32 - 1)))) (front text (2 ^ 32 - 1)) rest, varlen-reads_back (length (front text (2 ^ 32 - 1))) (front text (2 ^ 32 - 1) ++ rest) (omega arith), bytes_at-append (front text (2 ^ 32 - 1)) rest) refl
 
 pub bare_at-back : (most n : ℕ) (text rest : List ℕ) → n ≡ length (front text most) → bare_at most n (front text most ++ rest) ≡ Ok (front text most, rest)
 bare_at-back most n text rest h =
     let bound = front-bound text most in
-    rw (le-ltb most n (omega arith), slice_at-back n (front text most) rest h) refl
+    rw (le-ltb most n (omega arith), bytes-back n (front text most) rest h) refl
 
 pub fixed_text_at-back : (n : ℕ) (text rest : List ℕ) → fixed_text_at n (fixed_text n text ++ rest) ≡ Ok (fixed_text n text, rest)
 fixed_text_at-back n text rest =
     let len : n ≡ length (fixed_text n text) = omega (arith, length-take n (text ++ replicate n 0), length-append text (replicate n 0), length-replicate {A = ℕ} n 0) in
-    rw (slice_at-back n (fixed_text n text) rest len) refl
+    rw (bytes-back n (fixed_text n text) rest len) refl
 
 -- a zero behind bytes without one is the first
 first_zero : (text rest : List ℕ) → position_or_len is_zero (before_first is_zero text ++ 0 ∷ rest) ≡ length (before_first is_zero text)

@@ -1,10 +1,13 @@
 -- The forms in which texts are written and read.
 -- (MySQL: Client/Server Protocol, "Protocol Basics: String Types".)
+-- A reading takes bytes from the front: x.0 is what was read and x.1 the bytes left; the first refusal counts.
 use Rattle.std.specs.Prelude.{◌^◌, ◌-◌, ℕ, nat_lt, if◌then◌else◌, List, [], ◌∷◌, ◌++◌, length, replicate, take, Ok, Err}
 use Rattle.std.specs.List.{after_first, before_first, position_or_len}
-use Rattle.mysql_buf.specs.Reading.{is_zero, lenenc_str_at, slice_at, then_at, u8_str_at, u32_str_at}
+use Rattle.mysql_buf.specs.Reading.{is_zero, lenenc_str_at, then_at, u8_str_at, u32_str_at}
+use Rattle.mysql_buf.specs.Reading as buffer
 use Rattle.mysql_buf.specs.Varlen.{varlen, varlen_at}
 use Rattle.mysql_buf.specs.Writing.{front}
+use Rattle.mysql_raw.specs.Forms.{bytes_at}
 use Rattle.mysql_raw.specs.Wire.{Reading, or_end}
 use Rattle.mysql_raw.specs.WireError.TheVariants.{TooManyBytes, UnexpectedEof}
 
@@ -25,7 +28,7 @@ abbrev pub varlen_text : List ℕ → List ℕ
 varlen_text text = varlen (length (front text (2 ^ 32 - 1))) ++ front text (2 ^ 32 - 1)
 
 abbrev pub varlen_text_at : List ℕ → Reading (List ℕ)
-varlen_text_at bytes = or_end (then_at (varlen_at bytes) slice_at)
+varlen_text_at bytes = or_end (then_at (varlen_at bytes) buffer.bytes_at)
 
 -- a text before its first zero, and a zero
 abbrev pub null_text : List ℕ → List ℕ
@@ -38,11 +41,11 @@ null_text_at bytes =
 
 -- as many bytes as the context says, at most the maximum
 abbrev pub bare_at : ℕ → ℕ → List ℕ → Reading (List ℕ)
-bare_at most n bytes = if nat_lt most n then Err TooManyBytes else or_end (slice_at n bytes)
+bare_at most n bytes = if nat_lt most n then Err TooManyBytes else bytes_at n bytes
 
 -- a text, cut or padded with zeros to n bytes
 abbrev pub fixed_text : ℕ → List ℕ → List ℕ
 fixed_text n text = take n (text ++ replicate n 0)
 
 abbrev pub fixed_text_at : ℕ → List ℕ → Reading (List ℕ)
-fixed_text_at n bytes = or_end (slice_at n bytes)
+fixed_text_at n bytes = bytes_at n bytes

@@ -1,6 +1,6 @@
 //! Representations of texts.
 
-ghost use Rattle.std.specs.Prelude.{◌≡◌, ◌==◌, ◌-◌, ◌<◌, ◌^◌, IfErr, IfOk, List, None, Ok, Option, Some, [], ◌++◌, length, ℕ, ⊤};
+ghost use Rattle.std.specs.Prelude.{◌≡◌, ◌==◌, ◌-◌, ◌<◌, ◌^◌, IfErr, IfOk, List, None, Ok, Option, Some, [], ◌++◌, false, length, ℕ, ⊤};
 ghost use Rattle.std.specs.Cow.{cow_slice_items, cow_str_bytes};
 ghost use Rattle.std.specs.List.{before_first};
 ghost use Rattle.std.specs.Str.{encode_utf8_all};
@@ -157,6 +157,8 @@ impl<'a, T: BytesRepr> Readable for RawBytes<'a, T> {
     type Ctx = T::Ctx;
 
     ghost SIZE = { T.SIZE };
+
+    ghost AsksForMemory = { false };
 
     ghost Shown = { List ℕ };
 

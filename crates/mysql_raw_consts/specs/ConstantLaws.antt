@@ -3,10 +3,9 @@ use Rattle.std.proofs.Common.{◌≡◌, ◌==◌, ◌^◌, ◌<◌, Bool, true,
 use Rattle.std.proofs.lemmas.List.{length-replicate}
 use Rattle.std.specs.Str.{bytes_eq}
 use Rattle.byteorder.specs.Endian.{little_bytes}
-use Rattle.mysql_buf.specs.Reading.{slice_at}
-use Rattle.mysql_raw_consts.specs.Constants.{constant_at, ignored, is_constant, is_text, named_at, or_unknown, text_constant_at, zeros_at}
-use Rattle.mysql_raw.specs.Forms.{little_at}
-use Rattle.mysql_raw.specs.Laws.{done, first-sized, little_at-back, little_at-sized, ok_same, sized-then, slice_at-back}
+use Rattle.mysql_raw_consts.specs.Constants.{constant_at, ignored, is_constant, is_text, named_at, or_unknown, text_constant_at, skipped_at}
+use Rattle.mysql_raw.specs.Forms.{bytes_at, little_at}
+use Rattle.mysql_raw.specs.Laws.{done, first-sized, little_at-back, little_at-sized, ok_same, sized-then, bytes-back}
 use Rattle.mysql_raw.specs.Wire.{IsSized, Reading, or_end}
 use Rattle.mysql_raw.specs.WireError.TheVariants.{BadConstant}
 
@@ -25,11 +24,11 @@ constant_at-back size n rest h = rw (little_at-back size n rest h, eq-eqb n n re
 ignored_rest : (x : List ℕ × List ℕ) (y : Unit {0} × List ℕ) → ignored x ≡ Ok y → y.1 ≡ x.1
 ignored_rest x y e = sym (ap (λ (z : Unit {0} × List ℕ). z.1) (ok_same (tt, x.1) y e))
 
-pub zeros_at-sized : (n : ℕ) → IsSized (Some n) (zeros_at n)
-zeros_at-sized n = sized-then (Some n) (λ bytes. or_end (slice_at n bytes)) ignored (first-sized n (take n)) ignored_rest
+pub skipped_at-sized : (n : ℕ) → IsSized (Some n) (skipped_at n)
+skipped_at-sized n = sized-then (Some n) (bytes_at n) ignored (first-sized n (take n)) ignored_rest
 
-pub zeros_at-back : (n : ℕ) (rest : List ℕ) → zeros_at n (replicate n 0 ++ rest) ≡ Ok (tt, rest)
-zeros_at-back n rest = rw (slice_at-back n (replicate n 0) rest (sym (length-replicate n 0))) refl
+pub skipped_at-back : (n : ℕ) (rest : List ℕ) → skipped_at n (replicate n 0 ++ rest) ≡ Ok (tt, rest)
+skipped_at-back n rest = rw (bytes-back n (replicate n 0) rest (sym (length-replicate n 0))) refl
 
 same_bytes : (text : List ℕ) → bytes_eq text text ≡ true
 same_bytes [] = refl
@@ -42,10 +41,10 @@ text_rest text x y e = go (bytes_eq x.0 text) e where
   go false e = absurd cc
 
 pub text_constant_at-sized : (n : ℕ) (text : List ℕ) → IsSized (Some n) (text_constant_at n text)
-text_constant_at-sized n text = sized-then (Some n) (λ bytes. or_end (slice_at n bytes)) (is_text text) (first-sized n (take n)) (text_rest text)
+text_constant_at-sized n text = sized-then (Some n) (bytes_at n) (is_text text) (first-sized n (take n)) (text_rest text)
 
 pub text_constant_at-back : (n : ℕ) (text rest : List ℕ) → length text ≡ n → text_constant_at n text (text ++ rest) ≡ Ok (tt, rest)
-text_constant_at-back n text rest h = rw (slice_at-back n text rest (sym h), same_bytes text) refl
+text_constant_at-back n text rest h = rw (bytes-back n text rest (sym h), same_bytes text) refl
 
 named_rest : {X Y : Type 0} (named : X → Option Y) (x : X × List ℕ) (y : Y × List ℕ) → or_unknown (named x.0) x.1 ≡ Ok y → y.1 ≡ x.1
 named_rest {Y = Y} named x y e = go (named x.0) e where

@@ -1,10 +1,10 @@
 -- The forms in which constants and named values are read.
 -- (MySQL: Client/Server Protocol, "Protocol Basics: Basic Data Types".)
+-- A reading takes bytes from the front: x.0 is what was read and x.1 the bytes left; the first refusal counts.
 use Rattle.std.specs.Prelude.{◌==◌, ℕ, if◌then◌else◌, List, Option, Some, None, Result, Ok, Err}
 use Rattle.std.specs.Str.{bytes_eq}
-use Rattle.mysql_buf.specs.Reading.{slice_at}
-use Rattle.mysql_raw.specs.Forms.{little_at}
-use Rattle.mysql_raw.specs.Wire.{Reading, or_end, ◌>>=◌}
+use Rattle.mysql_raw.specs.Forms.{bytes_at, little_at}
+use Rattle.mysql_raw.specs.Wire.{Reading, ◌>>=◌}
 use Rattle.mysql_raw.specs.WireError.{WireError}
 use Rattle.mysql_raw.specs.WireError.TheVariants.{BadConstant, UnknownValue}
 
@@ -21,8 +21,8 @@ abbrev pub ignored : List ℕ × List ℕ → Reading (Unit {0})
 ignored x = Ok (tt, x.1)
 
 -- n bytes of any value
-abbrev pub zeros_at : ℕ → List ℕ → Reading (Unit {0})
-zeros_at n bytes = or_end (slice_at n bytes) >>= ignored
+abbrev pub skipped_at : ℕ → List ℕ → Reading (Unit {0})
+skipped_at n bytes = bytes_at n bytes >>= ignored
 
 -- bytes that are these
 abbrev pub is_text : List ℕ → List ℕ × List ℕ → Reading (Unit {0})
@@ -30,7 +30,7 @@ is_text text x = if bytes_eq x.0 text then Ok (tt, x.1) else Err BadConstant
 
 -- a constant text of n bytes
 abbrev pub text_constant_at : ℕ → List ℕ → List ℕ → Reading (Unit {0})
-text_constant_at n text bytes = or_end (slice_at n bytes) >>= is_text text
+text_constant_at n text bytes = bytes_at n bytes >>= is_text text
 
 -- the value that has this number
 abbrev pub or_unknown : {Y : Type 0} → Option Y → List ℕ → Reading Y

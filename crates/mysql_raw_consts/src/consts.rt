@@ -1,11 +1,11 @@
 //! Constants, values by their numbers, flags, and bytes that are skipped.
 
-ghost use Rattle.std.specs.Prelude.{◌≡◌, ◌<◌, ◌^◌, List, None, Option, Some, length, replicate, ℕ, ⊤};
+ghost use Rattle.std.specs.Prelude.{◌≡◌, ◌<◌, ◌^◌, List, None, Option, Some, false, length, replicate, ℕ, ⊤};
 ghost use Rattle.std.specs.Int.RustNames.{bit_and};
 ghost use Rattle.bitflags.specs.Sets.{known_bits};
 ghost use Rattle.byteorder.specs.Endian.{little_bytes};
-ghost use Rattle.mysql_raw_consts.specs.ConstantLaws.{constant_at-back, constant_at-sized, named_at-back, named_at-sized, text_constant_at-back, text_constant_at-sized, zeros_at-back, zeros_at-sized};
-ghost use Rattle.mysql_raw_consts.specs.Constants.{constant_at, known, named_at, text_constant_at, zeros_at};
+ghost use Rattle.mysql_raw_consts.specs.ConstantLaws.{constant_at-back, constant_at-sized, named_at-back, named_at-sized, text_constant_at-back, text_constant_at-sized, skipped_at-back, skipped_at-sized};
+ghost use Rattle.mysql_raw_consts.specs.Constants.{constant_at, known, named_at, text_constant_at, skipped_at};
 
 use bitflags::Flags;
 use bytes::BufMut;
@@ -44,6 +44,8 @@ impl<T, const N: u8> Readable for ConstU8<T, N> {
     type Ctx = ();
 
     ghost SIZE = { Some 1 };
+
+    ghost AsksForMemory = { false };
 
     ghost Shown = { ℕ };
 
@@ -112,6 +114,8 @@ impl<T, const N: u32> Readable for ConstU32<T, N> {
 
     ghost SIZE = { Some 4 };
 
+    ghost AsksForMemory = { false };
+
     ghost Shown = { ℕ };
 
     ghost shown = { λ _. N };
@@ -168,17 +172,19 @@ impl<const L: usize> Readable for Skip<L> {
 
     ghost SIZE = { Some L };
 
+    ghost AsksForMemory = { false };
+
     ghost Shown = { Unit {0} };
 
     ghost shown = { λ _. tt };
 
     ghost kept = { λ _. tt };
 
-    ghost read_at = { λ _ bytes. zeros_at L bytes };
+    ghost read_at = { λ _ bytes. skipped_at L bytes };
 
     ghost IsReadBack = { λ _ _ _. ⊤ };
 
-    ghost sized = { λ _. zeros_at-sized L };
+    ghost sized = { λ _. skipped_at-sized L };
 
     fn size() -> Option<usize> {
         Some(L)
@@ -186,7 +192,7 @@ impl<const L: usize> Readable for Skip<L> {
 }
 
 impl<const L: usize> ReadsBack for Skip<L> {
-    ghost reads_back = { λ _ _ rest _. zeros_at-back L rest };
+    ghost reads_back = { λ _ _ rest _. skipped_at-back L rest };
 }
 
 impl<'de, const L: usize> MyDeserialize<'de> for Skip<L> {
@@ -248,6 +254,8 @@ impl<T: ConstBytesValue<LEN>, const LEN: usize> Readable for ConstBytes<T, LEN> 
 
     ghost SIZE = { Some LEN };
 
+    ghost AsksForMemory = { false };
+
     ghost Shown = { Unit {0} };
 
     ghost shown = { λ _. tt };
@@ -304,6 +312,8 @@ impl<T: Flags, U: IntRepr<Primitive = T::Bits>> Readable for RawFlags<T, U> {
     type Ctx = ();
 
     ghost SIZE = { U.SIZE };
+
+    ghost AsksForMemory = { false };
 
     ghost Shown = { T.Bits };
 
@@ -387,6 +397,8 @@ impl<T: ConstValue, U: IntRepr<Primitive = T::Number>> Readable for Const<T, U> 
 
     ghost SIZE = { U.SIZE };
 
+    ghost AsksForMemory = { false };
+
     ghost Shown = { T };
 
     ghost shown = { λ x. x.0 };
@@ -461,6 +473,8 @@ impl<T: IntRepr, U> Readable for RawConst<T, U> {
     type Ctx = ();
 
     ghost SIZE = { T.SIZE };
+
+    ghost AsksForMemory = { false };
 
     ghost Shown = { T.Primitive };
 

@@ -1,6 +1,6 @@
 //! One of two values.
 
-ghost use Rattle.std.specs.Prelude.{◌≡◌, ◌⊎◌, None};
+ghost use Rattle.std.specs.Prelude.{◌≡◌, ◌⊎◌, ◌||◌, None};
 ghost use Rattle.mysql_raw_consts.specs.Either.{EitherIsReadBack, IsLeft, IsRight, either_at, either_shown, either_written};
 ghost use Rattle.mysql_raw_consts.specs.EitherLaws.{either_at-back};
 ghost use Rattle.mysql_raw_consts.specs.declared.either.Either.TheVariants.{Left, Right};
@@ -58,6 +58,8 @@ impl<T: Readable, U: Readable> Readable for Either<T, U> {
     type Ctx = Either<T::Ctx, U::Ctx>;
 
     ghost SIZE = { None };
+
+    ghost AsksForMemory = { T.AsksForMemory || U.AsksForMemory };
 
     ghost Shown = { T.Shown ⊎ U.Shown };
 

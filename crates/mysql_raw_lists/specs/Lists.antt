@@ -1,5 +1,6 @@
 -- The forms in which lists are read.
 -- (MySQL: Client/Server Protocol, "Protocol Basics: Basic Data Types".)
+-- A reading takes bytes from the front: x.0 is what was read and x.1 the bytes left; the first refusal counts.
 use Rattle.std.specs.Prelude.{◌≡◌, ◌⊎◌, ◌++◌, ℕ, zero, suc, List, [], ◌∷◌, Ok}
 use Rattle.std.specs.List.{AllZip}
 use Rattle.mysql_raw.specs.Wire.{Reading, ◌>>=◌}

@@ -5,6 +5,8 @@ use Rattle.std.specs.List.{concat}
 use Rattle.byteorder.specs.Endian.{little_bytes}
 use Rattle.mysql_buf.specs.Writing.{front, u8_str, u32_str}
 use Rattle.mysql_const.specs.BinlogDumpFlags.{binlog_dump_flags}
+use Rattle.mysql_const.specs.Commands.{command_number}
+use Rattle.mysql_const.specs.declared.command.Command.TheVariants.{COM_REGISTER_SLAVE, COM_TABLE_DUMP, COM_BINLOG_DUMP, COM_BINLOG_DUMP_GTID}
 use Rattle.mysql_gtid.specs.BlockLaws.{block_at-back}
 use Rattle.mysql_gtid.specs.Blocks.{block_at, block_bytes}
 use Rattle.mysql_raw.specs.Forms.{little_at}
@@ -50,8 +52,8 @@ unfolding table_dump table_dump_at
 table_dump_at-back p rest h =
     let table = u8_str p.table ++ rest in
     let database = u8_str p.database ++ table in
-    ap table_dump_at (joined_before (little_bytes 1 19 ∷ u8_str p.database ∷ u8_str p.table ∷ []) rest) ∙ rw (
-      constant_at-back 1 19 database (lit< tt),
+    ap table_dump_at (joined_before (little_bytes 1 (command_number COM_TABLE_DUMP) ∷ u8_str p.database ∷ u8_str p.table ∷ []) rest) ∙ rw (
+      constant_at-back 1 (command_number COM_TABLE_DUMP) database (lit< tt),
       name-back p.database table h.database,
       name-back p.table rest h.table,
     ) refl
@@ -67,10 +69,10 @@ register_slave_fields_at-back p rest h =
     let host = u8_str p.hostname ++ user in
     let id = little_bytes 4 p.server_id ++ host in
     let fields =
-    little_bytes 1 21 ∷ little_bytes 4 p.server_id ∷ u8_str p.hostname ∷ u8_str p.user ∷ u8_str p.password
+    little_bytes 1 (command_number COM_REGISTER_SLAVE) ∷ little_bytes 4 p.server_id ∷ u8_str p.hostname ∷ u8_str p.user ∷ u8_str p.password
     ∷ little_bytes 2 p.port ∷ little_bytes 4 p.replication_rank ∷ little_bytes 4 p.master_id ∷ [] in
     ap register_slave_fields_at (joined_before fields rest) ∙ rw (
-      constant_at-back 1 21 id (lit< tt),
+      constant_at-back 1 (command_number COM_REGISTER_SLAVE) id (lit< tt),
       little_at-back 4 p.server_id host h.server_id,
       name-back p.hostname user h.hostname,
       name-back p.user password h.user,
@@ -96,9 +98,9 @@ binlog_dump_fields_at-back p rest h none =
     let id = little_bytes 4 p.server_id ++ name in
     let flags = little_bytes 2 p.flags ++ id in
     let pos = little_bytes 4 p.pos ++ flags in
-    let fields = little_bytes 1 18 ∷ little_bytes 4 p.pos ∷ little_bytes 2 p.flags ∷ little_bytes 4 p.server_id ∷ p.filename ∷ [] in
+    let fields = little_bytes 1 (command_number COM_BINLOG_DUMP) ∷ little_bytes 4 p.pos ∷ little_bytes 2 p.flags ∷ little_bytes 4 p.server_id ∷ p.filename ∷ [] in
     ap binlog_dump_fields_at (joined_before fields rest) ∙ rw (
-      constant_at-back 1 18 pos (lit< tt),
+      constant_at-back 1 (command_number COM_BINLOG_DUMP) pos (lit< tt),
       little_at-back 4 p.pos flags h.pos,
       flags-back p.flags id h.flags h.named,
       little_at-back 4 p.server_id name h.server_id,
@@ -140,9 +142,9 @@ binlog_dump_gtid_fields_at-back p rest h =
     let name = u32_str p.filename ++ pos in
     let id = little_bytes 4 p.server_id ++ name in
     let flags = little_bytes 2 p.flags ++ id in
-    let fields = little_bytes 1 30 ∷ little_bytes 2 p.flags ∷ little_bytes 4 p.server_id ∷ u32_str p.filename ∷ little_bytes 8 p.pos ∷ len ∷ bytes ∷ [] in
+    let fields = little_bytes 1 (command_number COM_BINLOG_DUMP_GTID) ∷ little_bytes 2 p.flags ∷ little_bytes 4 p.server_id ∷ u32_str p.filename ∷ little_bytes 8 p.pos ∷ len ∷ bytes ∷ [] in
     ap binlog_dump_gtid_fields_at (joined_before fields rest) ∙ rw (
-      constant_at-back 1 30 flags (lit< tt),
+      constant_at-back 1 (command_number COM_BINLOG_DUMP_GTID) flags (lit< tt),
       flags-back p.flags id h.flags h.named,
       little_at-back 4 p.server_id name h.server_id,
       long_text-back p.filename pos h.filename,

@@ -1,6 +1,7 @@
 -- The packets that a replica sends, as bytes: what is written of their fields, and what is read of any bytes.
 -- MySQL: Client/Server Protocol, "COM_REGISTER_SLAVE", "COM_TABLE_DUMP", "COM_BINLOG_DUMP" and "COM_BINLOG_DUMP_GTID";
 -- Internals Manual, "Semi-Sync ACK packet".
+-- A reading takes bytes from the front: x.0 is what was read and x.1 the bytes left; the first refusal counts.
 use Rattle.std.specs.Prelude.{◌≡◌, ℕ, ◌%◌, ◌-◌, ◌^◌, ◌<◌, ◌≤◌, ◌⊎◌, List, [], ◌∷◌, length, min, Bool, true, Ok, if◌then◌else◌}
 use Rattle.std.proofs.Common.{inl, inr}
 use Rattle.std.specs.Int.RustNames.{bit_and, bit_or}
@@ -9,6 +10,8 @@ use Rattle.bitflags.specs.Sets.{without}
 use Rattle.byteorder.specs.Endian.{little_bytes}
 use Rattle.mysql_buf.specs.Writing.{u8_str, u32_str}
 use Rattle.mysql_const.specs.BinlogDumpFlags.{binlog_dump_flags}
+use Rattle.mysql_const.specs.Commands.{command_number}
+use Rattle.mysql_const.specs.declared.command.Command.TheVariants.{COM_REGISTER_SLAVE, COM_TABLE_DUMP, COM_BINLOG_DUMP, COM_BINLOG_DUMP_GTID}
 use Rattle.mysql_gtid.specs.Blocks.{IsBlock, block_at, block_bytes}
 use Rattle.mysql_gtid.specs.Sids.{SidParts}
 use Rattle.mysql_raw.specs.Forms.{little_at}
@@ -48,11 +51,11 @@ pub record TableDump : Type 0 where
   pub table : List ℕ
 
 unfoldable pub table_dump : TableDump → List ℕ
-table_dump p = concat (little_bytes 1 19 ∷ u8_str p.database ∷ u8_str p.table ∷ [])
+table_dump p = concat (little_bytes 1 (command_number COM_TABLE_DUMP) ∷ u8_str p.database ∷ u8_str p.table ∷ [])
 
 unfoldable pub table_dump_at : List ℕ → Reading TableDump
 table_dump_at bytes = do
-  header ← constant_at 1 19 bytes
+  header ← constant_at 1 (command_number COM_TABLE_DUMP) bytes
   database ← u8_text_at header.1
   table ← u8_text_at database.1
   Ok (record { database = database.0; table = table.0 }, table.1)
@@ -74,7 +77,7 @@ pub record RegisterSlave : Type 0 where
 
 unfoldable pub register_slave : RegisterSlave → List ℕ
 register_slave p = concat (
-    little_bytes 1 21 ∷ little_bytes 4 p.server_id ∷ u8_str p.hostname ∷ u8_str p.user ∷ u8_str p.password
+    little_bytes 1 (command_number COM_REGISTER_SLAVE) ∷ little_bytes 4 p.server_id ∷ u8_str p.hostname ∷ u8_str p.user ∷ u8_str p.password
     ∷ little_bytes 2 p.port ∷ little_bytes 4 p.replication_rank ∷ little_bytes 4 p.master_id ∷ []
     )
 
@@ -106,7 +109,7 @@ replica_numbers_at bytes = do
 
 unfoldable pub register_slave_fields_at : List ℕ → Reading RegisterSlave
 register_slave_fields_at bytes = do
-  header ← constant_at 1 21 bytes
+  header ← constant_at 1 (command_number COM_REGISTER_SLAVE) bytes
   server_id ← little_at 4 header.1
   names ← replica_names_at server_id.1
   numbers ← replica_numbers_at names.1
@@ -143,11 +146,11 @@ pub record BinlogDump : Type 0 where
   pub filename : List ℕ
 
 unfoldable pub binlog_dump : BinlogDump → List ℕ
-binlog_dump p = concat (little_bytes 1 18 ∷ little_bytes 4 p.pos ∷ little_bytes 2 p.flags ∷ little_bytes 4 p.server_id ∷ p.filename ∷ [])
+binlog_dump p = concat (little_bytes 1 (command_number COM_BINLOG_DUMP) ∷ little_bytes 4 p.pos ∷ little_bytes 2 p.flags ∷ little_bytes 4 p.server_id ∷ p.filename ∷ [])
 
 unfoldable pub binlog_dump_fields_at : List ℕ → Reading BinlogDump
 binlog_dump_fields_at bytes = do
-  header ← constant_at 1 18 bytes
+  header ← constant_at 1 (command_number COM_BINLOG_DUMP) bytes
   pos ← little_at 4 header.1
   flags ← named_at binlog_dump_named (little_at 2) pos.1
   server_id ← little_at 4 flags.1
@@ -174,14 +177,14 @@ pub record BinlogDumpGtid : Type 0 where
 
 unfoldable pub binlog_dump_gtid : BinlogDumpGtid → List ℕ
 binlog_dump_gtid p = concat (
-    little_bytes 1 30 ∷ little_bytes 2 p.flags ∷ little_bytes 4 p.server_id ∷ u32_str p.filename ∷ little_bytes 8 p.pos
+    little_bytes 1 (command_number COM_BINLOG_DUMP_GTID) ∷ little_bytes 2 p.flags ∷ little_bytes 4 p.server_id ∷ u32_str p.filename ∷ little_bytes 8 p.pos
     ∷ little_bytes 4 (min (length (block_bytes p.sids)) (2 ^ 32 - 1)) ∷ block_bytes p.sids ∷ []
     )
 
 -- Its first byte, its flags and the replica's id.
 unfoldable pub binlog_dump_gtid_front_at : List ℕ → Reading (ℕ × ℕ)
 binlog_dump_gtid_front_at bytes = do
-  header ← constant_at 1 30 bytes
+  header ← constant_at 1 (command_number COM_BINLOG_DUMP_GTID) bytes
   flags ← named_at binlog_dump_named (little_at 2) header.1
   server_id ← little_at 4 flags.1
   Ok ((flags.0.0, server_id.0), server_id.1)

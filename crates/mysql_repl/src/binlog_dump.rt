@@ -1,11 +1,11 @@
 //! The request for the binary log from a place.
 
-ghost use Rattle.std.specs.Prelude.{◌≡◌, [], IfOk, None, IsOkUnless};
+ghost use Rattle.std.specs.Prelude.{◌≡◌, [], IfOk, None, IsOkUnless, false};
 ghost use Rattle.std.specs.Cow.{cow_slice_items, cow_str_bytes};
 ghost use Rattle.std.specs.Str.{encode_utf8_all};
 ghost use Rattle.bstr.specs.Utf8.{lossy_chars};
 ghost use Rattle.mysql_raw.specs.Laws.{unsized};
-ghost use Rattle.mysql_raw.specs.Wire.{GivesPart};
+ghost use Rattle.mysql_raw.specs.Wire.{TellsPart};
 ghost use Rattle.mysql_repl.specs.PacketLaws.{binlog_dump_at-back};
 ghost use Rattle.mysql_repl.specs.Packets.{BinlogDump, IsBinlogDump, binlog_dump, binlog_dump_at, binlog_dump_fields_at};
 ghost use Rattle.mysql_repl.specs.Views.{binlog_dump_view};
@@ -140,6 +140,8 @@ impl<'a> Readable for ComBinlogDump<'a> {
 
     ghost SIZE = { None };
 
+    ghost AsksForMemory = { false };
+
     ghost Shown = { BinlogDump };
 
     ghost shown = { binlog_dump_view };
@@ -168,7 +170,7 @@ fn fields_from<'de>(
     alloc: Global,
     rest: &mut ParseBuf<'de>,
 ) -> Result<ComBinlogDump<'de>, WireError>
-    ensures { GivesPart binlog_dump_view rest.new.0.now result (binlog_dump_fields_at rest.old.0.now) }
+    ensures { TellsPart binlog_dump_view rest.new.0.now result (binlog_dump_fields_at rest.old.0.now) }
 {
     let _header: ComBinlogDumpHeader = rest.parse(alloc, ())?;
     let Some(pos) = rest.checked_eat_u32_le() else {

@@ -7,7 +7,7 @@ ghost use Rattle.bstr.specs.Utf8.{lossy_chars};
 ghost use Rattle.mysql_buf.specs.Writing.{front};
 ghost use Rattle.mysql_gtid.specs.Sids.{sid_view};
 ghost use Rattle.mysql_raw.specs.Laws.{unsized};
-ghost use Rattle.mysql_raw.specs.Wire.{GivesPart};
+ghost use Rattle.mysql_raw.specs.Wire.{GivesPart, TellsPart};
 ghost use Rattle.mysql_repl.specs.PacketLaws.{binlog_dump_gtid_at-back};
 ghost use Rattle.mysql_repl.specs.Packets.{BinlogDumpGtid, IsBinlogDumpGtid, binlog_dump_gtid, binlog_dump_gtid_at, binlog_dump_gtid_fields_at, binlog_dump_gtid_front_at, binlog_dump_gtid_start_at, through_gtid};
 ghost use Rattle.mysql_repl.specs.Views.{binlog_dump_gtid_view, start_view};
@@ -272,7 +272,7 @@ impl<'a> ReadsBack for ComBinlogDumpGtid<'a> {
 // The flags and the replica's id.
 #[tactic(auto, unfolding(crate::specs::Packets::binlog_dump_gtid_front_at))]
 fn front_from(alloc: Global, rest: &mut ParseBuf) -> Result<(BinlogDumpFlags, u32), WireError>
-    ensures { GivesPart (λ front. (front.0.0, front.1)) rest.new.0.now result (binlog_dump_gtid_front_at rest.old.0.now) }
+    ensures { TellsPart (λ front. (front.0.0, front.1)) rest.new.0.now result (binlog_dump_gtid_front_at rest.old.0.now) }
 {
     let _header: ComBinlogDumpGtidHeader = rest.parse(alloc, ())?;
     let flags: Const<BinlogDumpFlags, LeU16> = rest.parse(alloc, ())?;
@@ -292,7 +292,7 @@ struct Start<'a> {
 
 #[tactic(auto, unfolding(crate::specs::Packets::binlog_dump_gtid_start_at))]
 fn start_from<'de>(rest: &mut ParseBuf<'de>) -> Result<Start<'de>, WireError>
-    ensures { GivesPart start_view rest.new.0.now result (binlog_dump_gtid_start_at rest.old.0.now) }
+    ensures { TellsPart start_view rest.new.0.now result (binlog_dump_gtid_start_at rest.old.0.now) }
 {
     let Some(filename) = rest.checked_eat_u32_str() else {
         return Err(WireError::UnexpectedEof);

@@ -5,7 +5,7 @@ use thiserror::Error;
 
 /// Another first byte than that of COM_REGISTER_SLAVE.
 #[derive(Clone, Copy, Debug, Default, PartialEq, Eq, Hash, Error)]
-#[error("invalid header of COM_REGISTER_SLAVE")]
+#[error("Invalid header for COM_REGISTER_SLAVE")]
 pub struct InvalidComRegisterSlaveHeader;
 
 /// The first byte of COM_REGISTER_SLAVE.
@@ -15,7 +15,7 @@ pub type ComRegisterSlaveHeader = ConstU8<InvalidComRegisterSlaveHeader, 21>;
 
 /// Another first byte than that of COM_TABLE_DUMP.
 #[derive(Clone, Copy, Debug, Default, PartialEq, Eq, Hash, Error)]
-#[error("invalid header of COM_TABLE_DUMP")]
+#[error("Invalid header for COM_TABLE_DUMP")]
 pub struct InvalidComTableDumpHeader;
 
 /// The first byte of COM_TABLE_DUMP.
@@ -25,7 +25,7 @@ pub type ComTableDumpHeader = ConstU8<InvalidComTableDumpHeader, 19>;
 
 /// Another first byte than that of COM_BINLOG_DUMP.
 #[derive(Clone, Copy, Debug, Default, PartialEq, Eq, Hash, Error)]
-#[error("invalid header of COM_BINLOG_DUMP")]
+#[error("Invalid header for COM_BINLOG_DUMP")]
 pub struct InvalidComBinlogDumpHeader;
 
 /// The first byte of COM_BINLOG_DUMP.
@@ -35,7 +35,7 @@ pub type ComBinlogDumpHeader = ConstU8<InvalidComBinlogDumpHeader, 18>;
 
 /// Another first byte than that of COM_BINLOG_DUMP_GTID.
 #[derive(Clone, Copy, Debug, Default, PartialEq, Eq, Hash, Error)]
-#[error("invalid header of COM_BINLOG_DUMP_GTID")]
+#[error("Invalid header for COM_BINLOG_DUMP_GTID")]
 pub struct InvalidComBinlogDumpGtidHeader;
 
 /// The first byte of COM_BINLOG_DUMP_GTID.
@@ -45,7 +45,7 @@ pub type ComBinlogDumpGtidHeader = ConstU8<InvalidComBinlogDumpGtidHeader, 30>;
 
 /// Another first byte than that of an acknowledgement.
 #[derive(Clone, Copy, Debug, Default, PartialEq, Eq, Hash, Error)]
-#[error("invalid header of a semi-synchronous acknowledgement")]
+#[error("Invalid semi-sync ack packet header")]
 pub struct InvalidSemiSyncAckPacketPacketHeader;
 
 /// The first byte of an acknowledgement.

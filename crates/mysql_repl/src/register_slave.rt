@@ -1,12 +1,12 @@
 //! What a replica says of itself.
 
-ghost use Rattle.std.specs.Prelude.{◌≡◌, [], IfOk, None, IsOkUnless};
+ghost use Rattle.std.specs.Prelude.{◌≡◌, [], IfOk, None, IsOkUnless, false};
 ghost use Rattle.std.specs.Cow.{cow_slice_items, cow_str_bytes};
 ghost use Rattle.std.specs.Str.{encode_utf8_all};
 ghost use Rattle.bstr.specs.Utf8.{lossy_chars};
 ghost use Rattle.mysql_buf.specs.Writing.{front};
 ghost use Rattle.mysql_raw.specs.Laws.{unsized};
-ghost use Rattle.mysql_raw.specs.Wire.{GivesPart};
+ghost use Rattle.mysql_raw.specs.Wire.{TellsPart};
 ghost use Rattle.mysql_repl.specs.PacketLaws.{register_slave_at-back};
 ghost use Rattle.mysql_repl.specs.Packets.{IsRegisterSlave, RegisterSlave, register_slave, register_slave_at, register_slave_fields_at, replica_names_at, replica_numbers_at};
 ghost use Rattle.mysql_repl.specs.Views.{names_view, numbers_view, register_slave_view};
@@ -224,6 +224,8 @@ impl<'a> Readable for ComRegisterSlave<'a> {
 
     ghost SIZE = { None };
 
+    ghost AsksForMemory = { false };
+
     ghost Shown = { RegisterSlave };
 
     ghost shown = { register_slave_view };
@@ -257,7 +259,7 @@ struct Names<'a> {
 
 #[tactic(auto, unfolding(crate::specs::Packets::replica_names_at))]
 fn names_from<'de>(rest: &mut ParseBuf<'de>) -> Result<Names<'de>, WireError>
-    ensures { GivesPart names_view rest.new.0.now result (replica_names_at rest.old.0.now) }
+    ensures { TellsPart names_view rest.new.0.now result (replica_names_at rest.old.0.now) }
 {
     let Some(hostname) = rest.checked_eat_u8_str() else {
         return Err(WireError::UnexpectedEof);
@@ -285,7 +287,7 @@ struct Numbers {
 
 #[tactic(auto, unfolding(crate::specs::Packets::replica_numbers_at))]
 fn numbers_from(rest: &mut ParseBuf) -> Result<Numbers, WireError>
-    ensures { GivesPart numbers_view rest.new.0.now result (replica_numbers_at rest.old.0.now) }
+    ensures { TellsPart numbers_view rest.new.0.now result (replica_numbers_at rest.old.0.now) }
 {
     let Some(port) = rest.checked_eat_u16_le() else {
         return Err(WireError::UnexpectedEof);
@@ -309,7 +311,7 @@ fn fields_from<'de>(
     alloc: Global,
     rest: &mut ParseBuf<'de>,
 ) -> Result<ComRegisterSlave<'de>, WireError>
-    ensures { GivesPart register_slave_view rest.new.0.now result (register_slave_fields_at rest.old.0.now) }
+    ensures { TellsPart register_slave_view rest.new.0.now result (register_slave_fields_at rest.old.0.now) }
 {
     let _header: ComRegisterSlaveHeader = rest.parse(alloc, ())?;
     let Some(server_id) = rest.checked_eat_u32_le() else {

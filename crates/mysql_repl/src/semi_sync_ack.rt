@@ -1,11 +1,11 @@
 //! The acknowledgement of an event by a replica.
 
-ghost use Rattle.std.specs.Prelude.{◌≡◌, [], IfOk, None, IsOkUnless};
+ghost use Rattle.std.specs.Prelude.{◌≡◌, [], IfOk, None, IsOkUnless, false};
 ghost use Rattle.std.specs.Cow.{cow_slice_items, cow_str_bytes};
 ghost use Rattle.std.specs.Str.{encode_utf8_all};
 ghost use Rattle.bstr.specs.Utf8.{lossy_chars};
 ghost use Rattle.mysql_raw.specs.Laws.{unsized};
-ghost use Rattle.mysql_raw.specs.Wire.{GivesPart};
+ghost use Rattle.mysql_raw.specs.Wire.{TellsPart};
 ghost use Rattle.mysql_repl.specs.PacketLaws.{semi_sync_ack_at-back};
 ghost use Rattle.mysql_repl.specs.Packets.{IsSemiSyncAck, SemiSyncAck, semi_sync_ack, semi_sync_ack_at, semi_sync_ack_fields_at};
 ghost use Rattle.mysql_repl.specs.Views.{semi_sync_ack_view};
@@ -92,6 +92,8 @@ impl<'a> Readable for SemiSyncAckPacket<'a> {
 
     ghost SIZE = { None };
 
+    ghost AsksForMemory = { false };
+
     ghost Shown = { SemiSyncAck };
 
     ghost shown = { semi_sync_ack_view };
@@ -120,7 +122,7 @@ fn fields_from<'de>(
     alloc: Global,
     rest: &mut ParseBuf<'de>,
 ) -> Result<SemiSyncAckPacket<'de>, WireError>
-    ensures { GivesPart semi_sync_ack_view rest.new.0.now result (semi_sync_ack_fields_at rest.old.0.now) }
+    ensures { TellsPart semi_sync_ack_view rest.new.0.now result (semi_sync_ack_fields_at rest.old.0.now) }
 {
     let _header: SemiSyncAckPacketPacketHeader = rest.parse(alloc, ())?;
     let Some(position) = rest.checked_eat_u64_le() else {

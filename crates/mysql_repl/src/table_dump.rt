@@ -1,6 +1,6 @@
 //! The request for a table.
 
-ghost use Rattle.std.specs.Prelude.{◌≡◌, IfOk, None, IsOkUnless};
+ghost use Rattle.std.specs.Prelude.{◌≡◌, IfOk, None, IsOkUnless, false};
 ghost use Rattle.std.specs.Cow.{cow_slice_items, cow_str_bytes};
 ghost use Rattle.std.specs.Str.{encode_utf8_all};
 ghost use Rattle.bstr.specs.Utf8.{lossy_chars};
@@ -90,6 +90,8 @@ impl<'a> Readable for ComTableDump<'a> {
     type Ctx = ();
 
     ghost SIZE = { None };
+
+    ghost AsksForMemory = { false };
 
     ghost Shown = { TableDump };
 

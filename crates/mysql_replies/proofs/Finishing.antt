@@ -4,7 +4,7 @@ use Rattle.std.specs.Prelude.{map}
 use Rattle.std.proofs.lemmas.List.{append-nil}
 use Rattle.mysql_wire.specs.Stream.{Rest}
 use Rattle.mysql_packets.specs.Packets.{ColumnDefinition}
-use Rattle.mysql_packets.specs.Views.{report_view}
+use Rattle.mysql_packets.specs.Views.{progress_report_view}
 use Rattle.mysql_replies.specs.declared.context.Context.{Context}
 use Rattle.mysql_replies.specs.declared.awaited.Awaited as code
 use Rattle.mysql_replies.specs.declared.awaited.Awaited.TheVariants as awaiting
@@ -41,7 +41,7 @@ at_end c (awaiting.Rows columns rows) settled = record { reading = begun _; none
 at_end c awaiting.Nothing settled = record { reading = last [] []; none = refl }
 
 -- What no more payloads decide.
-pub stops : (s : ReplyState) (rest : Rest) (answer : Answer) → IsSettled s.context (awaited_view s.awaited) → answer.results ≡ outcome_views s.results.items ++ listed_of (awaited_view s.awaited) → answer.progress ≡ map report_view s.progress.items → answer.end ≡ end_of s.count rest (ending_at (awaited_view s.awaited)) → Continues (progressing_of s) [] rest answer
+pub stops : (s : ReplyState) (rest : Rest) (answer : Answer) → IsSettled s.context (awaited_view s.awaited) → answer.results ≡ outcome_views s.results.items ++ listed_of (awaited_view s.awaited) → answer.progress ≡ map progress_report_view s.progress.items → answer.end ≡ end_of s.count rest (ending_at (awaited_view s.awaited)) → Continues (progressing_of s) [] rest answer
 stops s rest answer settled results progress end =
     let e = at_end s.context s.awaited settled in
     let n : s.count ≡ s.count + 0 = omega arith in
@@ -50,6 +50,6 @@ stops s rest answer settled results progress end =
       ending = ending_at (awaited_view s.awaited);
       reading = e.reading;
       results = results;
-      progress = rw e.none (progress ∙ sym (append-nil (map report_view s.progress.items)));
+      progress = rw e.none (progress ∙ sym (append-nil (map progress_report_view s.progress.items)));
       end = end ∙ ap (λ k. end_of k rest (ending_at (awaited_view s.awaited))) n;
     }

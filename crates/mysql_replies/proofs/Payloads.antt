@@ -2,7 +2,7 @@
 use Rattle.std.proofs.Common.{◌≡◌, ℕ, zero, suc, List, [], ◌∷◌, ◌++◌, Bool, true, false, Result, Ok, Err, refl, ap, sym, subst, if◌then◌else◌, ◌∙◌}
 use Rattle.std.proofs.lemmas.List.{append-nil}
 use Rattle.mysql_cells.specs.declared.value.Value.{Value}
-use Rattle.mysql_packets.specs.Packets.{Okay, Statement, ColumnDefinition, deprecate_eof}
+use Rattle.mysql_packets.specs.Packets.{OkPacket, PrepareOk, ColumnDefinition, deprecate_eof}
 use Rattle.mysql_replies.specs.declared.fault.ReplyFault.{ReplyFault}
 use Rattle.mysql_replies.specs.declared.context.Context.{Context}
 use Rattle.mysql_replies.specs.Grammar.{Payload, Outcome, PreparedResult, Part, Stands, Misfit, ◌>>=◌, Stretch, Ending, Ended, Wrong, Results, last, more, misfit, Line, RowLine, TerminatorLine, ErrorLine, Opening, OkOpening, ErrorOpening, FileOpening, CountOpening, StatementOpening, is_report, reading, in_place, next, column, eof, columns, columns_end, column_group, line, after_rows, rows, result_set, prepared, prepared_columns, opening, after_opening, one_result}
@@ -84,24 +84,24 @@ column_cases c n these payload Passed same = (GroupGoes (suc n) these, λ z. ap 
 column_cases c n these payload (Found a) same = (GroupGoes n (these ++ a ∷ []), λ z. ap (λ (p : Part ColumnDefinition). (p >>= λ x. columns c n (these ++ x.0 ∷ []) x.1) >>= λ x. columns_end c x.0 x.1) (same z))
 column_cases c n these payload (Refused fault) same = (GroupFails fault, λ z. ap (λ (p : Part ColumnDefinition). (p >>= λ x. columns c n (these ++ x.0 ∷ []) x.1) >>= λ x. columns_end c x.0 x.1) (same z))
 
-eof_cases : (c : Context) (first : ColumnDefinition) (others : List ColumnDefinition) (payload : Payload) (m : Placed Okay) → IsPlaced (λ z. next c eof (payload ∷ z)) (λ z. next c eof z) payload m → (b : Bool) → deprecate_eof c.capabilities.0 ≡ b → (m : GroupMove) × GroupLeads c 0 (first ∷ others) payload m
+eof_cases : (c : Context) (first : ColumnDefinition) (others : List ColumnDefinition) (payload : Payload) (m : Placed OkPacket) → IsPlaced (λ z. next c eof (payload ∷ z)) (λ z. next c eof z) payload m → (b : Bool) → deprecate_eof c.capabilities.0 ≡ b → (m : GroupMove) × GroupLeads c 0 (first ∷ others) payload m
 unfolding column_group columns columns_end
 eof_cases c first others payload m same true h = (GroupStands, λ z. ap (λ b. if b then Stands (first ∷ others) z else (next c eof z >>= λ x. Stands (first ∷ others) x.1)) h)
 eof_cases c first others payload Passed same false h = (
   GroupGoes 0 (first ∷ others),
   λ z. ap (λ b. if b then Stands (first ∷ others) (payload ∷ z) else (next c eof (payload ∷ z) >>= λ x. Stands (first ∷ others) x.1)) h
-      ∙ ap (λ (p : Part Okay). p >>= λ x. Stands (first ∷ others) x.1) (same z)
+      ∙ ap (λ (p : Part OkPacket). p >>= λ x. Stands (first ∷ others) x.1) (same z)
       ∙ sym (ap (λ b. if b then Stands (first ∷ others) z else (next c eof z >>= λ x. Stands (first ∷ others) x.1)) h),
 )
 eof_cases c first others payload (Found a) same false h = (
   GroupEnds,
   λ z. ap (λ b. if b then Stands (first ∷ others) (payload ∷ z) else (next c eof (payload ∷ z) >>= λ x. Stands (first ∷ others) x.1)) h
-      ∙ ap (λ (p : Part Okay). p >>= λ x. Stands (first ∷ others) x.1) (same z),
+      ∙ ap (λ (p : Part OkPacket). p >>= λ x. Stands (first ∷ others) x.1) (same z),
 )
 eof_cases c first others payload (Refused fault) same false h = (
   GroupFails fault,
   λ z. ap (λ b. if b then Stands (first ∷ others) (payload ∷ z) else (next c eof (payload ∷ z) >>= λ x. Stands (first ∷ others) x.1)) h
-      ∙ ap (λ (p : Part Okay). p >>= λ x. Stands (first ∷ others) x.1) (same z),
+      ∙ ap (λ (p : Part OkPacket). p >>= λ x. Stands (first ∷ others) x.1) (same z),
 )
 
 group_step : (c : Context) (n : ℕ) (these : List ColumnDefinition) (payload : Payload) → (m : GroupMove) × GroupLeads c n these payload m
@@ -145,24 +145,24 @@ result_set_step c n these payload =
 Step-over : (c : Context) (results : List Outcome) (payload : Payload) → Step c (λ z. Stands (record { results = results; more = false }) (payload ∷ z)) payload
 Step-over c results payload = (Over results, λ z. last results (payload ∷ z))
 
-prepared_columns_step : (c : Context) (statement : Statement) (parameters : List ColumnDefinition) (n : ℕ) (these : List ColumnDefinition) (payload : Payload) → Step c (λ z. prepared_columns c statement parameters n these (payload ∷ z)) payload
+prepared_columns_step : (c : Context) (statement : PrepareOk) (parameters : List ColumnDefinition) (n : ℕ) (these : List ColumnDefinition) (payload : Payload) → Step c (λ z. prepared_columns c statement parameters n these (payload ∷ z)) payload
 unfolding prepared_columns
 prepared_columns_step c statement parameters n these payload =
     group_then c n these payload (λ x. Stands (record { results = PreparedResult statement parameters x.0 ∷ []; more = false }) x.1) (PreparedColumns statement parameters) (λ m those z. refl)
     (Step-over c (PreparedResult statement parameters these ∷ []) payload) (Step-stands c _ payload)
 
-prepared_step : (c : Context) (statement : Statement) (n : ℕ) (these : List ColumnDefinition) (payload : Payload) → Step c (λ z. prepared c statement n these (payload ∷ z)) payload
+prepared_step : (c : Context) (statement : PrepareOk) (n : ℕ) (these : List ColumnDefinition) (payload : Payload) → Step c (λ z. prepared c statement n these (payload ∷ z)) payload
 unfolding prepared
 prepared_step c statement n these payload =
-    group_then c n these payload (λ x. prepared_columns c statement x.0 statement.columns [] x.1) (Parameters statement) (λ m those z. refl)
-    (prepared_columns_step c statement these statement.columns [] payload) (Step-awaits c (PreparedColumns statement these statement.columns []) payload)
+    group_then c n these payload (λ x. prepared_columns c statement x.0 statement.num_columns [] x.1) (Parameters statement) (λ m those z. refl)
+    (prepared_columns_step c statement these statement.num_columns [] payload) (Step-awaits c (PreparedColumns statement these statement.num_columns []) payload)
 
 opening_step : (c : Context) (payload : Payload) (o : Opening) → Step c (λ z. after_opening c o z) payload
 opening_step c payload (OkOpening ok) = Step-stands c _ payload
 opening_step c payload (ErrorOpening error) = Step-stands c _ payload
 opening_step c payload (FileOpening name) = Step-stands c _ payload
 opening_step c payload (CountOpening n) = Step-awaits c (Columns n []) payload
-opening_step c payload (StatementOpening statement) = Step-awaits c (Parameters statement statement.parameters []) payload
+opening_step c payload (StatementOpening statement) = Step-awaits c (Parameters statement statement.num_params []) payload
 
 one_result_cases : (c : Context) (payload : Payload) (m : Placed Opening) → IsPlaced (λ z. next c (opening c) (payload ∷ z)) (λ z. next c (opening c) z) payload m → Step c (λ z. one_result c (payload ∷ z)) payload
 unfolding one_result

@@ -1,6 +1,6 @@
 -- Payloads that come out of a codec one after another, and what is decided over the bytes still to come.
-use Rattle.std.proofs.Common.{◌≡◌, ℕ, zero, suc, ◌+◌, ◌-◌, ◌<◌, ◌≤◌, List, [], ◌∷◌, ◌++◌, length, take, true, false, Option, Some, None, refl, ap, sym, subst, arith, ◌∙◌, append_assoc, add-one, length-append}
-use Rattle.std.specs.Prelude.{nat_le, if◌then◌else◌, Result, Ok, Err, OnOk, IfErr, is_err, ◌/◌}
+use Rattle.std.proofs.Common.{◌≡◌, ℕ, zero, suc, ◌+◌, ◌-◌, ◌<◌, ◌≤◌, List, [], ◌∷◌, ◌++◌, length, take, Bool, true, false, Option, Some, None, refl, ap, sym, subst, arith, ◌∙◌, append_assoc, add-one, length-append}
+use Rattle.std.specs.Prelude.{◌==◌, nat_le, if◌then◌else◌, Result, Ok, Err, OnOk, IfErr, is_err, ◌/◌}
 use Rattle.std.specs.List.{AllByRecursion}
 use Rattle.std.specs.Option.{IfSome}
 use Rattle.std.proofs.lemmas.List.{append-nil, nil_from_length}
@@ -517,3 +517,37 @@ piece_short laws s codec src src' dst piece fault here there fed same short = tt
 pub piece_bytes : FramingLaws → (codec : Codec) (src src' dst piece : List ℕ) → src' ≡ src ++ piece → AreBytes (held codec src dst) → AreBytes piece → AreBytes (held codec src' dst)
 piece_bytes laws codec src src' dst piece fed are others =
     subst AreBytes (sym (ap (λ k. held codec k dst) fed ∙ laws.piece codec src dst piece)) (bytes_append (held codec src dst) piece are others)
+
+-- After the last result no byte is held.
+pub paused_empty : FramingLaws → (s : ReplyState) (codec : Codec) (src dst : List ℕ) → IsPaused s codec src dst → awaited_view s.awaited ≡ reply.Nothing → src ≡ []
+paused_empty laws s codec src dst p over =
+    let begun = p.nothing_begun over in
+    let split : Split = record { payloads = []; rest_bytes = held codec src dst; rest = p.rest } in
+    sym (held_nothing laws codec src dst begun.0 begun.1 begun.2)
+    ∙ no_bytes codec.limit (packet_number codec dst) (held codec src dst) split (record { joined = refl; within = tt; ends = p.is_rest }) refl (p.over over)
+
+-- Where a fault was met, bytes that are held in place of others change nothing.
+pub elsewhere : (start : Held) (next : ReplyState) (here there : Held) (r : Result Unit ReplyFault) → is_err r ≡ true → IfErr r (λ fault. next.fault ≡ Some fault) → here.standing ≡ standing_of next → there.standing ≡ standing_of next → UnlessMemory r (GoesOnOver start [] here) → UnlessMemory r (GoesOnOver start [] there)
+elsewhere start next here there (Ok x) failed wrong one two goes = absurd (let k : false ≡ true = failed in cc)
+elsewhere start next here there (Err faults.Memory) failed wrong one two goes = tt
+elsewhere start next here there (Err fault) failed wrong one two goes = λ more answer are h. goes more answer are (decides_anywhere next fault there here more answer wrong two one h)
+
+-- What ran short over the bytes that are held ran short over the piece, if anything did.
+pub piece_runs_short : FramingLaws → (s : ReplyState) (codec : Codec) (src dst piece : List ℕ) (r : Result Unit ReplyFault) (there : Held) → OnMemory r (StandsShort (held_of s codec (src ++ piece) dst) (held codec (src ++ piece) dst) there) → OnMemory r (StandsShort (held_of s codec src dst) (held codec src dst ++ piece) there)
+piece_runs_short laws s codec src dst piece (Ok x) there short = tt
+piece_runs_short laws s codec src dst piece (Err faults.Memory) there short = piece_short laws s codec src (src ++ piece) dst piece faults.Memory there there refl refl short
+piece_runs_short laws s codec src dst piece (Err fault) there short = tt
+
+-- The codec waits, having used all bytes.
+pub waits_plain : (codec new : Codec) (src dst kept rest payload : List ℕ) → Waits codec src dst new (kept ++ rest) payload → rest ≡ [] → payload ≡ [] → Waits codec src dst new kept []
+waits_plain codec new src dst kept rest payload w used none =
+    subst (λ l. Waits codec src dst new l []) (ap (λ l. kept ++ l) used ∙ append-nil kept) (subst (λ l. Waits codec src dst new (kept ++ rest) l) none w)
+
+-- After the last result all bytes are used.
+pub over_paused : FramingLaws → (start s : ReplyState) (first codec : Codec) (from_src from_dst kept rest dst : List ℕ) → Taking start first from_src from_dst s codec (kept ++ rest) dst → s.awaited ≡ awaiting.Nothing → kept ≡ [] → rest ≡ [] → Taking start first from_src from_dst s codec kept dst × IsPaused s codec kept dst
+over_paused laws start s first codec from_src from_dst kept rest dst t over none used =
+    let here = subst (λ l. Taking start first from_src from_dst s codec l dst) (ap (λ l. kept ++ l) used ∙ append-nil kept) t in
+    (here, paused_over laws s codec kept dst here.nothing_begun over none here.received.read.refused here.received.read.goes_on here.bytes)
+
+pub not_empty : (xs : List ℕ) (b : Bool) → b ≡ (length xs == 0) → b ≡ false → xs ≡ [] → ⊥
+not_empty xs b is false_is none = absurd (let k : true ≡ false = sym (is ∙ ap (λ l. length l == 0) none) ∙ false_is in cc)

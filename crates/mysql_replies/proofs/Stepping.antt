@@ -2,7 +2,7 @@
 use Rattle.std.proofs.Common.{◌≡◌, ℕ, zero, suc, ◌<◌, ◌-◌, List, [], ◌∷◌, ◌++◌, length, Bool, true, false, Result, Ok, Err, refl, ap, sym, subst, arith, if◌then◌else◌, ◌∙◌, ◌⊎◌, inl, inr}
 use Rattle.std.proofs.lemmas.List.{append-nil}
 use Rattle.mysql_cells.specs.declared.value.Value.{Value}
-use Rattle.mysql_packets.specs.Packets.{Okay, ColumnDefinition, deprecate_eof}
+use Rattle.mysql_packets.specs.Packets.{OkPacket, ColumnDefinition, deprecate_eof}
 use Rattle.mysql_replies.specs.declared.context.Context.{Context}
 use Rattle.mysql_replies.specs.declared.fault.ReplyFault.{ReplyFault}
 use Rattle.mysql_replies.specs.declared.fault.ReplyFault.TheVariants.{Memory}
@@ -65,7 +65,7 @@ rows_after_columns c n these read none empty (inl h) z = rw (none, empty) (rows_
 rows_after_columns c n these read none empty (inr h) z = rw (none, empty) (rows_none c these z h)
 
 -- The EOF that is due stands.
-pub eof_found : (c : Context) (first : ColumnDefinition) (others : List ColumnDefinition) (payload : Payload) (ok : Okay) → has_report_form c payload ≡ false → deprecate_eof c.capabilities.0 ≡ false → eof payload ≡ Ok ok → (z : List Payload) → result_set c 0 (first ∷ others) (payload ∷ z) ≡ rows c (first ∷ others) [] z
+pub eof_found : (c : Context) (first : ColumnDefinition) (others : List ColumnDefinition) (payload : Payload) (ok : OkPacket) → has_report_form c payload ≡ false → deprecate_eof c.capabilities.0 ≡ false → eof payload ≡ Ok ok → (z : List Payload) → result_set c 0 (first ∷ others) (payload ∷ z) ≡ rows c (first ∷ others) [] z
 unfolding result_set column_group columns columns_end
 eof_found c first others payload ok form due h z = rw (due, next_is c eof payload z form, h) refl
 
@@ -86,7 +86,7 @@ pub rows_are : (c : Context) (columns : List ColumnDefinition) (these : List (Li
 unfolding rows
 rows_are c columns these payload r form h z = rw form (ap (λ x. after_rows columns these (λ cells. rows c columns (these ++ cells ∷ []) z) x payload z) h)
 
-pub eof_leads : (c : Context) (these : List ColumnDefinition) (payload : Payload) (ok : Okay) (read : List (List Value)) → has_report_form c payload ≡ false → IsSettled c (Columns 0 these) → eof payload ≡ Ok ok → read ≡ [] → (z : List Payload) → result_set c 0 these (payload ∷ z) ≡ rows c these read z
+pub eof_leads : (c : Context) (these : List ColumnDefinition) (payload : Payload) (ok : OkPacket) (read : List (List Value)) → has_report_form c payload ≡ false → IsSettled c (Columns 0 these) → eof payload ≡ Ok ok → read ≡ [] → (z : List Payload) → result_set c 0 these (payload ∷ z) ≡ rows c these read z
 eof_leads c [] payload ok read form settled h empty z = absurd settled
 eof_leads c (first ∷ others) payload ok read form settled h empty z = eof_found c first others payload ok form settled h z ∙ ap (λ r. rows c (first ∷ others) r z) (sym empty)
 

@@ -1,7 +1,7 @@
 -- How many payloads a part takes: what follows it is shorter by as many.
 use Rattle.std.proofs.Common.{ℕ, zero, suc, ◌+◌, ◌≤◌, List, [], ◌∷◌, ◌++◌, length, Bool, true, false, Result, Ok, Err, arith, if◌then◌else◌}
 use Rattle.mysql_cells.specs.declared.value.Value.{Value}
-use Rattle.mysql_packets.specs.Packets.{Statement, ColumnDefinition, deprecate_eof}
+use Rattle.mysql_packets.specs.Packets.{PrepareOk, ColumnDefinition, deprecate_eof}
 use Rattle.mysql_replies.specs.declared.fault.ReplyFault.{ReplyFault}
 use Rattle.mysql_replies.specs.declared.context.Context.{Context}
 use Rattle.mysql_replies.specs.Grammar.{Payload, Part, Stands, Begun, Misfit, ◌>>=◌, Stretch, Line, RowLine, TerminatorLine, ErrorLine, Opening, OkOpening, ErrorOpening, FileOpening, CountOpening, StatementOpening, is_report, reading, in_place, next, column, eof, columns, columns_end, column_group, line, after_rows, rows, result_set, prepared, prepared_columns, opening, after_opening, one_result}
@@ -86,22 +86,22 @@ unfolding result_set
 Takes-result_set c n these payloads =
     Takes-then 0 payloads (column_group c n these payloads) _ (Takes-column_group c n these payloads) (λ a rest. Takes-rows c a [] rest)
 
-pub Takes-prepared_columns : (c : Context) (statement : Statement) (parameters : List ColumnDefinition) (n : ℕ) (these : List ColumnDefinition) (payloads : List Payload) → Takes 0 payloads (prepared_columns c statement parameters n these payloads)
+pub Takes-prepared_columns : (c : Context) (statement : PrepareOk) (parameters : List ColumnDefinition) (n : ℕ) (these : List ColumnDefinition) (payloads : List Payload) → Takes 0 payloads (prepared_columns c statement parameters n these payloads)
 unfolding prepared_columns
 Takes-prepared_columns c statement parameters n these payloads =
     Takes-then 0 payloads (column_group c n these payloads) _ (Takes-column_group c n these payloads) (λ a rest. omega arith)
 
-pub Takes-prepared : (c : Context) (statement : Statement) (n : ℕ) (these : List ColumnDefinition) (payloads : List Payload) → Takes 0 payloads (prepared c statement n these payloads)
+pub Takes-prepared : (c : Context) (statement : PrepareOk) (n : ℕ) (these : List ColumnDefinition) (payloads : List Payload) → Takes 0 payloads (prepared c statement n these payloads)
 unfolding prepared
 Takes-prepared c statement n these payloads =
-    Takes-then 0 payloads (column_group c n these payloads) _ (Takes-column_group c n these payloads) (λ a rest. Takes-prepared_columns c statement a statement.columns [] rest)
+    Takes-then 0 payloads (column_group c n these payloads) _ (Takes-column_group c n these payloads) (λ a rest. Takes-prepared_columns c statement a statement.num_columns [] rest)
 
 pub Takes-after_opening : (c : Context) (o : Opening) (payloads : List Payload) → Takes 0 payloads (after_opening c o payloads)
 Takes-after_opening c (OkOpening ok) payloads = omega arith
 Takes-after_opening c (ErrorOpening error) payloads = omega arith
 Takes-after_opening c (FileOpening name) payloads = omega arith
 Takes-after_opening c (CountOpening n) payloads = Takes-result_set c n [] payloads
-Takes-after_opening c (StatementOpening statement) payloads = Takes-prepared c statement statement.parameters [] payloads
+Takes-after_opening c (StatementOpening statement) payloads = Takes-prepared c statement statement.num_params [] payloads
 
 pub Takes-one_result : (c : Context) (payloads : List Payload) → Takes 1 payloads (one_result c payloads)
 unfolding one_result

@@ -4,7 +4,7 @@ use Rattle.std.specs.Prelude.{is_ok, OnOk, Vec}
 use Rattle.std.specs.declared.alloc.Global.{Global}
 use Rattle.mysql_replies.specs.declared.results.ReplyResult.{ReplyResult}
 use Rattle.std.proofs.lemmas.List.{append-nil}
-use Rattle.mysql_packets.specs.Packets.{Report, ColumnDefinition, report_at}
+use Rattle.mysql_packets.specs.Packets.{ProgressReport, ColumnDefinition, progress_report_at}
 use Rattle.mysql_replies.specs.declared.context.Context.{Context}
 use Rattle.mysql_replies.specs.declared.fault.ReplyFault.{ReplyFault}
 use Rattle.mysql_replies.specs.declared.fault.ReplyFault.TheVariants.{BadError, AfterEnd}
@@ -13,7 +13,7 @@ use Rattle.mysql_replies.specs.declared.awaited.Awaited.TheVariants as awaiting
 use Rattle.mysql_replies.specs.Grammar.{Payload, Outcome, Misfit, Wrong, Results, last, misfit, has_report_form, is_report, next, columns, columns_end, column_group, rows, result_set, one_result}
 use Rattle.mysql_replies.specs.Reply.{FaultAt, report_of, Columns, Nothing, rest_of, Progressing, GoingOn, Answered, Decides}
 use Rattle.mysql_wire.specs.Wire.{Reading}
-use Rattle.mysql_packets.specs.Views.{report_view}
+use Rattle.mysql_packets.specs.Views.{progress_report_view}
 use Rattle.mysql_replies.specs.declared.fault.ReplyFault.TheVariants.{Memory}
 use Rattle.mysql_replies.specs.declared.awaited.Stepped.TheVariants.{Failed}
 use Rattle.mysql_replies.specs.declared.state.ReplyState.{ReplyState}
@@ -65,13 +65,13 @@ passed c awaiting.Nothing payload h settled some z = absurd some
 pub report_passes : (c : Context) (a : code.Awaited) (payload : Payload) → is_report c payload ≡ true → IsSettled c (awaited_view a) → IsAwaiting (awaited_view a) → Leads c (λ z. rest_of c (awaited_view a) (payload ∷ z)) payload (Moves [] (awaited_view a))
 report_passes c a payload h settled some = step_awaits c payload (λ z. rest_of c (awaited_view a) (payload ∷ z)) (awaited_view a) (passed c a payload h settled some)
 
-refused_columns : (c : Context) (n : ℕ) (these : List ColumnDefinition) (payload : Payload) → has_report_form c payload ≡ true → is_ok (report_at payload) ≡ false → IsSettled c (Columns n these) → (z : List Payload) → result_set c n these (payload ∷ z) ≡ Misfit [] BadError (payload ∷ z)
+refused_columns : (c : Context) (n : ℕ) (these : List ColumnDefinition) (payload : Payload) → has_report_form c payload ≡ true → is_ok (progress_report_at payload) ≡ false → IsSettled c (Columns n these) → (z : List Payload) → result_set c n these (payload ∷ z) ≡ Misfit [] BadError (payload ∷ z)
 unfolding result_set column_group columns columns_end next
 refused_columns c zero [] payload h bad settled z = absurd settled
 refused_columns c zero (first ∷ others) payload h bad settled z = rw (settled, h, bad) refl
 refused_columns c (suc n) these payload h bad settled z = rw (h, bad) refl
 
-refused : (c : Context) (a : code.Awaited) (payload : Payload) → has_report_form c payload ≡ true → is_ok (report_at payload) ≡ false → IsSettled c (awaited_view a) → IsAwaiting (awaited_view a) → (z : List Payload) → rest_of c (awaited_view a) (payload ∷ z) ≡ Misfit (listed_of (awaited_view a)) BadError (payload ∷ z)
+refused : (c : Context) (a : code.Awaited) (payload : Payload) → has_report_form c payload ≡ true → is_ok (progress_report_at payload) ≡ false → IsSettled c (awaited_view a) → IsAwaiting (awaited_view a) → (z : List Payload) → rest_of c (awaited_view a) (payload ∷ z) ≡ Misfit (listed_of (awaited_view a)) BadError (payload ∷ z)
 unfolding one_result rows next
 refused c awaiting.First payload h bad settled some z = rw (h, bad) refl
 refused c (awaiting.Columns left these) payload h bad settled some z = refused_columns c left (column_views these.items) payload h bad settled z
@@ -79,12 +79,12 @@ refused c (awaiting.Rows columns rows) payload h bad settled some z = rw (h, bad
 refused c awaiting.Nothing payload h bad settled some z = absurd some
 
 -- A payload in the form of a report that is none has no place.
-pub report_refused : (c : Context) (a : code.Awaited) (payload : Payload) → has_report_form c payload ≡ true → is_ok (report_at payload) ≡ false → IsSettled c (awaited_view a) → IsAwaiting (awaited_view a) → Leads c (λ z. rest_of c (awaited_view a) (payload ∷ z)) payload (Fails (listed_of (awaited_view a)) BadError)
+pub report_refused : (c : Context) (a : code.Awaited) (payload : Payload) → has_report_form c payload ≡ true → is_ok (progress_report_at payload) ≡ false → IsSettled c (awaited_view a) → IsAwaiting (awaited_view a) → Leads c (λ z. rest_of c (awaited_view a) (payload ∷ z)) payload (Fails (listed_of (awaited_view a)) BadError)
 report_refused c a payload h bad settled some z =
     subst (λ p. Results c p (listed_of (awaited_view a)) (Wrong BadError (payload ∷ z))) (sym (refused c a payload h bad settled some z)) (misfit (listed_of (awaited_view a)) BadError (payload ∷ z))
 
 -- The code's state goes on where the payload leads there.
-pub state_on : (before after : ReplyState) (payload : Payload) (listed : List Outcome) → before.fault ≡ None → after.fault ≡ None → Leads before.context (λ z. rest_of before.context (awaited_view before.awaited) (payload ∷ z)) payload (Moves listed (awaited_view after.awaited)) → after.context ≡ before.context → outcome_views after.results.items ≡ outcome_views before.results.items ++ listed → map report_view after.progress.items ≡ map report_view before.progress.items ++ report_of before.context payload → after.count ≡ before.count + 1 → states.GoesOver before payload after
+pub state_on : (before after : ReplyState) (payload : Payload) (listed : List Outcome) → before.fault ≡ None → after.fault ≡ None → Leads before.context (λ z. rest_of before.context (awaited_view before.awaited) (payload ∷ z)) payload (Moves listed (awaited_view after.awaited)) → after.context ≡ before.context → outcome_views after.results.items ≡ outcome_views before.results.items ++ listed → map progress_report_view after.progress.items ≡ map progress_report_view before.progress.items ++ report_of before.context payload → after.count ≡ before.count + 1 → states.GoesOver before payload after
 state_on before after payload listed going still leads context results progress count z rest answer h =
     subst (λ f. Decides (faulted (progressing_of before) f) (payload ∷ z) rest answer) (sym going)
     (went_on (progressing_of before) payload listed (progressing_of after) leads context results progress count z rest answer
@@ -94,7 +94,7 @@ state_on before after payload listed going still leads context results progress 
 pub state_wrong : (before after : ReplyState) (same : code.Awaited) (payload : Payload) (fault : ReplyFault) → before.fault ≡ None → after ≡ record before { awaited = same; fault = Some fault } → awaited_view same ≡ awaited_view before.awaited → Leads before.context (λ z. rest_of before.context (awaited_view before.awaited) (payload ∷ z)) payload (Fails (listed_of (awaited_view before.awaited)) fault) → states.GoesOver before payload after
 state_wrong before after same payload fault going is awaited leads z rest answer h =
     let k = subst (λ s. Decides (standing_of s) z rest answer) is h in
-    let l = subst (λ a. Decides (Answered (record { results = outcome_views before.results.items ++ listed_of a; progress = map report_view before.progress.items; end = FaultAt before.count fault })) z rest answer) awaited k in
+    let l = subst (λ a. Decides (Answered (record { results = outcome_views before.results.items ++ listed_of a; progress = map progress_report_view before.progress.items; end = FaultAt before.count fault })) z rest answer) awaited k in
     subst (λ f. Decides (faulted (progressing_of before) f) (payload ∷ z) rest answer) (sym going)
     (went_wrong (progressing_of before) payload fault leads z rest answer l)
 
@@ -107,14 +107,14 @@ or_fault_err : {A : Type 0} (fault name : ReplyFault) (read : Reading A) → or_
 or_fault_err fault name (Ok x) h = cc
 or_fault_err fault name (Err e) h = (refl, cc)
 
-wrong_report : (before after : ReplyState) (payload : Payload) (fault : ReplyFault) → before.fault ≡ None → after ≡ record before { fault = Some fault } → has_report_form before.context payload ≡ true → IsSettled before.context (awaited_view before.awaited) → IsAwaiting (awaited_view before.awaited) → or_fault BadError (report_at payload) ≡ Err fault → states.GoesOver before payload after
+wrong_report : (before after : ReplyState) (payload : Payload) (fault : ReplyFault) → before.fault ≡ None → after ≡ record before { fault = Some fault } → has_report_form before.context payload ≡ true → IsSettled before.context (awaited_view before.awaited) → IsAwaiting (awaited_view before.awaited) → or_fault BadError (progress_report_at payload) ≡ Err fault → states.GoesOver before payload after
 wrong_report before after payload fault going is form settled some h =
-    let bad = or_fault_err fault BadError (report_at payload) h in
+    let bad = or_fault_err fault BadError (progress_report_at payload) h in
     let leads = report_refused before.context before.awaited payload form bad.0 settled some in
     state_wrong before after before.awaited payload fault going is refl (rw bad.1 leads)
 
 -- A payload in the form of a report that is refused.
-pub report_failed : (before after : ReplyState) (payload : Payload) (fault : ReplyFault) → before.fault ≡ None → after ≡ record before { fault = Some fault } → has_report_form before.context payload ≡ true → IsSettled before.context (awaited_view before.awaited) → IsAwaiting (awaited_view before.awaited) → Refuses fault (or_fault BadError (report_at payload)) → UnlessMemory {X = Unit {0}} (Err fault) (states.GoesOver before payload after)
+pub report_failed : (before after : ReplyState) (payload : Payload) (fault : ReplyFault) → before.fault ≡ None → after ≡ record before { fault = Some fault } → has_report_form before.context payload ≡ true → IsSettled before.context (awaited_view before.awaited) → IsAwaiting (awaited_view before.awaited) → Refuses fault (or_fault BadError (progress_report_at payload)) → UnlessMemory {X = Unit {0}} (Err fault) (states.GoesOver before payload after)
 report_failed before after payload Memory going is form settled some h = tt
 report_failed before after payload fault going is form settled some h = wrong_report before after payload fault going is form settled some h
 
@@ -125,14 +125,14 @@ state_over before after payload going is none z rest answer h =
     subst (λ f. Decides (faulted (progressing_of before) f) (payload ∷ z) rest answer) (sym going)
     (went_over (progressing_of before) payload (ap awaited_view none) z rest answer k)
 
-or_fault_ok : (report : Report) (name : ReplyFault) (read : Reading Report) → or_fault name read ≡ Ok report → (is_ok read ≡ true) × (read_report read ≡ report ∷ [])
+or_fault_ok : (report : ProgressReport) (name : ReplyFault) (read : Reading ProgressReport) → or_fault name read ≡ Ok report → (is_ok read ≡ true) × (read_report read ≡ report ∷ [])
 or_fault_ok report name (Ok x) h = (refl, cc)
 or_fault_ok report name (Err e) h = cc
 
 -- A report is listed, and nothing else changes.
-pub report_went : (before after : ReplyState) (payload : Payload) (report : Report) → before.fault ≡ None → after ≡ record before { progress = after.progress; count = before.count + 1 } → map report_view after.progress.items ≡ map report_view before.progress.items ++ report ∷ [] → has_report_form before.context payload ≡ true → IsSettled before.context (awaited_view before.awaited) → IsAwaiting (awaited_view before.awaited) → or_fault BadError (report_at payload) ≡ Ok report → states.GoesOver before payload after
+pub report_went : (before after : ReplyState) (payload : Payload) (report : ProgressReport) → before.fault ≡ None → after ≡ record before { progress = after.progress; count = before.count + 1 } → map progress_report_view after.progress.items ≡ map progress_report_view before.progress.items ++ report ∷ [] → has_report_form before.context payload ≡ true → IsSettled before.context (awaited_view before.awaited) → IsAwaiting (awaited_view before.awaited) → or_fault BadError (progress_report_at payload) ≡ Ok report → states.GoesOver before payload after
 report_went before after payload report going is pushed form settled some h =
-    let found = or_fault_ok report BadError (report_at payload) h in
+    let found = or_fault_ok report BadError (progress_report_at payload) h in
     let one : report_of before.context payload ≡ report ∷ [] = rw form found.1 in
     let passes : is_report before.context payload ≡ true = rw form found.0 in
     let leads = report_passes before.context before.awaited payload passes settled some in
@@ -150,7 +150,7 @@ step_moved before between next listed payload going is results form leads =
     state_on before (record between { count = between.count + 1 }) payload listed going (ap (λ (s : ReplyState). s.fault) is ∙ going)
     (subst (λ a. Leads before.context (λ z. rest_of before.context (awaited_view before.awaited) (payload ∷ z)) payload (Moves listed a)) awaited leads)
     (ap (λ (s : ReplyState). s.context) is) results
-    (rw none (ap (λ (s : ReplyState). map report_view s.progress.items) is ∙ sym (append-nil (map report_view before.progress.items))))
+    (rw none (ap (λ (s : ReplyState). map progress_report_view s.progress.items) is ∙ sym (append-nil (map progress_report_view before.progress.items))))
     (ap (λ (s : ReplyState). s.count + 1) is)
 
 pub on_ok : {X E P : Type 0} (r : Result X E) → is_ok r ≡ true → OnOk r P → P
@@ -161,7 +161,7 @@ on_ok (Err e) h p = absurd (let k : true ≡ false = sym h in cc)
 pub roomed : (before after : ReplyState) (room : Vec ReplyResult Global) (payload : Payload) → room.items ≡ before.results.items → states.GoesOver (record before { results = room }) payload after → states.GoesOver before payload after
 roomed before after room payload same goes z rest answer h =
     let standing : standing_of (record before { results = room }) ≡ standing_of before =
-    ap (λ items. faulted (record { context = before.context; results = outcome_views items; progress = map report_view before.progress.items; count = before.count; awaited = awaited_view before.awaited }) before.fault) same in
+    ap (λ items. faulted (record { context = before.context; results = outcome_views items; progress = map progress_report_view before.progress.items; count = before.count; awaited = awaited_view before.awaited }) before.fault) same in
     subst (λ s. Decides s (payload ∷ z) rest answer) standing (goes z rest answer h)
 
 pub roomed_unless : (before after : ReplyState) (room : Vec ReplyResult Global) (payload : Payload) (fault : ReplyFault) → room.items ≡ before.results.items → UnlessMemory {X = Unit {0}} (Err fault) (states.GoesOver (record before { results = room }) payload after) → UnlessMemory {X = Unit {0}} (Err fault) (states.GoesOver before payload after)
@@ -171,7 +171,7 @@ roomed_unless before after room payload fault same goes = roomed before after ro
 -- Memory ran out over a payload.
 pub short_failed : (before after : ReplyState) (same : code.Awaited) (fault : ReplyFault) → after ≡ record before { awaited = same; fault = Some fault } → awaited_view same ≡ awaited_view before.awaited → OnMemory {X = Unit {0}} (Err fault) (IsShortOf before after)
 short_failed before after same Memory is awaited =
-    ap standing_of is ∙ ap (λ a. Answered (record { results = outcome_views before.results.items ++ listed_of a; progress = map report_view before.progress.items; end = FaultAt before.count Memory })) awaited
+    ap standing_of is ∙ ap (λ a. Answered (record { results = outcome_views before.results.items ++ listed_of a; progress = map progress_report_view before.progress.items; end = FaultAt before.count Memory })) awaited
 short_failed before after same fault is awaited = tt
 
 pub step_short : (before after : ReplyState) (same : code.Awaited) (payload : Payload) (fault : ReplyFault) → after ≡ record before { awaited = same; fault = Some fault } → IsStep before.context (awaited_view before.awaited) payload (Failed same fault) → OnMemory {X = Unit {0}} (Err fault) (IsShortOf before after)
@@ -181,5 +181,5 @@ step_short before after same payload fault is step = tt
 -- The same, over a list with more room.
 pub short_roomed : (before after : ReplyState) (room : Vec ReplyResult Global) (fault : ReplyFault) → room.items ≡ before.results.items → OnMemory {X = Unit {0}} (Err fault) (IsShortOf (record before { results = room }) after) → OnMemory {X = Unit {0}} (Err fault) (IsShortOf before after)
 short_roomed before after room Memory same short =
-    short ∙ ap (λ items. Answered (record { results = outcome_views items ++ listed_of (awaited_view before.awaited); progress = map report_view before.progress.items; end = FaultAt before.count Memory })) same
+    short ∙ ap (λ items. Answered (record { results = outcome_views items ++ listed_of (awaited_view before.awaited); progress = map progress_report_view before.progress.items; end = FaultAt before.count Memory })) same
 short_roomed before after room fault same short = tt

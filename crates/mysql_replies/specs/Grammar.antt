@@ -5,7 +5,7 @@ use Rattle.std.specs.Prelude.{ℕ, zero, suc, List, [], ◌∷◌, ◌++◌, len
 use Rattle.mysql_wire.specs.Forms.{lenenc_number_at}
 use Rattle.mysql_wire.specs.Wire.{Reading}
 use Rattle.mysql_cells.specs.declared.value.Value.{Value}
-use Rattle.mysql_packets.specs.Packets.{Okay, ServerFault, Statement, ColumnDefinition, okay_at, old_eof_at, result_set_terminator_at, server_fault_at, report_at, statement_at, column_at, text_row_at, binary_row_at, deprecate_eof, progress_obsolete, more_results_exist}
+use Rattle.mysql_packets.specs.Packets.{OkPacket, ErrPacket, PrepareOk, ColumnDefinition, ok_packet_at, old_eof_at, result_set_terminator_at, err_packet_at, progress_report_at, prepare_ok_at, column_at, text_row_at, binary_row_at, deprecate_eof, progress_obsolete, more_results_exist}
 use Rattle.mysql_replies.specs.declared.context.ReplyKind.{ReplyKind}
 use Rattle.mysql_replies.specs.declared.context.ReplyKind.TheVariants.{Binary, Prepare}
 use Rattle.mysql_replies.specs.declared.context.Context.{Context}
@@ -17,10 +17,10 @@ Payload = List ℕ
 
 -- A result of a reply. Rows without a terminator ended by an error, or haven't ended.
 pub data Outcome : Type 0 where
-  OkResult : Okay → Outcome
-  RowsResult : List ColumnDefinition → List (List Value) → Option Okay → Outcome
-  PreparedResult : Statement → List ColumnDefinition → List ColumnDefinition → Outcome
-  ErrorResult : ServerFault → Outcome
+  OkResult : OkPacket → Outcome
+  RowsResult : List ColumnDefinition → List (List Value) → Option OkPacket → Outcome
+  PreparedResult : PrepareOk → List ColumnDefinition → List ColumnDefinition → Outcome
+  ErrorResult : ErrPacket → Outcome
   FileResult : List ℕ → Outcome
 
 -- What a part of the grammar makes of a list of payloads.
@@ -45,7 +45,7 @@ has_report_form c payload = progress_obsolete c.capabilities.0 && bytes_eq (take
 
 -- A progress report, which may stand in any payload's place.
 abbrev pub is_report : Context → Payload → Bool
-is_report c payload = has_report_form c payload && is_ok (report_at payload)
+is_report c payload = has_report_form c payload && is_ok (progress_report_at payload)
 
 -- What was read, whatever bytes follow it, or the fault of this name.
 abbrev pub or_fault : {A : Type 0} → ReplyFault → Reading A → Result A ReplyFault
@@ -86,7 +86,7 @@ columns c zero these payloads = Stands these payloads
 columns c (suc n) these payloads = next c column payloads >>= λ x. columns c n (these ++ x.0 ∷ []) x.1
 
 -- The EOF packet: fe, below nine bytes.
-abbrev pub eof : Payload → Result Okay ReplyFault
+abbrev pub eof : Payload → Result OkPacket ReplyFault
 eof payload = if nat_lt (length payload) 9 then or_fault BadTerminator (old_eof_at payload) else Err BadTerminator
 
 -- The EOF that is due after columns: none after no columns, and none with DEPRECATE_EOF.
@@ -105,8 +105,8 @@ column_group c n these payloads = do
 -- What may stand in a row's place.
 pub data Line : Type 0 where
   RowLine : List Value → Line
-  TerminatorLine : Okay → Line
-  ErrorLine : ServerFault → Line
+  TerminatorLine : OkPacket → Line
+  ErrorLine : ErrPacket → Line
 
 abbrev pub is_binary : ReplyKind → Bool
 is_binary Binary = true
@@ -118,7 +118,7 @@ row c columns payload =
     whole_or_fault BadRow (if is_binary c.kind then binary_row_at columns payload else text_row_at columns payload)
 
 -- A terminator: the OK packet with fe with DEPRECATE_EOF, else the EOF packet.
-abbrev pub terminator : Context → Payload → Result Okay ReplyFault
+abbrev pub terminator : Context → Payload → Result OkPacket ReplyFault
 terminator c payload =
     or_fault BadTerminator
     (if deprecate_eof c.capabilities.0 then result_set_terminator_at c.capabilities.0 payload else old_eof_at payload)
@@ -134,7 +134,7 @@ begins_with b (first ∷ rest) = first == b
 -- A payload in a row's place: an error, a terminator or a row.
 abbrev pub line : Context → List ColumnDefinition → Payload → Result Line ReplyFault
 line c columns payload =
-    if begins_with 255 payload then map_ok ErrorLine (or_fault BadError (server_fault_at c.capabilities.0 payload))
+    if begins_with 255 payload then map_ok ErrorLine (or_fault BadError (err_packet_at c.capabilities.0 payload))
     else if begins_with 254 payload && nat_lt (length payload) (terminator_limit c)
     then map_ok TerminatorLine (terminator c payload)
     else map_ok RowLine (row c columns payload)
@@ -148,7 +148,7 @@ pub record Stretch : Type 0 where
 abbrev pub after_rows : List ColumnDefinition → List (List Value) → (List Value → Part Stretch) → Result Line ReplyFault → Payload → List Payload → Part Stretch
 after_rows columns rows on (Ok (RowLine cells)) payload rest = on cells
 after_rows columns rows on (Ok (TerminatorLine ok)) payload rest =
-    Stands (record { results = RowsResult columns rows (Some ok) ∷ []; more = more_results_exist ok.status }) rest
+    Stands (record { results = RowsResult columns rows (Some ok) ∷ []; more = more_results_exist ok.status_flags }) rest
 after_rows columns rows on (Ok (ErrorLine error)) payload rest =
     Stands (record { results = RowsResult columns rows None ∷ ErrorResult error ∷ []; more = false }) rest
 after_rows columns rows on (Err fault) payload rest =
@@ -168,24 +168,24 @@ result_set c n these payloads = do
   rows c columns.0 [] columns.1
 
 -- A prepared reply after its parameters: n more columns after these, and the EOF that is due.
-unfoldable pub prepared_columns : Context → Statement → List ColumnDefinition → ℕ → List ColumnDefinition → List Payload → Part Stretch
+unfoldable pub prepared_columns : Context → PrepareOk → List ColumnDefinition → ℕ → List ColumnDefinition → List Payload → Part Stretch
 prepared_columns c statement parameters n these payloads = do
   columns ← column_group c n these payloads
   Stands (record { results = PreparedResult statement parameters columns.0 ∷ []; more = false }) columns.1
 
 -- A prepared reply after its statement packet: n more parameters after these, and then its columns.
-unfoldable pub prepared : Context → Statement → ℕ → List ColumnDefinition → List Payload → Part Stretch
+unfoldable pub prepared : Context → PrepareOk → ℕ → List ColumnDefinition → List Payload → Part Stretch
 prepared c statement n these payloads = do
   parameters ← column_group c n these payloads
-  prepared_columns c statement parameters.0 statement.columns [] parameters.1
+  prepared_columns c statement parameters.0 statement.num_columns [] parameters.1
 
 -- What the first payload of a result may be.
 pub data Opening : Type 0 where
-  OkOpening : Okay → Opening
-  ErrorOpening : ServerFault → Opening
+  OkOpening : OkPacket → Opening
+  ErrorOpening : ErrPacket → Opening
   FileOpening : List ℕ → Opening
   CountOpening : ℕ → Opening
-  StatementOpening : Statement → Opening
+  StatementOpening : PrepareOk → Opening
 
 abbrev pub is_prepare : ReplyKind → Bool
 is_prepare Prepare = true
@@ -199,21 +199,21 @@ count_within (Err e) = Err BadCount
 -- The first payload of a result, by its first byte.
 abbrev pub opening : Context → Payload → Result Opening ReplyFault
 opening c payload =
-    if begins_with 255 payload then map_ok ErrorOpening (or_fault BadError (server_fault_at c.capabilities.0 payload))
+    if begins_with 255 payload then map_ok ErrorOpening (or_fault BadError (err_packet_at c.capabilities.0 payload))
     else if is_prepare c.kind then
-    (if begins_with 0 payload then map_ok StatementOpening (or_fault BadPrepare (statement_at payload)) else Err BadHeader)
-    else if begins_with 0 payload then map_ok OkOpening (or_fault BadOk (okay_at c.capabilities.0 payload))
+    (if begins_with 0 payload then map_ok StatementOpening (or_fault BadPrepare (prepare_ok_at payload)) else Err BadHeader)
+    else if begins_with 0 payload then map_ok OkOpening (or_fault BadOk (ok_packet_at c.capabilities.0 payload))
     else if begins_with 251 payload then Ok (FileOpening (drop 1 payload))
     else if length payload == 0 then Err BadHeader
     else map_ok CountOpening (count_within (lenenc_number_at payload))
 
 -- A result after its first payload.
 abbrev pub after_opening : Context → Opening → List Payload → Part Stretch
-after_opening c (OkOpening ok) rest = Stands (record { results = OkResult ok ∷ []; more = more_results_exist ok.status }) rest
+after_opening c (OkOpening ok) rest = Stands (record { results = OkResult ok ∷ []; more = more_results_exist ok.status_flags }) rest
 after_opening c (ErrorOpening error) rest = Stands (record { results = ErrorResult error ∷ []; more = false }) rest
 after_opening c (FileOpening name) rest = Stands (record { results = FileResult name ∷ []; more = false }) rest
 after_opening c (CountOpening n) rest = result_set c n [] rest
-after_opening c (StatementOpening statement) rest = prepared c statement statement.parameters [] rest
+after_opening c (StatementOpening statement) rest = prepared c statement statement.num_params [] rest
 
 -- A result.
 unfoldable pub one_result : Context → List Payload → Part Stretch

@@ -4,7 +4,7 @@
 use Rattle.std.specs.Prelude.{◌≡◌, ℕ, ◌+◌, ◌-◌, List, [], ◌∷◌, ◌++◌, length, take, false, Ok, Err, if◌then◌else◌}
 use Rattle.mysql_wire.specs.Wire.{Reading}
 use Rattle.mysql_cells.specs.declared.value.Value.{Value}
-use Rattle.mysql_packets.specs.Packets.{Report, Statement, ColumnDefinition, report_at}
+use Rattle.mysql_packets.specs.Packets.{ProgressReport, PrepareOk, ColumnDefinition, progress_report_at}
 use Rattle.mysql_replies.specs.declared.fault.ReplyFault.{ReplyFault}
 use Rattle.mysql_replies.specs.declared.fault.ReplyFault.TheVariants as faults
 use Rattle.mysql_replies.specs.declared.fault.ReplyFault.TheVariants.{AfterEnd}
@@ -21,19 +21,19 @@ pub data End : Type 0 where
 
 pub record Answer : Type 0 where
   pub results : List Outcome
-  pub progress : List Report
+  pub progress : List ProgressReport
   pub end : End
 
 -- The progress report that a payload is.
-abbrev pub read_report : Reading Report → List Report
+abbrev pub read_report : Reading ProgressReport → List ProgressReport
 read_report (Ok x) = x.0 ∷ []
 read_report (Err e) = []
 
-abbrev pub report_of : Context → Payload → List Report
-report_of c payload = if has_report_form c payload then read_report (report_at payload) else []
+abbrev pub report_of : Context → Payload → List ProgressReport
+report_of c payload = if has_report_form c payload then read_report (progress_report_at payload) else []
 
 -- The progress reports among the payloads.
-abbrev pub reports : Context → List Payload → List Report
+abbrev pub reports : Context → List Payload → List ProgressReport
 reports c [] = []
 reports c (payload ∷ rest) = report_of c payload ++ reports c rest
 
@@ -69,9 +69,9 @@ pub data Awaited : Type 0 where
   -- Rows after these, under these columns.
   Rows : List ColumnDefinition → List (List Value) → Awaited
   -- Of a prepared reply: n more parameters after these, and all that follows them.
-  Parameters : Statement → ℕ → List ColumnDefinition → Awaited
+  Parameters : PrepareOk → ℕ → List ColumnDefinition → Awaited
   -- Of a prepared reply: n more columns after these.
-  PreparedColumns : Statement → List ColumnDefinition → ℕ → List ColumnDefinition → Awaited
+  PreparedColumns : PrepareOk → List ColumnDefinition → ℕ → List ColumnDefinition → Awaited
   -- Nothing: the last result stands.
   Nothing : Awaited
 
@@ -88,7 +88,7 @@ rest_of c Nothing payloads = Stands (record { results = []; more = false }) payl
 pub record Progressing : Type 0 where
   pub context : Context
   pub results : List Outcome
-  pub progress : List Report
+  pub progress : List ProgressReport
   pub count : ℕ
   pub awaited : Awaited
 

@@ -2,8 +2,9 @@
 -- MySQL: Client/Server Protocol, "COM_QUERY Response" and "MySQL Packets".
 use Rattle.std.specs.Prelude.{◌≡◌, ℕ, ◌<◌, List, [], ◌∷◌, ◌++◌, map, Option, Some, None, Result, Err, false, Vec, vec_len, vec_capacity}
 use Rattle.std.specs.declared.alloc.Global.{Global}
-use Rattle.mysql_packets.specs.Views.{report_view}
+use Rattle.mysql_packets.specs.Views.{progress_report_view}
 use Rattle.mysql_wire.specs.Codec.{Codec, CanGoOn, IsBetween, held, packet_number}
+use Rattle.mysql_wire.specs.Incoming.{Incoming, codec_by}
 use Rattle.mysql_wire.specs.Stream.{Rest, IsRest, IsFault}
 use Rattle.mysql_wire.specs.Stream.Rest.{Empty}
 use Rattle.mysql_wire.specs.Bytes.{AreBytes}
@@ -32,7 +33,7 @@ abbrev pub progressing_of : ReplyState → Progressing
 progressing_of s = record {
   context = s.context;
   results = outcome_views s.results.items;
-  progress = map report_view s.progress.items;
+  progress = map progress_report_view s.progress.items;
   count = s.count;
   awaited = awaited_view s.awaited;
 }
@@ -99,7 +100,7 @@ end_of_state s (Some fault) = FaultAt s.count fault
 abbrev pub answer_of : ReplyState → Answer
 answer_of s = record {
   results = outcome_views s.results.items ++ listed_of (awaited_view s.awaited);
-  progress = map report_view s.progress.items;
+  progress = map progress_report_view s.progress.items;
   end = end_of_state (progressing_of s) s.fault;
 }
 
@@ -110,11 +111,15 @@ end_view (ends.Fault count fault) = FaultAt count fault
 
 -- A reply as its results, reports and end.
 abbrev pub answer_view : Reply → Answer
-answer_view r = record { results = outcome_views r.results.items; progress = map report_view r.progress.items; end = end_view r.end }
+answer_view r = record { results = outcome_views r.results.items; progress = map progress_report_view r.progress.items; end = end_view r.end }
 
 -- What a reader with this codec, src and dst holds.
 abbrev pub held_of : ReplyState → Codec → List ℕ → List ℕ → Held
 held_of s codec src dst = record { standing = standing_of s; limit = codec.limit; number = packet_number codec dst; bytes = held codec src dst }
+
+-- What a reader with these parts holds.
+abbrev pub held_by : ReplyState → Incoming → Held
+held_by s packets = held_of s (codec_by packets) packets.bytes []
 
 -- After the last result nothing was begun.
 abbrev pub NothingBegun : ReplyState → Codec → List ℕ → Type 0

@@ -5,7 +5,7 @@ use Rattle.mysql_wire.specs.WireError.{WireError}
 use Rattle.mysql_wire.specs.WireError.TheVariants as wire
 use Rattle.mysql_cells.specs.declared.value.Value.{Value}
 use Rattle.mysql_packets.specs.Packets.{ColumnDefinition}
-use Rattle.mysql_packets.specs.Views.{okay_view, server_fault_view, statement_view, column_view}
+use Rattle.mysql_packets.specs.Views.{ok_packet_view, err_packet_view, prepare_ok_view, column_view}
 use Rattle.mysql_replies.specs.declared.fault.ReplyFault.{ReplyFault}
 use Rattle.mysql_replies.specs.declared.fault.ReplyFault.TheVariants.{Memory}
 use Rattle.mysql_replies.specs.declared.opening.Opening.{Opening}
@@ -39,11 +39,11 @@ named (Err wire.Memory) fault = Err Memory
 named (Err e) fault = Err fault
 
 abbrev pub opening_view : Opening → grammar.Opening
-opening_view (openings.Ok ok) = grammar.OkOpening (okay_view ok)
-opening_view (openings.Error error) = grammar.ErrorOpening (server_fault_view error)
+opening_view (openings.Ok ok) = grammar.OkOpening (ok_packet_view ok)
+opening_view (openings.Error error) = grammar.ErrorOpening (err_packet_view error)
 opening_view (openings.File name) = grammar.FileOpening name.items
 opening_view (openings.Count n) = grammar.CountOpening n
-opening_view (openings.Statement statement) = grammar.StatementOpening (statement_view statement)
+opening_view (openings.Statement statement) = grammar.StatementOpening (prepare_ok_view statement)
 
 abbrev pub column_views : List Column → List ColumnDefinition
 column_views columns = map column_view columns
@@ -53,14 +53,14 @@ row_views rows = map (λ row. row.items) rows
 
 abbrev pub line_view : Line → grammar.Line
 line_view (lines.Row cells) = grammar.RowLine cells.items
-line_view (lines.Terminator ok) = grammar.TerminatorLine (okay_view ok)
-line_view (lines.Error error) = grammar.ErrorLine (server_fault_view error)
+line_view (lines.Terminator ok) = grammar.TerminatorLine (ok_packet_view ok)
+line_view (lines.Error error) = grammar.ErrorLine (err_packet_view error)
 
 abbrev pub outcome_view : ReplyResult → grammar.Outcome
-outcome_view (results.Ok ok) = grammar.OkResult (okay_view ok)
-outcome_view (results.Rows columns rows terminator) = grammar.RowsResult (column_views columns.items) (row_views rows.items) (option_map okay_view terminator)
-outcome_view (results.Prepared stmt params columns) = grammar.PreparedResult (statement_view stmt) (column_views params.items) (column_views columns.items)
-outcome_view (results.Error error) = grammar.ErrorResult (server_fault_view error)
+outcome_view (results.Ok ok) = grammar.OkResult (ok_packet_view ok)
+outcome_view (results.Rows columns rows terminator) = grammar.RowsResult (column_views columns.items) (row_views rows.items) (option_map ok_packet_view terminator)
+outcome_view (results.Prepared stmt params columns) = grammar.PreparedResult (prepare_ok_view stmt) (column_views params.items) (column_views columns.items)
+outcome_view (results.Error error) = grammar.ErrorResult (err_packet_view error)
 outcome_view (results.File name) = grammar.FileResult name.items
 
 abbrev pub outcome_views : List ReplyResult → List grammar.Outcome

@@ -1,5 +1,8 @@
 //! What is wrong with a reply.
 
+use std::error::Error;
+use std::fmt;
+
 /// Why a payload, or the bytes after the payloads, have no place in a reply.
 ///
 /// MySQL: Client/Server Protocol, "COM_QUERY Response".
@@ -30,3 +33,31 @@ pub enum ReplyFault {
     /// Memory ran out.
     Memory,
 }
+
+impl ReplyFault {
+    // What is printed.
+    fn text(self) -> &'static str {
+        match self {
+            ReplyFault::TooLarge => "the packet is larger than max_allowed_packet",
+            ReplyFault::OutOfSync => "a chunk has another number than the one that is due",
+            ReplyFault::BadHeader => "the first byte is none that the command allows",
+            ReplyFault::BadCount => "the count of columns can't be read",
+            ReplyFault::BadColumn => "a column can't be read",
+            ReplyFault::BadOk => "an OK packet can't be read",
+            ReplyFault::BadError => "an error or a progress report can't be read",
+            ReplyFault::BadRow => "a row can't be read",
+            ReplyFault::BadTerminator => "what ends columns or rows can't be read",
+            ReplyFault::BadPrepare => "the answer to a prepare can't be read",
+            ReplyFault::AfterEnd => "bytes follow the last result",
+            ReplyFault::Memory => "out of memory",
+        }
+    }
+}
+
+impl fmt::Display for ReplyFault {
+    fn fmt<W: fmt::Write>(&self, f: &mut fmt::Formatter<W>) -> fmt::Result {
+        f.write_str(self.text())
+    }
+}
+
+impl Error for ReplyFault {}

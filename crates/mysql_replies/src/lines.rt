@@ -1,7 +1,7 @@
 //! What stands in a column's, an EOF packet's and a row's place.
 
 ghost use Rattle.std.specs.Prelude.{◌≡◌, List, map, length, Ok, Err, false};
-ghost use Rattle.mysql_packets.specs.Views.{okay_view, column_view};
+ghost use Rattle.mysql_packets.specs.Views.{ok_packet_view, column_view};
 ghost use Rattle.mysql_packets.specs.Packets.{deprecate_eof};
 ghost use Rattle.mysql_replies.specs.Grammar.{column, eof, terminator, terminator_limit, line, row, is_binary};
 ghost use Rattle.mysql_replies.specs.Views.{Gives, line_view, column_views};
@@ -13,9 +13,9 @@ use bitflags::Flags;
 use mysql_cells::Value;
 use mysql_const::{CapabilityFlags, MAX_PAYLOAD_LEN};
 use mysql_packets::column::{Column, column_of};
-use mysql_packets::okay::{OkPacket, old_eof_of, result_set_terminator_of};
+use mysql_packets::err_packet::ServerError;
+use mysql_packets::ok_packet::{OkPacket, old_eof_of, result_set_terminator_of};
 use mysql_packets::row::text_cells_of;
-use mysql_packets::server_fault::ServerError;
 use mysql_wire::{ParseBuf, WireError};
 use std::alloc::Global;
 
@@ -39,7 +39,7 @@ pub fn column_packet(alloc: Global, payload: &[u8]) -> Result<Column, ReplyFault
 
 /// The EOF packet.
 pub fn eof_packet(alloc: Global, payload: &[u8]) -> Result<OkPacket, ReplyFault>
-    ensures { Gives okay_view result (eof payload.now) }
+    ensures { Gives ok_packet_view result (eof payload.now) }
 {
     if payload.len() < 9 {
         named_of(
@@ -65,7 +65,7 @@ fn terminator_packet(
     context: Context,
     payload: &[u8],
 ) -> Result<OkPacket, ReplyFault>
-    ensures { Gives okay_view result (terminator context payload.now) }
+    ensures { Gives ok_packet_view result (terminator context payload.now) }
 {
     if deprecates_eof(context.capabilities) {
         named_of(

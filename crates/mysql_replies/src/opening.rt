@@ -2,9 +2,9 @@
 
 ghost use Rattle.std.specs.Prelude.{◌≡◌, List, length, Ok, Err};
 ghost use Rattle.mysql_replies.specs.Grammar.{opening, or_fault, begins_with, is_prepare, count_within, map_ok};
-ghost use Rattle.mysql_packets.specs.Packets.{okay_at, server_fault_at, statement_at};
+ghost use Rattle.mysql_packets.specs.Packets.{ok_packet_at, err_packet_at, prepare_ok_at};
 ghost use Rattle.mysql_wire.specs.Forms.{lenenc_number_at};
-ghost use Rattle.mysql_packets.specs.Views.{okay_view, server_fault_view, statement_view};
+ghost use Rattle.mysql_packets.specs.Views.{ok_packet_view, err_packet_view, prepare_ok_view};
 ghost use Rattle.mysql_replies.specs.declared.fault.ReplyFault.TheVariants.{BadOk, BadError, BadPrepare};
 ghost use Rattle.mysql_replies.specs.Grammar as grammar;
 ghost use Rattle.mysql_replies.specs.Views.{Gives, named, opening_view};
@@ -12,8 +12,8 @@ ghost use Rattle.mysql_replies.specs.Views.{Gives, named, opening_view};
 use crate::context::{Context, ReplyKind};
 use crate::fault::ReplyFault;
 use mysql_const::CapabilityFlags;
-use mysql_packets::okay::{OkPacket, okay_of};
-use mysql_packets::server_fault::{ServerError, server_error_of};
+use mysql_packets::err_packet::{ServerError, server_error_of};
+use mysql_packets::ok_packet::{OkPacket, ok_packet_of};
 use mysql_packets::statement::{StmtPacket, statement_of};
 use mysql_wire::{ParseBuf, WireError};
 use std::alloc::Global;
@@ -55,10 +55,10 @@ pub fn ok_packet(
     capabilities: CapabilityFlags,
     payload: &[u8],
 ) -> Result<OkPacket, ReplyFault>
-    ensures { Gives okay_view result (or_fault BadOk (okay_at capabilities.0 payload.now)) }
+    ensures { Gives ok_packet_view result (or_fault BadOk (ok_packet_at capabilities.0 payload.now)) }
 {
     named_of(
-        okay_of(alloc, capabilities, &mut ParseBuf(payload)),
+        ok_packet_of(alloc, capabilities, &mut ParseBuf(payload)),
         ReplyFault::BadOk,
     )
 }
@@ -69,7 +69,7 @@ pub fn error_packet(
     capabilities: CapabilityFlags,
     payload: &[u8],
 ) -> Result<ServerError, ReplyFault>
-    ensures { Gives server_fault_view result (or_fault BadError (server_fault_at capabilities.0 payload.now)) }
+    ensures { Gives err_packet_view result (or_fault BadError (err_packet_at capabilities.0 payload.now)) }
 {
     named_of(
         server_error_of(alloc, capabilities, &mut ParseBuf(payload)),
@@ -79,7 +79,7 @@ pub fn error_packet(
 
 /// A statement packet.
 fn statement_packet(alloc: Global, payload: &[u8]) -> Result<StmtPacket, ReplyFault>
-    ensures { Gives statement_view result (or_fault BadPrepare (statement_at payload.now)) }
+    ensures { Gives prepare_ok_view result (or_fault BadPrepare (prepare_ok_at payload.now)) }
 {
     named_of(
         statement_of(alloc, &mut ParseBuf(payload)),

@@ -1,11 +1,10 @@
 //! A reply, read from the bytes of a connection as they come.
 
 ghost use Rattle.std.specs.Prelude.{◌≡◌, ◌⊎◌, ◌∷◌, ◌++◌, [], None, Some, Ok, Err, OnOk, IfErr, IfSome, flat_map, length, ◌<◌, ℕ, List};
-ghost use Rattle.mysql_wire.specs.Bytes.{AreBytes};
-ghost use Rattle.mysql_wire.specs.Codec.{CanGoOn, held};
+ghost use Rattle.mysql_wire.specs.Incoming.{codec_by};
 ghost use Rattle.mysql_replies.specs.Bytes.{IsReplyOf, IsShortReplyOf};
 ghost use Rattle.mysql_replies.specs.Holding.{nothing_held, fault_of, DecidesOver, GoesOnOver, TakesAll, StandsShort};
-ghost use Rattle.mysql_replies.specs.Standings.{standing_of, held_of, answer_view, fault_named, IsReading, IsPaused, NothingBegun, UnlessMemory, OnMemory};
+ghost use Rattle.mysql_replies.specs.Standings.{held_by, answer_view, fault_named, IsReading, IsPaused, UnlessMemory, OnMemory};
 ghost use Rattle.mysql_replies.specs.Standings as states;
 
 use crate::context::{Context, ReplyKind};
@@ -13,12 +12,10 @@ use crate::fault::ReplyFault;
 use crate::framing::{bytes_are_bytes, framing_laws};
 use crate::results::Reply;
 use crate::state::ReplyState;
-use bytes::{Buf, BytesMut};
 use mysql_const::CapabilityFlags;
-use mysql_wire::{PacketCodec, PacketCodecError, PartialHeader};
+use mysql_wire::{PacketCodecError, PacketReader};
 use std::alloc::Global;
 use std::marker::Model;
-use std::mem;
 
 /// What a codec's error means for a reply.
 fn fault_from(error: PacketCodecError) -> ReplyFault
@@ -32,41 +29,36 @@ fn fault_from(error: PacketCodecError) -> ReplyFault
     }
 }
 
-// Takes each payload that stands whole.
-fn take_packets<B: Buf>(
+// Takes each payload that the piece makes whole.
+fn take_packets(
     alloc: Global,
     state: &mut ReplyState,
-    codec: &mut PacketCodec,
-    src: &mut B,
-    dst: &mut BytesMut,
+    packets: &mut PacketReader,
+    piece: &[u8],
 ) -> Result<(), ReplyFault>
     requires reading { IsReading state.old }
     requires going { state.old.fault ≡ None }
-    requires ready { codec.old.refused ≡ None }
-    requires can_go_on { CanGoOn codec.old dst.old.items }
-    requires bytes { AreBytes (held codec.old (B.unread src.old) dst.old.items) }
-    requires nothing_begun { NothingBegun state.old codec.old dst.old.items }
+    requires paused { IsPaused state.old (codec_by packets.old) packets.old.bytes [] }
     ensures reading { IsReading state.new }
-    ensures paused { OnOk result ((state.new.fault ≡ None) × IsPaused state.new codec.new (B.unread src.new) dst.new.items) }
-    ensures moved { OnOk result (length (B.unread src.new) < 4) }
+    ensures paused { OnOk result ((state.new.fault ≡ None) × IsPaused state.new (codec_by packets.new) packets.new.bytes []) }
     ensures fault { IfErr result (λ fault. state.new.fault ≡ Some fault) }
-    ensures took { OnOk result (TakesAll (held_of state.old codec.old (B.unread src.old) dst.old.items) (held codec.old (B.unread src.old) dst.old.items) (held_of state.new codec.new (B.unread src.new) dst.new.items)) }
-    ensures goes_on { UnlessMemory result (GoesOnOver (held_of state.old codec.old (B.unread src.old) dst.old.items) [] (held_of state.new codec.new (B.unread src.new) dst.new.items)) }
-    ensures short { OnMemory result (StandsShort (held_of state.old codec.old (B.unread src.old) dst.old.items) (held codec.old (B.unread src.old) dst.old.items) (held_of state.new codec.new (B.unread src.new) dst.new.items)) }
+    ensures took { OnOk result (TakesAll (held_by state.old packets.old) ((held_by state.old packets.old).bytes ++ piece.now) (held_by state.new packets.new)) }
+    ensures goes_on { UnlessMemory result (GoesOnOver (held_by state.old packets.old) piece.now (held_by state.new packets.new)) }
+    ensures short { OnMemory result (StandsShort (held_by state.old packets.old) ((held_by state.old packets.old).bytes ++ piece.now) (held_by state.new packets.new)) }
 {
     framing_laws();
+    let mut rest = piece;
     'packets: loop {
         if state.is_over() {
-            if src.remaining() == 0 {
+            if rest.is_empty() {
                 return Ok(());
             }
             return Err(state.fail(ReplyFault::AfterEnd));
         }
-        match codec.decode(src, dst) {
+        match packets.advance(&mut rest) {
             Ok(false) => return Ok(()),
             Ok(true) => {
-                let taken = state.take(alloc, dst.as_slice());
-                dst.clear();
+                let taken = state.take(alloc, packets.payload());
                 if taken.is_err() {
                     return taken;
                 }
@@ -84,9 +76,7 @@ fn take_packets<B: Buf>(
 pub struct ReplyReader {
     alloc: Global,
     state: ReplyState,
-    codec: PacketCodec,
-    header: PartialHeader,
-    packet: BytesMut,
+    packets: PacketReader,
 }
 
 impl Model for ReplyReader {
@@ -94,11 +84,13 @@ impl Model for ReplyReader {
 
     ghost Value = { Held };
 
-    ghost use Rattle.mysql_replies.specs.Standings.{held_of, IsReceiving};
+    ghost use Rattle.std.specs.Prelude.{[]};
+    ghost use Rattle.mysql_wire.specs.Incoming.{codec_by};
+    ghost use Rattle.mysql_replies.specs.Standings.{held_by, IsReceiving};
 
-    ghost view = { λ reader. held_of reader.state reader.codec reader.header reader.packet.items };
+    ghost view = { λ reader. held_by reader.state reader.packets };
 
-    ghost invariant = { λ reader. IsReceiving reader.state reader.codec reader.header reader.packet.items };
+    ghost invariant = { λ reader. IsReceiving reader.state (codec_by reader.packets) reader.packets.bytes [] };
 }
 
 impl ReplyReader {
@@ -119,9 +111,7 @@ impl ReplyReader {
         ReplyReader {
             alloc,
             state: ReplyState::new(alloc, context),
-            codec: PacketCodec::at(first_id, limit),
-            header: PartialHeader::new(),
-            packet: BytesMut::new(alloc),
+            packets: PacketReader::new(alloc, first_id, limit),
         }
     }
 
@@ -141,20 +131,7 @@ impl ReplyReader {
             Some(fault) => return Err(fault),
             None => {}
         }
-        bytes_are_bytes(piece);
-        let header = mem::replace(&mut self.header, PartialHeader::new());
-        let mut src = header.followed_by(piece);
-        if let Err(fault) = take_packets(
-            self.alloc,
-            &mut self.state,
-            &mut self.codec,
-            &mut src,
-            &mut self.packet,
-        ) {
-            return Err(fault);
-        }
-        self.header = PartialHeader::rest_of(&mut src);
-        Ok(())
+        take_packets(self.alloc, &mut self.state, &mut self.packets, piece)
     }
 
     /// What was read, where no more bytes come. Takes no memory.

@@ -3,6 +3,7 @@
 use crate::fault::ReplyFault;
 use mysql_cells::Value;
 use mysql_packets::{Column, OkPacket, ProgressReport, ServerError, StmtPacket};
+use std::fmt;
 
 /// A result of a reply.
 ///
@@ -39,6 +40,16 @@ pub enum ReplyEnd {
     Unfinished,
     /// The payload of this number, counted from 0 and with the progress reports, is at fault.
     Fault(u64, ReplyFault),
+}
+
+impl fmt::Display for ReplyEnd {
+    fn fmt<W: fmt::Write>(&self, f: &mut fmt::Formatter<W>) -> fmt::Result {
+        match self {
+            ReplyEnd::Whole => f.write_str("whole"),
+            ReplyEnd::Unfinished => f.write_str("the reply is not whole"),
+            ReplyEnd::Fault(payload, fault) => write!(f, "payload {payload}: {fault}"),
+        }
+    }
 }
 
 /// What was read of a reply.

@@ -1,8 +1,8 @@
 //! A reply, read payload by payload.
 
 ghost use Rattle.std.specs.Prelude.{◌≡◌, ℕ, ◌<◌, ◌+◌, ◌-◌, ◌^◌, List, [], ◌∷◌, ◌++◌, true, false, None, Some, vec_len, vec_capacity, ◌≤◌, ◌↔◌, IsTrue, length, map, OnOk, IfErr};
-ghost use Rattle.mysql_packets.specs.Packets.{progress_obsolete, report_at};
-ghost use Rattle.mysql_packets.specs.Views.{report_view};
+ghost use Rattle.mysql_packets.specs.Packets.{progress_obsolete, progress_report_at};
+ghost use Rattle.mysql_packets.specs.Views.{progress_report_view};
 ghost use Rattle.mysql_replies.specs.declared.fault.ReplyFault.TheVariants.{BadError};
 ghost use Rattle.mysql_replies.specs.Grammar.{or_fault, is_binary, is_prepare, has_report_form};
 ghost use Rattle.mysql_replies.specs.Reply.{fresh};
@@ -19,7 +19,7 @@ use crate::results::{Reply, ReplyEnd, ReplyResult};
 use crate::steps::step;
 use bitflags::Flags;
 use mysql_const::CapabilityFlags;
-use mysql_packets::server_fault::{ProgressReport, report_of};
+use mysql_packets::err_packet::{ProgressReport, report_of};
 use mysql_wire::ParseBuf;
 use std::alloc::Global;
 use std::mem;
@@ -56,7 +56,7 @@ pub fn is_report_like(context: Context, payload: &[u8]) -> bool
 
 /// A progress report.
 fn progress_packet(alloc: Global, payload: &[u8]) -> Result<ProgressReport, ReplyFault>
-    ensures { Gives report_view result (or_fault BadError (report_at payload.now)) }
+    ensures { Gives progress_report_view result (or_fault BadError (progress_report_at payload.now)) }
 {
     named_of(
         report_of(alloc, &mut ParseBuf(payload)),

@@ -16,7 +16,7 @@ use crate::results::ReplyResult;
 use mysql_cells::Value;
 use mysql_const::StatusFlags;
 use mysql_packets::column::Column;
-use mysql_packets::okay::has_more_results;
+use mysql_packets::ok_packet::has_more_results;
 use std::alloc::Global;
 
 /// What is awaited after a result with this status.

@@ -7,7 +7,7 @@ use Rattle.std.specs.Option.{ok_or}
 use Rattle.std.proofs.lemmas.Bool.{eq-eqb, ne_eqb}
 use Rattle.byteorder.specs.Endian.{little_bytes, little_number}
 use Rattle.mysql_buf.specs.FirstBytes.{first-enough}
-use Rattle.mysql_buf.specs.NumberLaws.{little-reads_back, slice_at-append}
+use Rattle.mysql_buf.specs.NumberLaws.{little-reads_back, bytes_at-append}
 use Rattle.mysql_values.specs.Content.{Content}
 use Rattle.mysql_values.specs.Content.TheVariants as content
 use Rattle.mysql_values.specs.Value.{Value}
@@ -16,7 +16,8 @@ use Rattle.mysql_values.specs.Values.{content_of}
 use Rattle.mysql_commands.specs.declared.fault.StreamFault.{StreamFault}
 use Rattle.mysql_commands.specs.declared.fault.StreamFault.TheVariants.{BadExecute, BadType, NotPrepared, WrongId}
 use Rattle.mysql_commands.specs.declared.param_type.ParamType.{ParamType}
-use Rattle.mysql_commands.specs.Fields.{◌>>=◌, must, bytes_at, number_at}
+use Rattle.mysql_commands.specs.Fields.{must, bytes_at, little_at}
+use Rattle.mysql_wire.specs.Wire.{◌>>=◌}
 use Rattle.mysql_commands.specs.Query.{place_count}
 use Rattle.mysql_commands.specs.Layout.{Conversation, ExecuteHead, id_at, is_type, type_at, types_at, binding_at, execute_head}
 use Rattle.mysql_commands.specs.InForce.{Standing}
@@ -33,12 +34,12 @@ bind_from r f x y e h = ap (λ q. q >>= f) e ∙ h
 -- ---- fields
 
 bytes_front : (f : StreamFault) (n : ℕ) (xs ys : List ℕ) → length xs ≡ n → bytes_at f n (xs ++ ys) ≡ Ok (xs, ys)
-bytes_front f n xs ys is = ap (λ k. bytes_at f k (xs ++ ys)) (sym is) ∙ ap (λ o. ok_or o f) (slice_at-append xs ys)
+bytes_front f n xs ys is = ap (λ k. bytes_at f k (xs ++ ys)) (sym is) ∙ ap (λ o. ok_or o f) (bytes_at-append xs ys)
 
-number_front : (f : StreamFault) (n x : ℕ) (ys : List ℕ) → x < 256 ^ n → number_at f n (little_bytes n x ++ ys) ≡ Ok (x, ys)
+number_front : (f : StreamFault) (n x : ℕ) (ys : List ℕ) → x < 256 ^ n → little_at f n (little_bytes n x ++ ys) ≡ Ok (x, ys)
 number_front f n x ys small = ap (λ o. ok_or o f) (little-reads_back n x ys small)
 
-byte_front : (f : StreamFault) (b : ℕ) (ys : List ℕ) → number_at f 1 (b ∷ ys) ≡ Ok (b, ys)
+byte_front : (f : StreamFault) (b : ℕ) (ys : List ℕ) → little_at f 1 (b ∷ ys) ≡ Ok (b, ys)
 byte_front f b ys =
     let n : little_number 1 (b ∷ ys) ≡ b = omega arith in
     ap (λ o. ok_or o f) (first-enough 1 (little_number 1) (b ∷ ys) (omega arith)) ∙ ap (λ k. Ok (k, ys)) n
@@ -142,18 +143,18 @@ unfolding execute_head
 head_reads c id values small same count =
     let behind : List ℕ = to_le_bytes w32 1 ++ parameters values in
     let id_is : id_at c (to_le_bytes w32 id ++ 0 ∷ behind) ≡ Ok (0 ∷ behind) =
-    bind_from (number_at WrongId 4 (to_le_bytes w32 id ++ 0 ∷ behind)) (λ n. must WrongId (n.0 == c.id) >>= λ known. Ok n.1) (id, 0 ∷ behind) (Ok (0 ∷ behind))
+    bind_from (little_at WrongId 4 (to_le_bytes w32 id ++ 0 ∷ behind)) (λ n. must WrongId (n.0 == c.id) >>= λ known. Ok n.1) (id, 0 ∷ behind) (Ok (0 ∷ behind))
     (number_front WrongId 4 id (0 ∷ behind) (omega (arith, small)))
     (ap (λ b. must WrongId b >>= λ known. Ok (0 ∷ behind)) (eq-eqb id c.id (sym same))) in
     bind_from (id_at c (to_le_bytes w32 id ++ 0 ∷ behind))
-    (λ rest. number_at BadExecute 1 rest >>= λ cursor. must BadExecute (cursor.0 == 0) >>= λ none. number_at BadExecute 4 cursor.1 >>= λ count. must BadExecute (count.0 == 1) >>= λ one.
+    (λ rest. little_at BadExecute 1 rest >>= λ cursor. must BadExecute (cursor.0 == 0) >>= λ none. little_at BadExecute 4 cursor.1 >>= λ count. must BadExecute (count.0 == 1) >>= λ one.
     if place_count c.query == 0 then Ok (record { nulls = []; own = None; cells = count.1 }) else binding_at (place_count c.query) count.1)
     (0 ∷ behind) (Ok (head_of values)) id_is
-    (bind_from (number_at BadExecute 1 (0 ∷ behind))
-    (λ cursor. must BadExecute (cursor.0 == 0) >>= λ none. number_at BadExecute 4 cursor.1 >>= λ count. must BadExecute (count.0 == 1) >>= λ one.
+    (bind_from (little_at BadExecute 1 (0 ∷ behind))
+    (λ cursor. must BadExecute (cursor.0 == 0) >>= λ none. little_at BadExecute 4 cursor.1 >>= λ count. must BadExecute (count.0 == 1) >>= λ one.
     if place_count c.query == 0 then Ok (record { nulls = []; own = None; cells = count.1 }) else binding_at (place_count c.query) count.1)
     (0, behind) (Ok (head_of values)) (byte_front BadExecute 0 behind)
-    (bind_from (number_at BadExecute 4 behind)
+    (bind_from (little_at BadExecute 4 behind)
     (λ count. must BadExecute (count.0 == 1) >>= λ one. if place_count c.query == 0 then Ok (record { nulls = []; own = None; cells = count.1 }) else binding_at (place_count c.query) count.1)
     (1, parameters values) (Ok (head_of values)) (number_front BadExecute 4 1 (parameters values) (omega arith))
     (head_by values (place_count c.query) count)))

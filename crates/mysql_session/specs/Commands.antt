@@ -3,29 +3,19 @@
 use Rattle.std.specs.Prelude.{ℕ, zero, suc, ◌+◌, ◌*◌, ◌/◌, Bool, true, false, if◌then◌else◌, List, [], ◌∷◌, ◌++◌, length, drop, map}
 use Rattle.std.specs.Int.{w32, to_le_bytes}
 use Rattle.std.specs.List.{flat_map, range_with_len}
+use Rattle.mysql_const.specs.Commands.{command_number}
+use Rattle.mysql_const.specs.declared.command.Command.TheVariants.{COM_QUERY, COM_STMT_PREPARE, COM_STMT_EXECUTE}
 use Rattle.mysql_values.specs.Value.{Value}
 use Rattle.mysql_values.specs.Value.TheVariants.{NULL, Bytes, Int, UInt, Float, Double, Date, Time}
 use Rattle.mysql_values.specs.Cells.{cell, is_unsigned, type_number}
 
--- the number of a text query
-abbrev pub com_query : ℕ
-com_query = 0x03
-
--- the number of a prepare
-abbrev pub com_stmt_prepare : ℕ
-com_stmt_prepare = 0x16
-
--- the number of an execution
-abbrev pub com_stmt_execute : ℕ
-com_stmt_execute = 0x17
-
 -- a text query: its number, and the text to the end
 abbrev pub query_command : List ℕ → List ℕ
-query_command text = com_query ∷ text
+query_command text = command_number COM_QUERY ∷ text
 
 -- a prepare: its number, and the query with a question mark for each placeholder
 abbrev pub prepare_command : List ℕ → List ℕ
-prepare_command parsed = com_stmt_prepare ∷ parsed
+prepare_command parsed = command_number COM_STMT_PREPARE ∷ parsed
 
 -- whether nothing is sent for the value but its bit
 abbrev pub is_null : Value → Bool
@@ -60,4 +50,4 @@ parameters (value ∷ values) =
 
 -- an execution: its number, the statement's id, no cursor, a count of 1, and what it carries of the values
 unfoldable pub execute_command : ℕ → List Value → List ℕ
-execute_command id values = com_stmt_execute ∷ (to_le_bytes w32 id ++ 0 ∷ (to_le_bytes w32 1 ++ parameters values))
+execute_command id values = command_number COM_STMT_EXECUTE ∷ (to_le_bytes w32 id ++ 0 ∷ (to_le_bytes w32 1 ++ parameters values))

@@ -6,6 +6,7 @@ ghost use Rattle.mysql_values.specs.AsSql.{FitsFields};
 ghost use Rattle.mysql_values.specs.Cells.{cell};
 ghost use Rattle.mysql_session.specs.Commands.{execute_command, is_null as is_no_value, null_bitmap, null_bits as bits_of, type_bytes};
 
+use mysql_const::Command;
 use mysql_values::Value;
 use mysql_values::laws::fields_fit;
 use mysql_wire::MySerialize;
@@ -48,7 +49,7 @@ fn put_types(values: &[&Value], command: &mut Vec<u8>) -> Result<(), AllocError>
 {
     for value in values {
         let value: &Value = *value;
-        command.push(value.column_type())?;
+        command.push(value.column_type() as u8)?;
         command.push(if value.is_unsigned() { 0x80 } else { 0 })?;
     }
     Ok(())
@@ -76,7 +77,7 @@ pub(crate) fn put_execution(
     ensures ok { OnOk result (command.new.items ≡ command.old.items ++ execute_command stmt_id (map (λ value. value.now) values.now)) }
     ensures fit { OnOk result (AllByRecursion (λ value. FitsFields value) (map (λ value. value.now) values.now)) }
 {
-    command.push(0x17)?;
+    command.push(Command::COM_STMT_EXECUTE as u8)?;
     command.extend_from_slice(&stmt_id.to_le_bytes())?;
     command.push(0)?;
     command.extend_from_slice(&1u32.to_le_bytes())?;

@@ -15,6 +15,7 @@ ghost use Rattle.mysql_session.specs.declared.refusal.Refusal.TheVariants as ref
 
 use crate::execute_command::put_execution;
 use crate::refusal::Refusal;
+use mysql_const::Command;
 use mysql_values::laws::tokens_of_a_text;
 use mysql_values::{
     NamedParamsError, Params, ParamsError, ParsedNamedParams, SetError, Value, places,
@@ -129,7 +130,7 @@ fn prepare_of(alloc: Global, parsed: &[u8]) -> Result<Vec<u8>, AllocError>
     ensures { IfOk result (λ command. command.items ≡ prepare_command parsed.now) }
 {
     let mut command = Vec::new(alloc);
-    command.push(0x16)?;
+    command.push(Command::COM_STMT_PREPARE as u8)?;
     command.extend_from_slice(parsed)?;
     Ok(command)
 }

@@ -20,6 +20,7 @@ pub use mysql_values::{
     ByteString, Content, MissingNamedParameterError, Params, ParamsConfusionError, ParamsError,
     SetError, Value,
 };
+pub use mysql_wire::{PacketCodecError, PacketReader};
 pub use program::{Status, run};
 pub use refusal::Refusal;
 pub use road::Road;

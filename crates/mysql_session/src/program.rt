@@ -82,25 +82,24 @@ const LIMIT: usize = 1000;
 
 /// The set that gives `a` the number 1.
 fn worked_set(alloc: Global) -> Result<Params, Stop> {
+    let name = Vec::from_slice(alloc, b"a")?;
     let mut values = HashMap::new(alloc);
-    let _ = values.insert(Vec::from_slice(alloc, b"a")?, Value::Int(1))?;
+    let _ = values.insert(name, Value::Int(1))?;
     Ok(Params::Named(values))
 }
 
 /// Writes the bytes in hexadecimal, as a line.
 fn write_stream<W: Write>(output: &mut W, stream: &[u8]) -> io::Result<()> {
     for (place, byte) in stream.iter().enumerate() {
-        if place > 0 {
-            write!(output, " ")?;
-        }
-        write!(output, "{byte:02x}")?;
+        let space = if place > 0 { " " } else { "" };
+        write!(output, "{space}{byte:02x}")?;
     }
     writeln!(output)
 }
 
 /// Writes bytes in hexadecimal behind an `x`.
 fn write_bytes<W: Write>(output: &mut W, bytes: &[u8]) -> io::Result<()> {
-    write!(output, " x")?;
+    output.write_all(b" x")?;
     for byte in bytes {
         write!(output, "{byte:02x}")?;
     }

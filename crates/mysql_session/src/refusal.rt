@@ -7,7 +7,7 @@ use std::fmt;
 use thiserror::Error;
 
 /// Why parameter sets are not sent, in the order in which the causes are looked for. Sets and places are counted from 0.
-#[derive(Debug, PartialEq, Eq, Hash, Drop, Error)]
+#[derive(Debug, PartialEq, Eq, Drop, Error)]
 pub enum Refusal {
     /// The query has both names and question marks.
     Mixed,

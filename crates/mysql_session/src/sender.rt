@@ -23,6 +23,10 @@ fn counted(sets: &[Params]) -> usize
 /// prepare, also where there are no sets, and an execution of the statement `stmt_id` for each set. Sets and places count
 /// from 0; a payload has at most `limit - 4` bytes. `receive` with the same query, id and limit reads the sets back.
 ///
+/// A placeholder is a question mark, or a colon and a name of `a` to `z`, `0` to `9` and `_` that begins with no digit, by
+/// which, without the colon, a set gives its value. `:aB` is the placeholder `a` before a `B`; `:Name` is none, so that a set
+/// that names values is refused by `Params` over `SELECT :Name`.
+///
 /// What is appended behind another stream of the same query, id and limit, by whichever road, reads behind its sets: the law
 /// `laws::sent_streams_join`, which stands on `mysql_commands::laws::whole_streams_join`.
 ///

@@ -8,6 +8,7 @@ ghost use Rattle.mysql_session.specs.Sending.{RefusesText};
 ghost use Rattle.mysql_session.specs.Sets.{AppendsQuery, QueriesSent, RefusesSet, refusal_by};
 
 use crate::refusal::Refusal;
+use mysql_const::Command;
 use mysql_values::laws::tokens_of_a_text;
 use mysql_values::{
     BindError, Params, Place, SetError, bind_text, first_not_alone, is_mixed, places,
@@ -59,7 +60,7 @@ fn put_query(
     ensures kept { OnErr result (out.new.items ≡ out.old.items) }
 {
     command.clear();
-    command.push(3)?;
+    command.push(Command::COM_QUERY as u8)?;
     if let Err(error) = bind_text(alloc, query, params, command) {
         return Err(refusal_of(set, error));
     }

@@ -1,12 +1,13 @@
 //! What replies of servers say.
 
+use crate::audits::joined;
 use mysql_packets::{OkPacket, ProgressReport, ServerError};
 use mysql_session::{
     CapabilityFlags, Reply, ReplyEnd, ReplyFault, ReplyKind, ReplyReader, ReplyResult, StatusFlags,
     Value, read_reply,
 };
-use std::alloc::{AllocError, Global};
-use tests_support::{Assert, assert_bytes, assert_equal, once_more};
+use std::alloc::Global;
+use tests_support::Assert;
 
 /// The cells of a row that are expected. None is NULL.
 pub type Cells = &'static [Option<&'static [u8]>];
@@ -30,13 +31,12 @@ pub type Report = (u8, u8, u32, &'static [u8]);
 /// The packets of a reply, its results, and its end.
 pub type Row = (&'static [&'static [u8]], &'static [Expected], ReplyEnd);
 
-fn assert_ok(assert: &impl Assert, packet: &OkPacket, wanted: Expected) {
+fn is_ok(packet: &OkPacket, wanted: Expected) -> bool {
     match wanted {
         Expected::Ok(rows, status) => {
-            assert.holds(packet.affected_rows() == rows);
-            assert_equal(assert, packet.status_flags(), status);
+            (packet.affected_rows() == rows) & (packet.status_flags() == status)
         }
-        _ => assert.holds(false),
+        _ => false,
     }
 }
 
@@ -48,18 +48,28 @@ fn meets(cell: &Value, wanted: Option<&[u8]>) -> bool {
     }
 }
 
-fn assert_row(assert: &impl Assert, row: &[Value], wanted: Cells) {
-    assert.holds(row.len() == wanted.len());
-    for (cell, content) in row.iter().zip(wanted.iter()) {
-        assert.holds(meets(cell, *content));
+fn is_row(row: &[Value], wanted: Cells) -> bool {
+    if row.len() != wanted.len() {
+        return false;
     }
+    for i in 0..wanted.len() {
+        if !meets(&row[i], wanted[i]) {
+            return false;
+        }
+    }
+    true
 }
 
-fn assert_rows(assert: &impl Assert, rows: &[Vec<Value>], wanted: &[Cells]) {
-    assert.holds(rows.len() == wanted.len());
-    for (row, cells) in rows.iter().zip(wanted.iter()) {
-        assert_row(assert, row.as_slice(), cells);
+fn are_rows(rows: &[Vec<Value>], wanted: &[Cells]) -> bool {
+    if rows.len() != wanted.len() {
+        return false;
     }
+    for i in 0..wanted.len() {
+        if !is_row(rows[i].as_slice(), wanted[i]) {
+            return false;
+        }
+    }
+    true
 }
 
 fn status_of(terminator: &Option<OkPacket>) -> Option<StatusFlags> {
@@ -69,164 +79,172 @@ fn status_of(terminator: &Option<OkPacket>) -> Option<StatusFlags> {
     }
 }
 
-fn assert_result_set(
-    assert: &impl Assert,
+fn is_result_set(
     columns: usize,
     rows: &[Vec<Value>],
     status: Option<StatusFlags>,
     wanted: Expected,
-) {
+) -> bool {
     match wanted {
         Expected::Rows(count, cells, behind) => {
-            assert.holds(columns == count);
-            assert_rows(assert, rows, cells);
-            assert_equal(assert, status, behind);
+            columns == count && status == behind && are_rows(rows, cells)
         }
-        _ => assert.holds(false),
+        _ => false,
     }
 }
 
-fn assert_error(assert: &impl Assert, error: &ServerError, wanted: Expected) {
+fn is_error(error: &ServerError, wanted: Expected) -> bool {
     match wanted {
         Expected::Error(code, state, message) => {
-            assert.holds(error.error_code() == code);
-            assert.holds(error.sql_state_ref() == Some(state));
-            assert_bytes(assert, error.message_ref(), message);
+            (error.error_code() == code)
+                & (error.sql_state_ref() == Some(state))
+                & (error.message_ref() == message)
         }
-        _ => assert.holds(false),
+        _ => false,
     }
 }
 
-fn assert_file(assert: &impl Assert, found: &[u8], wanted: Expected) {
+fn is_file(found: &[u8], wanted: Expected) -> bool {
     match wanted {
-        Expected::File(name) => assert_bytes(assert, found, name),
-        _ => assert.holds(false),
+        Expected::File(name) => found == name,
+        _ => false,
     }
 }
 
-fn assert_result(assert: &impl Assert, found: &ReplyResult, wanted: Expected) {
+fn is_result(found: &ReplyResult, wanted: Expected) -> bool {
     match found {
-        ReplyResult::Ok(packet) => assert_ok(assert, packet, wanted),
+        ReplyResult::Ok(packet) => is_ok(packet, wanted),
         ReplyResult::Rows {
             columns,
             rows,
             terminator,
-        } => {
-            assert_result_set(
-                assert,
-                columns.len(),
-                rows.as_slice(),
-                status_of(terminator),
-                wanted,
-            )
-        }
-        ReplyResult::Error(error) => assert_error(assert, error, wanted),
-        ReplyResult::File(name) => assert_file(assert, name.as_slice(), wanted),
+        } => is_result_set(
+            columns.len(),
+            rows.as_slice(),
+            status_of(terminator),
+            wanted,
+        ),
+        ReplyResult::Error(error) => is_error(error, wanted),
+        ReplyResult::File(name) => is_file(name.as_slice(), wanted),
         ReplyResult::Prepared {
             stmt: _,
             params: _,
             columns: _,
-        } => assert.holds(false),
+        } => false,
     }
 }
 
-fn assert_results(assert: &impl Assert, results: &[ReplyResult], wanted: &[Expected]) {
-    assert.holds(results.len() == wanted.len());
-    for (result, expected) in results.iter().zip(wanted.iter()) {
-        assert_result(assert, result, *expected);
+fn are_results(results: &[ReplyResult], wanted: &[Expected]) -> bool {
+    if results.len() != wanted.len() {
+        return false;
     }
+    for i in 0..wanted.len() {
+        if !is_result(&results[i], wanted[i]) {
+            return false;
+        }
+    }
+    true
 }
 
 fn is_report(found: &ProgressReport, (stage, max_stage, progress, name): Report) -> bool {
-    found.stage() == stage
-        && found.max_stage() == max_stage
-        && found.progress() == progress
-        && found.stage_info_ref() == name
+    (found.stage() == stage)
+        & (found.max_stage() == max_stage)
+        & (found.progress() == progress)
+        & (found.stage_info_ref() == name)
 }
 
-fn assert_reports(assert: &impl Assert, reports: &[ProgressReport], wanted: &[Report]) {
-    assert.holds(reports.len() == wanted.len());
-    for (report, expected) in reports.iter().zip(wanted.iter()) {
-        assert.holds(is_report(report, *expected));
+fn are_reports(reports: &[ProgressReport], wanted: &[Report]) -> bool {
+    if reports.len() != wanted.len() {
+        return false;
     }
+    for i in 0..wanted.len() {
+        if !is_report(&reports[i], wanted[i]) {
+            return false;
+        }
+    }
+    true
 }
 
-fn assert_reply(
+/// What a reply has to say: its progress reports, its results, and its end.
+pub type Wanted<'a> = (&'a [Report], &'a [Expected], ReplyEnd);
+
+fn is_wanted(reply: &Reply, (reports, results, end): Wanted<'_>) -> bool {
+    reply.end == end
+        && are_reports(reply.progress.as_slice(), reports)
+        && are_results(reply.results.as_slice(), results)
+}
+
+/// Whether no more was read than a reply has to say.
+fn is_front(reply: &Reply, (reports, results, _): Wanted<'_>) -> bool {
+    (reply.progress.len() <= reports.len()) & (reply.results.len() <= results.len())
+}
+
+/// Asserts what a reply was found to say: whether memory sufficed.
+fn says(assert: &impl Assert, reply: &Reply, wanted: Wanted<'_>) -> bool {
+    if matches!(reply.end, ReplyEnd::Fault(_, ReplyFault::Memory)) {
+        assert.holds(is_front(reply, wanted));
+        return false;
+    }
+    assert.holds(is_wanted(reply, wanted));
+    true
+}
+
+/// The capabilities, and the number that is due first.
+pub type Start = (CapabilityFlags, u8);
+
+fn is_read(
     assert: &impl Assert,
-    reply: &Reply,
-    reports: &[Report],
-    results: &[Expected],
-    end: ReplyEnd,
-) {
-    assert_equal(assert, reply.end, end);
-    assert_reports(assert, reply.progress.as_slice(), reports);
-    assert_results(assert, reply.results.as_slice(), results);
-}
-
-fn ran_out(reply: &Reply) -> bool {
-    matches!(reply.end, ReplyEnd::Fault(_, ReplyFault::Memory))
-}
-
-/// The first reply; or the second, which has all that the first has, where memory was refused.
-fn unless_refused(assert: &impl Assert, first: Reply, second: Reply) -> Reply {
-    if !ran_out(&first) {
-        return first;
-    }
-    assert.holds(first.results.len() <= second.results.len());
-    assert.holds(first.progress.len() <= second.progress.len());
-    second
-}
-
-fn read(alloc: Global, capabilities: CapabilityFlags, first_id: u8, stream: &[u8]) -> Reply {
-    read_reply(
-        alloc,
-        ReplyKind::Text,
-        capabilities,
-        first_id,
-        1000,
-        &[stream],
-    )
-}
-
-fn read_by_bytes(
     alloc: Global,
-    capabilities: CapabilityFlags,
-    first_id: u8,
+    (capabilities, first_id): Start,
     stream: &[u8],
-) -> Reply {
-    let mut reader = ReplyReader::new(alloc, ReplyKind::Text, capabilities, first_id, 1000);
+    wanted: Wanted<'_>,
+) -> bool {
+    let kind = ReplyKind::Text;
+    let reply = read_reply(alloc, kind, capabilities, first_id, 1000, &[stream]);
+    says(assert, &reply, wanted)
+}
+
+fn feed_bytes(reader: &mut ReplyReader, stream: &[u8]) {
     for byte in stream {
         let _answer = reader.feed(&[*byte]);
     }
-    reader.finish()
 }
 
-/// Asserts what the bytes of a reply say: in one piece, and byte by byte.
+fn is_read_by_bytes(
+    assert: &impl Assert,
+    alloc: Global,
+    (capabilities, first_id): Start,
+    stream: &[u8],
+    wanted: Wanted<'_>,
+) -> bool {
+    let mut reader = ReplyReader::new(alloc, ReplyKind::Text, capabilities, first_id, 1000);
+    feed_bytes(&mut reader, stream);
+    says(assert, &reader.finish(), wanted)
+}
+
+/// Asserts what the bytes of a reply say: in one piece, and byte by byte. They are read once more where memory was refused.
 pub fn assert_reads(
     assert: &impl Assert,
     alloc: Global,
-    (capabilities, first_id): (CapabilityFlags, u8),
+    start: Start,
     stream: &[u8],
-    reports: &[Report],
-    results: &[Expected],
-    end: ReplyEnd,
+    wanted: Wanted<'_>,
 ) {
-    let first = read(alloc, capabilities, first_id, stream);
-    let second = read(alloc, capabilities, first_id, stream);
-    let whole = unless_refused(assert, first, second);
-    assert_reply(assert, &whole, reports, results, end);
-    let first = read_by_bytes(alloc, capabilities, first_id, stream);
-    let second = read_by_bytes(alloc, capabilities, first_id, stream);
-    let cut = unless_refused(assert, first, second);
-    assert_reply(assert, &cut, reports, results, end);
+    let first = is_read(assert, alloc, start, stream, wanted);
+    assert.holds(first || is_read(assert, alloc, start, stream, wanted));
+    let first = is_read_by_bytes(assert, alloc, start, stream, wanted);
+    assert.holds(first || is_read_by_bytes(assert, alloc, start, stream, wanted));
 }
 
-fn joined(alloc: Global, packets: &[&[u8]]) -> Result<Vec<u8>, AllocError> {
-    let mut stream = Vec::new(alloc);
-    for packet in packets {
-        stream.extend_from_slice(packet)?;
-    }
-    Ok(stream)
+fn assert_packets(
+    assert: &impl Assert,
+    alloc: Global,
+    start: Start,
+    packets: &[&[u8]],
+    wanted: Wanted<'_>,
+) {
+    let stream = joined(assert, alloc, packets);
+    assert_reads(assert, alloc, start, stream.as_slice(), wanted);
 }
 
 /// Asserts what each of these replies, from the number 1 on, says.
@@ -237,15 +255,7 @@ pub fn assert_replies(
     rows: &[Row],
 ) {
     for (packets, results, end) in rows {
-        let stream = once_more(assert, joined(alloc, packets), joined(alloc, packets));
-        assert_reads(
-            assert,
-            alloc,
-            (capabilities, 1),
-            stream.as_slice(),
-            &[],
-            results,
-            *end,
-        );
+        let wanted: Wanted = (&[], results, *end);
+        assert_packets(assert, alloc, (capabilities, 1), packets, wanted);
     }
 }

@@ -31,3 +31,5 @@ mod sending;
 mod support;
 #[cfg(test)]
 mod texts;
+#[cfg(test)]
+mod texts_of_errors;

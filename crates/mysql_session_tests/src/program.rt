@@ -5,7 +5,7 @@ use mysql_session::{Status, run};
 use std::alloc::{AllocError, Global};
 use std::io;
 use std::io::Write;
-use tests_support::{Assert, assert_answer, assert_equal, once_more};
+use tests_support::{Assert, once_more};
 
 /// A writer that takes so many bytes, and then fails.
 #[derive(Drop)]
@@ -68,30 +68,31 @@ fn prints(rt: HostRuntime) {
 #[test]
 fn a_failing_writer_ends_the_run(rt: HostRuntime) {
     for left in 0..10 {
-        let first = status_of(rt.alloc(), left);
-        let second = status_of(rt.alloc(), left);
-        assert_answer(
-            &Asserting(&rt),
-            first,
-            second,
-            Status::Refused,
-            Status::Usage,
-        );
+        let mut status = status_of(rt.alloc(), left);
+        if status == Status::Refused {
+            status = status_of(rt.alloc(), left);
+        }
+        Asserting(&rt).holds(status == Status::Usage);
     }
 }
 
 fn one_word(alloc: Global) -> Result<Vec<String>, AllocError> {
+    let word = String::from_str(alloc, "help")?;
     let mut words = Vec::new(alloc);
-    words.push(String::from_str(alloc, "help")?)?;
+    words.push(word)?;
     Ok(words)
+}
+
+/// How a run ends that is given these words.
+fn status_of_words(alloc: Global, words: &[String]) -> Status {
+    let mut input: &[u8] = b"";
+    let mut output = Vec::new(alloc);
+    run(alloc, words, &mut input, &mut output)
 }
 
 #[test]
 fn unknown_words(rt: HostRuntime) {
     let assert = Asserting(&rt);
     let words = once_more(&assert, one_word(rt.alloc()), one_word(rt.alloc()));
-    let mut input: &[u8] = b"";
-    let mut output = Vec::new(rt.alloc());
-    let status = run(rt.alloc(), words.as_slice(), &mut input, &mut output);
-    assert_equal(&assert, status, Status::Usage);
+    assert.holds(status_of_words(rt.alloc(), words.as_slice()) == Status::Usage);
 }

@@ -1,8 +1,10 @@
 //! Replies of one packet: OK, an error, a file that is asked for; progress reports before them.
 
-use crate::expected::{Expected, Row, assert_reads, assert_replies};
+use crate::expected::{Expected, Row, Wanted, assert_reads, assert_replies};
 use crate::support::Asserting;
 use mysql_session::{CapabilityFlags, ReplyEnd, ReplyFault, StatusFlags};
+use std::alloc::Global;
+use tests_support::Assert;
 
 const TEXT: CapabilityFlags = CapabilityFlags::CLIENT_PROTOCOL_41;
 
@@ -67,9 +69,11 @@ fn a_progress_report(rt: HostRuntime) {
         rt.alloc(),
         (WITH_PROGRESS, 1),
         PROGRESS,
-        &[(1, 10, 23500, b"stage name")],
-        &[CHANGED_ONE],
-        ReplyEnd::Whole,
+        (
+            &[(1, 10, 23500, b"stage name")],
+            &[CHANGED_ONE],
+            ReplyEnd::Whole,
+        ),
     );
 }
 
@@ -88,16 +92,9 @@ const NUMBERED: [(&[u8], u8, &[Expected], ReplyEnd); 4] = [
 
 #[test]
 fn numbered_on_from_the_command(rt: HostRuntime) {
-    for (stream, id, results, end) in NUMBERED {
-        assert_reads(
-            &Asserting(&rt),
-            rt.alloc(),
-            (TEXT, id),
-            stream,
-            &[],
-            results,
-            end,
-        );
+    for (stream, id, results, end) in &NUMBERED {
+        let wanted: Wanted = (&[], results, *end);
+        assert_reads(&Asserting(&rt), rt.alloc(), (TEXT, *id), stream, wanted);
     }
 }
 
@@ -109,34 +106,24 @@ fn two(id: u8) -> [u8; 22] {
     ]
 }
 
+/// What those packets say.
+const BOTH: [Expected; 2] = [
+    Expected::Ok(0, StatusFlags(0x0a)),
+    Expected::Ok(5, AUTOCOMMIT),
+];
+
+/// Asserts that packets from this number on are read where it is due, and out of sync where the next one is.
+fn assert_numbered(assert: &impl Assert, alloc: Global, id: u8) {
+    let stream = two(id);
+    let whole: Wanted = (&[], &BOTH, ReplyEnd::Whole);
+    assert_reads(assert, alloc, (TEXT, id), &stream, whole);
+    let start = (TEXT, id.wrapping_add(1));
+    assert_reads(assert, alloc, start, &stream, (&[], &[], OUT_OF_SYNC));
+}
+
 #[test]
 fn each_first_id(rt: HostRuntime) {
-    let assert = Asserting(&rt);
-    let results = [
-        Expected::Ok(0, StatusFlags(0x0a)),
-        Expected::Ok(5, AUTOCOMMIT),
-    ];
     for id in 0..=255u8 {
-        let stream = two(id);
-        let whole = ReplyEnd::Whole;
-        assert_reads(
-            &assert,
-            rt.alloc(),
-            (TEXT, id),
-            &stream,
-            &[],
-            &results,
-            whole,
-        );
-        let next = id.wrapping_add(1);
-        assert_reads(
-            &assert,
-            rt.alloc(),
-            (TEXT, next),
-            &stream,
-            &[],
-            &[],
-            OUT_OF_SYNC,
-        );
+        assert_numbered(&Asserting(&rt), rt.alloc(), id);
     }
 }

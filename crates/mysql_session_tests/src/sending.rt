@@ -5,7 +5,7 @@ use mysql_session::{End, Params, ParamsError, Refusal, Road, SetError, Value, se
 use mysql_values::{ByteString, MissingNamedParameterError, ParamsConfusionError};
 use std::alloc::{AllocError, Global};
 use std::collections::HashMap;
-use tests_support::{Assert, assert_bytes, assert_equal, once_more};
+use tests_support::{Assert, once_more};
 
 /// A value that is sent.
 #[derive(Clone, Copy)]
@@ -50,8 +50,8 @@ fn list(alloc: Global, value: Value) -> Result<Params, AllocError> {
 
 /// A set that gives the name `a` a value.
 pub fn named(alloc: Global, value: Value) -> Result<Params, AllocError> {
-    let mut values = HashMap::new(alloc);
     let name = Vec::from_slice(alloc, b"a")?;
+    let mut values = HashMap::new(alloc);
     match values.insert(name, value) {
         Ok(_) => Ok(Params::Named(values)),
         Err(_) => Err(AllocError),
@@ -91,6 +91,19 @@ fn sent_by(
 }
 
 /// Sends sets with the id 1; once more where memory was refused.
+fn sent_at_last(
+    alloc: Global,
+    sending: Sending,
+    sets: &[Params],
+    out: &mut Vec<u8>,
+) -> Result<(), Refusal> {
+    match sent_by(alloc, sending, sets, out) {
+        Err(Refusal::Memory) => sent_by(alloc, sending, sets, out),
+        answer => answer,
+    }
+}
+
+/// Makes sets and sends them.
 fn sent(
     assert: &impl Assert,
     alloc: Global,
@@ -99,10 +112,7 @@ fn sent(
 ) -> Result<(), Refusal> {
     let (_, _, sets, _) = sending;
     let sets = once_more(assert, all_params(alloc, sets), all_params(alloc, sets));
-    match sent_by(alloc, sending, sets.as_slice(), out) {
-        Err(Refusal::Memory) => sent_by(alloc, sending, sets.as_slice(), out),
-        answer => answer,
-    }
+    sent_at_last(alloc, sending, sets.as_slice(), out)
 }
 
 /// Bytes that have to stay before what is sent.
@@ -116,10 +126,17 @@ fn front(assert: &impl Assert, alloc: Global) -> Vec<u8> {
 
 /// Asserts that sets are sent behind what stands.
 pub fn assert_appended(assert: &impl Assert, alloc: Global, sending: Sending, out: &mut Vec<u8>) {
-    assert_equal(assert, sent(assert, alloc, sending, out), Ok(()));
+    assert.holds(sent(assert, alloc, sending, out).is_ok());
 }
 
-/// Asserts that sets are sent as this stream behind what stands, and read back as these contents.
+/// Asserts that sets are sent as this stream behind what stands.
+fn assert_stream(assert: &impl Assert, alloc: Global, sending: Sending, stream: &[u8]) {
+    let mut out = front(assert, alloc);
+    assert_appended(assert, alloc, sending, &mut out);
+    assert.holds(out.as_slice().strip_prefix(b"front") == Some(stream));
+}
+
+/// Asserts that sets are sent as this stream, and read back as these contents.
 fn assert_sent(
     assert: &impl Assert,
     alloc: Global,
@@ -127,19 +144,10 @@ fn assert_sent(
     stream: &[u8],
     contents: &[WantedSet],
 ) {
-    let mut out = front(assert, alloc);
-    assert_appended(assert, alloc, sending, &mut out);
-    assert_equal(assert, out.as_slice().strip_prefix(b"front"), Some(stream));
+    assert_stream(assert, alloc, sending, stream);
     let (_, query, _, limit) = sending;
-    assert_audits(
-        assert,
-        alloc,
-        query,
-        limit.max(4),
-        stream,
-        contents,
-        End::Whole,
-    );
+    let query = (query, limit.max(4));
+    assert_audits(assert, alloc, query, stream, contents, End::Whole);
 }
 
 /// Sets that are sent, their stream and its contents.
@@ -186,12 +194,17 @@ fn refusal(alloc: Global, cause: Cause) -> Result<Refusal, AllocError> {
     }
 }
 
+/// Asserts that an answer is the refusal for this cause.
+fn assert_cause(assert: &impl Assert, alloc: Global, answer: Result<(), Refusal>, cause: Cause) {
+    let wanted = once_more(assert, refusal(alloc, cause), refusal(alloc, cause));
+    assert.holds(answer == Err(wanted));
+}
+
 fn assert_refused(assert: &impl Assert, alloc: Global, sending: Sending, cause: Cause) {
     let mut out = front(assert, alloc);
-    let found = sent(assert, alloc, sending, &mut out);
-    let wanted = once_more(assert, refusal(alloc, cause), refusal(alloc, cause));
-    assert_equal(assert, found, Err(wanted));
-    assert_bytes(assert, out.as_slice(), b"front");
+    let answer = sent(assert, alloc, sending, &mut out);
+    assert_cause(assert, alloc, answer, cause);
+    assert.holds(out.as_slice() == b"front".as_slice());
 }
 
 /// Asserts that each of these sets are refused for this cause, and that nothing is appended.

@@ -4,7 +4,8 @@ use crate::audits::{Stream, Want, WantedSet, assert_audits, assert_streams};
 use crate::sending::{Given, RoundTrip, Set, assert_round_trips};
 use crate::support::Asserting;
 use mysql_session::{End, Receiver, ReceiverError, Road, StreamFault};
-use tests_support::assert_answer;
+use std::alloc::Global;
+use tests_support::Assert;
 
 const ONE: WantedSet = &[Want::Number(1)];
 
@@ -87,15 +88,22 @@ fn sent(rt: HostRuntime) {
 
 const SELECT_1: &[u8] = b"\x09\0\0\0\x03SELECT 1";
 
+/// Limits, each with a stream, the sets that it carries, and its end.
+const LIMITS: [(usize, &[u8], &[WantedSet], End); 3] = [
+    (13, SELECT_1, &[ONE], End::Whole),
+    // The header alone tells.
+    (8, b"\x09\0\0\0", &[], TOO_LARGE),
+    (8, SELECT_1, &[], TOO_LARGE),
+];
+
+const TOO_LARGE: End = End::Fault(0, StreamFault::TooLarge);
+
 #[test]
 fn within_the_limit(rt: HostRuntime) {
     let assert = Asserting(&rt);
-    let alloc = rt.alloc();
-    assert_audits(&assert, alloc, QUERY, 13, SELECT_1, &[ONE], End::Whole);
-    let too_large = End::Fault(0, StreamFault::TooLarge);
-    // The header alone tells.
-    assert_audits(&assert, alloc, QUERY, 8, &SELECT_1[..4], &[], too_large);
-    assert_audits(&assert, alloc, QUERY, 8, SELECT_1, &[], too_large);
+    for (limit, stream, sets, end) in &LIMITS {
+        assert_audits(&assert, rt.alloc(), (QUERY, *limit), stream, sets, *end);
+    }
 }
 
 #[test]
@@ -104,8 +112,7 @@ fn cut_off(rt: HostRuntime) {
         assert_audits(
             &Asserting(&rt),
             rt.alloc(),
-            QUERY,
-            1000,
+            (QUERY, 1000),
             &SELECT_1[..len],
             &[],
             End::UnfinishedPacket,
@@ -220,20 +227,21 @@ const OVER_OTHER_QUERIES: [(&[u8], &[Stream]); 4] = [
 
 #[test]
 fn over_other_queries(rt: HostRuntime) {
-    for (query, streams) in OVER_OTHER_QUERIES {
+    for (query, streams) in &OVER_OTHER_QUERIES {
         assert_streams(&Asserting(&rt), rt.alloc(), query, streams);
     }
 }
 
+/// Why no receiver is made for a query.
+fn refusal(alloc: Global, query: &[u8]) -> Option<ReceiverError> {
+    Receiver::new(alloc, query, 1, 1000).err()
+}
+
 #[test]
 fn names_and_marks_together(rt: HostRuntime) {
-    let first = Receiver::new(rt.alloc(), b":a ?", 1, 1000).err();
-    let second = Receiver::new(rt.alloc(), b":a ?", 1, 1000).err();
-    assert_answer(
-        &Asserting(&rt),
-        first,
-        second,
-        Some(ReceiverError::Memory),
-        Some(ReceiverError::Mixed),
-    );
+    let mut found = refusal(rt.alloc(), b":a ?");
+    if found == Some(ReceiverError::Memory) {
+        found = refusal(rt.alloc(), b":a ?");
+    }
+    Asserting(&rt).holds(found == Some(ReceiverError::Mixed));
 }

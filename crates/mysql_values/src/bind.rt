@@ -173,6 +173,10 @@ fn put_text(
 
 /// Appends the text of a query with the literals of a set's values in the places of its placeholders.
 ///
+/// A placeholder is a question mark, or a colon and a name of `a` to `z`, `0` to `9` and `_` that begins with no digit; the
+/// set gives values by these names, without the colon. Names end at the first other byte: `:aB` is the placeholder `a` before
+/// a `B`. `:Name` is none: over `SELECT :Name` a set that names values is refused by `Params`.
+///
 /// The literals are for a server that takes backslash escapes; an all-zero time is written without its sign.
 ///
 /// # Errors

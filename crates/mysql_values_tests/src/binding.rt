@@ -29,6 +29,7 @@ fn assert_bound(assert: &impl Assert, alloc: Global, query: &[u8], set: Set, tex
     let params = made_set(assert, alloc, set);
     let mut out = front(assert, alloc);
     assert_equal(assert, bound(alloc, query, &params, &mut out), Ok(()));
+    drop(params);
     assert_equal(assert, out.as_slice().strip_prefix(b"> "), Some(text));
 }
 
@@ -104,13 +105,20 @@ fn error(alloc: Global, cause: Cause) -> Result<BindError, AllocError> {
     }
 }
 
+fn made_error(assert: &impl Assert, alloc: Global, cause: Cause) -> BindError {
+    once_more(assert, error(alloc, cause), error(alloc, cause))
+}
+
 /// Asserts that the set is refused for this cause, and that nothing is appended.
 fn assert_not_bound(assert: &impl Assert, alloc: Global, query: &[u8], set: Set, cause: Cause) {
     let params = made_set(assert, alloc, set);
     let mut out = front(assert, alloc);
-    let found = bound(alloc, query, &params, &mut out);
-    let wanted = once_more(assert, error(alloc, cause), error(alloc, cause));
-    assert_equal(assert, found, Err(wanted));
+    assert_equal(
+        assert,
+        bound(alloc, query, &params, &mut out),
+        Err(made_error(assert, alloc, cause)),
+    );
+    drop(params);
     assert_bytes(assert, out.as_slice(), b"> ");
 }
 

@@ -95,6 +95,7 @@ fn assert_binary(
     let mut buf = ParseBuf(cell);
     let read = first_of::<Binary, (ColumnType, ColumnFlags)>(assert, alloc, ctx, &mut buf);
     assert_value(assert, alloc, &read.0, wanted);
+    drop(read);
     assert_bytes(assert, buf.0, b"..");
 }
 
@@ -150,6 +151,7 @@ fn assert_text(assert: &impl Assert, alloc: Global, cell: &[u8], wanted: Given) 
     let mut buf = ParseBuf(cell);
     let read = first_of::<Text, ()>(assert, alloc, (), &mut buf);
     assert_value(assert, alloc, &read.0, wanted);
+    drop(read);
     assert_bytes(assert, buf.0, b"..");
 }
 
@@ -222,12 +224,15 @@ fn cells_written(rt: HostRuntime) {
     for (given, cell) in WRITTEN {
         let value = made(&assert, rt.alloc(), given);
         assert_cell(&assert, rt.alloc(), &value, cell);
+        drop(value);
     }
 }
 
 #[test]
 fn types_sent(rt: HostRuntime) {
     let assert = Asserting(&rt);
-    assert_equal(&assert, Value::UInt(1).column_type(), 8);
-    assert.holds(Value::UInt(1).is_unsigned());
+    let value = Value::UInt(1);
+    assert_equal(&assert, u8::from(value.column_type()), 8);
+    assert.holds(value.is_unsigned());
+    drop(value);
 }

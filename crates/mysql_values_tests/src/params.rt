@@ -46,6 +46,9 @@ fn assert_lends(assert: &impl Assert, alloc: Global, query: &[u8], set: Set, wan
     let first = params.values_for(alloc, &query);
     let values = once_more(assert, first, params.values_for(alloc, &query));
     assert_lent(assert, alloc, values.as_slice(), wanted);
+    drop(values);
+    drop(params);
+    drop(query);
 }
 
 /// Asserts the values that a set gives these names.
@@ -53,8 +56,10 @@ fn assert_gives(assert: &impl Assert, alloc: Global, names: &[&[u8]], set: Set, 
     let names = made_names(assert, alloc, names);
     let first = made_set(assert, alloc, set).into_values(alloc, Some(names.as_slice()));
     let second = made_set(assert, alloc, set).into_values(alloc, Some(names.as_slice()));
+    drop(names);
     let values = once_more(assert, first, second);
     assert_values(assert, alloc, values.as_slice(), wanted);
+    drop(values);
 }
 
 fn assert_list(assert: &impl Assert, alloc: Global, params: &Params, wanted: &[Given]) {
@@ -69,8 +74,10 @@ fn assert_places(assert: &impl Assert, alloc: Global, names: &[&[u8]], set: Set,
     let names = made_names(assert, alloc, names);
     let first = made_set(assert, alloc, set).into_positional(alloc, names.as_slice());
     let second = made_set(assert, alloc, set).into_positional(alloc, names.as_slice());
+    drop(names);
     let params = once_more(assert, first, second);
     assert_list(assert, alloc, &params, wanted);
+    drop(params);
 }
 
 /// Queries, their names, sets, and the values that they give.
@@ -139,6 +146,8 @@ fn assert_lends_none(assert: &impl Assert, alloc: Global, query: &[u8], set: Set
     let params = made_set(assert, alloc, set);
     let first = params.values_for(alloc, &query).err();
     let second = params.values_for(alloc, &query).err();
+    drop(params);
+    drop(query);
     assert_error(assert, alloc, first, second, cause);
 }
 
@@ -146,6 +155,7 @@ fn assert_gives_none(assert: &impl Assert, alloc: Global, names: &[&[u8]], set: 
     let names = made_names(assert, alloc, names);
     let first = made_set(assert, alloc, set).into_values(alloc, Some(names.as_slice()));
     let second = made_set(assert, alloc, set).into_values(alloc, Some(names.as_slice()));
+    drop(names);
     assert_error(assert, alloc, first.err(), second.err(), cause);
 }
 
@@ -189,6 +199,7 @@ fn a_list_that_lacks_a_name(rt: HostRuntime) {
     let names = made_names(&assert, rt.alloc(), &[b"a", b"b", b"a"]);
     let first = made_set(&assert, rt.alloc(), FIVE).into_positional(rt.alloc(), names.as_slice());
     let second = made_set(&assert, rt.alloc(), FIVE).into_positional(rt.alloc(), names.as_slice());
+    drop(names);
     assert_error(
         &assert,
         rt.alloc(),

@@ -47,6 +47,7 @@ fn placeholders(rt: HostRuntime) {
             places(rt.alloc(), query),
         );
         assert_places(&assert, found.as_slice(), wanted);
+        drop(found);
     }
 }
 
@@ -80,7 +81,9 @@ fn parsed_queries(rt: HostRuntime) {
     for (query, parsed, names) in PARSED {
         let first = ParsedNamedParams::parse(rt.alloc(), query);
         let second = ParsedNamedParams::parse(rt.alloc(), query);
-        assert_parsed(&assert, &once_more(&assert, first, second), parsed, names);
+        let found = once_more(&assert, first, second);
+        assert_parsed(&assert, &found, parsed, names);
+        drop(found);
     }
 }
 

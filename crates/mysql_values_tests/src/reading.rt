@@ -31,10 +31,12 @@ const OTHERS: [&[u8]; 6] = [
 /// What a text is read as.
 fn read(alloc: Global, text: &[u8]) -> Result<Option<Vec<Content>>, WireError> {
     let found = places(alloc, QUERY)?;
-    if first_not_alone(&found).is_some() {
-        return Err(WireError::BadLength);
-    }
-    read_text(alloc, QUERY, &found, text)
+    let answer = match first_not_alone(&found) {
+        Some(_) => Err(WireError::BadLength),
+        None => read_text(alloc, QUERY, &found, text),
+    };
+    drop(found);
+    answer
 }
 
 fn assert_contents(assert: &impl Assert, contents: &[Content], wanted: &[Want]) {
@@ -46,7 +48,10 @@ fn assert_contents(assert: &impl Assert, contents: &[Content], wanted: &[Want]) 
 
 fn assert_carries(assert: &impl Assert, found: Option<Vec<Content>>, wanted: &[Want]) {
     match found {
-        Some(contents) => assert_contents(assert, contents.as_slice(), wanted),
+        Some(contents) => {
+            assert_contents(assert, contents.as_slice(), wanted);
+            drop(contents);
+        }
         None => assert.holds(false),
     }
 }
@@ -66,5 +71,6 @@ fn other_texts(rt: HostRuntime) {
     for text in OTHERS {
         let found = once_more(&assert, read(rt.alloc(), text), read(rt.alloc(), text));
         assert.holds(found.is_none());
+        drop(found);
     }
 }

@@ -26,7 +26,9 @@ fn assert_text(
 ) {
     let first = value.as_sql(alloc, no_backslash_escape);
     let second = value.as_sql(alloc, no_backslash_escape);
-    assert.holds(once_more(assert, first, second).as_str() == text);
+    let found = once_more(assert, first, second);
+    assert.holds(found.as_str() == text);
+    drop(found);
 }
 
 fn assert_texts(assert: &impl Assert, alloc: Global, given: Given, escaped: &str, doubled: &str) {
@@ -34,6 +36,7 @@ fn assert_texts(assert: &impl Assert, alloc: Global, given: Given, escaped: &str
     assert_copied(assert, &value, value.clone(alloc), value.clone(alloc));
     assert_text(assert, alloc, &value, false, escaped);
     assert_text(assert, alloc, &value, true, doubled);
+    drop(value);
 }
 
 #[test]
@@ -45,13 +48,15 @@ fn sql_texts(rt: HostRuntime) {
 
 #[test]
 fn no_text_of_a_float(rt: HostRuntime) {
+    let value = Value::Double(0);
     assert_answer(
         &Asserting(&rt),
-        Value::Double(0).as_sql(rt.alloc(), false).err(),
-        Value::Double(0).as_sql(rt.alloc(), false).err(),
+        value.as_sql(rt.alloc(), false).err(),
+        value.as_sql(rt.alloc(), false).err(),
         Some(AsSqlError::Memory),
         Some(AsSqlError::Float),
     );
+    drop(value);
 }
 
 /// Values, and their contents.
@@ -80,10 +85,10 @@ const CONTENTS: [(Given, Option<Want>); 9] = [
     (Given::Float(0), None),
 ];
 
-fn is_meant(content: Option<Content>, wanted: Option<Want>) -> bool {
+fn is_meant(content: &Option<Content>, wanted: Option<Want>) -> bool {
     match content {
         Some(content) => match wanted {
-            Some(want) => meets(&content, want),
+            Some(want) => meets(content, want),
             None => false,
         },
         None => wanted.is_none(),
@@ -93,7 +98,9 @@ fn is_meant(content: Option<Content>, wanted: Option<Want>) -> bool {
 fn assert_means(assert: &impl Assert, alloc: Global, given: Given, wanted: Option<Want>) {
     let first = made(assert, alloc, given).into_content(alloc);
     let second = made(assert, alloc, given).into_content(alloc);
-    assert.holds(is_meant(once_more(assert, first, second), wanted));
+    let content = once_more(assert, first, second);
+    assert.holds(is_meant(&content, wanted));
+    drop(content);
 }
 
 #[test]

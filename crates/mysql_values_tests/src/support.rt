@@ -1,4 +1,7 @@
 //! How a test of this crate ends, and the values and sets of its tables.
+//!
+//! A value that a function drops at its end is taken apart there, part by part, which is dear to prove. So a test hands each
+//! value to a generic function that takes it, be it `drop`: at a type parameter that is one call.
 
 ghost use Rattle.std.specs.Prelude.{◌≡◌, true};
 
@@ -57,7 +60,9 @@ pub fn made(assert: &impl Assert, alloc: Global, given: Given) -> Value {
 
 /// Asserts that a value is this one of a table.
 pub fn assert_value(assert: &impl Assert, alloc: Global, found: &Value, wanted: Given) {
-    assert_same(assert, found, &made(assert, alloc, wanted));
+    let wanted = made(assert, alloc, wanted);
+    assert_same(assert, found, &wanted);
+    drop(wanted);
 }
 
 /// A set of a table.
@@ -85,10 +90,10 @@ fn insert(
 ) -> Result<(), AllocError> {
     let value = value(alloc, given)?;
     let name = Vec::from_slice(alloc, name)?;
-    match values.insert(name, value) {
-        Ok(_) => Ok(()),
-        Err(_) => Err(AllocError),
-    }
+    let answer = values.insert(name, value);
+    let is_ok = answer.is_ok();
+    drop(answer);
+    if is_ok { Ok(()) } else { Err(AllocError) }
 }
 
 fn entries(alloc: Global, given: &[(&[u8], Given)]) -> Result<HashMap<Vec<u8>, Value>, AllocError> {

@@ -9,6 +9,7 @@ pub mod Reading
 pub mod Writing
 pub mod Packet
 pub mod Steps
+pub mod Incoming
 mod Decides
 mod Rests
 mod Fronts

@@ -18,3 +18,5 @@ pub mod Codec
 pub mod Reader
 pub mod Moving
 pub mod GoingOn
+pub mod Incoming
+pub mod Kept

@@ -5,7 +5,7 @@ ghost use Rattle.mysql_wire.specs.Chunk.{IsTooLargeOrMemory};
 ghost use Rattle.mysql_wire.specs.Codec.{CanGoOn, Decodes, RefusesBy, codec_at, error_of};
 ghost use Rattle.mysql_wire.specs.Framing.{framing, number_after};
 
-use bytes::{Buf, BytesMut};
+use bytes::{Buf, BufMut, BytesMut};
 use mysql_const::DEFAULT_MAX_ALLOWED_PACKET;
 use packet::{BegunChunk, take_packet};
 use std::io;
@@ -16,11 +16,13 @@ mod chunk;
 mod feed;
 mod header;
 mod packet;
+mod reader;
 mod writing;
 
 pub use chunk::{ChunkDecoder, ChunkInfo};
 pub use feed::{Packets, feed_all};
 pub use header::PartialHeader;
+pub use reader::PacketReader;
 pub use writing::packet_to_chunks;
 
 /// Why a codec refuses.
@@ -134,11 +136,11 @@ impl PacketCodec {
     /// Errors, in this order: `PacketTooLarge` where the payload is longer than the limit, `Memory`
     /// where a growth of `dst` was refused. After an error `dst` and the codec are as they were.
     /// (MySQL: Client/Server Protocol, "Protocol Basics: MySQL Packets".)
-    pub fn encode(&mut self, payload: &[u8], dst: &mut BytesMut) -> Result<(), PacketCodecError>
-        ensures ok { OnOk result ((dst.new.items ≡ dst.old.items ++ framing payload.now self.old.number)
+    pub fn encode<B: BufMut>(&mut self, payload: &[u8], dst: &mut B) -> Result<(), PacketCodecError>
+        ensures ok { OnOk result ((B.written dst.new ≡ B.written dst.old ++ framing payload.now self.old.number)
             × (self.new ≡ record self.old { number = number_after payload.now self.old.number })) }
         ensures within { OnOk result (length payload.now ≤ self.old.limit) }
-        ensures err { OnErr result ((dst.new.items ≡ dst.old.items) × (self.new ≡ self.old)) }
+        ensures err { OnErr result ((B.written dst.new ≡ B.written dst.old) × (self.new ≡ self.old)) }
         ensures too_large { IfErr result (λ e. IsTooLargeOrMemory e (self.old.limit < length payload.now)) }
     {
         if payload.len() > self.max_allowed_packet {

@@ -6,15 +6,17 @@ pub mod codec;
 pub mod laws;
 
 pub use codec::{
-    ChunkDecoder, ChunkInfo, PacketCodec, PacketCodecError, Packets, PartialHeader, feed_all,
-    packet_to_chunks,
+    ChunkDecoder, ChunkInfo, PacketCodec, PacketCodecError, PacketReader, Packets, PartialHeader,
+    feed_all, packet_to_chunks,
 };
 pub use mysql_buf::{
     BufMutExt, ParseBuf, ReadMysqlExt, WriteMysqlExt, lenenc_int_len, lenenc_str_len,
     read_varlen_uint, varlen_uint_size, write_varlen_uint,
 };
 pub use mysql_const as constants;
-pub use mysql_const::{DEFAULT_MAX_ALLOWED_PACKET, MAX_PAYLOAD_LEN};
+pub use mysql_const::{
+    DEFAULT_MAX_ALLOWED_PACKET, MAX_PAYLOAD_LEN, UTF8_GENERAL_CI, UTF8MB4_GENERAL_CI,
+};
 pub use mysql_raw::{
     Binary, IntRepr, InvalidLengthEncodedInteger, LeI16, LeI24, LeI32, LeI56, LeI64, LeU16, LeU24,
     LeU32, LeU32LowerHalf, LeU32UpperHalf, LeU48, LeU56, LeU64, LenEnc, MyDeserialize, MySerialize,

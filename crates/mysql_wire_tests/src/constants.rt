@@ -126,35 +126,60 @@ fn flags_with_an_unknown_bit(rt: HostRuntime) {
     assert_equal(&assert, buf.len(), 1);
 }
 
+// Asserts of each place which value has the number that stands there.
+fn assert_value_at(assert: &impl Assert, alloc: Global, buf: &mut ParseBuf<'_>, place: usize) {
+    match place {
+        0 => assert_first::<Command, u8>(assert, alloc, buf, Command::COM_PING),
+        1 => assert_first::<ColumnType, u8>(assert, alloc, buf, ColumnType::MYSQL_TYPE_LONGLONG),
+        2 => assert_first::<GeometryType, u8>(assert, alloc, buf, GeometryType::GEOM_POINT),
+        3 => assert_first::<ItemResult, i8>(assert, alloc, buf, ItemResult::INVALID_RESULT),
+        4 => {
+            let tracked = SessionStateType::SESSION_TRACK_SCHEMA;
+            assert_first::<SessionStateType, u8>(assert, alloc, buf, tracked)
+        }
+        5 => {
+            let default = MariadbBulkIndicator::BULK_INDICATOR_DEFAULT;
+            assert_first::<MariadbBulkIndicator, u8>(assert, alloc, buf, default)
+        }
+        6 => assert_first::<BinlogDumpFlags, LeU16>(assert, alloc, buf, BinlogDumpFlags(5)),
+        _ => assert_first::<StatusFlags, LeU16>(assert, alloc, buf, StatusFlags(0x802)),
+    }
+}
+
 #[test]
 fn values_by_their_numbers(rt: HostRuntime) {
-    let assert = Asserting(&rt);
-    let alloc = rt.alloc();
     let mut buf = ParseBuf(&[14, 8, 1, 0xff, 1, 2, 5, 0, 2, 8, 9]);
-    let tracked = SessionStateType::SESSION_TRACK_SCHEMA;
-    let default = MariadbBulkIndicator::BULK_INDICATOR_DEFAULT;
-    assert_first::<Command, u8>(&assert, alloc, &mut buf, Command::COM_PING);
-    assert_first::<ColumnType, u8>(&assert, alloc, &mut buf, ColumnType::MYSQL_TYPE_LONGLONG);
-    assert_first::<GeometryType, u8>(&assert, alloc, &mut buf, GeometryType::GEOM_POINT);
-    assert_first::<ItemResult, i8>(&assert, alloc, &mut buf, ItemResult::INVALID_RESULT);
-    assert_first::<SessionStateType, u8>(&assert, alloc, &mut buf, tracked);
-    assert_first::<MariadbBulkIndicator, u8>(&assert, alloc, &mut buf, default);
-    assert_first::<BinlogDumpFlags, LeU16>(&assert, alloc, &mut buf, BinlogDumpFlags(5));
-    assert_first::<StatusFlags, LeU16>(&assert, alloc, &mut buf, StatusFlags(0x802));
-    assert_equal(&assert, buf.len(), 1);
+    for place in 0..8 {
+        assert_value_at(&Asserting(&rt), rt.alloc(), &mut buf, place);
+    }
+    Asserting(&rt).holds(buf.len() == 1);
+}
+
+// Asserts that a value is written by its number, in a representation.
+fn assert_by_number<T: ConstValue, U: IntRepr<Primitive = T::Number>>(
+    assert: &impl Assert,
+    alloc: Global,
+    value: T,
+    bytes: &[u8],
+) {
+    let value: Const<T, U> = Const::new(value);
+    assert_written(assert, alloc, &value, bytes);
 }
 
 #[test]
 fn numbers_by_their_values(rt: HostRuntime) {
     let assert = Asserting(&rt);
-    let alloc = rt.alloc();
-    let ping: Const<Command, u8> = Const::new(Command::COM_PING);
-    assert_written(&assert, alloc, &ping, &[14]);
-    let flags: Const<StatusFlags, LeU16> = Const::new(StatusFlags(0x802));
-    assert_written(&assert, alloc, &flags, &[2, 8]);
+    assert_by_number::<Command, u8>(&assert, rt.alloc(), Command::COM_PING, &[14]);
+    assert_by_number::<StatusFlags, LeU16>(&assert, rt.alloc(), StatusFlags(0x802), &[2, 8]);
+}
+
+#[test]
+fn numbers_without_values(rt: HostRuntime) {
+    let assert = Asserting(&rt);
     let unknown = WireError::UnknownValue;
-    assert_refused::<Const<Command, u8>, ()>(&assert, alloc, (), &[33], unknown);
-    assert_refused::<Const<StatusFlags, LeU16>, ()>(&assert, alloc, (), &[2, 0x80], unknown);
+    assert_refused::<Const<Command, u8>, ()>(&assert, rt.alloc(), (), &[33], unknown);
+    let bytes = &[2, 0x80];
+    assert_refused::<Const<StatusFlags, LeU16>, ()>(&assert, rt.alloc(), (), bytes, unknown);
 }
 
 #[test]

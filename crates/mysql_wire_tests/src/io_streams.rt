@@ -6,7 +6,7 @@ use std::alloc::Global;
 use std::io;
 use std::io::{ErrorKind, Read, Write};
 use std::test::*;
-use tests_support::{Assert, assert_bytes, assert_equal, once_more};
+use tests_support::{Assert, once_more};
 
 /// Gives `fc` so many times, and is refused from then on.
 #[derive(Drop)]
@@ -51,75 +51,87 @@ fn numbers_one_after_another(rt: HostRuntime) {
         0xfa, 0xfc, 5, 0, 0xfd, 0, 0, 1, 0xfe, 1, 2, 3, 4, 5, 6, 7, 8,
     ]);
     for number in [250, 5, 65536, 0x0807_0605_0403_0201] {
-        assert_equal(&assert, number_in(&mut buf), Ok(number));
+        assert.holds(number_in(&mut buf) == Ok(number));
     }
     assert.holds(buf.is_empty());
 }
 
+// Streams, and the number that comes first or the kind of the error.
+const NUMBERS: [(&[u8], Result<u64, ErrorKind>); 10] = [
+    (&[0xfa, 1], Ok(250)),
+    (&[0xfc, 5, 0], Ok(5)),
+    (&[0xfe, 0, 0, 0, 1, 0, 0, 0, 0], Ok(16777216)),
+    // These bytes begin no number.
+    (&[0xfb], Err(ErrorKind::InvalidData)),
+    (&[0xfb, 1, 2], Err(ErrorKind::InvalidData)),
+    (&[0xfb, 1, 2, 3, 4, 5, 6, 7, 8], Err(ErrorKind::InvalidData)),
+    (&[0xff, 1, 2], Err(ErrorKind::InvalidData)),
+    (&[0xff, 1, 2, 3, 4, 5, 6, 7, 8], Err(ErrorKind::InvalidData)),
+    (&[0xfe, 1, 2], Err(ErrorKind::UnexpectedEof)),
+    (&[], Err(ErrorKind::UnexpectedEof)),
+];
+
 #[test]
 fn numbers_from_streams(rt: HostRuntime) {
-    let assert = Asserting(&rt);
-    let rows: [(&[u8], Result<u64, ErrorKind>); 10] = [
-        (&[0xfa, 1], Ok(250)),
-        (&[0xfc, 5, 0], Ok(5)),
-        (&[0xfe, 0, 0, 0, 1, 0, 0, 0, 0], Ok(16777216)),
-        // These bytes begin no number.
-        (&[0xfb], Err(ErrorKind::InvalidData)),
-        (&[0xfb, 1, 2], Err(ErrorKind::InvalidData)),
-        (&[0xfb, 1, 2, 3, 4, 5, 6, 7, 8], Err(ErrorKind::InvalidData)),
-        (&[0xff, 1, 2], Err(ErrorKind::InvalidData)),
-        (&[0xff, 1, 2, 3, 4, 5, 6, 7, 8], Err(ErrorKind::InvalidData)),
-        (&[0xfe, 1, 2], Err(ErrorKind::UnexpectedEof)),
-        (&[], Err(ErrorKind::UnexpectedEof)),
-    ];
-    for (bytes, wanted) in rows {
-        let mut source = bytes;
-        assert_equal(&assert, number_in(&mut source), wanted);
+    for (bytes, wanted) in &NUMBERS {
+        let mut source = *bytes;
+        Asserting(&rt).holds(number_in(&mut source) == *wanted);
     }
-    let broken = number_in(&mut Broken { left: 2 });
-    assert_equal(&assert, broken, Err(ErrorKind::ConnectionReset));
+}
+
+#[test]
+fn a_number_from_a_broken_stream(rt: HostRuntime) {
+    let found = number_in(&mut Broken { left: 2 });
+    Asserting(&rt).holds(found == Err(ErrorKind::ConnectionReset));
+}
+
+// Why no text comes first.
+fn refusal(alloc: Global, bytes: &[u8]) -> Option<ErrorKind> {
+    text_in(alloc, bytes).err()
 }
 
 // Asserts that a text is refused for this cause; it is read once more where memory was refused.
 fn assert_refused(assert: &impl Assert, alloc: Global, bytes: &[u8], cause: ErrorKind) {
-    let mut found = text_in(alloc, bytes).err();
+    let mut found = refusal(alloc, bytes);
     if found == Some(ErrorKind::OutOfMemory) {
-        found = text_in(alloc, bytes).err();
+        found = refusal(alloc, bytes);
     }
-    assert_equal(assert, found, Some(cause));
+    assert.holds(found == Some(cause));
 }
+
+// Streams that begin with no text, and why.
+const REFUSED: [(&[u8], ErrorKind); 6] = [
+    (&[0xfb, 1, 2], ErrorKind::InvalidData),
+    (&[0xff], ErrorKind::InvalidData),
+    (&[0xff, 1, 2], ErrorKind::InvalidData),
+    (
+        &[0xfe, 255, 255, 255, 255, 255, 255, 255, 255, 1, 2],
+        ErrorKind::UnexpectedEof,
+    ),
+    (&[2, b'a'], ErrorKind::UnexpectedEof),
+    (&[0xfc, 1], ErrorKind::UnexpectedEof),
+];
 
 #[test]
 fn texts_refused(rt: HostRuntime) {
-    let assert = Asserting(&rt);
-    let rows: [(&[u8], ErrorKind); 6] = [
-        (&[0xfb, 1, 2], ErrorKind::InvalidData),
-        (&[0xff], ErrorKind::InvalidData),
-        (&[0xff, 1, 2], ErrorKind::InvalidData),
-        (
-            &[0xfe, 255, 255, 255, 255, 255, 255, 255, 255, 1, 2],
-            ErrorKind::UnexpectedEof,
-        ),
-        (&[2, b'a'], ErrorKind::UnexpectedEof),
-        (&[0xfc, 1], ErrorKind::UnexpectedEof),
-    ];
-    for (bytes, cause) in rows {
-        assert_refused(&assert, rt.alloc(), bytes, cause);
+    for (bytes, cause) in &REFUSED {
+        assert_refused(&Asserting(&rt), rt.alloc(), bytes, *cause);
     }
 }
 
 // Asserts that a stream begins with this text; it is read once more where memory was refused.
 fn assert_text(assert: &impl Assert, alloc: Global, source: &[u8], wanted: &[u8]) {
     let text = once_more(assert, text_in(alloc, source), text_in(alloc, source));
-    assert_bytes(assert, text.as_slice(), wanted);
+    assert.holds(text.as_slice() == wanted);
 }
+
+// Streams, and the text that comes first.
+const TEXTS: [(&[u8], &[u8]); 3] = [(b"\x03abc", b"abc"), (b"\x01a", b"a"), (b"\x00a", b"")];
 
 #[test]
 fn texts_from_streams(rt: HostRuntime) {
-    let assert = Asserting(&rt);
-    let rows: [(&[u8], &[u8]); 3] = [(b"\x03abc", b"abc"), (b"\x01a", b"a"), (b"\x00a", b"")];
-    for (source, text) in rows {
-        assert_text(&assert, rt.alloc(), source, text);
+    for (source, text) in &TEXTS {
+        assert_text(&Asserting(&rt), rt.alloc(), source, text);
     }
 }
 
@@ -160,21 +172,27 @@ fn a_text_in_pieces_cut_off(rt: HostRuntime) {
     );
 }
 
+// Numbers, the bytes that they are written as, with zeros behind, and how many of them count.
+const WRITTEN: [(u64, [u8; 9], u64); 5] = [
+    (250, [0xfa, 0, 0, 0, 0, 0, 0, 0, 0], 1),
+    (251, [0xfc, 0xfb, 0, 0, 0, 0, 0, 0, 0], 3),
+    (65535, [0xfc, 0xff, 0xff, 0, 0, 0, 0, 0, 0], 3),
+    (65536, [0xfd, 0, 0, 1, 0, 0, 0, 0, 0], 4),
+    (16777216, [0xfe, 0, 0, 0, 1, 0, 0, 0, 0], 9),
+];
+
+// How many bytes a number takes in a stream, where there is room; None where there is none.
+fn write_number(out: &mut &mut [u8], number: u64) -> Option<u64> {
+    out.write_lenenc_int(number).ok()
+}
+
 #[test]
 fn numbers_written_to_streams(rt: HostRuntime) {
-    let assert = Asserting(&rt);
-    let rows: [(u64, [u8; 9], u64); 5] = [
-        (250, [0xfa, 0, 0, 0, 0, 0, 0, 0, 0], 1),
-        (251, [0xfc, 0xfb, 0, 0, 0, 0, 0, 0, 0], 3),
-        (65535, [0xfc, 0xff, 0xff, 0, 0, 0, 0, 0, 0], 3),
-        (65536, [0xfd, 0, 0, 1, 0, 0, 0, 0, 0], 4),
-        (16777216, [0xfe, 0, 0, 0, 1, 0, 0, 0, 0], 9),
-    ];
-    for (number, bytes, count) in rows {
+    for (number, bytes, count) in &WRITTEN {
         let mut space = [0u8; 9];
         let mut out: &mut [u8] = &mut space;
-        assert_equal(&assert, out.write_lenenc_int(number).ok(), Some(count));
-        assert_equal(&assert, space, bytes);
+        Asserting(&rt).holds(write_number(&mut out, *number) == Some(*count));
+        Asserting(&rt).holds(space == *bytes);
     }
 }
 
@@ -183,10 +201,10 @@ fn writing_counts_its_bytes(rt: HostRuntime) {
     let assert = Asserting(&rt);
     let mut space = [0u8; 8];
     let mut out: &mut [u8] = &mut space;
-    assert_equal(&assert, out.write_lenenc_str(b"abc").ok(), Some(4));
-    assert_equal(&assert, out.write_lenenc_int(65536).ok(), Some(4));
-    assert.holds(out.write_lenenc_int(1).is_err());
-    assert_equal(&assert, space, [3, b'a', b'b', b'c', 0xfd, 0, 0, 1]);
+    assert.holds(out.write_lenenc_str(b"abc").ok() == Some(4));
+    assert.holds(write_number(&mut out, 65536) == Some(4));
+    assert.holds(write_number(&mut out, 1).is_none());
+    assert.holds(space == [3, b'a', b'b', b'c', 0xfd, 0, 0, 1]);
 }
 
 // Writes a text to a stream that has no bytes: how many bytes it was.
@@ -200,14 +218,23 @@ fn write_text(out: &mut Vec<u8>, text: &[u8]) -> Option<u64> {
     out.write_lenenc_str(text).ok()
 }
 
+// Asserts that a text is written as these bytes.
+fn assert_long_text(assert: &impl Assert, alloc: Global, text: &[u8], bytes: &[u8]) {
+    let mut out = Vec::new(alloc);
+    assert.holds(write_text(&mut out, text) == Some(65545));
+    assert.holds(out.as_slice() == bytes);
+}
+
 // A length past 65535 takes three bytes.
 #[test]
 fn a_long_text_is_written(rt: HostRuntime) {
     let assert = Asserting(&rt);
-    let alloc = rt.alloc();
-    let text = alphabet(&assert, alloc, 9363);
-    let wanted = joined(&assert, alloc, &[0xfd, 0x05, 0x00, 0x01], text.as_slice());
-    let mut out = Vec::new(alloc);
-    assert_equal(&assert, write_text(&mut out, text.as_slice()), Some(65545));
-    assert_bytes(&assert, out.as_slice(), wanted.as_slice());
+    let text = alphabet(&assert, rt.alloc(), 9363);
+    let wanted = joined(
+        &assert,
+        rt.alloc(),
+        &[0xfd, 0x05, 0x00, 0x01],
+        text.as_slice(),
+    );
+    assert_long_text(&assert, rt.alloc(), text.as_slice(), wanted.as_slice());
 }

@@ -22,6 +22,8 @@ mod names;
 #[cfg(test)]
 mod numbers;
 #[cfg(test)]
+mod pieces;
+#[cfg(test)]
 mod reading;
 #[cfg(test)]
 mod streams;

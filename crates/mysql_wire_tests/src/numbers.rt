@@ -29,51 +29,69 @@ fn assert_number<T: IntRepr<Primitive = P>, P: Copy + PartialEq + Debug + Drop>(
     );
 }
 
+fn assert_unsigned(assert: &impl Assert, alloc: Global, row: usize) {
+    match row {
+        0 => assert_number::<u8, u8>(assert, alloc, 7, &[7]),
+        1 => assert_number::<LeU16, u16>(assert, alloc, 0x0201, &[1, 2]),
+        2 => assert_number::<LeU24, u32>(assert, alloc, 0x03_0201, &[1, 2, 3]),
+        3 => assert_number::<LeU32, u32>(assert, alloc, 0x0403_0201, &[1, 2, 3, 4]),
+        4 => assert_number::<LeU48, u64>(assert, alloc, 0x0605_0403_0201, &[1, 2, 3, 4, 5, 6]),
+        5 => {
+            let bytes = [1, 2, 3, 4, 5, 6, 7];
+            assert_number::<LeU56, u64>(assert, alloc, 0x07_0605_0403_0201, &bytes)
+        }
+        _ => {
+            let bytes = [1, 2, 3, 4, 5, 6, 7, 8];
+            assert_number::<LeU64, u64>(assert, alloc, 0x0807_0605_0403_0201, &bytes)
+        }
+    }
+}
+
 #[test]
 fn unsigned_numbers(rt: HostRuntime) {
-    let assert = Asserting(&rt);
-    let alloc = rt.alloc();
-    let eight: [u8; 8] = [1, 2, 3, 4, 5, 6, 7, 8];
-    assert_number::<u8, u8>(&assert, alloc, 7, &[7]);
-    assert_number::<LeU16, u16>(&assert, alloc, 0x0201, &eight[..2]);
-    assert_number::<LeU24, u32>(&assert, alloc, 0x03_0201, &eight[..3]);
-    assert_number::<LeU32, u32>(&assert, alloc, 0x0403_0201, &eight[..4]);
-    assert_number::<LeU48, u64>(&assert, alloc, 0x0605_0403_0201, &eight[..6]);
-    assert_number::<LeU56, u64>(&assert, alloc, 0x07_0605_0403_0201, &eight[..7]);
-    assert_number::<LeU64, u64>(&assert, alloc, 0x0807_0605_0403_0201, &eight);
+    for row in 0..7 {
+        assert_unsigned(&Asserting(&rt), rt.alloc(), row);
+    }
+}
+
+fn assert_halves_and_lengths(assert: &impl Assert, alloc: Global, row: usize) {
+    match row {
+        0 => assert_number::<LeU32LowerHalf, u32>(assert, alloc, 0x0605, &[5, 6]),
+        1 => assert_number::<LeU32UpperHalf, u32>(assert, alloc, 0x0403_0000, &[3, 4]),
+        2 => assert_number::<LenEnc, u64>(assert, alloc, 251, &[0xfc, 0xfb, 0]),
+        _ => assert_number::<VarLen, u64>(assert, alloc, 128, &[1, 2]),
+    }
 }
 
 #[test]
 fn halves_and_lengths(rt: HostRuntime) {
-    let assert = Asserting(&rt);
-    let alloc = rt.alloc();
-    assert_number::<LeU32LowerHalf, u32>(&assert, alloc, 0x0605, &[5, 6]);
-    assert_number::<LeU32UpperHalf, u32>(&assert, alloc, 0x0403_0000, &[3, 4]);
-    assert_number::<LenEnc, u64>(&assert, alloc, 251, &[0xfc, 0xfb, 0]);
-    assert_number::<VarLen, u64>(&assert, alloc, 128, &[1, 2]);
+    for row in 0..4 {
+        assert_halves_and_lengths(&Asserting(&rt), rt.alloc(), row);
+    }
+}
+
+fn assert_signed(assert: &impl Assert, alloc: Global, row: usize) {
+    match row {
+        0 => assert_number::<i8, i8>(assert, alloc, -1, &[0xff]),
+        1 => assert_number::<LeI16, i16>(assert, alloc, -2, &[0xfe, 0xff]),
+        2 => assert_number::<LeI24, i32>(assert, alloc, -2, &[0xfe, 0xff, 0xff]),
+        3 => assert_number::<LeI32, i32>(assert, alloc, -3, &[0xfd, 0xff, 0xff, 0xff]),
+        4 => {
+            let bytes = [0xfc, 0xff, 0xff, 0xff, 0xff, 0xff, 0xff];
+            assert_number::<LeI56, i64>(assert, alloc, -4, &bytes)
+        }
+        _ => {
+            let bytes = [0xfb, 0xff, 0xff, 0xff, 0xff, 0xff, 0xff, 0xff];
+            assert_number::<LeI64, i64>(assert, alloc, -5, &bytes)
+        }
+    }
 }
 
 #[test]
 fn signed_numbers(rt: HostRuntime) {
-    let assert = Asserting(&rt);
-    let alloc = rt.alloc();
-    let ones: [u8; 7] = [0xff; 7];
-    assert_number::<i8, i8>(&assert, alloc, -1, &[0xff]);
-    assert_number::<LeI16, i16>(&assert, alloc, -2, &[0xfe, 0xff]);
-    assert_number::<LeI24, i32>(&assert, alloc, -2, &[0xfe, 0xff, 0xff]);
-    assert_number::<LeI32, i32>(&assert, alloc, -3, &[0xfd, 0xff, 0xff, 0xff]);
-    assert_number::<LeI56, i64>(
-        &assert,
-        alloc,
-        -4,
-        &[0xfc, 0xff, 0xff, 0xff, 0xff, 0xff, 0xff],
-    );
-    assert_number::<LeI64, i64>(
-        &assert,
-        alloc,
-        -5,
-        &[0xfb, 0xff, 0xff, 0xff, 0xff, 0xff, 0xff, 0xff],
-    );
+    for row in 0..6 {
+        assert_signed(&Asserting(&rt), rt.alloc(), row);
+    }
 }
 
 // Asserts that the number which stands first is this one.
@@ -115,13 +133,21 @@ fn a_number_that_is_there(rt: HostRuntime) {
     assert_equal(&assert, buf.len(), 1);
 }
 
+fn assert_number_cut_off(assert: &impl Assert, alloc: Global, row: usize) {
+    match row {
+        0 => assert_cut_off::<RawInt<u8>, ()>(assert, alloc, (), &[1], 0, 1),
+        1 => assert_cut_off::<RawInt<LeU24>, ()>(assert, alloc, (), &[1, 2, 3], 0, 3),
+        2 => assert_cut_off::<RawInt<LenEnc>, ()>(assert, alloc, (), &[0xfd, 1, 2, 3], 0, 4),
+        _ => {
+            let bytes = &[0xff, 1, 2, 3, 4, 5, 6, 7, 8];
+            assert_cut_off::<RawInt<VarLen>, ()>(assert, alloc, (), bytes, 0, 9)
+        }
+    }
+}
+
 #[test]
 fn numbers_cut_off(rt: HostRuntime) {
-    let assert = Asserting(&rt);
-    let alloc = rt.alloc();
-    let varlen = [0xff, 1, 2, 3, 4, 5, 6, 7, 8];
-    assert_cut_off::<RawInt<u8>, ()>(&assert, alloc, (), &[1], 0, 1);
-    assert_cut_off::<RawInt<LeU24>, ()>(&assert, alloc, (), &[1, 2, 3], 0, 3);
-    assert_cut_off::<RawInt<LenEnc>, ()>(&assert, alloc, (), &[0xfd, 1, 2, 3], 0, 4);
-    assert_cut_off::<RawInt<VarLen>, ()>(&assert, alloc, (), &varlen, 0, 9);
+    for row in 0..4 {
+        assert_number_cut_off(&Asserting(&rt), rt.alloc(), row);
+    }
 }

@@ -12,51 +12,76 @@ use std::alloc::Global;
 use std::test::*;
 use tests_support::{Assert, assert_equal};
 
-// Asserts that a stream is these packets, in one piece and byte by byte.
-fn assert_read(assert: &impl Assert, alloc: Global, number: u8, stream: &[u8], wanted: &[&[u8]]) {
-    assert_fed(assert, alloc, (number, 1000), &[stream], (wanted, None));
-    assert_fed_by_bytes(assert, alloc, (number, 1000), stream, (wanted, None));
+// The number and the limit that a codec begins with, a stream, its packets, and why reading stops.
+type Row = (
+    (u8, usize),
+    &'static [u8],
+    &'static [&'static [u8]],
+    Option<Refusal>,
+);
+
+// Asserts what each stream is, in one piece and byte by byte.
+fn assert_rows(assert: &impl Assert, alloc: Global, rows: &[Row]) {
+    for (codec, stream, packets, cause) in rows {
+        assert_fed(assert, alloc, *codec, &[stream], (packets, *cause));
+        assert_fed_by_bytes(assert, alloc, *codec, stream, (packets, *cause));
+    }
 }
+
+const COMMAND: &[&[u8]] = &[b"\x03SELECT 1"];
+
+const PACKETS: [Row; 4] = [
+    ((0, 1000), &SELECT_1, COMMAND, None),
+    ((0, DEFAULT_MAX_ALLOWED_PACKET), &SELECT_1, COMMAND, None),
+    // An empty payload.
+    ((0, 1000), &[0, 0, 0, 0], &[b""], None),
+    // Numbers go on past 255.
+    (
+        (255, 1000),
+        &[1, 0, 0, 255, 0x61, 1, 0, 0, 0, 0x62],
+        &[b"a", b"b"],
+        None,
+    ),
+];
 
 #[test]
 fn packets_of_streams(rt: HostRuntime) {
     let assert = Asserting(&rt);
-    let alloc = rt.alloc();
-    let command: &[&[u8]] = &[&SELECT_1[4..]];
-    let most = DEFAULT_MAX_ALLOWED_PACKET;
-    assert_read(&assert, alloc, 0, &SELECT_1, command);
-    assert_fed(&assert, alloc, (0, most), &[&SELECT_1], (command, None));
-    // An empty payload, and an empty stream.
-    assert_read(&assert, alloc, 0, &[0, 0, 0, 0], &[b""]);
-    assert_fed(&assert, alloc, (0, 1000), &[], (&[], None));
-    // Numbers go on past 255.
-    let stream: &[u8] = &[1, 0, 0, 255, 0x61, 1, 0, 0, 0, 0x62];
-    assert_read(&assert, alloc, 255, stream, &[b"a", b"b"]);
+    assert_rows(&assert, rt.alloc(), &PACKETS);
+    // A stream without pieces.
+    assert_fed(&assert, rt.alloc(), (0, 1000), &[], (&[], None));
 }
+
+// The front of the command: its header.
+const HEADER: &[u8] = &[9, 0, 0, 0];
+
+const LIMITS: [Row; 4] = [
+    ((0, 9), &SELECT_1, COMMAND, None),
+    ((0, 8), &SELECT_1, &[], Some(Refusal::TooLarge)),
+    // The fault comes once the header stands.
+    ((0, 9), HEADER, &[], None),
+    ((0, 8), HEADER, &[], Some(Refusal::TooLarge)),
+];
 
 #[test]
 fn a_packet_within_the_limit_and_past_it(rt: HostRuntime) {
-    let assert = Asserting(&rt);
-    let alloc = rt.alloc();
-    let payload = &SELECT_1[4..];
-    let past = Some(Refusal::TooLarge);
-    assert_fed(&assert, alloc, (0, 9), &[&SELECT_1], (&[payload], None));
-    assert_fed_by_bytes(&assert, alloc, (0, 9), &SELECT_1, (&[payload], None));
-    assert_fed(&assert, alloc, (0, 8), &[&SELECT_1], (&[], past));
-    assert_fed_by_bytes(&assert, alloc, (0, 8), &SELECT_1, (&[], past));
-    // The fault comes once the header stands.
-    assert_fed(&assert, alloc, (0, 9), &[&SELECT_1[..4]], (&[], None));
-    assert_fed(&assert, alloc, (0, 8), &[&SELECT_1[..4]], (&[], past));
+    assert_rows(&Asserting(&rt), rt.alloc(), &LIMITS);
 }
+
+const NUMBERS: [Row; 2] = [
+    ((1, 1000), &SELECT_1, &[], Some(Refusal::OutOfSync)),
+    // All but the last byte of the command.
+    (
+        (1, 1000),
+        &[9, 0, 0, 0, 3, 0x53, 0x45, 0x4c, 0x45, 0x43, 0x54, 0x20],
+        &[],
+        None,
+    ),
+];
 
 #[test]
 fn a_wrong_number_once_its_chunk_is_whole(rt: HostRuntime) {
-    let assert = Asserting(&rt);
-    let alloc = rt.alloc();
-    let fault = Some(Refusal::OutOfSync);
-    assert_fed(&assert, alloc, (1, 1000), &[&SELECT_1], (&[], fault));
-    assert_fed_by_bytes(&assert, alloc, (1, 1000), &SELECT_1, (&[], fault));
-    assert_fed(&assert, alloc, (1, 1000), &[&SELECT_1[..12]], (&[], None));
+    assert_rows(&Asserting(&rt), rt.alloc(), &NUMBERS);
 }
 
 // Whether the command was read, or memory was refused. Nothing else is answered.
@@ -79,43 +104,49 @@ fn command_is_read(
 }
 
 // Asserts that a codec at which memory was refused keeps to it, and changes nothing.
-fn assert_kept(assert: &impl Assert, mut codec: PacketCodec, mut src: &[u8], mut dst: BytesMut)
-    requires { CanGoOn codec dst.items }
+fn assert_kept(assert: &impl Assert, codec: &mut PacketCodec, mut src: &[u8], dst: &mut BytesMut)
+    requires { CanGoOn codec.old dst.old.items }
 {
     let kept = src.len();
-    assert.holds(lacks_memory(codec.decode(&mut src, &mut dst)));
-    assert_equal(assert, src.len(), kept);
+    assert.holds(lacks_memory(codec.decode(&mut src, dst)));
+    assert.holds(src.len() == kept);
 }
 
 // Reads the rest of the command, behind the front of a header that was left: whether memory sufficed.
 fn reads_rest(
     assert: &impl Assert,
-    mut codec: PacketCodec,
-    mut left: &[u8],
+    codec: &mut PacketCodec,
+    header: PartialHeader,
     back: &[u8],
-    mut dst: BytesMut,
+    dst: &mut BytesMut,
 ) -> bool
-    requires { CanGoOn codec dst.items }
+    requires { CanGoOn codec.old dst.old.items }
 {
-    assert.holds(left.len() < 4);
-    let header = PartialHeader::rest_of(&mut left);
     let mut src = header.followed_by(back);
-    let answer = codec.decode(&mut src, &mut dst);
+    let answer = codec.decode(&mut src, dst);
     command_is_read(assert, answer, dst.as_slice(), src.remaining())
 }
 
-// Reads one command, by a piece and the next one: whether memory sufficed.
-fn reads_in_two(assert: &impl Assert, alloc: Global, cut: usize) -> bool {
-    assert.holds(cut <= SELECT_1.len());
-    let (front, back) = SELECT_1.split_at(cut);
-    let mut codec = PacketCodec::default();
-    let mut dst = BytesMut::new(alloc);
+// Reads the command by its front and the rest: whether memory sufficed.
+fn reads_both(
+    assert: &impl Assert,
+    codec: &mut PacketCodec,
+    front: &[u8],
+    back: &[u8],
+    dst: &mut BytesMut,
+) -> bool
+    requires { CanGoOn codec.old dst.old.items }
+{
     let mut src = front;
-    match codec.decode(&mut src, &mut dst) {
-        Ok(true) => command_is_read(assert, Ok(cut == 13), dst.as_slice(), src.len()),
-        Ok(false) => {
-            assert.holds(cut != 13);
-            reads_rest(assert, codec, src, back, dst)
+    match codec.decode(&mut src, dst) {
+        Ok(whole) => {
+            assert.holds(whole == back.is_empty());
+            if whole {
+                command_is_read(assert, Ok(true), dst.as_slice(), src.len())
+            } else {
+                let header = PartialHeader::rest_of(&mut src);
+                reads_rest(assert, codec, header, back, dst)
+            }
         }
         Err(error) => {
             assert.holds(is_memory(&error));
@@ -125,12 +156,20 @@ fn reads_in_two(assert: &impl Assert, alloc: Global, cut: usize) -> bool {
     }
 }
 
+// Reads one command, by a piece and the next one: whether memory sufficed.
+fn reads_in_two(assert: &impl Assert, alloc: Global, front: &[u8], back: &[u8]) -> bool {
+    let mut codec = PacketCodec::default();
+    let mut dst = BytesMut::new(alloc);
+    reads_both(assert, &mut codec, front, back, &mut dst)
+}
+
 #[test]
 fn a_codec_fed_in_two_pieces(rt: HostRuntime) {
     let assert = Asserting(&rt);
     for cut in 0..14 {
-        let first = reads_in_two(&assert, rt.alloc(), cut);
-        assert.holds(first || reads_in_two(&assert, rt.alloc(), cut));
+        let (front, back) = SELECT_1.split_at(cut);
+        let first = reads_in_two(&assert, rt.alloc(), front, back);
+        assert.holds(first || reads_in_two(&assert, rt.alloc(), front, back));
     }
 }
 

@@ -7,7 +7,7 @@ use mysql_wire::codec::Refusal;
 use mysql_wire::{PacketCodec, PacketCodecError, Packets, feed_all, packet_to_chunks};
 use std::alloc::Global;
 use std::process::Abort;
-use tests_support::{Assert, assert_equal};
+use tests_support::Assert;
 
 /// Ends a test by an assertion.
 #[derive(Drop)]
@@ -41,36 +41,80 @@ pub fn is_too_large<T: Drop>(answer: Result<T, PacketCodecError>) -> bool {
     matches!(&answer, Err(PacketCodecError::PacketTooLarge))
 }
 
+/// The number after a payload that is written to an empty buffer; None where memory was refused, and nothing was written.
+fn next_number(assert: &impl Assert, number: u8, payload: &[u8], out: &mut BytesMut) -> Option<u8> {
+    let next = packet_to_chunks(number, payload, out).ok();
+    assert.holds(next.is_some() || out.is_empty());
+    next
+}
+
 /// Writes a payload to an empty buffer, and asserts which number is next.
 pub fn put_payload(assert: &impl Assert, number: u8, payload: &[u8], next: u8, out: &mut BytesMut) {
-    let mut found = packet_to_chunks(number, payload, out).ok();
+    let mut found = next_number(assert, number, payload, out);
     if found.is_none() {
-        // Memory was refused: nothing was written.
-        assert.holds(out.is_empty());
-        found = packet_to_chunks(number, payload, out).ok();
+        found = next_number(assert, number, payload, out);
     }
-    assert_equal(assert, found, Some(next));
+    assert.holds(found == Some(next));
+}
+
+/// Whether a fault has this cause.
+fn is_by(fault: &PacketCodecError, cause: Refusal) -> bool {
+    match fault {
+        PacketCodecError::PacketTooLarge => cause == Refusal::TooLarge,
+        PacketCodecError::PacketsOutOfSync => cause == Refusal::OutOfSync,
+        PacketCodecError::Memory => cause == Refusal::Memory,
+        PacketCodecError::Io(_) => false,
+    }
 }
 
 /// Whether reading stopped for this cause, or for none.
-pub fn stops_by(found: &Packets, cause: Option<Refusal>) -> bool {
-    match &found.fault {
-        None => cause.is_none(),
-        Some(PacketCodecError::PacketTooLarge) => cause == Some(Refusal::TooLarge),
-        Some(PacketCodecError::PacketsOutOfSync) => cause == Some(Refusal::OutOfSync),
-        Some(PacketCodecError::Memory) => cause == Some(Refusal::Memory),
-        Some(PacketCodecError::Io(_)) => false,
+fn stops_by(fault: &Option<PacketCodecError>, cause: Option<Refusal>) -> bool {
+    match (fault, cause) {
+        (Some(fault), Some(cause)) => is_by(fault, cause),
+        (None, None) => true,
+        _ => false,
     }
 }
 
 /// Whether packets are these ones, in order, or the first of them.
-pub fn are_first(packets: &[Vec<u8>], wanted: &[&[u8]]) -> bool {
-    for (packet, payload) in packets.iter().zip(wanted.iter()) {
-        if packet.as_slice() != *payload {
+fn are_first(packets: &[Vec<u8>], wanted: &[&[u8]]) -> bool {
+    if packets.len() > wanted.len() {
+        return false;
+    }
+    for i in 0..packets.len() {
+        if packets[i].as_slice() != wanted[i] {
             return false;
         }
     }
-    packets.len() <= wanted.len()
+    true
+}
+
+/// The packets that a stream has, and why reading stops.
+pub type Wanted<'a, 'b> = (&'a [&'b [u8]], Option<Refusal>);
+
+/// Whether these are all packets, and reading stopped for this cause.
+fn are_all(found: &Packets, wanted: Wanted<'_, '_>) -> bool {
+    found.packets.len() == wanted.0.len() && stops_by(&found.fault, wanted.1)
+}
+
+/// Asserts which packets were found: whether memory sufficed. Where it was refused they are the first ones.
+fn are_wanted(assert: &impl Assert, found: &Packets, wanted: Wanted<'_, '_>) -> bool {
+    assert.holds(are_first(found.packets.as_slice(), wanted.0));
+    let sufficed = !stops_by(&found.fault, Some(Refusal::Memory));
+    assert.holds(!sufficed || are_all(found, wanted));
+    sufficed
+}
+
+/// Feeds a codec at a number and a limit, and asserts which packets are found: whether memory sufficed.
+fn feed(
+    assert: &impl Assert,
+    alloc: Global,
+    codec: (u8, usize),
+    pieces: &[&[u8]],
+    wanted: Wanted<'_, '_>,
+) -> bool {
+    let found = feed_all(alloc, PacketCodec::at(codec.0, codec.1), pieces);
+    are_wanted(assert, &found, wanted)
 }
 
 /// Asserts which packets a stream that comes in pieces has, and why reading stops. It is read once more where memory was
@@ -80,16 +124,10 @@ pub fn assert_fed(
     alloc: Global,
     codec: (u8, usize),
     pieces: &[&[u8]],
-    wanted: (&[&[u8]], Option<Refusal>),
+    wanted: Wanted<'_, '_>,
 ) {
-    let mut found = feed_all(alloc, PacketCodec::at(codec.0, codec.1), pieces);
-    if stops_by(&found, Some(Refusal::Memory)) {
-        assert.holds(are_first(found.packets.as_slice(), wanted.0));
-        found = feed_all(alloc, PacketCodec::at(codec.0, codec.1), pieces);
-    }
-    assert.holds(stops_by(&found, wanted.1));
-    assert.holds(found.packets.len() == wanted.0.len());
-    assert.holds(are_first(found.packets.as_slice(), wanted.0));
+    let first = feed(assert, alloc, codec, pieces, wanted);
+    assert.holds(first || feed(assert, alloc, codec, pieces, wanted));
 }
 
 /// The same of a short stream that comes byte by byte.
@@ -98,7 +136,7 @@ pub fn assert_fed_by_bytes(
     alloc: Global,
     codec: (u8, usize),
     stream: &[u8],
-    wanted: (&[&[u8]], Option<Refusal>),
+    wanted: Wanted<'_, '_>,
 ) {
     let mut pieces: [&[u8]; 64] = [&[]; 64];
     assert.holds(stream.len() <= 64);

@@ -10,153 +10,297 @@ const BYTES: [u8; 16] = [
     0x81, 0x82, 0x83, 0x84, 0x85, 0x86, 0x87, 0x88, 0x89, 0x8a, 0x8b, 0x8c, 0x8d, 0x8e, 0x8f, 0x90,
 ];
 
-// The number, where there are as many bytes as it takes.
-fn there<T: Copy>(bytes: &[u8], width: usize, number: T) -> Option<T> {
-    if width <= bytes.len() {
-        Some(number)
-    } else {
-        None
+// Which byte of a number stands first.
+#[derive(Clone, Copy)]
+enum Order {
+    LowestFirst,
+    HighestFirst,
+}
+
+// The order of a number's bytes, how many they are, and the number that stands first in `BYTES`.
+type Row<Number> = (Order, usize, Number);
+
+const UNSIGNED: [Row<u128>; 17] = [
+    (Order::LowestFirst, 1, 0x81),
+    (Order::LowestFirst, 2, 0x8281),
+    (Order::LowestFirst, 3, 0x838281),
+    (Order::LowestFirst, 4, 0x84838281),
+    (Order::LowestFirst, 5, 0x8584838281),
+    (Order::LowestFirst, 6, 0x868584838281),
+    (Order::LowestFirst, 7, 0x87868584838281),
+    (Order::LowestFirst, 8, 0x8887868584838281),
+    (Order::LowestFirst, 16, 0x908f8e8d8c8b8a898887868584838281),
+    (Order::HighestFirst, 2, 0x8182),
+    (Order::HighestFirst, 3, 0x818283),
+    (Order::HighestFirst, 4, 0x81828384),
+    (Order::HighestFirst, 5, 0x8182838485),
+    (Order::HighestFirst, 6, 0x818283848586),
+    (Order::HighestFirst, 7, 0x81828384858687),
+    (Order::HighestFirst, 8, 0x8182838485868788),
+    (Order::HighestFirst, 16, 0x8182838485868788898a8b8c8d8e8f90),
+];
+
+const SIGNED: [Row<i128>; 17] = [
+    (Order::LowestFirst, 1, -0x7f),
+    (Order::LowestFirst, 2, -0x7d7f),
+    (Order::LowestFirst, 3, -0x7c7d7f),
+    (Order::LowestFirst, 4, -0x7b7c7d7f),
+    (Order::LowestFirst, 5, -0x7a7b7c7d7f),
+    (Order::LowestFirst, 6, -0x797a7b7c7d7f),
+    (Order::LowestFirst, 7, -0x78797a7b7c7d7f),
+    (Order::LowestFirst, 8, -0x7778797a7b7c7d7f),
+    (Order::LowestFirst, 16, -0x6f707172737475767778797a7b7c7d7f),
+    (Order::HighestFirst, 2, -0x7e7e),
+    (Order::HighestFirst, 3, -0x7e7d7d),
+    (Order::HighestFirst, 4, -0x7e7d7c7c),
+    (Order::HighestFirst, 5, -0x7e7d7c7b7b),
+    (Order::HighestFirst, 6, -0x7e7d7c7b7a7a),
+    (Order::HighestFirst, 7, -0x7e7d7c7b7a7979),
+    (Order::HighestFirst, 8, -0x7e7d7c7b7a797878),
+    (Order::HighestFirst, 16, -0x7e7d7c7b7a7978777675747372717070),
+];
+
+// What was read, as a number of the widest type.
+fn widest<Number: Into<Widest>, Widest>(read: Option<Number>) -> Option<Widest> {
+    match read {
+        Some(number) => Some(number.into()),
+        None => None,
     }
 }
 
-// Whether each unsigned number is read, lowest byte first, that is there.
-fn unsigned_lowest_first(bytes: &[u8]) -> bool {
-    (ParseBuf(bytes).checked_eat_u8() == there(bytes, 1, 0x81))
-        & (ParseBuf(bytes).checked_eat_u16_le() == there(bytes, 2, 0x8281))
-        & (ParseBuf(bytes).checked_eat_u24_le() == there(bytes, 3, 0x838281))
-        & (ParseBuf(bytes).checked_eat_u32_le() == there(bytes, 4, 0x84838281))
-        & (ParseBuf(bytes).checked_eat_u40_le() == there(bytes, 5, 0x8584838281))
-        & (ParseBuf(bytes).checked_eat_u48_le() == there(bytes, 6, 0x868584838281))
-        & (ParseBuf(bytes).checked_eat_u56_le() == there(bytes, 7, 0x87868584838281))
-        & (ParseBuf(bytes).checked_eat_u64_le() == there(bytes, 8, 0x8887868584838281))
-        & (ParseBuf(bytes).checked_eat_u128_le()
-            == there(bytes, 16, 0x908f8e8d8c8b8a898887868584838281))
+// The unsigned number of so many bytes, lowest first, where it is there.
+fn unsigned_lowest_first(mut buf: ParseBuf<'_>, width: usize) -> Option<u128> {
+    match width {
+        1 => widest(buf.checked_eat_u8()),
+        2 => widest(buf.checked_eat_u16_le()),
+        3 => widest(buf.checked_eat_u24_le()),
+        4 => widest(buf.checked_eat_u32_le()),
+        5 => widest(buf.checked_eat_u40_le()),
+        6 => widest(buf.checked_eat_u48_le()),
+        7 => widest(buf.checked_eat_u56_le()),
+        8 => widest(buf.checked_eat_u64_le()),
+        _ => buf.checked_eat_u128_le(),
+    }
 }
 
-// Whether each signed number is read, lowest byte first, that is there.
-fn signed_lowest_first(bytes: &[u8]) -> bool {
-    (ParseBuf(bytes).checked_eat_i8() == there(bytes, 1, -0x7f))
-        & (ParseBuf(bytes).checked_eat_i16_le() == there(bytes, 2, -0x7d7f))
-        & (ParseBuf(bytes).checked_eat_i24_le() == there(bytes, 3, -0x7c7d7f))
-        & (ParseBuf(bytes).checked_eat_i32_le() == there(bytes, 4, -0x7b7c7d7f))
-        & (ParseBuf(bytes).checked_eat_i40_le() == there(bytes, 5, -0x7a7b7c7d7f))
-        & (ParseBuf(bytes).checked_eat_i48_le() == there(bytes, 6, -0x797a7b7c7d7f))
-        & (ParseBuf(bytes).checked_eat_i56_le() == there(bytes, 7, -0x78797a7b7c7d7f))
-        & (ParseBuf(bytes).checked_eat_i64_le() == there(bytes, 8, -0x7778797a7b7c7d7f))
-        & (ParseBuf(bytes).checked_eat_i128_le()
-            == there(bytes, 16, -0x6f707172737475767778797a7b7c7d7f))
+// The unsigned number of so many bytes, highest first, where it is there.
+fn unsigned_highest_first(mut buf: ParseBuf<'_>, width: usize) -> Option<u128> {
+    match width {
+        2 => widest(buf.checked_eat_u16_be()),
+        3 => widest(buf.checked_eat_u24_be()),
+        4 => widest(buf.checked_eat_u32_be()),
+        5 => widest(buf.checked_eat_u40_be()),
+        6 => widest(buf.checked_eat_u48_be()),
+        7 => widest(buf.checked_eat_u56_be()),
+        8 => widest(buf.checked_eat_u64_be()),
+        _ => buf.checked_eat_u128_be(),
+    }
 }
 
-// Whether each unsigned number is read, highest byte first, that is there.
-fn unsigned_highest_first(bytes: &[u8]) -> bool {
-    (ParseBuf(bytes).checked_eat_u16_be() == there(bytes, 2, 0x8182))
-        & (ParseBuf(bytes).checked_eat_u24_be() == there(bytes, 3, 0x818283))
-        & (ParseBuf(bytes).checked_eat_u32_be() == there(bytes, 4, 0x81828384))
-        & (ParseBuf(bytes).checked_eat_u40_be() == there(bytes, 5, 0x8182838485))
-        & (ParseBuf(bytes).checked_eat_u48_be() == there(bytes, 6, 0x818283848586))
-        & (ParseBuf(bytes).checked_eat_u56_be() == there(bytes, 7, 0x81828384858687))
-        & (ParseBuf(bytes).checked_eat_u64_be() == there(bytes, 8, 0x8182838485868788))
-        & (ParseBuf(bytes).checked_eat_u128_be()
-            == there(bytes, 16, 0x8182838485868788898a8b8c8d8e8f90))
+// The signed number of so many bytes, lowest first, where it is there.
+fn signed_lowest_first(mut buf: ParseBuf<'_>, width: usize) -> Option<i128> {
+    match width {
+        1 => widest(buf.checked_eat_i8()),
+        2 => widest(buf.checked_eat_i16_le()),
+        3 => widest(buf.checked_eat_i24_le()),
+        4 => widest(buf.checked_eat_i32_le()),
+        5 => widest(buf.checked_eat_i40_le()),
+        6 => widest(buf.checked_eat_i48_le()),
+        7 => widest(buf.checked_eat_i56_le()),
+        8 => widest(buf.checked_eat_i64_le()),
+        _ => buf.checked_eat_i128_le(),
+    }
 }
 
-// Whether each signed number is read, highest byte first, that is there.
-fn signed_highest_first(bytes: &[u8]) -> bool {
-    (ParseBuf(bytes).checked_eat_i16_be() == there(bytes, 2, -0x7e7e))
-        & (ParseBuf(bytes).checked_eat_i24_be() == there(bytes, 3, -0x7e7d7d))
-        & (ParseBuf(bytes).checked_eat_i32_be() == there(bytes, 4, -0x7e7d7c7c))
-        & (ParseBuf(bytes).checked_eat_i40_be() == there(bytes, 5, -0x7e7d7c7b7b))
-        & (ParseBuf(bytes).checked_eat_i48_be() == there(bytes, 6, -0x7e7d7c7b7a7a))
-        & (ParseBuf(bytes).checked_eat_i56_be() == there(bytes, 7, -0x7e7d7c7b7a7979))
-        & (ParseBuf(bytes).checked_eat_i64_be() == there(bytes, 8, -0x7e7d7c7b7a797878))
-        & (ParseBuf(bytes).checked_eat_i128_be()
-            == there(bytes, 16, -0x7e7d7c7b7a7978777675747372717070))
+// The signed number of so many bytes, highest first, where it is there.
+fn signed_highest_first(mut buf: ParseBuf<'_>, width: usize) -> Option<i128> {
+    match width {
+        2 => widest(buf.checked_eat_i16_be()),
+        3 => widest(buf.checked_eat_i24_be()),
+        4 => widest(buf.checked_eat_i32_be()),
+        5 => widest(buf.checked_eat_i40_be()),
+        6 => widest(buf.checked_eat_i48_be()),
+        7 => widest(buf.checked_eat_i56_be()),
+        8 => widest(buf.checked_eat_i64_be()),
+        _ => buf.checked_eat_i128_be(),
+    }
+}
+
+fn unsigned((order, width, _): Row<u128>, bytes: &[u8]) -> Option<u128> {
+    match order {
+        Order::LowestFirst => unsigned_lowest_first(ParseBuf(bytes), width),
+        Order::HighestFirst => unsigned_highest_first(ParseBuf(bytes), width),
+    }
+}
+
+fn signed((order, width, _): Row<i128>, bytes: &[u8]) -> Option<i128> {
+    match order {
+        Order::LowestFirst => signed_lowest_first(ParseBuf(bytes), width),
+        Order::HighestFirst => signed_highest_first(ParseBuf(bytes), width),
+    }
+}
+
+// Whether the row's number was read from so many bytes, or none where it takes more.
+fn is_of_row<Number: PartialEq + Drop>(
+    read: Option<Number>,
+    len: usize,
+    (_, width, number): Row<Number>,
+) -> bool {
+    match read {
+        Some(found) => width <= len && found == number,
+        None => len < width,
+    }
+}
+
+// Asserts of each unsigned number that it is read, where there are as many bytes as it takes.
+fn assert_unsigned(assert: &impl Assert, bytes: &[u8]) {
+    for row in &UNSIGNED {
+        assert.holds(is_of_row(unsigned(*row, bytes), bytes.len(), *row));
+    }
+}
+
+// The same of each signed number.
+fn assert_signed(assert: &impl Assert, bytes: &[u8]) {
+    for row in &SIGNED {
+        assert.holds(is_of_row(signed(*row, bytes), bytes.len(), *row));
+    }
 }
 
 // Each number stands whole in as many bytes as it takes and in more, and is cut off in fewer.
 #[test]
 fn numbers_whole_and_cut_off(rt: HostRuntime) {
     let assert = Asserting(&rt);
-    let bytes: &[u8] = &BYTES;
     for len in 0..17 {
-        let front = &bytes[..len];
-        assert.holds(unsigned_lowest_first(front) & signed_lowest_first(front));
-        assert.holds(unsigned_highest_first(front) & signed_highest_first(front));
+        let bytes = &BYTES[..len];
+        assert_unsigned(&assert, bytes);
+        assert_signed(&assert, bytes);
     }
 }
 
-// Whether each unsigned number is read without a check, lowest byte first.
-fn unsigned_lowest_first_unchecked(bytes: &[u8; 16]) -> bool {
-    (ParseBuf(bytes).eat_u8() == 0x81)
-        & (ParseBuf(bytes).eat_u16_le() == 0x8281)
-        & (ParseBuf(bytes).eat_u24_le() == 0x838281)
-        & (ParseBuf(bytes).eat_u32_le() == 0x84838281)
-        & (ParseBuf(bytes).eat_u40_le() == 0x8584838281)
-        & (ParseBuf(bytes).eat_u48_le() == 0x868584838281)
-        & (ParseBuf(bytes).eat_u56_le() == 0x87868584838281)
-        & (ParseBuf(bytes).eat_u64_le() == 0x8887868584838281)
-        & (ParseBuf(bytes).eat_u128_le() == 0x908f8e8d8c8b8a898887868584838281)
+// The unsigned number of so many bytes, lowest first, which is there.
+fn unsigned_lowest_first_unchecked(width: usize) -> u128 {
+    let mut buf = ParseBuf(&BYTES);
+    match width {
+        1 => buf.eat_u8().into(),
+        2 => buf.eat_u16_le().into(),
+        3 => buf.eat_u24_le().into(),
+        4 => buf.eat_u32_le().into(),
+        5 => buf.eat_u40_le().into(),
+        6 => buf.eat_u48_le().into(),
+        7 => buf.eat_u56_le().into(),
+        8 => buf.eat_u64_le().into(),
+        _ => buf.eat_u128_le(),
+    }
 }
 
-// Whether each signed number is read without a check, lowest byte first.
-fn signed_lowest_first_unchecked(bytes: &[u8; 16]) -> bool {
-    (ParseBuf(bytes).eat_i8() == -0x7f)
-        & (ParseBuf(bytes).eat_i16_le() == -0x7d7f)
-        & (ParseBuf(bytes).eat_i24_le() == -0x7c7d7f)
-        & (ParseBuf(bytes).eat_i32_le() == -0x7b7c7d7f)
-        & (ParseBuf(bytes).eat_i40_le() == -0x7a7b7c7d7f)
-        & (ParseBuf(bytes).eat_i48_le() == -0x797a7b7c7d7f)
-        & (ParseBuf(bytes).eat_i56_le() == -0x78797a7b7c7d7f)
-        & (ParseBuf(bytes).eat_i64_le() == -0x7778797a7b7c7d7f)
-        & (ParseBuf(bytes).eat_i128_le() == -0x6f707172737475767778797a7b7c7d7f)
+// The unsigned number of so many bytes, highest first, which is there.
+fn unsigned_highest_first_unchecked(width: usize) -> u128 {
+    let mut buf = ParseBuf(&BYTES);
+    match width {
+        2 => buf.eat_u16_be().into(),
+        3 => buf.eat_u24_be().into(),
+        4 => buf.eat_u32_be().into(),
+        5 => buf.eat_u40_be().into(),
+        6 => buf.eat_u48_be().into(),
+        7 => buf.eat_u56_be().into(),
+        8 => buf.eat_u64_be().into(),
+        _ => buf.eat_u128_be(),
+    }
 }
 
-// Whether each unsigned number is read without a check, highest byte first.
-fn unsigned_highest_first_unchecked(bytes: &[u8; 16]) -> bool {
-    (ParseBuf(bytes).eat_u16_be() == 0x8182)
-        & (ParseBuf(bytes).eat_u24_be() == 0x818283)
-        & (ParseBuf(bytes).eat_u32_be() == 0x81828384)
-        & (ParseBuf(bytes).eat_u40_be() == 0x8182838485)
-        & (ParseBuf(bytes).eat_u48_be() == 0x818283848586)
-        & (ParseBuf(bytes).eat_u56_be() == 0x81828384858687)
-        & (ParseBuf(bytes).eat_u64_be() == 0x8182838485868788)
-        & (ParseBuf(bytes).eat_u128_be() == 0x8182838485868788898a8b8c8d8e8f90)
+// The signed number of so many bytes, lowest first, which is there.
+fn signed_lowest_first_unchecked(width: usize) -> i128 {
+    let mut buf = ParseBuf(&BYTES);
+    match width {
+        1 => buf.eat_i8().into(),
+        2 => buf.eat_i16_le().into(),
+        3 => buf.eat_i24_le().into(),
+        4 => buf.eat_i32_le().into(),
+        5 => buf.eat_i40_le().into(),
+        6 => buf.eat_i48_le().into(),
+        7 => buf.eat_i56_le().into(),
+        8 => buf.eat_i64_le().into(),
+        _ => buf.eat_i128_le(),
+    }
 }
 
-// Whether each signed number is read without a check, highest byte first.
-fn signed_highest_first_unchecked(bytes: &[u8; 16]) -> bool {
-    (ParseBuf(bytes).eat_i16_be() == -0x7e7e)
-        & (ParseBuf(bytes).eat_i24_be() == -0x7e7d7d)
-        & (ParseBuf(bytes).eat_i32_be() == -0x7e7d7c7c)
-        & (ParseBuf(bytes).eat_i40_be() == -0x7e7d7c7b7b)
-        & (ParseBuf(bytes).eat_i48_be() == -0x7e7d7c7b7a7a)
-        & (ParseBuf(bytes).eat_i56_be() == -0x7e7d7c7b7a7979)
-        & (ParseBuf(bytes).eat_i64_be() == -0x7e7d7c7b7a797878)
-        & (ParseBuf(bytes).eat_i128_be() == -0x7e7d7c7b7a7978777675747372717070)
+// The signed number of so many bytes, highest first, which is there.
+fn signed_highest_first_unchecked(width: usize) -> i128 {
+    let mut buf = ParseBuf(&BYTES);
+    match width {
+        2 => buf.eat_i16_be().into(),
+        3 => buf.eat_i24_be().into(),
+        4 => buf.eat_i32_be().into(),
+        5 => buf.eat_i40_be().into(),
+        6 => buf.eat_i48_be().into(),
+        7 => buf.eat_i56_be().into(),
+        8 => buf.eat_i64_be().into(),
+        _ => buf.eat_i128_be(),
+    }
+}
+
+// Whether the row's number is read without a check.
+fn unsigned_is_read((order, width, number): Row<u128>) -> bool {
+    match order {
+        Order::LowestFirst => unsigned_lowest_first_unchecked(width) == number,
+        Order::HighestFirst => unsigned_highest_first_unchecked(width) == number,
+    }
+}
+
+// Whether the row's number is read without a check.
+fn signed_is_read((order, width, number): Row<i128>) -> bool {
+    match order {
+        Order::LowestFirst => signed_lowest_first_unchecked(width) == number,
+        Order::HighestFirst => signed_highest_first_unchecked(width) == number,
+    }
 }
 
 #[test]
 fn numbers_unchecked(rt: HostRuntime) {
-    let assert = Asserting(&rt);
-    assert.holds(unsigned_lowest_first_unchecked(&BYTES) & signed_lowest_first_unchecked(&BYTES));
-    assert.holds(unsigned_highest_first_unchecked(&BYTES) & signed_highest_first_unchecked(&BYTES));
+    for row in &UNSIGNED {
+        Asserting(&rt).holds(unsigned_is_read(*row));
+    }
+    for row in &SIGNED {
+        Asserting(&rt).holds(signed_is_read(*row));
+    }
 }
 
-// Numbers of both signs, which leave what follows.
-fn some_numbers(bytes: &[u8; 7]) -> bool {
-    let mut buf = ParseBuf(bytes);
-    (ParseBuf(bytes).checked_eat_u16_be() == Some(0x0102))
-        & (ParseBuf(bytes).checked_eat_i24_le() == Some(-0xfdff))
-        & (ParseBuf(bytes).checked_eat_u40_le() == Some(0x05_04ff_0201))
-        & (ParseBuf(bytes).checked_eat_i48_le() == Some(-0x09fa_fb00_fdff))
-        & (ParseBuf(bytes).checked_eat_i56_be() == Some(0x01_02ff_0405_f607))
-        & (ParseBuf(bytes).checked_eat_u64_le() == None)
-        & (buf.eat_i8() == 1)
-        & (buf.len() == 6)
+// Seven bytes of a number.
+const SEVEN: [u8; 7] = [1, 2, 0xff, 4, 5, 0xf6, 7];
+
+// The number of both signs of so many bytes, where it is there.
+fn of_both_signs(mut buf: ParseBuf<'_>, width: usize) -> Option<i128> {
+    match width {
+        2 => widest(buf.checked_eat_u16_be()),
+        3 => widest(buf.checked_eat_i24_le()),
+        5 => widest(buf.checked_eat_u40_le()),
+        6 => widest(buf.checked_eat_i48_le()),
+        7 => widest(buf.checked_eat_i56_be()),
+        _ => widest(buf.checked_eat_u64_le()),
+    }
+}
+
+// How many bytes a number takes, and the number of so many of `SEVEN`.
+const OF_BOTH_SIGNS: [(usize, Option<i128>); 6] = [
+    (2, Some(0x0102)),
+    (3, Some(-0xfdff)),
+    (5, Some(0x05_04ff_0201)),
+    (6, Some(-0x09fa_fb00_fdff)),
+    (7, Some(0x01_02ff_0405_f607)),
+    (8, None),
+];
+
+// Whether a number of one byte leaves what follows.
+fn one_byte_is_read() -> bool {
+    let mut buf = ParseBuf(&SEVEN);
+    (buf.eat_i8() == 1) & (buf.len() == 6)
 }
 
 #[test]
 fn numbers_of_both_signs(rt: HostRuntime) {
     let assert = Asserting(&rt);
-    assert.holds(some_numbers(&[1, 2, 0xff, 4, 5, 0xf6, 7]));
+    for (width, number) in &OF_BOTH_SIGNS {
+        assert.holds(of_both_signs(ParseBuf(&SEVEN), *width) == *number);
+    }
+    assert.holds(one_byte_is_read());
 }

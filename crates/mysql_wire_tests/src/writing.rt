@@ -76,37 +76,49 @@ fn room_for(assert: &impl Assert, alloc: Global, len: usize) -> Vec<u8> {
     once_more(assert, first, Vec::with_capacity(alloc, len))
 }
 
-// Puts numbers by their low bytes.
-fn put_low_bytes(out: &mut Vec<u8>) -> bool {
-    out.put_u24_le(0x0403_0201).is_ok()
-        & out.put_u48_le(0x0807_0605_0403_0201).is_ok()
-        & out.put_u56_le(0x0807_0605_0403_0201).is_ok()
-        & out.put_i24_le(-2).is_ok()
-        & out.put_i56_le(-2).is_ok()
+// Puts a number by its low bytes.
+fn put_low_bytes(out: &mut Vec<u8>, row: usize) -> bool {
+    match row {
+        0 => out.put_u24_le(0x0403_0201).is_ok(),
+        1 => out.put_u48_le(0x0807_0605_0403_0201).is_ok(),
+        2 => out.put_u56_le(0x0807_0605_0403_0201).is_ok(),
+        3 => out.put_i24_le(-2).is_ok(),
+        _ => out.put_i56_le(-2).is_ok(),
+    }
 }
 
-// Puts texts after their lengths.
-fn put_texts(out: &mut Vec<u8>) -> bool {
-    out.put_lenenc_str(b"ab").is_ok() & out.put_u8_str(b"c").is_ok() & out.put_u32_str(b"").is_ok()
-}
+// What they are, one after another.
+const LOW_BYTES: [u8; 26] = [
+    1, 2, 3, 1, 2, 3, 4, 5, 6, 1, 2, 3, 4, 5, 6, 7, 0xfe, 0xff, 0xff, 0xfe, 0xff, 0xff, 0xff, 0xff,
+    0xff, 0xff,
+];
 
 #[test]
 fn low_bytes(rt: HostRuntime) {
     let assert = Asserting(&rt);
     let mut out = room_for(&assert, rt.alloc(), 26);
-    assert.holds(put_low_bytes(&mut out));
-    let wanted = [
-        1, 2, 3, 1, 2, 3, 4, 5, 6, 1, 2, 3, 4, 5, 6, 7, 0xfe, 0xff, 0xff, 0xfe, 0xff, 0xff, 0xff,
-        0xff, 0xff, 0xff,
-    ];
-    assert_bytes(&assert, out.as_slice(), &wanted);
+    for row in 0..5 {
+        assert.holds(put_low_bytes(&mut out, row));
+    }
+    assert_bytes(&assert, out.as_slice(), &LOW_BYTES);
+}
+
+// Puts a text after its length.
+fn put_text(out: &mut Vec<u8>, row: usize) -> bool {
+    match row {
+        0 => out.put_lenenc_str(b"ab").is_ok(),
+        1 => out.put_u8_str(b"c").is_ok(),
+        _ => out.put_u32_str(b"").is_ok(),
+    }
 }
 
 #[test]
 fn texts_after_their_lengths(rt: HostRuntime) {
     let assert = Asserting(&rt);
     let mut out = room_for(&assert, rt.alloc(), 9);
-    assert.holds(put_texts(&mut out));
+    for row in 0..3 {
+        assert.holds(put_text(&mut out, row));
+    }
     assert_bytes(
         &assert,
         out.as_slice(),

@@ -1,15 +1,14 @@
 //! All packets of a stream that is handed over in pieces.
 
-ghost use Rattle.std.specs.Prelude.{◌≡◌, ◌<◌, List, OnOk, flat_map, length, ℕ};
-ghost use Rattle.mysql_wire.specs.Codec.{CanGoOn, IsBetween};
+ghost use Rattle.std.specs.Prelude.{◌++◌, [], List, flat_map, ℕ};
+ghost use Rattle.mysql_wire.specs.Codec.{IsBetween};
+ghost use Rattle.mysql_wire.specs.Incoming.{codec_by};
 ghost use Rattle.mysql_wire.specs.Reader.{HasRead, IsAnswer, IsDrained, payloads_of};
 ghost use Rattle.mysql_wire.specs.Stream.Numbering.{OnFrom};
 
-use super::header::PartialHeader;
+use super::reader::PacketReader;
 use super::{PacketCodec, PacketCodecError};
-use bytes::{Buf, BytesMut};
 use std::alloc::Global;
-use std::mem;
 
 /// What [`feed_all`] reads of a stream.
 #[derive(Debug, Drop)]
@@ -20,24 +19,21 @@ pub struct Packets {
     pub fault: Option<PacketCodecError>,
 }
 
-// Hands out each payload that stands whole.
-fn drain<B: Buf>(
-    alloc: Global,
-    codec: &mut PacketCodec,
-    src: &mut B,
-    dst: &mut BytesMut,
+// Takes each payload that the piece makes whole.
+fn drain(
+    reader: &mut PacketReader,
+    piece: &[u8],
     packets: &mut Vec<Vec<u8>>,
 ) -> Result<(), PacketCodecError>
-    requires { CanGoOn codec.old dst.old.items }
-    ensures read { (limit id : ℕ) (bytes : List ℕ) → HasRead limit (OnFrom id) bytes (payloads_of packets.old.items) codec.old (B.unread src.old) dst.old.items
-        → IsDrained limit (OnFrom id) bytes result (payloads_of packets.new.items) codec.new (B.unread src.new) dst.new.items }
-    ensures moved { OnOk result (length (B.unread src.new) < 4) }
+    ensures { (limit id : ℕ) (bytes : List ℕ) → HasRead limit (OnFrom id) bytes (payloads_of packets.old.items) (codec_by reader.old) (reader.old.bytes ++ piece.now) []
+        → IsDrained limit (OnFrom id) bytes result (payloads_of packets.new.items) (codec_by reader.new) reader.new.bytes [] }
 {
+    let mut rest = piece;
     'packets: loop {
-        match codec.decode(src, dst) {
+        match reader.advance(&mut rest) {
             Ok(false) => return Ok(()),
             Ok(true) => {
-                let Ok(packet) = mem::replace(dst, BytesMut::new(alloc)).into_vec() else {
+                let Ok(packet) = reader.take_payload() else {
                     return Err(PacketCodecError::Memory);
                 };
                 if packets.push(packet).is_err() {
@@ -57,23 +53,19 @@ fn drain<B: Buf>(
 /// `PacketsOutOfSync` as the stream's bytes have it; without one nothing or the front of a packet
 /// follows them. Where memory was refused the fault is `Memory`, and the payloads are the stream's first ones.
 /// (MySQL: Client/Server Protocol, "Protocol Basics: MySQL Packets", "Sending More Than 16Mb" and "Sequence ID".)
-pub fn feed_all(alloc: Global, mut codec: PacketCodec, pieces: &[&[u8]]) -> Packets
+pub fn feed_all(alloc: Global, codec: PacketCodec, pieces: &[&[u8]]) -> Packets
     requires { IsBetween codec }
     ensures { IsAnswer codec.limit (OnFrom codec.number) (flat_map (λ piece. piece.now) pieces.now) (payloads_of result.packets.items) result.fault }
 {
-    let _first = codec.seq_id();
-    let mut header = PartialHeader::new();
-    let mut dst = BytesMut::new(alloc);
+    let mut reader = PacketReader::new(alloc, codec.seq_id(), codec.max_allowed_packet);
     let mut packets = Vec::new(alloc);
     'pieces: for piece in pieces {
-        let mut src = header.followed_by(piece);
-        if let Err(fault) = drain(alloc, &mut codec, &mut src, &mut dst, &mut packets) {
+        if let Err(fault) = drain(&mut reader, piece, &mut packets) {
             return Packets {
                 packets,
                 fault: Some(fault),
             };
         }
-        header = PartialHeader::rest_of(&mut src);
     }
     Packets {
         packets,

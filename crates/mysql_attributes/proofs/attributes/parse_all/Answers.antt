@@ -9,7 +9,7 @@ pub returns-in_err-key : goal.returns-in_err-key
 returns-in_err-key c =
     let some = some_bytes (length c.loop-pairs.pairs.0.now) c.is_empty.result c.is_empty.ensures c.loop-pairs-test.true in
     let p = err_from_is_err_and c.from_residual.result c.from_residual.ensures.1 in
-    rw (p.1, p.2) (ends c.in_err-key.field-0.0 (attributes_view c.loop-pairs.all) c.loop-pairs.pairs.0.now (kept_attributes_at c.args.pairs.0.now) some c.in_err-key.ensures c.loop-pairs.invariant)
+    rw (p.1, p.2) (ends c.in_err-key.field-0.0 (attributes_view c.loop-pairs.all) c.loop-pairs.pairs.0.now (kept_attributes_at c.args.pairs.0.now) some (λ _. c.in_err-key.ensures) c.loop-pairs.invariant)
 
 pub loop-pairs-smaller : goal.loop-pairs-smaller
 loop-pairs-smaller c = let e = attribute-shorter c.loop-pairs.pairs.0.now _ c.in_ok-key.ensures in omega arith

@@ -8,7 +8,7 @@ pub returns-in_err-interval : goal.returns-in_err-interval
 returns-in_err-interval c =
     let p = err_from_is_err_and c.from_residual.result c.from_residual.ensures.1 in
     rw (p.1, p.2) (ends interval_at c.in_err-interval.field-0.0 c.loop.intervals.items c.args.count c.loop.counter c.loop.rest.0.now
-    (elements_at interval_at c.args.count c.args.rest.now.0.now) c.loop-test.true c.in_err-interval.ensures.0 c.loop.invariant)
+    (elements_at interval_at c.args.count c.args.rest.now.0.now) c.loop-test.true (λ _. c.in_err-interval.ensures.0) c.loop.invariant)
 
 pub loop-preserved : goal.loop-preserved
 loop-preserved c =

@@ -8,7 +8,7 @@ pub returns-in_err-item : goal.returns-in_err-item
 returns-in_err-item g c =
     let p = err_from_is_err_and c.from_residual.result c.from_residual.ensures.1 in
     rw (p.1, p.2) (ends g.T.IntRepr.read_at c.in_err-item.field-0.0 c.loop.items.items c.args.count c.loop.counter c.loop.rest.0.now
-    (elements_at g.T.IntRepr.read_at c.args.count c.args.rest.now.0.now) c.loop-test.true c.in_err-item.ensures.0 c.loop.invariant)
+    (elements_at g.T.IntRepr.read_at c.args.count c.args.rest.now.0.now) c.loop-test.true (λ _. c.in_err-item.ensures.0) c.loop.invariant)
 
 pub loop-preserved : goal.loop-preserved
 loop-preserved g c =

@@ -1,93 +1,252 @@
-use Rattle.std.proofs.Common.{rules, ◌≡◌, [], Some, Err, ap, sym, subst, ◌∙◌, true, false}
+use Rattle.std.proofs.Common.{rules, arith, ◌≡◌, ◌<◌, ◌++◌, [], length, Some, Ok, Err, refl, ap, sym, subst, ◌∙◌, true, false}
 use Rattle.std.specs.Prelude.{is_err}
 use Rattle.std.proofs.lemmas.List.{nil_from_length}
+use Rattle.mysql_wire.specs.Incoming.{codec_by}
+use Rattle.mysql_replies.specs.declared.fault.ReplyFault.TheVariants as faults
+use Rattle.mysql_replies.specs.declared.state.ReplyState.{ReplyState}
 use Rattle.mysql_replies.specs.Holding.{GoesOnOver}
-use Rattle.mysql_replies.specs.Standings.{held_of, GoesOverNumbered, UnlessMemory, fault_named}
+use Rattle.mysql_replies.specs.Standings.{held_of, held_by, GoesOverNumbered, UnlessMemory, fault_named}
 use Rattle.mysql_replies.specs.Views.{awaited_view}
-use Rattle.mysql_replies.proofs.Receiving.{paused_over, takes_all, goes_on_taken, goes_on_over, taken_goes_on, taken_short, taking_smaller, taking_next, taken_ok, taken_unless, received_waits, rest_waits, paused_waits, refused_goes_on, failed_short}
+use Rattle.mysql_replies.proofs.Receiving.{taking_starts, paused_empty, over_paused, not_empty, elsewhere, waits_plain, piece_bytes, piece_all, piece_goes_on, piece_runs_short, takes_piece, takes_all, goes_on_taken, goes_on_over, taken_goes_on, taken_short, taking_next, taken_ok, taken_unless, received_waits, rest_waits, paused_waits, refused_goes_on, failed_short}
 use Rattle.mysql_replies.proofs.reader.take_packets.Goals as goal
 
-pub returns-then-remaining-eq0-clause-paused : goal.returns-then-remaining-eq0-clause-paused
-returns-then-remaining-eq0-clause-paused g c =
-    let t = c.packets.invariant in
-    let none : (g.B.Buf.unread c.packets.src) ≡ [] = nil_from_length (g.B.Buf.unread c.packets.src) (search rules) in
-    (t.going, paused_over c.framing_laws.ensures c.packets.state c.packets.codec (g.B.Buf.unread c.packets.src) c.packets.dst.items t.nothing_begun (c.is_over.ensures.over c.if-is_over.true) none t.received.read.refused t.received.read.goes_on t.bytes)
-
-pub returns-then-remaining-eq0-clause-took : goal.returns-then-remaining-eq0-clause-took
-returns-then-remaining-eq0-clause-took g c =
-    let t = c.packets.invariant in
-    let none : (g.B.Buf.unread c.packets.src) ≡ [] = nil_from_length (g.B.Buf.unread c.packets.src) (search rules) in
-    let p = paused_over c.framing_laws.ensures c.packets.state c.packets.codec (g.B.Buf.unread c.packets.src) c.packets.dst.items t.nothing_begun (c.is_over.ensures.over c.if-is_over.true) none t.received.read.refused t.received.read.goes_on t.bytes in
-    takes_all c.args.state.now c.packets.state c.args.codec.now c.packets.codec (g.B.Buf.unread c.args.src.now) c.args.dst.now.items (g.B.Buf.unread c.packets.src) c.packets.dst.items t.payloads p.rest t.received c.requires.going t.going t.count p.no_fault p.is_rest
-
-pub returns-then-remaining-eq0-clause-goes_on : goal.returns-then-remaining-eq0-clause-goes_on
-returns-then-remaining-eq0-clause-goes_on g c =
-    let t = c.packets.invariant in
-    goes_on_taken c.framing_laws.ensures c.args.state.now c.packets.state c.args.codec.now c.packets.codec (g.B.Buf.unread c.args.src.now) c.args.dst.now.items (g.B.Buf.unread c.packets.src) c.packets.dst.items t.payloads t.received c.requires.going t.going
-
-pub returns-then-is_over-clause-goes_on : goal.returns-then-is_over-clause-goes_on
-returns-then-is_over-clause-goes_on g c =
-    let t = c.packets.invariant in
-    let over = ap awaited_view (c.is_over.ensures.over c.if-is_over.true) in
-    let begun = t.nothing_begun over in
-    let some : (g.B.Buf.unread c.packets.src) ≡ [] → ⊥ = λ none. absurd (search (rules, none)) in
-    subst (λ f. UnlessMemory {X = Unit {0}} (Err f) (GoesOnOver (held_of c.args.state.now c.args.codec.now (g.B.Buf.unread c.args.src.now) c.args.dst.now.items) [] (held_of c.fail.new.self c.packets.codec (g.B.Buf.unread c.packets.src) c.packets.dst.items))) (sym c.fail.ensures.same)
-    (goes_on_over c.framing_laws.ensures c.args.state.now c.packets.state c.fail.new.self c.args.codec.now c.packets.codec (g.B.Buf.unread c.args.src.now) c.args.dst.now.items (g.B.Buf.unread c.packets.src) c.packets.dst.items t.payloads t.received c.requires.going t.going c.fail.ensures.state over begun.0 begun.1 begun.2 t.bytes some)
-
-pub returns-then-is_err-clause-goes_on : goal.returns-then-is_err-clause-goes_on
-returns-then-is_err-clause-goes_on g c =
-    let h = rw c.in-Ok-true.field-0-test at c.in-Ok-true.ensures.ok in
-    let failed : is_err c.take-taken.result ≡ true = sym c.is_err.ensures.value ∙ c.if-is_err.true in
-    taken_goes_on c.framing_laws.ensures c.args.state.now c.packets.state c.take-taken.new.self c.args.codec.now c.packets.codec c.decode.new.self (g.B.Buf.unread c.args.src.now) c.args.dst.now.items (g.B.Buf.unread c.packets.src) c.packets.dst.items (g.B.Buf.unread c.decode.new.src) c.clear.new.self.items c.decode.new.dst.items c.take-taken.result failed c.packets.invariant c.requires.going h c.clear.ensures.items c.take-taken.ensures.fault
-    (subst (λ p. UnlessMemory c.take-taken.result (GoesOverNumbered c.packets.state p c.take-taken.new.self)) c.as_slice.ensures c.take-taken.ensures.goes_on)
-
-pub returns-then-is_err-clause-short : goal.returns-then-is_err-clause-short
-returns-then-is_err-clause-short g c =
-    taken_short c.args.state.now c.packets.state c.take-taken.new.self c.args.codec.now c.packets.codec c.decode.new.self (g.B.Buf.unread c.args.src.now) c.args.dst.now.items (g.B.Buf.unread c.packets.src) c.packets.dst.items (g.B.Buf.unread c.decode.new.src) c.clear.new.self.items c.take-taken.result c.packets.invariant c.requires.going (c.is_over.ensures.awaiting c.if-is_over.false) c.take-taken.ensures.short
+pub packets-init : goal.packets-init
+packets-init c =
+    let laws = c.framing_laws.ensures in
+    let start = c.args.state.now in
+    let old = c.args.packets.now in
+    let piece = c.args.piece.now in
+    let fed = old.bytes ++ piece in
+    record {
+      taking = taking_starts start (codec_by old) fed [] c.requires.reading c.requires.going c.requires.paused.refused c.requires.paused.can_go_on
+          (piece_bytes laws (codec_by old) old.bytes fed [] piece refl c.requires.paused.bytes (λ i. omega (arith, c.type_inv.piece i))) c.requires.paused.nothing_begun;
+      over = paused_empty laws start (codec_by old) old.bytes [] c.requires.paused;
+    }
 
 pub packets-smaller : goal.packets-smaller
-packets-smaller g c =
-    let h = rw c.in-Ok-true.field-0-test at c.in-Ok-true.ensures.ok in
-    taking_smaller c.framing_laws.ensures c.packets.codec c.decode.new.self (g.B.Buf.unread c.packets.src) c.packets.dst.items (g.B.Buf.unread c.decode.new.src) c.clear.new.self.items c.decode.new.dst.items h c.clear.ensures.items
+packets-smaller c =
+    let less : length c.advance.new.piece.now < length c.packets.rest.now = search rules in
+    less
 
 pub packets-preserved : goal.packets-preserved
-packets-preserved g c =
+packets-preserved c =
+    let laws = c.framing_laws.ensures in
+    let start = c.args.state.now in
+    let old = c.args.packets.now in
+    let piece = c.args.piece.now in
+    let fed = old.bytes ++ piece in
+    let s = c.packets.state in
+    let now = c.packets.packets in
+    let src = now.bytes ++ c.packets.rest.now in
+    let t = c.packets.invariant.taking in
+    let new = c.advance.new.self in
     let h = rw c.in-Ok-true.field-0-test at c.in-Ok-true.ensures.ok in
+    let goes = subst (λ p. UnlessMemory c.take-taken.result (GoesOverNumbered s p c.take-taken.new.self)) c.payload.ensures c.take-taken.ensures.goes_on in
     let passed : is_err c.take-taken.result ≡ false = sym c.is_err.ensures.value ∙ c.if-is_err.false in
     let ok = taken_ok c.take-taken.result passed c.take-taken.ensures.ok in
-    taking_next c.framing_laws.ensures c.args.state.now c.packets.state c.take-taken.new.self c.args.codec.now c.packets.codec c.decode.new.self (g.B.Buf.unread c.args.src.now) c.args.dst.now.items (g.B.Buf.unread c.packets.src) c.packets.dst.items (g.B.Buf.unread c.decode.new.src) c.clear.new.self.items c.decode.new.dst.items c.packets.invariant h c.clear.ensures.items c.take-taken.ensures.reading ok.0 ok.1
-    (taken_unless c.take-taken.result passed (subst (λ p. UnlessMemory c.take-taken.result (GoesOverNumbered c.packets.state p c.take-taken.new.self)) c.as_slice.ensures c.take-taken.ensures.goes_on))
+    let none : new.bytes ≡ [] = search rules in
+    record {
+      taking = taking_next laws start s c.take-taken.new.self (codec_by old) (codec_by now) (codec_by new) fed [] src [] (new.bytes ++ c.advance.new.piece.now) [] new.payload t h refl c.take-taken.ensures.reading ok.0 ok.1
+          (taken_unless c.take-taken.result passed goes);
+      over = λ _. none;
+    }
+
+pub returns-then-is_empty-clause-paused : goal.returns-then-is_empty-clause-paused
+returns-then-is_empty-clause-paused c =
+    let laws = c.framing_laws.ensures in
+    let start = c.args.state.now in
+    let old = c.args.packets.now in
+    let piece = c.args.piece.now in
+    let fed = old.bytes ++ piece in
+    let s = c.packets.state in
+    let now = c.packets.packets in
+    let src = now.bytes ++ c.packets.rest.now in
+    let t = c.packets.invariant.taking in
+    let over = c.is_over.ensures.over c.if-is_over.true in
+    let used : c.packets.rest.now ≡ [] = nil_from_length c.packets.rest.now (search rules) in
+    let p = over_paused laws start s (codec_by old) (codec_by now) fed [] now.bytes c.packets.rest.now [] t over (c.packets.invariant.over (ap awaited_view over)) used in
+    (t.going, p.1)
+
+pub returns-then-is_empty-clause-took : goal.returns-then-is_empty-clause-took
+returns-then-is_empty-clause-took c =
+    let laws = c.framing_laws.ensures in
+    let start = c.args.state.now in
+    let old = c.args.packets.now in
+    let piece = c.args.piece.now in
+    let fed = old.bytes ++ piece in
+    let s = c.packets.state in
+    let now = c.packets.packets in
+    let src = now.bytes ++ c.packets.rest.now in
+    let t = c.packets.invariant.taking in
+    let over = c.is_over.ensures.over c.if-is_over.true in
+    let used : c.packets.rest.now ≡ [] = nil_from_length c.packets.rest.now (search rules) in
+    let p = over_paused laws start s (codec_by old) (codec_by now) fed [] now.bytes c.packets.rest.now [] t over (c.packets.invariant.over (ap awaited_view over)) used in
+    takes_piece laws start (codec_by old) old.bytes fed [] piece _ (Ok tt) refl
+    (takes_all start s (codec_by old) (codec_by now) fed [] now.bytes [] p.0.payloads p.1.rest p.0.received c.requires.going t.going p.0.count p.1.no_fault p.1.is_rest)
+
+pub returns-then-is_empty-clause-goes_on : goal.returns-then-is_empty-clause-goes_on
+returns-then-is_empty-clause-goes_on c =
+    let laws = c.framing_laws.ensures in
+    let start = c.args.state.now in
+    let old = c.args.packets.now in
+    let piece = c.args.piece.now in
+    let fed = old.bytes ++ piece in
+    let s = c.packets.state in
+    let now = c.packets.packets in
+    let src = now.bytes ++ c.packets.rest.now in
+    let t = c.packets.invariant.taking in
+    let over = c.is_over.ensures.over c.if-is_over.true in
+    let used : c.packets.rest.now ≡ [] = nil_from_length c.packets.rest.now (search rules) in
+    let p = over_paused laws start s (codec_by old) (codec_by now) fed [] now.bytes c.packets.rest.now [] t over (c.packets.invariant.over (ap awaited_view over)) used in
+    piece_all laws start (codec_by old) old.bytes fed [] piece _ c.requires.going refl
+    (goes_on_taken laws start s (codec_by old) (codec_by now) fed [] now.bytes [] p.0.payloads p.0.received c.requires.going t.going)
+
+pub returns-then-is_over-clause-goes_on : goal.returns-then-is_over-clause-goes_on
+returns-then-is_over-clause-goes_on c =
+    let laws = c.framing_laws.ensures in
+    let start = c.args.state.now in
+    let old = c.args.packets.now in
+    let piece = c.args.piece.now in
+    let fed = old.bytes ++ piece in
+    let s = c.packets.state in
+    let now = c.packets.packets in
+    let src = now.bytes ++ c.packets.rest.now in
+    let t = c.packets.invariant.taking in
+    let over = c.is_over.ensures.over c.if-is_over.true in
+    let begun = t.nothing_begun (ap awaited_view over) in
+    let kept = c.packets.invariant.over (ap awaited_view over) in
+    let some : src ≡ [] → ⊥ = λ none. not_empty c.packets.rest.now c.is_empty.result c.is_empty.ensures c.if-is_empty.false (ap (λ l. l ++ c.packets.rest.now) (sym kept) ∙ none) in
+    let after = c.fail.new.self in
+    subst (λ f. UnlessMemory {X = Unit {0}} (Err f) (GoesOnOver (held_by start old) piece (held_by after now))) (sym c.fail.ensures.same)
+    (piece_goes_on laws start (codec_by old) old.bytes fed [] piece (held_by after now) (Err faults.AfterEnd) c.requires.going refl
+    (elsewhere (held_of start (codec_by old) fed []) after (held_of after (codec_by now) src []) (held_by after now) (Err faults.AfterEnd) refl (ap (λ (s : ReplyState). s.fault) c.fail.ensures.state) refl refl
+    (goes_on_over laws start s after (codec_by old) (codec_by now) fed [] src [] t.payloads t.received c.requires.going t.going c.fail.ensures.state (ap awaited_view over) begun.0 begun.1 begun.2 t.bytes some)))
+
+pub returns-then-is_err-clause-goes_on : goal.returns-then-is_err-clause-goes_on
+returns-then-is_err-clause-goes_on c =
+    let laws = c.framing_laws.ensures in
+    let start = c.args.state.now in
+    let old = c.args.packets.now in
+    let piece = c.args.piece.now in
+    let fed = old.bytes ++ piece in
+    let s = c.packets.state in
+    let now = c.packets.packets in
+    let src = now.bytes ++ c.packets.rest.now in
+    let t = c.packets.invariant.taking in
+    let new = c.advance.new.self in
+    let h = rw c.in-Ok-true.field-0-test at c.in-Ok-true.ensures.ok in
+    let goes = subst (λ p. UnlessMemory c.take-taken.result (GoesOverNumbered s p c.take-taken.new.self)) c.payload.ensures c.take-taken.ensures.goes_on in
+    let failed : is_err c.take-taken.result ≡ true = sym c.is_err.ensures.value ∙ c.if-is_err.true in
+    let next = c.take-taken.new.self in
+    piece_goes_on laws start (codec_by old) old.bytes fed [] piece (held_by next new) c.take-taken.result c.requires.going refl
+    (elsewhere (held_of start (codec_by old) fed []) next (held_of next (codec_by new) (new.bytes ++ c.advance.new.piece.now) []) (held_by next new) c.take-taken.result failed c.take-taken.ensures.fault refl refl
+    (taken_goes_on laws start s next (codec_by old) (codec_by now) (codec_by new) fed [] src [] (new.bytes ++ c.advance.new.piece.now) [] new.payload c.take-taken.result failed t c.requires.going h refl c.take-taken.ensures.fault goes))
+
+pub returns-then-is_err-clause-short : goal.returns-then-is_err-clause-short
+returns-then-is_err-clause-short c =
+    let laws = c.framing_laws.ensures in
+    let start = c.args.state.now in
+    let old = c.args.packets.now in
+    let piece = c.args.piece.now in
+    let fed = old.bytes ++ piece in
+    let s = c.packets.state in
+    let now = c.packets.packets in
+    let src = now.bytes ++ c.packets.rest.now in
+    let t = c.packets.invariant.taking in
+    let new = c.advance.new.self in
+    piece_runs_short laws start (codec_by old) old.bytes [] piece c.take-taken.result (held_by c.take-taken.new.self new)
+    (taken_short start s c.take-taken.new.self (codec_by old) (codec_by now) (codec_by new) fed [] src [] new.bytes [] c.take-taken.result t c.requires.going (c.is_over.ensures.awaiting c.if-is_over.false) c.take-taken.ensures.short)
 
 pub returns-in-Ok-false-clause-paused : goal.returns-in-Ok-false-clause-paused
-returns-in-Ok-false-clause-paused g c =
-    let t = c.packets.invariant in
-    let w = rw c.in-Ok-false.field-0-test at c.in-Ok-false.ensures.ok in
-    (t.going, paused_waits c.args.state.now c.packets.state c.args.codec.now c.packets.codec c.decode.new.self (g.B.Buf.unread c.args.src.now) c.args.dst.now.items (g.B.Buf.unread c.packets.src) c.packets.dst.items (g.B.Buf.unread c.decode.new.src) c.decode.new.dst.items t w (c.is_over.ensures.awaiting c.if-is_over.false))
+returns-in-Ok-false-clause-paused c =
+    let laws = c.framing_laws.ensures in
+    let start = c.args.state.now in
+    let old = c.args.packets.now in
+    let piece = c.args.piece.now in
+    let fed = old.bytes ++ piece in
+    let s = c.packets.state in
+    let now = c.packets.packets in
+    let src = now.bytes ++ c.packets.rest.now in
+    let t = c.packets.invariant.taking in
+    let new = c.advance.new.self in
+    let w0 = rw c.in-Ok-false.field-0-test at c.in-Ok-false.ensures.ok in
+    let used : c.advance.new.piece.now ≡ [] = search rules in
+    let none : new.payload ≡ [] = search rules in
+    let w = waits_plain (codec_by now) (codec_by new) src [] new.bytes c.advance.new.piece.now new.payload w0 used none in
+    (t.going, paused_waits start s (codec_by old) (codec_by now) (codec_by new) fed [] src [] new.bytes [] t w (c.is_over.ensures.awaiting c.if-is_over.false))
 
 pub returns-in-Ok-false-clause-took : goal.returns-in-Ok-false-clause-took
-returns-in-Ok-false-clause-took g c =
-    let t = c.packets.invariant in
-    let w = rw c.in-Ok-false.field-0-test at c.in-Ok-false.ensures.ok in
-    let r = received_waits c.framing_laws.ensures _ _ _ _ t.payloads c.packets.state c.packets.codec c.decode.new.self (g.B.Buf.unread c.packets.src) c.packets.dst.items (g.B.Buf.unread c.decode.new.src) c.decode.new.dst.items t.received w in
-    takes_all c.args.state.now c.packets.state c.args.codec.now c.decode.new.self (g.B.Buf.unread c.args.src.now) c.args.dst.now.items (g.B.Buf.unread c.decode.new.src) c.decode.new.dst.items t.payloads w.rest r c.requires.going t.going t.count w.no_fault
-    (rest_waits c.packets.codec c.decode.new.self (g.B.Buf.unread c.packets.src) c.packets.dst.items (g.B.Buf.unread c.decode.new.src) c.decode.new.dst.items w)
+returns-in-Ok-false-clause-took c =
+    let laws = c.framing_laws.ensures in
+    let start = c.args.state.now in
+    let old = c.args.packets.now in
+    let piece = c.args.piece.now in
+    let fed = old.bytes ++ piece in
+    let s = c.packets.state in
+    let now = c.packets.packets in
+    let src = now.bytes ++ c.packets.rest.now in
+    let t = c.packets.invariant.taking in
+    let new = c.advance.new.self in
+    let w0 = rw c.in-Ok-false.field-0-test at c.in-Ok-false.ensures.ok in
+    let used : c.advance.new.piece.now ≡ [] = search rules in
+    let none : new.payload ≡ [] = search rules in
+    let w = waits_plain (codec_by now) (codec_by new) src [] new.bytes c.advance.new.piece.now new.payload w0 used none in
+    let r = received_waits laws _ _ _ _ t.payloads s (codec_by now) (codec_by new) src [] new.bytes [] t.received w in
+    takes_piece laws start (codec_by old) old.bytes fed [] piece _ (Ok tt) refl
+    (takes_all start s (codec_by old) (codec_by new) fed [] new.bytes [] t.payloads w.rest r c.requires.going t.going t.count w.no_fault (rest_waits (codec_by now) (codec_by new) src [] new.bytes [] w))
 
 pub returns-in-Ok-false-clause-goes_on : goal.returns-in-Ok-false-clause-goes_on
-returns-in-Ok-false-clause-goes_on g c =
-    let t = c.packets.invariant in
-    let w = rw c.in-Ok-false.field-0-test at c.in-Ok-false.ensures.ok in
-    let r = received_waits c.framing_laws.ensures _ _ _ _ t.payloads c.packets.state c.packets.codec c.decode.new.self (g.B.Buf.unread c.packets.src) c.packets.dst.items (g.B.Buf.unread c.decode.new.src) c.decode.new.dst.items t.received w in
-    goes_on_taken c.framing_laws.ensures c.args.state.now c.packets.state c.args.codec.now c.decode.new.self (g.B.Buf.unread c.args.src.now) c.args.dst.now.items (g.B.Buf.unread c.decode.new.src) c.decode.new.dst.items t.payloads r c.requires.going t.going
+returns-in-Ok-false-clause-goes_on c =
+    let laws = c.framing_laws.ensures in
+    let start = c.args.state.now in
+    let old = c.args.packets.now in
+    let piece = c.args.piece.now in
+    let fed = old.bytes ++ piece in
+    let s = c.packets.state in
+    let now = c.packets.packets in
+    let src = now.bytes ++ c.packets.rest.now in
+    let t = c.packets.invariant.taking in
+    let new = c.advance.new.self in
+    let w0 = rw c.in-Ok-false.field-0-test at c.in-Ok-false.ensures.ok in
+    let used : c.advance.new.piece.now ≡ [] = search rules in
+    let none : new.payload ≡ [] = search rules in
+    let w = waits_plain (codec_by now) (codec_by new) src [] new.bytes c.advance.new.piece.now new.payload w0 used none in
+    let r = received_waits laws _ _ _ _ t.payloads s (codec_by now) (codec_by new) src [] new.bytes [] t.received w in
+    piece_all laws start (codec_by old) old.bytes fed [] piece _ c.requires.going refl
+    (goes_on_taken laws start s (codec_by old) (codec_by new) fed [] new.bytes [] t.payloads r c.requires.going t.going)
 
 pub returns-in-Err-clause-goes_on : goal.returns-in-Err-clause-goes_on
-returns-in-Err-clause-goes_on g c =
-    let t = c.packets.invariant in
+returns-in-Err-clause-goes_on c =
+    let laws = c.framing_laws.ensures in
+    let start = c.args.state.now in
+    let old = c.args.packets.now in
+    let piece = c.args.piece.now in
+    let fed = old.bytes ++ piece in
+    let s = c.packets.state in
+    let now = c.packets.packets in
+    let src = now.bytes ++ c.packets.rest.now in
+    let t = c.packets.invariant.taking in
+    let new = c.advance.new.self in
     let w = c.in-Err.ensures.refused in
     let named = c.fail-in-Err.ensures.same ∙ c.fault_from.ensures ∙ ap fault_named w.answered in
-    let is = c.fail-in-Err.ensures.state ∙ ap (λ f. record c.packets.state { fault = Some f }) (sym c.fail-in-Err.ensures.same) in
-    refused_goes_on c.framing_laws.ensures c.args.state.now c.packets.state c.fail-in-Err.new.self c.args.codec.now c.packets.codec c.decode.new.self (g.B.Buf.unread c.args.src.now) c.args.dst.now.items (g.B.Buf.unread c.packets.src) c.packets.dst.items (g.B.Buf.unread c.decode.new.src) c.decode.new.dst.items w.refusal c.fail-in-Err.result t c.requires.going (c.is_over.ensures.awaiting c.if-is_over.false) named is (w.due t.received.read.refused)
+    let is = c.fail-in-Err.ensures.state ∙ ap (λ f. record s { fault = Some f }) (sym c.fail-in-Err.ensures.same) in
+    let after = c.fail-in-Err.new.self in
+    piece_goes_on laws start (codec_by old) old.bytes fed [] piece (held_by after new) (Err c.fail-in-Err.result) c.requires.going refl
+    (refused_goes_on laws start s after (codec_by old) (codec_by now) (codec_by new) fed [] src [] new.bytes [] w.refusal c.fail-in-Err.result t c.requires.going (c.is_over.ensures.awaiting c.if-is_over.false) named is (w.due t.received.read.refused))
 
 pub returns-in-Err-clause-short : goal.returns-in-Err-clause-short
-returns-in-Err-clause-short g c =
-    let is = c.fail-in-Err.ensures.state ∙ ap (λ f. record c.packets.state { fault = Some f }) (sym c.fail-in-Err.ensures.same) in
-    failed_short c.args.state.now c.packets.state c.fail-in-Err.new.self c.args.codec.now c.packets.codec c.decode.new.self (g.B.Buf.unread c.args.src.now) c.args.dst.now.items (g.B.Buf.unread c.packets.src) c.packets.dst.items (g.B.Buf.unread c.decode.new.src) c.decode.new.dst.items c.fail-in-Err.result c.packets.invariant c.requires.going (c.is_over.ensures.awaiting c.if-is_over.false) is
+returns-in-Err-clause-short c =
+    let laws = c.framing_laws.ensures in
+    let start = c.args.state.now in
+    let old = c.args.packets.now in
+    let piece = c.args.piece.now in
+    let fed = old.bytes ++ piece in
+    let s = c.packets.state in
+    let now = c.packets.packets in
+    let src = now.bytes ++ c.packets.rest.now in
+    let t = c.packets.invariant.taking in
+    let new = c.advance.new.self in
+    let is = c.fail-in-Err.ensures.state ∙ ap (λ f. record s { fault = Some f }) (sym c.fail-in-Err.ensures.same) in
+    let after = c.fail-in-Err.new.self in
+    piece_runs_short laws start (codec_by old) old.bytes [] piece (Err c.fail-in-Err.result) (held_by after new)
+    (failed_short start s after (codec_by old) (codec_by now) (codec_by new) fed [] src [] new.bytes [] c.fail-in-Err.result t c.requires.going (c.is_over.ensures.awaiting c.if-is_over.false) is)

@@ -1,5 +1,5 @@
 use Rattle.std.proofs.Common.{◌∷◌, refl, ap}
-use Rattle.mysql_packets.specs.Views.{okay_view}
+use Rattle.mysql_packets.specs.Views.{ok_packet_view}
 use Rattle.mysql_replies.specs.declared.awaited.Awaited.TheVariants as awaiting
 use Rattle.mysql_replies.specs.Grammar.{eof, result_set}
 use Rattle.mysql_replies.specs.Reply as reply
@@ -15,6 +15,6 @@ returns-in-Err c =
 pub returns : goal.returns
 returns c = (
   step_awaits c.args.context c.args.payload.now (λ z. result_set c.args.context 0 (column_views c.args.these.items) (c.args.payload.now ∷ z)) (reply.Rows (column_views c.args.these.items) (row_views c.new-rows.result.items))
-      (eof_leads c.args.context (column_views c.args.these.items) c.args.payload.now (okay_view c.in-Ok.eof) (row_views c.new-rows.result.items) c.requires.no_report c.requires.settled c.in-Ok.ensures (ap row_views c.new-rows.ensures.items)),
+      (eof_leads c.args.context (column_views c.args.these.items) c.args.payload.now (ok_packet_view c.in-Ok.eof) (row_views c.new-rows.result.items) c.requires.no_report c.requires.settled c.in-Ok.ensures (ap row_views c.new-rows.ensures.items)),
   tt,
 )

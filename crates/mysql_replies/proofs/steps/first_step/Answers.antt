@@ -1,6 +1,6 @@
 use Rattle.std.proofs.Common.{[], ◌∷◌, refl, ap, sym, ◌∙◌, false, if◌then◌else◌}
 use Rattle.mysql_packets.specs.Packets.{more_results_exist}
-use Rattle.mysql_packets.specs.Views.{okay_view, server_fault_view}
+use Rattle.mysql_packets.specs.Views.{ok_packet_view, err_packet_view}
 use Rattle.mysql_replies.specs.declared.awaited.Awaited.TheVariants as awaiting
 use Rattle.mysql_replies.specs.Grammar.{OkResult, ErrorResult, FileResult, one_result, opening, result_set}
 use Rattle.mysql_replies.specs.Reply as reply
@@ -10,12 +10,12 @@ use Rattle.mysql_replies.proofs.steps.first_step.Goals as goal
 
 pub returns-in-Ok-Ok : goal.returns-in-Ok-Ok
 returns-in-Ok-Ok c =
-    step_stands c.args.context c.args.payload.now (λ z. one_result c.args.context (c.args.payload.now ∷ z)) (OkResult (okay_view c.in-Ok-Ok.ok) ∷ []) (more_results_exist (okay_view c.in-Ok-Ok.ok).status) (awaited_view c.awaited_after-next.result) (c.awaited_after-next.ensures ∙ ap (λ status. if more_results_exist status then reply.First else reply.Nothing) c.status_flags.ensures)
+    step_stands c.args.context c.args.payload.now (λ z. one_result c.args.context (c.args.payload.now ∷ z)) (OkResult (ok_packet_view c.in-Ok-Ok.ok) ∷ []) (more_results_exist (ok_packet_view c.in-Ok-Ok.ok).status_flags) (awaited_view c.awaited_after-next.result) (c.awaited_after-next.ensures ∙ ap (λ status. if more_results_exist status then reply.First else reply.Nothing) c.status_flags.ensures)
     (first_found c.args.context c.args.payload.now _ c.requires.no_report (rw c.in-Ok-Ok.field-0-is at c.in-Ok-Ok.ensures))
 
 pub returns-in-Ok-Error : goal.returns-in-Ok-Error
 returns-in-Ok-Error c =
-    step_stands c.args.context c.args.payload.now (λ z. one_result c.args.context (c.args.payload.now ∷ z)) (ErrorResult (server_fault_view c.in-Ok-Error.error) ∷ []) false reply.Nothing refl
+    step_stands c.args.context c.args.payload.now (λ z. one_result c.args.context (c.args.payload.now ∷ z)) (ErrorResult (err_packet_view c.in-Ok-Error.error) ∷ []) false reply.Nothing refl
     (first_found c.args.context c.args.payload.now _ c.requires.no_report (rw c.in-Ok-Error.field-0-is at c.in-Ok-Error.ensures))
 
 pub returns-in-Ok-File : goal.returns-in-Ok-File

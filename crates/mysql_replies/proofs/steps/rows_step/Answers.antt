@@ -1,7 +1,7 @@
 use Rattle.std.proofs.Common.{◌≡◌, [], ◌∷◌, ◌++◌, Some, None, Ok, refl, ap, sym, subst, ◌∙◌, false, if◌then◌else◌}
 use Rattle.std.proofs.lemmas.List.{map_push}
 use Rattle.mysql_packets.specs.Packets.{more_results_exist}
-use Rattle.mysql_packets.specs.Views.{okay_view, server_fault_view}
+use Rattle.mysql_packets.specs.Views.{ok_packet_view, err_packet_view}
 use Rattle.mysql_replies.specs.declared.awaited.Awaited.TheVariants as awaiting
 use Rattle.mysql_replies.specs.Grammar.{RowsResult, ErrorResult, TerminatorLine, ErrorLine, line, rows}
 use Rattle.mysql_replies.specs.Reply as reply
@@ -19,13 +19,13 @@ returns-in-Ok-Row c =
 
 pub returns-in-Ok-Terminator : goal.returns-in-Ok-Terminator
 returns-in-Ok-Terminator c =
-    step_stands c.args.context c.args.payload.now (λ z. rows c.args.context (column_views c.args.columns.items) (row_views c.args.rows.items) (c.args.payload.now ∷ z)) (RowsResult (column_views c.args.columns.items) (row_views c.args.rows.items) (Some (okay_view c.in-Ok-Terminator.ok)) ∷ []) (more_results_exist (okay_view c.in-Ok-Terminator.ok).status) (awaited_view c.awaited_after-next.result) (c.awaited_after-next.ensures ∙ ap (λ status. if more_results_exist status then reply.First else reply.Nothing) c.status_flags.ensures)
-    (rows_are c.args.context (column_views c.args.columns.items) (row_views c.args.rows.items) c.args.payload.now (Ok (TerminatorLine (okay_view c.in-Ok-Terminator.ok))) c.requires.no_report (ap (λ xs. line c.args.context (column_views xs) c.args.payload.now) (sym c.deref.ensures.value) ∙ (rw c.in-Ok-Terminator.field-0-is at c.in-Ok-Terminator.ensures)))
+    step_stands c.args.context c.args.payload.now (λ z. rows c.args.context (column_views c.args.columns.items) (row_views c.args.rows.items) (c.args.payload.now ∷ z)) (RowsResult (column_views c.args.columns.items) (row_views c.args.rows.items) (Some (ok_packet_view c.in-Ok-Terminator.ok)) ∷ []) (more_results_exist (ok_packet_view c.in-Ok-Terminator.ok).status_flags) (awaited_view c.awaited_after-next.result) (c.awaited_after-next.ensures ∙ ap (λ status. if more_results_exist status then reply.First else reply.Nothing) c.status_flags.ensures)
+    (rows_are c.args.context (column_views c.args.columns.items) (row_views c.args.rows.items) c.args.payload.now (Ok (TerminatorLine (ok_packet_view c.in-Ok-Terminator.ok))) c.requires.no_report (ap (λ xs. line c.args.context (column_views xs) c.args.payload.now) (sym c.deref.ensures.value) ∙ (rw c.in-Ok-Terminator.field-0-is at c.in-Ok-Terminator.ensures)))
 
 pub returns-in-Ok-Error : goal.returns-in-Ok-Error
 returns-in-Ok-Error c =
-    step_stands c.args.context c.args.payload.now (λ z. rows c.args.context (column_views c.args.columns.items) (row_views c.args.rows.items) (c.args.payload.now ∷ z)) (RowsResult (column_views c.args.columns.items) (row_views c.args.rows.items) None ∷ ErrorResult (server_fault_view c.in-Ok-Error.error) ∷ []) false reply.Nothing refl
-    (rows_are c.args.context (column_views c.args.columns.items) (row_views c.args.rows.items) c.args.payload.now (Ok (ErrorLine (server_fault_view c.in-Ok-Error.error))) c.requires.no_report (ap (λ xs. line c.args.context (column_views xs) c.args.payload.now) (sym c.deref.ensures.value) ∙ (rw c.in-Ok-Error.field-0-is at c.in-Ok-Error.ensures)))
+    step_stands c.args.context c.args.payload.now (λ z. rows c.args.context (column_views c.args.columns.items) (row_views c.args.rows.items) (c.args.payload.now ∷ z)) (RowsResult (column_views c.args.columns.items) (row_views c.args.rows.items) None ∷ ErrorResult (err_packet_view c.in-Ok-Error.error) ∷ []) false reply.Nothing refl
+    (rows_are c.args.context (column_views c.args.columns.items) (row_views c.args.rows.items) c.args.payload.now (Ok (ErrorLine (err_packet_view c.in-Ok-Error.error))) c.requires.no_report (ap (λ xs. line c.args.context (column_views xs) c.args.payload.now) (sym c.deref.ensures.value) ∙ (rw c.in-Ok-Error.field-0-is at c.in-Ok-Error.ensures)))
 
 pub returns-in-Err : goal.returns-in-Err
 returns-in-Err c =

@@ -1,7 +1,7 @@
 use Rattle.std.proofs.Common.{◌≡◌, [], ◌∷◌, ◌++◌, Err, refl, sym, subst, ◌+◌}
 use Rattle.std.specs.Prelude.{map}
 use Rattle.std.proofs.lemmas.List.{map_push}
-use Rattle.mysql_packets.specs.Views.{report_view}
+use Rattle.mysql_packets.specs.Views.{progress_report_view}
 use Rattle.mysql_replies.specs.Standings.{UnlessMemory, GoesOver}
 use Rattle.mysql_replies.proofs.Taking.{report_failed, report_went}
 use Rattle.mysql_replies.proofs.state.ReplyState.take_report.Goals as goal
@@ -13,5 +13,5 @@ returns-in-Err-clause-goes_on c =
 
 pub returns-clause-goes_on : goal.returns-clause-goes_on
 returns-clause-goes_on c =
-    let pushed : map report_view c.push.new.self.items ≡ map report_view c.args.self.now.progress.items ++ report_view c.in-Ok.report ∷ [] = rw (c.push.ensures.items, c.if-is_err.ensures.negation) (map_push report_view c.args.self.now.progress.items c.in-Ok.report) in
-    report_went c.args.self.now (record c.args.self.now { progress = c.push.new.self; count = c.args.self.now.count + 1 }) c.args.payload.now (report_view c.in-Ok.report) c.requires.going refl pushed c.requires.report c.requires.reading.settled c.requires.awaiting c.in-Ok.ensures
+    let pushed : map progress_report_view c.push.new.self.items ≡ map progress_report_view c.args.self.now.progress.items ++ progress_report_view c.in-Ok.report ∷ [] = rw (c.push.ensures.items, c.if-is_err.ensures.negation) (map_push progress_report_view c.args.self.now.progress.items c.in-Ok.report) in
+    report_went c.args.self.now (record c.args.self.now { progress = c.push.new.self; count = c.args.self.now.count + 1 }) c.args.payload.now (progress_report_view c.in-Ok.report) c.requires.going refl pushed c.requires.report c.requires.reading.settled c.requires.awaiting c.in-Ok.ensures

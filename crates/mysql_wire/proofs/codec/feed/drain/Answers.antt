@@ -1,46 +1,43 @@
-use Rattle.std.proofs.Common.{rules, ◌≡◌, ◌++◌, ◌∙◌, ap, [], ◌∷◌}
+use Rattle.std.proofs.Common.{rules, ◌≡◌, ◌<◌, ◌++◌, ◌∙◌, ap, [], ◌∷◌, length}
 use Rattle.std.proofs.lemmas.List.{map_push}
 use Rattle.mysql_wire.specs.Stream.Numbering.{OnFrom}
 use Rattle.mysql_wire.specs.Reader.{payloads_of}
 use Rattle.mysql_wire.specs.declared.codec.Refusal.TheVariants as refusals
-use Rattle.mysql_wire.proofs.Reading.{refuses, waits, takes, handed_smaller, between_goes_on}
+use Rattle.mysql_wire.proofs.Incoming.{takes_on, waits_on}
+use Rattle.mysql_wire.proofs.Reading.{refuses}
 use Rattle.mysql_wire.proofs.codec.feed.drain.Goals as goal
 
-pub returns-in_default-clause-read : goal.returns-in_default-clause-read
-returns-in_default-clause-read g c = λ limit id bytes r. refuses limit (OnFrom id) bytes _ _ _ _ refusals.Memory (c.packets.invariant.read limit id bytes r) tt
+pub returns-in_default : goal.returns-in_default
+returns-in_default c = λ limit id bytes r. refuses limit (OnFrom id) bytes _ _ _ _ refusals.Memory (c.packets.invariant limit id bytes r) tt
 
-pub returns-then-is_err-clause-read : goal.returns-then-is_err-clause-read
-returns-then-is_err-clause-read g c =
+pub returns-then-is_err : goal.returns-then-is_err
+returns-then-is_err c =
     let same : c.push.new.self.items ≡ c.packets.packets.items = search rules in
-    λ limit id bytes r. rw same (refuses limit (OnFrom id) bytes _ _ _ _ refusals.Memory (c.packets.invariant.read limit id bytes r) tt)
+    λ limit id bytes r. rw same (refuses limit (OnFrom id) bytes _ _ _ _ refusals.Memory (c.packets.invariant limit id bytes r) tt)
 
 pub packets-smaller : goal.packets-smaller
-packets-smaller g c =
-    let h = rw c.in-Ok-true.field-0-test at c.in-Ok-true.ensures.ok in
-    let empty : c.replace.new.dest.items ≡ [] = search rules in
-    handed_smaller c.packets.codec (g.B.Buf.unread c.packets.src) c.packets.dst.items c.decode.new.self (g.B.Buf.unread c.decode.new.src) c.decode.new.dst.items c.replace.new.dest.items h empty
+packets-smaller c =
+    let less : length c.advance.new.piece.now < length c.packets.rest.now = search rules in
+    less
 
 pub packets-preserved : goal.packets-preserved
-packets-preserved g c =
+packets-preserved c =
     let h = rw c.in-Ok-true.field-0-test at c.in-Ok-true.ensures.ok in
-    let empty : c.replace.new.dest.items ≡ [] = search rules in
-    let packet : c.in-Ok.packet.items ≡ c.decode.new.dst.items = search rules in
     let pushed : c.push.new.self.items ≡ c.packets.packets.items ++ c.in-Ok.packet ∷ [] = search rules in
-    let payloads : payloads_of c.push.new.self.items ≡ payloads_of c.packets.packets.items ++ c.decode.new.dst.items ∷ [] =
-    ap payloads_of pushed ∙ map_push (λ packet. packet.items) c.packets.packets.items c.in-Ok.packet ∙ ap (λ k. payloads_of c.packets.packets.items ++ k ∷ []) packet in
-    record {
-      goes_on = between_goes_on c.decode.new.self c.replace.new.dest.items h.between.0 empty;
-      read = λ limit id bytes r. rw (payloads, empty) (takes limit id bytes _ _ _ _ _ _ _ (c.packets.invariant.read limit id bytes r) h);
-    }
+    let payloads : payloads_of c.push.new.self.items ≡ payloads_of c.packets.packets.items ++ c.advance.new.self.payload ∷ [] =
+    ap payloads_of pushed ∙ map_push (λ packet. packet.items) c.packets.packets.items c.in-Ok.packet ∙ ap (λ k. payloads_of c.packets.packets.items ++ k ∷ []) c.in-Ok.ensures.ok in
+    λ limit id bytes r. rw payloads (takes_on limit id bytes _ c.packets.reader c.advance.new.self c.take_payload.new.self c.packets.rest.now c.advance.new.piece.now (c.packets.invariant limit id bytes r) h c.in-Ok.ensures.taken)
 
-pub returns-in-Ok-false-clause-read : goal.returns-in-Ok-false-clause-read
-returns-in-Ok-false-clause-read g c =
+pub returns-in-Ok-false : goal.returns-in-Ok-false
+returns-in-Ok-false c =
     let w = rw c.in-Ok-false.field-0-test at c.in-Ok-false.ensures.ok in
-    λ limit id bytes r. waits limit (OnFrom id) bytes _ _ _ _ _ _ _ (c.packets.invariant.read limit id bytes r) w
+    let used : c.advance.new.piece.now ≡ [] = search rules in
+    let none : c.advance.new.self.payload ≡ [] = search rules in
+    λ limit id bytes r. waits_on limit id bytes _ c.packets.reader c.advance.new.self c.packets.rest.now c.advance.new.piece.now (c.packets.invariant limit id bytes r) w used none
 
-pub returns-in-Err-clause-read : goal.returns-in-Err-clause-read
-returns-in-Err-clause-read g c =
+pub returns-in-Err : goal.returns-in-Err
+returns-in-Err c =
     let w = c.in-Err.ensures.refused in
     λ limit id bytes r.
-    let now = c.packets.invariant.read limit id bytes r in
+    let now = c.packets.invariant limit id bytes r in
     rw w.answered (refuses limit (OnFrom id) bytes _ _ _ _ w.refusal now (w.due now.refused))

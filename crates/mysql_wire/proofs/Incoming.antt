@@ -1,0 +1,326 @@
+-- The steps of a reader of packets, from its codec's to what it holds.
+use Rattle.std.proofs.Common.{◌≡◌, ℕ, zero, suc, ◌+◌, ◌-◌, ◌*◌, ◌<◌, ◌≤◌, Bool, true, false, List, [], ◌∷◌, ◌++◌, length, take, drop, refl, ap, sym, ◌∙◌, subst, append_assoc, arith, inl, inr, length-append, length-take, drop-drop}
+use Rattle.std.specs.Prelude.{Option, Some, None, IfSome, Result, Ok, Err, ◌==◌, ◌||◌, not}
+use Rattle.std.proofs.lemmas.List.{take_all, take_at, drop_at, take-append-drop, append-nil, nil_from_length}
+use Rattle.std.proofs.lemmas.Bool.{cases_lt, ne_eqb}
+use Rattle.mysql_wire.specs.Framing.{chunks, framing, number_after}
+use Rattle.mysql_wire.specs.Stream.{Rest, IsRest}
+use Rattle.mysql_wire.specs.Stream.Rest.{Empty, TooLarge, OutOfSync}
+use Rattle.mysql_wire.specs.Codec.{Begun, Codec, codec_at, IsOfPacket, HandsOut, Waits, IsDue, RefusesBy, held, begun_bytes, packet_number, whole_chunks, error_of}
+use Rattle.mysql_wire.specs.Incoming.{Incoming, ReadsOn, codec_by, incoming_at}
+use Rattle.mysql_wire.specs.Reader.{HasRead, IsAnswer}
+use Rattle.mysql_wire.specs.Stream.Numbering.{OnFrom}
+use Rattle.mysql_wire.specs.Kept.{unfinished, handed_out, bytes_of, incoming_of, Stands, IsKept}
+use Rattle.mysql_wire.specs.declared.codec.reader.PacketReader.TheInside.{Inside}
+use Rattle.mysql_wire.specs.declared.codec.PacketCodecError.{PacketCodecError}
+use Rattle.mysql_wire.specs.declared.codec.Refusal.{Refusal}
+use Rattle.mysql_wire.specs.declared.codec.Refusal.TheVariants as refusals
+use Rattle.mysql_wire.proofs.Chunks.{chunks-zero, chunks_first, length-chunk}
+use Rattle.mysql_wire.proofs.Unique.{framing_no_rest}
+use Rattle.mysql_wire.proofs.GoingOn.{empty_rest}
+use Rattle.mysql_wire.proofs.Reading.{held_more, held_between, between_goes_on, starts, takes, waits as waits_at}
+
+-- what follows in one of two ways to cut a list
+behind : (front piece a b : List ℕ) → front ++ piece ≡ a ++ b → length b ≤ length piece → drop (length piece - length b) piece ≡ b
+behind front piece a b e few =
+    let k = length piece - length b in
+    let total : length front + length piece ≡ length a + length b = omega (arith, ap length e, length-append front piece, length-append a b) in
+    ap (drop k) (sym (drop_at front piece (length front) refl)) ∙ drop-drop k (length front) (front ++ piece) ∙ ap (drop (length front + k)) e
+    ∙ drop_at a b (length front + k) (omega arith)
+
+-- what comes first in the other
+before : (front piece a b : List ℕ) → front ++ piece ≡ a ++ b → length piece ≤ length b → front ≡ a ++ take (length b - length piece) b
+before front piece a b e more =
+    let k = length b - length piece in
+    let total : length front + length piece ≡ length a + length b = omega (arith, ap length e, length-append front piece, length-append a b) in
+    sym (take_at front piece (length front) refl)
+    ∙ ap (take (length front)) (e ∙ ap (λ l. a ++ l) (sym (take-append-drop k b)) ∙ sym (append_assoc a (take k b) (drop k b)))
+    ∙ take_at (a ++ take k b) (drop k b) (length front) (omega (arith, length-append a (take k b), length-take k b))
+
+-- a payload that did not stand whole before a piece ends with bytes of the piece
+pub uses_piece : (codec : Codec) (header dst piece : List ℕ) (number : ℕ) (bytes : List ℕ) (new : Codec) (left payload : List ℕ) → Stands codec header dst number bytes →
+    HandsOut codec (header ++ piece) dst new left payload → (length left < length piece) × (drop (length piece - length left) piece ≡ left)
+uses_piece codec header dst piece number bytes new left payload s h =
+    let e : bytes ++ piece ≡ framing payload number ++ left =
+    ap (λ k. k ++ piece) (sym s.held_is) ∙ sym (held_more codec header dst piece) ∙ h.framed ∙ ap (λ k. framing payload k ++ left) s.number_is in
+    elim (cases_lt (length left) (length piece)) [
+      | inl few ↦ (few, behind bytes piece (framing payload number) left e (omega arith))
+      | inr more ↦ absurd (framing_no_rest codec.limit number payload (take (length left - length piece) left) bytes s.rest h.within (before bytes piece (framing payload number) left e more) s.is_rest)
+    ]
+
+-- the same where the piece is cut there
+pub cut_piece : (codec : Codec) (header dst piece src : List ℕ) (number : ℕ) (bytes : List ℕ) (new : Codec) (left payload : List ℕ) (n : ℕ) → src ≡ header ++ piece → Stands codec header dst number bytes →
+    HandsOut codec src dst new left payload → n ≡ length left →
+    (n ≤ length piece) × HandsOut codec (header ++ piece) dst new (take (length piece - (length piece - n)) (drop (length piece - n) piece)) payload
+    × (length (take (length piece - (length piece - n)) (drop (length piece - n) piece)) < length piece)
+cut_piece codec header dst piece src number bytes new left payload n joined s h e =
+    let here = subst (λ l. HandsOut codec l dst new left payload) joined h in
+    let u = uses_piece codec header dst piece number bytes new left payload s here in
+    let few : n ≤ length piece = omega (arith, e, u.0) in
+    let whole : take (length piece - (length piece - n)) (drop (length piece - n) piece) ≡ left =
+    ap (λ k. take (length piece - (length piece - n)) (drop (length piece - k) piece)) e ∙ ap (take (length piece - (length piece - n))) u.1 ∙ take_all (length piece - (length piece - n)) left (omega arith) in
+    (few, subst (λ l. HandsOut codec (header ++ piece) dst new l payload) (sym whole) here, subst (λ l. length l < length piece) (sym whole) u.0)
+
+-- a codec that answered otherwise had refused nothing
+pub not_refused : (o : Option Refusal) (r : Result Bool PacketCodecError) (whole : Bool) (Q : Refusal → Type 0) → ((x : Refusal) → Q x → r ≡ Err (error_of x)) → IfSome o Q → r ≡ Ok whole → o ≡ None
+not_refused None r whole Q is h e = refl
+not_refused (Some x) r whole Q is h e = absurd (let never : Err (error_of x) ≡ Ok whole = sym (is x h) ∙ e in cc)
+
+-- where nothing is held, no byte of a packet is
+held_nothing : (codec : Codec) (src dst : List ℕ) → IsOfPacket codec.limit codec.begun dst → held codec src dst ≡ [] → dst ≡ []
+unfolding held
+held_nothing codec src dst fits none = by codec.begun fits none
+  where
+    front : List ℕ
+    front = chunks dst (packet_number codec dst) (whole_chunks dst)
+
+    by_count : (n : ℕ) → whole_chunks dst ≡ n → IsOfPacket codec.limit None dst → front ++ ([] ++ src) ≡ [] → dst ≡ []
+    by_count zero is fits none = nil_from_length dst (omega (arith, is, fits.1))
+    by_count (suc n) is fits none =
+        let e = ap (λ k. chunks dst (packet_number codec dst) k ++ ([] ++ src)) (sym is) ∙ none in
+        absurd (omega (arith, ap length (sym (chunks_first dst (packet_number codec dst) n src) ∙ e), length-chunk (packet_number codec dst) (take 16777215 dst) (chunks (drop 16777215 dst) (packet_number codec dst + 1) n ++ src)))
+
+    by : (begun : Option Begun) → IsOfPacket codec.limit begun dst → front ++ (begun_bytes begun (drop (whole_chunks dst * 16777215) dst) ++ src) ≡ [] → dst ≡ []
+    by None fits none = by_count (whole_chunks dst) refl fits none
+    by (Some begun) fits none =
+        let part = drop (whole_chunks dst * 16777215) dst in
+        absurd (omega (arith, ap length none, length-append front (begun_bytes (Some begun) part ++ src), length-append part src))
+
+-- the number is no part of what is held, where no whole chunk is
+held_renumbered : (codec : Codec) (src : List ℕ) (n : ℕ) → held (record codec { number = n }) src [] ≡ held codec src []
+unfolding held
+held_renumbered codec src n =
+    let part = begun_bytes codec.begun [] ++ src in
+    ap (λ k. k ++ part) (chunks-zero [] (packet_number (record codec { number = n }) [])) ∙ ap (λ k. k ++ part) (sym (chunks-zero [] (packet_number codec [])))
+
+-- a codec between packets
+abbrev pub at : Codec → ℕ → Codec
+at codec number = record { limit = codec.limit; number = number; begun = None; refused = codec.refused }
+
+same_number : (codec : Codec) (dst : List ℕ) (number : ℕ) → packet_number codec dst ≡ number → packet_number (at codec number) [] ≡ number
+same_number codec dst number e = omega (arith, e)
+
+module _ (codec : Codec) (header dst piece : List ℕ) (number : ℕ) (bytes : List ℕ) (s : Stands codec header dst number bytes) where
+  old : Codec
+  old = at codec number
+
+  all_held : held codec (header ++ piece) dst ≡ bytes ++ piece
+  all_held = held_more codec header dst piece ∙ ap (λ k. k ++ piece) s.held_is
+
+  all_src : held (at codec number) (bytes ++ piece) [] ≡ bytes ++ piece
+  all_src = held_between (at codec number) (bytes ++ piece) [] refl refl
+
+  numbered : packet_number codec dst ≡ packet_number (at codec number) []
+  numbered = s.number_is ∙ sym (same_number codec dst number s.number_is)
+
+  -- a payload is handed out
+  pub hands_by : (new : Codec) (left payload : List ℕ) → HandsOut codec (header ++ piece) dst new left payload → HandsOut (at codec number) (bytes ++ piece) [] (at new new.number) left payload
+  hands_by new left payload h = record {
+    framed = all_src ∙ sym all_held ∙ h.framed ∙ ap (λ n. framing payload n ++ left) numbered;
+    within = h.within;
+    number = h.number ∙ ap (number_after payload) numbered;
+    limit = h.limit;
+    between = (refl, h.between.1);
+  }
+
+  rest_by : (rest : Rest) → IsRest codec.limit (packet_number codec dst) (held codec (header ++ piece) dst) rest → IsRest codec.limit (packet_number (at codec number) []) (held (at codec number) (bytes ++ piece) []) rest
+  rest_by rest r =
+      subst (λ n. IsRest codec.limit n (held (at codec number) (bytes ++ piece) []) rest) numbered
+      (subst (λ l. IsRest codec.limit (packet_number codec dst) l rest) (all_held ∙ sym all_src) r)
+
+  -- a refusal is due
+  pub due_by : (refusal : Refusal) → IsDue codec (header ++ piece) dst refusal → IsDue (at codec number) (bytes ++ piece) [] refusal
+  due_by refusals.TooLarge due = rest_by TooLarge due
+  due_by refusals.OutOfSync due = rest_by OutOfSync due
+  due_by refusals.Memory due = tt
+
+  -- the codec waits
+  pub waits_by : (new : Codec) (header' dst' : List ℕ) → Waits codec (header ++ piece) dst new header' dst' → Waits (at codec number) (bytes ++ piece) [] (at new number) (bytes ++ piece) []
+  waits_by new header' dst' w = record {
+    held_same = held_between (at new number) (bytes ++ piece) [] refl refl ∙ sym all_src;
+    number = refl;
+    limit = w.limit;
+    refused = w.refused;
+    goes_on = λ _. (omega arith, refl);
+    rest = w.rest;
+    no_fault = w.no_fault;
+    is_rest = rest_by w.rest w.is_rest;
+  }
+
+  pub stands_on : (new : Codec) (header' dst' : List ℕ) → Waits codec (header ++ piece) dst new header' dst' → Stands new header' dst' number (bytes ++ piece)
+  stands_on new header' dst' w = record {
+    goes_on = w.goes_on;
+    number_is = w.number ∙ s.number_is;
+    held_is = w.held_same ∙ all_held;
+    rest = w.rest;
+    no_fault = w.no_fault;
+    is_rest = subst (λ k. IsRest k number (bytes ++ piece) w.rest) (sym w.limit)
+        (subst (λ n. IsRest codec.limit n (bytes ++ piece) w.rest) s.number_is (subst (λ l. IsRest codec.limit (packet_number codec dst) l w.rest) all_held w.is_rest));
+  }
+
+-- nothing is held between packets
+pub stands_between : (codec : Codec) (header : List ℕ) (number : ℕ) → codec.begun ≡ None → header ≡ [] → packet_number codec [] ≡ number → Stands codec header [] number []
+stands_between codec header number none empty e = record {
+  goes_on = between_goes_on codec [] none refl;
+  number_is = e;
+  held_is = held_between codec header [] none refl ∙ empty;
+  rest = Empty;
+  no_fault = λ f. f;
+  is_rest = empty_rest codec.limit number;
+}
+
+-- and then the number is set to 0
+pub stands_reset : (codec : Codec) (header : List ℕ) (number : ℕ) → Stands codec header [] number [] → Stands (record codec { number = 0 }) header [] 0 []
+stands_reset codec header number s = record {
+  goes_on = s.goes_on;
+  number_is = omega arith;
+  held_is = held_renumbered codec header 0 ∙ s.held_is;
+  rest = Empty;
+  no_fault = λ f. f;
+  is_rest = empty_rest codec.limit 0;
+}
+
+-- after the codec waited: what is held, that no payload is, and that it goes on
+pub record Waited (new : Codec) (header' packet' : List ℕ) (number : ℕ) (bytes : List ℕ) (begun : Bool) : Type 0 where
+  pub bytes_are : bytes_of begun new header' packet' ≡ bytes
+  pub no_payload : handed_out begun packet' ≡ []
+  pub stands : Stands new header' (unfinished begun packet') number (bytes_of begun new header' packet')
+  pub begun_is : (length (bytes_of begun new header' packet') == 0) ≡ not begun
+
+waited_begun : (new : Codec) (header' packet' : List ℕ) (number : ℕ) (bytes : List ℕ) → Stands new header' packet' number bytes → 0 < length bytes → Waited new header' packet' number bytes true
+waited_begun new header' packet' number bytes s some = record {
+  bytes_are = s.held_is;
+  no_payload = refl;
+  stands = subst (λ l. Stands new header' packet' number l) (sym s.held_is) s;
+  begun_is = ne_eqb (length (held new header' packet')) 0 (λ z. omega (arith, z, ap length s.held_is, some));
+}
+
+waited_none : (new : Codec) (header' packet' : List ℕ) (number : ℕ) → new.refused ≡ None → Stands new header' packet' number [] → Waited new header' packet' number [] false
+waited_none new header' packet' number refused s =
+    let none : packet' ≡ [] = held_nothing new header' packet' (s.goes_on refused) s.held_is in
+    record {
+      bytes_are = refl;
+      no_payload = none;
+      stands = subst (λ d. Stands new header' d number []) none s;
+      begun_is = refl;
+    }
+
+pub waited : (begun : Bool) (codec : Codec) (header packet piece : List ℕ) (number : ℕ) (new : Codec) (header' packet' : List ℕ) → (length (bytes_of begun codec header packet) == 0) ≡ not begun →
+    new.refused ≡ None → Stands new header' packet' number (bytes_of begun codec header packet ++ piece) →
+    Waited new header' packet' number (bytes_of begun codec header packet ++ piece) (begun || not (length piece == 0))
+waited true codec header packet piece number new header' packet' b refused s =
+    waited_begun new header' packet' number (held codec header packet ++ piece) s (some (held codec header packet) b)
+  where
+    some : (bytes : List ℕ) → (length bytes == 0) ≡ false → 0 < length (bytes ++ piece)
+    some [] b = absurd cc
+    some (x ∷ xs) b = omega arith
+waited false codec header packet [] number new header' packet' b refused s = waited_none new header' packet' number refused s
+waited false codec header packet (x ∷ xs) number new header' packet' b refused s =
+    let some = ne_eqb (length (x ∷ xs)) 0 (λ z. omega (arith, z)) in
+    subst (λ k. Waited new header' packet' number (x ∷ xs) (not k)) (sym some) (waited_begun new header' packet' number (x ∷ xs) s (omega arith))
+
+-- where no byte of a packet came, none was begun
+not_begun : (begun : Bool) (bytes : List ℕ) → (length bytes == 0) ≡ not begun → bytes ≡ [] → begun ≡ false
+not_begun false bytes b e = refl
+not_begun true bytes b e = absurd (let never : true ≡ false = sym (ap (λ l. length l == 0) e) ∙ b in cc)
+
+pub kept_reset : (r : Inside) (new : Codec) → IsKept r → bytes_of r.begun r.codec r.header r.packet.items ≡ [] → new ≡ record r.codec { number = 0 } → IsKept (record r { codec = new; number = 0 })
+kept_reset r new k empty e = by r.begun (not_begun r.begun _ k.begun empty) k.stands k.refused
+  where
+    by : (begun : Bool) → begun ≡ false → (r.codec.refused ≡ None → Stands r.codec r.header (unfinished begun r.packet.items) r.number (bytes_of begun r.codec r.header r.packet.items)) →
+        IfSome r.codec.refused (λ _. (begun ≡ false) × (r.packet.items ≡ [])) → IsKept (record r { codec = new; number = 0; begun = begun })
+    by true never s k = absurd cc
+    by false none s k = record {
+      stands = λ fine. subst (λ d. Stands d r.header [] 0 []) (sym e) (stands_reset r.codec r.header r.number (s (sym (ap (λ d. d.refused) e) ∙ fine)));
+      begun = refl;
+      refused = subst (λ (d : Codec). IfSome d.refused (λ _. (false ≡ false) × (r.packet.items ≡ []))) (sym e) k;
+    }
+
+pub no_refusal : (o : Option Refusal) (begun : Bool) (packet : List ℕ) → o ≡ None → IfSome o (λ _. (begun ≡ false) × (packet ≡ []))
+no_refusal None begun packet e = tt
+no_refusal (Some x) begun packet e = absurd cc
+
+-- from a reader's fields to what it holds
+module _ (r : Inside) (v : Incoming) (view : incoming_of r ≡ v) (kept : IsKept r) (dst piece : List ℕ) (same : dst ≡ unfinished r.begun r.packet.items) where
+  abbrev bytes : List ℕ
+  bytes = bytes_of r.begun r.codec r.header r.packet.items
+
+  pub hands_view : r.codec.refused ≡ None → (new : Codec) (header' left payload : List ℕ) (n : ℕ) → header' ≡ [] → n ≡ new.number → HandsOut r.codec (r.header ++ piece) dst new (header' ++ left) payload →
+      HandsOut (codec_by v) (v.bytes ++ piece) [] (at new n) left payload
+  hands_view fine new header' left payload n none e h =
+      subst (λ (x : Incoming). HandsOut (codec_by x) (x.bytes ++ piece) [] (at new n) left payload) view
+      (subst (λ k. HandsOut (at r.codec r.number) (bytes ++ piece) [] (at new k) left payload) (sym e)
+      (hands_by r.codec r.header (unfinished r.begun r.packet.items) piece r.number bytes (kept.stands fine) new left payload
+      (subst (λ l. HandsOut r.codec (r.header ++ piece) (unfinished r.begun r.packet.items) new (l ++ left) payload) none
+      (subst (λ d. HandsOut r.codec (r.header ++ piece) d new (header' ++ left) payload) same h))))
+
+  pub refuses_view : (new : Codec) (error : PacketCodecError) → RefusesBy r.codec (r.header ++ piece) dst new error → RefusesBy (codec_by v) (v.bytes ++ piece) [] (at new r.number) error
+  refuses_view new error q =
+      subst (λ (x : Incoming). RefusesBy (codec_by x) (x.bytes ++ piece) [] (at new r.number) error) view
+      (record {
+        refusal = q.refusal;
+        answered = q.answered;
+        kept = q.kept;
+        limit = q.limit;
+        number = refl;
+        due = λ fine. due_by r.codec r.header (unfinished r.begun r.packet.items) piece r.number bytes (kept.stands fine) q.refusal
+            (subst (λ d. IsDue r.codec (r.header ++ piece) d q.refusal) same (q.due fine));
+      })
+
+  module _ (fine : r.codec.refused ≡ None) (new : Codec) (header' left packet' : List ℕ) (used : left ≡ []) (w : Waits r.codec (r.header ++ piece) dst new (header' ++ left) packet') where
+    abbrev begun : Bool
+    begun = r.begun || not (length piece == 0)
+
+    waits : Waits r.codec (r.header ++ piece) (unfinished r.begun r.packet.items) new header' packet'
+    waits =
+        subst (λ l. Waits r.codec (r.header ++ piece) (unfinished r.begun r.packet.items) new l packet') (ap (λ l. header' ++ l) used ∙ append-nil header')
+        (subst (λ d. Waits r.codec (r.header ++ piece) d new (header' ++ left) packet') same w)
+
+    pub waited_on : Waited new header' packet' r.number (bytes ++ piece) begun
+    waited_on =
+        waited r.begun r.codec r.header r.packet.items piece r.number new header' packet' kept.begun w.refused
+        (stands_on r.codec r.header (unfinished r.begun r.packet.items) piece r.number bytes (kept.stands fine) new header' packet' waits)
+
+    pub waits_view : Waits (codec_by v) (v.bytes ++ piece) [] (at new r.number) (bytes_of begun new header' packet' ++ left) (handed_out begun packet')
+    waits_view =
+        let all : bytes_of begun new header' packet' ++ left ≡ bytes ++ piece = ap (λ l. bytes_of begun new header' packet' ++ l) used ∙ append-nil (bytes_of begun new header' packet') ∙ waited_on.bytes_are in
+        subst (λ (x : Incoming). Waits (codec_by x) (x.bytes ++ piece) [] (at new r.number) (bytes_of begun new header' packet' ++ left) (handed_out begun packet')) view
+        (subst (λ l. Waits (at r.codec r.number) (bytes ++ piece) [] (at new r.number) l (handed_out begun packet')) (sym all)
+        (subst (λ l. Waits (at r.codec r.number) (bytes ++ piece) [] (at new r.number) (bytes ++ piece) l) (sym waited_on.no_payload)
+        (waits_by r.codec r.header (unfinished r.begun r.packet.items) piece r.number bytes (kept.stands fine) new header' packet' waits)))
+
+    pub same_view : record { limit = new.limit; number = r.number; bytes = bytes_of begun new header' packet'; payload = handed_out begun packet'; refused = new.refused } ≡ record v { bytes = v.bytes ++ piece; payload = [] }
+    same_view =
+        let limit : new.limit ≡ r.codec.limit = w.limit in
+        let refused : new.refused ≡ r.codec.refused = w.refused ∙ sym fine in
+        let I : ℕ → List ℕ → List ℕ → Option Refusal → Incoming = λ l b p o. record { limit = l; number = r.number; bytes = b; payload = p; refused = o } in
+        ap (λ l. I l (bytes_of begun new header' packet') (handed_out begun packet') new.refused) limit
+        ∙ ap (λ b. I r.codec.limit b (handed_out begun packet') new.refused) waited_on.bytes_are
+        ∙ ap (λ p. I r.codec.limit (bytes ++ piece) p new.refused) waited_on.no_payload
+        ∙ ap (λ o. I r.codec.limit (bytes ++ piece) [] o) refused
+        ∙ ap (λ (x : Incoming). record x { bytes = x.bytes ++ piece; payload = [] }) view
+
+-- a reader to which nothing came has read nothing
+pub reader_begins : (r : Incoming) (codec : Codec) (number limit : ℕ) → r ≡ incoming_at number limit → number ≡ codec.number → limit ≡ codec.limit → number < 256 →
+    HasRead codec.limit (OnFrom codec.number) [] [] (codec_by r) r.bytes [] × IsAnswer codec.limit (OnFrom codec.number) [] [] None
+reader_begins r codec number limit is n l byte =
+    let e : r ≡ incoming_at codec.number codec.limit = is ∙ ap (λ k. incoming_at k limit) n ∙ ap (incoming_at codec.number) l in
+    let begins = starts (codec_at codec.number codec.limit) (refl, refl) (omega (arith, n)) in
+    (subst (λ (x : Incoming). HasRead codec.limit (OnFrom codec.number) [] [] (codec_by x) x.bytes []) (sym e) begins.0, begins.1)
+
+-- a payload is handed out and then taken
+pub takes_on : (limit id : ℕ) (before : List ℕ) (payloads : List (List ℕ)) (r new taken : Incoming) (piece rest : List ℕ) → HasRead limit (OnFrom id) before payloads (codec_by r) (r.bytes ++ piece) [] →
+    ReadsOn r piece true new rest → taken ≡ record new { payload = [] } → HasRead limit (OnFrom id) before (payloads ++ new.payload ∷ []) (codec_by taken) (taken.bytes ++ rest) []
+takes_on limit id before payloads r new taken piece rest read h e =
+    subst (λ (x : Incoming). HasRead limit (OnFrom id) before (payloads ++ new.payload ∷ []) (codec_by x) (x.bytes ++ rest) []) (sym e)
+    (takes limit id before payloads (codec_by r) (r.bytes ++ piece) [] (codec_by new) (new.bytes ++ rest) new.payload read h)
+
+-- the reader waits, having used all bytes
+pub waits_on : (limit id : ℕ) (before : List ℕ) (payloads : List (List ℕ)) (r new : Incoming) (piece rest : List ℕ) → HasRead limit (OnFrom id) before payloads (codec_by r) (r.bytes ++ piece) [] →
+    ReadsOn r piece false new rest → rest ≡ [] → new.payload ≡ [] → HasRead limit (OnFrom id) before payloads (codec_by new) new.bytes [] × IsAnswer limit (OnFrom id) before payloads None
+waits_on limit id before payloads r new piece rest read w used none =
+    let found = waits_at limit (OnFrom id) before payloads (codec_by r) (r.bytes ++ piece) [] (codec_by new) (new.bytes ++ rest) new.payload read w in (
+      subst (λ l. HasRead limit (OnFrom id) before payloads (codec_by new) l []) (ap (λ l. new.bytes ++ l) used ∙ append-nil new.bytes)
+          (subst (λ l. HasRead limit (OnFrom id) before payloads (codec_by new) (new.bytes ++ rest) l) none found.0),
+      found.1,
+    )

@@ -1,0 +1,129 @@
+//! Packets of a stream that comes in pieces, read one after another.
+
+ghost use Rattle.std.specs.Prelude.{◌<◌};
+
+use crate::support::{Asserting, SELECT_1, is_memory, is_too_large};
+use mysql_wire::{PacketCodecError, PacketReader};
+use std::alloc::Global;
+use std::test::*;
+use tests_support::{Assert, assert_equal};
+
+/// `SELECT 1`, an empty payload and one byte, numbered on.
+const STREAM: [u8; 22] = [
+    9, 0, 0, 0, 3, 0x53, 0x45, 0x4c, 0x45, 0x43, 0x54, 0x20, 0x31, 0, 0, 0, 1, 1, 0, 0, 2, 0x61,
+];
+
+/// Two commands, each numbered from 0.
+const PINGS: [u8; 10] = [1, 0, 0, 0, 0x0e, 1, 0, 0, 0, 0x0e];
+
+// Reads on through a piece, where so many of these payloads were read: how many are then.
+fn reads_piece(
+    assert: &impl Assert,
+    reader: &mut PacketReader,
+    piece: &[u8],
+    wanted: &[&[u8]],
+    read: usize,
+) -> Result<usize, PacketCodecError> {
+    let mut rest = piece;
+    let mut count = read;
+    'payloads: while let Some(payload) = reader.read(&mut rest)? {
+        assert.holds(count < wanted.len());
+        assert.holds(payload == wanted[count]);
+        count += 1;
+    }
+    Ok(count)
+}
+
+// Reads a stream that comes in pieces of this length, and asserts that these are its payloads.
+fn reads_stream(
+    assert: &impl Assert,
+    alloc: Global,
+    len: usize,
+    wanted: &[&[u8]],
+) -> Result<(), PacketCodecError>
+    requires { 0 < len }
+{
+    let mut reader = PacketReader::new(alloc, 0, 1000);
+    let mut count = 0;
+    for piece in STREAM.chunks(len) {
+        count = reads_piece(assert, &mut reader, piece, wanted, count)?;
+    }
+    assert_equal(assert, count, wanted.len());
+    assert.holds(!reader.is_begun());
+    Ok(())
+}
+
+#[test]
+fn the_same_stream_in_pieces_of_any_size(rt: HostRuntime) {
+    let assert = Asserting(&rt);
+    let wanted: &[&[u8]] = &[&SELECT_1[4..], b"", b"a"];
+    for len in 1..23 {
+        if let Err(error) = reads_stream(&assert, rt.alloc(), len, wanted) {
+            assert.holds(is_memory(&error));
+            assert.holds(reads_stream(&assert, rt.alloc(), len, wanted).is_ok());
+        }
+    }
+}
+
+#[test]
+fn a_packet_is_begun_by_its_first_byte(rt: HostRuntime) {
+    let assert = Asserting(&rt);
+    let mut reader = PacketReader::new(rt.alloc(), 0, 1000);
+    assert.holds(!reader.is_begun());
+    let mut front: &[u8] = &STREAM[..1];
+    assert.holds(matches!(reader.advance(&mut front), Ok(false)));
+    assert.holds(reader.is_begun());
+    assert_equal(&assert, front.len(), 0);
+}
+
+#[test]
+fn a_reader_keeps_to_a_refusal(rt: HostRuntime) {
+    let assert = Asserting(&rt);
+    let mut reader = PacketReader::new(rt.alloc(), 0, 8);
+    let mut large: &[u8] = &SELECT_1[..4];
+    assert.holds(is_too_large(reader.advance(&mut large)));
+    let mut fine: &[u8] = &PINGS[..5];
+    assert.holds(is_too_large(reader.advance(&mut fine)));
+    assert_equal(&assert, fine.len(), 5);
+    assert.holds(!reader.is_begun());
+}
+
+// Whether the second command stands whole, where the number is set to 0 before it or goes on.
+fn reads_both(alloc: Global, reset: bool) -> Result<bool, PacketCodecError> {
+    let mut rest: &[u8] = &PINGS;
+    let mut reader = PacketReader::new(alloc, 0, 1000);
+    if !reader.advance(&mut rest)? {
+        return Ok(false);
+    }
+    if reset {
+        reader.reset_seq_id();
+    }
+    reader.advance(&mut rest)
+}
+
+#[test]
+fn each_command_begins_at_number_0(rt: HostRuntime) {
+    let assert = Asserting(&rt);
+    let first = reads_both(rt.alloc(), true);
+    assert.holds(matches!(first, Ok(true) | Err(PacketCodecError::Memory)));
+    let answer = reads_both(rt.alloc(), true);
+    assert.holds(first.is_ok() || matches!(answer, Ok(true)));
+    let goes_on = reads_both(rt.alloc(), false);
+    assert.holds(matches!(
+        goes_on,
+        Err(PacketCodecError::PacketsOutOfSync | PacketCodecError::Memory)
+    ));
+}
+
+#[test]
+fn a_payload_is_taken_once(rt: HostRuntime) {
+    let assert = Asserting(&rt);
+    let mut reader = PacketReader::new(rt.alloc(), 0, 1000);
+    let mut rest: &[u8] = &PINGS[..5];
+    let answer = reader.advance(&mut rest);
+    assert.holds(matches!(answer, Ok(true) | Err(PacketCodecError::Memory)));
+    if let Ok(payload) = reader.take_payload() {
+        assert.holds(answer.is_err() || payload.as_slice() == &PINGS[4..5]);
+        assert.holds(reader.payload().is_empty());
+    }
+}
