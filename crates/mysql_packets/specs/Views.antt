@@ -2,10 +2,10 @@
 -- Packets" and "Text Resultset").
 use Rattle.std.specs.Prelude.{ℕ, List, Option, option_map, Vec}
 use Rattle.std.specs.declared.alloc.Global.{Global}
-use Rattle.mysql_packets.specs.declared.ok_packet.OkPacket.{OkPacket as Ok}
+use Rattle.mysql_packets.specs.declared.ok_packet.OkPacket.{OkPacket as OkPacketOf}
 use Rattle.mysql_packets.specs.declared.err_packet.ServerError.{ServerError}
-use Rattle.mysql_packets.specs.declared.err_packet.ProgressReport.{ProgressReport as Progress}
-use Rattle.mysql_packets.specs.declared.err_packet.StageProgress.{StageProgress as CodeProgress}
+use Rattle.mysql_packets.specs.declared.err_packet.ProgressReport.{ProgressReport as ProgressReportOf}
+use Rattle.mysql_packets.specs.declared.err_packet.StageProgress.{StageProgress as StageProgressOf}
 use Rattle.mysql_packets.specs.declared.statement.StmtPacket.{StmtPacket}
 use Rattle.mysql_packets.specs.declared.column.Column.{Column}
 use Rattle.mysql_packets.specs.declared.column.FixedFields.{FixedFields}
@@ -16,7 +16,7 @@ use Rattle.mysql_packets.specs.Packets.{OkPacket, ErrPacket, ProgressReport, Sta
 abbrev pub bytes_view : Option (Vec ℕ Global) → Option (List ℕ)
 bytes_view bytes = option_map (λ v. v.items) bytes
 
-abbrev pub ok_packet_view : Ok → OkPacket
+abbrev pub ok_packet_view : OkPacketOf → OkPacket
 ok_packet_view p = record {
   affected_rows = p.affected_rows;
   last_insert_id = p.last_insert_id;
@@ -29,10 +29,10 @@ ok_packet_view p = record {
 abbrev pub err_packet_view : ServerError → ErrPacket
 err_packet_view p = record { error_code = p.code; sql_state = bytes_view p.state; error_message = p.message.items }
 
-abbrev pub progress_report_view : Progress → ProgressReport
+abbrev pub progress_report_view : ProgressReportOf → ProgressReport
 progress_report_view p = record { stage = p.stage; max_stage = p.max_stage; progress = p.progress; progress_info = p.stage_info.items }
 
-abbrev pub stage_progress_view : CodeProgress → StageProgress
+abbrev pub stage_progress_view : StageProgressOf → StageProgress
 stage_progress_view p = record { stage = p.stage; max_stage = p.max_stage; progress = p.progress }
 
 abbrev pub prepare_ok_view : StmtPacket → PrepareOk
