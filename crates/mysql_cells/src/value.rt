@@ -12,9 +12,13 @@ use std::alloc::{AllocError, Global};
 /// Follows "Binary Protocol Value" of the client/server protocol documentation.
 #[derive(Debug, PartialEq, Eq, Drop)]
 pub enum Value {
+    /// No value.
     NULL,
+    /// Bytes or a text, made by [`ByteString::copy`] or [`ByteString::from_vec`].
     Bytes(ByteString),
+    /// A whole number with a sign.
     Int(i64),
+    /// A whole number without a sign.
     UInt(u64),
     /// A float's bits.
     Float(u32),

@@ -20,6 +20,9 @@ use std::mem;
 ///     let mut rest = piece;
 ///     while let Some(payload) = reader.read(&mut rest)? { .. }
 ///
+/// A reply's packets count on from its command. In a stream of commands [`PacketReader::reset_seq_id`] comes after each payload, since
+/// each command begins at the number 0.
+///
 /// Contracts see the limit, the number of the next packet's first chunk, the bytes of that packet that came, the payload
 /// and the refusal.
 /// (MySQL: Client/Server Protocol, "Protocol Basics: MySQL Packets", "Sending More Than 16Mb" and "Sequence ID".)
@@ -191,7 +194,8 @@ impl PacketReader {
         self.begun
     }
 
-    /// The next packet begins at the number 0, as the first one of each command does.
+    /// The next packet begins at the number 0, as the first one of each command does. No byte of it may have come, which
+    /// [`PacketReader::is_begun`] tells; after a payload none has.
     /// (MySQL: Client/Server Protocol, "Sequence ID".)
     pub fn reset_seq_id(&mut self)
         requires { self.old.bytes ≡ [] }
