@@ -164,7 +164,7 @@ stage_progress_at bytes = do
   progress ← little_at 3 max_stage.1
   Ok (record { stage = stage.0; max_stage = max_stage.0; progress = progress.0 }, progress.1)
 
--- A progress report, from its first byte ff on: ff ff ff, the count of strings (1), and its fields.
+-- A progress report, from its first byte ff on: three bytes, which its form tests (ff ff ff), six with the numbers, and its text.
 unfoldable pub progress_report_at : List ℕ → Reading ProgressReport
 progress_report_at bytes = do
   header ← bytes_at 3 bytes
