@@ -1,20 +1,15 @@
 //! One query with named parameters, sent by both roads.
 
-use mysql_session::{Params, Refusal, Road, Value, send};
+use mysql_session::{IntoParams, Road, Value, send};
 use std::alloc::Global;
-use std::collections::HashMap;
 use std::io;
 use std::io::Write;
 
-fn named(alloc: Global, name: &[u8], value: Value) -> Result<Params, Refusal> {
-    let mut values = HashMap::new(alloc);
-    let _ = values.insert(Vec::from_slice(alloc, name)?, value)?;
-    Ok(Params::Named(values))
-}
-
-fn sent(alloc: Global, query: &[u8], value: Value) -> Result<Vec<u8>, Refusal> {
+fn sent(alloc: Global, query: &[u8], value: Value) -> anyhow::Result<Vec<u8>> {
+    let mut pairs = Vec::new(alloc);
+    pairs.push(("a", value))?;
     let mut sets = Vec::new(alloc);
-    sets.push(named(alloc, b"a", value)?)?;
+    sets.push(pairs.into_params(alloc)?)?;
     let mut out = Vec::new(alloc);
     send(alloc, query, &sets, Road::Text, 1, 1 << 24, &mut out)?;
     send(alloc, query, &sets, Road::Execute, 1, 1 << 24, &mut out)?;

@@ -69,9 +69,8 @@ impl<'a> ConnectAttributes<'a> {
     }
 
     /// The same attributes, which borrow nothing. Refused for want of memory alone.
-    pub fn into_owned(self, alloc: Global) -> Result<ConnectAttributes<'static>, WireError>
-        ensures memory { IsOkUnless result wire.Memory }
-        ensures value { IfOk result (λ all. attributes_view all ≡ attributes_view self.entry) }
+    pub fn into_owned(self, alloc: Global) -> Result<ConnectAttributes<'static>, AllocError>
+        ensures { IfOk result (λ all. attributes_view all ≡ attributes_view self.entry) }
     {
         let mut all = ConnectAttributes::new(alloc);
         for (key, value) in self.entries {
@@ -112,12 +111,11 @@ impl ConnectAttributes<'static> {
         alloc: Global,
         key: RawBytes<LenEnc>,
         value: RawBytes<LenEnc>,
-    ) -> Result<(), WireError>
-        ensures memory { IsOkUnless result wire.Memory }
-        ensures value { IfOk result (λ _. attributes_view self.new ≡ with_attribute (attributes_view self.old) (shown_attribute (key.entry, value.entry))) }
+    ) -> Result<(), AllocError>
+        ensures { IfOk result (λ _. attributes_view self.new ≡ with_attribute (attributes_view self.old) (shown_attribute (key.entry, value.entry))) }
     {
         let (key, value) = owned_pair(alloc, key, value)?;
-        Ok(self.put(key, value)?)
+        self.put(key, value)
     }
 
     // Puts a copy of one more attribute.
@@ -140,8 +138,7 @@ pub fn owned_pair<T: BytesRepr, U: BytesRepr>(
     alloc: Global,
     first: RawBytes<T>,
     second: RawBytes<U>,
-) -> Result<(RawBytes<'static, T>, RawBytes<'static, U>), WireError>
-    ensures memory { IsOkUnless result wire.Memory }
+) -> Result<(RawBytes<'static, T>, RawBytes<'static, U>), AllocError>
     ensures first { IfOk result (λ owned. cow_slice_items owned.0.0 ≡ cow_slice_items first.entry.0) }
     ensures second { IfOk result (λ owned. cow_slice_items owned.1.0 ≡ cow_slice_items second.entry.0) }
 {
@@ -159,20 +156,9 @@ pub fn copied_pair<T: BytesRepr, U: BytesRepr>(
     ensures first { IfOk result (λ copy. cow_slice_items copy.0.0 ≡ cow_slice_items first.now.0) }
     ensures second { IfOk result (λ copy. cow_slice_items copy.1.0 ≡ cow_slice_items second.now.0) }
 {
-    let first = copied(alloc, first)?;
-    let second = copied(alloc, second)?;
+    let first = first.clone(alloc)?;
+    let second = second.clone(alloc)?;
     Ok((first, second))
-}
-
-/// A copy of a text of a packet, which borrows nothing. Refused for want of memory alone.
-pub fn copied<T: BytesRepr>(
-    alloc: Global,
-    text: &RawBytes<T>,
-) -> Result<RawBytes<'static, T>, AllocError>
-    ensures { IfOk result (λ copy. cow_slice_items copy.0 ≡ cow_slice_items text.now.0) }
-{
-    let bytes = Vec::from_slice(alloc, text.0.as_slice())?;
-    Ok(RawBytes::new(CowSlice::Owned(bytes)))
 }
 
 // Bytes as text, where bytes that aren't UTF-8 are replaced.

@@ -4,7 +4,7 @@
 mod attributes;
 mod parts;
 
-pub use crate::attributes::{ConnectAttributes, copied, copied_pair, owned_pair};
+pub use crate::attributes::{ConnectAttributes, copied_pair, owned_pair};
 pub use crate::parts::{
     IfHeld, attributes_of_texts, copied_attributes, copied_plugin, has, or_no_bytes,
     owned_attributes, owned_plugin, parse_if, plugin_before_zero, plugin_to_zero,

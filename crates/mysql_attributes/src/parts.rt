@@ -1,12 +1,11 @@
 //! Parts of a packet that stand there by the client's capabilities.
 
-ghost use Rattle.std.specs.Prelude.{◌≡◌, IfOk, Ok, map, option_map, IsOkUnless};
+ghost use Rattle.std.specs.Prelude.{◌≡◌, IfOk, Ok, map, option_map};
 ghost use Rattle.std.specs.Cow.{cow_slice_items};
 ghost use Rattle.mysql_attributes.specs.Parts.{if_held, if_there, or_empty, plugin_before_zero_at, plugin_to_zero_at};
 ghost use Rattle.mysql_attributes.specs.AttributeViews.{attributes_view, text_attribute};
 ghost use Rattle.mysql_auth.specs.Views.{plugin_view};
 ghost use Rattle.mysql_raw.specs.Wire.{AnswersPart, TellsPart};
-ghost use Rattle.mysql_raw.specs.WireError.TheVariants as wire;
 ghost use Rattle.mysql_raw_consts.specs.Flags.{contains};
 
 use crate::attributes::ConnectAttributes;
@@ -132,9 +131,8 @@ pub fn copied_plugin(
 pub fn owned_attributes(
     alloc: Global,
     attributes: Option<ConnectAttributes>,
-) -> Result<Option<ConnectAttributes<'static>>, WireError>
-    ensures memory { IsOkUnless result wire.Memory }
-    ensures value { IfOk result (λ owned. option_map attributes_view owned ≡ option_map attributes_view attributes.entry) }
+) -> Result<Option<ConnectAttributes<'static>>, AllocError>
+    ensures { IfOk result (λ owned. option_map attributes_view owned ≡ option_map attributes_view attributes.entry) }
 {
     match attributes {
         Some(all) => Ok(Some(all.into_owned(alloc)?)),

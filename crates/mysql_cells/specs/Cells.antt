@@ -3,7 +3,6 @@
 -- A reading takes bytes from the front: x.0 is what was read and x.1 the bytes left; the first refusal counts.
 use Rattle.std.specs.Prelude.{ℕ, pos, ◌+◌, ◌^◌, Bool, true, false, List, [], ◌∷◌, ◌++◌, length, take, drop, Ok, Err, nat_lt, ◌==◌, ◌||◌, if◌then◌else◌, unwrap_or}
 use Rattle.std.specs.Int.{Width, w8, w16, w32, w64, cast_signed, cast_unsigned}
-use Rattle.std.specs.Int.RustNames.{bit_and}
 use Rattle.std.specs.Option.{option_map}
 use Rattle.byteorder.specs.Endian.{little_bytes, little_number}
 use Rattle.mysql_buf.specs.Reading.{lenenc_str_at, u8_str_at}
@@ -13,6 +12,7 @@ use Rattle.mysql_const.specs.declared.column_flags.ColumnFlags.{ColumnFlags}
 use Rattle.mysql_const.specs.declared.column_type.ColumnType.{ColumnType}
 use Rattle.mysql_const.specs.declared.column_type.ColumnType.TheVariants.{MYSQL_TYPE_NULL, MYSQL_TYPE_TINY, MYSQL_TYPE_SHORT, MYSQL_TYPE_YEAR, MYSQL_TYPE_LONG, MYSQL_TYPE_INT24, MYSQL_TYPE_LONGLONG, MYSQL_TYPE_FLOAT, MYSQL_TYPE_DOUBLE, MYSQL_TYPE_DECIMAL, MYSQL_TYPE_NEWDECIMAL, MYSQL_TYPE_VARCHAR, MYSQL_TYPE_VAR_STRING, MYSQL_TYPE_STRING, MYSQL_TYPE_TINY_BLOB, MYSQL_TYPE_MEDIUM_BLOB, MYSQL_TYPE_LONG_BLOB, MYSQL_TYPE_BLOB, MYSQL_TYPE_ENUM, MYSQL_TYPE_SET, MYSQL_TYPE_BIT, MYSQL_TYPE_JSON, MYSQL_TYPE_GEOMETRY, MYSQL_TYPE_VECTOR, MYSQL_TYPE_DATE, MYSQL_TYPE_DATETIME, MYSQL_TYPE_TIMESTAMP, MYSQL_TYPE_TIME, MYSQL_TYPE_NEWDATE, MYSQL_TYPE_TIMESTAMP2, MYSQL_TYPE_DATETIME2, MYSQL_TYPE_TIME2, MYSQL_TYPE_TYPED_ARRAY, MYSQL_TYPE_UNKNOWN}
 use Rattle.mysql_raw.specs.Forms.{little_at}
+use Rattle.mysql_const.specs.FlagSets.{contains}
 use Rattle.mysql_raw.specs.Wire.{Reading, ◌>>=◌, or_end}
 use Rattle.mysql_raw.specs.WireError.TheVariants.{UnexpectedEof, BadLength, UnsupportedType}
 use Rattle.mysql_cells.specs.declared.value.Value.{Value}
@@ -196,7 +196,7 @@ cell_at t unsigned bytes = value_at (form_of t) unsigned bytes
 
 -- whether a column's whole numbers have no sign
 abbrev pub has_no_sign : ColumnFlags → Bool
-has_no_sign flags = bit_and flags.0 0x20 == 0x20
+has_no_sign flags = contains flags.0 0x20
 
 -- the value of the cell that stands first, by its column's type and flags
 abbrev pub column_cell_at : ColumnType × ColumnFlags → List ℕ → Reading Value

@@ -24,6 +24,7 @@ pub struct BinValue;
 
 /// A value that was read of a cell of the protocol `T`.
 #[derive(Drop)]
+#[derive_where(Debug, PartialEq, Eq)]
 pub struct ValueDeserializer<T>(pub Value, PhantomData<T>);
 
 /// A cell of the text protocol, as [`read_text_cell`] reads it.

@@ -51,3 +51,25 @@ impl Value {
         }
     }
 }
+
+/// The same value again, by the allocator of its bytes; so lists and maps of values are cloned.
+impl Clone for Value {
+    ghost is_clone = { λ value copy. copy ≡ value };
+
+    fn clone(&self) -> Result<Value, AllocError> {
+        match self {
+            Value::NULL => Ok(Value::NULL),
+            Value::Bytes(bytes) => Ok(Value::Bytes(Clone::clone(bytes)?)),
+            Value::Int(number) => Ok(Value::Int(*number)),
+            Value::UInt(number) => Ok(Value::UInt(*number)),
+            Value::Float(bits) => Ok(Value::Float(*bits)),
+            Value::Double(bits) => Ok(Value::Double(*bits)),
+            Value::Date(year, month, day, hour, minute, second, micros) => {
+                Ok(Value::Date(*year, *month, *day, *hour, *minute, *second, *micros))
+            }
+            Value::Time(negative, days, hours, minutes, seconds, micros) => {
+                Ok(Value::Time(*negative, *days, *hours, *minutes, *seconds, *micros))
+            }
+        }
+    }
+}

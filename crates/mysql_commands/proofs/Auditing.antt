@@ -1,4 +1,4 @@
--- There is one audit of payloads and a rest, and the audit of two lists goes on from the standing behind the first.
+-- There is one audit of payloads and a rest, and the audit of two lists goes on from the statement behind the first.
 use Rattle.std.proofs.Common.{◌≡◌, ℕ, zero, suc, ◌+◌, ◌-◌, ◌<◌, ◌≤◌, ◌⊎◌, List, [], ◌∷◌, ◌++◌, length, get_or, refl, sym, ap, subst, ◌∙◌, arith, inl, inr, take}
 use Rattle.std.specs.List.{flat_map}
 use Rattle.std.proofs.lemmas.Bool.{cases_lt}
@@ -9,32 +9,32 @@ use Rattle.std.proofs.Math.Seq.{take-append-add}
 use Rattle.mysql_commands.specs.declared.fault.StreamFault.{StreamFault}
 use Rattle.mysql_commands.proofs.Readable.{IsReadable}
 use Rattle.mysql_commands.specs.Layout.{Conversation}
-use Rattle.mysql_commands.specs.InForce.{Standing, standing_after}
+use Rattle.mysql_commands.specs.InForce.{StatementState, state_after}
 use Rattle.mysql_commands.specs.Reading.{Set, PayloadReadsAs, PayloadFaulty, ReadsAs, Faulty}
 use Rattle.mysql_wire.specs.Stream.{Rest}
 use Rattle.mysql_commands.specs.Audit.{Audit, Read, Ends, Audits, end_by_rest}
 use Rattle.mysql_commands.specs.declared.audit.End.{End}
 use Rattle.mysql_commands.specs.declared.audit.End.TheVariants as ends
-use Rattle.mysql_commands.proofs.Looking.{standing_after_append}
+use Rattle.mysql_commands.proofs.Looking.{state_after_append}
 use Rattle.mysql_commands.proofs.Judging.{is_judged}
 
 -- ---- a list behind another
 
-pub reads_from : (c : Conversation) (s : Standing) (first : ℕ) (xs es : List (List ℕ)) (p : List ℕ) (sets : List Set) → ReadsAs c (standing_after c s xs) (first + length xs) es p sets → ReadsAs c s first (xs ++ es) p sets
+pub reads_from : (c : Conversation) (s : StatementState) (first : ℕ) (xs es : List (List ℕ)) (p : List ℕ) (sets : List Set) → ReadsAs c (state_after c s xs) (first + length xs) es p sets → ReadsAs c s first (xs ++ es) p sets
 reads_from c s first xs es p sets h =
-    (omega (arith, h.0, length-append xs es), subst (λ (st : Standing). PayloadReadsAs c st p sets) (sym (standing_after_append c s xs es)) h.1)
+    (omega (arith, h.0, length-append xs es), subst (λ (st : StatementState). PayloadReadsAs c st p sets) (sym (state_after_append c s xs es)) h.1)
 
-pub reads_to : (c : Conversation) (s : Standing) (first : ℕ) (xs es : List (List ℕ)) (p : List ℕ) (sets : List Set) → ReadsAs c s first (xs ++ es) p sets → ReadsAs c (standing_after c s xs) (first + length xs) es p sets
+pub reads_to : (c : Conversation) (s : StatementState) (first : ℕ) (xs es : List (List ℕ)) (p : List ℕ) (sets : List Set) → ReadsAs c s first (xs ++ es) p sets → ReadsAs c (state_after c s xs) (first + length xs) es p sets
 reads_to c s first xs es p sets h =
-    (omega (arith, h.0, length-append xs es), subst (λ (st : Standing). PayloadReadsAs c st p sets) (standing_after_append c s xs es) h.1)
+    (omega (arith, h.0, length-append xs es), subst (λ (st : StatementState). PayloadReadsAs c st p sets) (state_after_append c s xs es) h.1)
 
-pub faulty_from : (c : Conversation) (s : Standing) (first : ℕ) (xs es : List (List ℕ)) (p : List ℕ) (f : StreamFault) → Faulty c (standing_after c s xs) (first + length xs) es p f → Faulty c s first (xs ++ es) p f
+pub faulty_from : (c : Conversation) (s : StatementState) (first : ℕ) (xs es : List (List ℕ)) (p : List ℕ) (f : StreamFault) → Faulty c (state_after c s xs) (first + length xs) es p f → Faulty c s first (xs ++ es) p f
 faulty_from c s first xs es p f (inl h) = inl (omega (arith, h.0, length-append xs es), h.1)
 faulty_from c s first xs es p f (inr h) =
-    inr (omega (arith, h.0, length-append xs es), subst (λ (st : Standing). PayloadFaulty c st p f) (sym (standing_after_append c s xs es)) h.1)
+    inr (omega (arith, h.0, length-append xs es), subst (λ (st : StatementState). PayloadFaulty c st p f) (sym (state_after_append c s xs es)) h.1)
 
 -- the i-th of two lists of reads
-read_at : (c : Conversation) (s : Standing) (first : ℕ) (xs ys : List (List ℕ)) (reads more : List (List Set)) → Read c s first xs reads → length reads ≡ length xs → Read c (standing_after c s xs) (first + length xs) ys more
+read_at : (c : Conversation) (s : StatementState) (first : ℕ) (xs ys : List (List ℕ)) (reads more : List (List Set)) → Read c s first xs reads → length reads ≡ length xs → Read c (state_after c s xs) (first + length xs) ys more
     → (i : ℕ) → i < length (reads ++ more) → ((i < length xs) ⊎ (length xs ≤ i)) → ReadsAs c s first (take i (xs ++ ys)) (get_or (xs ++ ys) i []) (get_or (reads ++ more) i [])
 read_at c s first xs ys reads more r len m i lt (inl front) =
     subst (λ (es : List (List ℕ)). ReadsAs c s first es (get_or (xs ++ ys) i []) (get_or (reads ++ more) i [])) (sym (take-append-le i xs ys (omega arith)))
@@ -53,14 +53,14 @@ read_at c s first xs ys reads more r len m i lt (inr back) =
     (subst (λ (p : List ℕ). ReadsAs c s first (xs ++ take j ys) p (get_or (reads ++ more) (length reads + j) [])) (sym (get_or-append-add xs ys j []))
     (subst (λ (sets : List Set). ReadsAs c s first (xs ++ take j ys) (get_or ys j []) sets) (sym (get_or-append-add reads more j [])) here))))
 
-pub read_append : (c : Conversation) (s : Standing) (first : ℕ) (xs ys : List (List ℕ)) (reads more : List (List Set)) → Read c s first xs reads → length reads ≡ length xs → Read c (standing_after c s xs) (first + length xs) ys more → Read c s first (xs ++ ys) (reads ++ more)
+pub read_append : (c : Conversation) (s : StatementState) (first : ℕ) (xs ys : List (List ℕ)) (reads more : List (List Set)) → Read c s first xs reads → length reads ≡ length xs → Read c (state_after c s xs) (first + length xs) ys more → Read c s first (xs ++ ys) (reads ++ more)
 read_append c s first xs ys reads more r len m =
     record {
-      there = omega (arith, m.there, length-append xs ys, length-append reads more);
+      within = omega (arith, m.within, length-append xs ys, length-append reads more);
       each = λ i lt. read_at c s first xs ys reads more r len m i lt (cases_lt i (length xs));
     }
 
-ends_append : (c : Conversation) (s : Standing) (first : ℕ) (xs ys : List (List ℕ)) (kind : Rest) (n : ℕ) (ending : End) → Ends c (standing_after c s xs) (first + length xs) ys kind n ending → Ends c s first (xs ++ ys) kind (length xs + n) ending
+ends_append : (c : Conversation) (s : StatementState) (first : ℕ) (xs ys : List (List ℕ)) (kind : Rest) (n : ℕ) (ending : End) → Ends c (state_after c s xs) (first + length xs) ys kind n ending → Ends c s first (xs ++ ys) kind (length xs + n) ending
 ends_append c s first xs ys kind n ending (inl h) =
     let f = h.0 in
     let place : (first + length xs) + n ≡ first + (length xs + n) = omega arith in
@@ -71,10 +71,10 @@ ends_append c s first xs ys kind n ending (inl h) =
     inl (f, omega (arith, h.1, length-append xs ys), moved, h.3 ∙ ap (λ (k : ℕ). ends.Fault k f) place)
 ends_append c s first xs ys kind n ending (inr h) =
     let place : (first + length xs) + n ≡ first + (length xs + n) = omega arith in
-    inr (omega (arith, h.0, length-append xs ys), h.1 ∙ ap (λ (k : ℕ). end_by_rest c (standing_after c (standing_after c s xs) ys) k kind) place ∙ ap (λ (st : Standing). end_by_rest c st (first + (length xs + n)) kind) (sym (standing_after_append c s xs ys)))
+    inr (omega (arith, h.0, length-append xs ys), h.1 ∙ ap (λ (k : ℕ). end_by_rest c (state_after c (state_after c s xs) ys) k kind) place ∙ ap (λ (st : StatementState). end_by_rest c st (first + (length xs + n)) kind) (sym (state_after_append c s xs ys)))
 
--- behind payloads that all read, the audit goes on from their standing
-pub audits_append : (c : Conversation) (s : Standing) (first : ℕ) (xs ys : List (List ℕ)) (kind : Rest) (reads : List (List Set)) (a : Audit) → Read c s first xs reads → length reads ≡ length xs → Audits c (standing_after c s xs) (first + length xs) ys kind a → Audits c s first (xs ++ ys) kind (record { sets = flat_map (λ sets. sets) reads ++ a.sets; ending = a.ending })
+-- behind payloads that all read, the audit goes on from their statement
+pub audits_append : (c : Conversation) (s : StatementState) (first : ℕ) (xs ys : List (List ℕ)) (kind : Rest) (reads : List (List Set)) (a : Audit) → Read c s first xs reads → length reads ≡ length xs → Audits c (state_after c s xs) (first + length xs) ys kind a → Audits c s first (xs ++ ys) kind (record { sets = flat_map (λ sets. sets) reads ++ a.sets; ending = a.ending })
 audits_append c s first xs ys kind reads a r len h =
     record {
       reads = reads ++ h.reads;
@@ -84,17 +84,17 @@ audits_append c s first xs ys kind reads a r len h =
     }
 
 -- what the first payloads read as, they read as among more
-pub read_longer : (c : Conversation) (s : Standing) (first : ℕ) (xs ys : List (List ℕ)) (reads : List (List Set)) → Read c s first xs reads → Read c s first (xs ++ ys) reads
+pub read_longer : (c : Conversation) (s : StatementState) (first : ℕ) (xs ys : List (List ℕ)) (reads : List (List Set)) → Read c s first xs reads → Read c s first (xs ++ ys) reads
 read_longer c s first xs ys reads r =
     record {
-      there = omega (arith, r.there, length-append xs ys);
+      within = omega (arith, r.within, length-append xs ys);
       each = λ i lt.
-          subst (λ (es : List (List ℕ)). ReadsAs c s first es (get_or (xs ++ ys) i []) (get_or reads i [])) (sym (take-append-le i xs ys (omega (arith, r.there))))
-          (subst (λ (p : List ℕ). ReadsAs c s first (take i xs) p (get_or reads i [])) (sym (get_or-append xs ys [] i (omega (arith, r.there)))) (r.each i lt));
+          subst (λ (es : List (List ℕ)). ReadsAs c s first es (get_or (xs ++ ys) i []) (get_or reads i [])) (sym (take-append-le i xs ys (omega (arith, r.within))))
+          (subst (λ (p : List ℕ). ReadsAs c s first (take i xs) p (get_or reads i [])) (sym (get_or-append xs ys [] i (omega (arith, r.within)))) (r.each i lt));
     }
 
 -- a fault among the first payloads is the fault of all of them
-pub audits_faulty : (c : Conversation) (s : Standing) (first : ℕ) (xs ys : List (List ℕ)) (kind : Rest) (reads : List (List Set)) (f : StreamFault) → Read c s first xs reads → length reads < length xs → Faulty c s first (take (length reads) xs) (get_or xs (length reads) []) f
+pub audits_faulty : (c : Conversation) (s : StatementState) (first : ℕ) (xs ys : List (List ℕ)) (kind : Rest) (reads : List (List Set)) (f : StreamFault) → Read c s first xs reads → length reads < length xs → Faulty c s first (take (length reads) xs) (get_or xs (length reads) []) f
     → Audits c s first (xs ++ ys) kind (record { sets = flat_map (λ sets. sets) reads; ending = ends.Fault (first + length reads) f })
 audits_faulty c s first xs ys kind reads f r lt h =
     record {
@@ -112,10 +112,10 @@ audits_faulty c s first xs ys kind reads f r lt h =
 
 -- ---- there is an audit
 
-pub one_read : (c : Conversation) (s : Standing) (first : ℕ) (x : List ℕ) (sets : List Set) → ReadsAs c s first [] x sets → Read c s first (x ∷ []) (sets ∷ [])
+pub one_read : (c : Conversation) (s : StatementState) (first : ℕ) (x : List ℕ) (sets : List Set) → ReadsAs c s first [] x sets → Read c s first (x ∷ []) (sets ∷ [])
 one_read c s first x sets h =
     record {
-      there = omega arith;
+      within = omega arith;
       each = λ i lt. at i lt;
     }
   where
@@ -123,17 +123,17 @@ one_read c s first x sets h =
     at zero lt = h
     at (suc i) lt = absurd (omega arith)
 
-pub some_audit : (c : Conversation) → IsReadable c.query → (payloads : List (List ℕ)) (s : Standing) (first : ℕ) (kind : Rest) → (a : Audit) × Audits c s first payloads kind a
+pub some_audit : (c : Conversation) → IsReadable c.query → (payloads : List (List ℕ)) (s : StatementState) (first : ℕ) (kind : Rest) → (a : Audit) × Audits c s first payloads kind a
 some_audit c readable [] s first kind = (
-  record { sets = []; ending = end_by_rest c (standing_after c s []) (first + 0) kind },
-  record { reads = []; each = record { there = omega arith; each = λ i lt. absurd (omega arith) }; sets = refl; ending = inr (refl, refl) },
+  record { sets = []; ending = end_by_rest c (state_after c s []) (first + 0) kind },
+  record { reads = []; each = record { within = omega arith; each = λ i lt. absurd (omega arith) }; sets = refl; ending = inr (refl, refl) },
 )
-some_audit c readable (x ∷ xs) s first kind = by_cases (is_judged c s first [] x readable).judged (some_audit c readable xs (standing_after c s (x ∷ [])) (first + 1) kind)
+some_audit c readable (x ∷ xs) s first kind = by_cases (is_judged c s first [] x readable).judged (some_audit c readable xs (state_after c s (x ∷ [])) (first + 1) kind)
   where
-    by_cases : (((sets : List Set) × ReadsAs c s first [] x sets) ⊎ ((f : StreamFault) × Faulty c s first [] x f)) → ((b : Audit) × Audits c (standing_after c s (x ∷ [])) (first + 1) xs kind b) → (a : Audit) × Audits c s first (x ∷ xs) kind a
+    by_cases : (((sets : List Set) × ReadsAs c s first [] x sets) ⊎ ((f : StreamFault) × Faulty c s first [] x f)) → ((b : Audit) × Audits c (state_after c s (x ∷ [])) (first + 1) xs kind b) → (a : Audit) × Audits c s first (x ∷ xs) kind a
     by_cases (inr h) rest = (
       record { sets = []; ending = ends.Fault (first + 0) h.0 },
-      audits_faulty c s first (x ∷ []) xs kind [] h.0 (record { there = omega arith; each = λ i lt. absurd (omega arith) }) (omega arith) h.1,
+      audits_faulty c s first (x ∷ []) xs kind [] h.0 (record { within = omega arith; each = λ i lt. absurd (omega arith) }) (omega arith) h.1,
     )
     by_cases (inl h) rest = (
       record { sets = flat_map (λ sets. sets) (h.0 ∷ []) ++ rest.0.sets; ending = rest.0.ending },
@@ -150,12 +150,12 @@ same_reads (x ∷ xs) (y ∷ ys) e h =
     let head : x ≡ y = h 0 (omega arith) in
     let tail : xs ≡ ys = same_reads xs ys (omega (arith, e)) (λ k lt. h (suc k) (omega arith)) in cc
 
-module _ (c : Conversation) (readable : IsReadable c.query) (s : Standing) (first : ℕ) (payloads : List (List ℕ)) (kind : Rest) where
+module _ (c : Conversation) (readable : IsReadable c.query) (s : StatementState) (first : ℕ) (payloads : List (List ℕ)) (kind : Rest) where
   -- an audit can't end where another has read on
   no_longer : (n : ℕ) (ending : End) (reads : List (List Set)) → Read c s first payloads reads → Ends c s first payloads kind n ending → n < length reads → ⊥
   no_longer n ending reads r (inl h) lt =
       (is_judged c s first (take n payloads) (get_or payloads n []) readable).not_both (get_or reads n []) h.0 (r.each n lt) h.2
-  no_longer n ending reads r (inr h) lt = omega (arith, h.0, r.there)
+  no_longer n ending reads r (inr h) lt = omega (arith, h.0, r.within)
 
   same_ending : (n : ℕ) (d e : End) → Ends c s first payloads kind n d → Ends c s first payloads kind n e → d ≡ e
   same_ending n d e (inl p) (inl q) =

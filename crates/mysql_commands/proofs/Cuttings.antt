@@ -3,7 +3,7 @@ use Rattle.std.proofs.Common.{◌≡◌, ℕ, List, sym, ap, subst, ◌∙◌}
 use Rattle.std.specs.List.{concat, join_with_byte}
 use Rattle.mysql_values.specs.Tokens.{question}
 use Rattle.mysql_values.specs.Queries.{HasPlaces, IsParsed, pieces_of}
-use Rattle.mysql_values.specs.Laws.{TextIsDecided, OneReading, OnePlaces, OneTokens}
+use Rattle.mysql_values.specs.Laws.{TextIsDecided, OneReading, OnePlaces, OneTokens, SlicedIsLexed}
 use Rattle.mysql_wire.specs.GoingOn.{ReaderLaws}
 use Rattle.mysql_commands.specs.Layout.{Conversation}
 use Rattle.mysql_commands.specs.Audit.{IsAbout, Audited}
@@ -22,10 +22,10 @@ one_conversation one_tokens one_places query id c d p q =
     let id_is : c.id ≡ d.id = p.id_is ∙ sym q.id_is in
     λ i. record { query = record { text = text i; parsed = parsed i; places = places i }; id = id_is i }
 
-pub agree : ReaderLaws → TextIsDecided → OneReading → OneTokens → OnePlaces → CuttingsAgree
-agree wire decided once one_tokens one_places query id limit pieces others a b are same p q =
+pub agree : ReaderLaws → TextIsDecided → OneReading → SlicedIsLexed → OneTokens → OnePlaces → CuttingsAgree
+agree wire decided once lexed one_tokens one_places query id limit pieces others a b are same p q =
     let c : p.0 ≡ q.0 = one_conversation one_tokens one_places query id p.0 q.0 p.1 q.1 in
-    let one = one_of_stream wire q.0 limit (readable decided once one_places q.0.query q.1.is_query) (concat pieces) are in
+    let one = one_of_stream wire q.0 limit (readable decided once lexed one_places q.0.query q.1.is_query) (concat pieces) are in
     let first : Audited q.0 limit (concat pieces) a = subst (λ (d : Conversation). Audited d limit (concat pieces) a) c p.2 in
     let second : Audited q.0 limit (concat pieces) b = subst (λ (l : List ℕ). Audited q.0 limit l b) (sym same) q.2 in
     one.2 a first ∙ sym (one.2 b second)

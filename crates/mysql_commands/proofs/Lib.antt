@@ -4,7 +4,9 @@ pub mod Judging
 pub mod Auditing
 pub mod Splits
 pub mod Feeding
+pub mod Binds
 pub mod Loops
+pub mod Rows
 pub mod Pieces
 pub mod Stepping
 pub mod Progressing

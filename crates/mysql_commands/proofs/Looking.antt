@@ -7,7 +7,7 @@ use Rattle.std.proofs.lemmas.List.Elements.{filter_map-append, recursion_from_Al
 use Rattle.std.proofs.lemmas.List.Concat.{flat_map-append}
 use Rattle.std.proofs.lemmas.List.{append-nil}
 use Rattle.mysql_commands.specs.Layout.{Conversation, Types}
-use Rattle.mysql_commands.specs.InForce.{Standing, said_by, last_said, speaks_of_prepared, speaks_of_types, speaks_of_place, is_end, since, joined, waiting_for, standing_after}
+use Rattle.mysql_commands.specs.InForce.{StatementState, said_by, last_said, speaks_of_prepared, speaks_of_types, speaks_of_place, is_end, since, joined, waiting_for, state_after}
 
 last_or-append : {A : Type 0} (o : Option A) (xs ys : List A) → last_or o (xs ++ ys) ≡ last_or (last_or o xs) ys
 last_or-append o [] ys = refl
@@ -94,16 +94,16 @@ waiting_for-append c before xs ys place = by_cases (list_any is_end ys) refl
         ∙ sym (ap (λ b. joined (option_to_list (cond b None (waiting_for c before xs place)) ++ data_of (since is_end ys))) h
         ∙ ap (λ l. joined (option_to_list (waiting_for c before xs place) ++ data_of l)) (since-none is_end ys h))
 
-pub standing_after_append : (c : Conversation) (s : Standing) (xs ys : List (List ℕ)) → standing_after c s (xs ++ ys) ≡ standing_after c (standing_after c s xs) ys
-standing_after_append c s xs ys = λ i. record {
-  prepared = last_said-append (said_by speaks_of_prepared) s.prepared xs ys i;
+pub state_after_append : (c : Conversation) (s : StatementState) (xs ys : List (List ℕ)) → state_after c s (xs ++ ys) ≡ state_after c (state_after c s xs) ys
+state_after_append c s xs ys = λ i. record {
+  prepared = last_said-append (said_by (speaks_of_prepared c)) s.prepared xs ys i;
   types = last_said-append (said_by (speaks_of_types c)) s.types xs ys i;
   pieces = λ place. waiting_for-append c (s.pieces place) xs ys place i;
 }
 
 -- before any payload what held before is in force
-pub standing_after_nil : (c : Conversation) (s : Standing) → standing_after c s [] ≡ s
-standing_after_nil c s = λ i. record { prepared = s.prepared; types = s.types; pieces = λ place. one (s.pieces place) i }
+pub state_after_nil : (c : Conversation) (s : StatementState) → state_after c s [] ≡ s
+state_after_nil c s = λ i. record { prepared = s.prepared; types = s.types; pieces = λ place. one (s.pieces place) i }
   where
     one : (o : Option (List ℕ)) → joined (option_to_list o ++ []) ≡ o
     one None = refl

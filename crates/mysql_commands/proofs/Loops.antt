@@ -9,10 +9,10 @@ use Rattle.mysql_commands.specs.declared.refusal.Refusal.{Refusal}
 use Rattle.mysql_commands.specs.declared.refusal.Refusal.TheVariants as refusal
 use Rattle.mysql_wire.specs.Wire.{◌>>=◌}
 use Rattle.mysql_commands.specs.Layout.{Types, type_at, types_at}
-use Rattle.mysql_commands.specs.declared.fault.StreamFault.TheVariants.{BadExecute, BadBulk}
+use Rattle.mysql_commands.specs.declared.fault.StreamFault.TheVariants.{BadExecute}
 use Rattle.mysql_commands.specs.declared.param_type.ParamType.{ParamType}
 use Rattle.mysql_values.specs.Content.{Content}
-use Rattle.mysql_commands.specs.Reading.{Set, held_at, set_at, column_at, row_at, rows_at}
+use Rattle.mysql_commands.specs.Reading.{Set, parameter_at, set_at, column_at, columns_at}
 use Rattle.mysql_commands.specs.Views.{Fails}
 
 -- what was read before, and what is still read
@@ -58,7 +58,7 @@ behind_one {A = A} before n (Ok x) = ap (λ (ns : List A). Ok ns) (simp append_a
 behind_one before n (Err f) = refl
 
 module _ (pieces : ℕ → Option (List ℕ)) (nulls : List ℕ) (types : List ParamType) (total : Result Set StreamFault) where
-  pub set_goes_on : (before : Set) (place : ℕ) (t : ParamType) (rest : List ℕ) (n : Content) (after : List ℕ) → drop place types ≡ t ∷ drop (place + 1) types → held_at pieces nulls place t rest ≡ Ok (n, after)
+  pub set_goes_on : (before : Set) (place : ℕ) (t : ParamType) (rest : List ℕ) (n : Content) (after : List ℕ) → drop place types ≡ t ∷ drop (place + 1) types → parameter_at pieces nulls place t rest ≡ Ok (n, after)
       → behind before (set_at pieces nulls place (drop place types) rest) ≡ total → behind (before ++ n ∷ []) (set_at pieces nulls (place + 1) (drop (place + 1) types) after) ≡ total
   unfolding set_at
   set_goes_on before place t rest n after e h so_far =
@@ -66,7 +66,7 @@ module _ (pieces : ℕ → Option (List ℕ)) (nulls : List ℕ) (types : List P
       rw (e, h) (behind_one before n (set_at pieces nulls (place + 1) (drop (place + 1) types) after)) in
       sym one ∙ so_far
 
-  pub set_ends : (r : Refusal) (before : Set) (place : ℕ) (t : ParamType) (rest : List ℕ) → drop place types ≡ t ∷ drop (place + 1) types → Fails r (held_at pieces nulls place t rest)
+  pub set_ends : (r : Refusal) (before : Set) (place : ℕ) (t : ParamType) (rest : List ℕ) → drop place types ≡ t ∷ drop (place + 1) types → Fails r (parameter_at pieces nulls place t rest)
       → behind before (set_at pieces nulls place (drop place types) rest) ≡ total → Fails r total
   unfolding set_at
   set_ends refusal.Memory before place t rest e h so_far = tt
@@ -97,61 +97,28 @@ at_place types place t lt = rw add-one (drop-cons types place t lt)
 -- ---- the columns of a row
 
 module _ (types : List ParamType) (total : Result (Set × List ℕ) StreamFault) where
-  pub row_goes_on : (before : Set) (i : ℕ) (t : ParamType) (rest : List ℕ) (n : Content) (after : List ℕ) → drop i types ≡ t ∷ drop (i + 1) types → column_at t rest ≡ Ok (n, after)
-      → with_front before (row_at (drop i types) rest) ≡ total → with_front (before ++ n ∷ []) (row_at (drop (i + 1) types) after) ≡ total
-  unfolding row_at
-  row_goes_on before i t rest n after e h so_far =
-      let one : with_front before (row_at (drop i types) rest) ≡ with_front (before ++ n ∷ []) (row_at (drop (i + 1) types) after) =
-      rw (e, h) (regroup before n (row_at (drop (i + 1) types) after)) in
+  pub columns_go_on : (before : Set) (i : ℕ) (t : ParamType) (rest : List ℕ) (n : Content) (after : List ℕ) → drop i types ≡ t ∷ drop (i + 1) types → column_at t rest ≡ Ok (n, after)
+      → with_front before (columns_at (drop i types) rest) ≡ total → with_front (before ++ n ∷ []) (columns_at (drop (i + 1) types) after) ≡ total
+  unfolding columns_at
+  columns_go_on before i t rest n after e h so_far =
+      let one : with_front before (columns_at (drop i types) rest) ≡ with_front (before ++ n ∷ []) (columns_at (drop (i + 1) types) after) =
+      rw (e, h) (regroup before n (columns_at (drop (i + 1) types) after)) in
       sym one ∙ so_far
 
-  pub row_ends : (r : Refusal) (before : Set) (i : ℕ) (t : ParamType) (rest : List ℕ) → drop i types ≡ t ∷ drop (i + 1) types → Fails r (column_at t rest)
-      → with_front before (row_at (drop i types) rest) ≡ total → Fails r total
-  unfolding row_at
-  row_ends refusal.Memory before i t rest e h so_far = tt
-  row_ends (refusal.Fault f) before i t rest e h so_far =
-      let one : with_front before (row_at (drop i types) rest) ≡ Err f = rw (e, h) refl in
+  pub columns_end : (r : Refusal) (before : Set) (i : ℕ) (t : ParamType) (rest : List ℕ) → drop i types ≡ t ∷ drop (i + 1) types → Fails r (column_at t rest)
+      → with_front before (columns_at (drop i types) rest) ≡ total → Fails r total
+  unfolding columns_at
+  columns_end refusal.Memory before i t rest e h so_far = tt
+  columns_end (refusal.Fault f) before i t rest e h so_far =
+      let one : with_front before (columns_at (drop i types) rest) ≡ Err f = rw (e, h) refl in
       sym so_far ∙ one
 
-  pub row_done : (before : Set) (i : ℕ) (rest : List ℕ) → length types ≤ i → with_front before (row_at (drop i types) rest) ≡ total → total ≡ Ok (before, rest)
-  unfolding row_at
-  row_done before i rest past so_far =
+  pub columns_done : (before : Set) (i : ℕ) (rest : List ℕ) → length types ≤ i → with_front before (columns_at (drop i types) rest) ≡ total → total ≡ Ok (before, rest)
+  unfolding columns_at
+  columns_done before i rest past so_far =
       let none : drop i types ≡ [] = drop_all i types past in
-      let one : with_front before (row_at (drop i types) rest) ≡ Ok (before, rest) = rw none (ap (λ (ns : Set). Ok (ns, rest)) (append-nil before)) in
+      let one : with_front before (columns_at (drop i types) rest) ≡ Ok (before, rest) = rw none (ap (λ (ns : Set). Ok (ns, rest)) (append-nil before)) in
       sym so_far ∙ one
-
--- ---- the rows of a bulk
-
-module _ (types : Types) (total : Result (List Set) StreamFault) where
-  pub rows_go_on : (before : List Set) (count i : ℕ) (rest : List ℕ) (n : Set) (after : List ℕ) → i < count → false ≡ (length rest == 0) → row_at types rest ≡ Ok (n, after)
-      → behind before (rows_at types (count - i) rest) ≡ total → behind (before ++ n ∷ []) (rows_at types (count - (i + 1)) after) ≡ total
-  unfolding rows_at
-  rows_go_on before count i [] n after lt e h so_far = absurd cc
-  rows_go_on before count i (b ∷ rest) n after lt e h so_far =
-      let k : count - i ≡ suc (count - (i + 1)) = omega arith in
-      let one : behind before (rows_at types (count - i) (b ∷ rest)) ≡ behind (before ++ n ∷ []) (rows_at types (count - (i + 1)) after) =
-      rw (k, h) (behind_one before n (rows_at types (count - (i + 1)) after)) in
-      sym one ∙ so_far
-
-  pub rows_end : (r : Refusal) (before : List Set) (count i : ℕ) (rest : List ℕ) → i < count → false ≡ (length rest == 0) → Fails r (row_at types rest)
-      → behind before (rows_at types (count - i) rest) ≡ total → Fails r total
-  unfolding rows_at
-  rows_end refusal.Memory before count i rest lt e h so_far = tt
-  rows_end (refusal.Fault f) before count i [] lt e h so_far = absurd cc
-  rows_end (refusal.Fault f) before count i (b ∷ rest) lt e h so_far =
-      let k : count - i ≡ suc (count - (i + 1)) = omega arith in
-      let one : behind before (rows_at types (count - i) (b ∷ rest)) ≡ Err f = rw (k, h) refl in
-      sym so_far ∙ one
-
-  pub rows_done : (before : List Set) (n : ℕ) (rest : List ℕ) → true ≡ (length rest == 0) → behind before (rows_at types n rest) ≡ total → total ≡ Ok before
-  unfolding rows_at
-  rows_done before n (b ∷ rest) e so_far = absurd (omega (arith, eqb-true (length (b ∷ rest)) 0 (sym e)))
-  rows_done before n [] e so_far = sym so_far ∙ ap (λ (ns : List Set). Ok ns) (append-nil before)
-
-  pub rows_left : (before : List Set) (n : ℕ) (rest : List ℕ) → n ≡ 0 → false ≡ (length rest == 0) → behind before (rows_at types n rest) ≡ total → total ≡ Err BadBulk
-  unfolding rows_at
-  rows_left before n [] z e so_far = absurd cc
-  rows_left before n (b ∷ rest) z e so_far = let one : behind before (rows_at types n (b ∷ rest)) ≡ Err BadBulk = rw z refl in sym so_far ∙ one
 
 -- ---- a test of the places from one on
 

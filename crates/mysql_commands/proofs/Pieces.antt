@@ -5,7 +5,8 @@ use Rattle.std.specs.List.{slice_get}
 use Rattle.std.specs.Option.{option_map, option_and_then, option_to_list}
 use Rattle.std.proofs.lemmas.Bool.{cases_eq, eq-eqb, ne_eqb}
 use Rattle.std.proofs.lemmas.Option.{slice_get-get_or}
-use Rattle.mysql_commands.specs.InForce.{with_piece, joined}
+use Rattle.mysql_commands.specs.InForce.{joined}
+use Rattle.mysql_commands.specs.Steps.{with_piece}
 use Rattle.mysql_commands.specs.Views.{piece_kept}
 
 get_same : {A : Type 0} (xs : List A) (i : ℕ) (x : A) → i < length xs → slice_get (set xs i x) i ≡ Some x

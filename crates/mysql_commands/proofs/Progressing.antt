@@ -20,34 +20,34 @@ use Rattle.mysql_commands.specs.declared.refusal.Refusal.{Refusal}
 use Rattle.mysql_commands.specs.declared.refusal.Refusal.TheVariants as refusal
 use Rattle.mysql_commands.specs.declared.progress.Progress.{Progress}
 use Rattle.mysql_commands.specs.Layout.{Conversation}
-use Rattle.mysql_commands.specs.InForce.{Standing, standing_after}
+use Rattle.mysql_commands.specs.InForce.{StatementState, state_after}
 use Rattle.mysql_commands.specs.Reading.{Set, ReadsAs, Faulty, PayloadReadsAs, PayloadFaulty}
 use Rattle.mysql_commands.specs.Audit.{Read}
-use Rattle.mysql_commands.specs.Views.{standing_of, sets_of, PayloadJudged}
-use Rattle.mysql_commands.specs.GoingOn.{Held, Fed, fault_of_rest}
-use Rattle.mysql_commands.specs.Progress.{ReadOne, OneBy}
-use Rattle.mysql_commands.specs.Receiving.{holds, fault_by, refusal_by, IsOpen}
-use Rattle.mysql_commands.proofs.Looking.{standing_after_nil, standing_after_append}
+use Rattle.mysql_commands.specs.Views.{state_of, sets_of, PayloadJudged}
+use Rattle.mysql_commands.specs.GoingOn.{ReceiverState, Fed, fault_of_rest}
+use Rattle.mysql_commands.specs.Steps.{ReadOne, OneBy}
+use Rattle.mysql_commands.specs.Parts.{state_of_parts, fault_by, refusal_by, IsOpen}
+use Rattle.mysql_commands.proofs.Looking.{state_after_nil, state_after_append}
 use Rattle.mysql_commands.proofs.Auditing.{read_append, one_read, read_longer, faulty_from}
 use Rattle.mysql_commands.proofs.Splits.{some_split, bytes_behind, each_stays}
 
-pub reads_first : (c : Conversation) (s : Standing) (n : ℕ) (payload : List ℕ) (sets : List Set) → n < 2 ^ 64 - 1 → PayloadReadsAs c s payload sets → ReadsAs c s n [] payload sets
-reads_first c s n payload sets few h = (omega arith, subst (λ (st : Standing). PayloadReadsAs c st payload sets) (sym (standing_after_nil c s)) h)
+pub reads_first : (c : Conversation) (s : StatementState) (n : ℕ) (payload : List ℕ) (sets : List Set) → n < 2 ^ 64 - 1 → PayloadReadsAs c s payload sets → ReadsAs c s n [] payload sets
+reads_first c s n payload sets few h = (omega arith, subst (λ (st : StatementState). PayloadReadsAs c st payload sets) (sym (state_after_nil c s)) h)
 
-pub fails_first : (c : Conversation) (old new : Progress) (payload : List ℕ) (r : Refusal) → old.count < 2 ^ 64 - 1 → PayloadJudged c (standing_of old.standing) payload (Err r) → OneBy c old payload new (Err r)
+pub fails_first : (c : Conversation) (old new : Progress) (payload : List ℕ) (r : Refusal) → old.count < 2 ^ 64 - 1 → PayloadJudged c (state_of old.statement) payload (Err r) → OneBy c old payload new (Err r)
 fails_first c old new payload refusal.Memory few h = tt
-fails_first c old new payload (refusal.Fault f) few h = inr (omega arith, subst (λ (st : Standing). PayloadFaulty c st payload f) (sym (standing_after_nil c (standing_of old.standing))) h)
+fails_first c old new payload (refusal.Fault f) few h = inr (omega arith, subst (λ (st : StatementState). PayloadFaulty c st payload f) (sym (state_after_nil c (state_of old.statement))) h)
 
 -- so many payloads of the bytes were handed out, and they were read
 pub record Behind (c : Conversation) (limit : ℕ) (old : Progress) (bytes : List ℕ) (codec : Codec) (src packet : List ℕ) (now : Progress) : Type 0 where
   pub payloads : List (List ℕ)
   pub taken : HasRead limit EachFromZero bytes payloads codec src packet
   pub reads : List (List Set)
-  pub each : Read c (standing_of old.standing) old.count payloads reads
+  pub each : Read c (state_of old.statement) old.count payloads reads
   pub all : length reads ≡ length payloads
   pub sets : sets_of now.sets.items ≡ sets_of old.sets.items ++ flat_map (λ sets. sets) reads
   pub count : now.count ≡ old.count + length reads
-  pub standing : standing_of now.standing ≡ standing_after c (standing_of old.standing) payloads
+  pub statement : state_of now.statement ≡ state_after c (state_of old.statement) payloads
 
 module _ (wire : ReaderLaws) (c : Conversation) (limit : ℕ) (old : Progress) (bytes : List ℕ) where
   pub behind_none : (codec : Codec) (src packet : List ℕ) → HasRead limit EachFromZero bytes [] codec src packet → Behind c limit old bytes codec src packet old
@@ -56,20 +56,20 @@ module _ (wire : ReaderLaws) (c : Conversation) (limit : ℕ) (old : Progress) (
         payloads = [];
         taken = h;
         reads = [];
-        each = record { there = omega arith; each = λ i lt. absurd (omega arith) };
+        each = record { within = omega arith; each = λ i lt. absurd (omega arith) };
         all = refl;
         sets = sym (append-nil (sets_of old.sets.items));
         count = omega arith;
-        standing = sym (standing_after_nil c (standing_of old.standing));
+        statement = sym (state_after_nil c (state_of old.statement));
       }
 
   -- the next payload reads
   next_read : (codec : Codec) (src packet payload : List ℕ) (mid new : Progress) (b : Behind c limit old bytes codec src packet mid) (one : ReadOne c mid payload new)
-      → Read c (standing_after c (standing_of old.standing) b.payloads) (old.count + length b.payloads) (payload ∷ []) (one.sets ∷ [])
+      → Read c (state_after c (state_of old.statement) b.payloads) (old.count + length b.payloads) (payload ∷ []) (one.sets ∷ [])
   next_read codec src packet payload mid new b one =
-      one_read c (standing_after c (standing_of old.standing) b.payloads) (old.count + length b.payloads) payload one.sets
-      (subst (λ (k : ℕ). ReadsAs c (standing_after c (standing_of old.standing) b.payloads) k [] payload one.sets) (omega (arith, b.count, b.all))
-      (subst (λ (st : Standing). ReadsAs c st mid.count [] payload one.sets) b.standing one.reads))
+      one_read c (state_after c (state_of old.statement) b.payloads) (old.count + length b.payloads) payload one.sets
+      (subst (λ (k : ℕ). ReadsAs c (state_after c (state_of old.statement) b.payloads) k [] payload one.sets) (omega (arith, b.count, b.all))
+      (subst (λ (st : StatementState). ReadsAs c st mid.count [] payload one.sets) b.statement one.reads))
 
   pub behind_more : (codec : Codec) (src packet : List ℕ) (next : Codec) (after payload : List ℕ) (mid new : Progress) → Behind c limit old bytes codec src packet mid → HandsOut codec src packet next after payload → ReadOne c mid payload new
       → Behind c limit old bytes (record next { number = 0 }) after [] new
@@ -78,13 +78,13 @@ module _ (wire : ReaderLaws) (c : Conversation) (limit : ℕ) (old : Progress) (
         payloads = b.payloads ++ payload ∷ [];
         taken = (wire.takes limit bytes b.payloads codec next src packet after payload h).1 b.taken;
         reads = b.reads ++ one.sets ∷ [];
-        each = read_append c (standing_of old.standing) old.count b.payloads (payload ∷ []) b.reads (one.sets ∷ []) b.each b.all (next_read codec src packet payload mid new b one);
+        each = read_append c (state_of old.statement) old.count b.payloads (payload ∷ []) b.reads (one.sets ∷ []) b.each b.all (next_read codec src packet payload mid new b one);
         all = omega (arith, b.all, length-append b.reads (one.sets ∷ []), length-append b.payloads (payload ∷ []));
         sets = one.more ∙ ap (λ (l : List Set). l ++ one.sets) b.sets ∙ append_assoc (sets_of old.sets.items) (flat_map (λ sets. sets) b.reads) one.sets
             ∙ ap (λ (l : List Set). sets_of old.sets.items ++ l) (ap (λ (l : List Set). flat_map (λ sets. sets) b.reads ++ l) (sym (append-nil one.sets)) ∙ sym (flat_map-append (λ sets. sets) b.reads (one.sets ∷ [])));
         count = omega (arith, one.count, b.count, length-append b.reads (one.sets ∷ []));
-        standing = one.standing ∙ ap (λ (st : Standing). standing_after c st (payload ∷ [])) b.standing
-            ∙ sym (standing_after_append c (standing_of old.standing) b.payloads (payload ∷ []));
+        statement = one.statement ∙ ap (λ (st : StatementState). state_after c st (payload ∷ [])) b.statement
+            ∙ sym (state_after_append c (state_of old.statement) b.payloads (payload ∷ []));
       }
 
   -- the same of a reader whose number was set to 0
@@ -111,7 +111,7 @@ module _ (wire : ReaderLaws) (c : Conversation) (limit : ℕ) (old : Progress) (
 
   -- the reader waits for more bytes
   pub waits_fed : (r new : Incoming) (piece rest : List ℕ) (now : Progress) → r.number ≡ 0 → Behind c limit old bytes (codec_by r) (r.bytes ++ piece) [] now → ReadsOn r piece false new rest →
-      new ≡ record r { bytes = r.bytes ++ piece; payload = [] } → Fed c limit (holds old [] None) bytes (holds now new.bytes None)
+      new ≡ record r { bytes = r.bytes ++ piece; payload = [] } → Fed c limit (state_of_parts old [] None) bytes (state_of_parts now new.bytes None)
   waits_fed r new piece rest now zero b w e =
       let left : held (codec_by r) (r.bytes ++ piece) [] ≡ new.bytes = (wire.between (codec_by r) (r.bytes ++ piece) (refl, b.taken.refused) (omega (arith, zero))).0 ∙ sym (ap (λ (x : Incoming). x.bytes) e) in
       record {
@@ -121,7 +121,7 @@ module _ (wire : ReaderLaws) (c : Conversation) (limit : ℕ) (old : Progress) (
         each = b.each;
         sets = b.sets;
         count = b.count;
-        stands = inr (inr (b.all, no_fault_of w.rest w.no_fault, λ _. (sym left, b.standing)));
+        stops = inr (inr (b.all, no_fault_of w.rest w.no_fault, λ _. (sym left, b.statement)));
       }
 
   pub waits_open : (r new : Incoming) (piece rest : List ℕ) (now : Progress) → AreBytes bytes → r.number ≡ 0 → Behind c limit old bytes (codec_by r) (r.bytes ++ piece) [] now → ReadsOn r piece false new rest →
@@ -141,7 +141,7 @@ module _ (wire : ReaderLaws) (c : Conversation) (limit : ℕ) (old : Progress) (
 
   -- want of memory
   pub memory_fed : (codec : Codec) (src packet partial : List ℕ) (mid now : Progress) → AreBytes bytes → Behind c limit old bytes codec src packet mid → sets_of now.sets.items ≡ sets_of mid.sets.items → now.count ≡ mid.count
-      → Fed c limit (holds old [] None) bytes (holds now partial (Some Memory))
+      → Fed c limit (state_of_parts old [] None) bytes (state_of_parts now partial (Some Memory))
   memory_fed codec src packet partial mid now are b sets count =
       let s = some_split wire limit bytes are in
       let f = wire.come_first limit EachFromZero b.payloads bytes (held codec src packet) s.0 b.taken.within b.taken.joined s.1 in
@@ -149,19 +149,19 @@ module _ (wire : ReaderLaws) (c : Conversation) (limit : ℕ) (old : Progress) (
         split = s.0;
         is_split = s.1;
         reads = b.reads;
-        each = subst (λ (l : List (List ℕ)). Read c (standing_of old.standing) old.count l b.reads) (sym f.1) (read_longer c (standing_of old.standing) old.count b.payloads f.0 b.reads b.each);
+        each = subst (λ (l : List (List ℕ)). Read c (state_of old.statement) old.count l b.reads) (sym f.1) (read_longer c (state_of old.statement) old.count b.payloads f.0 b.reads b.each);
         sets = sets ∙ b.sets;
         count = count ∙ b.count;
-        stands = inr (inl refl);
+        stops = inr (inl refl);
       }
 
   -- the codec refuses
   pub refused_fed : (codec next : Codec) (src packet partial : List ℕ) (error : PacketCodecError) (now : Progress) → AreBytes bytes → Behind c limit old bytes codec src packet now → RefusesBy codec src packet next error
-      → Fed c limit (holds old [] None) bytes (holds now partial (fault_by (Err (refusal_by error))))
+      → Fed c limit (state_of_parts old [] None) bytes (state_of_parts now partial (fault_by (Err (refusal_by error))))
   refused_fed codec next src packet partial error now are b r =
-      subst (λ (e : PacketCodecError). Fed c limit (holds old [] None) bytes (holds now partial (fault_by (Err (refusal_by e))))) (sym r.answered) (by r.refusal (r.due b.taken.refused))
+      subst (λ (e : PacketCodecError). Fed c limit (state_of_parts old [] None) bytes (state_of_parts now partial (fault_by (Err (refusal_by e))))) (sym r.answered) (by r.refusal (r.due b.taken.refused))
     where
-      by : (x : CodecRefusal) → IsDue codec src packet x → Fed c limit (holds old [] None) bytes (holds now partial (fault_by (Err (refusal_by (error_of x)))))
+      by : (x : CodecRefusal) → IsDue codec src packet x → Fed c limit (state_of_parts old [] None) bytes (state_of_parts now partial (fault_by (Err (refusal_by (error_of x)))))
       by codec_refusal.TooLarge due =
           record {
             split = record { payloads = b.payloads; rest_bytes = held codec src packet; rest = TooLargeRest };
@@ -170,7 +170,7 @@ module _ (wire : ReaderLaws) (c : Conversation) (limit : ℕ) (old : Progress) (
             each = b.each;
             sets = b.sets;
             count = b.count;
-            stands = inr (inr (b.all, refl, λ e. absurd cc));
+            stops = inr (inr (b.all, refl, λ e. absurd cc));
           }
       by codec_refusal.OutOfSync due =
           record {
@@ -180,26 +180,26 @@ module _ (wire : ReaderLaws) (c : Conversation) (limit : ℕ) (old : Progress) (
             each = b.each;
             sets = b.sets;
             count = b.count;
-            stands = inr (inr (b.all, refl, λ e. absurd cc));
+            stops = inr (inr (b.all, refl, λ e. absurd cc));
           }
       by codec_refusal.Memory due = memory_fed codec src packet partial now now are b refl refl
 
   -- a payload is refused
   pub payload_fed : (codec : Codec) (src packet : List ℕ) (next : Codec) (after payload partial : List ℕ) (mid now : Progress) (r : Refusal) → AreBytes bytes → Behind c limit old bytes codec src packet mid → HandsOut codec src packet next after payload
       → OneBy c mid payload now (Err r) → sets_of now.sets.items ≡ sets_of mid.sets.items → now.count ≡ mid.count
-      → Fed c limit (holds old [] None) bytes (holds now partial (fault_by (Err r)))
+      → Fed c limit (state_of_parts old [] None) bytes (state_of_parts now partial (fault_by (Err r)))
   payload_fed codec src packet next after payload partial mid now refusal.Memory are b h one sets count = memory_fed codec src packet partial mid now are b sets count
   payload_fed codec src packet next after payload partial mid now (refusal.Fault f) are b h one sets count =
       let s = some_split wire limit bytes are in
       let taken = (wire.takes limit bytes b.payloads codec next src packet after payload h).1 b.taken in
       let found = wire.come_first limit EachFromZero (b.payloads ++ payload ∷ []) bytes (held (record next { number = 0 }) after []) s.0 taken.within taken.joined s.1 in
       let is : s.0.payloads ≡ b.payloads ++ (payload ∷ found.0) = found.1 ∙ append_assoc b.payloads (payload ∷ []) found.0 in
-      let moved : Faulty c (standing_after c (standing_of old.standing) b.payloads) (old.count + length b.payloads) [] payload f =
-      subst (λ (k : ℕ). Faulty c (standing_after c (standing_of old.standing) b.payloads) k [] payload f) (omega (arith, b.count, b.all))
-      (subst (λ (st : Standing). Faulty c st mid.count [] payload f) b.standing one) in
-      let here_it_is : Faulty c (standing_of old.standing) old.count b.payloads payload f =
-      subst (λ (l : List (List ℕ)). Faulty c (standing_of old.standing) old.count l payload f) (append-nil b.payloads)
-      (faulty_from c (standing_of old.standing) old.count b.payloads [] payload f moved) in
+      let moved : Faulty c (state_after c (state_of old.statement) b.payloads) (old.count + length b.payloads) [] payload f =
+      subst (λ (k : ℕ). Faulty c (state_after c (state_of old.statement) b.payloads) k [] payload f) (omega (arith, b.count, b.all))
+      (subst (λ (st : StatementState). Faulty c st mid.count [] payload f) b.statement one) in
+      let here_it_is : Faulty c (state_of old.statement) old.count b.payloads payload f =
+      subst (λ (l : List (List ℕ)). Faulty c (state_of old.statement) old.count l payload f) (append-nil b.payloads)
+      (faulty_from c (state_of old.statement) old.count b.payloads [] payload f moved) in
       let front : take (length b.reads) s.0.payloads ≡ b.payloads = ap (λ (n : ℕ). take n s.0.payloads) b.all ∙ ap (λ (l : List (List ℕ)). take (length b.payloads) l) is ∙ take-append_seam b.payloads (payload ∷ found.0) in
       let at : get_or s.0.payloads (length b.reads) [] ≡ payload =
       ap (λ (l : List (List ℕ)). get_or l (length b.reads) []) is ∙ ap (λ (n : ℕ). get_or (b.payloads ++ (payload ∷ found.0)) n []) (b.all ∙ omega arith) ∙ get_or-append-add b.payloads (payload ∷ found.0) 0 [] in
@@ -207,14 +207,14 @@ module _ (wire : ReaderLaws) (c : Conversation) (limit : ℕ) (old : Progress) (
         split = s.0;
         is_split = s.1;
         reads = b.reads;
-        each = subst (λ (l : List (List ℕ)). Read c (standing_of old.standing) old.count l b.reads) (sym is) (read_longer c (standing_of old.standing) old.count b.payloads (payload ∷ found.0) b.reads b.each);
+        each = subst (λ (l : List (List ℕ)). Read c (state_of old.statement) old.count l b.reads) (sym is) (read_longer c (state_of old.statement) old.count b.payloads (payload ∷ found.0) b.reads b.each);
         sets = sets ∙ b.sets;
         count = count ∙ b.count;
-        stands = inl (
+        stops = inl (
           f,
           omega (arith, ap length is, b.all, length-append b.payloads (payload ∷ found.0)),
-          subst (λ (p : List ℕ). Faulty c (standing_of old.standing) old.count (take (length b.reads) s.0.payloads) p f) (sym at)
-              (subst (λ (l : List (List ℕ)). Faulty c (standing_of old.standing) old.count l payload f) (sym front) here_it_is),
+          subst (λ (p : List ℕ). Faulty c (state_of old.statement) old.count (take (length b.reads) s.0.payloads) p f) (sym at)
+              (subst (λ (l : List (List ℕ)). Faulty c (state_of old.statement) old.count l payload f) (sym front) here_it_is),
           refl,
         );
       }
@@ -224,5 +224,5 @@ pub piece_reads : ReaderLaws → (r : Incoming) (piece : List ℕ) → IsOpen r 
 piece_reads wire r piece o = wire.feeds r.limit EachFromZero r.bytes [] (codec_by r) r.bytes [] piece o.reading
 
 -- what was held before the piece and the piece are one list of bytes
-pub piece_fed : (c : Conversation) (limit : ℕ) (old : Progress) (bytes piece : List ℕ) (new : Held) → Fed c limit (holds old [] None) (bytes ++ piece) new → Fed c limit (holds old bytes None) piece new
-piece_fed c limit old bytes piece new h = record { split = h.split; is_split = h.is_split; reads = h.reads; each = h.each; sets = h.sets; count = h.count; stands = h.stands }
+pub piece_fed : (c : Conversation) (limit : ℕ) (old : Progress) (bytes piece : List ℕ) (new : ReceiverState) → Fed c limit (state_of_parts old [] None) (bytes ++ piece) new → Fed c limit (state_of_parts old bytes None) piece new
+piece_fed c limit old bytes piece new h = record { split = h.split; is_split = h.is_split; reads = h.reads; each = h.each; sets = h.sets; count = h.count; stops = h.stops }

@@ -1,5 +1,5 @@
 -- What the cell of a value is read as.
-use Rattle.std.proofs.Common.{◌≡◌, ℕ, Bool, true, List, [], ◌∷◌, ◌++◌, Some, Ok, refl, ◌∙◌}
+use Rattle.std.proofs.Common.{◌≡◌, ℕ, Bool, true, List, ◌++◌, Some, Ok, refl, ◌∙◌}
 use Rattle.std.specs.Prelude.{not}
 use Rattle.mysql_values.specs.CellLaws.{CellsReadBack, ReadBackMeansTheSame, read_back}
 use Rattle.mysql_values.specs.Cells.{cell, cell_at, is_float, is_unsigned, type_number}

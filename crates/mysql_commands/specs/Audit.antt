@@ -8,7 +8,7 @@ use Rattle.mysql_commands.specs.declared.audit.End.{End}
 use Rattle.mysql_commands.specs.declared.audit.End.TheVariants.{Fault, WaitingPieces, UnfinishedPacket, Whole}
 use Rattle.mysql_commands.specs.Query.{IsQuery}
 use Rattle.mysql_commands.specs.Layout.{Conversation}
-use Rattle.mysql_commands.specs.InForce.{Standing, nothing_yet, standing_after, is_waiting}
+use Rattle.mysql_commands.specs.InForce.{StatementState, nothing_yet, state_after, is_waiting}
 use Rattle.mysql_commands.specs.Reading.{Set, ReadsAs, Faulty}
 use Rattle.mysql_wire.specs.Stream.{Rest, Split, IsSplit}
 use Rattle.mysql_wire.specs.Stream.Rest.{Empty as EmptyRest, TooLarge as TooLargeRest, OutOfSync as OutOfSyncRest, Open as OpenRest}
@@ -19,32 +19,32 @@ pub record Audit : Type 0 where
   pub ending : End
 
 -- the end where no payload is faulty: by the rest, and by the pieces that wait
-abbrev pub end_by_rest : Conversation → Standing → ℕ → Rest → End
+abbrev pub end_by_rest : Conversation → StatementState → ℕ → Rest → End
 end_by_rest c s count TooLargeRest = Fault count TooLarge
 end_by_rest c s count OutOfSyncRest = Fault count OutOfSync
 end_by_rest c s count OpenRest = if is_waiting c s then WaitingPieces else UnfinishedPacket
 end_by_rest c s count EmptyRest = if is_waiting c s then WaitingPieces else Whole
 
 -- The payloads read as these, one after another, each by what is in force there. The first of them has the number first.
-pub record Read (c : Conversation) (s : Standing) (first : ℕ) (payloads : List (List ℕ)) (reads : List (List Set)) : Type 0 where
-  pub there : length reads ≤ length payloads
+pub record Read (c : Conversation) (s : StatementState) (first : ℕ) (payloads : List (List ℕ)) (reads : List (List Set)) : Type 0 where
+  pub within : length reads ≤ length payloads
   pub each : (i : ℕ) → i < length reads → ReadsAs c s first (take i payloads) (slice_index_or payloads i []) (slice_index_or reads i [])
 
 -- Behind so many payloads that were read comes the fault of the next one, or none comes and the rest decides.
-abbrev pub Ends : Conversation → Standing → ℕ → List (List ℕ) → Rest → ℕ → End → Type 0
+abbrev pub Ends : Conversation → StatementState → ℕ → List (List ℕ) → Rest → ℕ → End → Type 0
 Ends c s first payloads rest n ending =
     ((f : StreamFault) × (n < length payloads) × Faulty c s first (take n payloads) (slice_index_or payloads n []) f × (ending ≡ Fault (first + n) f))
-    ⊎ ((n ≡ length payloads) × (ending ≡ end_by_rest c (standing_after c s payloads) (first + n) rest))
+    ⊎ ((n ≡ length payloads) × (ending ≡ end_by_rest c (state_after c s payloads) (first + n) rest))
 
--- The audit of payloads and a rest, from a standing on: the sets of all payloads before the least faulty one, and the end.
-pub record Audits (c : Conversation) (s : Standing) (first : ℕ) (payloads : List (List ℕ)) (rest : Rest) (audit : Audit) : Type 0 where
+-- The audit of payloads and a rest, where this is in force before them: the sets of all payloads before the least faulty one, and the end.
+pub record Audits (c : Conversation) (s : StatementState) (first : ℕ) (payloads : List (List ℕ)) (rest : Rest) (audit : Audit) : Type 0 where
   pub reads : List (List Set)
   pub each : Read c s first payloads reads
   pub sets : audit.sets ≡ flat_map (λ sets. sets) reads
   pub ending : Ends c s first payloads rest (length reads) audit.ending
 
 -- Want of memory stopped the reading: the sets of the first payloads, as many as the end counts.
-pub record Stopped (c : Conversation) (s : Standing) (first : ℕ) (payloads : List (List ℕ)) (audit : Audit) : Type 0 where
+pub record Stopped (c : Conversation) (s : StatementState) (first : ℕ) (payloads : List (List ℕ)) (audit : Audit) : Type 0 where
   pub reads : List (List Set)
   pub each : Read c s first payloads reads
   pub sets : audit.sets ≡ flat_map (λ sets. sets) reads

@@ -3,11 +3,17 @@
 use Rattle.std.specs.Prelude.{ℕ, Bool, true, false, List, Result, Ok, Err}
 use Rattle.std.specs.Option.{ok_or}
 use Rattle.mysql_wire.specs.Reading as buffer
+use Rattle.mysql_wire.specs.Wire.{◌>>=◌}
 
 -- goes on where the test holds, and is that fault where it doesn't
 abbrev pub must : {F : Type 0} → F → Bool → Result ℕ F
 must f true = Ok 0
 must f false = Err f
+
+-- goes on where what stands before it holds
+infixl 10 ◌>>◌
+abbrev pub ◌>>◌ : {A B F : Type 0} → Result A F → Result B F → Result B F
+first >> next = first >>= λ _. next
 
 -- the first n bytes and the rest, or the fault where fewer are there
 abbrev pub bytes_at : {F : Type 0} → F → ℕ → List ℕ → Result (List ℕ × List ℕ) F

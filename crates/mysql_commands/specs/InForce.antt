@@ -1,22 +1,22 @@
 -- What is in force after some payloads, found by looking back over them from their end: the last payload that
 -- speaks of a thing decides, and where none does, what held before them.
 -- MySQL: Client/Server Protocol, "COM_STMT_EXECUTE" (new_params_bind_flag) and "COM_STMT_SEND_LONG_DATA".
-use Rattle.std.specs.Prelude.{ℕ, Bool, true, false, List, [], ◌∷◌, ◌++◌, Option, Some, None, ◌==◌, if◌then◌else◌, unwrap_or, is_some}
+use Rattle.std.specs.Prelude.{ℕ, Bool, true, false, List, [], ◌∷◌, ◌++◌, Option, Some, None, ◌==◌, if◌then◌else◌, unwrap_or, is_some, bytes_eq}
 use Rattle.std.specs.List.{list_any, filter_map, flat_map, last_or, range_with_len}
-use Rattle.std.specs.Option.{option_and_then, option_map, option_to_list, option_or}
+use Rattle.std.specs.Option.{option_and_then, option_map, option_to_list}
 use Rattle.std.specs.Result.{result_ok}
-use Rattle.mysql_commands.specs.Layout.{Conversation, Command, command_of, Types, Piece, piece_at, execute_head, bulk_head}
+use Rattle.mysql_commands.specs.Layout.{Conversation, Command, command_of, Types, piece_at, execute_head, bulk_head}
 use Rattle.mysql_commands.specs.Layout as layout
 use Rattle.mysql_commands.specs.Query.{place_count}
 
 -- what is in force at a payload
-pub record Standing : Type 0 where
+pub record StatementState : Type 0 where
   pub prepared : Bool
   pub types : Option Types
   pub pieces : ℕ → Option (List ℕ)
 
 -- at the start nothing is
-abbrev pub nothing_yet : Standing
+abbrev pub nothing_yet : StatementState
 nothing_yet = record { prepared = false; types = None; pieces = λ place. None }
 
 -- the payload's command and body, where it has any byte
@@ -28,10 +28,10 @@ said_by speaks (b ∷ body) = speaks (command_of b) body
 abbrev pub last_said : {A : Type 0} → (List ℕ → Option A) → A → List (List ℕ) → A
 last_said says before payloads = unwrap_or (last_or None (filter_map says payloads)) before
 
--- a prepare says that the statement is prepared
-abbrev pub speaks_of_prepared : Command → List ℕ → Option Bool
-speaks_of_prepared layout.Prepare body = Some true
-speaks_of_prepared _ body = None
+-- the prepare of the conversation's query says that the statement is prepared, and no other payload speaks of it
+abbrev pub speaks_of_prepared : Conversation → Command → List ℕ → Option Bool
+speaks_of_prepared c layout.Prepare body = if bytes_eq body c.query.parsed then Some true else None
+speaks_of_prepared c _ body = None
 
 -- the types that an execute carries, and those that a bulk does
 abbrev pub execute_types : Conversation → List ℕ → Option Types
@@ -77,31 +77,14 @@ waiting_for c before payloads place =
     joined (option_to_list (if list_any is_end payloads then None else before) ++ filter_map (said_by (speaks_of_place c place)) (since is_end payloads))
 
 -- what is in force after these payloads
-abbrev pub standing_after : Conversation → Standing → List (List ℕ) → Standing
-standing_after c s payloads =
+abbrev pub state_after : Conversation → StatementState → List (List ℕ) → StatementState
+state_after c s payloads =
     record {
-      prepared = last_said (said_by speaks_of_prepared) s.prepared payloads;
+      prepared = last_said (said_by (speaks_of_prepared c)) s.prepared payloads;
       types = last_said (said_by (speaks_of_types c)) s.types payloads;
       pieces = λ place. waiting_for c (s.pieces place) payloads place;
     }
 
 -- whether pieces wait for any place
-abbrev pub is_waiting : Conversation → Standing → Bool
+abbrev pub is_waiting : Conversation → StatementState → Bool
 is_waiting c s = list_any (λ place. is_some (s.pieces place)) (range_with_len 0 (place_count c.query))
-
--- a standing behind one command
-abbrev pub prepared_anew : Standing
-prepared_anew = record { prepared = true; types = None; pieces = λ place. None }
-
-abbrev pub after_execute : Standing → Option Types → Standing
-after_execute s own = record { prepared = s.prepared; types = option_or own s.types; pieces = λ place. None }
-
-abbrev pub after_bulk : Standing → Option Types → Standing
-after_bulk s own = record { prepared = s.prepared; types = option_or own s.types; pieces = s.pieces }
-
--- what waits, with more data for one place
-abbrev pub with_piece : (ℕ → Option (List ℕ)) → ℕ → List ℕ → ℕ → Option (List ℕ)
-with_piece pieces place bytes k = if place == k then joined (option_to_list (pieces k) ++ bytes ∷ []) else pieces k
-
-abbrev pub after_piece : Standing → Piece → Standing
-after_piece s piece = record { prepared = s.prepared; types = s.types; pieces = with_piece s.pieces piece.place piece.bytes }

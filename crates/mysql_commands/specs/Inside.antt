@@ -6,7 +6,7 @@ use Rattle.std.specs.Option.{option_map}
 use Rattle.mysql_commands.specs.declared.receiver.Receiver.TheInside.{Inside}
 use Rattle.mysql_commands.specs.Query.{IsQuery}
 use Rattle.mysql_commands.specs.Views.{conversation_of, types_kept, sets_of}
-use Rattle.mysql_commands.specs.Receiving.{IsOpen}
+use Rattle.mysql_commands.specs.Parts.{IsOpen}
 use Rattle.mysql_commands.specs.Received.{Received}
 
 abbrev pub pieces_of : List (Option (Vec ℕ)) → List (Option (List ℕ))
@@ -18,9 +18,9 @@ received_of r =
       conversation = conversation_of r.conversation;
       limit = r.packets.limit;
       count = r.progress.count;
-      prepared = r.progress.standing.prepared;
-      types = types_kept r.progress.standing.types;
-      pieces = pieces_of r.progress.standing.pieces.items;
+      prepared = r.progress.statement.prepared;
+      types = types_kept r.progress.statement.types;
+      pieces = pieces_of r.progress.statement.pieces.items;
       partial = r.packets.bytes;
       sets = sets_of r.progress.sets.items;
       fault = r.fault;

@@ -9,7 +9,7 @@ use Rattle.mysql_const.specs.ColumnTypes.{column_type_named}
 use Rattle.mysql_const.specs.Commands.{command_named}
 use Rattle.mysql_const.specs.declared.command.Command.{Command as Name}
 use Rattle.mysql_const.specs.declared.command.Command.TheVariants.{COM_QUERY, COM_STMT_PREPARE, COM_STMT_SEND_LONG_DATA, COM_STMT_EXECUTE, COM_STMT_BULK_EXECUTE}
-use Rattle.mysql_commands.specs.Fields.{must, bytes_at, little_at}
+use Rattle.mysql_commands.specs.Fields.{◌>>◌, must, bytes_at, little_at}
 use Rattle.mysql_wire.specs.Wire.{◌>>=◌}
 use Rattle.mysql_commands.specs.Query.{Query, place_count}
 
@@ -51,16 +51,16 @@ Types = List ParamType
 abbrev pub id_at : Conversation → List ℕ → Result (List ℕ) StreamFault
 id_at c bytes = do
   id ← little_at WrongId 4 bytes
-  same ← must WrongId (id.0 == c.id)
+  must WrongId (id.0 == c.id)
   Ok id.1
 
 -- a pair of a type and a flag
 abbrev pub type_at : StreamFault → List ℕ → Result (ParamType × List ℕ) StreamFault
 type_at short bytes = do
   t ← little_at short 1 bytes
-  named ← must BadType (is_type t.0)
+  must BadType (is_type t.0)
   flags ← little_at short 1 t.1
-  known ← must BadType (flags.0 == 0 || flags.0 == 128)
+  must BadType (flags.0 == 0 || flags.0 == 128)
   Ok (record { number = t.0; unsigned = flags.0 == 128 }, flags.1)
 
 -- n pairs
@@ -81,7 +81,7 @@ abbrev pub piece_at : Conversation → List ℕ → Result Piece StreamFault
 piece_at c body = do
   rest ← id_at c body
   place ← little_at BadPlace 2 rest
-  there ← must BadPlace (nat_lt place.0 (place_count c.query))
+  must BadPlace (nat_lt place.0 (place_count c.query))
   Ok (record { place = place.0; bytes = place.1 })
 
 -- what stands before an execute's cells: the null bitmap, and the types where it carries them
@@ -95,7 +95,7 @@ unfoldable pub binding_at : ℕ → List ℕ → Result ExecuteHead StreamFault
 binding_at n bytes = do
   nulls ← bytes_at BadExecute ((n + 7) / 8) bytes
   bound ← little_at BadExecute 1 nulls.1
-  known ← must BadExecute (nat_le bound.0 1)
+  must BadExecute (nat_le bound.0 1)
   if bound.0 == 0 then Ok (record { nulls = nulls.0; own = None; cells = bound.1 })
       else do
         types ← types_at BadExecute n bound.1
@@ -106,9 +106,9 @@ unfoldable pub execute_head : Conversation → List ℕ → Result ExecuteHead S
 execute_head c body = do
   rest ← id_at c body
   cursor ← little_at BadExecute 1 rest
-  none ← must BadExecute (cursor.0 == 0)
+  must BadExecute (cursor.0 == 0)
   count ← little_at BadExecute 4 cursor.1
-  one ← must BadExecute (count.0 == 1)
+  must BadExecute (count.0 == 1)
   if place_count c.query == 0 then Ok (record { nulls = []; own = None; cells = count.1 })
       else binding_at (place_count c.query) count.1
 
@@ -122,7 +122,7 @@ unfoldable pub bulk_head : Conversation → List ℕ → Result BulkHead StreamF
 bulk_head c body = do
   rest ← id_at c body
   flags ← little_at BadBulk 2 rest
-  known ← must BadBulk (flags.0 == 0 || flags.0 == 64 || flags.0 == 128 || flags.0 == 192)
+  must BadBulk (flags.0 == 0 || flags.0 == 64 || flags.0 == 128 || flags.0 == 192)
   if nat_lt flags.0 128 then Ok (record { own = None; rows = flags.1 })
       else do
         types ← types_at BadBulk (place_count c.query) flags.1

@@ -7,7 +7,8 @@ pub mod Audit
 pub mod GoingOn
 pub mod Laws
 pub mod Views
-pub mod Progress
 pub mod Receiving
+pub mod Steps
+pub mod Parts
 pub mod Received
 pub mod Inside

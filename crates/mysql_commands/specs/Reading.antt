@@ -1,24 +1,25 @@
 -- What one payload reads as by what is in force there, or its first fault from the left.
 -- MySQL: Client/Server Protocol, "COM_QUERY", "COM_STMT_PREPARE", "COM_STMT_SEND_LONG_DATA", "COM_STMT_EXECUTE", "Null-Bitmap"; MariaDB: "COM_STMT_BULK_EXECUTE".
 -- A reading takes bytes from the front: x.0 is what was read and x.1 the bytes left; the first refusal counts.
-use Rattle.std.specs.Prelude.{◌≡◌, ◌≢◌, ℕ, zero, suc, ◌+◌, ◌/◌, ◌%◌, ◌<◌, ◌≤◌, ◌^◌, ◌⊎◌, Bool, true, false, List, [], ◌∷◌, length, Option, Some, None, Result, Ok, Err, nat_lt, nat_le, ◌==◌, not, if◌then◌else◌, slice_index, IsTrue, IsFalse, ◌-◌}
+use Rattle.std.specs.Prelude.{◌≡◌, ◌≢◌, ℕ, ◌+◌, ◌<◌, ◌≤◌, ◌^◌, ◌⊎◌, Bool, true, false, List, [], ◌∷◌, length, Option, Some, None, Result, Ok, Err, nat_lt, nat_le, ◌==◌, not, if◌then◌else◌, IsTrue, IsFalse, ◌-◌}
 use Rattle.std.specs.Option.{ok_or, option_or}
 use Rattle.mysql_commands.specs.declared.fault.StreamFault.{StreamFault}
 use Rattle.mysql_commands.specs.declared.fault.StreamFault.TheVariants.{TooLarge, EmptyCommand, OtherCommand, TextMismatch, NotAlone, PrepareMismatch, TooManyPlaces, NotPrepared, BadExecute, NoTypes, BadType, Float, BadBulk, Indicator, NoRows, PiecesBeforeBulk}
 use Rattle.mysql_values.specs.Content.{Content}
 use Rattle.mysql_values.specs.Content.TheVariants as content
 use Rattle.mysql_values.specs.Values.{content_of}
-use Rattle.mysql_values.specs.Queries.{Slices}
+use Rattle.mysql_values.specs.Queries.{Slices, Lexes}
 use Rattle.mysql_values.specs.Cells.{is_float, cell_at}
+use Rattle.mysql_null_bitmap.specs.NullBitmap.{is_null_at}
 use Rattle.mysql_wire.specs.WireError.{WireError}
 use Rattle.mysql_wire.specs.WireError.TheVariants.{UnsupportedType}
 use Rattle.mysql_commands.specs.declared.param_type.ParamType.{ParamType}
-use Rattle.mysql_commands.specs.Fields.{must, little_at}
+use Rattle.mysql_commands.specs.Fields.{◌>>◌, must, little_at}
 use Rattle.mysql_wire.specs.Wire.{◌>>=◌}
 use Rattle.mysql_commands.specs.Query.{place_count, all_alone}
 use Rattle.mysql_commands.specs.Layout.{Conversation, Command, command_of, Types, Piece, piece_at, execute_head, bulk_head}
 use Rattle.mysql_commands.specs.Layout as layout
-use Rattle.mysql_commands.specs.InForce.{Standing, standing_after, is_waiting}
+use Rattle.mysql_commands.specs.InForce.{StatementState, state_after, is_waiting}
 
 -- one parameter set of the query: what each place holds
 abbrev pub Set : Type 0
@@ -29,48 +30,44 @@ abbrev pub cell_fault : StreamFault → WireError → StreamFault
 cell_fault short UnsupportedType = BadType
 cell_fault short e = short
 
-abbrev pub or_fault : {X : Type 0} → StreamFault → Result X WireError → Result X StreamFault
-or_fault short (Ok x) = Ok x
-or_fault short (Err e) = Err (cell_fault short e)
+abbrev pub or_cell_fault : {X : Type 0} → StreamFault → Result X WireError → Result X StreamFault
+or_cell_fault short (Ok x) = Ok x
+or_cell_fault short (Err e) = Err (cell_fault short e)
 
 -- the content of a cell. A float is refused whatever bytes follow
 unfoldable pub content_at : StreamFault → ParamType → List ℕ → Result (Content × List ℕ) StreamFault
 content_at short t bytes = do
-  exact ← must Float (not (is_float t.number))
-  v ← or_fault short (cell_at t.number t.unsigned bytes)
-  held ← ok_or (content_of v.0) Float
-  Ok (held, v.1)
+  must Float (not (is_float t.number))
+  value ← or_cell_fault short (cell_at t.number t.unsigned bytes)
+  meant ← ok_or (content_of value.0) Float
+  Ok (meant, value.1)
 
 -- the types that count: a payload's own, else those in force. Without places there are none
-abbrev pub types_in_force : Conversation → Standing → Option Types → Result Types StreamFault
+abbrev pub types_in_force : Conversation → StatementState → Option Types → Result Types StreamFault
 types_in_force c s own = if place_count c.query == 0 then Ok [] else ok_or (option_or own s.types) NoTypes
 
--- whether the place's bit is set in the bitmap
-abbrev pub is_null_at : List ℕ → ℕ → Bool
-is_null_at nulls place = slice_index nulls (place / 8) / 2 ^ (place % 8) % 2 == 1
-
 -- what a place of an execute holds: its pieces; else nothing, by the bitmap; else the content of the cell that stands first
-abbrev pub held_at : (ℕ → Option (List ℕ)) → List ℕ → ℕ → ParamType → List ℕ → Result (Content × List ℕ) StreamFault
-held_at pieces nulls place t bytes = held (pieces place) (is_null_at nulls place)
+abbrev pub parameter_at : (ℕ → Option (List ℕ)) → List ℕ → ℕ → ParamType → List ℕ → Result (Content × List ℕ) StreamFault
+parameter_at pieces nulls place t bytes = by_piece (pieces place) (is_null_at 0 nulls place)
   where
-    held : Option (List ℕ) → Bool → Result (Content × List ℕ) StreamFault
-    held (Some data_bytes) null = Ok (content.Bytes data_bytes, bytes)
-    held None true = Ok (content.Null, bytes)
-    held None false = content_at BadExecute t bytes
+    by_piece : Option (List ℕ) → Bool → Result (Content × List ℕ) StreamFault
+    by_piece (Some data_bytes) null = Ok (content.Bytes data_bytes, bytes)
+    by_piece None true = Ok (content.Null, bytes)
+    by_piece None false = content_at BadExecute t bytes
 
 -- what the places from this one on hold, place by place, and no byte after them
 unfoldable pub set_at : (ℕ → Option (List ℕ)) → List ℕ → ℕ → Types → List ℕ → Result Set StreamFault
 set_at pieces nulls place [] [] = Ok []
 set_at pieces nulls place [] (b ∷ bytes) = Err BadExecute
 set_at pieces nulls place (t ∷ types) bytes = do
-  first ← held_at pieces nulls place t bytes
+  first ← parameter_at pieces nulls place t bytes
   others ← set_at pieces nulls (place + 1) types first.1
   Ok (first.0 ∷ others)
 
 -- an execute, as one set
-unfoldable pub execute_at : Conversation → Standing → List ℕ → Result Set StreamFault
+unfoldable pub execute_at : Conversation → StatementState → List ℕ → Result Set StreamFault
 execute_at c s body = do
-  prepared ← must NotPrepared s.prepared
+  must NotPrepared s.prepared
   head ← execute_head c body
   types ← types_in_force c s head.own
   set_at s.pieces head.nulls 0 types head.cells
@@ -79,61 +76,86 @@ execute_at c s body = do
 abbrev pub column_at : ParamType → List ℕ → Result (Content × List ℕ) StreamFault
 column_at t bytes = do
   indicator ← little_at BadBulk 1 bytes
-  known ← must Indicator (nat_le indicator.0 1)
+  must Indicator (nat_le indicator.0 1)
   if indicator.0 == 1 then Ok (content.Null, indicator.1) else content_at BadBulk t indicator.1
 
--- a row of a bulk, column by column
-unfoldable pub row_at : Types → List ℕ → Result (Set × List ℕ) StreamFault
-row_at [] bytes = Ok ([], bytes)
-row_at (t ∷ types) bytes = do
+-- columns of a row, one after another
+unfoldable pub columns_at : Types → List ℕ → Result (Set × List ℕ) StreamFault
+columns_at [] bytes = Ok ([], bytes)
+columns_at (t ∷ types) bytes = do
   first ← column_at t bytes
-  others ← row_at types first.1
+  others ← columns_at types first.1
   Ok (first.0 ∷ others.0, others.1)
 
--- rows to the end of the bytes, at most so many
-unfoldable pub rows_at : Types → ℕ → List ℕ → Result (List Set) StreamFault
-rows_at types n [] = Ok []
-rows_at types zero (b ∷ bytes) = Err BadBulk
-rows_at types (suc n) (b ∷ bytes) = do
-  first ← row_at types (b ∷ bytes)
-  others ← rows_at types n first.1
-  Ok (first.0 ∷ others)
+-- a row of a bulk: a column for each type, at least one
+abbrev pub row_at : Types → List ℕ → Result (Set × List ℕ) StreamFault
+row_at [] bytes = Err BadBulk
+row_at (t ∷ types) bytes = columns_at (t ∷ types) bytes
 
--- a bulk, as its rows, at least one. (A row takes a byte or more, so there are at most as many rows as bytes.)
-unfoldable pub bulk_at : Conversation → Standing → List ℕ → Result (List Set) StreamFault
-bulk_at c s body = do
-  prepared ← must NotPrepared s.prepared
-  alone ← must PiecesBeforeBulk (not (is_waiting c s))
-  some_place ← must BadBulk (nat_lt 0 (place_count c.query))
+-- these rows stand one after another at the front of the bytes, each at the front of what the ones before it left, and that is left behind them
+abbrev pub RowsAt : Types → List ℕ → List Set → List ℕ → Type 0
+RowsAt types bytes [] left = bytes ≡ left
+RowsAt types bytes (set ∷ sets) left = (rest : List ℕ) × (row_at types bytes ≡ Ok (set, rest)) × RowsAt types rest sets left
+
+-- The first row that doesn't read has this fault: it comes behind those that do, and a byte of it stands.
+pub record FaultyRow (types : Types) (bytes : List ℕ) (f : StreamFault) : Type 0 where
+  pub before : List Set
+  pub first : ℕ
+  pub rest : List ℕ
+  pub rows : RowsAt types bytes before (first ∷ rest)
+  pub fault : row_at types (first ∷ rest) ≡ Err f
+
+-- what stands before a bulk's rows: the types that count, and the bytes of the rows, at least one
+unfoldable pub bulk_rows : Conversation → StatementState → List ℕ → Result (Types × List ℕ) StreamFault
+bulk_rows c s body = do
+  must NotPrepared s.prepared
+  must PiecesBeforeBulk (not (is_waiting c s))
+  must BadBulk (nat_lt 0 (place_count c.query))
   head ← bulk_head c body
   types ← types_in_force c s head.own
-  some_row ← must NoRows (nat_lt 0 (length head.rows))
-  rows_at types (length head.rows) head.rows
+  must NoRows (nat_lt 0 (length head.rows))
+  Ok (types, head.rows)
+
+-- a bulk reads as its rows, to the end of its bytes
+pub record BulkReadsAs (c : Conversation) (s : StatementState) (body : List ℕ) (sets : List Set) : Type 0 where
+  pub types : Types
+  pub bytes : List ℕ
+  pub found : bulk_rows c s body ≡ Ok (types, bytes)
+  pub rows : RowsAt types bytes sets []
+
+-- its fault is that of what stands before the rows, else that of the first row that doesn't read
+abbrev pub BulkFaulty : Conversation → StatementState → List ℕ → StreamFault → Type 0
+BulkFaulty c s body f =
+    (bulk_rows c s body ≡ Err f)
+    ⊎ ((types : Types) × (bytes : List ℕ) × (bulk_rows c s body ≡ Ok (types, bytes)) × FaultyRow types bytes f)
 
 -- the piece of a long data command
-unfoldable pub prepared_piece : Conversation → Standing → List ℕ → Result Piece StreamFault
+unfoldable pub prepared_piece : Conversation → StatementState → List ℕ → Result Piece StreamFault
 prepared_piece c s body = do
-  prepared ← must NotPrepared s.prepared
+  must NotPrepared s.prepared
   piece_at c body
 
 -- long data, as no set
-unfoldable pub long_data_at : Conversation → Standing → List ℕ → Result (List Set) StreamFault
+unfoldable pub long_data_at : Conversation → StatementState → List ℕ → Result (List Set) StreamFault
 long_data_at c s body = do
   piece ← prepared_piece c s body
   Ok []
 
--- The body of a command reads as these sets. A text is one set where each place stands alone and the text is the
--- query's pieces with a literal of each content between.
-abbrev pub CommandReadsAs : Conversation → Standing → Command → List ℕ → List Set → Type 0
-CommandReadsAs c s layout.Text body sets = IsTrue (all_alone c.query) × ((contents : Set) × Slices c.query.text body contents × (sets ≡ contents ∷ []))
+-- A text reads as these contents over a query: it is the query's pieces with a literal of each content between, and its tokens are those of the query and of the literals.
+abbrev pub TextReadsAs : List ℕ → List ℕ → Set → Type 0
+TextReadsAs query text contents = Slices query text contents × Lexes query text contents
+
+-- The body of a command reads as these sets. A text is one set where each place stands alone.
+abbrev pub CommandReadsAs : Conversation → StatementState → Command → List ℕ → List Set → Type 0
+CommandReadsAs c s layout.Text body sets = IsTrue (all_alone c.query) × ((contents : Set) × TextReadsAs c.query.text body contents × (sets ≡ contents ∷ []))
 CommandReadsAs c s layout.Prepare body sets = (body ≡ c.query.parsed) × (place_count c.query ≤ 65535) × (sets ≡ [])
 CommandReadsAs c s layout.LongData body sets = long_data_at c s body ≡ Ok sets
 CommandReadsAs c s layout.Execute body sets = (set : Set) × (execute_at c s body ≡ Ok set) × (sets ≡ set ∷ [])
-CommandReadsAs c s layout.Bulk body sets = bulk_at c s body ≡ Ok sets
+CommandReadsAs c s layout.Bulk body sets = BulkReadsAs c s body sets
 CommandReadsAs c s layout.Other body sets = ⊥
 
 -- This is the body's first fault from the left.
-abbrev pub CommandFaulty : Conversation → Standing → Command → List ℕ → StreamFault → Type 0
+abbrev pub CommandFaulty : Conversation → StatementState → Command → List ℕ → StreamFault → Type 0
 CommandFaulty c s layout.Text body f =
     (IsFalse (all_alone c.query) × (f ≡ NotAlone))
     ⊎ (IsTrue (all_alone c.query) × ((contents : Set) → Slices c.query.text body contents → ⊥) × (f ≡ TextMismatch))
@@ -142,25 +164,25 @@ CommandFaulty c s layout.Prepare body f =
     ⊎ ((body ≡ c.query.parsed) × (65535 < place_count c.query) × (f ≡ TooManyPlaces))
 CommandFaulty c s layout.LongData body f = long_data_at c s body ≡ Err f
 CommandFaulty c s layout.Execute body f = execute_at c s body ≡ Err f
-CommandFaulty c s layout.Bulk body f = bulk_at c s body ≡ Err f
+CommandFaulty c s layout.Bulk body f = BulkFaulty c s body f
 CommandFaulty c s layout.Other body f = f ≡ OtherCommand
 
 -- a payload reads as these sets where this is in force
-abbrev pub PayloadReadsAs : Conversation → Standing → List ℕ → List Set → Type 0
+abbrev pub PayloadReadsAs : Conversation → StatementState → List ℕ → List Set → Type 0
 PayloadReadsAs c s [] sets = ⊥
 PayloadReadsAs c s (b ∷ body) sets = CommandReadsAs c s (command_of b) body sets
 
 -- a payload is refused by this fault
-abbrev pub PayloadFaulty : Conversation → Standing → List ℕ → StreamFault → Type 0
+abbrev pub PayloadFaulty : Conversation → StatementState → List ℕ → StreamFault → Type 0
 PayloadFaulty c s [] f = f ≡ EmptyCommand
 PayloadFaulty c s (b ∷ body) f = CommandFaulty c s (command_of b) body f
 
 -- The payload after these earlier ones reads as these sets, or has this fault. Numbering goes on from first; the
 -- payload that would have the number 2 ^ 64 - 1 is too large whatever it holds.
-abbrev pub ReadsAs : Conversation → Standing → ℕ → List (List ℕ) → List ℕ → List Set → Type 0
-ReadsAs c s first earlier payload sets = (first + length earlier < 2 ^ 64 - 1) × PayloadReadsAs c (standing_after c s earlier) payload sets
+abbrev pub ReadsAs : Conversation → StatementState → ℕ → List (List ℕ) → List ℕ → List Set → Type 0
+ReadsAs c s first earlier payload sets = (first + length earlier < 2 ^ 64 - 1) × PayloadReadsAs c (state_after c s earlier) payload sets
 
-abbrev pub Faulty : Conversation → Standing → ℕ → List (List ℕ) → List ℕ → StreamFault → Type 0
+abbrev pub Faulty : Conversation → StatementState → ℕ → List (List ℕ) → List ℕ → StreamFault → Type 0
 Faulty c s first earlier payload f =
     ((2 ^ 64 - 1 ≤ first + length earlier) × (f ≡ TooLarge))
-    ⊎ ((first + length earlier < 2 ^ 64 - 1) × PayloadFaulty c (standing_after c s earlier) payload f)
+    ⊎ ((first + length earlier < 2 ^ 64 - 1) × PayloadFaulty c (state_after c s earlier) payload f)

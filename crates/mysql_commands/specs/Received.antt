@@ -5,7 +5,7 @@ use Rattle.std.specs.Option.{option_and_then}
 use Rattle.mysql_commands.specs.declared.fault.StreamFault.{StreamFault}
 use Rattle.mysql_commands.specs.Layout.{Conversation, Types}
 use Rattle.mysql_commands.specs.Reading.{Set}
-use Rattle.mysql_commands.specs.GoingOn.{Held}
+use Rattle.mysql_commands.specs.GoingOn.{ReceiverState}
 
 -- the conversation and the limit; the payloads read, what is in force behind them, the bytes of the packet that isn't
 -- whole, the sets so far, the fault
@@ -25,11 +25,11 @@ abbrev pub piece_in : List (Option (List ℕ)) → ℕ → Option (List ℕ)
 piece_in pieces place = option_and_then (λ piece. piece) (slice_get pieces place)
 
 -- in place of the bytes that were fed
-abbrev pub held_by : Received → Held
-held_by r =
+abbrev pub receiver_state : Received → ReceiverState
+receiver_state r =
     record {
       count = r.count;
-      standing = record { prepared = r.prepared; types = r.types; pieces = piece_in r.pieces };
+      statement = record { prepared = r.prepared; types = r.types; pieces = piece_in r.pieces };
       partial = r.partial;
       sets = r.sets;
       fault = r.fault;

@@ -1,4 +1,4 @@
--- What the code's values stand for.
+-- Words of the receiver's own body: what its values stand for, and what its functions answer. Public clauses have `sets_of` alone.
 -- MySQL: Client/Server Protocol, "Command Phase".
 use Rattle.std.specs.Global.{Vec}
 use Rattle.std.specs.Prelude.{◌≡◌, ℕ, List, map, Option, Result, Ok, Err, slice_get}
@@ -8,13 +8,13 @@ use Rattle.mysql_commands.specs.declared.fault.StreamFault.{StreamFault}
 use Rattle.mysql_commands.specs.declared.refusal.Refusal.{Refusal}
 use Rattle.mysql_commands.specs.declared.refusal.Refusal.TheVariants as refusal
 use Rattle.mysql_commands.specs.declared.param_type.ParamType.{ParamType}
-use Rattle.mysql_commands.specs.declared.statement.Conversation.{Conversation as Told}
-use Rattle.mysql_commands.specs.declared.statement.Standing.{Standing as Kept}
-use Rattle.mysql_commands.specs.declared.layout.ExecuteHead.{ExecuteHead as HeldHead}
-use Rattle.mysql_commands.specs.declared.layout.BulkHead.{BulkHead as HeldBulk}
-use Rattle.mysql_commands.specs.declared.layout.Piece.{Piece as HeldPiece}
+use Rattle.mysql_commands.specs.declared.statement.Conversation.{Conversation as CodeConversation}
+use Rattle.mysql_commands.specs.declared.statement.StatementState.{StatementState as CodeState}
+use Rattle.mysql_commands.specs.declared.layout.ExecuteHead.{ExecuteHead as CodeExecuteHead}
+use Rattle.mysql_commands.specs.declared.layout.BulkHead.{BulkHead as CodeBulkHead}
+use Rattle.mysql_commands.specs.declared.layout.Piece.{Piece as CodePiece}
 use Rattle.mysql_commands.specs.Layout.{Conversation, Command, Types, ExecuteHead, BulkHead, Piece}
-use Rattle.mysql_commands.specs.InForce.{Standing}
+use Rattle.mysql_commands.specs.InForce.{StatementState}
 use Rattle.mysql_commands.specs.Reading.{Set, CommandReadsAs, CommandFaulty, PayloadReadsAs, PayloadFaulty}
 
 abbrev pub sets_of : List (Vec Content) → List Set
@@ -23,23 +23,23 @@ sets_of xs = map (λ set. set.items) xs
 abbrev pub types_kept : Option (Vec ParamType) → Option Types
 types_kept types = option_map (λ types. types.items) types
 
-abbrev pub execute_head_of : HeldHead → ExecuteHead
+abbrev pub execute_head_of : CodeExecuteHead → ExecuteHead
 execute_head_of h = record { nulls = h.nulls.now; own = types_kept h.own; cells = h.cells.now }
 
-abbrev pub bulk_head_of : HeldBulk → BulkHead
+abbrev pub bulk_head_of : CodeBulkHead → BulkHead
 bulk_head_of h = record { own = types_kept h.own; rows = h.rows.now }
 
-abbrev pub piece_of : HeldPiece → Piece
+abbrev pub piece_of : CodePiece → Piece
 piece_of p = record { place = p.place; bytes = p.bytes.now }
 
-abbrev pub conversation_of : Told → Conversation
+abbrev pub conversation_of : CodeConversation → Conversation
 conversation_of c = record { query = record { text = c.query.items; parsed = c.parsed.items; places = c.places.items }; id = c.id }
 
 abbrev pub piece_kept : List (Option (Vec ℕ)) → ℕ → Option (List ℕ)
 piece_kept pieces place = option_and_then (λ piece. option_map (λ bytes. bytes.items) piece) (slice_get pieces place)
 
-abbrev pub standing_of : Kept → Standing
-standing_of s = record { prepared = s.prepared; types = types_kept s.types; pieces = piece_kept s.pieces.items }
+abbrev pub state_of : CodeState → StatementState
+state_of s = record { prepared = s.prepared; types = types_kept s.types; pieces = piece_kept s.pieces.items }
 
 -- what a function returned, seen by a view, is what reading gives, unless memory ran out
 abbrev pub Fails : {Y : Type 0} → Refusal → Result Y StreamFault → Type 0
@@ -50,13 +50,15 @@ abbrev pub Gives : {X Y : Type 0} → (X → Y) → Result X Refusal → Result 
 Gives view (Ok x) read = read ≡ Ok (view x)
 Gives view (Err e) read = Fails e read
 
--- what a command was found to be: the sets that it reads as, or its fault, unless memory ran out
-abbrev pub Judged : Conversation → Standing → Command → List ℕ → Result (Vec (Vec Content)) Refusal → Type 0
-Judged c s command body (Ok sets) = CommandReadsAs c s command body (sets_of sets.items)
-Judged c s command body (Err refusal.Memory) = Unit {0}
-Judged c s command body (Err (refusal.Fault f)) = CommandFaulty c s command body f
+-- what a function found: a value, seen by a view, of which the one is said, or a fault of which the other is, unless memory ran out
+abbrev pub Finds : {X Y : Type 0} → (X → Y) → Result X Refusal → (Y → Type 0) → (StreamFault → Type 0) → Type 0
+Finds view (Ok x) Reads IsFaulty = Reads (view x)
+Finds view (Err refusal.Memory) Reads IsFaulty = Unit {0}
+Finds view (Err (refusal.Fault f)) Reads IsFaulty = IsFaulty f
 
-abbrev pub PayloadJudged : Conversation → Standing → List ℕ → Result (Vec (Vec Content)) Refusal → Type 0
-PayloadJudged c s payload (Ok sets) = PayloadReadsAs c s payload (sets_of sets.items)
-PayloadJudged c s payload (Err refusal.Memory) = Unit {0}
-PayloadJudged c s payload (Err (refusal.Fault f)) = PayloadFaulty c s payload f
+-- what a command was found to be: the sets that it reads as, or its fault
+abbrev pub Judged : Conversation → StatementState → Command → List ℕ → Result (Vec (Vec Content)) Refusal → Type 0
+Judged c s command body result = Finds (λ sets. sets_of sets.items) result (CommandReadsAs c s command body) (CommandFaulty c s command body)
+
+abbrev pub PayloadJudged : Conversation → StatementState → List ℕ → Result (Vec (Vec Content)) Refusal → Type 0
+PayloadJudged c s payload result = Finds (λ sets. sets_of sets.items) result (PayloadReadsAs c s payload) (PayloadFaulty c s payload)

@@ -2,7 +2,7 @@
 
 ghost use Rattle.std.specs.Prelude.{◌≡◌};
 ghost use Rattle.mysql_values.specs.Cells.{cell_at, is_float as is_float_type};
-ghost use Rattle.mysql_commands.specs.Reading.{content_at, or_fault};
+ghost use Rattle.mysql_commands.specs.Reading.{content_at, or_cell_fault};
 ghost use Rattle.mysql_commands.specs.Views.{Gives};
 
 use crate::fault::StreamFault;
@@ -27,7 +27,7 @@ fn cell_value(
     kind: ParamType,
     bytes: &[u8],
 ) -> Result<(Value, &[u8]), Refusal>
-    ensures { Gives (λ x. (x.0, x.1.now)) result (or_fault short (cell_at kind.number kind.unsigned bytes.now)) }
+    ensures { Gives (λ x. (x.0, x.1.now)) result (or_cell_fault short (cell_at kind.number kind.unsigned bytes.now)) }
 {
     let mut buf = ParseBuf(bytes);
     match read_cell(alloc, kind.number, kind.unsigned, &mut buf) {

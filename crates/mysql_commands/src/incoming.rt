@@ -4,7 +4,7 @@ ghost use Rattle.std.specs.Prelude.{◌≡◌, OnOk, None};
 ghost use Rattle.mysql_commands.specs.Query.{IsQuery};
 ghost use Rattle.mysql_commands.specs.Views.{conversation_of};
 ghost use Rattle.mysql_commands.specs.GoingOn.{Fed};
-ghost use Rattle.mysql_commands.specs.Receiving.{holds, fault_by, refusal_by, IsOpen};
+ghost use Rattle.mysql_commands.specs.Parts.{state_of_parts, fault_by, refusal_by, IsOpen};
 
 use crate::fault::StreamFault;
 use crate::progress::Progress;
@@ -36,8 +36,8 @@ pub fn read_piece(
 ) -> Result<(), Refusal>
     requires query { IsQuery (conversation_of conversation.now).query }
     requires open { IsOpen packets.old }
-    ensures fed { Fed (conversation_of conversation.now) packets.old.limit (holds progress.old packets.old.bytes None) piece.now
-        (holds progress.new packets.new.bytes (fault_by result)) }
+    ensures fed { Fed (conversation_of conversation.now) packets.old.limit (state_of_parts progress.old packets.old.bytes None) piece.now
+        (state_of_parts progress.new packets.new.bytes (fault_by result)) }
     ensures open { OnOk result (IsOpen packets.new) }
     ensures limit { packets.new.limit ≡ packets.old.limit }
 {

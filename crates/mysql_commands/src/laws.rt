@@ -25,7 +25,7 @@ pub fn each_payload_is_judged()
     tokens_of_a_text();
 }
 
-/// There is exactly one audit of any payloads and rest, from any standing on.
+/// There is exactly one audit of any payloads and rest, whatever is in force before them.
 pub fn there_is_one_audit()
     ensures { ThereIsOneAudit }
 {
@@ -34,7 +34,7 @@ pub fn there_is_one_audit()
     tokens_of_a_text();
 }
 
-/// Behind payloads that all read, the audit goes on from the standing that they leave.
+/// Behind payloads that all read, the audit goes on by what they leave in force.
 pub fn audit_goes_on()
     ensures { AuditGoesOn }
 {}

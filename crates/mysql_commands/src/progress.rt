@@ -6,7 +6,7 @@ ghost use Rattle.mysql_commands.specs.Views.{conversation_of, sets_of};
 
 use crate::fault::StreamFault;
 use crate::refusal::Refusal;
-use crate::statement::{Conversation, Standing};
+use crate::statement::{Conversation, StatementState};
 use crate::step::step;
 use mysql_values::Content;
 use std::alloc::Global;
@@ -14,13 +14,13 @@ use std::alloc::Global;
 /// What was read so far, and what is in force behind it.
 #[derive(Drop)]
 pub struct Progress {
-    pub standing: Standing,
+    pub statement: StatementState,
     pub sets: Vec<Vec<Content>>,
     pub count: u64,
 }
 
 impl Progress {
-    ghost use Rattle.mysql_commands.specs.Progress.{OneBy};
+    ghost use Rattle.mysql_commands.specs.Steps.{OneBy};
 
     /// Reads the next payload. A refusal changes neither the sets nor the count.
     pub fn read_one(
@@ -37,7 +37,7 @@ impl Progress {
         if self.count == u64::MAX {
             return Err(Refusal::Fault(StreamFault::TooLarge));
         }
-        let mut more = step(alloc, conversation, &mut self.standing, payload)?;
+        let mut more = step(alloc, conversation, &mut self.statement, payload)?;
         self.sets.append(&mut more)?;
         self.count += 1;
         Ok(())

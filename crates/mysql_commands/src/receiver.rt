@@ -1,14 +1,16 @@
 //! Reading a stream of commands back.
 
-ghost use Rattle.std.specs.Prelude.{◌≡◌, ◌≤◌, ◌⊎◌, [], true, false, None, Err, IfErr, IfOk, IfSome, OnOk};
+ghost use Rattle.std.specs.Prelude.{◌≡◌, ◌≢◌, ◌≤◌, ◌⊎◌, [], true, false, None, Err, IfErr, IfOk, IfSome, OnOk};
 ghost use Rattle.mysql_wire.specs.Bytes.{AreBytes};
 ghost use Rattle.mysql_values.specs.Queries.{HasMixed, IsParsed};
+ghost use Rattle.mysql_commands.specs.declared.fault.StreamFault.TheVariants.{Memory};
 ghost use Rattle.mysql_commands.specs.declared.receiver.ReceiverError.TheVariants as receiver_error;
 ghost use Rattle.mysql_commands.specs.Query.{IsQuery};
 ghost use Rattle.mysql_commands.specs.Audit.{IsAbout};
-ghost use Rattle.mysql_commands.specs.GoingOn.{GoesOn, Decides, RunsShort, TakesAll, held_at_start};
-ghost use Rattle.mysql_commands.specs.Receiving.{OnMemory, UnlessMemory, answer_by, audit_of, end_by, fault_from, holds};
-ghost use Rattle.mysql_commands.specs.Received.{held_by};
+ghost use Rattle.mysql_commands.specs.GoingOn.{ReceiverGoesOn, ReceiverDecides, RunsShort, TakesAll, fresh_receiver};
+ghost use Rattle.mysql_commands.specs.Receiving.{answer_by, audit_of};
+ghost use Rattle.mysql_commands.specs.Parts.{end_by, fault_from, state_of_parts};
+ghost use Rattle.mysql_commands.specs.Received.{receiver_state};
 ghost use Rattle.mysql_commands.specs.Views.{conversation_of};
 
 use crate::audit::{Audit, End};
@@ -17,7 +19,7 @@ use crate::incoming::read_piece;
 use crate::progress::Progress;
 use crate::reading::waits;
 use crate::refusal::Refusal;
-use crate::statement::{Conversation, Standing};
+use crate::statement::{Conversation, StatementState};
 use mysql_values::{NamedParamsError, ParsedNamedParams, places};
 use mysql_wire::laws::reader_laws;
 use mysql_wire::{PacketReader, WireError};
@@ -123,12 +125,12 @@ fn end_now(
     begun: bool,
     fault: Option<StreamFault>,
 ) -> End
-    ensures { result ≡ end_by (conversation_of conversation.now) (holds progress.now [] fault) begun fault }
+    ensures { result ≡ end_by (conversation_of conversation.now) (state_of_parts progress.now [] fault) begun fault }
 {
     if let Some(fault) = fault {
         return End::Fault(progress.count, fault);
     }
-    if waits(conversation, &progress.standing) {
+    if waits(conversation, &progress.statement) {
         return End::WaitingPieces;
     }
     if begun {
@@ -150,7 +152,7 @@ impl Receiver {
         limit: usize,
     ) -> Result<Receiver, ReceiverError>
         requires { 4 ≤ limit }
-        ensures held { IfOk result (λ r. held_by r ≡ held_at_start) }
+        ensures fresh { IfOk result (λ r. receiver_state r ≡ fresh_receiver) }
         ensures about { IfOk result (λ r. IsAbout r.conversation query.now stmt_id) }
         ensures limit { IfOk result (λ r. r.limit ≡ limit) }
         ensures one_kind { OnOk result (HasMixed query.now false) }
@@ -163,7 +165,7 @@ impl Receiver {
     /// A receiver that was fed nothing.
     fn over(alloc: Global, conversation: Conversation, limit: usize) -> Receiver
         requires { IsQuery (conversation_of conversation).query }
-        ensures held { held_by result ≡ held_at_start }
+        ensures fresh { receiver_state result ≡ fresh_receiver }
         ensures conversation { result.conversation ≡ conversation_of conversation }
         ensures limit { result.limit ≡ limit }
     {
@@ -173,7 +175,7 @@ impl Receiver {
             conversation,
             packets: PacketReader::new(alloc, 0, limit),
             progress: Progress {
-                standing: Standing {
+                statement: StatementState {
                     prepared: false,
                     types: None,
                     pieces: Vec::new(alloc),
@@ -196,9 +198,9 @@ impl Receiver {
     ///
     /// Follows the MySQL Client/Server Protocol, "MySQL Packets" and "Command Phase".
     pub fn feed(&mut self, piece: &[u8]) -> Result<(), StreamFault>
-        ensures goes_on { UnlessMemory result (GoesOn self.old.conversation self.old.limit (held_by self.old) piece.now (held_by self.new)) }
-        ensures short { self.old.fault ≡ None → OnMemory result (RunsShort self.old.conversation self.old.limit (held_by self.old) piece.now (held_by self.new)) }
-        ensures takes { OnOk result (TakesAll self.old.conversation self.old.limit (held_by self.old) piece.now (held_by self.new)) }
+        ensures goes_on { result ≢ Err Memory → ReceiverGoesOn self.old.conversation self.old.limit (receiver_state self.old) piece.now (receiver_state self.new) }
+        ensures short { self.old.fault ≡ None → result ≡ Err Memory → RunsShort self.old.conversation self.old.limit (receiver_state self.old) piece.now (receiver_state self.new) }
+        ensures takes { OnOk result (TakesAll self.old.conversation self.old.limit (receiver_state self.old) piece.now (receiver_state self.new)) }
         ensures stays { IfSome self.old.fault (λ fault. (result ≡ Err fault) × (self.new ≡ self.old)) }
         ensures answer { result ≡ answer_by self.new.fault }
         ensures bytes { OnOk result (AreBytes self.new.partial) }
@@ -230,7 +232,7 @@ impl Receiver {
     /// After [`StreamFault::Memory`] its sets are those of the stream's first payloads, as many as its end counts: at least
     /// those that stood whole before the `feed` that answered it.
     pub fn finish(self) -> Audit
-        ensures { Decides self.conversation self.limit (held_by self) [] (audit_of result) }
+        ensures { ReceiverDecides self.conversation self.limit (receiver_state self) [] (audit_of result) }
     {
         reader_laws();
         let end = end_now(
@@ -247,7 +249,7 @@ impl Receiver {
             fault: _,
         } = self;
         let Progress {
-            standing: _,
+            statement: _,
             sets,
             count: _,
         } = progress;

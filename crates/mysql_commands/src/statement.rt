@@ -14,7 +14,7 @@ pub struct Conversation {
 
 /// What is in force behind the payloads that were read.
 #[derive(Drop)]
-pub struct Standing {
+pub struct StatementState {
     pub prepared: bool,
     pub types: Option<Vec<ParamType>>,
     pub pieces: Vec<Option<Vec<u8>>>,

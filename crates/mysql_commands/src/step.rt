@@ -3,24 +3,25 @@
 ghost use Rattle.std.specs.Prelude.{◌≡◌, ℕ, ◌+◌, ◌<◌, ◌^◌, List, [], ◌∷◌, Option, Some, None, Ok, IfOk, OnOk, OnErr, length, vec_len};
 ghost use Rattle.mysql_commands.specs.Query.{IsQuery, all_alone as is_all_alone};
 ghost use Rattle.mysql_commands.specs.Layout.{Prepare, Text, Execute, Bulk, LongData, command_of};
-ghost use Rattle.mysql_commands.specs.InForce.{Standing as Force, standing_after, execute_types, bulk_types, prepared_anew, after_execute, after_bulk, after_piece, with_piece};
+ghost use Rattle.mysql_commands.specs.InForce.{StatementState as InForce, state_after, execute_types, bulk_types};
+ghost use Rattle.mysql_commands.specs.Steps.{prepared_anew, after_execute, after_bulk, after_piece, with_piece};
 ghost use Rattle.mysql_commands.specs.Reading.{prepared_piece};
-ghost use Rattle.mysql_commands.specs.Views.{Gives, piece_of, Judged, PayloadJudged, sets_of, types_kept, conversation_of, standing_of, piece_kept};
+ghost use Rattle.mysql_commands.specs.Views.{Gives, piece_of, Judged, PayloadJudged, sets_of, types_kept, conversation_of, state_of, piece_kept};
 
 use crate::fault::StreamFault;
 use crate::layout::{Piece, long_data};
 use crate::param_type::ParamType;
 use crate::reading::{bulk, execute};
 use crate::refusal::Refusal;
-use crate::statement::{Conversation, Standing};
+use crate::statement::{Conversation, StatementState};
 use mysql_const::Command;
 use mysql_values::{Content, read_text};
 use std::alloc::{AllocError, Global};
 
-impl Standing {
+impl StatementState {
     /// Behind a prepare.
     pub fn prepare(&mut self)
-        ensures { standing_of self.new ≡ prepared_anew }
+        ensures { state_of self.new ≡ prepared_anew }
     {
         self.prepared = true;
         self.types = None;
@@ -29,7 +30,7 @@ impl Standing {
 
     /// Behind an execute that carries these types, or none.
     pub fn execute(&mut self, own: Option<Vec<ParamType>>)
-        ensures { standing_of self.new ≡ after_execute (standing_of self.old) (types_kept own) }
+        ensures { state_of self.new ≡ after_execute (state_of self.old) (types_kept own) }
     {
         if own.is_some() {
             self.types = own;
@@ -39,7 +40,7 @@ impl Standing {
 
     /// Behind a bulk that carries these types, or none.
     pub fn bulk(&mut self, own: Option<Vec<ParamType>>)
-        ensures { standing_of self.new ≡ after_bulk (standing_of self.old) (types_kept own) }
+        ensures { state_of self.new ≡ after_bulk (state_of self.old) (types_kept own) }
     {
         if own.is_some() {
             self.types = own;
@@ -70,7 +71,7 @@ fn text(
     body: &[u8],
 ) -> Result<Vec<Vec<Content>>, Refusal>
     requires { IsQuery (conversation_of conversation.now).query }
-    ensures { (s : Force) → Judged (conversation_of conversation.now) s Text body.now result }
+    ensures { (s : InForce) → Judged (conversation_of conversation.now) s Text body.now result }
 {
     if !all_alone(conversation) {
         return Err(Refusal::Fault(StreamFault::NotAlone));
@@ -87,7 +88,7 @@ fn prepare(
     conversation: &Conversation,
     body: &[u8],
 ) -> Result<Vec<Vec<Content>>, Refusal>
-    ensures { (s : Force) → Judged (conversation_of conversation.now) s Prepare body.now result }
+    ensures { (s : InForce) → Judged (conversation_of conversation.now) s Prepare body.now result }
 {
     if body != conversation.parsed.as_slice() {
         return Err(Refusal::Fault(StreamFault::PrepareMismatch));
@@ -98,12 +99,12 @@ fn prepare(
     Ok(Vec::new(alloc))
 }
 
-impl Standing {
+impl StatementState {
     /// Behind a piece.
     pub fn add_piece(&mut self, alloc: Global, place: usize, bytes: &[u8]) -> Result<(), AllocError>
         requires { place < 2 ^ 32 }
-        ensures ok { OnOk result (standing_of self.new ≡ after_piece (standing_of self.old) (record { place = place; bytes = bytes.now })) }
-        ensures err { OnErr result (standing_of self.new ≡ standing_of self.old) }
+        ensures ok { OnOk result (state_of self.new ≡ after_piece (state_of self.old) (record { place = place; bytes = bytes.now })) }
+        ensures err { OnErr result (state_of self.new ≡ state_of self.old) }
     {
         reach(&mut self.pieces, place)?;
         append(alloc, &mut self.pieces, place, bytes)
@@ -147,15 +148,15 @@ fn append(
 fn on_prepare(
     alloc: Global,
     conversation: &Conversation,
-    standing: &mut Standing,
+    statement: &mut StatementState,
     body: &[u8],
 ) -> Result<Vec<Vec<Content>>, Refusal>
-    ensures judged { Judged (conversation_of conversation.now) (standing_of standing.old) Prepare body.now result }
-    ensures ok { OnOk result (standing_of standing.new ≡ prepared_anew) }
-    ensures err { OnErr result (standing_of standing.new ≡ standing_of standing.old) }
+    ensures judged { Judged (conversation_of conversation.now) (state_of statement.old) Prepare body.now result }
+    ensures ok { OnOk result (state_of statement.new ≡ state_after (conversation_of conversation.now) (state_of statement.old) ((22 ∷ body.now) ∷ [])) }
+    ensures err { OnErr result (state_of statement.new ≡ state_of statement.old) }
 {
     let sets = prepare(alloc, conversation, body)?;
-    standing.prepare();
+    statement.prepare();
     Ok(sets)
 }
 
@@ -163,16 +164,16 @@ fn on_prepare(
 fn on_execute(
     alloc: Global,
     conversation: &Conversation,
-    standing: &mut Standing,
+    statement: &mut StatementState,
     body: &[u8],
 ) -> Result<Vec<Vec<Content>>, Refusal>
-    ensures judged { Judged (conversation_of conversation.now) (standing_of standing.old) Execute body.now result }
-    ensures ok { OnOk result (standing_of standing.new ≡ after_execute (standing_of standing.old) (execute_types (conversation_of conversation.now) body.now)) }
-    ensures err { OnErr result (standing_of standing.new ≡ standing_of standing.old) }
+    ensures judged { Judged (conversation_of conversation.now) (state_of statement.old) Execute body.now result }
+    ensures ok { OnOk result (state_of statement.new ≡ after_execute (state_of statement.old) (execute_types (conversation_of conversation.now) body.now)) }
+    ensures err { OnErr result (state_of statement.new ≡ state_of statement.old) }
 {
-    let (set, own) = execute(alloc, conversation, standing, body)?;
+    let (set, own) = execute(alloc, conversation, statement, body)?;
     let sets = one(alloc, set)?;
-    standing.execute(own);
+    statement.execute(own);
     Ok(sets)
 }
 
@@ -180,15 +181,15 @@ fn on_execute(
 fn on_bulk(
     alloc: Global,
     conversation: &Conversation,
-    standing: &mut Standing,
+    statement: &mut StatementState,
     body: &[u8],
 ) -> Result<Vec<Vec<Content>>, Refusal>
-    ensures judged { Judged (conversation_of conversation.now) (standing_of standing.old) Bulk body.now result }
-    ensures ok { OnOk result (standing_of standing.new ≡ after_bulk (standing_of standing.old) (bulk_types (conversation_of conversation.now) body.now)) }
-    ensures err { OnErr result (standing_of standing.new ≡ standing_of standing.old) }
+    ensures judged { Judged (conversation_of conversation.now) (state_of statement.old) Bulk body.now result }
+    ensures ok { OnOk result (state_of statement.new ≡ after_bulk (state_of statement.old) (bulk_types (conversation_of conversation.now) body.now)) }
+    ensures err { OnErr result (state_of statement.new ≡ state_of statement.old) }
 {
-    let (sets, own) = bulk(alloc, conversation, standing, body)?;
-    standing.bulk(own);
+    let (sets, own) = bulk(alloc, conversation, statement, body)?;
+    statement.bulk(own);
     Ok(sets)
 }
 
@@ -196,12 +197,12 @@ fn on_bulk(
 #[tactic(auto, unfolding(crate::specs::Reading::prepared_piece))]
 fn expected_piece<'a>(
     conversation: &Conversation,
-    standing: &Standing,
+    statement: &StatementState,
     body: &'a [u8],
 ) -> Result<Piece<'a>, Refusal>
-    ensures { Gives piece_of result (prepared_piece (conversation_of conversation.now) (standing_of standing.now) body.now) }
+    ensures { Gives piece_of result (prepared_piece (conversation_of conversation.now) (state_of statement.now) body.now) }
 {
-    if !standing.prepared {
+    if !statement.prepared {
         return Err(Refusal::Fault(StreamFault::NotPrepared));
     }
     long_data(conversation, body)
@@ -212,15 +213,15 @@ fn expected_piece<'a>(
 fn on_long_data(
     alloc: Global,
     conversation: &Conversation,
-    standing: &mut Standing,
+    statement: &mut StatementState,
     body: &[u8],
 ) -> Result<Vec<Vec<Content>>, Refusal>
-    ensures judged { Judged (conversation_of conversation.now) (standing_of standing.old) LongData body.now result }
-    ensures ok { OnOk result (standing_of standing.new ≡ standing_after (conversation_of conversation.now) (standing_of standing.old) ((24 ∷ body.now) ∷ [])) }
-    ensures err { OnErr result (standing_of standing.new ≡ standing_of standing.old) }
+    ensures judged { Judged (conversation_of conversation.now) (state_of statement.old) LongData body.now result }
+    ensures ok { OnOk result (state_of statement.new ≡ state_after (conversation_of conversation.now) (state_of statement.old) ((24 ∷ body.now) ∷ [])) }
+    ensures err { OnErr result (state_of statement.new ≡ state_of statement.old) }
 {
-    let Piece { place, bytes } = expected_piece(conversation, standing, body)?;
-    standing.add_piece(alloc, place as usize, bytes)?;
+    let Piece { place, bytes } = expected_piece(conversation, statement, body)?;
+    statement.add_piece(alloc, place as usize, bytes)?;
     Ok(Vec::new(alloc))
 }
 
@@ -239,39 +240,39 @@ const COM_STMT_BULK_EXECUTE: u8 = Command::COM_STMT_BULK_EXECUTE as u8;
 fn on_command(
     alloc: Global,
     conversation: &Conversation,
-    standing: &mut Standing,
+    statement: &mut StatementState,
     command: u8,
     body: &[u8],
 ) -> Result<Vec<Vec<Content>>, Refusal>
     requires { IsQuery (conversation_of conversation.now).query }
-    ensures judged { Judged (conversation_of conversation.now) (standing_of standing.old) (command_of command) body.now result }
-    ensures ok { OnOk result (standing_of standing.new ≡ standing_after (conversation_of conversation.now) (standing_of standing.old) ((command ∷ body.now) ∷ [])) }
-    ensures err { OnErr result (standing_of standing.new ≡ standing_of standing.old) }
+    ensures judged { Judged (conversation_of conversation.now) (state_of statement.old) (command_of command) body.now result }
+    ensures ok { OnOk result (state_of statement.new ≡ state_after (conversation_of conversation.now) (state_of statement.old) ((command ∷ body.now) ∷ [])) }
+    ensures err { OnErr result (state_of statement.new ≡ state_of statement.old) }
 {
     match command {
         COM_QUERY => text(alloc, conversation, body),
-        COM_STMT_PREPARE => on_prepare(alloc, conversation, standing, body),
-        COM_STMT_EXECUTE => on_execute(alloc, conversation, standing, body),
-        COM_STMT_SEND_LONG_DATA => on_long_data(alloc, conversation, standing, body),
-        COM_STMT_BULK_EXECUTE => on_bulk(alloc, conversation, standing, body),
+        COM_STMT_PREPARE => on_prepare(alloc, conversation, statement, body),
+        COM_STMT_EXECUTE => on_execute(alloc, conversation, statement, body),
+        COM_STMT_SEND_LONG_DATA => on_long_data(alloc, conversation, statement, body),
+        COM_STMT_BULK_EXECUTE => on_bulk(alloc, conversation, statement, body),
         _ => Err(Refusal::Fault(StreamFault::OtherCommand)),
     }
 }
 
-/// Reads one payload, and makes the standing that behind it. A refusal changes nothing.
+/// Reads one payload, and what is in force becomes that behind it. A refusal changes nothing.
 pub fn step(
     alloc: Global,
     conversation: &Conversation,
-    standing: &mut Standing,
+    statement: &mut StatementState,
     payload: &[u8],
 ) -> Result<Vec<Vec<Content>>, Refusal>
     requires { IsQuery (conversation_of conversation.now).query }
-    ensures judged { PayloadJudged (conversation_of conversation.now) (standing_of standing.old) payload.now result }
-    ensures ok { OnOk result (standing_of standing.new ≡ standing_after (conversation_of conversation.now) (standing_of standing.old) (payload.now ∷ [])) }
-    ensures err { OnErr result (standing_of standing.new ≡ standing_of standing.old) }
+    ensures judged { PayloadJudged (conversation_of conversation.now) (state_of statement.old) payload.now result }
+    ensures ok { OnOk result (state_of statement.new ≡ state_after (conversation_of conversation.now) (state_of statement.old) (payload.now ∷ [])) }
+    ensures err { OnErr result (state_of statement.new ≡ state_of statement.old) }
 {
     match payload {
         [] => Err(Refusal::Fault(StreamFault::EmptyCommand)),
-        [command, body @ ..] => on_command(alloc, conversation, standing, *command, body),
+        [command, body @ ..] => on_command(alloc, conversation, statement, *command, body),
     }
 }

@@ -14,3 +14,4 @@ pub mod NamedLaws
 pub mod SessionStates
 pub mod StatusFlags
 pub mod Tables
+pub mod FlagSets

@@ -35,7 +35,7 @@ pub enum WireError {
 
 /// A length-encoded number that begins with a byte which no such number has.
 /// (MySQL: Client/Server Protocol, "Protocol::LengthEncodedInteger".)
-#[derive(Clone, Copy, Debug, PartialEq, Eq, Error)]
+#[derive(Clone, Copy, Debug, Default, PartialEq, Eq, Hash, Error)]
 #[error("invalid length-encoded number")]
 pub struct InvalidLengthEncodedInteger;
 

@@ -274,7 +274,7 @@ impl<'de> MyDeserialize<'de> for Sid<'de> {
 /// the block is tagged, and each set has its tag after its length, 0 where it has none.
 ///
 /// MySQL: Client/Server Protocol, "COM_BINLOG_DUMP_GTID"; Source Code Documentation, "Gtid_set::encode".
-#[derive(Drop)]
+#[derive(Debug, PartialEq, Eq, Hash, Drop)]
 pub struct SidBlock<'a>(pub CowSlice<'a, Sid<'a>>);
 
 impl<'a> SidBlock<'a> {

@@ -8,7 +8,8 @@ use Rattle.std.proofs.lemmas.Str.{digit_value_digit}
 use Rattle.std.specs.Char.{digit_value}
 use Rattle.std.specs.List.{prefix_len}
 use Rattle.std.specs.Str.Parse.{digits_value}
-use Rattle.mysql_handshake.specs.Versions.{digits_len, is_digit}
+use Rattle.mysql_handshake.specs.VersionReading.{digits_len}
+use Rattle.mysql_handshake.specs.Versions.{is_digit}
 
 -- a digit is one of `0` to `9`
 pub digit_range : (c : ℕ) → is_digit c ≡ true → (48 ≤ c) × (c ≤ 57)

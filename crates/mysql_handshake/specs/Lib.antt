@@ -1,4 +1,5 @@
 pub mod Capabilities
 pub mod HandshakeViews
 pub mod Handshakes
+pub mod VersionReading
 pub mod Versions

@@ -1,62 +1,50 @@
 -- Versions of servers, as texts.
 -- (MySQL Reference Manual, "Which MySQL Version and Distribution to Install"; MariaDB: "Connecting", 'Initial handshake packet', the
 -- prefix `5.5.5-`.)
-use Rattle.std.specs.Prelude.{ℕ, ◌==◌, nat_eq, nat_le, ◌&&◌, min, Bool, if◌then◌else◌, List, [], ◌∷◌, codes, drop, take, Option, None, Some}
-use Rattle.std.specs.List.{prefix_len, starts_with}
-use Rattle.std.specs.Option.{option_map}
+use Rattle.std.specs.Prelude.{◌≡◌, ◌≤◌, ◌⊎◌, ℕ, nat_le, ◌&&◌, Bool, true, false, List, [], ◌∷◌, ◌++◌, codes, length, Option, None, Some, ⊤}
+use Rattle.std.specs.List.{AllByRecursion}
 use Rattle.std.specs.Str.Parse.{digits_value}
-
-infixl 10 ◌>>=◌
-abbrev pub ◌>>=◌ : {A B : Type 0} → Option A → (A → Option B) → Option B
-None >>= f = None
-(Some x) >>= f = f x
 
 -- a decimal digit
 abbrev pub is_digit : ℕ → Bool
 is_digit c = nat_le 48 c && nat_le c 57
 
--- how many digits a text begins with, as far as `most`
-unfoldable pub digits_len : ℕ → List ℕ → ℕ
-digits_len most text = min most (prefix_len is_digit text)
+-- one digit or more, and at most so many
+pub record IsGroup (most : ℕ) (digits : List ℕ) : Type 0 where
+  pub some : 1 ≤ length digits
+  pub few : length digits ≤ most
+  pub each : AllByRecursion (λ c. is_digit c ≡ true) digits
 
--- the number that these digits write and the text behind them, where there is a digit
-unfoldable pub number_at : ℕ → List ℕ → Option (ℕ × List ℕ)
-number_at most text = if digits_len most text == 0 then None else Some (digits_value 10 (take (digits_len most text) text), drop (digits_len most text) text)
+-- no digit stands first
+abbrev pub NoDigitFirst : List ℕ → Type 0
+NoDigitFirst [] = ⊤
+NoDigitFirst (c ∷ text) = is_digit c ≡ false
 
--- the text behind a dot
-abbrev pub after_dot : List ℕ → Option (List ℕ)
-after_dot [] = None
-after_dot (c ∷ text) = if c == 46 then Some text else None
+-- a text begins with three groups of digits, with dots between, the last as long as it can be: the numbers that they write, and the text behind
+pub record BeginsWith (text : List ℕ) (version : ℕ × ℕ × ℕ) (rest : List ℕ) : Type 0 where
+  pub major : List ℕ
+  pub minor : List ℕ
+  pub patch : List ℕ
+  pub spelled : text ≡ major ++ codes "." ++ minor ++ codes "." ++ patch ++ rest
+  pub is_major : IsGroup 2 major
+  pub is_minor : IsGroup 2 minor
+  pub is_patch : IsGroup 3 patch
+  pub whole : (length patch ≡ 3) ⊎ NoDigitFirst rest
+  pub numbers : version ≡ (digits_value 10 major, digits_value 10 minor, digits_value 10 patch)
 
--- the number that the text behind a dot begins with, and the text behind it
-abbrev pub number_after_dot : ℕ → List ℕ → Option (ℕ × List ℕ)
-number_after_dot most text = after_dot text >>= number_at most
+-- this version is what a text begins with
+abbrev pub IsVersion : List ℕ → ℕ × ℕ × ℕ → Type 0
+IsVersion text version = (rest : List ℕ) × BeginsWith text version rest
 
--- three numbers of at most two, two and three digits, with dots between, and the text behind them
-unfoldable pub version_at : List ℕ → Option ((ℕ × ℕ × ℕ) × List ℕ)
-version_at text = do
-  major ← number_at 2 text
-  minor ← number_after_dot 2 major.1
-  patch ← number_after_dot 3 minor.1
-  Some ((major.0, minor.0, patch.0), patch.1)
-
--- the version that a text begins with
-abbrev pub version_of : List ℕ → Option (ℕ × ℕ × ℕ)
-version_of text = option_map (λ p. p.0) (version_at text)
-
--- the version that a text begins with, where MariaDB's name is behind it
-unfoldable pub marked_version : List ℕ → Option (ℕ × ℕ × ℕ)
-marked_version text = do
-  version ← version_at text
-  if starts_with nat_eq version.1 (codes "-MariaDB") then Some version.0 else None
-
--- the first that is there
-abbrev pub first_of : {X : Type 0} → Option X → Option X → Option X
-first_of None other = other
-first_of (Some x) other = Some x
+-- the same, and MariaDB's name behind it
+abbrev pub IsMarked : List ℕ → ℕ × ℕ × ℕ → Type 0
+IsMarked text version = (rest : List ℕ) × BeginsWith text version (codes "-MariaDB" ++ rest)
 
 -- the version of a MariaDB server; `5.5.5-` may stand before it
-unfoldable pub mariadb_version : List ℕ → Option (ℕ × ℕ × ℕ)
-mariadb_version text =
-    if starts_with nat_eq text (codes "5.5.5-") then first_of (marked_version (drop 6 text)) (marked_version text)
-    else marked_version text
+abbrev pub IsMariadbVersion : List ℕ → ℕ × ℕ × ℕ → Type 0
+IsMariadbVersion text version = ((tail : List ℕ) × (text ≡ codes "5.5.5-" ++ tail) × IsMarked tail version) ⊎ IsMarked text version
+
+-- the one value that this holds of, or none where it holds of none
+abbrev pub IsTheOne : {X : Type 0} → (X → Type 0) → Option X → Type 0
+IsTheOne {X} Is None = (x : X) → ¬ (Is x)
+IsTheOne {X} Is (Some x) = Is x × ((y : X) → Is y → y ≡ x)

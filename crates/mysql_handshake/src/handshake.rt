@@ -11,7 +11,7 @@ ghost use Rattle.mysql_buf.specs.Writing.{front};
 ghost use Rattle.mysql_handshake.specs.Capabilities.{plugin_auth, secure_connection};
 ghost use Rattle.mysql_handshake.specs.HandshakeViews.{fixed_view, handshake_view};
 ghost use Rattle.mysql_handshake.specs.Handshakes.{HandshakeFields, block_at, fixed, fixed_at, fixed_written, flags_at, handshake, handshake_at, name_at, name_written, nonce_of, scramble_at, scramble_front, scramble_written, scrambles_length};
-ghost use Rattle.mysql_handshake.specs.Versions.{mariadb_version, version_of};
+ghost use Rattle.mysql_handshake.specs.Versions.{IsMariadbVersion, IsTheOne, IsVersion};
 ghost use Rattle.mysql_raw.specs.Forms.{bytes_at};
 ghost use Rattle.mysql_raw.specs.Laws.{unsized};
 ghost use Rattle.mysql_raw.specs.Wire.{Tells, TellsPart};
@@ -213,7 +213,7 @@ impl<'a> HandshakePacket<'a> {
     /// The version that the text begins with: three numbers of at most two, two and three digits,
     /// with dots between. A MariaDB server from 10 on may begin with 5.5.5.
     pub fn server_version_parsed(&self) -> Option<(u16, u16, u16)>
-        ensures { result ≡ version_of (handshake_view self.now).server_version }
+        ensures { IsTheOne (IsVersion (handshake_view self.now).server_version) result }
     {
         version_of(self.server_version_ref())
     }
@@ -222,7 +222,7 @@ impl<'a> HandshakePacket<'a> {
     /// None of other servers.
     /// (MariaDB: "Connecting", 'Initial handshake packet'.)
     pub fn maria_db_server_version_parsed(&self) -> Option<(u16, u16, u16)>
-        ensures { result ≡ mariadb_version (handshake_view self.now).server_version }
+        ensures { IsTheOne (IsMariadbVersion (handshake_view self.now).server_version) result }
     {
         mariadb_version(self.server_version_ref())
     }

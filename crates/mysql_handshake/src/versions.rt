@@ -4,7 +4,8 @@ ghost use Rattle.std.specs.Prelude.{◌≡◌, ◌<◌, ◌≤◌, ℕ, length, 
 ghost use Rattle.std.specs.List.{prefix_len};
 ghost use Rattle.std.specs.Option.{option_map};
 ghost use Rattle.std.specs.Str.Parse.{digits_value};
-ghost use Rattle.mysql_handshake.specs.Versions.{after_dot, digits_len, is_digit, mariadb_version, marked_version, number_after_dot, number_at, version_at, version_of};
+ghost use Rattle.mysql_handshake.specs.VersionReading.{after_dot, digits_len, mariadb_version, marked_version, number_after_dot, number_at, version_at, version_of};
+ghost use Rattle.mysql_handshake.specs.Versions.{is_digit};
 
 /// What stands before the version of a MariaDB server from 10 on, for clients that take a first
 /// number of one digit alone.
@@ -33,7 +34,7 @@ fn first_other(text: &[u8]) -> usize
 }
 
 // How many digits a text begins with, as far as `most`.
-#[tactic(auto, unfolding(crate::specs::Versions::digits_len))]
+#[tactic(auto, unfolding(crate::specs::VersionReading::digits_len))]
 fn digits_len(text: &[u8], most: usize) -> usize
     ensures { result ≡ digits_len most text.now }
 {
@@ -54,7 +55,7 @@ fn value_of(digits: &[u8]) -> u16
 }
 
 // The number that a text begins with, of at most `most` digits, and the text behind it.
-#[tactic(auto, unfolding(crate::specs::Versions::number_at))]
+#[tactic(auto, unfolding(crate::specs::VersionReading::number_at))]
 fn number_at(text: &[u8], most: usize) -> Option<(u16, &[u8])>
     requires { most ≤ 3 }
     ensures { option_map (λ found. (found.0, found.1.now)) result ≡ number_at most text.now }
@@ -86,7 +87,7 @@ fn number_after_dot(text: &[u8], most: usize) -> Option<(u16, &[u8])>
 }
 
 // Three numbers with dots between, and the text behind them.
-#[tactic(auto, unfolding(crate::specs::Versions::version_at))]
+#[tactic(auto, unfolding(crate::specs::VersionReading::version_at))]
 fn version_at(text: &[u8]) -> Option<((u16, u16, u16), &[u8])>
     ensures { option_map (λ found. (found.0, found.1.now)) result ≡ version_at text.now }
 {
@@ -106,7 +107,7 @@ pub(crate) fn version_of(text: &[u8]) -> Option<(u16, u16, u16)>
 }
 
 // The version that a text begins with, where MariaDB's name is behind it.
-#[tactic(auto, unfolding(crate::specs::Versions::marked_version))]
+#[tactic(auto, unfolding(crate::specs::VersionReading::marked_version))]
 fn marked_version(text: &[u8]) -> Option<(u16, u16, u16)>
     ensures { result ≡ marked_version text.now }
 {
@@ -119,7 +120,7 @@ fn marked_version(text: &[u8]) -> Option<(u16, u16, u16)>
 }
 
 /// The version of a MariaDB server that a text begins with, before which `5.5.5-` may stand.
-#[tactic(auto, unfolding(crate::specs::Versions::mariadb_version))]
+#[tactic(auto, unfolding(crate::specs::VersionReading::mariadb_version))]
 pub(crate) fn mariadb_version(text: &[u8]) -> Option<(u16, u16, u16)>
     ensures { result ≡ mariadb_version text.now }
 {

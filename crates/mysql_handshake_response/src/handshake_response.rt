@@ -19,7 +19,7 @@ use crate::ssl_request::SslRequest;
 use bitflags::Flags;
 use indexmap::IndexMap;
 use mysql_attributes::{
-    ConnectAttributes, IfHeld, attributes_of_texts, copied, copied_attributes, copied_plugin, has,
+    ConnectAttributes, IfHeld, attributes_of_texts, copied_attributes, copied_plugin, has,
     or_no_bytes, parse_if, plugin_to_zero,
 };
 use mysql_auth::AuthPlugin;
@@ -98,7 +98,7 @@ fn copied_name(
     ensures { IfOk result (λ copy. option_map text_view copy ≡ option_map text_view name.now) }
 {
     match name {
-        Some(name) => Ok(Some(copied(alloc, name)?)),
+        Some(name) => Ok(Some(name.clone(alloc)?)),
         None => Ok(None),
     }
 }
@@ -200,7 +200,7 @@ impl<'a> HandshakeResponse<'a> {
         ensures user { IfOk result (λ copy. text_view copy.0 ≡ text_view self.now.user) }
         ensures scramble { IfOk result (λ copy. cow_slice_items copy.1 ≡ cow_slice_items self.now.scramble_buf) }
     {
-        let user = copied(alloc, &self.user)?;
+        let user = self.user.clone(alloc)?;
         let scramble_buf = Vec::from_slice(alloc, self.scramble_buf.as_slice())?;
         Ok((user, CowSlice::Owned(scramble_buf)))
     }

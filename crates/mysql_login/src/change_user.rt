@@ -1,6 +1,6 @@
 //! The command that logs another user in.
 
-ghost use Rattle.std.specs.Prelude.{◌≡◌, [], IfOk, None, map, option_map, IsOkUnless};
+ghost use Rattle.std.specs.Prelude.{◌≡◌, [], IfOk, None, map, option_map};
 ghost use Rattle.std.specs.Cow.{cow_slice_items};
 ghost use Rattle.mysql_attributes.specs.Attributes.{attributes};
 ghost use Rattle.mysql_attributes.specs.AttributeViews.{attributes_view, text_attribute};
@@ -10,14 +10,12 @@ ghost use Rattle.mysql_login.specs.ChangedUsers.{ChangeUserFields, MoreFields, c
 ghost use Rattle.mysql_login.specs.ChangedUserViews.{change_user_view, more_view};
 ghost use Rattle.mysql_raw.specs.Laws.{unsized};
 ghost use Rattle.mysql_raw.specs.Wire.{GivesPart};
-ghost use Rattle.mysql_raw.specs.WireError.TheVariants as wire;
 ghost use Rattle.mysql_attributes.specs.TextViews.{text_view};
 
 use indexmap::IndexMap;
 use mysql_attributes::{
-    ConnectAttributes, IfHeld, attributes_of_texts, copied, copied_attributes, copied_pair,
-    copied_plugin, has, or_no_bytes, owned_attributes, owned_pair, owned_plugin, parse_if,
-    plugin_before_zero,
+    ConnectAttributes, IfHeld, attributes_of_texts, copied_attributes, copied_pair, copied_plugin,
+    has, or_no_bytes, owned_attributes, owned_pair, owned_plugin, parse_if, plugin_before_zero,
 };
 use mysql_auth::AuthPlugin;
 use mysql_buf::ParseBuf;
@@ -89,9 +87,8 @@ impl<'a> ComChangeUserMoreData<'a> {
     }
 
     /// The same, which borrows nothing. Refused for want of memory alone.
-    pub fn into_owned(self, alloc: Global) -> Result<ComChangeUserMoreData<'static>, WireError>
-        ensures memory { IsOkUnless result wire.Memory }
-        ensures value { IfOk result (λ more. more_view more ≡ more_view self.entry) }
+    pub fn into_owned(self, alloc: Global) -> Result<ComChangeUserMoreData<'static>, AllocError>
+        ensures { IfOk result (λ more. more_view more ≡ more_view self.entry) }
     {
         Ok(ComChangeUserMoreData {
             character_set: self.character_set,
@@ -257,9 +254,8 @@ impl<'a> ComChangeUser<'a> {
     }
 
     /// The same command, which borrows nothing. Refused for want of memory alone.
-    pub fn into_owned(self, alloc: Global) -> Result<ComChangeUser<'static>, WireError>
-        ensures memory { IsOkUnless result wire.Memory }
-        ensures value { IfOk result (λ owned. change_user_view owned ≡ change_user_view self.entry) }
+    pub fn into_owned(self, alloc: Global) -> Result<ComChangeUser<'static>, AllocError>
+        ensures { IfOk result (λ owned. change_user_view owned ≡ change_user_view self.entry) }
     {
         let more_data = owned_more(alloc, self.more_data)?;
         let (user, auth_plugin_data, database) = owned_texts(
@@ -281,7 +277,7 @@ impl<'a> ComChangeUser<'a> {
         ensures { IfOk result (λ copy. change_user_view copy ≡ change_user_view self.now) }
     {
         let (user, database) = copied_pair(alloc, &self.user, &self.database)?;
-        let auth_plugin_data = copied(alloc, &self.auth_plugin_data)?;
+        let auth_plugin_data = self.auth_plugin_data.clone(alloc)?;
         let more_data = copied_more(alloc, &self.more_data)?;
         Ok(ComChangeUser {
             user,
@@ -305,8 +301,7 @@ fn owned_texts(
     user: RawBytes<NullBytes>,
     auth_plugin_data: RawBytes<U8Bytes>,
     database: RawBytes<NullBytes>,
-) -> Result<Texts<'static>, WireError>
-    ensures memory { IsOkUnless result wire.Memory }
+) -> Result<Texts<'static>, AllocError>
     ensures user { IfOk result (λ owned. text_view owned.0 ≡ text_view user.entry) }
     ensures scramble { IfOk result (λ owned. text_view owned.1 ≡ text_view auth_plugin_data.entry) }
     ensures database { IfOk result (λ owned. text_view owned.2 ≡ text_view database.entry) }
@@ -320,9 +315,8 @@ fn owned_texts(
 fn owned_more(
     alloc: Global,
     more_data: Option<ComChangeUserMoreData>,
-) -> Result<Option<ComChangeUserMoreData<'static>>, WireError>
-    ensures memory { IsOkUnless result wire.Memory }
-    ensures value { IfOk result (λ owned. option_map more_view owned ≡ option_map more_view more_data.entry) }
+) -> Result<Option<ComChangeUserMoreData<'static>>, AllocError>
+    ensures { IfOk result (λ owned. option_map more_view owned ≡ option_map more_view more_data.entry) }
 {
     match more_data {
         Some(more) => Ok(Some(more.into_owned(alloc)?)),

@@ -2,11 +2,11 @@
 -- MySQL: Client/Server Protocol, "OK_Packet", "EOF_Packet", "ERR_Packet", "Column Definition", "Text Resultset Row",
 -- "Binary Protocol Resultset Row" and "COM_STMT_PREPARE Response"; MariaDB: 'Progress report' of "ERR_Packet".
 -- A reading takes bytes from the front: x.0 is what was read and x.1 the bytes left; the first refusal counts.
-use Rattle.std.specs.Prelude.{ℕ, zero, suc, ◌+◌, ◌/◌, ◌%◌, ◌^◌, List, [], ◌∷◌, length, Bool, Option, Some, None, Ok, ◌==◌, if◌then◌else◌}
-use Rattle.byteorder.specs.Endian.{little_number}
+use Rattle.std.specs.Prelude.{ℕ, zero, suc, ◌+◌, ◌/◌, List, [], ◌∷◌, length, Bool, Option, Some, None, Ok, ◌==◌, if◌then◌else◌}
 use Rattle.mysql_cells.specs.declared.value.Value.{Value}
 use Rattle.mysql_cells.specs.declared.value.Value.TheVariants.{NULL}
 use Rattle.mysql_cells.specs.Cells.{column_cell_at, text_cell_at}
+use Rattle.mysql_null_bitmap.specs.NullBitmap.{is_null_at}
 use Rattle.mysql_const.specs.declared.column_flags.ColumnFlags.{ColumnFlags}
 use Rattle.mysql_const.specs.declared.column_type.ColumnType.{ColumnType}
 use Rattle.mysql_const.specs.ColumnTypes.{column_type_named}
@@ -90,27 +90,36 @@ status_and_info_at capabilities affected id bytes = do
     info.1,
   )
 
+-- An OK packet behind its header.
+abbrev pub ok_body_at : ℕ → List ℕ → Reading OkPacket
+ok_body_at capabilities bytes = do
+  affected ← lenenc_number_at bytes
+  id ← lenenc_number_at affected.1
+  status_and_info_at capabilities affected.0 id.0 id.1
+
 -- An OK packet.
 unfoldable pub ok_packet_at : ℕ → List ℕ → Reading OkPacket
 ok_packet_at capabilities bytes = do
   header ← constant_at 1 0 bytes
-  affected ← lenenc_number_at header.1
-  id ← lenenc_number_at affected.1
-  status_and_info_at capabilities affected.0 id.0 id.1
+  ok_body_at capabilities header.1
 
--- The OK packet that ends a result set; its two numbers are passed over.
-unfoldable pub result_set_terminator_at : ℕ → List ℕ → Reading OkPacket
-result_set_terminator_at capabilities bytes = do
-  header ← constant_at 1 254 bytes
-  affected ← lenenc_number_at header.1
+-- The OK packet that ends a result set, behind its header; its two numbers are passed over.
+abbrev pub result_set_terminator_body_at : ℕ → List ℕ → Reading OkPacket
+result_set_terminator_body_at capabilities bytes = do
+  affected ← lenenc_number_at bytes
   id ← lenenc_number_at affected.1
   status_and_info_at capabilities 0 0 id.1
 
--- The EOF packet.
-unfoldable pub old_eof_at : List ℕ → Reading OkPacket
-old_eof_at bytes = do
+-- The OK packet that ends a result set.
+unfoldable pub result_set_terminator_at : ℕ → List ℕ → Reading OkPacket
+result_set_terminator_at capabilities bytes = do
   header ← constant_at 1 254 bytes
-  block ← bytes_at 4 header.1
+  result_set_terminator_body_at capabilities header.1
+
+-- The EOF packet behind its header.
+abbrev pub old_eof_body_at : List ℕ → Reading OkPacket
+old_eof_body_at bytes = do
+  block ← bytes_at 4 bytes
   warnings ← little_at 2 block.0
   status ← named_at status_named (little_at 2) warnings.1
   Ok (
@@ -125,22 +134,33 @@ old_eof_at bytes = do
     block.1,
   )
 
+-- The EOF packet.
+unfoldable pub old_eof_at : List ℕ → Reading OkPacket
+old_eof_at bytes = do
+  header ← constant_at 1 254 bytes
+  old_eof_body_at header.1
+
 -- What an error packet says.
 pub record ErrPacket : Type 0 where
   pub error_code : ℕ
   pub sql_state : Option (List ℕ)
   pub error_message : List ℕ
 
--- An error packet; what follows the code and the state is the message.
+-- An error packet of this code behind its header and the code; what follows the state is the message.
+abbrev pub err_body_at : ℕ → ℕ → List ℕ → Reading ErrPacket
+err_body_at capabilities code bytes =
+    if protocol_41 capabilities
+    then (constant_at 1 35 bytes >>= λ marker. bytes_at 5 marker.1 >>= λ state.
+    Ok (record { error_code = code; sql_state = Some state.0; error_message = state.1 }, []))
+    else Ok (record { error_code = code; sql_state = None; error_message = bytes }, [])
+
+-- An error packet.
 unfoldable pub err_packet_at : ℕ → List ℕ → Reading ErrPacket
 err_packet_at capabilities bytes = do
   block ← bytes_at 3 bytes
   header ← constant_at 1 255 block.0
   code ← little_at 2 header.1
-  if protocol_41 capabilities
-      then (constant_at 1 35 block.1 >>= λ marker. bytes_at 5 marker.1 >>= λ state.
-      Ok (record { error_code = code.0; sql_state = Some state.0; error_message = state.1 }, []))
-      else Ok (record { error_code = code.0; sql_state = None; error_message = block.1 }, [])
+  err_body_at capabilities code.0 block.1
 
 -- What a progress report says.
 pub record ProgressReport : Type 0 where
@@ -164,17 +184,22 @@ stage_progress_at bytes = do
   progress ← little_at 3 max_stage.1
   Ok (record { stage = stage.0; max_stage = max_stage.0; progress = progress.0 }, progress.1)
 
--- A progress report, from its first byte ff on: three bytes, which its form tests (ff ff ff), six with the numbers, and its text.
-unfoldable pub progress_report_at : List ℕ → Reading ProgressReport
-progress_report_at bytes = do
-  header ← bytes_at 3 bytes
-  block ← bytes_at 6 header.1
+-- A progress report behind its header and the code: six bytes with the numbers, and its text.
+abbrev pub progress_body_at : List ℕ → Reading ProgressReport
+progress_body_at bytes = do
+  block ← bytes_at 6 bytes
   numbers ← stage_progress_at block.0
   info ← lenenc_text_at block.1
   Ok (
     record { stage = numbers.0.stage; max_stage = numbers.0.max_stage; progress = numbers.0.progress; progress_info = info.0 },
     info.1,
   )
+
+-- A progress report, from its first byte ff on: three bytes, which its form tests (ff ff ff), and its body.
+unfoldable pub progress_report_at : List ℕ → Reading ProgressReport
+progress_report_at bytes = do
+  header ← bytes_at 3 bytes
+  progress_body_at header.1
 
 -- What a statement packet says.
 pub record PrepareOk : Type 0 where
@@ -291,15 +316,11 @@ column_at bytes = do
 abbrev pub text_row_at : List ColumnDefinition → List ℕ → Reading (List Value)
 text_row_at columns bytes = elements_at text_cell_at (length columns) bytes
 
--- Whether the place's bit stands in the bitmap of a binary row, whose first two bits have no place.
-abbrev pub is_null_at : List ℕ → ℕ → Bool
-is_null_at bitmap place = little_number (length bitmap) bitmap / 2 ^ (place + 2) % 2 == 1
-
 -- The cells of a binary row from this place on: null by the bitmap, else by the column's type and flags.
 unfoldable pub binary_cells_at : List ℕ → ℕ → List ColumnDefinition → List ℕ → Reading (List Value)
 binary_cells_at bitmap place [] bytes = Ok ([], bytes)
 binary_cells_at bitmap place (column ∷ columns) bytes = do
-  cell ← (if is_null_at bitmap place then Ok (NULL, bytes) else column_cell_at (column.column_type, column.flags) bytes)
+  cell ← (if is_null_at 2 bitmap place then Ok (NULL, bytes) else column_cell_at (column.column_type, column.flags) bytes)
   cells ← binary_cells_at bitmap (place + 1) columns cell.1
   Ok (cell.0 ∷ cells.0, cells.1)
 

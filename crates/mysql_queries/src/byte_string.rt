@@ -65,6 +65,17 @@ impl ByteString {
     }
 }
 
+/// The same bytes again, by the allocator of these.
+impl Clone for ByteString {
+    ghost is_clone = { λ bytes made. made ≡ bytes };
+
+    fn clone(&self) -> Result<ByteString, AllocError> {
+        Ok(ByteString {
+            bytes: self.bytes.clone()?,
+        })
+    }
+}
+
 impl PartialEq for ByteString {
     ghost eq = { pointwise nat_eq };
 

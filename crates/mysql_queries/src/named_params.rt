@@ -103,6 +103,33 @@ impl<'a> ParsedNamedParams<'a> {
     {
         self.params.as_slice()
     }
+
+    /// A copy of the parsed query, which borrows nothing. Refused for want of memory.
+    pub fn clone(&self, alloc: Global) -> Result<ParsedNamedParams<'static>, AllocError>
+        ensures { IfOk result (λ copy. copy ≡ self.now) }
+    {
+        let query = Vec::from_slice(alloc, self.query.as_slice())?;
+        let params = copied_names(alloc, self.params.as_slice())?;
+        Ok(ParsedNamedParams {
+            query: CowSlice::Owned(query),
+            params,
+        })
+    }
+}
+
+/// Copies of the names, which borrow nothing.
+fn copied_names(
+    alloc: Global,
+    names: &[CowSlice<'_, u8>],
+) -> Result<Vec<CowSlice<'static, u8>>, AllocError>
+    ensures { IfOk result (λ copies. map cow_slice_items copies.items ≡ map cow_slice_items names.now) }
+{
+    let mut copies = Vec::new(alloc);
+    for name in names {
+        let copy = Vec::from_slice(alloc, name.as_slice())?;
+        copies.push(CowSlice::Owned(copy))?;
+    }
+    Ok(copies)
 }
 
 /// The names among the placeholders of a query, without their colons.

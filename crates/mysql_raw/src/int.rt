@@ -15,6 +15,7 @@ use bytes::BufMut;
 use mysql_buf::{BufMutExt, ParseBuf, read_varlen_uint, write_varlen_uint};
 use mysql_error::WireError;
 use std::alloc::{AllocError, Global};
+use std::fmt;
 use std::marker::PhantomData;
 
 /// A representation of whole numbers.
@@ -22,6 +23,9 @@ use std::marker::PhantomData;
 pub trait IntRepr {
     /// The type of the numbers.
     type Primitive: Copy;
+
+    /// The number of bytes that are needed and eaten, where it is the same for all numbers.
+    const SIZE: Option<usize>;
 
     ghost SIZE: { Option ℕ };
 
@@ -33,10 +37,6 @@ pub trait IntRepr {
 
     // what reading answers, of every list of bytes
     ghost read_at: { List ℕ → Reading Self.Primitive };
-
-    /// The number of bytes that are needed and eaten, where it is the same for all numbers.
-    fn size() -> Option<usize>
-        ensures { result ≡ SIZE };
 
     /// Appends a number. Refused for want of memory alone, and the buffer is then as it was.
     fn serialize(number: Self::Primitive, buf: &mut Vec<u8>) -> Result<(), AllocError>
@@ -56,6 +56,8 @@ pub trait IntRepr {
 
 /// A number in the representation `T`.
 #[derive(Drop)]
+#[derive_where(Clone)]
+#[derive_where(Default, PartialEq, Eq, Hash; T::Primitive)]
 pub struct RawInt<T: IntRepr>(pub T::Primitive, PhantomData<T>);
 
 impl<T: IntRepr> RawInt<T> {
@@ -64,6 +66,23 @@ impl<T: IntRepr> RawInt<T> {
         ensures { result.0 ≡ number }
     {
         RawInt(number, PhantomData)
+    }
+
+    /// The number.
+    pub fn get(&self) -> T::Primitive
+        ensures { result ≡ self.now.0 }
+    {
+        self.0
+    }
+}
+
+/// Shows the number.
+impl<T: IntRepr> fmt::Debug for RawInt<T>
+where
+    T::Primitive: fmt::Debug,
+{
+    fn fmt<W: fmt::Write>(&self, f: &mut fmt::Formatter<W>) -> fmt::Result {
+        self.0.fmt(f)
     }
 }
 
@@ -77,7 +96,7 @@ impl<T: IntRepr> MySerialize for RawInt<T> {
 
 impl<T: IntRepr> Readable for RawInt<T> {
     fn size() -> Option<usize> {
-        T::size()
+        T::SIZE
     }
 
     type Ctx = ();
@@ -118,6 +137,8 @@ impl<'de, T: IntRepr> MyDeserialize<'de> for RawInt<T> {
 impl IntRepr for u8 {
     type Primitive = u8;
 
+    const SIZE: Option<usize> = Some(1);
+
     ghost SIZE = { Some 1 };
 
     ghost IsKept = { λ x. x < 2 ^ 8 };
@@ -129,10 +150,6 @@ impl IntRepr for u8 {
     ghost sized = { little_at-sized 1 };
 
     ghost reads_back = { little_at-back 1 };
-
-    fn size() -> Option<usize> {
-        Some(1)
-    }
 
     fn serialize(number: u8, buf: &mut Vec<u8>) -> Result<(), AllocError> {
         buf.put_u8(number)
@@ -147,6 +164,8 @@ impl IntRepr for u8 {
 impl IntRepr for i8 {
     type Primitive = i8;
 
+    const SIZE: Option<usize> = Some(1);
+
     ghost SIZE = { Some 1 };
 
     ghost IsKept = { FitsBytes 1 };
@@ -158,10 +177,6 @@ impl IntRepr for i8 {
     ghost sized = { signed_at-sized 1 };
 
     ghost reads_back = { signed_8-back };
-
-    fn size() -> Option<usize> {
-        Some(1)
-    }
 
     fn serialize(number: i8, buf: &mut Vec<u8>) -> Result<(), AllocError> {
         buf.put_i8(number)
@@ -179,6 +194,8 @@ pub struct LeU16;
 impl IntRepr for LeU16 {
     type Primitive = u16;
 
+    const SIZE: Option<usize> = Some(2);
+
     ghost SIZE = { Some 2 };
 
     ghost IsKept = { λ x. x < 2 ^ 16 };
@@ -190,10 +207,6 @@ impl IntRepr for LeU16 {
     ghost sized = { little_at-sized 2 };
 
     ghost reads_back = { little_at-back 2 };
-
-    fn size() -> Option<usize> {
-        Some(2)
-    }
 
     fn serialize(number: u16, buf: &mut Vec<u8>) -> Result<(), AllocError> {
         buf.put_u16_le(number)
@@ -211,6 +224,8 @@ pub struct LeI16;
 impl IntRepr for LeI16 {
     type Primitive = i16;
 
+    const SIZE: Option<usize> = Some(2);
+
     ghost SIZE = { Some 2 };
 
     ghost IsKept = { FitsBytes 2 };
@@ -222,10 +237,6 @@ impl IntRepr for LeI16 {
     ghost sized = { signed_at-sized 2 };
 
     ghost reads_back = { signed_16-back };
-
-    fn size() -> Option<usize> {
-        Some(2)
-    }
 
     fn serialize(number: i16, buf: &mut Vec<u8>) -> Result<(), AllocError> {
         buf.put_i16_le(number)
@@ -243,6 +254,8 @@ pub struct LeU24;
 impl IntRepr for LeU24 {
     type Primitive = u32;
 
+    const SIZE: Option<usize> = Some(3);
+
     ghost SIZE = { Some 3 };
 
     ghost IsKept = { λ x. x < 2 ^ 24 };
@@ -254,10 +267,6 @@ impl IntRepr for LeU24 {
     ghost sized = { little_at-sized 3 };
 
     ghost reads_back = { little_at-back 3 };
-
-    fn size() -> Option<usize> {
-        Some(3)
-    }
 
     fn serialize(number: u32, buf: &mut Vec<u8>) -> Result<(), AllocError> {
         buf.put_u24_le(number)
@@ -275,6 +284,8 @@ pub struct LeI24;
 impl IntRepr for LeI24 {
     type Primitive = i32;
 
+    const SIZE: Option<usize> = Some(3);
+
     ghost SIZE = { Some 3 };
 
     ghost IsKept = { FitsBytes 3 };
@@ -286,10 +297,6 @@ impl IntRepr for LeI24 {
     ghost sized = { signed_at-sized 3 };
 
     ghost reads_back = { signed_24-back };
-
-    fn size() -> Option<usize> {
-        Some(3)
-    }
 
     fn serialize(number: i32, buf: &mut Vec<u8>) -> Result<(), AllocError> {
         buf.put_i24_le(number)
@@ -307,6 +314,8 @@ pub struct LeU32;
 impl IntRepr for LeU32 {
     type Primitive = u32;
 
+    const SIZE: Option<usize> = Some(4);
+
     ghost SIZE = { Some 4 };
 
     ghost IsKept = { λ x. x < 2 ^ 32 };
@@ -318,10 +327,6 @@ impl IntRepr for LeU32 {
     ghost sized = { little_at-sized 4 };
 
     ghost reads_back = { little_at-back 4 };
-
-    fn size() -> Option<usize> {
-        Some(4)
-    }
 
     fn serialize(number: u32, buf: &mut Vec<u8>) -> Result<(), AllocError> {
         buf.put_u32_le(number)
@@ -339,6 +344,8 @@ pub struct LeI32;
 impl IntRepr for LeI32 {
     type Primitive = i32;
 
+    const SIZE: Option<usize> = Some(4);
+
     ghost SIZE = { Some 4 };
 
     ghost IsKept = { FitsBytes 4 };
@@ -350,10 +357,6 @@ impl IntRepr for LeI32 {
     ghost sized = { signed_at-sized 4 };
 
     ghost reads_back = { signed_32-back };
-
-    fn size() -> Option<usize> {
-        Some(4)
-    }
 
     fn serialize(number: i32, buf: &mut Vec<u8>) -> Result<(), AllocError> {
         buf.put_i32_le(number)
@@ -371,6 +374,8 @@ pub struct LeU48;
 impl IntRepr for LeU48 {
     type Primitive = u64;
 
+    const SIZE: Option<usize> = Some(6);
+
     ghost SIZE = { Some 6 };
 
     ghost IsKept = { λ x. x < 2 ^ 48 };
@@ -382,10 +387,6 @@ impl IntRepr for LeU48 {
     ghost sized = { little_at-sized 6 };
 
     ghost reads_back = { little_at-back 6 };
-
-    fn size() -> Option<usize> {
-        Some(6)
-    }
 
     fn serialize(number: u64, buf: &mut Vec<u8>) -> Result<(), AllocError> {
         buf.put_u48_le(number)
@@ -403,6 +404,8 @@ pub struct LeU56;
 impl IntRepr for LeU56 {
     type Primitive = u64;
 
+    const SIZE: Option<usize> = Some(7);
+
     ghost SIZE = { Some 7 };
 
     ghost IsKept = { λ x. x < 2 ^ 56 };
@@ -414,10 +417,6 @@ impl IntRepr for LeU56 {
     ghost sized = { little_at-sized 7 };
 
     ghost reads_back = { little_at-back 7 };
-
-    fn size() -> Option<usize> {
-        Some(7)
-    }
 
     fn serialize(number: u64, buf: &mut Vec<u8>) -> Result<(), AllocError> {
         buf.put_u56_le(number)
@@ -435,6 +434,8 @@ pub struct LeI56;
 impl IntRepr for LeI56 {
     type Primitive = i64;
 
+    const SIZE: Option<usize> = Some(7);
+
     ghost SIZE = { Some 7 };
 
     ghost IsKept = { FitsBytes 7 };
@@ -446,10 +447,6 @@ impl IntRepr for LeI56 {
     ghost sized = { signed_at-sized 7 };
 
     ghost reads_back = { signed_56-back };
-
-    fn size() -> Option<usize> {
-        Some(7)
-    }
 
     fn serialize(number: i64, buf: &mut Vec<u8>) -> Result<(), AllocError> {
         buf.put_i56_le(number)
@@ -467,6 +464,8 @@ pub struct LeU64;
 impl IntRepr for LeU64 {
     type Primitive = u64;
 
+    const SIZE: Option<usize> = Some(8);
+
     ghost SIZE = { Some 8 };
 
     ghost IsKept = { λ x. x < 2 ^ 64 };
@@ -478,10 +477,6 @@ impl IntRepr for LeU64 {
     ghost sized = { little_at-sized 8 };
 
     ghost reads_back = { little_at-back 8 };
-
-    fn size() -> Option<usize> {
-        Some(8)
-    }
 
     fn serialize(number: u64, buf: &mut Vec<u8>) -> Result<(), AllocError> {
         buf.put_u64_le(number)
@@ -499,6 +494,8 @@ pub struct LeI64;
 impl IntRepr for LeI64 {
     type Primitive = i64;
 
+    const SIZE: Option<usize> = Some(8);
+
     ghost SIZE = { Some 8 };
 
     ghost IsKept = { FitsBytes 8 };
@@ -510,10 +507,6 @@ impl IntRepr for LeI64 {
     ghost sized = { signed_at-sized 8 };
 
     ghost reads_back = { signed_64-back };
-
-    fn size() -> Option<usize> {
-        Some(8)
-    }
 
     fn serialize(number: i64, buf: &mut Vec<u8>) -> Result<(), AllocError> {
         buf.put_i64_le(number)
@@ -531,6 +524,8 @@ pub struct LeU32LowerHalf;
 impl IntRepr for LeU32LowerHalf {
     type Primitive = u32;
 
+    const SIZE: Option<usize> = Some(2);
+
     ghost SIZE = { Some 2 };
 
     ghost IsKept = { λ x. x < 2 ^ 16 };
@@ -542,10 +537,6 @@ impl IntRepr for LeU32LowerHalf {
     ghost sized = { little_at-sized 2 };
 
     ghost reads_back = { little_at-back 2 };
-
-    fn size() -> Option<usize> {
-        Some(2)
-    }
 
     fn serialize(number: u32, buf: &mut Vec<u8>) -> Result<(), AllocError> {
         buf.put_u16_le((number & 0xffff) as u16)
@@ -563,6 +554,8 @@ pub struct LeU32UpperHalf;
 impl IntRepr for LeU32UpperHalf {
     type Primitive = u32;
 
+    const SIZE: Option<usize> = Some(2);
+
     ghost SIZE = { Some 2 };
 
     ghost IsKept = { λ x. (x < 2 ^ 32) × (x % 2 ^ 16 ≡ 0) };
@@ -574,10 +567,6 @@ impl IntRepr for LeU32UpperHalf {
     ghost sized = { upper_half_at-sized };
 
     ghost reads_back = { upper_half_at-back };
-
-    fn size() -> Option<usize> {
-        Some(2)
-    }
 
     fn serialize(number: u32, buf: &mut Vec<u8>) -> Result<(), AllocError> {
         buf.put_u16_le((number >> 16) as u16)
@@ -597,6 +586,8 @@ pub struct LenEnc;
 impl IntRepr for LenEnc {
     type Primitive = u64;
 
+    const SIZE: Option<usize> = None;
+
     ghost SIZE = { None };
 
     ghost IsKept = { λ x. x < 2 ^ 64 };
@@ -608,10 +599,6 @@ impl IntRepr for LenEnc {
     ghost sized = { unsized lenenc_number_at };
 
     ghost reads_back = { lenenc_number_at-back };
-
-    fn size() -> Option<usize> {
-        None
-    }
 
     fn serialize(number: u64, buf: &mut Vec<u8>) -> Result<(), AllocError> {
         buf.put_lenenc_int(number)
@@ -633,6 +620,8 @@ pub struct VarLen;
 impl IntRepr for VarLen {
     type Primitive = u64;
 
+    const SIZE: Option<usize> = None;
+
     ghost SIZE = { None };
 
     ghost IsKept = { λ x. x < 2 ^ 64 };
@@ -644,10 +633,6 @@ impl IntRepr for VarLen {
     ghost sized = { unsized varlen_number_at };
 
     ghost reads_back = { varlen_number_at-back };
-
-    fn size() -> Option<usize> {
-        None
-    }
 
     fn serialize(number: u64, buf: &mut Vec<u8>) -> Result<(), AllocError> {
         write_varlen_uint(buf, number)

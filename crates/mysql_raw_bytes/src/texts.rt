@@ -26,7 +26,13 @@ pub trait BytesRepr {
     /// What has to be known before a text is read.
     type Ctx: Drop;
 
+    /// The number of bytes of a text that count at most.
+    const MAX_LEN: usize;
+
     ghost MAX_LEN: { ℕ };
+
+    /// The number of bytes that are needed and eaten, where it is the same for all texts.
+    const SIZE: Option<usize>;
 
     ghost SIZE: { Option ℕ };
 
@@ -41,14 +47,6 @@ pub trait BytesRepr {
 
     // what reading answers, of every list of bytes
     ghost read_at: { Self.Ctx → List ℕ → Reading (List ℕ) };
-
-    /// The number of bytes of a text that count at most.
-    fn max_len() -> usize
-        ensures { result ≡ MAX_LEN };
-
-    /// The number of bytes that are needed and eaten, where it is the same for all texts.
-    fn size() -> Option<usize>
-        ensures { result ≡ SIZE };
 
     /// Appends a text. Refused for want of memory alone, and the buffer is then as it was.
     fn serialize(text: &[u8], buf: &mut Vec<u8>) -> Result<(), AllocError>
@@ -85,7 +83,7 @@ impl<'a, T: BytesRepr> RawBytes<'a, T> {
     pub fn as_bytes(&self) -> &[u8]
         ensures { result.now ≡ front (cow_slice_items self.now.0) T.MAX_LEN }
     {
-        front_of(self.0.as_slice(), T::max_len())
+        front_of(self.0.as_slice(), T::MAX_LEN)
     }
 
     /// How many bytes count.
@@ -112,12 +110,28 @@ impl<'a, T: BytesRepr> RawBytes<'a, T> {
     }
 
     /// The same text, owned. Refused for want of memory.
-    pub fn into_owned(self, alloc: Global) -> Result<RawBytes<'static, T>, WireError>
-        ensures memory { IfErr result (λ e. e ≡ Memory) }
-        ensures text { IfOk result (λ owned. cow_slice_items owned.0 ≡ cow_slice_items self.entry.0) }
+    pub fn into_owned(self, alloc: Global) -> Result<RawBytes<'static, T>, AllocError>
+        ensures { IfOk result (λ owned. cow_slice_items owned.0 ≡ cow_slice_items self.entry.0) }
     {
         let bytes = self.0.into_owned(alloc)?;
         Ok(RawBytes(CowSlice::Owned(bytes), PhantomData))
+    }
+
+    /// A copy of the text, which borrows nothing. Refused for want of memory.
+    pub fn clone(&self, alloc: Global) -> Result<RawBytes<'static, T>, AllocError>
+        ensures { IfOk result (λ copy. cow_slice_items copy.0 ≡ cow_slice_items self.now.0) }
+    {
+        let bytes = Vec::from_slice(alloc, self.0.as_slice())?;
+        Ok(RawBytes(CowSlice::Owned(bytes), PhantomData))
+    }
+}
+
+/// An empty text.
+impl<'a, T: BytesRepr> Default for RawBytes<'a, T> {
+    ghost is_default = { λ x. cow_slice_items x.0 ≡ [] };
+
+    fn default() -> RawBytes<'a, T> {
+        RawBytes(CowSlice::Borrowed(&[]), PhantomData)
     }
 }
 
@@ -151,7 +165,7 @@ impl<'a, T: BytesRepr> Readable for RawBytes<'a, T> {
     fn size() -> Option<usize>
         ensures { result ≡ T.SIZE }
     {
-        T::size()
+        T::SIZE
     }
 
     type Ctx = T::Ctx;
@@ -193,7 +207,11 @@ impl<'de, T: BytesRepr> MyDeserialize<'de> for RawBytes<'de, T> {
 impl BytesRepr for LenEnc {
     type Ctx = ();
 
+    const MAX_LEN: usize = usize::MAX;
+
     ghost MAX_LEN = { 2 ^ 64 - 1 };
+
+    const SIZE: Option<usize> = None;
 
     ghost SIZE = { None };
 
@@ -208,14 +226,6 @@ impl BytesRepr for LenEnc {
     ghost sized = { λ _. unsized lenenc_text_at };
 
     ghost reads_back = { λ _. lenenc_text_at-back };
-
-    fn max_len() -> usize {
-        usize::MAX
-    }
-
-    fn size() -> Option<usize> {
-        None
-    }
 
     fn serialize(text: &[u8], buf: &mut Vec<u8>) -> Result<(), AllocError> {
         buf.put_lenenc_str(text)
@@ -233,7 +243,11 @@ impl BytesRepr for LenEnc {
 impl BytesRepr for VarLen {
     type Ctx = ();
 
+    const MAX_LEN: usize = u32::MAX as usize;
+
     ghost MAX_LEN = { 2 ^ 32 - 1 };
+
+    const SIZE: Option<usize> = None;
 
     ghost SIZE = { None };
 
@@ -248,14 +262,6 @@ impl BytesRepr for VarLen {
     ghost sized = { λ _. unsized varlen_text_at };
 
     ghost reads_back = { λ _ text rest _. varlen_text_at-back text rest };
-
-    fn max_len() -> usize {
-        u32::MAX as usize
-    }
-
-    fn size() -> Option<usize> {
-        None
-    }
 
     fn serialize(text: &[u8], buf: &mut Vec<u8>) -> Result<(), AllocError> {
         put_varlen_text(text, buf)
@@ -297,7 +303,11 @@ pub struct U8Bytes;
 impl BytesRepr for U8Bytes {
     type Ctx = ();
 
+    const MAX_LEN: usize = 255;
+
     ghost MAX_LEN = { 255 };
+
+    const SIZE: Option<usize> = None;
 
     ghost SIZE = { None };
 
@@ -312,14 +322,6 @@ impl BytesRepr for U8Bytes {
     ghost sized = { λ _. unsized u8_text_at };
 
     ghost reads_back = { λ _ text rest _. u8_text_at-back text rest };
-
-    fn max_len() -> usize {
-        255
-    }
-
-    fn size() -> Option<usize> {
-        None
-    }
 
     fn serialize(text: &[u8], buf: &mut Vec<u8>) -> Result<(), AllocError> {
         buf.put_u8_str(text)
@@ -340,7 +342,11 @@ pub struct U32Bytes;
 impl BytesRepr for U32Bytes {
     type Ctx = ();
 
+    const MAX_LEN: usize = u32::MAX as usize;
+
     ghost MAX_LEN = { 2 ^ 32 - 1 };
+
+    const SIZE: Option<usize> = None;
 
     ghost SIZE = { None };
 
@@ -355,14 +361,6 @@ impl BytesRepr for U32Bytes {
     ghost sized = { λ _. unsized u32_text_at };
 
     ghost reads_back = { λ _ text rest _. u32_text_at-back text rest };
-
-    fn max_len() -> usize {
-        u32::MAX as usize
-    }
-
-    fn size() -> Option<usize> {
-        None
-    }
 
     fn serialize(text: &[u8], buf: &mut Vec<u8>) -> Result<(), AllocError> {
         buf.put_u32_str(text)
@@ -384,7 +382,11 @@ pub struct NullBytes;
 impl BytesRepr for NullBytes {
     type Ctx = ();
 
+    const MAX_LEN: usize = usize::MAX;
+
     ghost MAX_LEN = { 2 ^ 64 - 1 };
+
+    const SIZE: Option<usize> = None;
 
     ghost SIZE = { None };
 
@@ -399,14 +401,6 @@ impl BytesRepr for NullBytes {
     ghost sized = { λ _. unsized null_text_at };
 
     ghost reads_back = { λ _ text rest _. null_text_at-back text rest };
-
-    fn max_len() -> usize {
-        usize::MAX
-    }
-
-    fn size() -> Option<usize> {
-        None
-    }
 
     fn serialize(text: &[u8], buf: &mut Vec<u8>) -> Result<(), AllocError> {
         put_null_text(text, buf)
@@ -444,7 +438,11 @@ pub struct EofBytes;
 impl BytesRepr for EofBytes {
     type Ctx = ();
 
+    const MAX_LEN: usize = usize::MAX;
+
     ghost MAX_LEN = { 2 ^ 64 - 1 };
+
+    const SIZE: Option<usize> = None;
 
     ghost SIZE = { None };
 
@@ -459,14 +457,6 @@ impl BytesRepr for EofBytes {
     ghost sized = { λ _. unsized (λ bytes. Ok (bytes, [])) };
 
     ghost reads_back = { λ _. all-back };
-
-    fn max_len() -> usize {
-        usize::MAX
-    }
-
-    fn size() -> Option<usize> {
-        None
-    }
 
     fn serialize(text: &[u8], buf: &mut Vec<u8>) -> Result<(), AllocError> {
         buf.extend_from_slice(text)
@@ -492,7 +482,11 @@ pub type BareU16Bytes = BareBytes<65535>;
 impl<const M: usize> BytesRepr for BareBytes<M> {
     type Ctx = usize;
 
+    const MAX_LEN: usize = M;
+
     ghost MAX_LEN = { M };
+
+    const SIZE: Option<usize> = None;
 
     ghost SIZE = { None };
 
@@ -507,14 +501,6 @@ impl<const M: usize> BytesRepr for BareBytes<M> {
     ghost sized = { λ n. unsized (bare_at M n) };
 
     ghost reads_back = { bare_at-back M };
-
-    fn max_len() -> usize {
-        M
-    }
-
-    fn size() -> Option<usize> {
-        None
-    }
 
     fn serialize(text: &[u8], buf: &mut Vec<u8>) -> Result<(), AllocError> {
         buf.extend_from_slice(front_of(text, M))
@@ -542,7 +528,11 @@ pub struct FixedLengthText<const L: usize>;
 impl<const L: usize> BytesRepr for FixedLengthText<L> {
     type Ctx = ();
 
+    const MAX_LEN: usize = L;
+
     ghost MAX_LEN = { L };
+
+    const SIZE: Option<usize> = Some(L);
 
     ghost SIZE = { Some L };
 
@@ -557,14 +547,6 @@ impl<const L: usize> BytesRepr for FixedLengthText<L> {
     ghost sized = { λ _. fixed_text_at-sized L };
 
     ghost reads_back = { λ _ text rest _. fixed_text_at-back L text rest };
-
-    fn max_len() -> usize {
-        L
-    }
-
-    fn size() -> Option<usize> {
-        Some(L)
-    }
 
     fn serialize(text: &[u8], buf: &mut Vec<u8>) -> Result<(), AllocError> {
         if L <= text.len() {

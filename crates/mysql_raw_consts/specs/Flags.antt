@@ -1,16 +1,13 @@
--- Sets of flags: what stands in one, and those that are read with named bits alone, as values by their bits.
+-- Sets of flags that are read with named bits alone, as values by their bits.
 -- (MySQL: Client/Server Protocol, "Status Flags", "COM_BINLOG_DUMP" and "COM_BINLOG_DUMP_GTID".)
 use Rattle.std.specs.Prelude.{ℕ, ◌==◌, if◌then◌else◌, Bool, List, Option, Some, None}
 use Rattle.std.specs.Int.RustNames.{bit_and}
 use Rattle.bitflags.specs.Sets.{Row, known_bits}
 use Rattle.mysql_const.specs.BinlogDumpFlags.{binlog_dump_flags}
 use Rattle.mysql_const.specs.StatusFlags.{status_flags}
+pub use Rattle.mysql_const.specs.FlagSets.{contains}
 use Rattle.mysql_const.specs.declared.binlog.BinlogDumpFlags.{BinlogDumpFlags}
 use Rattle.mysql_const.specs.declared.status.StatusFlags.{StatusFlags}
-
--- these flags stand in a set of flags
-abbrev pub contains : ℕ → ℕ → Bool
-contains set flags = bit_and set flags == flags
 
 -- all these bits have names in the table
 abbrev pub are_named : List Row → ℕ → Bool

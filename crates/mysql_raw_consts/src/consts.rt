@@ -12,10 +12,11 @@ use bytes::BufMut;
 use mysql_buf::ParseBuf;
 use mysql_raw::{IntRepr, MyDeserialize, MySerialize, Readable, ReadsBack, WireError};
 use std::alloc::{AllocError, Global};
+use std::fmt;
 use std::marker::PhantomData;
 
 /// The byte `N`; `T` names it. Another byte is refused by `BadConstant`.
-#[derive(Drop)]
+#[derive_where(Clone, Copy, Debug, Default, PartialEq, Eq, Hash)]
 pub struct ConstU8<T, const N: u8>(PhantomData<T>);
 
 impl<T, const N: u8> ConstU8<T, N> {
@@ -84,7 +85,7 @@ impl<'de, T, const N: u8> MyDeserialize<'de> for ConstU8<T, N> {
 }
 
 /// The number `N` in four bytes, lowest first; `T` names it. Another number is refused by `BadConstant`.
-#[derive(Drop)]
+#[derive_where(Clone, Copy, Debug, Default, PartialEq, Eq, Hash)]
 pub struct ConstU32<T, const N: u32>(PhantomData<T>);
 
 impl<T, const N: u32> ConstU32<T, N> {
@@ -153,7 +154,7 @@ impl<'de, T, const N: u32> MyDeserialize<'de> for ConstU32<T, N> {
 }
 
 /// `L` zeros, which are read whatever they are.
-#[derive(Clone, Copy, Debug, PartialEq, Eq)]
+#[derive(Clone, Copy, Debug, Default, PartialEq, Eq, Hash)]
 pub struct Skip<const L: usize>;
 
 impl<const L: usize> MySerialize for Skip<L> {
@@ -208,6 +209,8 @@ impl<'de, const L: usize> MyDeserialize<'de> for Skip<L> {
 
 /// A set of flags, its unknown bits too, in the representation `U`.
 #[derive(Drop)]
+#[derive_where(Clone, PartialEq)]
+#[derive_where(Default; T::Bits)]
 pub struct RawFlags<T: Flags, U: IntRepr<Primitive = T::Bits>>(pub T::Bits, PhantomData<U>);
 
 impl<T: Flags, U: IntRepr<Primitive = T::Bits>> MySerialize for RawFlags<T, U> {
@@ -231,7 +234,7 @@ pub trait ConstBytesValue<const LEN: usize> {
 }
 
 /// The bytes of `T`. Others are refused by `BadConstant`.
-#[derive(Drop)]
+#[derive_where(Clone, Copy, Debug, Default, PartialEq, Eq, Hash)]
 pub struct ConstBytes<T, const LEN: usize>(PhantomData<T>);
 
 impl<T: ConstBytesValue<LEN>, const LEN: usize> ConstBytes<T, LEN> {
@@ -308,6 +311,16 @@ impl<T: Flags, U: IntRepr<Primitive = T::Bits>> RawFlags<T, U> {
     }
 }
 
+/// Shows the bits.
+impl<T: Flags, U: IntRepr<Primitive = T::Bits>> fmt::Debug for RawFlags<T, U>
+where
+    T::Bits: fmt::Debug,
+{
+    fn fmt<W: fmt::Write>(&self, f: &mut fmt::Formatter<W>) -> fmt::Result {
+        self.0.fmt(f)
+    }
+}
+
 impl<T: Flags, U: IntRepr<Primitive = T::Bits>> Readable for RawFlags<T, U> {
     type Ctx = ();
 
@@ -328,7 +341,7 @@ impl<T: Flags, U: IntRepr<Primitive = T::Bits>> Readable for RawFlags<T, U> {
     ghost sized = { λ _. U.sized };
 
     fn size() -> Option<usize> {
-        U::size()
+        U::SIZE
     }
 }
 
@@ -372,7 +385,8 @@ pub trait ConstValue: Copy {
 
 /// A value by its number in the representation `U`. A number without a value is refused by
 /// `UnknownValue`.
-#[derive(Drop)]
+#[derive_where(Clone, Copy)]
+#[derive_where(PartialEq, Eq, Hash; T)]
 pub struct Const<T: ConstValue, U: IntRepr<Primitive = T::Number>>(pub T, PhantomData<U>);
 
 impl<T: ConstValue, U: IntRepr<Primitive = T::Number>> Const<T, U> {
@@ -381,6 +395,20 @@ impl<T: ConstValue, U: IntRepr<Primitive = T::Number>> Const<T, U> {
         ensures { result.0 ≡ x }
     {
         Const(x, PhantomData)
+    }
+
+    /// The value.
+    pub fn get(&self) -> T
+        ensures { result ≡ self.now.0 }
+    {
+        self.0
+    }
+}
+
+/// Shows the value.
+impl<T: ConstValue + fmt::Debug, U: IntRepr<Primitive = T::Number>> fmt::Debug for Const<T, U> {
+    fn fmt<W: fmt::Write>(&self, f: &mut fmt::Formatter<W>) -> fmt::Result {
+        self.0.fmt(f)
     }
 }
 
@@ -412,7 +440,7 @@ impl<T: ConstValue, U: IntRepr<Primitive = T::Number>> Readable for Const<T, U> 
     ghost sized = { λ _. named_at-sized U.SIZE T.named U.read_at U.sized };
 
     fn size() -> Option<usize> {
-        U::size()
+        U::SIZE
     }
 }
 
@@ -441,6 +469,8 @@ impl<'de, T: ConstValue, U: IntRepr<Primitive = T::Number>> MyDeserialize<'de> f
 /// The number of a constant in the representation `T`. Any number is held; `U` are the values that
 /// are meant.
 #[derive(Drop)]
+#[derive_where(Clone)]
+#[derive_where(Default, PartialEq, Eq, Hash; T::Primitive)]
 pub struct RawConst<T: IntRepr, U>(pub T::Primitive, PhantomData<U>);
 
 impl<T: IntRepr, U> RawConst<T, U> {
@@ -458,6 +488,16 @@ impl<T: IntRepr, U: ConstValue<Number = T::Primitive>> RawConst<T, U> {
         ensures { result ≡ known (U.named self.now.0) }
     {
         U::from_number(self.0).ok_or(WireError::UnknownValue)
+    }
+}
+
+/// Shows the number.
+impl<T: IntRepr, U> fmt::Debug for RawConst<T, U>
+where
+    T::Primitive: fmt::Debug,
+{
+    fn fmt<W: fmt::Write>(&self, f: &mut fmt::Formatter<W>) -> fmt::Result {
+        self.0.fmt(f)
     }
 }
 
@@ -489,7 +529,7 @@ impl<T: IntRepr, U> Readable for RawConst<T, U> {
     ghost sized = { λ _. T.sized };
 
     fn size() -> Option<usize> {
-        T::size()
+        T::SIZE
     }
 }
 

@@ -11,7 +11,7 @@ use mysql_raw::{MyDeserialize, MySerialize, ParseExt, Readable, ReadsBack, WireE
 use std::alloc::{AllocError, Global};
 
 /// One of two values, which writes what it holds. The context says which of the two is read.
-#[derive(Drop)]
+#[derive(Clone, Debug, PartialEq, Eq, Drop)]
 pub enum Either<T, U> {
     /// The first.
     Left(T),

@@ -3,7 +3,7 @@
 ghost use Rattle.std.specs.Prelude.{◌≡◌, ◌==◌, ◌<◌, ◌≤◌, ◌-◌, ◌^◌, List, None, Ok, Option, Some, [], ◌∷◌, ◌++◌, IfErr, IfOk, length, map, take, ℕ};
 ghost use Rattle.std.proofs.Common.{ap};
 ghost use Rattle.std.specs.Cow.{IsOwnedSlice, cow_slice_items};
-ghost use Rattle.std.specs.List.{AllByRecursion, flat_map};
+ghost use Rattle.std.specs.List.{AllByRecursion, AllZip, flat_map};
 ghost use Rattle.byteorder.specs.Endian.{little_bytes};
 ghost use Rattle.mysql_buf.specs.Writing.{lenenc_int};
 ghost use Rattle.mysql_raw.specs.Forms.{lenenc_number_at, little_at};
@@ -27,7 +27,9 @@ pub trait SeqRepr {
     /// What has to be known before a count is read.
     type Ctx: Drop;
 
-    // as many elements count
+    /// The number of elements that count at most.
+    const MAX_LEN: usize;
+
     ghost MAX_LEN: { ℕ };
 
     ghost written: { ℕ → List ℕ };
@@ -36,10 +38,6 @@ pub trait SeqRepr {
 
     // in this context the count is read back
     ghost IsReadBack: { Self.Ctx → ℕ → Type 0 };
-
-    /// The number of elements that count at most.
-    fn max_len() -> usize
-        ensures { result ≡ MAX_LEN };
 
     /// Appends a count. Refused for want of memory alone, and the buffer is then as it was.
     fn serialize_count(count: usize, buf: &mut Vec<u8>) -> Result<(), AllocError>
@@ -61,6 +59,8 @@ pub struct Unknown;
 impl SeqRepr for Unknown {
     type Ctx = usize;
 
+    const MAX_LEN: usize = usize::MAX;
+
     ghost MAX_LEN = { 2 ^ 64 - 1 };
 
     ghost written = { λ _. [] };
@@ -70,10 +70,6 @@ impl SeqRepr for Unknown {
     ghost IsReadBack = { λ n count. n ≡ count };
 
     ghost reads_back = { λ ctx count rest _ h. ap (λ (n : ℕ). Ok (n, rest)) h };
-
-    fn max_len() -> usize {
-        usize::MAX
-    }
 
     fn serialize_count(_count: usize, _buf: &mut Vec<u8>) -> Result<(), AllocError> {
         Ok(())
@@ -88,6 +84,8 @@ impl SeqRepr for Unknown {
 impl SeqRepr for u8 {
     type Ctx = ();
 
+    const MAX_LEN: usize = u8::MAX as usize;
+
     ghost MAX_LEN = { 2 ^ 8 - 1 };
 
     ghost written = { little_bytes 1 };
@@ -97,10 +95,6 @@ impl SeqRepr for u8 {
     ghost IsReadBack = { λ _ count. count < 2 ^ 8 };
 
     ghost reads_back = { λ _ count rest _ h. little_at-back 1 count rest h };
-
-    fn max_len() -> usize {
-        u8::MAX as usize
-    }
 
     fn serialize_count(count: usize, buf: &mut Vec<u8>) -> Result<(), AllocError> {
         buf.put_u8(count as u8)
@@ -118,6 +112,8 @@ impl SeqRepr for u8 {
 impl SeqRepr for LeU16 {
     type Ctx = ();
 
+    const MAX_LEN: usize = u16::MAX as usize;
+
     ghost MAX_LEN = { 2 ^ 16 - 1 };
 
     ghost written = { little_bytes 2 };
@@ -127,10 +123,6 @@ impl SeqRepr for LeU16 {
     ghost IsReadBack = { λ _ count. count < 2 ^ 16 };
 
     ghost reads_back = { λ _ count rest _ h. little_at-back 2 count rest h };
-
-    fn max_len() -> usize {
-        u16::MAX as usize
-    }
 
     fn serialize_count(count: usize, buf: &mut Vec<u8>) -> Result<(), AllocError> {
         buf.put_u16_le(count as u16)
@@ -148,6 +140,8 @@ impl SeqRepr for LeU16 {
 impl SeqRepr for LeU32 {
     type Ctx = ();
 
+    const MAX_LEN: usize = u32::MAX as usize;
+
     ghost MAX_LEN = { 2 ^ 32 - 1 };
 
     ghost written = { little_bytes 4 };
@@ -157,10 +151,6 @@ impl SeqRepr for LeU32 {
     ghost IsReadBack = { λ _ count. count < 2 ^ 32 };
 
     ghost reads_back = { λ _ count rest _ h. little_at-back 4 count rest h };
-
-    fn max_len() -> usize {
-        u32::MAX as usize
-    }
 
     fn serialize_count(count: usize, buf: &mut Vec<u8>) -> Result<(), AllocError> {
         buf.put_u32_le(count as u32)
@@ -178,6 +168,8 @@ impl SeqRepr for LeU32 {
 impl SeqRepr for LeU64 {
     type Ctx = ();
 
+    const MAX_LEN: usize = usize::MAX;
+
     ghost MAX_LEN = { 2 ^ 64 - 1 };
 
     ghost written = { little_bytes 8 };
@@ -187,10 +179,6 @@ impl SeqRepr for LeU64 {
     ghost IsReadBack = { λ _ count. count < 2 ^ 64 };
 
     ghost reads_back = { λ _ count rest _ h. little_at-back 8 count rest h };
-
-    fn max_len() -> usize {
-        usize::MAX
-    }
 
     fn serialize_count(count: usize, buf: &mut Vec<u8>) -> Result<(), AllocError> {
         buf.put_u64_le(count as u64)
@@ -208,6 +196,8 @@ impl SeqRepr for LeU64 {
 impl SeqRepr for LenEnc {
     type Ctx = ();
 
+    const MAX_LEN: usize = usize::MAX;
+
     ghost MAX_LEN = { 2 ^ 64 - 1 };
 
     ghost written = { lenenc_int };
@@ -217,10 +207,6 @@ impl SeqRepr for LenEnc {
     ghost IsReadBack = { λ _ count. count < 2 ^ 64 };
 
     ghost reads_back = { λ _ count rest _ h. lenenc_number_at-back count rest h };
-
-    fn max_len() -> usize {
-        usize::MAX
-    }
 
     fn serialize_count(count: usize, buf: &mut Vec<u8>) -> Result<(), AllocError> {
         buf.put_lenenc_int(count as u64)
@@ -252,6 +238,7 @@ fn parse_elements<'de, T: MyDeserialize<'de> + Readable<Ctx = ()> + Drop>(
 
 /// A list, counted in the representation `U`. At most as many elements as `U` counts are written.
 #[derive(Drop)]
+#[derive_where(Debug, PartialEq, Eq; T)]
 pub struct Seq<'a, T, U>(pub CowSlice<'a, T>, PhantomData<U>);
 
 impl<'a, T, U> Seq<'a, T, U> {
@@ -274,6 +261,22 @@ impl<'a, T, U> Seq<'a, T, U> {
         ensures { result ≡ (length (cow_slice_items self.now.0) == 0) }
     {
         self.len() == 0
+    }
+
+    /// Its elements.
+    pub fn as_slice(&self) -> &[T]
+        ensures { result.now ≡ cow_slice_items self.now.0 }
+    {
+        self.0.as_slice()
+    }
+}
+
+/// No elements.
+impl<'a, T, U> Default for Seq<'a, T, U> {
+    ghost is_default = { λ list. cow_slice_items list.0 ≡ [] };
+
+    fn default() -> Seq<'a, T, U> {
+        Seq(CowSlice::Borrowed(&[]), PhantomData)
     }
 }
 
@@ -321,6 +324,16 @@ impl<'a, T: Clone, U> Seq<'a, T, U> {
         };
         Ok(Seq(CowSlice::Owned(all), PhantomData))
     }
+
+    /// A copy of the list, which owns clones of the elements. Refused for want of memory alone.
+    pub fn clone<'b>(&self, alloc: Global) -> Result<Seq<'b, T, U>, AllocError>
+        ensures same { IfOk result (λ copy. AllZip T.is_clone (cow_slice_items self.now.0) (cow_slice_items copy.0)) }
+        ensures same_if_clones_equal { IfOk result (λ copy. ((x y : T) → T.is_clone x y → y ≡ x) → cow_slice_items copy.0 ≡ cow_slice_items self.now.0) }
+        ensures owned { IfOk result (λ copy. IsOwnedSlice copy.0) }
+    {
+        let all = Vec::from_clones(alloc, self.0.as_slice())?;
+        Ok(Seq(CowSlice::Owned(all), PhantomData))
+    }
 }
 
 // Appends all elements or none.
@@ -342,7 +355,7 @@ impl<'a, T: MySerialize, U: SeqRepr> MySerialize for Seq<'a, T, U> {
 
     fn serialize(&self, buf: &mut Vec<u8>) -> Result<(), AllocError> {
         let all = self.0.as_slice();
-        let most = U::max_len();
+        let most = U::MAX_LEN;
         let all = if all.len() < most { all } else { &all[..most] };
         let len = buf.len();
         U::serialize_count(all.len(), buf)?;

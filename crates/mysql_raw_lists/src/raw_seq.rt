@@ -21,6 +21,7 @@ use std::marker::PhantomData;
 /// numbers as `U` counts are written.
 /// (MySQL: Client/Server Protocol, "Protocol Basics: Integer Types".)
 #[derive(Drop)]
+#[derive_where(Debug, PartialEq, Eq; T::Primitive)]
 pub struct RawSeq<'a, T: IntRepr, U>(pub CowSlice<'a, T::Primitive>, PhantomData<U>);
 
 impl<'a, T: IntRepr, U> RawSeq<'a, T, U> {
@@ -63,6 +64,15 @@ impl<'a, T: IntRepr, U> RawSeq<'a, T, U> {
         };
         Ok(RawSeq(CowSlice::Owned(all), PhantomData))
     }
+
+    /// A copy of the list, which owns its numbers. Refused for want of memory alone.
+    pub fn clone<'b>(&self, alloc: Global) -> Result<RawSeq<'b, T, U>, AllocError>
+        ensures same { IfOk result (λ copy. cow_slice_items copy.0 ≡ cow_slice_items self.now.0) }
+        ensures owned { IfOk result (λ copy. IsOwnedSlice copy.0) }
+    {
+        let all = Vec::from_slice(alloc, self.0.as_slice())?;
+        Ok(RawSeq(CowSlice::Owned(all), PhantomData))
+    }
 }
 
 // Appends all numbers or none.
@@ -100,7 +110,7 @@ impl<'a, T: IntRepr, U: SeqRepr> MySerialize for RawSeq<'a, T, U> {
 
     fn serialize(&self, buf: &mut Vec<u8>) -> Result<(), AllocError> {
         let all = self.0.as_slice();
-        let most = U::max_len();
+        let most = U::MAX_LEN;
         let all = if all.len() < most { all } else { &all[..most] };
         let len = buf.len();
         U::serialize_count(all.len(), buf)?;

@@ -9,16 +9,15 @@ use Rattle.mysql_wire.specs.Framing.{framing}
 use Rattle.mysql_wire.specs.Bytes.{AreBytes}
 use Rattle.mysql_wire.specs.Laws.{HasOneSplit}
 use Rattle.mysql_wire.specs.Stream as stream
-use Rattle.mysql_wire.specs.Stream.{Numbering, Rest, Split, IsSplit, first_number, after, after_all, framings}
+use Rattle.mysql_wire.specs.Stream.{Numbering, Rest, first_number, after, after_all, framings}
 use Rattle.mysql_wire.specs.Stream.Numbering.{OnFrom}
 use Rattle.mysql_replies.specs.declared.context.Context.{Context}
 use Rattle.mysql_replies.specs.declared.fault.ReplyFault.{ReplyFault}
 use Rattle.mysql_replies.specs.declared.fault.ReplyFault.TheVariants as faults
 use Rattle.mysql_replies.specs.Grammar.{Payload}
 use Rattle.mysql_replies.specs.Reply.{Answer, FaultAt, Standing, GoingOn, Answered, IsReply, fresh}
-use Rattle.mysql_replies.specs.Bytes.{numbered, after_numbered, DecidesNumbered, IsReplyOf, IsShortReplyOf, AnyBytesHaveAnswer, CuttingsAgree}
-use Rattle.mysql_replies.specs.Holding.{Held, nothing_held, DecidesOver, DecidesFrom, GoesOnOver, TakesAll, RunsShort, StandsShort, fault_of, count_of, EachHoldingDecides, HoldingsAgree, FreshHoldingDecides}
-use Rattle.mysql_replies.specs.Standings.{UnlessMemory, OnMemory}
+use Rattle.mysql_replies.specs.Bytes.{numbered, after_numbered, NumberedPayloadsDecide, IsReplyOf, IsShortReplyOf, AnyBytesHaveAnswer, CuttingsAgree}
+use Rattle.mysql_replies.specs.Holding.{ReaderState, fresh_reader, ReaderDecides, ReaderDecidesFrom, ReaderGoesOn, TakesAll, RunsShort, StandsShort, fault_of, count_of, EachReaderDecides, ReadersAgree, FreshReaderDecides}
 use Rattle.mysql_replies.proofs.GoingOn.{fresh_decides, each_has_answer, answers_agree, each_decides, decisions_agree}
 use Rattle.mysql_replies.proofs.Receiving.{bytes_append}
 
@@ -40,25 +39,25 @@ on_from [] number = refl
 on_from (p ∷ ps) number = on_from ps _
 
 -- The payloads of the bytes fed were read, what is left of them is held, and that decides what the payloads and others decide.
-pub record Fed (c : Context) (first_id limit : ℕ) (fed : List ℕ) (h : Held) : Type 0 where
+pub record Fed (c : Context) (first_id limit : ℕ) (fed : List ℕ) (h : ReaderState) : Type 0 where
   pub payloads : List Payload
   pub joined : fed ≡ framings payloads (OnFrom first_id) ++ h.bytes
   pub within : AllByRecursion (λ payload. length payload ≤ limit) payloads
   pub number : h.number ≡ first_number (after_all payloads (OnFrom first_id))
   pub limit_same : h.limit ≡ limit
   pub count : count_of h.standing ≡ length payloads
-  pub goes_on : (z : List Payload) (rest : Rest) (answer : Answer) → DecidesNumbered h.standing z rest answer → DecidesNumbered (fresh c) (payloads ++ z) rest answer
+  pub goes_on : (z : List Payload) (rest : Rest) (answer : Answer) → NumberedPayloadsDecide h.standing z rest answer → NumberedPayloadsDecide (fresh c) (payloads ++ z) rest answer
 
 -- What is held decides what a fresh reader decides over the bytes fed and others.
-abbrev pub Decided : Context → ℕ → ℕ → List ℕ → Held → Type 0
-Decided c first_id limit fed h = (more : List ℕ) (answer : Answer) → AreBytes more → DecidesOver h more answer → DecidesOver (nothing_held c first_id limit) (fed ++ more) answer
+abbrev pub Decided : Context → ℕ → ℕ → List ℕ → ReaderState → Type 0
+Decided c first_id limit fed h = (more : List ℕ) (answer : Answer) → AreBytes more → ReaderDecides h more answer → ReaderDecides (fresh_reader c first_id limit) (fed ++ more) answer
 
-abbrev pub IsFed : Option ReplyFault → Context → ℕ → ℕ → List ℕ → Held → Type 0
+abbrev pub IsFed : Option ReplyFault → Context → ℕ → ℕ → List ℕ → ReaderState → Type 0
 IsFed None c first_id limit fed h = Fed c first_id limit fed h × Decided c first_id limit fed h
 IsFed (Some faults.Memory) c first_id limit fed h = (answer : Answer) × (h.standing ≡ Answered answer) × IsShortReplyOf c first_id limit fed answer
 IsFed (Some fault) c first_id limit fed h = Decided c first_id limit fed h
 
-pub fed_nothing : (c : Context) (first_id limit : ℕ) → IsFed None c first_id limit [] (nothing_held c first_id limit)
+pub fed_nothing : (c : Context) (first_id limit : ℕ) → IsFed None c first_id limit [] (fresh_reader c first_id limit)
 fed_nothing c first_id limit = (
   record { payloads = []; joined = refl; within = tt; number = refl; limit_same = refl; count = refl; goes_on = λ z rest answer h. h },
   λ more answer are h. h,
@@ -71,7 +70,7 @@ joined_next first_id number fed piece held left ps qs one same two =
     ap (λ k. k ++ piece) one ∙ append_assoc (framings ps (OnFrom first_id)) held piece ∙ ap (λ k. framings ps (OnFrom first_id) ++ k) (two ∙ ap (λ k. k ++ left) there)
     ∙ sym (append_assoc (framings ps (OnFrom first_id)) (framings qs (after_all ps (OnFrom first_id))) left) ∙ ap (λ k. k ++ left) (sym (framings-append ps qs (OnFrom first_id)))
 
-next_going : (c : Context) (first_id limit : ℕ) (fed piece : List ℕ) (old new : Held) → Fed c first_id limit fed old → TakesAll old (old.bytes ++ piece) new → Fed c first_id limit (fed ++ piece) new
+next_going : (c : Context) (first_id limit : ℕ) (fed piece : List ℕ) (old new : ReaderState) → Fed c first_id limit fed old → TakesAll old (old.bytes ++ piece) new → Fed c first_id limit (fed ++ piece) new
 next_going c first_id limit fed piece old new f t =
     let ps = f.payloads in
     let qs = t.split.payloads in
@@ -84,15 +83,15 @@ next_going c first_id limit fed piece old new f t =
       number = t.number ∙ number;
       limit_same = t.limit ∙ f.limit_same;
       count = omega (arith, t.count, f.count, length-append ps qs);
-      goes_on = λ z rest answer k. subst (λ ps'. DecidesNumbered (fresh c) ps' rest answer) (sym (append_assoc ps qs z)) (f.goes_on (qs ++ z) rest answer (t.goes_on z rest answer k));
+      goes_on = λ z rest answer k. subst (λ ps'. NumberedPayloadsDecide (fresh c) ps' rest answer) (sym (append_assoc ps qs z)) (f.goes_on (qs ++ z) rest answer (t.goes_on z rest answer k));
     }
 
-next_decided : (c : Context) (first_id limit : ℕ) (fed piece : List ℕ) (old new : Held) → AreBytes piece → Decided c first_id limit fed old → GoesOnOver old piece new → Decided c first_id limit (fed ++ piece) new
+next_decided : (c : Context) (first_id limit : ℕ) (fed piece : List ℕ) (old new : ReaderState) → AreBytes piece → Decided c first_id limit fed old → ReaderGoesOn old piece new → Decided c first_id limit (fed ++ piece) new
 next_decided c first_id limit fed piece old new bytes decided goes more answer are h =
-    subst (λ k. DecidesOver (nothing_held c first_id limit) k answer) (sym (append_assoc fed piece more))
+    subst (λ k. ReaderDecides (fresh_reader c first_id limit) k answer) (sym (append_assoc fed piece more))
     (decided (piece ++ more) answer (bytes_append piece more bytes are) (goes more answer are h))
 
-next_short : (c : Context) (first_id limit : ℕ) (fed piece : List ℕ) (old : Held) (answer : Answer) → Fed c first_id limit fed old → RunsShort old (old.bytes ++ piece) answer → IsShortReplyOf c first_id limit (fed ++ piece) answer
+next_short : (c : Context) (first_id limit : ℕ) (fed piece : List ℕ) (old : ReaderState) (answer : Answer) → Fed c first_id limit fed old → RunsShort old (old.bytes ++ piece) answer → IsShortReplyOf c first_id limit (fed ++ piece) answer
 next_short c first_id limit fed piece old answer f r = record {
   read = f.payloads ++ r.read;
   first = record {
@@ -125,60 +124,60 @@ short_grows c first_id limit fed piece answer s = record {
 }
 
 -- What feeding a piece says.
-pub record Feeds (old new : Held) (piece : List ℕ) (r : Result Unit ReplyFault) : Type 0 where
+pub record Feeds (old new : ReaderState) (piece : List ℕ) (r : Result Unit ReplyFault) : Type 0 where
   pub stays : IfSome (fault_of old.standing) (λ fault. (r ≡ Err fault) × (new ≡ old))
   pub going : OnOk r (fault_of new.standing ≡ None)
   pub fault : IfErr r (λ fault. fault_of new.standing ≡ Some fault)
   pub takes : OnOk r (TakesAll old (old.bytes ++ piece) new)
-  pub goes_on : UnlessMemory r (GoesOnOver old piece new)
-  pub short : fault_of old.standing ≡ None → OnMemory r (StandsShort old (old.bytes ++ piece) new)
+  pub goes_on : (r ≡ Err faults.Memory → ⊥) → ReaderGoesOn old piece new
+  pub short : fault_of old.standing ≡ None → r ≡ Err faults.Memory → StandsShort old (old.bytes ++ piece) new
 
-step_going : (c : Context) (first_id limit : ℕ) (fed piece : List ℕ) (old new : Held) (r : Result Unit ReplyFault) → AreBytes piece → fault_of old.standing ≡ None → Feeds old new piece r → IsFed None c first_id limit fed old → IsFed (fault_of new.standing) c first_id limit (fed ++ piece) new
+step_going : (c : Context) (first_id limit : ℕ) (fed piece : List ℕ) (old new : ReaderState) (r : Result Unit ReplyFault) → AreBytes piece → fault_of old.standing ≡ None → Feeds old new piece r → IsFed None c first_id limit fed old → IsFed (fault_of new.standing) c first_id limit (fed ++ piece) new
 step_going c first_id limit fed piece old new (Ok x) bytes none f h =
-    subst (λ k. IsFed k c first_id limit (fed ++ piece) new) (sym f.going) (next_going c first_id limit fed piece old new h.0 f.takes, next_decided c first_id limit fed piece old new bytes h.1 f.goes_on)
+    subst (λ k. IsFed k c first_id limit (fed ++ piece) new) (sym f.going) (next_going c first_id limit fed piece old new h.0 f.takes, next_decided c first_id limit fed piece old new bytes h.1 (f.goes_on (λ e. cc)))
 step_going c first_id limit fed piece old new (Err faults.Memory) bytes none f h =
-    let s = f.short none in
+    let s = f.short none refl in
     subst (λ k. IsFed k c first_id limit (fed ++ piece) new) (sym f.fault) (s.0, s.1, next_short c first_id limit fed piece old s.0 h.0 s.2)
 step_going c first_id limit fed piece old new (Err fault) bytes none f h =
-    subst (λ k. IsFed k c first_id limit (fed ++ piece) new) (sym f.fault) (next_decided c first_id limit fed piece old new bytes h.1 f.goes_on)
+    subst (λ k. IsFed k c first_id limit (fed ++ piece) new) (sym f.fault) (next_decided c first_id limit fed piece old new bytes h.1 (f.goes_on (λ e. cc)))
 
-step_by : (c : Context) (first_id limit : ℕ) (fed piece : List ℕ) (old new : Held) (r : Result Unit ReplyFault) (met : Option ReplyFault) → AreBytes piece → fault_of old.standing ≡ met → Feeds old new piece r → IsFed met c first_id limit fed old → IsFed (fault_of new.standing) c first_id limit (fed ++ piece) new
+step_by : (c : Context) (first_id limit : ℕ) (fed piece : List ℕ) (old new : ReaderState) (r : Result Unit ReplyFault) (met : Option ReplyFault) → AreBytes piece → fault_of old.standing ≡ met → Feeds old new piece r → IsFed met c first_id limit fed old → IsFed (fault_of new.standing) c first_id limit (fed ++ piece) new
 step_by c first_id limit fed piece old new r None bytes is f h = step_going c first_id limit fed piece old new r bytes is f h
 step_by c first_id limit fed piece old new r (Some faults.Memory) bytes is f h =
     let s = subst (λ k. IfSome k (λ fault. (r ≡ Err fault) × (new ≡ old))) is f.stays in
-    let met : fault_of new.standing ≡ Some faults.Memory = ap (λ (k : Held). fault_of k.standing) s.1 ∙ is in
-    subst (λ k. IsFed k c first_id limit (fed ++ piece) new) (sym met) (h.0, ap (λ (k : Held). k.standing) s.1 ∙ h.1, short_grows c first_id limit fed piece h.0 h.2)
+    let met : fault_of new.standing ≡ Some faults.Memory = ap (λ (k : ReaderState). fault_of k.standing) s.1 ∙ is in
+    subst (λ k. IsFed k c first_id limit (fed ++ piece) new) (sym met) (h.0, ap (λ (k : ReaderState). k.standing) s.1 ∙ h.1, short_grows c first_id limit fed piece h.0 h.2)
 step_by c first_id limit fed piece old new r (Some fault) bytes is f h =
     let s = subst (λ k. IfSome k (λ fault. (r ≡ Err fault) × (new ≡ old))) is f.stays in
-    let met : fault_of new.standing ≡ Some fault = ap (λ (k : Held). fault_of k.standing) s.1 ∙ is in
-    let goes = subst (λ q. UnlessMemory q (GoesOnOver old piece new)) s.0 f.goes_on in
+    let met : fault_of new.standing ≡ Some fault = ap (λ (k : ReaderState). fault_of k.standing) s.1 ∙ is in
+    let goes = f.goes_on (λ e. let k = sym s.0 ∙ e in cc) in
     subst (λ k. IsFed k c first_id limit (fed ++ piece) new) (sym met) (next_decided c first_id limit fed piece old new bytes h goes)
 
 -- One more piece was fed.
-pub fed_next : (c : Context) (first_id limit : ℕ) (fed piece : List ℕ) (old new : Held) (r : Result Unit ReplyFault) → AreBytes piece → Feeds old new piece r → IsFed (fault_of old.standing) c first_id limit fed old → IsFed (fault_of new.standing) c first_id limit (fed ++ piece) new
+pub fed_next : (c : Context) (first_id limit : ℕ) (fed piece : List ℕ) (old new : ReaderState) (r : Result Unit ReplyFault) → AreBytes piece → Feeds old new piece r → IsFed (fault_of old.standing) c first_id limit fed old → IsFed (fault_of new.standing) c first_id limit (fed ++ piece) new
 fed_next c first_id limit fed piece old new r bytes f h = step_by c first_id limit fed piece old new r (fault_of old.standing) bytes refl f h
 
 -- A fresh reader decides the reply's answer.
-pub fresh_holding : FreshHoldingDecides
-fresh_holding c first_id limit bytes answer h = record {
+pub fresh_reader_decides : FreshReaderDecides
+fresh_reader_decides c first_id limit bytes answer h = record {
   split = h.split;
   splits = h.splits;
   reply = fresh_decides c (numbered 0 h.split.payloads) (after_numbered 0 h.split.payloads h.split.rest) answer h.decides;
 }
 
-decided_at_end : (c : Context) (first_id limit : ℕ) (fed : List ℕ) (h : Held) (answer : Answer) → Decided c first_id limit fed h → DecidesOver h [] answer → IsReplyOf c first_id limit fed answer
+decided_at_end : (c : Context) (first_id limit : ℕ) (fed : List ℕ) (h : ReaderState) (answer : Answer) → Decided c first_id limit fed h → ReaderDecides h [] answer → IsReplyOf c first_id limit fed answer
 decided_at_end c first_id limit fed h answer decided d =
-    subst (λ k. IsReplyOf c first_id limit k answer) (append-nil fed) (fresh_holding c first_id limit (fed ++ []) answer (decided [] answer (λ i. omega arith) d))
+    subst (λ k. IsReplyOf c first_id limit k answer) (append-nil fed) (fresh_reader_decides c first_id limit (fed ++ []) answer (decided [] answer (λ i. omega arith) d))
 
 -- The answer to all that was fed.
-fed_by : (c : Context) (first_id limit : ℕ) (fed : List ℕ) (h : Held) (answer : Answer) (met : Option ReplyFault) → IsFed met c first_id limit fed h → DecidesOver h [] answer → IsReplyOf c first_id limit fed answer ⊎ IsShortReplyOf c first_id limit fed answer
+fed_by : (c : Context) (first_id limit : ℕ) (fed : List ℕ) (h : ReaderState) (answer : Answer) (met : Option ReplyFault) → IsFed met c first_id limit fed h → ReaderDecides h [] answer → IsReplyOf c first_id limit fed answer ⊎ IsShortReplyOf c first_id limit fed answer
 fed_by c first_id limit fed h answer None f d = inl (decided_at_end c first_id limit fed h answer f.1 d)
 fed_by c first_id limit fed h answer (Some faults.Memory) f d =
-    let same : answer ≡ f.0 = subst (λ k. DecidesFrom k h [] answer) f.1 d in
+    let same : answer ≡ f.0 = subst (λ k. ReaderDecidesFrom k h [] answer) f.1 d in
     inr (subst (IsShortReplyOf c first_id limit fed) (sym same) f.2)
 fed_by c first_id limit fed h answer (Some fault) f d = inl (decided_at_end c first_id limit fed h answer f d)
 
-pub fed_answer : (c : Context) (first_id limit : ℕ) (fed : List ℕ) (h : Held) (answer : Answer) → IsFed (fault_of h.standing) c first_id limit fed h → DecidesOver h [] answer → IsReplyOf c first_id limit fed answer ⊎ IsShortReplyOf c first_id limit fed answer
+pub fed_answer : (c : Context) (first_id limit : ℕ) (fed : List ℕ) (h : ReaderState) (answer : Answer) → IsFed (fault_of h.standing) c first_id limit fed h → ReaderDecides h [] answer → IsReplyOf c first_id limit fed answer ⊎ IsShortReplyOf c first_id limit fed answer
 fed_answer c first_id limit fed h answer f d = fed_by c first_id limit fed h answer (fault_of h.standing) f d
 
 -- The joining of some pieces and the next one.
@@ -204,23 +203,23 @@ pub cuttings : HasOneSplit → CuttingsAgree
 cuttings law c first_id limit pieces others a b are same x y =
     one_answer law c first_id limit (flat_map (λ piece. piece) pieces) a b are x (subst (λ bytes. IsReplyOf c first_id limit bytes b) (sym same) y)
 
-holding_decides : HasOneSplit → (standing : Standing) (held : Held) (more : List ℕ) → AreBytes (held.bytes ++ more) → (answer : Answer) × DecidesFrom standing held more answer
+holding_decides : HasOneSplit → (standing : Standing) (held : ReaderState) (more : List ℕ) → AreBytes (held.bytes ++ more) → (answer : Answer) × ReaderDecidesFrom standing held more answer
 holding_decides law (Answered known) held more are = (known, refl)
 holding_decides law (GoingOn s) held more are =
     let one = law held.limit (OnFrom held.number) (held.bytes ++ more) are in
     let decided = each_decides (GoingOn s) (numbered s.count one.0.payloads) (after_numbered s.count one.0.payloads one.0.rest) in
     (decided.0, record { split = one.0; splits = one.1; decides = decided.1 })
 
-pub each_holding_decides : HasOneSplit → EachHoldingDecides
-each_holding_decides law held more are = holding_decides law held.standing held more are
+pub each_reader_decides : HasOneSplit → EachReaderDecides
+each_reader_decides law held more are = holding_decides law held.standing held more are
 
-holding_agrees : HasOneSplit → (standing : Standing) (held : Held) (more : List ℕ) (a b : Answer) → AreBytes (held.bytes ++ more) → DecidesFrom standing held more a → DecidesFrom standing held more b → a ≡ b
+holding_agrees : HasOneSplit → (standing : Standing) (held : ReaderState) (more : List ℕ) (a b : Answer) → AreBytes (held.bytes ++ more) → ReaderDecidesFrom standing held more a → ReaderDecidesFrom standing held more b → a ≡ b
 holding_agrees law (Answered known) held more a b are x y = x ∙ sym y
 holding_agrees law (GoingOn s) held more a b are x y =
     let one = law held.limit (OnFrom held.number) (held.bytes ++ more) are in
     let same : x.split ≡ y.split = one.2 x.split x.splits ∙ sym (one.2 y.split y.splits) in
     decisions_agree (GoingOn s) (numbered s.count y.split.payloads) (after_numbered s.count y.split.payloads y.split.rest) a b
-    (subst (λ k. DecidesNumbered (GoingOn s) k.payloads k.rest a) same x.decides) y.decides
+    (subst (λ k. NumberedPayloadsDecide (GoingOn s) k.payloads k.rest a) same x.decides) y.decides
 
-pub holdings_agree : HasOneSplit → HoldingsAgree
-holdings_agree law held more a b are x y = holding_agrees law held.standing held more a b are x y
+pub readers_agree : HasOneSplit → ReadersAgree
+readers_agree law held more a b are x y = holding_agrees law held.standing held more a b are x y

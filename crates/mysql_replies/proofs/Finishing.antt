@@ -9,7 +9,7 @@ use Rattle.mysql_replies.specs.declared.context.Context.{Context}
 use Rattle.mysql_replies.specs.declared.awaited.Awaited as code
 use Rattle.mysql_replies.specs.declared.awaited.Awaited.TheVariants as awaiting
 use Rattle.mysql_replies.specs.declared.state.ReplyState.{ReplyState}
-use Rattle.mysql_replies.specs.Grammar.{Begun, Ending, Ended, Open, Results, last, begun, next, columns, columns_end, column_group, rows, result_set, one_result}
+use Rattle.mysql_replies.specs.Grammar.{Begun, Ending, Ended, Open, Results, last, begun, next_payload, columns, columns_end, column_group, rows, result_set, one_result}
 use Rattle.mysql_replies.specs.Reply.{Answer, before_end, end_of, Awaited, Columns, Nothing, rest_of, Continues}
 use Rattle.mysql_replies.specs.Views.{outcome_views, awaited_view, column_views}
 use Rattle.mysql_replies.specs.Steps.{IsSettled, listed_of}
@@ -25,13 +25,13 @@ record AtEnd (c : Context) (a : code.Awaited) : Type 0 where
   none : before_end [] (ending_at (awaited_view a)) ≡ []
 
 columns_begun : (c : Context) (n : ℕ) (these : List ColumnDefinition) → IsSettled c (Columns n these) → result_set c n these [] ≡ Begun []
-unfolding result_set column_group columns columns_end next
+unfolding result_set column_group columns columns_end next_payload
 columns_begun c zero [] settled = absurd settled
 columns_begun c zero (first ∷ others) settled = rw settled refl
 columns_begun c (suc n) these settled = refl
 
 at_end : (c : Context) (a : code.Awaited) → IsSettled c (awaited_view a) → AtEnd c a
-unfolding one_result rows next
+unfolding one_result rows next_payload
 at_end c awaiting.First settled = record { reading = begun []; none = refl }
 at_end c (awaiting.Columns left these) settled = record {
   reading = subst (λ p. Results c p [] Open) (sym (columns_begun c left (column_views these.items) settled)) (begun []);

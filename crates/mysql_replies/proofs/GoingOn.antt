@@ -4,9 +4,9 @@ use Rattle.std.proofs.lemmas.List.{append-nil, append_assoc}
 use Rattle.mysql_replies.specs.declared.fault.ReplyFault.{ReplyFault}
 use Rattle.mysql_replies.specs.declared.fault.ReplyFault.TheVariants.{AfterEnd}
 use Rattle.mysql_replies.specs.declared.context.Context.{Context}
-use Rattle.mysql_replies.specs.Grammar.{Payload, Outcome, Part, Stretch, Ending, Ended, Open, Wrong, Results, last, more, begun, misfit, one_result}
+use Rattle.mysql_replies.specs.Grammar.{Payload, Outcome, Part, Stretch, Ending, Ended, Open, Wrong, Results, last, more, begun, unexpected, one_result}
 use Rattle.mysql_wire.specs.Stream.{Rest}
-use Rattle.mysql_replies.specs.Reply.{FaultAt, Answer, IsReply, report_of, reports, before_end, end_of, Awaited, First, Columns, Rows, Parameters, PreparedColumns, Nothing, rest_of, Progressing, Standing, GoingOn, Answered, Continues, Decides, fresh, EachHasAnswer, AnswersAgree, EachDecides, DecisionsAgree, FreshDecides, GoesOn}
+use Rattle.mysql_replies.specs.Reply.{FaultAt, Answer, IsReply, report_of, reports, before_end, end_of, Awaited, First, Columns, Rows, Parameters, PreparedColumns, Nothing, rest_of, Progressing, Standing, GoingOn, Answered, Continues, PayloadsDecide, fresh, EachHasAnswer, AnswersAgree, EachStandingDecides, StandingsAgree, FreshStandingDecides, StandingGoesOn}
 use Rattle.mysql_replies.proofs.Taken.{Takes, Takes-fewer, Takes-rows, Takes-result_set, Takes-prepared, Takes-prepared_columns, Takes-one_result}
 use Rattle.mysql_replies.proofs.Determined.{reads, reads_once}
 use Rattle.mysql_replies.specs.Steps.{Move, Moves, Fails, Over, Leads}
@@ -26,7 +26,7 @@ LeftWithin-more payloads rest (Wrong fault left) h within = omega arith
 left_within : (c : Context) (p : Part Stretch) (results : List Outcome) (ending : Ending) (payloads : List Payload) → Results c p results ending → Takes 0 payloads p → LeftWithin payloads ending
 left_within c p results ending payloads (last these rest) t = omega arith
 left_within c p results ending payloads (begun these) t = tt
-left_within c p results ending payloads (misfit these fault rest) t = t
+left_within c p results ending payloads (unexpected these fault rest) t = t
 left_within c p results ending payloads (more these rest {others = o} {ending = e} r) t =
     LeftWithin-more payloads rest e (omega arith) (left_within c (one_result c rest) o e rest r (Takes-fewer 1 0 rest (one_result c rest) (omega arith) (Takes-one_result c rest)))
 
@@ -58,8 +58,8 @@ after_move s payload (Moves results awaited) =
 after_move s payload (Fails results fault) = Answered (record { results = s.results ++ results; progress = s.progress; end = FaultAt s.count fault })
 after_move s payload (Over results) = Answered (record { results = s.results ++ results; progress = s.progress; end = FaultAt s.count AfterEnd })
 
-abbrev pub GoesOver : Progressing → List Payload → Standing → Type 0
-GoesOver s came after = (z : List Payload) (rest : Rest) (answer : Answer) → Decides after z rest answer → Continues s (came ++ z) rest answer
+abbrev pub StateGoesOn : Progressing → List Payload → Standing → Type 0
+StateGoesOn s came after = (z : List Payload) (rest : Rest) (answer : Answer) → PayloadsDecide after z rest answer → Continues s (came ++ z) rest answer
 
 end_wrong : (count : ℕ) (rest : Rest) (fault : ReplyFault) (payload : Payload) (z : List Payload) → end_of (count + length (payload ∷ z)) rest (Wrong fault (payload ∷ z)) ≡ FaultAt count fault
 end_wrong count rest fault payload z =
@@ -72,7 +72,7 @@ end_ended count rest payload z =
 no_more_reports : (s : Progressing) (payload : Payload) (z : List Payload) → s.progress ≡ s.progress ++ reports s.context (take (length (payload ∷ z) - length (payload ∷ z)) (payload ∷ z))
 no_more_reports s payload z = rw take_none (sym (append-nil s.progress))
 
-pub go_over : (s : Progressing) (payload : Payload) (m : Move) → Leads s.context (λ z. rest_of s.context s.awaited (payload ∷ z)) payload m → GoesOver s (payload ∷ []) (after_move s payload m)
+pub go_over : (s : Progressing) (payload : Payload) (m : Move) → Leads s.context (λ z. rest_of s.context s.awaited (payload ∷ z)) payload m → StateGoesOn s (payload ∷ []) (after_move s payload m)
 unfolding after_move
 go_over s payload (Moves results awaited) leads z rest answer h = record {
   others = results ++ h.others;
@@ -101,11 +101,11 @@ go_over s payload (Over results) leads z rest answer h = record {
   end = ap (λ a. a.end) h ∙ sym (end_ended s.count rest payload z);
 }
 
-go_one : (s : Progressing) (payload : Payload) → (after : Standing) × GoesOver s (payload ∷ []) after
+go_one : (s : Progressing) (payload : Payload) → (after : Standing) × StateGoesOn s (payload ∷ []) after
 go_one s payload = let m = steps s.context s.awaited payload in (after_move s payload m.0, go_over s payload m.0 m.1)
 
 -- What stands goes on over any payloads.
-pub goes_on : GoesOn
+pub goes_on : StandingGoesOn
 goes_on before [] = (before, λ z rest answer h. h)
 goes_on (Answered known) (payload ∷ came) = (Answered known, λ z rest answer h. h)
 goes_on (GoingOn s) (payload ∷ came) =
@@ -113,7 +113,7 @@ goes_on (GoingOn s) (payload ∷ came) =
     let others = goes_on one.0 came in
     (others.0, λ z rest answer h. one.1 (came ++ z) rest answer (others.1 z rest answer h))
 
-pub each_decides : EachDecides
+pub each_decides : EachStandingDecides
 each_decides (Answered known) payloads rest = (known, refl)
 each_decides (GoingOn s) payloads rest =
     let read = reads s.context (rest_of s.context s.awaited payloads) in (
@@ -129,11 +129,11 @@ decisions_agree_going s payloads rest a b x y =
     let end : a.end ≡ b.end = x.end ∙ ap (λ e. end_of (s.count + length payloads) rest e) same.ending ∙ sym y.end in
     λ i. record { results = results i; progress = progress i; end = end i }
 
-pub decisions_agree : DecisionsAgree
+pub decisions_agree : StandingsAgree
 decisions_agree (Answered known) payloads rest a b x y = x ∙ sym y
 decisions_agree (GoingOn s) payloads rest a b x y = decisions_agree_going s payloads rest a b x y
 
-pub fresh_decides : FreshDecides
+pub fresh_decides : FreshStandingDecides
 fresh_decides c payloads rest answer h = record {
   ending = h.ending;
   results = subst (λ o. Results c (one_result c payloads) o h.ending) (sym h.results) h.reading;
@@ -144,7 +144,7 @@ fresh_decides c payloads rest answer h = record {
 pub each_has_answer : EachHasAnswer
 each_has_answer c payloads rest = let d = each_decides (fresh c) payloads rest in (d.0, fresh_decides c payloads rest d.0 d.1)
 
-pub decides_fresh : (c : Context) (payloads : List Payload) (rest : Rest) (answer : Answer) → IsReply c payloads rest answer → Decides (fresh c) payloads rest answer
+pub decides_fresh : (c : Context) (payloads : List Payload) (rest : Rest) (answer : Answer) → IsReply c payloads rest answer → PayloadsDecide (fresh c) payloads rest answer
 decides_fresh c payloads rest answer r = record {
   others = answer.results;
   ending = r.ending;

@@ -5,7 +5,7 @@ use Rattle.mysql_cells.specs.declared.value.Value.{Value}
 use Rattle.mysql_packets.specs.Packets.{OkPacket, PrepareOk, ColumnDefinition, deprecate_eof}
 use Rattle.mysql_replies.specs.declared.fault.ReplyFault.{ReplyFault}
 use Rattle.mysql_replies.specs.declared.context.Context.{Context}
-use Rattle.mysql_replies.specs.Grammar.{Payload, Outcome, PreparedResult, Part, Stands, Misfit, ◌>>=◌, Stretch, Ending, Ended, Wrong, Results, last, more, misfit, Line, RowLine, TerminatorLine, ErrorLine, Opening, OkOpening, ErrorOpening, FileOpening, CountOpening, StatementOpening, is_report, reading, in_place, next, column, eof, columns, columns_end, column_group, line, after_rows, rows, result_set, prepared, prepared_columns, opening, after_opening, one_result}
+use Rattle.mysql_replies.specs.Grammar.{Payload, Outcome, PreparedResult, Part, Stands, Unexpected, ◌>>=◌, Stretch, Ending, Ended, Wrong, Results, last, more, unexpected, Line, RowLine, TerminatorLine, ErrorLine, Opening, OkOpening, ErrorOpening, FileOpening, CountOpening, StatementOpening, is_report, unless_report, as_part, next_payload, column, eof, columns, columns_end, column_group, line, after_rows, rows, result_set, prepared, prepared_columns, opening, after_opening, one_result}
 use Rattle.mysql_replies.specs.Reply.{Awaited, First, Columns, Rows, Parameters, PreparedColumns, Nothing, rest_of}
 use Rattle.mysql_replies.specs.Steps.{Move, Moves, Fails, Over, Leads}
 
@@ -35,8 +35,8 @@ stands_or_more c results payload false = (Moves results Nothing, λ z others end
 pub Step-stands : (c : Context) (s : Stretch) (payload : Payload) → Step c (λ z. Stands s z) payload
 Step-stands c s payload = stands_or_more c s.results payload s.more
 
-pub Step-misfit : (c : Context) (results : List Outcome) (fault : ReplyFault) (payload : Payload) → Step c (λ z. Misfit results fault (payload ∷ z)) payload
-Step-misfit c results fault payload = (Fails results fault, λ z. misfit results fault (payload ∷ z))
+pub Step-unexpected : (c : Context) (results : List Outcome) (fault : ReplyFault) (payload : Payload) → Step c (λ z. Unexpected results fault (payload ∷ z)) payload
+Step-unexpected c results fault payload = (Fails results fault, λ z. unexpected results fault (payload ∷ z))
 
 -- Whatever a test says, there is a step.
 Step-if : (c : Context) (payload : Payload) (b : Bool) (q r : List Payload → Part Stretch) → Step c q payload → Step c r payload → Step c (λ z. if b then q z else r z) payload
@@ -52,17 +52,17 @@ pub data Placed (A : Type 0) : Type 0 where
 abbrev pub IsPlaced : {A : Type 0} → (List Payload → Part A) → (List Payload → Part A) → Payload → Placed A → Type 0
 IsPlaced here after payload Passed = (z : List Payload) → here z ≡ after z
 IsPlaced here after payload (Found a) = (z : List Payload) → here z ≡ Stands a z
-IsPlaced here after payload (Refused fault) = (z : List Payload) → here z ≡ Misfit [] fault (payload ∷ z)
+IsPlaced here after payload (Refused fault) = (z : List Payload) → here z ≡ Unexpected [] fault (payload ∷ z)
 
-placed_cases : {A : Type 0} (b : Bool) (r : Result A ReplyFault) (payload : Payload) (after : List Payload → Part A) → (m : Placed A) × IsPlaced (λ z. if b then after z else in_place r payload z) after payload m
+placed_cases : {A : Type 0} (b : Bool) (r : Result A ReplyFault) (payload : Payload) (after : List Payload → Part A) → (m : Placed A) × IsPlaced (λ z. if b then after z else as_part r payload z) after payload m
 placed_cases true r payload after = (Passed, λ z. refl)
 placed_cases false (Ok a) payload after = (Found a, λ z. refl)
 placed_cases false (Err fault) payload after = (Refused fault, λ z. refl)
 
 -- What the next payload is.
-pub placed : {A : Type 0} (c : Context) (read : Payload → Result A ReplyFault) (payload : Payload) → (m : Placed A) × IsPlaced (λ z. next c read (payload ∷ z)) (λ z. next c read z) payload m
-unfolding next
-placed c read payload = placed_cases (is_report c payload) (reading c read payload) payload (λ z. next c read z)
+pub placed : {A : Type 0} (c : Context) (read : Payload → Result A ReplyFault) (payload : Payload) → (m : Placed A) × IsPlaced (λ z. next_payload c read (payload ∷ z)) (λ z. next_payload c read z) payload m
+unfolding next_payload
+placed c read payload = placed_cases (is_report c payload) (unless_report c read payload) payload (λ z. next_payload c read z)
 
 -- What a payload does to a group of columns: nothing, as the group stands; it leaves this group to come; it is
 -- the last one; or it has no place.
@@ -76,31 +76,31 @@ abbrev GroupLeads : Context → ℕ → List ColumnDefinition → Payload → Gr
 GroupLeads c n these payload GroupStands = (z : List Payload) → column_group c n these z ≡ Stands these z
 GroupLeads c n these payload (GroupGoes m those) = (z : List Payload) → column_group c n these (payload ∷ z) ≡ column_group c m those z
 GroupLeads c n these payload GroupEnds = (z : List Payload) → column_group c n these (payload ∷ z) ≡ Stands these z
-GroupLeads c n these payload (GroupFails fault) = (z : List Payload) → column_group c n these (payload ∷ z) ≡ Misfit [] fault (payload ∷ z)
+GroupLeads c n these payload (GroupFails fault) = (z : List Payload) → column_group c n these (payload ∷ z) ≡ Unexpected [] fault (payload ∷ z)
 
-column_cases : (c : Context) (n : ℕ) (these : List ColumnDefinition) (payload : Payload) (m : Placed ColumnDefinition) → IsPlaced (λ z. next c column (payload ∷ z)) (λ z. next c column z) payload m → (m : GroupMove) × GroupLeads c (suc n) these payload m
+column_cases : (c : Context) (n : ℕ) (these : List ColumnDefinition) (payload : Payload) (m : Placed ColumnDefinition) → IsPlaced (λ z. next_payload c column (payload ∷ z)) (λ z. next_payload c column z) payload m → (m : GroupMove) × GroupLeads c (suc n) these payload m
 unfolding column_group columns
 column_cases c n these payload Passed same = (GroupGoes (suc n) these, λ z. ap (λ (p : Part ColumnDefinition). (p >>= λ x. columns c n (these ++ x.0 ∷ []) x.1) >>= λ x. columns_end c x.0 x.1) (same z))
 column_cases c n these payload (Found a) same = (GroupGoes n (these ++ a ∷ []), λ z. ap (λ (p : Part ColumnDefinition). (p >>= λ x. columns c n (these ++ x.0 ∷ []) x.1) >>= λ x. columns_end c x.0 x.1) (same z))
 column_cases c n these payload (Refused fault) same = (GroupFails fault, λ z. ap (λ (p : Part ColumnDefinition). (p >>= λ x. columns c n (these ++ x.0 ∷ []) x.1) >>= λ x. columns_end c x.0 x.1) (same z))
 
-eof_cases : (c : Context) (first : ColumnDefinition) (others : List ColumnDefinition) (payload : Payload) (m : Placed OkPacket) → IsPlaced (λ z. next c eof (payload ∷ z)) (λ z. next c eof z) payload m → (b : Bool) → deprecate_eof c.capabilities.0 ≡ b → (m : GroupMove) × GroupLeads c 0 (first ∷ others) payload m
+eof_cases : (c : Context) (first : ColumnDefinition) (others : List ColumnDefinition) (payload : Payload) (m : Placed OkPacket) → IsPlaced (λ z. next_payload c eof (payload ∷ z)) (λ z. next_payload c eof z) payload m → (b : Bool) → deprecate_eof c.capabilities.0 ≡ b → (m : GroupMove) × GroupLeads c 0 (first ∷ others) payload m
 unfolding column_group columns columns_end
-eof_cases c first others payload m same true h = (GroupStands, λ z. ap (λ b. if b then Stands (first ∷ others) z else (next c eof z >>= λ x. Stands (first ∷ others) x.1)) h)
+eof_cases c first others payload m same true h = (GroupStands, λ z. ap (λ b. if b then Stands (first ∷ others) z else (next_payload c eof z >>= λ x. Stands (first ∷ others) x.1)) h)
 eof_cases c first others payload Passed same false h = (
   GroupGoes 0 (first ∷ others),
-  λ z. ap (λ b. if b then Stands (first ∷ others) (payload ∷ z) else (next c eof (payload ∷ z) >>= λ x. Stands (first ∷ others) x.1)) h
+  λ z. ap (λ b. if b then Stands (first ∷ others) (payload ∷ z) else (next_payload c eof (payload ∷ z) >>= λ x. Stands (first ∷ others) x.1)) h
       ∙ ap (λ (p : Part OkPacket). p >>= λ x. Stands (first ∷ others) x.1) (same z)
-      ∙ sym (ap (λ b. if b then Stands (first ∷ others) z else (next c eof z >>= λ x. Stands (first ∷ others) x.1)) h),
+      ∙ sym (ap (λ b. if b then Stands (first ∷ others) z else (next_payload c eof z >>= λ x. Stands (first ∷ others) x.1)) h),
 )
 eof_cases c first others payload (Found a) same false h = (
   GroupEnds,
-  λ z. ap (λ b. if b then Stands (first ∷ others) (payload ∷ z) else (next c eof (payload ∷ z) >>= λ x. Stands (first ∷ others) x.1)) h
+  λ z. ap (λ b. if b then Stands (first ∷ others) (payload ∷ z) else (next_payload c eof (payload ∷ z) >>= λ x. Stands (first ∷ others) x.1)) h
       ∙ ap (λ (p : Part OkPacket). p >>= λ x. Stands (first ∷ others) x.1) (same z),
 )
 eof_cases c first others payload (Refused fault) same false h = (
   GroupFails fault,
-  λ z. ap (λ b. if b then Stands (first ∷ others) (payload ∷ z) else (next c eof (payload ∷ z) >>= λ x. Stands (first ∷ others) x.1)) h
+  λ z. ap (λ b. if b then Stands (first ∷ others) (payload ∷ z) else (next_payload c eof (payload ∷ z) >>= λ x. Stands (first ∷ others) x.1)) h
       ∙ ap (λ (p : Part OkPacket). p >>= λ x. Stands (first ∷ others) x.1) (same z),
 )
 
@@ -119,7 +119,7 @@ group_cases c n these payload f again is stands ends (GroupGoes m those) same =
 group_cases c n these payload f again is stands ends GroupEnds same =
     Step-same c (λ z. f (these, z)) (λ z. column_group c n these (payload ∷ z) >>= f) payload (λ z. ap (λ (p : Part (List ColumnDefinition)). p >>= f) (sym (same z))) ends
 group_cases c n these payload f again is stands ends (GroupFails fault) same =
-    Step-same c (λ z. Misfit [] fault (payload ∷ z)) (λ z. column_group c n these (payload ∷ z) >>= f) payload (λ z. ap (λ (p : Part (List ColumnDefinition)). p >>= f) (sym (same z))) (Step-misfit c [] fault payload)
+    Step-same c (λ z. Unexpected [] fault (payload ∷ z)) (λ z. column_group c n these (payload ∷ z) >>= f) payload (λ z. ap (λ (p : Part (List ColumnDefinition)). p >>= f) (sym (same z))) (Step-unexpected c [] fault payload)
 
 group_then : (c : Context) (n : ℕ) (these : List ColumnDefinition) (payload : Payload) (f : List ColumnDefinition × List Payload → Part Stretch) (again : ℕ → List ColumnDefinition → Awaited) → ((m : ℕ) (those : List ColumnDefinition) (z : List Payload) → rest_of c (again m those) z ≡ (column_group c m those z >>= f)) → Step c (λ z. f (these, payload ∷ z)) payload → Step c (λ z. f (these, z)) payload → Step c (λ z. column_group c n these (payload ∷ z) >>= f) payload
 group_then c n these payload f again is stands ends = let g = group_step c n these payload in group_cases c n these payload f again is stands ends g.0 g.1
@@ -128,13 +128,13 @@ line_step : (c : Context) (columns : List ColumnDefinition) (these : List (List 
 line_step c columns these payload (Ok (RowLine cells)) = Step-awaits c (Rows columns (these ++ cells ∷ [])) payload
 line_step c columns these payload (Ok (TerminatorLine ok)) = Step-stands c _ payload
 line_step c columns these payload (Ok (ErrorLine error)) = Step-stands c _ payload
-line_step c columns these payload (Err fault) = Step-misfit c _ fault payload
+line_step c columns these payload (Err fault) = Step-unexpected c _ fault payload
 
 rows_step : (c : Context) (columns : List ColumnDefinition) (these : List (List Value)) (payload : Payload) → Step c (λ z. rows c columns these (payload ∷ z)) payload
 unfolding rows
 rows_step c columns these payload =
-    Step-if c payload (is_report c payload) (λ z. rows c columns these z) (λ z. after_rows columns these (λ cells. rows c columns (these ++ cells ∷ []) z) (reading c (line c columns) payload) payload z)
-    (Step-awaits c (Rows columns these) payload) (line_step c columns these payload (reading c (line c columns) payload))
+    Step-if c payload (is_report c payload) (λ z. rows c columns these z) (λ z. after_rows columns these (λ cells. rows c columns (these ++ cells ∷ []) z) (unless_report c (line c columns) payload) payload z)
+    (Step-awaits c (Rows columns these) payload) (line_step c columns these payload (unless_report c (line c columns) payload))
 
 result_set_step : (c : Context) (n : ℕ) (these : List ColumnDefinition) (payload : Payload) → Step c (λ z. result_set c n these (payload ∷ z)) payload
 unfolding result_set
@@ -164,14 +164,14 @@ opening_step c payload (FileOpening name) = Step-stands c _ payload
 opening_step c payload (CountOpening n) = Step-awaits c (Columns n []) payload
 opening_step c payload (StatementOpening statement) = Step-awaits c (Parameters statement statement.num_params []) payload
 
-one_result_cases : (c : Context) (payload : Payload) (m : Placed Opening) → IsPlaced (λ z. next c (opening c) (payload ∷ z)) (λ z. next c (opening c) z) payload m → Step c (λ z. one_result c (payload ∷ z)) payload
+one_result_cases : (c : Context) (payload : Payload) (m : Placed Opening) → IsPlaced (λ z. next_payload c (opening c) (payload ∷ z)) (λ z. next_payload c (opening c) z) payload m → Step c (λ z. one_result c (payload ∷ z)) payload
 unfolding one_result
 one_result_cases c payload Passed same =
     Step-same c (λ z. one_result c z) (λ z. one_result c (payload ∷ z)) payload (λ z. ap (λ (p : Part Opening). p >>= λ x. after_opening c x.0 x.1) (sym (same z))) (Step-awaits c First payload)
 one_result_cases c payload (Found o) same =
     Step-same c (λ z. after_opening c o z) (λ z. one_result c (payload ∷ z)) payload (λ z. ap (λ (p : Part Opening). p >>= λ x. after_opening c x.0 x.1) (sym (same z))) (opening_step c payload o)
 one_result_cases c payload (Refused fault) same =
-    Step-same c (λ z. Misfit [] fault (payload ∷ z)) (λ z. one_result c (payload ∷ z)) payload (λ z. ap (λ (p : Part Opening). p >>= λ x. after_opening c x.0 x.1) (sym (same z))) (Step-misfit c [] fault payload)
+    Step-same c (λ z. Unexpected [] fault (payload ∷ z)) (λ z. one_result c (payload ∷ z)) payload (λ z. ap (λ (p : Part Opening). p >>= λ x. after_opening c x.0 x.1) (sym (same z))) (Step-unexpected c [] fault payload)
 
 -- Each payload leads somewhere, whatever is awaited.
 pub steps : (c : Context) (awaited : Awaited) (payload : Payload) → Step c (λ z. rest_of c awaited (payload ∷ z)) payload

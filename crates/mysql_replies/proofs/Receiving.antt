@@ -10,6 +10,7 @@ use Rattle.mysql_wire.specs.Framing.{chunks, framing}
 use Rattle.mysql_wire.specs.Bytes.{AreBytes}
 use Rattle.mysql_wire.specs.Laws.{FramingComesFirst}
 use Rattle.mysql_wire.specs.Codec.{Codec, IsBetween, CanGoOn, HandsOut, Waits, IsOfPacket, held, packet_number, IsDue, error_of}
+use Rattle.mysql_wire.specs.Incoming.{Incoming, codec_by}
 use Rattle.mysql_wire.specs.Reader.{HasRead, StandFirst}
 use Rattle.mysql_wire.specs.Stream as stream
 use Rattle.mysql_wire.specs.Stream.{Numbering, Rest, Split, IsSplit, IsRest, IsFault, first_number, after, after_all, framings, with_payloads}
@@ -24,11 +25,11 @@ use Rattle.mysql_replies.specs.declared.state.ReplyState.{ReplyState}
 use Rattle.mysql_replies.specs.Grammar.{Payload, Ended, Results, last}
 use Rattle.mysql_replies.specs.Reply.{Answer, FaultAt, Unfinished, reports, before_end, end_of, rest_of, Standing, GoingOn, Answered, Progressing, Continues}
 use Rattle.mysql_replies.specs.Reply as reply
-use Rattle.mysql_replies.specs.Bytes.{numbers_left, numbered, after_numbered, DecidesNumbered}
-use Rattle.mysql_replies.specs.Holding.{Held, SplitDecides, DecidesFrom, DecidesOver, GoesOnOver, TakesAll, RunsShort, StandsShort, count_of, fault_of}
+use Rattle.mysql_replies.specs.Bytes.{numbers_left, numbered, after_numbered, NumberedPayloadsDecide}
+use Rattle.mysql_replies.specs.Holding.{ReaderState, BytesDecide, ReaderDecidesFrom, ReaderDecides, ReaderGoesOn, TakesAll, RunsShort, StandsShort, count_of, fault_of}
 use Rattle.mysql_replies.specs.Views.{awaited_view, outcome_views}
 use Rattle.mysql_replies.specs.Steps.{IsSettled, IsAwaiting, listed_of}
-use Rattle.mysql_replies.specs.Standings.{progressing_of, faulted_at, faulted, standing_of, GoesOverNumbered, held_of, answer_of, end_at, end_of_state, IsReading, IsPaused, IsReceiving, NothingBegun, FramingLaws, UnlessMemory, OnMemory, IsShortOf, fault_named}
+use Rattle.mysql_replies.specs.Standings.{progressing_of, faulted_at, faulted, standing_of, NumberedStateGoesOn, reader_state, reader_state_of, answer_of, end_at, end_of_state, IsReading, IsPaused, IsReceiving, NothingBegun, FramingLaws, UnlessMemory, OnMemory, IsShortOf, fault_named}
 use Rattle.mysql_replies.proofs.Finishing.{stops, ending_at}
 use Rattle.mysql_replies.proofs.Numbers.{decides_none, end_large}
 use Rattle.mysql_replies.proofs.GoingOn.{end_ended}
@@ -54,7 +55,7 @@ on_from (p ∷ ps) number = on_from ps _
 -- the start over these payloads and that.
 pub record Received (from : Standing) (limit number : ℕ) (bytes : List ℕ) (payloads : List Payload) (s : ReplyState) (codec : Codec) (src dst : List ℕ) : Type 0 where
   pub read : HasRead limit (OnFrom number) bytes payloads codec src dst
-  pub goes_on : (z : List Payload) (rest : Rest) (answer : Answer) → DecidesNumbered (standing_of s) z rest answer → DecidesNumbered from (payloads ++ z) rest answer
+  pub goes_on : (z : List Payload) (rest : Rest) (answer : Answer) → NumberedPayloadsDecide (standing_of s) z rest answer → NumberedPayloadsDecide from (payloads ++ z) rest answer
 
 -- Nothing was read yet.
 pub received_none : (s : ReplyState) (codec : Codec) (src dst : List ℕ) → codec.refused ≡ None → CanGoOn codec dst → Received (standing_of s) codec.limit (packet_number codec dst) (held codec src dst) [] s codec src dst
@@ -64,14 +65,14 @@ received_none s codec src dst refused can_go_on = record {
 }
 
 -- One more payload was read.
-pub received_next : FramingLaws → (from : Standing) (limit number : ℕ) (bytes : List ℕ) (payloads : List Payload) (s next : ReplyState) (codec new : Codec) (src dst src' dst' payload : List ℕ) → Received from limit number bytes payloads s codec src dst → HandsOut codec src dst new src' payload → dst' ≡ [] → GoesOverNumbered s payload next → Received from limit number bytes (payloads ++ payload ∷ []) next new src' dst'
+pub received_next : FramingLaws → (from : Standing) (limit number : ℕ) (bytes : List ℕ) (payloads : List Payload) (s next : ReplyState) (codec new : Codec) (src dst src' dst' payload : List ℕ) → Received from limit number bytes payloads s codec src dst → HandsOut codec src dst new src' payload → dst' ≡ [] → NumberedStateGoesOn s payload next → Received from limit number bytes (payloads ++ payload ∷ []) next new src' dst'
 received_next laws from limit number bytes payloads s next codec new src dst src' dst' payload r h empty goes = record {
   read = subst (λ d. HasRead limit (OnFrom number) bytes (payloads ++ payload ∷ []) new src' d) (sym empty) ((laws.takes limit bytes payloads codec new src dst src' payload h).0 number r.read);
-  goes_on = λ z rest answer k. subst (λ ps. DecidesNumbered from ps rest answer) (sym (append_assoc payloads (payload ∷ []) z)) (r.goes_on (payload ∷ z) rest answer (goes z rest answer k));
+  goes_on = λ z rest answer k. subst (λ ps. NumberedPayloadsDecide from ps rest answer) (sym (append_assoc payloads (payload ∷ []) z)) (r.goes_on (payload ∷ z) rest answer (goes z rest answer k));
 }
 
 -- What is held and other bytes decide, where these split.
-pub decides_more : FramingLaws → (from : Standing) (limit number : ℕ) (bytes : List ℕ) (payloads : List Payload) (s : ReplyState) (codec : Codec) (src dst : List ℕ) → Received from limit number bytes payloads s codec src dst → (more : List ℕ) (split : Split) → IsSplit codec.limit (OnFrom (packet_number codec dst)) (held codec src dst ++ more) split → (answer : Answer) → DecidesNumbered (standing_of s) split.payloads split.rest answer → SplitDecides from limit number (bytes ++ more) answer
+pub decides_more : FramingLaws → (from : Standing) (limit number : ℕ) (bytes : List ℕ) (payloads : List Payload) (s : ReplyState) (codec : Codec) (src dst : List ℕ) → Received from limit number bytes payloads s codec src dst → (more : List ℕ) (split : Split) → IsSplit codec.limit (OnFrom (packet_number codec dst)) (held codec src dst ++ more) split → (answer : Answer) → NumberedPayloadsDecide (standing_of s) split.payloads split.rest answer → BytesDecide from limit number (bytes ++ more) answer
 decides_more laws from limit number bytes payloads s codec src dst r more split here answer d =
     let limited : IsSplit limit (OnFrom (packet_number codec dst)) (held codec src dst ++ more) split = subst (λ k. IsSplit k (OnFrom (packet_number codec dst)) (held codec src dst ++ more) split) r.read.limit_same here in
     let there : IsSplit limit (after_all payloads (OnFrom number)) (held codec src dst ++ more) split = subst (λ k. IsSplit limit k (held codec src dst ++ more) split) (ap OnFrom r.read.number ∙ sym (on_from payloads number)) limited in
@@ -83,20 +84,20 @@ decides_more laws from limit number bytes payloads s codec src dst r more split 
     }
 
 -- Where no fault was met, what is held decides by splitting.
-pub going_decides : (s : ReplyState) (codec : Codec) (src dst more : List ℕ) (answer : Answer) → s.fault ≡ None → DecidesOver (held_of s codec src dst) more answer → SplitDecides (standing_of s) codec.limit (packet_number codec dst) (held codec src dst ++ more) answer
+pub going_decides : (s : ReplyState) (codec : Codec) (src dst more : List ℕ) (answer : Answer) → s.fault ≡ None → ReaderDecides (reader_state_of s codec src dst) more answer → BytesDecide (standing_of s) codec.limit (packet_number codec dst) (held codec src dst ++ more) answer
 going_decides s codec src dst more answer going =
-    subst (λ f. DecidesFrom (faulted (progressing_of s) f) (held_of s codec src dst) more answer → SplitDecides (faulted (progressing_of s) f) codec.limit (packet_number codec dst) (held codec src dst ++ more) answer) (sym going) (λ h. h)
+    subst (λ f. ReaderDecidesFrom (faulted (progressing_of s) f) (reader_state_of s codec src dst) more answer → BytesDecide (faulted (progressing_of s) f) codec.limit (packet_number codec dst) (held codec src dst ++ more) answer) (sym going) (λ h. h)
 
-pub decides_going : (s : ReplyState) (codec : Codec) (src dst more : List ℕ) (answer : Answer) → s.fault ≡ None → SplitDecides (standing_of s) codec.limit (packet_number codec dst) (held codec src dst ++ more) answer → DecidesOver (held_of s codec src dst) more answer
+pub decides_going : (s : ReplyState) (codec : Codec) (src dst more : List ℕ) (answer : Answer) → s.fault ≡ None → BytesDecide (standing_of s) codec.limit (packet_number codec dst) (held codec src dst ++ more) answer → ReaderDecides (reader_state_of s codec src dst) more answer
 decides_going s codec src dst more answer going =
-    subst (λ f. SplitDecides (faulted (progressing_of s) f) codec.limit (packet_number codec dst) (held codec src dst ++ more) answer → DecidesFrom (faulted (progressing_of s) f) (held_of s codec src dst) more answer) (sym going) (λ h. h)
+    subst (λ f. BytesDecide (faulted (progressing_of s) f) codec.limit (packet_number codec dst) (held codec src dst ++ more) answer → ReaderDecidesFrom (faulted (progressing_of s) f) (reader_state_of s codec src dst) more answer) (sym going) (λ h. h)
 
 -- What was decided from the state at the start, where that had met no fault.
 abbrev pub Since : ReplyState → Codec → List ℕ → List ℕ → List Payload → ReplyState → Codec → List ℕ → List ℕ → Type 0
 Since start first from_src from_dst payloads s codec src dst = Received (standing_of start) first.limit (packet_number first from_dst) (held first from_src from_dst) payloads s codec src dst
 
 -- The codec waits: all payloads were taken.
-pub takes_all : (start s : ReplyState) (first codec : Codec) (from_src from_dst src dst : List ℕ) (payloads : List Payload) (rest : Rest) → Since start first from_src from_dst payloads s codec src dst → start.fault ≡ None → s.fault ≡ None → s.count ≡ start.count + length payloads → ¬ IsFault rest → IsRest codec.limit (packet_number codec dst) (held codec src dst) rest → TakesAll (held_of start first from_src from_dst) (held first from_src from_dst) (held_of s codec src dst)
+pub takes_all : (start s : ReplyState) (first codec : Codec) (from_src from_dst src dst : List ℕ) (payloads : List Payload) (rest : Rest) → Since start first from_src from_dst payloads s codec src dst → start.fault ≡ None → s.fault ≡ None → s.count ≡ start.count + length payloads → ¬ IsFault rest → IsRest codec.limit (packet_number codec dst) (held codec src dst) rest → TakesAll (reader_state_of start first from_src from_dst) (held first from_src from_dst) (reader_state_of s codec src dst)
 takes_all start s first codec from_src from_dst src dst payloads rest r began going count no_fault is = record {
   split = record { payloads = payloads; rest_bytes = held codec src dst; rest = rest };
   splits = record {
@@ -112,7 +113,7 @@ takes_all start s first codec from_src from_dst src dst payloads rest r began go
   goes_on = r.goes_on;
 }
 
-pub goes_on_taken : FramingLaws → (start s : ReplyState) (first codec : Codec) (from_src from_dst src dst : List ℕ) (payloads : List Payload) → Since start first from_src from_dst payloads s codec src dst → start.fault ≡ None → s.fault ≡ None → GoesOnOver (held_of start first from_src from_dst) [] (held_of s codec src dst)
+pub goes_on_taken : FramingLaws → (start s : ReplyState) (first codec : Codec) (from_src from_dst src dst : List ℕ) (payloads : List Payload) → Since start first from_src from_dst payloads s codec src dst → start.fault ≡ None → s.fault ≡ None → ReaderGoesOn (reader_state_of start first from_src from_dst) [] (reader_state_of s codec src dst)
 goes_on_taken laws start s first codec from_src from_dst src dst payloads r began going more answer are h =
     let d = going_decides s codec src dst more answer going h in
     decides_going start first from_src from_dst more answer began
@@ -128,11 +129,11 @@ some_split laws codec src dst more are others =
     (one.0, one.1)
 
 -- A payload had no place: its fault is decided, whatever follows.
-pub goes_on_faulted : FramingLaws → (start s : ReplyState) (first codec : Codec) (from_src from_dst src dst : List ℕ) (payloads : List Payload) (fault : ReplyFault) → Since start first from_src from_dst payloads s codec src dst → start.fault ≡ None → s.fault ≡ Some fault → AreBytes (held codec src dst) → GoesOnOver (held_of start first from_src from_dst) [] (held_of s codec src dst)
+pub goes_on_faulted : FramingLaws → (start s : ReplyState) (first codec : Codec) (from_src from_dst src dst : List ℕ) (payloads : List Payload) (fault : ReplyFault) → Since start first from_src from_dst payloads s codec src dst → start.fault ≡ None → s.fault ≡ Some fault → AreBytes (held codec src dst) → ReaderGoesOn (reader_state_of start first from_src from_dst) [] (reader_state_of s codec src dst)
 goes_on_faulted laws start s first codec from_src from_dst src dst payloads fault r began wrong are more answer others h =
-    let known : answer ≡ faulted_at (progressing_of s) fault = subst (λ f. DecidesFrom (faulted (progressing_of s) f) (held_of s codec src dst) more answer) wrong h in
+    let known : answer ≡ faulted_at (progressing_of s) fault = subst (λ f. ReaderDecidesFrom (faulted (progressing_of s) f) (reader_state_of s codec src dst) more answer) wrong h in
     let split = some_split laws codec src dst more are others in
-    let decides : DecidesNumbered (standing_of s) split.0.payloads split.0.rest answer = subst (λ f. DecidesNumbered (faulted (progressing_of s) f) split.0.payloads split.0.rest answer) (sym wrong) known in
+    let decides : NumberedPayloadsDecide (standing_of s) split.0.payloads split.0.rest answer = subst (λ f. NumberedPayloadsDecide (faulted (progressing_of s) f) split.0.payloads split.0.rest answer) (sym wrong) known in
     decides_going start first from_src from_dst more answer began
     (decides_more laws (standing_of start) first.limit (packet_number first from_dst) (held first from_src from_dst) payloads s codec src dst r more split.0 split.1 answer decides)
 
@@ -178,38 +179,38 @@ after_end s z rest answer over some h = record {
 }
 
 -- Bytes after the end: that fault is decided, whatever follows.
-pub goes_on_over : FramingLaws → (start s after : ReplyState) (first codec : Codec) (from_src from_dst src dst : List ℕ) (payloads : List Payload) → Since start first from_src from_dst payloads s codec src dst → start.fault ≡ None → s.fault ≡ None → after ≡ record s { fault = Some faults.AfterEnd } → awaited_view s.awaited ≡ reply.Nothing → IsBetween codec → codec.number < 256 → dst ≡ [] → AreBytes (held codec src dst) → (src ≡ [] → ⊥) → GoesOnOver (held_of start first from_src from_dst) [] (held_of after codec src dst)
+pub goes_on_over : FramingLaws → (start s after : ReplyState) (first codec : Codec) (from_src from_dst src dst : List ℕ) (payloads : List Payload) → Since start first from_src from_dst payloads s codec src dst → start.fault ≡ None → s.fault ≡ None → after ≡ record s { fault = Some faults.AfterEnd } → awaited_view s.awaited ≡ reply.Nothing → IsBetween codec → codec.number < 256 → dst ≡ [] → AreBytes (held codec src dst) → (src ≡ [] → ⊥) → ReaderGoesOn (reader_state_of start first from_src from_dst) [] (reader_state_of after codec src dst)
 goes_on_over laws start s after first codec from_src from_dst src dst payloads r began going is over between byte empty are some more answer others h =
-    let known : answer ≡ faulted_at (progressing_of s) faults.AfterEnd = subst (λ (t : ReplyState). DecidesOver (held_of t codec src dst) more answer) is h in
+    let known : answer ≡ faulted_at (progressing_of s) faults.AfterEnd = subst (λ (t : ReplyState). ReaderDecides (reader_state_of t codec src dst) more answer) is h in
     let split = some_split laws codec src dst more are others in
     let held_some : split.0.payloads ≡ [] → split.0.rest ≡ Empty → ⊥ = λ none nothing.
     let all : held codec src dst ++ more ≡ [] = no_bytes codec.limit (packet_number codec dst) (held codec src dst ++ more) split.0 split.1 none nothing in
     some (nil_from_length src (omega (arith, ap length all, length-append (held codec src dst) more, ap length (held_nothing laws codec src dst between byte empty)))) in
     let continues = after_end s (numbered s.count split.0.payloads) (after_numbered s.count split.0.payloads split.0.rest) answer over (not_empty_from (numbers_left s.count) split.0.payloads split.0.rest held_some) known in
-    let decides : DecidesNumbered (standing_of s) split.0.payloads split.0.rest answer = subst (λ f. DecidesNumbered (faulted (progressing_of s) f) split.0.payloads split.0.rest answer) (sym going) continues in
+    let decides : NumberedPayloadsDecide (standing_of s) split.0.payloads split.0.rest answer = subst (λ f. NumberedPayloadsDecide (faulted (progressing_of s) f) split.0.payloads split.0.rest answer) (sym going) continues in
     decides_going start first from_src from_dst more answer began
     (decides_more laws (standing_of start) first.limit (packet_number first from_dst) (held first from_src from_dst) payloads s codec src dst r more split.0 split.1 answer decides)
 
 -- Where the bytes are at fault, that fault is decided, whatever follows.
-decides_refused : (s : ReplyState) (rest : Rest) (fault : ReplyFault) (answer : Answer) → s.fault ≡ None → IsSettled s.context (awaited_view s.awaited) → FaultAt s.count fault ≡ end_of s.count rest (ending_at (awaited_view s.awaited)) → answer ≡ faulted_at (progressing_of s) fault → DecidesNumbered (standing_of s) [] rest answer
+decides_refused : (s : ReplyState) (rest : Rest) (fault : ReplyFault) (answer : Answer) → s.fault ≡ None → IsSettled s.context (awaited_view s.awaited) → FaultAt s.count fault ≡ end_of s.count rest (ending_at (awaited_view s.awaited)) → answer ≡ faulted_at (progressing_of s) fault → NumberedPayloadsDecide (standing_of s) [] rest answer
 decides_refused s rest fault answer going settled end h =
-    subst (λ f. DecidesNumbered (faulted (progressing_of s) f) [] rest answer) (sym going)
+    subst (λ f. NumberedPayloadsDecide (faulted (progressing_of s) f) [] rest answer) (sym going)
     (decides_none (GoingOn (progressing_of s)) rest answer (stops s rest answer settled (ap (λ a. a.results) h) (ap (λ a. a.progress) h) (ap (λ a. a.end) h ∙ end)))
 
 end_wrong_number : (count : ℕ) (awaited : reply.Awaited) → IsAwaiting awaited → FaultAt count faults.OutOfSync ≡ end_of count OutOfSync (ending_at awaited)
 end_wrong_number count reply.Nothing some = absurd some
 end_wrong_number count awaited some = refl
 
-pub goes_on_large : FramingLaws → (start s after : ReplyState) (first codec new : Codec) (from_src from_dst src dst src' dst' : List ℕ) (payloads : List Payload) → Since start first from_src from_dst payloads s codec src dst → start.fault ≡ None → s.fault ≡ None → after ≡ record s { fault = Some faults.TooLarge } → IsSettled s.context (awaited_view s.awaited) → IsAwaiting (awaited_view s.awaited) → IsDue codec src dst refusals.TooLarge → GoesOnOver (held_of start first from_src from_dst) [] (held_of after new src' dst')
+pub goes_on_large : FramingLaws → (start s after : ReplyState) (first codec new : Codec) (from_src from_dst src dst src' dst' : List ℕ) (payloads : List Payload) → Since start first from_src from_dst payloads s codec src dst → start.fault ≡ None → s.fault ≡ None → after ≡ record s { fault = Some faults.TooLarge } → IsSettled s.context (awaited_view s.awaited) → IsAwaiting (awaited_view s.awaited) → IsDue codec src dst refusals.TooLarge → ReaderGoesOn (reader_state_of start first from_src from_dst) [] (reader_state_of after new src' dst')
 goes_on_large laws start s after first codec new from_src from_dst src dst src' dst' payloads r began going is settled some due more answer others h =
-    let known : answer ≡ faulted_at (progressing_of s) faults.TooLarge = subst (λ (t : ReplyState). DecidesOver (held_of t new src' dst') more answer) is h in
+    let known : answer ≡ faulted_at (progressing_of s) faults.TooLarge = subst (λ (t : ReplyState). ReaderDecides (reader_state_of t new src' dst') more answer) is h in
     decides_going start first from_src from_dst more answer began
     (decides_more laws (standing_of start) first.limit (packet_number first from_dst) (held first from_src from_dst) payloads s codec src dst r more (record { payloads = []; rest_bytes = held codec src dst ++ more; rest = TooLarge }) ((laws.refused codec src dst more).0 due) answer
     (decides_refused s TooLarge faults.TooLarge answer going settled (end_large s.count (awaited_view s.awaited) some) known))
 
-pub goes_on_wrong_number : FramingLaws → (start s after : ReplyState) (first codec new : Codec) (from_src from_dst src dst src' dst' : List ℕ) (payloads : List Payload) → Since start first from_src from_dst payloads s codec src dst → start.fault ≡ None → s.fault ≡ None → after ≡ record s { fault = Some faults.OutOfSync } → IsSettled s.context (awaited_view s.awaited) → IsAwaiting (awaited_view s.awaited) → IsDue codec src dst refusals.OutOfSync → GoesOnOver (held_of start first from_src from_dst) [] (held_of after new src' dst')
+pub goes_on_wrong_number : FramingLaws → (start s after : ReplyState) (first codec new : Codec) (from_src from_dst src dst src' dst' : List ℕ) (payloads : List Payload) → Since start first from_src from_dst payloads s codec src dst → start.fault ≡ None → s.fault ≡ None → after ≡ record s { fault = Some faults.OutOfSync } → IsSettled s.context (awaited_view s.awaited) → IsAwaiting (awaited_view s.awaited) → IsDue codec src dst refusals.OutOfSync → ReaderGoesOn (reader_state_of start first from_src from_dst) [] (reader_state_of after new src' dst')
 goes_on_wrong_number laws start s after first codec new from_src from_dst src dst src' dst' payloads r began going is settled some due more answer others h =
-    let known : answer ≡ faulted_at (progressing_of s) faults.OutOfSync = subst (λ (t : ReplyState). DecidesOver (held_of t new src' dst') more answer) is h in
+    let known : answer ≡ faulted_at (progressing_of s) faults.OutOfSync = subst (λ (t : ReplyState). ReaderDecides (reader_state_of t new src' dst') more answer) is h in
     decides_going start first from_src from_dst more answer began
     (decides_more laws (standing_of start) first.limit (packet_number first from_dst) (held first from_src from_dst) payloads s codec src dst r more (record { payloads = []; rest_bytes = held codec src dst ++ more; rest = OutOfSync }) ((laws.refused codec src dst more).1 due) answer
     (decides_refused s OutOfSync faults.OutOfSync answer going settled (end_wrong_number s.count (awaited_view s.awaited) some) known))
@@ -220,16 +221,16 @@ unfinished_at count reply.Nothing awaiting = absurd awaiting
 unfinished_at count awaited awaiting = refl
 
 -- Memory ran out after some payloads.
-pub runs_short : (start s : ReplyState) (first codec : Codec) (from_src from_dst src dst : List ℕ) (payloads : List Payload) → Since start first from_src from_dst payloads s codec src dst → start.fault ≡ None → s.fault ≡ None → s.count ≡ start.count + length payloads → IsSettled s.context (awaited_view s.awaited) → IsAwaiting (awaited_view s.awaited) → RunsShort (held_of start first from_src from_dst) (held first from_src from_dst) (faulted_at (progressing_of s) faults.Memory)
+pub runs_short : (start s : ReplyState) (first codec : Codec) (from_src from_dst src dst : List ℕ) (payloads : List Payload) → Since start first from_src from_dst payloads s codec src dst → start.fault ≡ None → s.fault ≡ None → s.count ≡ start.count + length payloads → IsSettled s.context (awaited_view s.awaited) → IsAwaiting (awaited_view s.awaited) → RunsShort (reader_state_of start first from_src from_dst) (held first from_src from_dst) (faulted_at (progressing_of s) faults.Memory)
 runs_short start s first codec from_src from_dst src dst payloads r began going count settled awaiting =
     let whole : Answer = record (faulted_at (progressing_of s) faults.Memory) { end = end_of s.count stream.Open (ending_at (awaited_view s.awaited)) } in
-    let decided : DecidesNumbered (standing_of s) [] stream.Open whole = subst (λ f. DecidesNumbered (faulted (progressing_of s) f) [] stream.Open whole) (sym going)
+    let decided : NumberedPayloadsDecide (standing_of s) [] stream.Open whole = subst (λ f. NumberedPayloadsDecide (faulted (progressing_of s) f) [] stream.Open whole) (sym going)
     (decides_none (GoingOn (progressing_of s)) stream.Open whole (stops s stream.Open whole settled refl refl refl)) in
     record {
       read = payloads;
       first = record { more = held codec src dst; joined = r.read.joined; within = r.read.within };
       whole = whole;
-      decided = subst (λ ps. DecidesNumbered (standing_of start) ps stream.Open whole) (append-nil payloads) (r.goes_on [] stream.Open whole decided);
+      decided = subst (λ ps. NumberedPayloadsDecide (standing_of start) ps stream.Open whole) (append-nil payloads) (r.goes_on [] stream.Open whole decided);
       unfinished = unfinished_at s.count (awaited_view s.awaited) awaiting;
       results = refl;
       progress = refl;
@@ -249,19 +250,19 @@ end_quiet count awaited OutOfSync no_fault over = absurd (no_fault tt)
 end_quiet count awaited stream.Open no_fault over = refl
 
 -- The answer where no more bytes come.
-pub finish_going : (s : ReplyState) (codec : Codec) (src dst : List ℕ) (answer : Answer) → IsReading s → s.fault ≡ None → IsPaused s codec src dst → answer ≡ answer_of s → DecidesOver (held_of s codec src dst) [] answer
+pub finish_going : (s : ReplyState) (codec : Codec) (src dst : List ℕ) (answer : Answer) → IsReading s → s.fault ≡ None → IsPaused s codec src dst → answer ≡ answer_of s → ReaderDecides (reader_state_of s codec src dst) [] answer
 finish_going s codec src dst answer reading going p h =
     let end : answer.end ≡ end_of s.count p.rest (ending_at (awaited_view s.awaited)) = ap (λ a. a.end) h ∙ ap (λ f. end_of_state (progressing_of s) f) going ∙ end_quiet s.count (awaited_view s.awaited) p.rest p.no_fault p.over in
-    let split : SplitDecides (standing_of s) codec.limit (packet_number codec dst) (held codec src dst ++ []) answer = record {
+    let split : BytesDecide (standing_of s) codec.limit (packet_number codec dst) (held codec src dst ++ []) answer = record {
       split = record { payloads = []; rest_bytes = held codec src dst; rest = p.rest };
       splits = record { joined = append-nil (held codec src dst); within = tt; ends = p.is_rest };
-      decides = subst (λ f. DecidesNumbered (faulted (progressing_of s) f) [] p.rest answer) (sym going) (decides_none (GoingOn (progressing_of s)) p.rest answer (stops s p.rest answer reading.settled (ap (λ a. a.results) h) (ap (λ a. a.progress) h) end));
+      decides = subst (λ f. NumberedPayloadsDecide (faulted (progressing_of s) f) [] p.rest answer) (sym going) (decides_none (GoingOn (progressing_of s)) p.rest answer (stops s p.rest answer reading.settled (ap (λ a. a.results) h) (ap (λ a. a.progress) h) end));
     } in
     decides_going s codec src dst [] answer going split
 
-pub finish_faulted : (s : ReplyState) (codec : Codec) (src dst : List ℕ) (fault : ReplyFault) (answer : Answer) → s.fault ≡ Some fault → answer ≡ answer_of s → DecidesOver (held_of s codec src dst) [] answer
+pub finish_faulted : (s : ReplyState) (codec : Codec) (src dst : List ℕ) (fault : ReplyFault) (answer : Answer) → s.fault ≡ Some fault → answer ≡ answer_of s → ReaderDecides (reader_state_of s codec src dst) [] answer
 finish_faulted s codec src dst fault answer wrong h =
-    subst (λ f. DecidesFrom (faulted (progressing_of s) f) (held_of s codec src dst) [] answer) (sym wrong) (h ∙ ap (λ f. record (faulted_at (progressing_of s) fault) { end = end_of_state (progressing_of s) f }) wrong)
+    subst (λ f. ReaderDecidesFrom (faulted (progressing_of s) f) (reader_state_of s codec src dst) [] answer) (sym wrong) (h ∙ ap (λ f. record (faulted_at (progressing_of s) fault) { end = end_of_state (progressing_of s) f }) wrong)
 
 -- Payloads are being taken, and no fault was met.
 pub record Taking (start : ReplyState) (first : Codec) (from_src from_dst : List ℕ) (s : ReplyState) (codec : Codec) (src dst : List ℕ) : Type 0 where
@@ -297,7 +298,7 @@ handed_bytes laws codec new src dst src' dst' payload h empty are =
     subst AreBytes (sym (held_nothing laws new src' dst' h.between (handed_number codec new src dst src' payload h) empty))
     (bytes_after (framing payload (packet_number codec dst)) src' (subst AreBytes h.framed are))
 
-pub taking_next : FramingLaws → (start s next : ReplyState) (first codec new : Codec) (from_src from_dst src dst src' dst' payload : List ℕ) → Taking start first from_src from_dst s codec src dst → HandsOut codec src dst new src' payload → dst' ≡ [] → IsReading next → next.fault ≡ None → next.count ≡ s.count + 1 → GoesOverNumbered s payload next → Taking start first from_src from_dst next new src' dst'
+pub taking_next : FramingLaws → (start s next : ReplyState) (first codec new : Codec) (from_src from_dst src dst src' dst' payload : List ℕ) → Taking start first from_src from_dst s codec src dst → HandsOut codec src dst new src' payload → dst' ≡ [] → IsReading next → next.fault ≡ None → next.count ≡ s.count + 1 → NumberedStateGoesOn s payload next → Taking start first from_src from_dst next new src' dst'
 taking_next laws start s next first codec new from_src from_dst src dst src' dst' payload t h empty reading going count goes = record {
   payloads = t.payloads ++ payload ∷ [];
   received = received_next laws _ _ _ _ t.payloads s next codec new src dst src' dst' payload t.received h empty goes;
@@ -359,38 +360,47 @@ paused_waits start s first codec new from_src from_dst src dst src' dst' t w som
 }
 
 -- What the codec refuses is decided, unless memory ran out.
-pub refused_goes_on : FramingLaws → (start s after : ReplyState) (first codec new : Codec) (from_src from_dst src dst src' dst' : List ℕ) (refusal : Refusal) (fault : ReplyFault) → Taking start first from_src from_dst s codec src dst → start.fault ≡ None → IsAwaiting (awaited_view s.awaited) → fault ≡ fault_named (error_of refusal) → after ≡ record s { fault = Some fault } → IsDue codec src dst refusal → UnlessMemory {X = Unit {0}} (Err fault) (GoesOnOver (held_of start first from_src from_dst) [] (held_of after new src' dst'))
+pub refused_goes_on : FramingLaws → (start s after : ReplyState) (first codec new : Codec) (from_src from_dst src dst src' dst' : List ℕ) (refusal : Refusal) (fault : ReplyFault) → Taking start first from_src from_dst s codec src dst → start.fault ≡ None → IsAwaiting (awaited_view s.awaited) → fault ≡ fault_named (error_of refusal) → after ≡ record s { fault = Some fault } → IsDue codec src dst refusal → UnlessMemory {X = Unit {0}} (Err fault) (ReaderGoesOn (reader_state_of start first from_src from_dst) [] (reader_state_of after new src' dst'))
 refused_goes_on laws start s after first codec new from_src from_dst src dst src' dst' refusals.TooLarge fault t began some e is due =
-    subst (λ f. UnlessMemory {X = Unit {0}} (Err f) (GoesOnOver (held_of start first from_src from_dst) [] (held_of after new src' dst'))) (sym e)
+    subst (λ f. UnlessMemory {X = Unit {0}} (Err f) (ReaderGoesOn (reader_state_of start first from_src from_dst) [] (reader_state_of after new src' dst'))) (sym e)
     (goes_on_large laws start s after first codec new from_src from_dst src dst src' dst' t.payloads t.received began t.going (is ∙ ap (λ f. record s { fault = Some f }) e) t.reading.settled some due)
 refused_goes_on laws start s after first codec new from_src from_dst src dst src' dst' refusals.OutOfSync fault t began some e is due =
-    subst (λ f. UnlessMemory {X = Unit {0}} (Err f) (GoesOnOver (held_of start first from_src from_dst) [] (held_of after new src' dst'))) (sym e)
+    subst (λ f. UnlessMemory {X = Unit {0}} (Err f) (ReaderGoesOn (reader_state_of start first from_src from_dst) [] (reader_state_of after new src' dst'))) (sym e)
     (goes_on_wrong_number laws start s after first codec new from_src from_dst src dst src' dst' t.payloads t.received began t.going (is ∙ ap (λ f. record s { fault = Some f }) e) t.reading.settled some due)
 refused_goes_on laws start s after first codec new from_src from_dst src dst src' dst' refusals.Memory fault t began some e is due =
-    subst (λ f. UnlessMemory {X = Unit {0}} (Err f) (GoesOnOver (held_of start first from_src from_dst) [] (held_of after new src' dst'))) (sym e) tt
+    subst (λ f. UnlessMemory {X = Unit {0}} (Err f) (ReaderGoesOn (reader_state_of start first from_src from_dst) [] (reader_state_of after new src' dst'))) (sym e) tt
 
-taking_short : (start s : ReplyState) (first codec : Codec) (from_src from_dst src dst : List ℕ) → Taking start first from_src from_dst s codec src dst → start.fault ≡ None → IsAwaiting (awaited_view s.awaited) → RunsShort (held_of start first from_src from_dst) (held first from_src from_dst) (faulted_at (progressing_of s) faults.Memory)
+taking_short : (start s : ReplyState) (first codec : Codec) (from_src from_dst src dst : List ℕ) → Taking start first from_src from_dst s codec src dst → start.fault ≡ None → IsAwaiting (awaited_view s.awaited) → RunsShort (reader_state_of start first from_src from_dst) (held first from_src from_dst) (faulted_at (progressing_of s) faults.Memory)
 taking_short start s first codec from_src from_dst src dst t began awaiting = runs_short start s first codec from_src from_dst src dst t.payloads t.received began t.going t.count t.reading.settled awaiting
 
-pub failed_short : (start s after : ReplyState) (first codec new : Codec) (from_src from_dst src dst src' dst' : List ℕ) (fault : ReplyFault) → Taking start first from_src from_dst s codec src dst → start.fault ≡ None → IsAwaiting (awaited_view s.awaited) → after ≡ record s { fault = Some fault } → OnMemory {X = Unit {0}} (Err fault) (StandsShort (held_of start first from_src from_dst) (held first from_src from_dst) (held_of after new src' dst'))
+pub failed_short : (start s after : ReplyState) (first codec new : Codec) (from_src from_dst src dst src' dst' : List ℕ) (fault : ReplyFault) → Taking start first from_src from_dst s codec src dst → start.fault ≡ None → IsAwaiting (awaited_view s.awaited) → after ≡ record s { fault = Some fault } → OnMemory {X = Unit {0}} (Err fault) (StandsShort (reader_state_of start first from_src from_dst) (held first from_src from_dst) (reader_state_of after new src' dst'))
 failed_short start s after first codec new from_src from_dst src dst src' dst' faults.Memory t began awaiting is =
     (faulted_at (progressing_of s) faults.Memory, ap standing_of is, taking_short start s first codec from_src from_dst src dst t began awaiting)
 failed_short start s after first codec new from_src from_dst src dst src' dst' fault t began awaiting is = tt
 
-pub taken_short : (start s after : ReplyState) (first codec new : Codec) (from_src from_dst src dst src' dst' : List ℕ) (r : Result Unit ReplyFault) → Taking start first from_src from_dst s codec src dst → start.fault ≡ None → IsAwaiting (awaited_view s.awaited) → OnMemory r (IsShortOf s after) → OnMemory r (StandsShort (held_of start first from_src from_dst) (held first from_src from_dst) (held_of after new src' dst'))
+pub taken_short : (start s after : ReplyState) (first codec new : Codec) (from_src from_dst src dst src' dst' : List ℕ) (r : Result Unit ReplyFault) → Taking start first from_src from_dst s codec src dst → start.fault ≡ None → IsAwaiting (awaited_view s.awaited) → OnMemory r (IsShortOf s after) → OnMemory r (StandsShort (reader_state_of start first from_src from_dst) (held first from_src from_dst) (reader_state_of after new src' dst'))
 taken_short start s after first codec new from_src from_dst src dst src' dst' (Ok x) t began awaiting short = tt
 taken_short start s after first codec new from_src from_dst src dst src' dst' (Err faults.Memory) t began awaiting short =
     (faulted_at (progressing_of s) faults.Memory, short, taking_short start s first codec from_src from_dst src dst t began awaiting)
 taken_short start s after first codec new from_src from_dst src dst src' dst' (Err fault) t began awaiting short = tt
 
 -- A payload was refused.
-pub taken_goes_on : FramingLaws → (start s next : ReplyState) (first codec new : Codec) (from_src from_dst src dst src' dst' payload : List ℕ) (r : Result Unit ReplyFault) → is_err r ≡ true → Taking start first from_src from_dst s codec src dst → start.fault ≡ None → HandsOut codec src dst new src' payload → dst' ≡ [] → IfErr r (λ fault. next.fault ≡ Some fault) → UnlessMemory r (GoesOverNumbered s payload next) → UnlessMemory r (GoesOnOver (held_of start first from_src from_dst) [] (held_of next new src' dst'))
+pub taken_goes_on : FramingLaws → (start s next : ReplyState) (first codec new : Codec) (from_src from_dst src dst src' dst' payload : List ℕ) (r : Result Unit ReplyFault) → is_err r ≡ true → Taking start first from_src from_dst s codec src dst → start.fault ≡ None → HandsOut codec src dst new src' payload → dst' ≡ [] → IfErr r (λ fault. next.fault ≡ Some fault) → UnlessMemory r (NumberedStateGoesOn s payload next) → UnlessMemory r (ReaderGoesOn (reader_state_of start first from_src from_dst) [] (reader_state_of next new src' dst'))
 taken_goes_on laws start s next first codec new from_src from_dst src dst src' dst' payload (Ok x) failed t began h empty wrong goes = absurd (let k : false ≡ true = failed in cc)
 taken_goes_on laws start s next first codec new from_src from_dst src dst src' dst' payload (Err faults.Memory) failed t began h empty wrong goes = tt
 taken_goes_on laws start s next first codec new from_src from_dst src dst src' dst' payload (Err fault) failed t began h empty wrong goes =
     goes_on_faulted laws start next first new from_src from_dst src' dst' (t.payloads ++ payload ∷ []) fault
     (received_next laws _ _ _ _ t.payloads s next codec new src dst src' dst' payload t.received h empty goes)
     began wrong (handed_bytes laws codec new src dst src' dst' payload h empty t.bytes)
+
+-- What holds unless memory ran out holds where it didn't, and what holds where it ran out, where it did.
+pub unless_is : {X P : Type 0} (r : Result X ReplyFault) → (r ≡ Err faults.Memory → ⊥) → UnlessMemory r P → P
+unless_is (Ok x) never p = p
+unless_is (Err faults.Memory) never p = absurd (never refl)
+unless_is (Err fault) never p = p
+
+pub on_is : {X P : Type 0} (r : Result X ReplyFault) → r ≡ Err faults.Memory → OnMemory r P → P
+on_is {P = P} r memory p = subst (λ k. OnMemory k P) memory p
 
 pub taken_ok : {P : Type 0} (r : Result Unit ReplyFault) → is_err r ≡ false → OnOk r P → P
 taken_ok (Ok x) h p = p
@@ -417,36 +427,36 @@ pub not_both : {P : Type 0} (o : Option ReplyFault) (fault : ReplyFault) → o �
 not_both o fault some none = absurd (let k : Some fault ≡ None = sym some ∙ none in cc)
 
 -- A piece that comes is decided with the bytes after it.
-pub piece_decides : FramingLaws → (s : ReplyState) (codec : Codec) (src src' dst piece more : List ℕ) (answer : Answer) → s.fault ≡ None → src' ≡ src ++ piece → DecidesOver (held_of s codec src' dst) more answer → DecidesOver (held_of s codec src dst) (piece ++ more) answer
+pub piece_decides : FramingLaws → (s : ReplyState) (codec : Codec) (src src' dst piece more : List ℕ) (answer : Answer) → s.fault ≡ None → src' ≡ src ++ piece → ReaderDecides (reader_state_of s codec src' dst) more answer → ReaderDecides (reader_state_of s codec src dst) (piece ++ more) answer
 piece_decides laws s codec src src' dst piece more answer going fed h =
     let d = going_decides s codec src' dst more answer going h in
     let bytes : held codec src' dst ++ more ≡ held codec src dst ++ (piece ++ more) =
     ap (λ k. held codec k dst ++ more) fed ∙ ap (λ k. k ++ more) (laws.piece codec src dst piece) ∙ append_assoc (held codec src dst) piece more in
     decides_going s codec src dst (piece ++ more) answer going
-    (subst (λ k. SplitDecides (standing_of s) codec.limit (packet_number codec dst) k answer) bytes d)
+    (subst (λ k. BytesDecide (standing_of s) codec.limit (packet_number codec dst) k answer) bytes d)
 
-pub piece_all : FramingLaws → (s : ReplyState) (codec : Codec) (src src' dst piece : List ℕ) (new : Held) → s.fault ≡ None → src' ≡ src ++ piece → GoesOnOver (held_of s codec src' dst) [] new → GoesOnOver (held_of s codec src dst) piece new
+pub piece_all : FramingLaws → (s : ReplyState) (codec : Codec) (src src' dst piece : List ℕ) (new : ReaderState) → s.fault ≡ None → src' ≡ src ++ piece → ReaderGoesOn (reader_state_of s codec src' dst) [] new → ReaderGoesOn (reader_state_of s codec src dst) piece new
 piece_all laws s codec src src' dst piece new going fed goes more answer are h = piece_decides laws s codec src src' dst piece more answer going fed (goes more answer are h)
 
-pub piece_goes_on : FramingLaws → (s : ReplyState) (codec : Codec) (src src' dst piece : List ℕ) (new : Held) (r : Result Unit ReplyFault) → s.fault ≡ None → src' ≡ src ++ piece → UnlessMemory r (GoesOnOver (held_of s codec src' dst) [] new) → UnlessMemory r (GoesOnOver (held_of s codec src dst) piece new)
+pub piece_goes_on : FramingLaws → (s : ReplyState) (codec : Codec) (src src' dst piece : List ℕ) (new : ReaderState) (r : Result Unit ReplyFault) → s.fault ≡ None → src' ≡ src ++ piece → UnlessMemory r (ReaderGoesOn (reader_state_of s codec src' dst) [] new) → UnlessMemory r (ReaderGoesOn (reader_state_of s codec src dst) piece new)
 piece_goes_on laws s codec src src' dst piece new (Ok x) going fed goes = piece_all laws s codec src src' dst piece new going fed goes
 piece_goes_on laws s codec src src' dst piece new (Err faults.Memory) going fed goes = tt
 piece_goes_on laws s codec src src' dst piece new (Err fault) going fed goes = piece_all laws s codec src src' dst piece new going fed goes
 
-stays_all : (s : ReplyState) (codec : Codec) (src dst piece : List ℕ) (fault : ReplyFault) → s.fault ≡ Some fault → GoesOnOver (held_of s codec src dst) piece (held_of s codec src dst)
+stays_all : (s : ReplyState) (codec : Codec) (src dst piece : List ℕ) (fault : ReplyFault) → s.fault ≡ Some fault → ReaderGoesOn (reader_state_of s codec src dst) piece (reader_state_of s codec src dst)
 stays_all s codec src dst piece fault wrong more answer are =
-    subst (λ f. DecidesFrom (faulted (progressing_of s) f) (held_of s codec src dst) more answer → DecidesFrom (faulted (progressing_of s) f) (held_of s codec src dst) (piece ++ more) answer) (sym wrong) (λ h. h)
+    subst (λ f. ReaderDecidesFrom (faulted (progressing_of s) f) (reader_state_of s codec src dst) more answer → ReaderDecidesFrom (faulted (progressing_of s) f) (reader_state_of s codec src dst) (piece ++ more) answer) (sym wrong) (λ h. h)
 
 -- A fault that was met stays decided.
-pub stays_going_on : (s : ReplyState) (codec : Codec) (src dst piece : List ℕ) (fault : ReplyFault) → s.fault ≡ Some fault → UnlessMemory {X = Unit {0}} (Err fault) (GoesOnOver (held_of s codec src dst) piece (held_of s codec src dst))
+pub stays_going_on : (s : ReplyState) (codec : Codec) (src dst piece : List ℕ) (fault : ReplyFault) → s.fault ≡ Some fault → UnlessMemory {X = Unit {0}} (Err fault) (ReaderGoesOn (reader_state_of s codec src dst) piece (reader_state_of s codec src dst))
 stays_going_on s codec src dst piece faults.Memory wrong = tt
 stays_going_on s codec src dst piece fault wrong = stays_all s codec src dst piece fault wrong
 
 -- The answer where no more bytes come.
-pub finish_decides : (s : ReplyState) (codec : Codec) (src dst : List ℕ) (answer : Answer) → IsReceiving s codec src dst → answer ≡ answer_of s → DecidesOver (held_of s codec src dst) [] answer
+pub finish_decides : (s : ReplyState) (codec : Codec) (src dst : List ℕ) (answer : Answer) → IsReceiving s codec src dst → answer ≡ answer_of s → ReaderDecides (reader_state_of s codec src dst) [] answer
 finish_decides s codec src dst answer receiving h = finish_by s.fault refl
   where
-    finish_by : (f : Option ReplyFault) → s.fault ≡ f → DecidesOver (held_of s codec src dst) [] answer
+    finish_by : (f : Option ReplyFault) → s.fault ≡ f → ReaderDecides (reader_state_of s codec src dst) [] answer
     finish_by None going = finish_going s codec src dst answer receiving.reading going (receiving.paused going) h
     finish_by (Some fault) wrong = finish_faulted s codec src dst fault answer wrong h
 
@@ -466,7 +476,7 @@ fresh_paused laws s codec src dst between byte none empty =
     }
 
 -- What was held and a piece are the bytes that are held then.
-pub takes_piece : FramingLaws → (s : ReplyState) (codec : Codec) (src src' dst piece : List ℕ) (new : Held) (r : Result Unit ReplyFault) → src' ≡ src ++ piece → OnOk r (TakesAll (held_of s codec src' dst) (held codec src' dst) new) → OnOk r (TakesAll (held_of s codec src dst) (held codec src dst ++ piece) new)
+pub takes_piece : FramingLaws → (s : ReplyState) (codec : Codec) (src src' dst piece : List ℕ) (new : ReaderState) (r : Result Unit ReplyFault) → src' ≡ src ++ piece → OnOk r (TakesAll (reader_state_of s codec src' dst) (held codec src' dst) new) → OnOk r (TakesAll (reader_state_of s codec src dst) (held codec src dst ++ piece) new)
 takes_piece laws s codec src src' dst piece new (Ok x) fed t = record {
   split = t.split;
   splits = subst (λ bytes. IsSplit codec.limit (OnFrom (packet_number codec dst)) bytes t.split) (ap (λ k. held codec k dst) fed ∙ laws.piece codec src dst piece) t.splits;
@@ -480,23 +490,23 @@ takes_piece laws s codec src src' dst piece new (Ok x) fed t = record {
 takes_piece laws s codec src src' dst piece new (Err fault) fed t = t
 
 -- After a fault the bytes that are held don't matter.
-decides_anywhere : (s : ReplyState) (fault : ReplyFault) (here there : Held) (more : List ℕ) (answer : Answer) → s.fault ≡ Some fault → here.standing ≡ standing_of s → there.standing ≡ standing_of s → DecidesOver here more answer → DecidesOver there more answer
+decides_anywhere : (s : ReplyState) (fault : ReplyFault) (here there : ReaderState) (more : List ℕ) (answer : Answer) → s.fault ≡ Some fault → here.standing ≡ standing_of s → there.standing ≡ standing_of s → ReaderDecides here more answer → ReaderDecides there more answer
 decides_anywhere s fault here there more answer wrong one two h =
     let known : Standing = Answered (faulted_at (progressing_of s) fault) in
     let is : standing_of s ≡ known = ap (λ f. faulted (progressing_of s) f) wrong in
-    let answered : DecidesFrom known here more answer = subst (λ k. DecidesFrom k here more answer) (one ∙ is) h in
-    subst (λ k. DecidesFrom k there more answer) (sym (two ∙ is)) answered
+    let answered : ReaderDecidesFrom known here more answer = subst (λ k. ReaderDecidesFrom k here more answer) (one ∙ is) h in
+    subst (λ k. ReaderDecidesFrom k there more answer) (sym (two ∙ is)) answered
 
-faulted_piece : FramingLaws → (s after : ReplyState) (codec : Codec) (src src' dst piece : List ℕ) (fault : ReplyFault) (here there : Held) → s.fault ≡ None → src' ≡ src ++ piece → after.fault ≡ Some fault → here.standing ≡ standing_of after → there.standing ≡ standing_of after → GoesOnOver (held_of s codec src' dst) [] here → GoesOnOver (held_of s codec src dst) piece there
+faulted_piece : FramingLaws → (s after : ReplyState) (codec : Codec) (src src' dst piece : List ℕ) (fault : ReplyFault) (here there : ReaderState) → s.fault ≡ None → src' ≡ src ++ piece → after.fault ≡ Some fault → here.standing ≡ standing_of after → there.standing ≡ standing_of after → ReaderGoesOn (reader_state_of s codec src' dst) [] here → ReaderGoesOn (reader_state_of s codec src dst) piece there
 faulted_piece laws s after codec src src' dst piece fault here there going fed wrong one two goes more answer are h =
     piece_decides laws s codec src src' dst piece more answer going fed (goes more answer are (decides_anywhere after fault there here more answer wrong two one h))
 
-pub faulted_goes_on : FramingLaws → (s after : ReplyState) (codec : Codec) (src src' dst piece : List ℕ) (fault : ReplyFault) (here there : Held) → s.fault ≡ None → src' ≡ src ++ piece → after.fault ≡ Some fault → here.standing ≡ standing_of after → there.standing ≡ standing_of after → UnlessMemory {X = Unit {0}} (Err fault) (GoesOnOver (held_of s codec src' dst) [] here) → UnlessMemory {X = Unit {0}} (Err fault) (GoesOnOver (held_of s codec src dst) piece there)
+pub faulted_goes_on : FramingLaws → (s after : ReplyState) (codec : Codec) (src src' dst piece : List ℕ) (fault : ReplyFault) (here there : ReaderState) → s.fault ≡ None → src' ≡ src ++ piece → after.fault ≡ Some fault → here.standing ≡ standing_of after → there.standing ≡ standing_of after → UnlessMemory {X = Unit {0}} (Err fault) (ReaderGoesOn (reader_state_of s codec src' dst) [] here) → UnlessMemory {X = Unit {0}} (Err fault) (ReaderGoesOn (reader_state_of s codec src dst) piece there)
 faulted_goes_on laws s after codec src src' dst piece faults.Memory here there going fed wrong one two goes = tt
 faulted_goes_on laws s after codec src src' dst piece fault here there going fed wrong one two goes = faulted_piece laws s after codec src src' dst piece fault here there going fed wrong one two goes
 
 -- What ran short over the bytes that are held ran short over the piece.
-pub piece_short : FramingLaws → (s : ReplyState) (codec : Codec) (src src' dst piece : List ℕ) (fault : ReplyFault) (here there : Held) → src' ≡ src ++ piece → here.standing ≡ there.standing → OnMemory {X = Unit {0}} (Err fault) (StandsShort (held_of s codec src' dst) (held codec src' dst) here) → OnMemory {X = Unit {0}} (Err fault) (StandsShort (held_of s codec src dst) (held codec src dst ++ piece) there)
+pub piece_short : FramingLaws → (s : ReplyState) (codec : Codec) (src src' dst piece : List ℕ) (fault : ReplyFault) (here there : ReaderState) → src' ≡ src ++ piece → here.standing ≡ there.standing → OnMemory {X = Unit {0}} (Err fault) (StandsShort (reader_state_of s codec src' dst) (held codec src' dst) here) → OnMemory {X = Unit {0}} (Err fault) (StandsShort (reader_state_of s codec src dst) (held codec src dst ++ piece) there)
 piece_short laws s codec src src' dst piece faults.Memory here there fed same (answer, stands, short) = (
   answer,
   sym same ∙ stands,
@@ -527,13 +537,13 @@ paused_empty laws s codec src dst p over =
     ∙ no_bytes codec.limit (packet_number codec dst) (held codec src dst) split (record { joined = refl; within = tt; ends = p.is_rest }) refl (p.over over)
 
 -- Where a fault was met, bytes that are held in place of others change nothing.
-pub elsewhere : (start : Held) (next : ReplyState) (here there : Held) (r : Result Unit ReplyFault) → is_err r ≡ true → IfErr r (λ fault. next.fault ≡ Some fault) → here.standing ≡ standing_of next → there.standing ≡ standing_of next → UnlessMemory r (GoesOnOver start [] here) → UnlessMemory r (GoesOnOver start [] there)
+pub elsewhere : (start : ReaderState) (next : ReplyState) (here there : ReaderState) (r : Result Unit ReplyFault) → is_err r ≡ true → IfErr r (λ fault. next.fault ≡ Some fault) → here.standing ≡ standing_of next → there.standing ≡ standing_of next → UnlessMemory r (ReaderGoesOn start [] here) → UnlessMemory r (ReaderGoesOn start [] there)
 elsewhere start next here there (Ok x) failed wrong one two goes = absurd (let k : false ≡ true = failed in cc)
 elsewhere start next here there (Err faults.Memory) failed wrong one two goes = tt
 elsewhere start next here there (Err fault) failed wrong one two goes = λ more answer are h. goes more answer are (decides_anywhere next fault there here more answer wrong two one h)
 
 -- What ran short over the bytes that are held ran short over the piece, if anything did.
-pub piece_runs_short : FramingLaws → (s : ReplyState) (codec : Codec) (src dst piece : List ℕ) (r : Result Unit ReplyFault) (there : Held) → OnMemory r (StandsShort (held_of s codec (src ++ piece) dst) (held codec (src ++ piece) dst) there) → OnMemory r (StandsShort (held_of s codec src dst) (held codec src dst ++ piece) there)
+pub piece_runs_short : FramingLaws → (s : ReplyState) (codec : Codec) (src dst piece : List ℕ) (r : Result Unit ReplyFault) (there : ReaderState) → OnMemory r (StandsShort (reader_state_of s codec (src ++ piece) dst) (held codec (src ++ piece) dst) there) → OnMemory r (StandsShort (reader_state_of s codec src dst) (held codec src dst ++ piece) there)
 piece_runs_short laws s codec src dst piece (Ok x) there short = tt
 piece_runs_short laws s codec src dst piece (Err faults.Memory) there short = piece_short laws s codec src (src ++ piece) dst piece faults.Memory there there refl refl short
 piece_runs_short laws s codec src dst piece (Err fault) there short = tt
@@ -548,6 +558,38 @@ pub over_paused : FramingLaws → (start s : ReplyState) (first codec : Codec) (
 over_paused laws start s first codec from_src from_dst kept rest dst t over none used =
     let here = subst (λ l. Taking start first from_src from_dst s codec l dst) (ap (λ l. kept ++ l) used ∙ append-nil kept) t in
     (here, paused_over laws s codec kept dst here.nothing_begun over none here.received.read.refused here.received.read.goes_on here.bytes)
+
+-- Where what came was taken and what is left is no fault, all payloads were taken, and bytes to come go on.
+all_taken : FramingLaws → (start s : ReplyState) (first codec : Codec) (bytes piece src : List ℕ) (payloads : List Payload) (rest : Rest) → Since start first (bytes ++ piece) [] payloads s codec src [] → start.fault ≡ None → s.fault ≡ None → s.count ≡ start.count + length payloads → ¬ IsFault rest → IsRest codec.limit (packet_number codec []) (held codec src []) rest
+    → TakesAll (reader_state_of start first bytes []) (held first bytes [] ++ piece) (reader_state_of s codec src []) × ReaderGoesOn (reader_state_of start first bytes []) piece (reader_state_of s codec src [])
+all_taken laws start s first codec bytes piece src payloads rest r began going count no_fault is = (
+  takes_piece laws start first bytes (bytes ++ piece) [] piece (reader_state_of s codec src []) (Ok tt) refl (takes_all start s first codec (bytes ++ piece) [] src [] payloads rest r began going count no_fault is),
+  piece_all laws start first bytes (bytes ++ piece) [] piece (reader_state_of s codec src []) began refl (goes_on_taken laws start s first codec (bytes ++ piece) [] src [] payloads r began going),
+)
+
+-- What a piece leaves where it was taken whole.
+abbrev Taken : ReplyState → Incoming → List ℕ → ReplyState → Incoming → Type 0
+Taken start old piece s new =
+    IsPaused s (codec_by new) new.bytes [] × TakesAll (reader_state start old) ((reader_state start old).bytes ++ piece) (reader_state s new)
+    × ReaderGoesOn (reader_state start old) piece (reader_state s new)
+
+-- Nothing is awaited any more, and no byte is left.
+pub over_taken : FramingLaws → (start s : ReplyState) (old now : Incoming) (piece rest : List ℕ) → Taking start (codec_by old) (old.bytes ++ piece) [] s (codec_by now) (now.bytes ++ rest) [] → start.fault ≡ None → s.awaited ≡ awaiting.Nothing → now.bytes ≡ [] → rest ≡ []
+    → Taken start old piece s now
+over_taken laws start s old now piece rest t began over kept used =
+    let p = over_paused laws start s (codec_by old) (codec_by now) (old.bytes ++ piece) [] now.bytes rest [] t over kept used in
+    let all = all_taken laws start s (codec_by old) (codec_by now) old.bytes piece now.bytes p.0.payloads p.1.rest p.0.received began t.going p.0.count p.1.no_fault p.1.is_rest in
+    (p.1, all.0, all.1)
+
+-- The codec waits for more bytes.
+pub waits_taken : FramingLaws → (start s : ReplyState) (old now new : Incoming) (piece rest left : List ℕ) → Taking start (codec_by old) (old.bytes ++ piece) [] s (codec_by now) (now.bytes ++ rest) [] → start.fault ≡ None → IsAwaiting (awaited_view s.awaited)
+    → Waits (codec_by now) (now.bytes ++ rest) [] (codec_by new) (new.bytes ++ left) new.payload → left ≡ [] → new.payload ≡ [] → Taken start old piece s new
+waits_taken laws start s old now new piece rest left t began some waits used none =
+    let src = now.bytes ++ rest in
+    let w = waits_plain (codec_by now) (codec_by new) src [] new.bytes left new.payload waits used none in
+    let r = received_waits laws _ _ _ _ t.payloads s (codec_by now) (codec_by new) src [] new.bytes [] t.received w in
+    let all = all_taken laws start s (codec_by old) (codec_by new) old.bytes piece new.bytes t.payloads w.rest r began t.going t.count w.no_fault (rest_waits (codec_by now) (codec_by new) src [] new.bytes [] w) in
+    (paused_waits start s (codec_by old) (codec_by now) (codec_by new) (old.bytes ++ piece) [] src [] new.bytes [] t w some, all.0, all.1)
 
 pub not_empty : (xs : List ℕ) (b : Bool) → b ≡ (length xs == 0) → b ≡ false → xs ≡ [] → ⊥
 not_empty xs b is false_is none = absurd (let k : true ≡ false = sym (is ∙ ap (λ l. length l == 0) none) ∙ false_is in cc)

@@ -4,47 +4,47 @@ use Rattle.mysql_cells.specs.declared.value.Value.{Value}
 use Rattle.mysql_packets.specs.Packets.{PrepareOk, ColumnDefinition, deprecate_eof}
 use Rattle.mysql_replies.specs.declared.fault.ReplyFault.{ReplyFault}
 use Rattle.mysql_replies.specs.declared.context.Context.{Context}
-use Rattle.mysql_replies.specs.Grammar.{Payload, Part, Stands, Begun, Misfit, ◌>>=◌, Stretch, Line, RowLine, TerminatorLine, ErrorLine, Opening, OkOpening, ErrorOpening, FileOpening, CountOpening, StatementOpening, is_report, reading, in_place, next, column, eof, columns, columns_end, column_group, line, after_rows, rows, result_set, prepared, prepared_columns, opening, after_opening, one_result}
+use Rattle.mysql_replies.specs.Grammar.{Payload, Part, Stands, Begun, Unexpected, ◌>>=◌, Stretch, Line, RowLine, TerminatorLine, ErrorLine, Opening, OkOpening, ErrorOpening, FileOpening, CountOpening, StatementOpening, is_report, unless_report, as_part, next_payload, column, eof, columns, columns_end, column_group, line, after_rows, rows, result_set, prepared, prepared_columns, opening, after_opening, one_result}
 
--- The part takes at least n of the payloads where it stands, and a misfit is one of them.
+-- The part takes at least n of the payloads where it stands, and a unexpected is one of them.
 abbrev pub Takes : {A : Type 0} → ℕ → List Payload → Part A → Type 0
 Takes n payloads (Stands a rest) = length rest + n ≤ length payloads
 Takes n payloads (Begun listed) = Unit {0}
-Takes n payloads (Misfit listed fault rest) = length rest ≤ length payloads
+Takes n payloads (Unexpected listed fault rest) = length rest ≤ length payloads
 
 pub Takes-more : {A : Type 0} (j k : ℕ) (payloads between : List Payload) (p : Part A) → length between + j ≤ length payloads → Takes k between p → Takes (j + k) payloads p
 Takes-more j k payloads between (Stands a rest) h t = omega arith
 Takes-more j k payloads between (Begun listed) h t = tt
-Takes-more j k payloads between (Misfit listed fault rest) h t = omega arith
+Takes-more j k payloads between (Unexpected listed fault rest) h t = omega arith
 
 pub Takes-bind : {A B : Type 0} (j k : ℕ) (payloads : List Payload) (p : Part A) (f : A × List Payload → Part B) → Takes j payloads p → ((a : A) (rest : List Payload) → Takes k rest (f (a, rest))) → Takes (j + k) payloads (p >>= f)
 Takes-bind j k payloads (Stands a rest) f t each = Takes-more j k payloads rest (f (a, rest)) t (each a rest)
 Takes-bind j k payloads (Begun listed) f t each = tt
-Takes-bind j k payloads (Misfit listed fault rest) f t each = t
+Takes-bind j k payloads (Unexpected listed fault rest) f t each = t
 
 pub Takes-if : {A : Type 0} (n : ℕ) (payloads : List Payload) (b : Bool) (p q : Part A) → Takes n payloads p → Takes n payloads q → Takes n payloads (if b then p else q)
 Takes-if n payloads true p q s t = s
 Takes-if n payloads false p q s t = t
 
-Takes-in_place : {A : Type 0} (r : Result A ReplyFault) (payload : Payload) (rest : List Payload) → Takes 1 (payload ∷ rest) (in_place r payload rest)
-Takes-in_place (Ok a) payload rest = omega arith
-Takes-in_place (Err fault) payload rest = omega arith
+Takes-as_part : {A : Type 0} (r : Result A ReplyFault) (payload : Payload) (rest : List Payload) → Takes 1 (payload ∷ rest) (as_part r payload rest)
+Takes-as_part (Ok a) payload rest = omega arith
+Takes-as_part (Err fault) payload rest = omega arith
 
 Takes-cons : {A : Type 0} (n : ℕ) (payload : Payload) (rest : List Payload) (p : Part A) → Takes n rest p → Takes n (payload ∷ rest) p
 Takes-cons n payload rest (Stands a left) t = omega arith
 Takes-cons n payload rest (Begun listed) t = tt
-Takes-cons n payload rest (Misfit listed fault left) t = omega arith
+Takes-cons n payload rest (Unexpected listed fault left) t = omega arith
 
-pub Takes-next : {A : Type 0} (c : Context) (read : Payload → Result A ReplyFault) (payloads : List Payload) → Takes 1 payloads (next c read payloads)
-unfolding next
-Takes-next c read [] = tt
-Takes-next c read (payload ∷ rest) =
-    Takes-if 1 (payload ∷ rest) (is_report c payload) _ _ (Takes-cons 1 payload rest _ (Takes-next c read rest)) (Takes-in_place (reading c read payload) payload rest)
+pub Takes-next_payload : {A : Type 0} (c : Context) (read : Payload → Result A ReplyFault) (payloads : List Payload) → Takes 1 payloads (next_payload c read payloads)
+unfolding next_payload
+Takes-next_payload c read [] = tt
+Takes-next_payload c read (payload ∷ rest) =
+    Takes-if 1 (payload ∷ rest) (is_report c payload) _ _ (Takes-cons 1 payload rest _ (Takes-next_payload c read rest)) (Takes-as_part (unless_report c read payload) payload rest)
 
 pub Takes-fewer : {A : Type 0} (j k : ℕ) (payloads : List Payload) (p : Part A) → k ≤ j → Takes j payloads p → Takes k payloads p
 Takes-fewer j k payloads (Stands a rest) h t = omega arith
 Takes-fewer j k payloads (Begun listed) h t = tt
-Takes-fewer j k payloads (Misfit listed fault rest) h t = t
+Takes-fewer j k payloads (Unexpected listed fault rest) h t = t
 
 -- A part that takes some payloads, and then one that takes any number of them.
 Takes-then : {A B : Type 0} (n : ℕ) (payloads : List Payload) (p : Part A) (f : A × List Payload → Part B) → Takes n payloads p → ((a : A) (rest : List Payload) → Takes 0 rest (f (a, rest))) → Takes n payloads (p >>= f)
@@ -54,14 +54,14 @@ pub Takes-columns : (c : Context) (n : ℕ) (these : List ColumnDefinition) (pay
 unfolding columns
 Takes-columns c zero these payloads = omega arith
 Takes-columns c (suc n) these payloads =
-    Takes-fewer 1 0 payloads _ (omega arith) (Takes-then 1 payloads (next c column payloads) _ (Takes-next c column payloads) (λ a rest. Takes-columns c n (these ++ a ∷ []) rest))
+    Takes-fewer 1 0 payloads _ (omega arith) (Takes-then 1 payloads (next_payload c column payloads) _ (Takes-next_payload c column payloads) (λ a rest. Takes-columns c n (these ++ a ∷ []) rest))
 
 pub Takes-columns_end : (c : Context) (these : List ColumnDefinition) (payloads : List Payload) → Takes 0 payloads (columns_end c these payloads)
 unfolding columns_end
 Takes-columns_end c [] payloads = omega arith
 Takes-columns_end c (first ∷ others) payloads =
     Takes-if 0 payloads (deprecate_eof c.capabilities.0) _ _ (omega arith)
-    (Takes-fewer 1 0 payloads _ (omega arith) (Takes-then 1 payloads (next c eof payloads) _ (Takes-next c eof payloads) (λ a rest. omega arith)))
+    (Takes-fewer 1 0 payloads _ (omega arith) (Takes-then 1 payloads (next_payload c eof payloads) _ (Takes-next_payload c eof payloads) (λ a rest. omega arith)))
 
 pub Takes-column_group : (c : Context) (n : ℕ) (these : List ColumnDefinition) (payloads : List Payload) → Takes 0 payloads (column_group c n these payloads)
 unfolding column_group
@@ -79,7 +79,7 @@ unfolding rows
 Takes-rows c columns these [] = tt
 Takes-rows c columns these (payload ∷ rest) =
     Takes-if 0 (payload ∷ rest) (is_report c payload) _ _ (Takes-cons 0 payload rest _ (Takes-rows c columns these rest))
-    (Takes-after_rows columns these _ (reading c (line c columns) payload) payload rest (λ cells. Takes-rows c columns (these ++ cells ∷ []) rest))
+    (Takes-after_rows columns these _ (unless_report c (line c columns) payload) payload rest (λ cells. Takes-rows c columns (these ++ cells ∷ []) rest))
 
 pub Takes-result_set : (c : Context) (n : ℕ) (these : List ColumnDefinition) (payloads : List Payload) → Takes 0 payloads (result_set c n these payloads)
 unfolding result_set
@@ -106,4 +106,4 @@ Takes-after_opening c (StatementOpening statement) payloads = Takes-prepared c s
 pub Takes-one_result : (c : Context) (payloads : List Payload) → Takes 1 payloads (one_result c payloads)
 unfolding one_result
 Takes-one_result c payloads =
-    Takes-then 1 payloads (next c (opening c) payloads) _ (Takes-next c (opening c) payloads) (λ a rest. Takes-after_opening c a rest)
+    Takes-then 1 payloads (next_payload c (opening c) payloads) _ (Takes-next_payload c (opening c) payloads) (λ a rest. Takes-after_opening c a rest)

@@ -10,8 +10,8 @@ use Rattle.mysql_replies.specs.declared.fault.ReplyFault.{ReplyFault}
 use Rattle.mysql_replies.specs.declared.fault.ReplyFault.TheVariants.{BadError, AfterEnd}
 use Rattle.mysql_replies.specs.declared.awaited.Awaited as code
 use Rattle.mysql_replies.specs.declared.awaited.Awaited.TheVariants as awaiting
-use Rattle.mysql_replies.specs.Grammar.{Payload, Outcome, Misfit, Wrong, Results, last, misfit, has_report_form, is_report, next, columns, columns_end, column_group, rows, result_set, one_result}
-use Rattle.mysql_replies.specs.Reply.{FaultAt, report_of, Columns, Nothing, rest_of, Progressing, GoingOn, Answered, Decides}
+use Rattle.mysql_replies.specs.Grammar.{Payload, Outcome, Unexpected, Wrong, Results, last, unexpected, has_report_form, is_report, next_payload, columns, columns_end, column_group, rows, result_set, one_result}
+use Rattle.mysql_replies.specs.Reply.{FaultAt, report_of, Columns, Nothing, rest_of, Progressing, GoingOn, Answered, PayloadsDecide}
 use Rattle.mysql_wire.specs.Wire.{Reading}
 use Rattle.mysql_packets.specs.Views.{progress_report_view}
 use Rattle.mysql_replies.specs.declared.fault.ReplyFault.TheVariants.{Memory}
@@ -25,37 +25,37 @@ use Rattle.mysql_replies.specs.Standings.{progressing_of, faulted, standing_of, 
 use Rattle.mysql_replies.specs.Standings as states
 use Rattle.mysql_replies.specs.Views.{Refuses, outcome_views, awaited_view, column_views}
 use Rattle.mysql_replies.specs.Steps.{Moves, Fails, Over, Leads, IsSettled, IsAwaiting, listed_of}
-use Rattle.mysql_replies.proofs.GoingOn.{GoesOver, after_move, go_over}
+use Rattle.mysql_replies.proofs.GoingOn.{StateGoesOn, after_move, go_over}
 use Rattle.mysql_replies.proofs.Stepping.{step_awaits}
 
 -- The state goes on where the payload leads there.
-pub went_on : (s : Progressing) (payload : Payload) (listed : List Outcome) (after : Progressing) → Leads s.context (λ z. rest_of s.context s.awaited (payload ∷ z)) payload (Moves listed after.awaited) → after.context ≡ s.context → after.results ≡ s.results ++ listed → after.progress ≡ s.progress ++ report_of s.context payload → after.count ≡ s.count + 1 → GoesOver s (payload ∷ []) (GoingOn after)
+pub went_on : (s : Progressing) (payload : Payload) (listed : List Outcome) (after : Progressing) → Leads s.context (λ z. rest_of s.context s.awaited (payload ∷ z)) payload (Moves listed after.awaited) → after.context ≡ s.context → after.results ≡ s.results ++ listed → after.progress ≡ s.progress ++ report_of s.context payload → after.count ≡ s.count + 1 → StateGoesOn s (payload ∷ []) (GoingOn after)
 unfolding after_move
 went_on s payload listed after leads context results progress count z rest answer h =
     let same : GoingOn after ≡ after_move s payload (Moves listed after.awaited) =
     λ i. GoingOn (record { context = context i; results = results i; progress = progress i; count = count i; awaited = after.awaited }) in
-    go_over s payload (Moves listed after.awaited) leads z rest answer (subst (λ x. Decides x z rest answer) same h)
+    go_over s payload (Moves listed after.awaited) leads z rest answer (subst (λ x. PayloadsDecide x z rest answer) same h)
 
 -- The state has its answer where the payload has no place.
-pub went_wrong : (s : Progressing) (payload : Payload) (fault : ReplyFault) → Leads s.context (λ z. rest_of s.context s.awaited (payload ∷ z)) payload (Fails (listed_of s.awaited) fault) → GoesOver s (payload ∷ []) (Answered (record { results = s.results ++ listed_of s.awaited; progress = s.progress; end = FaultAt s.count fault }))
+pub went_wrong : (s : Progressing) (payload : Payload) (fault : ReplyFault) → Leads s.context (λ z. rest_of s.context s.awaited (payload ∷ z)) payload (Fails (listed_of s.awaited) fault) → StateGoesOn s (payload ∷ []) (Answered (record { results = s.results ++ listed_of s.awaited; progress = s.progress; end = FaultAt s.count fault }))
 unfolding after_move
 went_wrong s payload fault leads z rest answer h = go_over s payload (Fails (listed_of s.awaited) fault) leads z rest answer h
 
 -- A payload after the end.
-pub went_over : (s : Progressing) (payload : Payload) → s.awaited ≡ Nothing → GoesOver s (payload ∷ []) (Answered (record { results = s.results ++ listed_of s.awaited; progress = s.progress; end = FaultAt s.count AfterEnd }))
+pub went_over : (s : Progressing) (payload : Payload) → s.awaited ≡ Nothing → StateGoesOn s (payload ∷ []) (Answered (record { results = s.results ++ listed_of s.awaited; progress = s.progress; end = FaultAt s.count AfterEnd }))
 unfolding after_move
 went_over s payload none z rest answer h =
     let leads : Leads s.context (λ z. rest_of s.context s.awaited (payload ∷ z)) payload (Over (listed_of s.awaited)) = λ z. rw none (last [] (payload ∷ z)) in
     go_over s payload (Over (listed_of s.awaited)) leads z rest answer h
 
 passed_columns : (c : Context) (n : ℕ) (these : List ColumnDefinition) (payload : Payload) → is_report c payload ≡ true → IsSettled c (Columns n these) → (z : List Payload) → result_set c n these (payload ∷ z) ≡ result_set c n these z
-unfolding result_set column_group columns columns_end next
+unfolding result_set column_group columns columns_end next_payload
 passed_columns c zero [] payload h settled z = absurd settled
 passed_columns c zero (first ∷ others) payload h settled z = rw (settled, h) refl
 passed_columns c (suc n) these payload h settled z = rw h refl
 
 passed : (c : Context) (a : code.Awaited) (payload : Payload) → is_report c payload ≡ true → IsSettled c (awaited_view a) → IsAwaiting (awaited_view a) → (z : List Payload) → rest_of c (awaited_view a) (payload ∷ z) ≡ rest_of c (awaited_view a) z
-unfolding one_result rows next
+unfolding one_result rows next_payload
 passed c awaiting.First payload h settled some z = rw h refl
 passed c (awaiting.Columns left these) payload h settled some z = passed_columns c left (column_views these.items) payload h settled z
 passed c (awaiting.Rows columns rows) payload h settled some z = rw h refl
@@ -65,14 +65,14 @@ passed c awaiting.Nothing payload h settled some z = absurd some
 pub report_passes : (c : Context) (a : code.Awaited) (payload : Payload) → is_report c payload ≡ true → IsSettled c (awaited_view a) → IsAwaiting (awaited_view a) → Leads c (λ z. rest_of c (awaited_view a) (payload ∷ z)) payload (Moves [] (awaited_view a))
 report_passes c a payload h settled some = step_awaits c payload (λ z. rest_of c (awaited_view a) (payload ∷ z)) (awaited_view a) (passed c a payload h settled some)
 
-refused_columns : (c : Context) (n : ℕ) (these : List ColumnDefinition) (payload : Payload) → has_report_form c payload ≡ true → is_ok (progress_report_at payload) ≡ false → IsSettled c (Columns n these) → (z : List Payload) → result_set c n these (payload ∷ z) ≡ Misfit [] BadError (payload ∷ z)
-unfolding result_set column_group columns columns_end next
+refused_columns : (c : Context) (n : ℕ) (these : List ColumnDefinition) (payload : Payload) → has_report_form c payload ≡ true → is_ok (progress_report_at payload) ≡ false → IsSettled c (Columns n these) → (z : List Payload) → result_set c n these (payload ∷ z) ≡ Unexpected [] BadError (payload ∷ z)
+unfolding result_set column_group columns columns_end next_payload
 refused_columns c zero [] payload h bad settled z = absurd settled
 refused_columns c zero (first ∷ others) payload h bad settled z = rw (settled, h, bad) refl
 refused_columns c (suc n) these payload h bad settled z = rw (h, bad) refl
 
-refused : (c : Context) (a : code.Awaited) (payload : Payload) → has_report_form c payload ≡ true → is_ok (progress_report_at payload) ≡ false → IsSettled c (awaited_view a) → IsAwaiting (awaited_view a) → (z : List Payload) → rest_of c (awaited_view a) (payload ∷ z) ≡ Misfit (listed_of (awaited_view a)) BadError (payload ∷ z)
-unfolding one_result rows next
+refused : (c : Context) (a : code.Awaited) (payload : Payload) → has_report_form c payload ≡ true → is_ok (progress_report_at payload) ≡ false → IsSettled c (awaited_view a) → IsAwaiting (awaited_view a) → (z : List Payload) → rest_of c (awaited_view a) (payload ∷ z) ≡ Unexpected (listed_of (awaited_view a)) BadError (payload ∷ z)
+unfolding one_result rows next_payload
 refused c awaiting.First payload h bad settled some z = rw (h, bad) refl
 refused c (awaiting.Columns left these) payload h bad settled some z = refused_columns c left (column_views these.items) payload h bad settled z
 refused c (awaiting.Rows columns rows) payload h bad settled some z = rw (h, bad) refl
@@ -81,25 +81,25 @@ refused c awaiting.Nothing payload h bad settled some z = absurd some
 -- A payload in the form of a report that is none has no place.
 pub report_refused : (c : Context) (a : code.Awaited) (payload : Payload) → has_report_form c payload ≡ true → is_ok (progress_report_at payload) ≡ false → IsSettled c (awaited_view a) → IsAwaiting (awaited_view a) → Leads c (λ z. rest_of c (awaited_view a) (payload ∷ z)) payload (Fails (listed_of (awaited_view a)) BadError)
 report_refused c a payload h bad settled some z =
-    subst (λ p. Results c p (listed_of (awaited_view a)) (Wrong BadError (payload ∷ z))) (sym (refused c a payload h bad settled some z)) (misfit (listed_of (awaited_view a)) BadError (payload ∷ z))
+    subst (λ p. Results c p (listed_of (awaited_view a)) (Wrong BadError (payload ∷ z))) (sym (refused c a payload h bad settled some z)) (unexpected (listed_of (awaited_view a)) BadError (payload ∷ z))
 
 -- The code's state goes on where the payload leads there.
-pub state_on : (before after : ReplyState) (payload : Payload) (listed : List Outcome) → before.fault ≡ None → after.fault ≡ None → Leads before.context (λ z. rest_of before.context (awaited_view before.awaited) (payload ∷ z)) payload (Moves listed (awaited_view after.awaited)) → after.context ≡ before.context → outcome_views after.results.items ≡ outcome_views before.results.items ++ listed → map progress_report_view after.progress.items ≡ map progress_report_view before.progress.items ++ report_of before.context payload → after.count ≡ before.count + 1 → states.GoesOver before payload after
+pub state_on : (before after : ReplyState) (payload : Payload) (listed : List Outcome) → before.fault ≡ None → after.fault ≡ None → Leads before.context (λ z. rest_of before.context (awaited_view before.awaited) (payload ∷ z)) payload (Moves listed (awaited_view after.awaited)) → after.context ≡ before.context → outcome_views after.results.items ≡ outcome_views before.results.items ++ listed → map progress_report_view after.progress.items ≡ map progress_report_view before.progress.items ++ report_of before.context payload → after.count ≡ before.count + 1 → states.StateGoesOn before payload after
 state_on before after payload listed going still leads context results progress count z rest answer h =
-    subst (λ f. Decides (faulted (progressing_of before) f) (payload ∷ z) rest answer) (sym going)
+    subst (λ f. PayloadsDecide (faulted (progressing_of before) f) (payload ∷ z) rest answer) (sym going)
     (went_on (progressing_of before) payload listed (progressing_of after) leads context results progress count z rest answer
-    (subst (λ f. Decides (faulted (progressing_of after) f) z rest answer) still h))
+    (subst (λ f. PayloadsDecide (faulted (progressing_of after) f) z rest answer) still h))
 
 -- The code's state has its answer where the payload has no place.
-pub state_wrong : (before after : ReplyState) (same : code.Awaited) (payload : Payload) (fault : ReplyFault) → before.fault ≡ None → after ≡ record before { awaited = same; fault = Some fault } → awaited_view same ≡ awaited_view before.awaited → Leads before.context (λ z. rest_of before.context (awaited_view before.awaited) (payload ∷ z)) payload (Fails (listed_of (awaited_view before.awaited)) fault) → states.GoesOver before payload after
+pub state_wrong : (before after : ReplyState) (same : code.Awaited) (payload : Payload) (fault : ReplyFault) → before.fault ≡ None → after ≡ record before { awaited = same; fault = Some fault } → awaited_view same ≡ awaited_view before.awaited → Leads before.context (λ z. rest_of before.context (awaited_view before.awaited) (payload ∷ z)) payload (Fails (listed_of (awaited_view before.awaited)) fault) → states.StateGoesOn before payload after
 state_wrong before after same payload fault going is awaited leads z rest answer h =
-    let k = subst (λ s. Decides (standing_of s) z rest answer) is h in
-    let l = subst (λ a. Decides (Answered (record { results = outcome_views before.results.items ++ listed_of a; progress = map progress_report_view before.progress.items; end = FaultAt before.count fault })) z rest answer) awaited k in
-    subst (λ f. Decides (faulted (progressing_of before) f) (payload ∷ z) rest answer) (sym going)
+    let k = subst (λ s. PayloadsDecide (standing_of s) z rest answer) is h in
+    let l = subst (λ a. PayloadsDecide (Answered (record { results = outcome_views before.results.items ++ listed_of a; progress = map progress_report_view before.progress.items; end = FaultAt before.count fault })) z rest answer) awaited k in
+    subst (λ f. PayloadsDecide (faulted (progressing_of before) f) (payload ∷ z) rest answer) (sym going)
     (went_wrong (progressing_of before) payload fault leads z rest answer l)
 
 -- A step that failed.
-pub step_failed : (before after : ReplyState) (same : code.Awaited) (payload : Payload) (fault : ReplyFault) → before.fault ≡ None → after ≡ record before { awaited = same; fault = Some fault } → IsStep before.context (awaited_view before.awaited) payload (Failed same fault) → UnlessMemory {X = Unit {0}} (Err fault) (states.GoesOver before payload after)
+pub step_failed : (before after : ReplyState) (same : code.Awaited) (payload : Payload) (fault : ReplyFault) → before.fault ≡ None → after ≡ record before { awaited = same; fault = Some fault } → IsStep before.context (awaited_view before.awaited) payload (Failed same fault) → UnlessMemory {X = Unit {0}} (Err fault) (states.StateGoesOn before payload after)
 step_failed before after same payload Memory going is step = tt
 step_failed before after same payload fault going is step = state_wrong before after same payload fault going is step.0 step.1
 
@@ -107,22 +107,22 @@ or_fault_err : {A : Type 0} (fault name : ReplyFault) (read : Reading A) → or_
 or_fault_err fault name (Ok x) h = cc
 or_fault_err fault name (Err e) h = (refl, cc)
 
-wrong_report : (before after : ReplyState) (payload : Payload) (fault : ReplyFault) → before.fault ≡ None → after ≡ record before { fault = Some fault } → has_report_form before.context payload ≡ true → IsSettled before.context (awaited_view before.awaited) → IsAwaiting (awaited_view before.awaited) → or_fault BadError (progress_report_at payload) ≡ Err fault → states.GoesOver before payload after
+wrong_report : (before after : ReplyState) (payload : Payload) (fault : ReplyFault) → before.fault ≡ None → after ≡ record before { fault = Some fault } → has_report_form before.context payload ≡ true → IsSettled before.context (awaited_view before.awaited) → IsAwaiting (awaited_view before.awaited) → or_fault BadError (progress_report_at payload) ≡ Err fault → states.StateGoesOn before payload after
 wrong_report before after payload fault going is form settled some h =
     let bad = or_fault_err fault BadError (progress_report_at payload) h in
     let leads = report_refused before.context before.awaited payload form bad.0 settled some in
     state_wrong before after before.awaited payload fault going is refl (rw bad.1 leads)
 
 -- A payload in the form of a report that is refused.
-pub report_failed : (before after : ReplyState) (payload : Payload) (fault : ReplyFault) → before.fault ≡ None → after ≡ record before { fault = Some fault } → has_report_form before.context payload ≡ true → IsSettled before.context (awaited_view before.awaited) → IsAwaiting (awaited_view before.awaited) → Refuses fault (or_fault BadError (progress_report_at payload)) → UnlessMemory {X = Unit {0}} (Err fault) (states.GoesOver before payload after)
+pub report_failed : (before after : ReplyState) (payload : Payload) (fault : ReplyFault) → before.fault ≡ None → after ≡ record before { fault = Some fault } → has_report_form before.context payload ≡ true → IsSettled before.context (awaited_view before.awaited) → IsAwaiting (awaited_view before.awaited) → Refuses fault (or_fault BadError (progress_report_at payload)) → UnlessMemory {X = Unit {0}} (Err fault) (states.StateGoesOn before payload after)
 report_failed before after payload Memory going is form settled some h = tt
 report_failed before after payload fault going is form settled some h = wrong_report before after payload fault going is form settled some h
 
 -- A payload after the last result.
-pub state_over : (before after : ReplyState) (payload : Payload) → before.fault ≡ None → after ≡ record before { fault = Some AfterEnd } → before.awaited ≡ awaiting.Nothing → states.GoesOver before payload after
+pub state_over : (before after : ReplyState) (payload : Payload) → before.fault ≡ None → after ≡ record before { fault = Some AfterEnd } → before.awaited ≡ awaiting.Nothing → states.StateGoesOn before payload after
 state_over before after payload going is none z rest answer h =
-    let k = subst (λ s. Decides (standing_of s) z rest answer) is h in
-    subst (λ f. Decides (faulted (progressing_of before) f) (payload ∷ z) rest answer) (sym going)
+    let k = subst (λ s. PayloadsDecide (standing_of s) z rest answer) is h in
+    subst (λ f. PayloadsDecide (faulted (progressing_of before) f) (payload ∷ z) rest answer) (sym going)
     (went_over (progressing_of before) payload (ap awaited_view none) z rest answer k)
 
 or_fault_ok : (report : ProgressReport) (name : ReplyFault) (read : Reading ProgressReport) → or_fault name read ≡ Ok report → (is_ok read ≡ true) × (read_report read ≡ report ∷ [])
@@ -130,7 +130,7 @@ or_fault_ok report name (Ok x) h = (refl, cc)
 or_fault_ok report name (Err e) h = cc
 
 -- A report is listed, and nothing else changes.
-pub report_went : (before after : ReplyState) (payload : Payload) (report : ProgressReport) → before.fault ≡ None → after ≡ record before { progress = after.progress; count = before.count + 1 } → map progress_report_view after.progress.items ≡ map progress_report_view before.progress.items ++ report ∷ [] → has_report_form before.context payload ≡ true → IsSettled before.context (awaited_view before.awaited) → IsAwaiting (awaited_view before.awaited) → or_fault BadError (progress_report_at payload) ≡ Ok report → states.GoesOver before payload after
+pub report_went : (before after : ReplyState) (payload : Payload) (report : ProgressReport) → before.fault ≡ None → after ≡ record before { progress = after.progress; count = before.count + 1 } → map progress_report_view after.progress.items ≡ map progress_report_view before.progress.items ++ report ∷ [] → has_report_form before.context payload ≡ true → IsSettled before.context (awaited_view before.awaited) → IsAwaiting (awaited_view before.awaited) → or_fault BadError (progress_report_at payload) ≡ Ok report → states.StateGoesOn before payload after
 report_went before after payload report going is pushed form settled some h =
     let found = or_fault_ok report BadError (progress_report_at payload) h in
     let one : report_of before.context payload ≡ report ∷ [] = rw form found.1 in
@@ -143,7 +143,7 @@ report_went before after payload report going is pushed form settled some h =
     (rw one pushed) (ap (λ (s : ReplyState). s.count) is)
 
 -- A step that moved.
-pub step_moved : (before between : ReplyState) (next : code.Awaited) (listed : List Outcome) (payload : Payload) → before.fault ≡ None → between ≡ record before { results = between.results; awaited = next } → outcome_views between.results.items ≡ outcome_views before.results.items ++ listed → has_report_form before.context payload ≡ false → Leads before.context (λ z. rest_of before.context (awaited_view before.awaited) (payload ∷ z)) payload (Moves listed (awaited_view next)) → states.GoesOver before payload (record between { count = between.count + 1 })
+pub step_moved : (before between : ReplyState) (next : code.Awaited) (listed : List Outcome) (payload : Payload) → before.fault ≡ None → between ≡ record before { results = between.results; awaited = next } → outcome_views between.results.items ≡ outcome_views before.results.items ++ listed → has_report_form before.context payload ≡ false → Leads before.context (λ z. rest_of before.context (awaited_view before.awaited) (payload ∷ z)) payload (Moves listed (awaited_view next)) → states.StateGoesOn before payload (record between { count = between.count + 1 })
 step_moved before between next listed payload going is results form leads =
     let none : report_of before.context payload ≡ [] = rw form refl in
     let awaited : awaited_view next ≡ awaited_view between.awaited = sym (ap (λ (s : ReplyState). awaited_view s.awaited) is) in
@@ -158,13 +158,13 @@ on_ok (Ok x) h p = p
 on_ok (Err e) h p = absurd (let k : true ≡ false = sym h in cc)
 
 -- A list with more room holds the same results.
-pub roomed : (before after : ReplyState) (room : Vec ReplyResult Global) (payload : Payload) → room.items ≡ before.results.items → states.GoesOver (record before { results = room }) payload after → states.GoesOver before payload after
+pub roomed : (before after : ReplyState) (room : Vec ReplyResult Global) (payload : Payload) → room.items ≡ before.results.items → states.StateGoesOn (record before { results = room }) payload after → states.StateGoesOn before payload after
 roomed before after room payload same goes z rest answer h =
     let standing : standing_of (record before { results = room }) ≡ standing_of before =
     ap (λ items. faulted (record { context = before.context; results = outcome_views items; progress = map progress_report_view before.progress.items; count = before.count; awaited = awaited_view before.awaited }) before.fault) same in
-    subst (λ s. Decides s (payload ∷ z) rest answer) standing (goes z rest answer h)
+    subst (λ s. PayloadsDecide s (payload ∷ z) rest answer) standing (goes z rest answer h)
 
-pub roomed_unless : (before after : ReplyState) (room : Vec ReplyResult Global) (payload : Payload) (fault : ReplyFault) → room.items ≡ before.results.items → UnlessMemory {X = Unit {0}} (Err fault) (states.GoesOver (record before { results = room }) payload after) → UnlessMemory {X = Unit {0}} (Err fault) (states.GoesOver before payload after)
+pub roomed_unless : (before after : ReplyState) (room : Vec ReplyResult Global) (payload : Payload) (fault : ReplyFault) → room.items ≡ before.results.items → UnlessMemory {X = Unit {0}} (Err fault) (states.StateGoesOn (record before { results = room }) payload after) → UnlessMemory {X = Unit {0}} (Err fault) (states.StateGoesOn before payload after)
 roomed_unless before after room payload Memory same goes = tt
 roomed_unless before after room payload fault same goes = roomed before after room payload same goes
 

@@ -45,9 +45,9 @@ pub record IsShortReplyOf (c : Context) (first_id limit : ℕ) (bytes : List ℕ
 
 -- From what stands, the payloads still to come and the rest after them decide this answer, as far as they can
 -- be numbered.
-abbrev pub DecidesNumbered : Standing → List Payload → Rest → Answer → Type 0
-DecidesNumbered (GoingOn s) payloads rest answer = Continues s (numbered s.count payloads) (after_numbered s.count payloads rest) answer
-DecidesNumbered (Answered known) payloads rest answer = answer ≡ known
+abbrev pub NumberedPayloadsDecide : Standing → List Payload → Rest → Answer → Type 0
+NumberedPayloadsDecide (GoingOn s) payloads rest answer = Continues s (numbered s.count payloads) (after_numbered s.count payloads rest) answer
+NumberedPayloadsDecide (Answered known) payloads rest answer = answer ≡ known
 
 -- Any bytes have an answer.
 abbrev pub AnyBytesHaveAnswer : Type 0

@@ -30,14 +30,14 @@ pub data Part (A : Type 0) : Type 0 where
   -- The payloads end inside the part; of it these results are listed.
   Begun : List Outcome → Part A
   -- These results are listed of the part, and then the first of these payloads has no place in it.
-  Misfit : List Outcome → ReplyFault → List Payload → Part A
+  Unexpected : List Outcome → ReplyFault → List Payload → Part A
 
 -- One part after another.
 infixl 10 ◌>>=◌
 abbrev pub ◌>>=◌ : {A B : Type 0} → Part A → (A × List Payload → Part B) → Part B
 (Stands a rest) >>= f = f (a, rest)
 (Begun listed) >>= f = Begun listed
-(Misfit listed fault rest) >>= f = Misfit listed fault rest
+(Unexpected listed fault rest) >>= f = Unexpected listed fault rest
 
 -- A payload in the form of a progress report, whether or not it can be read as one.
 abbrev pub has_report_form : Context → Payload → Bool
@@ -62,19 +62,19 @@ map_ok f (Ok a) = Ok (f a)
 map_ok f (Err fault) = Err fault
 
 -- A payload read so, but for one in the form of a progress report, which has no other reading.
-abbrev pub reading : {A : Type 0} → Context → (Payload → Result A ReplyFault) → Payload → Result A ReplyFault
-reading c read payload = if has_report_form c payload then Err BadError else read payload
+abbrev pub unless_report : {A : Type 0} → Context → (Payload → Result A ReplyFault) → Payload → Result A ReplyFault
+unless_report c read payload = if has_report_form c payload then Err BadError else read payload
 
 -- A payload where it was read, with those that follow it.
-abbrev pub in_place : {A : Type 0} → Result A ReplyFault → Payload → List Payload → Part A
-in_place (Ok a) payload rest = Stands a rest
-in_place (Err fault) payload rest = Misfit [] fault (payload ∷ rest)
+abbrev pub as_part : {A : Type 0} → Result A ReplyFault → Payload → List Payload → Part A
+as_part (Ok a) payload rest = Stands a rest
+as_part (Err fault) payload rest = Unexpected [] fault (payload ∷ rest)
 
 -- The next payload, read so; progress reports before it are passed over.
-unfoldable pub next : {A : Type 0} → Context → (Payload → Result A ReplyFault) → List Payload → Part A
-next c read [] = Begun []
-next c read (payload ∷ rest) =
-    if is_report c payload then next c read rest else in_place (reading c read payload) payload rest
+unfoldable pub next_payload : {A : Type 0} → Context → (Payload → Result A ReplyFault) → List Payload → Part A
+next_payload c read [] = Begun []
+next_payload c read (payload ∷ rest) =
+    if is_report c payload then next_payload c read rest else as_part (unless_report c read payload) payload rest
 
 -- A column packet.
 abbrev pub column : Payload → Result ColumnDefinition ReplyFault
@@ -83,7 +83,7 @@ column payload = or_fault BadColumn (column_at payload)
 -- n more columns after these.
 unfoldable pub columns : Context → ℕ → List ColumnDefinition → List Payload → Part (List ColumnDefinition)
 columns c zero these payloads = Stands these payloads
-columns c (suc n) these payloads = next c column payloads >>= λ x. columns c n (these ++ x.0 ∷ []) x.1
+columns c (suc n) these payloads = next_payload c column payloads >>= λ x. columns c n (these ++ x.0 ∷ []) x.1
 
 -- The EOF packet: fe, below nine bytes.
 abbrev pub eof : Payload → Result OkPacket ReplyFault
@@ -94,7 +94,7 @@ unfoldable pub columns_end : Context → List ColumnDefinition → List Payload 
 columns_end c [] payloads = Stands [] payloads
 columns_end c (first ∷ others) payloads =
     if deprecate_eof c.capabilities.0 then Stands (first ∷ others) payloads
-    else (next c eof payloads >>= λ x. Stands (first ∷ others) x.1)
+    else (next_payload c eof payloads >>= λ x. Stands (first ∷ others) x.1)
 
 -- n more columns after these, and the EOF that is due.
 unfoldable pub column_group : Context → ℕ → List ColumnDefinition → List Payload → Part (List ColumnDefinition)
@@ -152,14 +152,14 @@ after_rows columns rows on (Ok (TerminatorLine ok)) payload rest =
 after_rows columns rows on (Ok (ErrorLine error)) payload rest =
     Stands (record { results = RowsResult columns rows None ∷ ErrorResult error ∷ []; more = false }) rest
 after_rows columns rows on (Err fault) payload rest =
-    Misfit (RowsResult columns rows None ∷ []) fault (payload ∷ rest)
+    Unexpected (RowsResult columns rows None ∷ []) fault (payload ∷ rest)
 
 -- The rows after these, to their terminator or an error.
 unfoldable pub rows : Context → List ColumnDefinition → List (List Value) → List Payload → Part Stretch
 rows c columns these [] = Begun (RowsResult columns these None ∷ [])
 rows c columns these (payload ∷ rest) =
     if is_report c payload then rows c columns these rest
-    else after_rows columns these (λ cells. rows c columns (these ++ cells ∷ []) rest) (reading c (line c columns) payload) payload rest
+    else after_rows columns these (λ cells. rows c columns (these ++ cells ∷ []) rest) (unless_report c (line c columns) payload) payload rest
 
 -- A result set after its count: n more columns after these, the EOF that is due, and the rows.
 unfoldable pub result_set : Context → ℕ → List ColumnDefinition → List Payload → Part Stretch
@@ -217,7 +217,7 @@ after_opening c (StatementOpening statement) rest = prepared c statement stateme
 
 -- A result.
 unfoldable pub one_result : Context → List Payload → Part Stretch
-one_result c payloads = next c (opening c) payloads >>= λ x. after_opening c x.0 x.1
+one_result c payloads = next_payload c (opening c) payloads >>= λ x. after_opening c x.0 x.1
 
 -- How the results of a reply end: the last one stands, and these payloads follow it; the payloads end before
 -- that; or the first of these payloads has no place.
@@ -232,4 +232,4 @@ pub data Results (c : Context) : Part Stretch → List Outcome → Ending → Ty
   last : (results : List Outcome) (rest : List Payload) → Results c (Stands (record { results = results; more = false }) rest) results (Ended rest)
   more : (results : List Outcome) (rest : List Payload) {others : List Outcome} {ending : Ending} → Results c (one_result c rest) others ending → Results c (Stands (record { results = results; more = true }) rest) (results ++ others) ending
   begun : (results : List Outcome) → Results c (Begun results) results Open
-  misfit : (results : List Outcome) (fault : ReplyFault) (rest : List Payload) → Results c (Misfit results fault rest) results (Wrong fault rest)
+  unexpected : (results : List Outcome) (fault : ReplyFault) (rest : List Payload) → Results c (Unexpected results fault rest) results (Wrong fault rest)

@@ -106,9 +106,9 @@ pub record Continues (s : Progressing) (payloads : List Payload) (rest : Rest) (
   pub progress : answer.progress ≡ s.progress ++ reports s.context (before_end payloads ending)
   pub end : answer.end ≡ end_of (s.count + length payloads) rest ending
 
-abbrev pub Decides : Standing → List Payload → Rest → Answer → Type 0
-Decides (GoingOn s) payloads rest answer = Continues s payloads rest answer
-Decides (Answered known) payloads rest answer = answer ≡ known
+abbrev pub PayloadsDecide : Standing → List Payload → Rest → Answer → Type 0
+PayloadsDecide (GoingOn s) payloads rest answer = Continues s payloads rest answer
+PayloadsDecide (Answered known) payloads rest answer = answer ≡ known
 
 -- What stands before any payload has come.
 abbrev pub fresh : Context → Standing
@@ -124,21 +124,21 @@ AnswersAgree = (c : Context) (payloads : List Payload) (rest : Rest) (a b : Answ
     IsReply c payloads rest a → IsReply c payloads rest b → a ≡ b
 
 -- A fresh reader decides the reply's answer.
-abbrev pub FreshDecides : Type 0
-FreshDecides = (c : Context) (payloads : List Payload) (rest : Rest) (answer : Answer) →
-    Decides (fresh c) payloads rest answer → IsReply c payloads rest answer
+abbrev pub FreshStandingDecides : Type 0
+FreshStandingDecides = (c : Context) (payloads : List Payload) (rest : Rest) (answer : Answer) →
+    PayloadsDecide (fresh c) payloads rest answer → IsReply c payloads rest answer
 
 -- Whatever stands decides an answer, and only one.
-abbrev pub EachDecides : Type 0
-EachDecides = (s : Standing) (payloads : List Payload) (rest : Rest) → (answer : Answer) × Decides s payloads rest answer
+abbrev pub EachStandingDecides : Type 0
+EachStandingDecides = (s : Standing) (payloads : List Payload) (rest : Rest) → (answer : Answer) × PayloadsDecide s payloads rest answer
 
-abbrev pub DecisionsAgree : Type 0
-DecisionsAgree = (s : Standing) (payloads : List Payload) (rest : Rest) (a b : Answer) →
-    Decides s payloads rest a → Decides s payloads rest b → a ≡ b
+abbrev pub StandingsAgree : Type 0
+StandingsAgree = (s : Standing) (payloads : List Payload) (rest : Rest) (a b : Answer) →
+    PayloadsDecide s payloads rest a → PayloadsDecide s payloads rest b → a ≡ b
 
 -- Whatever stands, and whatever payloads come, something stands after them that decides over all payloads
 -- still to come what was decided before over those that came followed by these.
-abbrev pub GoesOn : Type 0
-GoesOn = (before : Standing) (came : List Payload) → (after : Standing) ×
+abbrev pub StandingGoesOn : Type 0
+StandingGoesOn = (before : Standing) (came : List Payload) → (after : Standing) ×
     ((payloads : List Payload) (rest : Rest) (answer : Answer) →
-    Decides after payloads rest answer → Decides before (came ++ payloads) rest answer)
+    PayloadsDecide after payloads rest answer → PayloadsDecide before (came ++ payloads) rest answer)

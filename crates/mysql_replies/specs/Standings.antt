@@ -1,4 +1,4 @@
--- What the code holds of a reply, as what stands of it.
+-- Words of the reader's own body, which no public call's clause has: what the code holds of a reply, as what stands of it.
 -- MySQL: Client/Server Protocol, "COM_QUERY Response" and "MySQL Packets".
 use Rattle.std.specs.Prelude.{◌≡◌, ℕ, ◌<◌, List, [], ◌∷◌, ◌++◌, map, Option, Some, None, Result, Err, false, Vec, vec_len, vec_capacity}
 use Rattle.std.specs.declared.alloc.Global.{Global}
@@ -15,17 +15,14 @@ use Rattle.mysql_wire.specs.declared.codec.PacketCodecError.TheVariants.{PacketT
 use Rattle.mysql_replies.specs.declared.fault.ReplyFault.{ReplyFault}
 use Rattle.mysql_replies.specs.declared.fault.ReplyFault.TheVariants.{TooLarge, OutOfSync, Memory}
 use Rattle.mysql_replies.specs.declared.results.ReplyResult.{ReplyResult}
-use Rattle.mysql_replies.specs.declared.results.Reply.{Reply}
-use Rattle.mysql_replies.specs.declared.results.ReplyEnd.{ReplyEnd}
-use Rattle.mysql_replies.specs.declared.results.ReplyEnd.TheVariants as ends
 use Rattle.mysql_replies.specs.declared.awaited.Awaited.{Awaited}
 use Rattle.mysql_replies.specs.declared.awaited.Awaited.TheVariants as awaiting
 use Rattle.mysql_replies.specs.declared.state.ReplyState.{ReplyState}
 use Rattle.mysql_replies.specs.Grammar.{Payload, is_binary, is_prepare}
-use Rattle.mysql_replies.specs.Reply.{Answer, Decides, Progressing, Standing, GoingOn, Answered, FaultAt, End, Whole, Unfinished}
+use Rattle.mysql_replies.specs.Reply.{Answer, PayloadsDecide, Progressing, Standing, GoingOn, Answered, FaultAt, End, Whole, Unfinished}
 use Rattle.mysql_replies.specs.Reply as reply
-use Rattle.mysql_replies.specs.Bytes.{DecidesNumbered}
-use Rattle.mysql_replies.specs.Holding.{Held}
+use Rattle.mysql_replies.specs.Bytes.{NumberedPayloadsDecide}
+use Rattle.mysql_replies.specs.Holding.{ReaderState}
 use Rattle.mysql_replies.specs.Views.{outcome_views, awaited_view}
 use Rattle.mysql_replies.specs.Steps.{IsSettled, listed_of}
 
@@ -74,14 +71,14 @@ OnMemory r P = Unit {0}
 
 -- The state after a payload decides, over all that is still to come, what was decided before over the payload
 -- followed by that.
-abbrev pub GoesOver : ReplyState → Payload → ReplyState → Type 0
-GoesOver before payload after = (z : List Payload) (rest : Rest) (answer : Answer) →
-    Decides (standing_of after) z rest answer → Decides (standing_of before) (payload ∷ z) rest answer
+abbrev pub StateGoesOn : ReplyState → Payload → ReplyState → Type 0
+StateGoesOn before payload after = (z : List Payload) (rest : Rest) (answer : Answer) →
+    PayloadsDecide (standing_of after) z rest answer → PayloadsDecide (standing_of before) (payload ∷ z) rest answer
 
 -- The same, as far as the payloads can be numbered.
-abbrev pub GoesOverNumbered : ReplyState → Payload → ReplyState → Type 0
-GoesOverNumbered before payload after = (z : List Payload) (rest : Rest) (answer : Answer) →
-    DecidesNumbered (standing_of after) z rest answer → DecidesNumbered (standing_of before) (payload ∷ z) rest answer
+abbrev pub NumberedStateGoesOn : ReplyState → Payload → ReplyState → Type 0
+NumberedStateGoesOn before payload after = (z : List Payload) (rest : Rest) (answer : Answer) →
+    NumberedPayloadsDecide (standing_of after) z rest answer → NumberedPayloadsDecide (standing_of before) (payload ∷ z) rest answer
 
 -- What stands where memory ran out over a payload: all that stood, and that fault.
 abbrev pub IsShortOf : ReplyState → ReplyState → Type 0
@@ -104,22 +101,13 @@ answer_of s = record {
   end = end_of_state (progressing_of s) s.fault;
 }
 
-abbrev pub end_view : ReplyEnd → End
-end_view ends.Whole = Whole
-end_view ends.Unfinished = Unfinished
-end_view (ends.Fault count fault) = FaultAt count fault
-
--- A reply as its results, reports and end.
-abbrev pub answer_view : Reply → Answer
-answer_view r = record { results = outcome_views r.results.items; progress = map progress_report_view r.progress.items; end = end_view r.end }
-
 -- What a reader with this codec, src and dst holds.
-abbrev pub held_of : ReplyState → Codec → List ℕ → List ℕ → Held
-held_of s codec src dst = record { standing = standing_of s; limit = codec.limit; number = packet_number codec dst; bytes = held codec src dst }
+abbrev pub reader_state_of : ReplyState → Codec → List ℕ → List ℕ → ReaderState
+reader_state_of s codec src dst = record { standing = standing_of s; limit = codec.limit; number = packet_number codec dst; bytes = held codec src dst }
 
 -- What a reader with these parts holds.
-abbrev pub held_by : ReplyState → Incoming → Held
-held_by s packets = held_of s (codec_by packets) packets.bytes []
+abbrev pub reader_state : ReplyState → Incoming → ReaderState
+reader_state s packets = reader_state_of s (codec_by packets) packets.bytes []
 
 -- After the last result nothing was begun.
 abbrev pub NothingBegun : ReplyState → Codec → List ℕ → Type 0

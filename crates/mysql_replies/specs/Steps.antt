@@ -1,6 +1,6 @@
--- What one more payload leads to.
+-- Words of the reader's own body, which no public call's clause has: what one more payload leads to.
 -- MySQL: Client/Server Protocol, "COM_QUERY Response" and "Text Resultset".
-use Rattle.std.specs.Prelude.{◌≡◌, zero, suc, List, [], ◌∷◌, ◌++◌, false, None}
+use Rattle.std.specs.Prelude.{◌≡◌, ◌≢◌, zero, suc, List, [], ◌∷◌, ◌++◌, false, None}
 use Rattle.mysql_packets.specs.Packets.{deprecate_eof}
 use Rattle.mysql_replies.specs.declared.context.Context.{Context}
 use Rattle.mysql_replies.specs.declared.fault.ReplyFault.{ReplyFault}
@@ -55,3 +55,8 @@ IsStep c a payload (Moved listed awaited) =
     Leads c (λ z. rest_of c a (payload ∷ z)) payload (Moves (listed_views listed) (awaited_view awaited)) × IsSettled c (awaited_view awaited)
 IsStep c a payload (Failed awaited Memory) = awaited_view awaited ≡ a
 IsStep c a payload (Failed awaited fault) = (awaited_view awaited ≡ a) × Leads c (λ z. rest_of c a (payload ∷ z)) payload (Fails (listed_of a) fault)
+
+-- Memory didn't run out over the step.
+abbrev pub HasMemory : Stepped → Type 0
+HasMemory (Moved listed awaited) = Unit {0}
+HasMemory (Failed awaited fault) = fault ≢ Memory

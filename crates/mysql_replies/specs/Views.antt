@@ -1,11 +1,11 @@
+-- What the code holds, as values; and what its functions answer. Public clauses have `answer_view` alone.
 -- MySQL: Client/Server Protocol, "COM_QUERY Response", its packets as the code holds them.
--- What the code holds, as values; and what a function that can run out of memory answers.
 use Rattle.std.specs.Prelude.{◌≡◌, List, map, Result, Ok, Err}
 use Rattle.mysql_wire.specs.WireError.{WireError}
 use Rattle.mysql_wire.specs.WireError.TheVariants as wire
 use Rattle.mysql_cells.specs.declared.value.Value.{Value}
 use Rattle.mysql_packets.specs.Packets.{ColumnDefinition}
-use Rattle.mysql_packets.specs.Views.{ok_packet_view, err_packet_view, prepare_ok_view, column_view}
+use Rattle.mysql_packets.specs.Views.{ok_packet_view, err_packet_view, progress_report_view, prepare_ok_view, column_view}
 use Rattle.mysql_replies.specs.declared.fault.ReplyFault.{ReplyFault}
 use Rattle.mysql_replies.specs.declared.fault.ReplyFault.TheVariants.{Memory}
 use Rattle.mysql_replies.specs.declared.opening.Opening.{Opening}
@@ -17,6 +17,9 @@ use Rattle.mysql_replies.specs.declared.lines.Line.{Line}
 use Rattle.mysql_replies.specs.declared.lines.Line.TheVariants as lines
 use Rattle.mysql_replies.specs.declared.results.ReplyResult.{ReplyResult}
 use Rattle.mysql_replies.specs.declared.results.ReplyResult.TheVariants as results
+use Rattle.mysql_replies.specs.declared.results.Reply.{Reply}
+use Rattle.mysql_replies.specs.declared.results.ReplyEnd.{ReplyEnd}
+use Rattle.mysql_replies.specs.declared.results.ReplyEnd.TheVariants as ends
 use Rattle.mysql_replies.specs.declared.awaited.Awaited.{Awaited}
 use Rattle.mysql_replies.specs.declared.awaited.Awaited.TheVariants as awaiting
 use Rattle.mysql_replies.specs.Grammar as grammar
@@ -32,11 +35,21 @@ abbrev pub Gives : {X Y : Type 0} → (X → Y) → Result X ReplyFault → Resu
 Gives view (Ok x) read = read ≡ Ok (view x)
 Gives view (Err e) read = Refuses e read
 
+-- The same of a function that asks for no memory: its refusal is the reading's.
+abbrev pub Tells : {X Y : Type 0} → (X → Y) → Result X ReplyFault → Result Y ReplyFault → Type 0
+Tells view (Ok x) read = read ≡ Ok (view x)
+Tells view (Err e) read = read ≡ Err e
+
 -- What a packet's reader answered, where a refusal has this name.
 abbrev pub named : {X : Type 0} → Result X WireError → ReplyFault → Result X ReplyFault
 named (Ok x) fault = Ok x
 named (Err wire.Memory) fault = Err Memory
 named (Err e) fault = Err fault
+
+-- The same of a reader that asks for no memory.
+abbrev pub refused : {X : Type 0} → Result X WireError → ReplyFault → Result X ReplyFault
+refused (Ok x) fault = Ok x
+refused (Err e) fault = Err fault
 
 abbrev pub opening_view : Opening → grammar.Opening
 opening_view (openings.Ok ok) = grammar.OkOpening (ok_packet_view ok)
@@ -71,3 +84,12 @@ awaited_view awaiting.First = reply.First
 awaited_view (awaiting.Columns left these) = reply.Columns left (column_views these.items)
 awaited_view (awaiting.Rows columns rows) = reply.Rows (column_views columns.items) (row_views rows.items)
 awaited_view awaiting.Nothing = reply.Nothing
+
+abbrev pub end_view : ReplyEnd → reply.End
+end_view ends.Whole = reply.Whole
+end_view ends.Unfinished = reply.Unfinished
+end_view (ends.Fault count fault) = reply.FaultAt count fault
+
+-- A reply as its results, reports and end.
+abbrev pub answer_view : Reply → reply.Answer
+answer_view r = record { results = outcome_views r.results.items; progress = map progress_report_view r.progress.items; end = end_view r.end }

@@ -1,8 +1,8 @@
 //! Laws of the grammar of replies and of what a reader holds. Each function is its law alone.
 
-ghost use Rattle.mysql_replies.specs.Reply.{EachHasAnswer, AnswersAgree, EachDecides, DecisionsAgree, FreshDecides, GoesOn};
+ghost use Rattle.mysql_replies.specs.Reply.{EachHasAnswer, AnswersAgree, EachStandingDecides, StandingsAgree, FreshStandingDecides, StandingGoesOn};
 ghost use Rattle.mysql_replies.specs.Bytes.{AnyBytesHaveAnswer, CuttingsAgree};
-ghost use Rattle.mysql_replies.specs.Holding.{EachHoldingDecides, HoldingsAgree, FreshHoldingDecides};
+ghost use Rattle.mysql_replies.specs.Holding.{EachReaderDecides, ReadersAgree, FreshReaderDecides};
 
 use mysql_wire::laws::one_split;
 
@@ -15,14 +15,14 @@ pub fn each_reply_has_one_answer()
 /// Whatever stands decides one answer over each list of payloads still to come, and a fresh reader the
 /// reply's.
 pub fn each_standing_decides()
-    ensures some { EachDecides }
-    ensures only { DecisionsAgree }
-    ensures fresh { FreshDecides }
+    ensures some { EachStandingDecides }
+    ensures only { StandingsAgree }
+    ensures fresh { FreshStandingDecides }
 {}
 
 /// What stands after some payloads decides what was decided before over these and those still to come.
 pub fn a_standing_goes_on()
-    ensures { GoesOn }
+    ensures { StandingGoesOn }
 {}
 
 /// Any bytes have an answer, and it doesn't depend on how they were cut into pieces.
@@ -34,10 +34,10 @@ pub fn bytes_have_one_answer()
 }
 
 /// Whatever a reader holds decides one answer over the bytes still to come, and a fresh reader the reply's.
-pub fn each_holding_decides()
-    ensures some { EachHoldingDecides }
-    ensures only { HoldingsAgree }
-    ensures fresh { FreshHoldingDecides }
+pub fn each_reader_decides()
+    ensures some { EachReaderDecides }
+    ensures only { ReadersAgree }
+    ensures fresh { FreshReaderDecides }
 {
     one_split();
 }

@@ -4,11 +4,11 @@ ghost use Rattle.std.specs.Prelude.{◌≡◌, List, map, length, Ok, Err, false
 ghost use Rattle.mysql_packets.specs.Views.{ok_packet_view, column_view};
 ghost use Rattle.mysql_packets.specs.Packets.{deprecate_eof};
 ghost use Rattle.mysql_replies.specs.Grammar.{column, eof, terminator, terminator_limit, line, row, is_binary};
-ghost use Rattle.mysql_replies.specs.Views.{Gives, line_view, column_views};
+ghost use Rattle.mysql_replies.specs.Views.{Gives, Tells, line_view, column_views};
 
 use crate::context::{Context, ReplyKind};
 use crate::fault::ReplyFault;
-use crate::opening::{error_packet, named_of, starts_with};
+use crate::opening::{error_packet, named_of, refused_of, starts_with};
 use bitflags::Flags;
 use mysql_cells::Value;
 use mysql_const::{CapabilityFlags, MAX_PAYLOAD_LEN};
@@ -39,10 +39,10 @@ pub fn column_packet(alloc: Global, payload: &[u8]) -> Result<Column, ReplyFault
 
 /// The EOF packet.
 pub fn eof_packet(alloc: Global, payload: &[u8]) -> Result<OkPacket, ReplyFault>
-    ensures { Gives ok_packet_view result (eof payload.now) }
+    ensures { Tells ok_packet_view result (eof payload.now) }
 {
     if payload.len() < 9 {
-        named_of(
+        refused_of(
             old_eof_of(alloc, &mut ParseBuf(payload)),
             ReplyFault::BadTerminator,
         )

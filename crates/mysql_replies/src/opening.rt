@@ -7,7 +7,7 @@ ghost use Rattle.mysql_wire.specs.Forms.{lenenc_number_at};
 ghost use Rattle.mysql_packets.specs.Views.{ok_packet_view, err_packet_view, prepare_ok_view};
 ghost use Rattle.mysql_replies.specs.declared.fault.ReplyFault.TheVariants.{BadOk, BadError, BadPrepare};
 ghost use Rattle.mysql_replies.specs.Grammar as grammar;
-ghost use Rattle.mysql_replies.specs.Views.{Gives, named, opening_view};
+ghost use Rattle.mysql_replies.specs.Views.{Gives, Tells, named, refused, opening_view};
 
 use crate::context::{Context, ReplyKind};
 use crate::fault::ReplyFault;
@@ -35,6 +35,16 @@ pub fn named_of<T: Drop>(read: Result<T, WireError>, fault: ReplyFault) -> Resul
     match read {
         Ok(value) => Ok(value),
         Err(WireError::Memory) => Err(ReplyFault::Memory),
+        Err(_) => Err(fault),
+    }
+}
+
+/// What was read by a reader that asks for no memory, or the fault of this name.
+pub fn refused_of<T: Drop>(read: Result<T, WireError>, fault: ReplyFault) -> Result<T, ReplyFault>
+    ensures { result ≡ refused read fault }
+{
+    match read {
+        Ok(value) => Ok(value),
         Err(_) => Err(fault),
     }
 }
@@ -79,9 +89,9 @@ pub fn error_packet(
 
 /// A statement packet.
 fn statement_packet(alloc: Global, payload: &[u8]) -> Result<StmtPacket, ReplyFault>
-    ensures { Gives prepare_ok_view result (or_fault BadPrepare (prepare_ok_at payload.now)) }
+    ensures { Tells prepare_ok_view result (or_fault BadPrepare (prepare_ok_at payload.now)) }
 {
-    named_of(
+    refused_of(
         statement_of(alloc, &mut ParseBuf(payload)),
         ReplyFault::BadPrepare,
     )
@@ -89,7 +99,7 @@ fn statement_packet(alloc: Global, payload: &[u8]) -> Result<StmtPacket, ReplyFa
 
 /// A count of columns.
 fn column_count(payload: &[u8]) -> Result<u16, ReplyFault>
-    ensures { Gives (λ n. n) result (count_within (lenenc_number_at payload.now)) }
+    ensures { Tells (λ n. n) result (count_within (lenenc_number_at payload.now)) }
 {
     let mut buf = ParseBuf(payload);
     let Some(count) = buf.checked_eat_lenenc_int() else {

@@ -1,10 +1,12 @@
 //! A reply, read from the bytes of a connection as they come.
 
-ghost use Rattle.std.specs.Prelude.{◌≡◌, ◌⊎◌, ◌∷◌, ◌++◌, [], None, Some, Ok, Err, OnOk, IfErr, IfSome, flat_map, length, ◌<◌, ℕ, List};
+ghost use Rattle.std.specs.Prelude.{◌≡◌, ◌≢◌, ◌⊎◌, ◌∷◌, ◌++◌, [], None, Some, Ok, Err, OnOk, IfErr, IfSome, flat_map, length, ◌<◌, ℕ, List};
 ghost use Rattle.mysql_wire.specs.Incoming.{codec_by};
+ghost use Rattle.mysql_replies.specs.declared.fault.ReplyFault.TheVariants.{Memory};
 ghost use Rattle.mysql_replies.specs.Bytes.{IsReplyOf, IsShortReplyOf};
-ghost use Rattle.mysql_replies.specs.Holding.{nothing_held, fault_of, DecidesOver, GoesOnOver, TakesAll, StandsShort};
-ghost use Rattle.mysql_replies.specs.Standings.{held_by, answer_view, fault_named, IsReading, IsPaused, UnlessMemory, OnMemory};
+ghost use Rattle.mysql_replies.specs.Holding.{fresh_reader, fault_of, ReaderDecides, ReaderGoesOn, TakesAll, StandsShort};
+ghost use Rattle.mysql_replies.specs.Standings.{reader_state, fault_named, IsReading, IsPaused, UnlessMemory, OnMemory};
+ghost use Rattle.mysql_replies.specs.Views.{answer_view};
 ghost use Rattle.mysql_replies.specs.Standings as states;
 
 use crate::context::{Context, ReplyKind};
@@ -42,9 +44,9 @@ fn take_packets(
     ensures reading { IsReading state.new }
     ensures paused { OnOk result ((state.new.fault ≡ None) × IsPaused state.new (codec_by packets.new) packets.new.bytes []) }
     ensures fault { IfErr result (λ fault. state.new.fault ≡ Some fault) }
-    ensures took { OnOk result (TakesAll (held_by state.old packets.old) ((held_by state.old packets.old).bytes ++ piece.now) (held_by state.new packets.new)) }
-    ensures goes_on { UnlessMemory result (GoesOnOver (held_by state.old packets.old) piece.now (held_by state.new packets.new)) }
-    ensures short { OnMemory result (StandsShort (held_by state.old packets.old) ((held_by state.old packets.old).bytes ++ piece.now) (held_by state.new packets.new)) }
+    ensures took { OnOk result (TakesAll (reader_state state.old packets.old) ((reader_state state.old packets.old).bytes ++ piece.now) (reader_state state.new packets.new)) }
+    ensures goes_on { UnlessMemory result (ReaderGoesOn (reader_state state.old packets.old) piece.now (reader_state state.new packets.new)) }
+    ensures short { OnMemory result (StandsShort (reader_state state.old packets.old) ((reader_state state.old packets.old).bytes ++ piece.now) (reader_state state.new packets.new)) }
 {
     framing_laws();
     let mut rest = piece;
@@ -80,15 +82,15 @@ pub struct ReplyReader {
 }
 
 impl Model for ReplyReader {
-    ghost use Rattle.mysql_replies.specs.Holding.{Held};
+    ghost use Rattle.mysql_replies.specs.Holding.{ReaderState};
 
-    ghost Value = { Held };
+    ghost Value = { ReaderState };
 
     ghost use Rattle.std.specs.Prelude.{[]};
     ghost use Rattle.mysql_wire.specs.Incoming.{codec_by};
-    ghost use Rattle.mysql_replies.specs.Standings.{held_by, IsReceiving};
+    ghost use Rattle.mysql_replies.specs.Standings.{reader_state, IsReceiving};
 
-    ghost view = { λ reader. held_by reader.state reader.packets };
+    ghost view = { λ reader. reader_state reader.state reader.packets };
 
     ghost invariant = { λ reader. IsReceiving reader.state (codec_by reader.packets) reader.packets.bytes [] };
 }
@@ -104,7 +106,7 @@ impl ReplyReader {
         limit: usize,
     ) -> ReplyReader
         requires text { kind ≡ ReplyKind.Text }
-        ensures { result ≡ nothing_held (record { kind = kind; capabilities = capabilities }) first_id limit }
+        ensures { result ≡ fresh_reader (record { kind = kind; capabilities = capabilities }) first_id limit }
     {
         framing_laws();
         let context = Context { kind, capabilities };
@@ -123,8 +125,8 @@ impl ReplyReader {
         ensures going { OnOk result (fault_of self.new.standing ≡ None) }
         ensures fault { IfErr result (λ fault. fault_of self.new.standing ≡ Some fault) }
         ensures takes { OnOk result (TakesAll self.old (self.old.bytes ++ piece.now) self.new) }
-        ensures goes_on { UnlessMemory result (GoesOnOver self.old piece.now self.new) }
-        ensures short { fault_of self.old.standing ≡ None → OnMemory result (StandsShort self.old (self.old.bytes ++ piece.now) self.new) }
+        ensures goes_on { result ≢ Err Memory → ReaderGoesOn self.old piece.now self.new }
+        ensures short { fault_of self.old.standing ≡ None → result ≡ Err Memory → StandsShort self.old (self.old.bytes ++ piece.now) self.new }
     {
         framing_laws();
         match self.state.fault {
@@ -136,7 +138,7 @@ impl ReplyReader {
 
     /// What was read, where no more bytes come. Takes no memory.
     pub fn finish(self) -> Reply
-        ensures { DecidesOver self [] (answer_view result) }
+        ensures { ReaderDecides self [] (answer_view result) }
     {
         self.state.finish()
     }

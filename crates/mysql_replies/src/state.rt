@@ -7,9 +7,9 @@ ghost use Rattle.mysql_replies.specs.declared.fault.ReplyFault.TheVariants.{BadE
 ghost use Rattle.mysql_replies.specs.Grammar.{or_fault, is_binary, is_prepare, has_report_form};
 ghost use Rattle.mysql_replies.specs.Reply.{fresh};
 ghost use Rattle.mysql_replies.specs.Reply as reply;
-ghost use Rattle.mysql_replies.specs.Views.{Gives, awaited_view, outcome_views};
+ghost use Rattle.mysql_replies.specs.Views.{Gives, awaited_view, outcome_views, end_view, answer_view};
 ghost use Rattle.mysql_replies.specs.Steps.{IsSettled, IsAwaiting, listed_views, listed_of};
-ghost use Rattle.mysql_replies.specs.Standings.{standing_of, UnlessMemory, OnMemory, IsReading, IsShortOf, GoesOver, GoesOverNumbered, HasRoom, end_at, end_view, answer_of, answer_view};
+ghost use Rattle.mysql_replies.specs.Standings.{standing_of, UnlessMemory, OnMemory, IsReading, IsShortOf, StateGoesOn, NumberedStateGoesOn, HasRoom, end_at, answer_of};
 
 use crate::awaited::{Awaited, Listed, Stepped};
 use crate::context::{Context, ReplyKind};
@@ -124,7 +124,7 @@ impl ReplyState {
         ensures reading { IsReading self.new }
         ensures ok { OnOk result ((self.new.fault ≡ None) × (self.new.count ≡ self.old.count + 1)) }
         ensures fault { IfErr result (λ fault. self.new.fault ≡ Some fault) }
-        ensures goes_on { UnlessMemory result (GoesOver self.old payload.now self.new) }
+        ensures goes_on { UnlessMemory result (StateGoesOn self.old payload.now self.new) }
         ensures short { OnMemory result (IsShortOf self.old self.new) }
     {
         let report = match progress_packet(alloc, payload) {
@@ -165,7 +165,7 @@ impl ReplyState {
         ensures reading { IsReading self.new }
         ensures ok { OnOk result ((self.new.fault ≡ None) × (self.new.count ≡ self.old.count + 1)) }
         ensures fault { IfErr result (λ fault. self.new.fault ≡ Some fault) }
-        ensures goes_on { UnlessMemory result (GoesOver self.old payload.now self.new) }
+        ensures goes_on { UnlessMemory result (StateGoesOn self.old payload.now self.new) }
         ensures short { OnMemory result (IsShortOf self.old self.new) }
     {
         if self.results.reserve(3).is_err() {
@@ -194,7 +194,7 @@ impl ReplyState {
         ensures reading { IsReading self.new }
         ensures ok { OnOk result ((self.new.fault ≡ None) × (self.new.count ≡ self.old.count + 1)) }
         ensures fault { IfErr result (λ fault. self.new.fault ≡ Some fault) }
-        ensures goes_on { UnlessMemory result (GoesOverNumbered self.old payload.now self.new) }
+        ensures goes_on { UnlessMemory result (NumberedStateGoesOn self.old payload.now self.new) }
         ensures short { OnMemory result (IsShortOf self.old self.new) }
     {
         if self.count == u64::MAX {

@@ -5,7 +5,7 @@ ghost use Rattle.mysql_packets.specs.Packets.{deprecate_eof, more_results_exist}
 ghost use Rattle.mysql_replies.specs.Grammar.{is_binary, is_prepare, has_report_form, one_result, result_set, rows};
 ghost use Rattle.mysql_replies.specs.Reply as reply;
 ghost use Rattle.mysql_replies.specs.Views.{awaited_view, column_views, row_views};
-ghost use Rattle.mysql_replies.specs.Steps.{IsStep, IsSettled, IsAwaiting, Leads, Moves};
+ghost use Rattle.mysql_replies.specs.Steps.{IsStep, HasMemory, IsSettled, IsAwaiting, Leads, Moves};
 
 use crate::awaited::{Awaited, Listed, Stepped};
 use crate::context::Context;
@@ -84,7 +84,8 @@ fn first_step(alloc: Global, context: Context, payload: &[u8]) -> Stepped
 fn eof_step(alloc: Global, context: Context, these: Vec<Column>, payload: &[u8]) -> Stepped
     requires no_report { has_report_form context payload.now ≡ false }
     requires settled { IsSettled context (reply.Columns 0 (column_views these.items)) }
-    ensures { IsStep context (reply.Columns 0 (column_views these.items)) payload.now result }
+    ensures step { IsStep context (reply.Columns 0 (column_views these.items)) payload.now result }
+    ensures memory { HasMemory result }
 {
     let _eof = match eof_packet(alloc, payload) {
         Ok(eof) => eof,

@@ -20,11 +20,12 @@ use Rattle.mysql_commands.specs.Fields.{must, bytes_at, little_at}
 use Rattle.mysql_wire.specs.Wire.{◌>>=◌}
 use Rattle.mysql_commands.specs.Query.{place_count}
 use Rattle.mysql_commands.specs.Layout.{Conversation, ExecuteHead, id_at, is_type, type_at, types_at, binding_at, execute_head}
-use Rattle.mysql_commands.specs.InForce.{Standing}
-use Rattle.mysql_commands.specs.Reading.{PayloadReadsAs, content_at, execute_at, held_at, is_null_at, set_at, types_in_force}
+use Rattle.mysql_commands.specs.InForce.{StatementState}
+use Rattle.mysql_commands.specs.Reading.{PayloadReadsAs, content_at, execute_at, parameter_at, set_at, types_in_force}
 use Rattle.mysql_values.specs.AsSql.{FitsFields}
 use Rattle.mysql_values.specs.Cells.{cell, is_unsigned, type_number}
 use Rattle.mysql_commands.specs.Laws.{WrittenCellsAreHeld}
+use Rattle.mysql_null_bitmap.specs.NullBitmap.{is_null_at}
 use Rattle.mysql_session.specs.Commands.{execute_command, is_null, null_bitmap, parameters, type_bytes}
 use Rattle.mysql_session.proofs.NullBits.{bitmap_length, null_at}
 
@@ -79,14 +80,14 @@ types_read (value ∷ values) rest =
 no_pieces : ℕ → Option (List ℕ)
 no_pieces place = None
 
-held_by : (b : Bool) (nulls : List ℕ) (place : ℕ) (t : ParamType) (bytes : List ℕ) → is_null_at nulls place ≡ b →
-    held_at (λ k. None) nulls place t bytes ≡ (if b then Ok (content.Null, bytes) else content_at BadExecute t bytes)
+held_by : (b : Bool) (nulls : List ℕ) (place : ℕ) (t : ParamType) (bytes : List ℕ) → is_null_at 0 nulls place ≡ b →
+    parameter_at (λ k. None) nulls place t bytes ≡ (if b then Ok (content.Null, bytes) else content_at BadExecute t bytes)
 held_by true nulls place t bytes is = rw is refl
 held_by false nulls place t bytes is = rw is refl
 
 module _ (law : WrittenCellsAreHeld) where
-  one_held : (nulls : List ℕ) (place : ℕ) (value : Value) (held : Content) (rest : List ℕ) → FitsFields value → content_of value ≡ Some held → is_null_at nulls place ≡ is_null value →
-      held_at (λ k. None) nulls place (type_of value) (cell value ++ rest) ≡ Ok (held, rest)
+  one_held : (nulls : List ℕ) (place : ℕ) (value : Value) (held : Content) (rest : List ℕ) → FitsFields value → content_of value ≡ Some held → is_null_at 0 nulls place ≡ is_null value →
+      parameter_at (λ k. None) nulls place (type_of value) (cell value ++ rest) ≡ Ok (held, rest)
   unfolding type_of
   one_held nulls place NULL held rest fits is bit =
       let e : content.Null ≡ held = cc in held_by true nulls place (record { number = 6; unsigned = false }) rest bit ∙ ap (λ h. Ok (h, rest)) e
@@ -94,7 +95,7 @@ module _ (law : WrittenCellsAreHeld) where
       held_by false nulls place (record { number = type_number value; unsigned = is_unsigned value }) (cell value ++ rest) bit ∙ law BadExecute value held rest fits is
 
   set_reads : (pieces : ℕ → Option (List ℕ)) → ((k : ℕ) → pieces k ≡ None) → (nulls : List ℕ) (place : ℕ) (values : List Value) (contents : List Content) →
-      AllByRecursion (λ value. FitsFields value) values → map content_of values ≡ map Some contents → ((k : ℕ) → k < length values → is_null_at nulls (place + k) ≡ is_null (get_or values k NULL)) →
+      AllByRecursion (λ value. FitsFields value) values → map content_of values ≡ map Some contents → ((k : ℕ) → k < length values → is_null_at 0 nulls (place + k) ≡ is_null (get_or values k NULL)) →
       set_at pieces nulls place (map type_of values) (flat_map cell values) ≡ Ok contents
   unfolding set_at
   set_reads pieces none nulls place [] [] fit each bits = refl
@@ -103,12 +104,12 @@ module _ (law : WrittenCellsAreHeld) where
   set_reads pieces none nulls place (value ∷ values) (held ∷ contents) fit each bits =
       let first : content_of value ≡ Some held = cc in
       let others : map content_of values ≡ map Some contents = cc in
-      let bit : is_null_at nulls place ≡ is_null value = ap (λ n. is_null_at nulls n) (omega arith) ∙ bits 0 (omega arith) in
-      let next : (k : ℕ) → k < length values → is_null_at nulls (place + 1 + k) ≡ is_null (get_or values k NULL) =
-      λ k inside. ap (λ n. is_null_at nulls n) (omega arith) ∙ bits (suc k) (omega arith) in
-      bind_from (held_at pieces nulls place (type_of value) (cell value ++ flat_map cell values)) (λ first. set_at pieces nulls (place + 1) (map type_of values) first.1 >>= λ others. Ok (first.0 ∷ others))
+      let bit : is_null_at 0 nulls place ≡ is_null value = ap (λ n. is_null_at 0 nulls n) (omega arith) ∙ bits 0 (omega arith) in
+      let next : (k : ℕ) → k < length values → is_null_at 0 nulls (place + 1 + k) ≡ is_null (get_or values k NULL) =
+      λ k inside. ap (λ n. is_null_at 0 nulls n) (omega arith) ∙ bits (suc k) (omega arith) in
+      bind_from (parameter_at pieces nulls place (type_of value) (cell value ++ flat_map cell values)) (λ first. set_at pieces nulls (place + 1) (map type_of values) first.1 >>= λ others. Ok (first.0 ∷ others))
       (held, flat_map cell values) (Ok (held ∷ contents))
-      (ap (λ p. held_at (λ k. p) nulls place (type_of value) (cell value ++ flat_map cell values)) (none place) ∙ one_held nulls place value held (flat_map cell values) fit.0 first bit)
+      (ap (λ p. parameter_at (λ k. p) nulls place (type_of value) (cell value ++ flat_map cell values)) (none place) ∙ one_held nulls place value held (flat_map cell values) fit.0 first bit)
       (bind_from (set_at pieces nulls (place + 1) (map type_of values) (flat_map cell values)) (λ others. Ok (held ∷ others)) contents (Ok (held ∷ contents))
       (set_reads pieces none nulls (place + 1) values contents fit.1 others next) refl)
 
@@ -161,7 +162,7 @@ head_reads c id values small same count =
 
 -- ---- an execution
 
-types_found : (c : Conversation) (s : Standing) (values : List Value) (head : ExecuteHead) (n : ℕ) → n ≡ length values → place_count c.query ≡ n → head ≡ head_of values →
+types_found : (c : Conversation) (s : StatementState) (values : List Value) (head : ExecuteHead) (n : ℕ) → n ≡ length values → place_count c.query ≡ n → head ≡ head_of values →
     types_in_force c s head.own ≡ Ok (map type_of values)
 unfolding head_of
 types_found c s [] head n is count same = rw (count, is) refl
@@ -172,17 +173,17 @@ types_found c s (value ∷ values) head n is count same = rw same (by (place_cou
     by false none here = rw here refl
 
 -- the bitmap of the head, and its cells
-head_bits : (values : List Value) (k : ℕ) → k < length values → is_null_at (head_of values).nulls (0 + k) ≡ is_null (get_or values k NULL)
+head_bits : (values : List Value) (k : ℕ) → k < length values → is_null_at 0 (head_of values).nulls (0 + k) ≡ is_null (get_or values k NULL)
 unfolding head_of
 head_bits [] k inside = absurd (omega arith)
-head_bits (value ∷ values) k inside = ap (λ n. is_null_at (null_bitmap (value ∷ values)) n) (omega arith) ∙ null_at (value ∷ values) k inside
+head_bits (value ∷ values) k inside = ap (λ n. is_null_at 0 (null_bitmap (value ∷ values)) n) (omega arith) ∙ null_at (value ∷ values) k inside
 
 head_cells : (values : List Value) → (head_of values).cells ≡ flat_map cell values
 unfolding head_of
 head_cells [] = refl
 head_cells (value ∷ values) = refl
 
-module _ (law : WrittenCellsAreHeld) (c : Conversation) (s : Standing) (prepared : s.prepared ≡ true) (none : (k : ℕ) → s.pieces k ≡ None) (id : ℕ) (values : List Value) (contents : List Content)
+module _ (law : WrittenCellsAreHeld) (c : Conversation) (s : StatementState) (prepared : s.prepared ≡ true) (none : (k : ℕ) → s.pieces k ≡ None) (id : ℕ) (values : List Value) (contents : List Content)
     (small : id < 2 ^ 32) (same : c.id ≡ id) (count : place_count c.query ≡ length values) (fit : AllByRecursion (λ value. FitsFields value) values) (each : map content_of values ≡ map Some contents) where
   body_reads : execute_at c s (to_le_bytes w32 id ++ 0 ∷ (to_le_bytes w32 1 ++ parameters values)) ≡ Ok contents
   unfolding execute_at

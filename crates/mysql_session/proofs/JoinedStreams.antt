@@ -1,6 +1,6 @@
 -- Streams that were sent one behind the other.
-use Rattle.std.proofs.Common.{◌≡◌, ℕ, suc, ◌+◌, ◌<◌, ◌≤◌, List, [], ◌∷◌, ◌++◌, length, refl, sym, ◌∙◌, ap, subst, arith, append_assoc, add-one, length-append}
-use Rattle.std.specs.List.{join_with_byte}
+use Rattle.std.proofs.Common.{◌≡◌, ℕ, suc, ◌+◌, ◌<◌, ◌≤◌, ◌^◌, List, [], ◌∷◌, ◌++◌, length, refl, sym, ◌∙◌, ap, subst, arith, append_assoc, add-one, length-append}
+use Rattle.std.specs.List.{AllZip, join_with_byte}
 use Rattle.mysql_wire.specs.Framing.{chunk, chunks, framing, slice}
 use Rattle.mysql_wire.specs.Stream.{Split, framings}
 use Rattle.mysql_wire.specs.Stream.Numbering.{EachFromZero}
@@ -8,6 +8,7 @@ use Rattle.mysql_values.specs.Content.{Content}
 use Rattle.mysql_values.specs.declared.params.Params.{Params}
 use Rattle.mysql_values.specs.Place.{Place}
 use Rattle.mysql_values.specs.Laws.{OneTokens}
+use Rattle.mysql_values.specs.Params.{IsMeaning}
 use Rattle.mysql_values.specs.Queries.{pieces_of, places_from}
 use Rattle.mysql_values.specs.Tokens.{HasTokens, question}
 use Rattle.mysql_commands.specs.Audit.{Audited, IsAbout}
@@ -15,7 +16,7 @@ use Rattle.mysql_commands.specs.declared.audit.End.TheVariants.{Whole}
 use Rattle.mysql_commands.specs.Laws.{WholeStreamsJoin}
 use Rattle.mysql_commands.specs.Layout.{Conversation}
 use Rattle.mysql_session.specs.Laws.{SentStreamsJoin}
-use Rattle.mysql_session.specs.Sending.{AreMeanings}
+use Rattle.mysql_session.specs.Sending.{ReadsAsMeanings}
 
 -- a conversation by its parts
 conversation : List ℕ → List ℕ → List Place → ℕ → Conversation
@@ -59,29 +60,38 @@ few : (split : Split) (bytes : List ℕ) → bytes ≡ framings split.payloads E
 few split bytes is = omega (arith, ap length is, as_long split.payloads, length-append (framings split.payloads EachFromZero) split.rest_bytes)
 
 -- the meanings of sets and of others behind them
-meanings_join : (query : List ℕ) (sets others : List Params) (contents later : List (List Content)) → AreMeanings query sets contents → AreMeanings query others later → AreMeanings query (sets ++ others) (contents ++ later)
+meanings_join : (query : List ℕ) (sets others : List Params) (contents later : List (List Content)) → AllZip (IsMeaning query) sets contents → AllZip (IsMeaning query) others later → AllZip (IsMeaning query) (sets ++ others) (contents ++ later)
 meanings_join query [] others [] later first second = second
 meanings_join query [] others (held ∷ contents) later first second = absurd first
 meanings_join query (params ∷ sets) others [] later first second = absurd first
 meanings_join query (params ∷ sets) others (held ∷ contents) later first second = (first.0, meanings_join query sets others contents later first.1 second)
 
+-- two streams of a query and an id that read as meanings, one behind the other, in fewer than 2 ^ 64 bytes
+streams_join : OneTokens → WholeStreamsJoin → (query : List ℕ) (sets others : List Params) (id limit : ℕ) (stream behind : List ℕ) (contents later : List (List Content)) → length stream + length behind < 2 ^ 64
+    → ReadsAsMeanings query sets id limit stream contents → ReadsAsMeanings query others id limit behind later → ReadsAsMeanings query (sets ++ others) id limit (stream ++ behind) (contents ++ later)
+streams_join once join query sets others id limit stream behind contents later short r q =
+    let same : q.audit.0 ≡ r.audit.0 = one_conversation once query id q.audit.0 r.audit.0 q.audit.1 r.audit.1 in
+    let second : Audited r.audit.0 limit behind (record { sets = later; ending = Whole }) =
+    subst (λ (c : Conversation). Audited c limit behind (record { sets = later; ending = Whole })) same q.audit.2 in
+    record {
+      meanings = meanings_join query sets others contents later r.meanings q.meanings;
+      audit = (
+        r.audit.0,
+        r.audit.1,
+        join r.audit.0 limit stream behind r.audit.2.0 second.0 (record { sets = contents; ending = Whole }) (record { sets = later; ending = Whole })
+            r.audit.2.1 second.1 r.audit.2.2 second.2
+            (omega (arith, few r.audit.2.0 stream r.audit.2.1.joined, few second.0 behind second.1.joined)) refl refl,
+      );
+    }
+
 pub joined : OneTokens → WholeStreamsJoin → SentStreamsJoin
 joined once join query sets others id limit old mid new short r q =
-    let same : q.audit.0 ≡ r.audit.0 = one_conversation once query id q.audit.0 r.audit.0 q.audit.1 r.audit.1 in
     let appended : new ≡ old ++ (r.stream ++ q.stream) = q.appended ∙ ap (λ l. l ++ q.stream) r.appended ∙ append_assoc old r.stream q.stream in
-    let behind : Audited r.audit.0 limit q.stream (record { sets = q.contents; ending = Whole }) =
-    subst (λ (c : Conversation). Audited c limit q.stream (record { sets = q.contents; ending = Whole })) same q.audit.2 in
     let lengths : length r.stream + length q.stream ≤ length new =
     omega (arith, ap length appended, length-append old (r.stream ++ q.stream), length-append r.stream q.stream) in
     record {
       stream = r.stream ++ q.stream;
       appended = appended;
       contents = r.contents ++ q.contents;
-      meanings = meanings_join query sets others r.contents q.contents r.meanings q.meanings;
-      audit = (
-        r.audit.0,
-        r.audit.1,
-        join r.audit.0 limit r.stream q.stream (record { sets = r.contents; ending = Whole }) (record { sets = q.contents; ending = Whole }) r.audit.2 behind
-            (omega (arith, few r.audit.2.0 r.stream r.audit.2.1.joined, few behind.0 q.stream behind.1.joined)) refl refl,
-      );
+      reads = streams_join once join query sets others id limit r.stream q.stream r.contents q.contents (omega arith) r.reads q.reads;
     }

@@ -1,5 +1,7 @@
 pub mod Texts
 pub mod Queries
+pub mod Contents
+pub mod StatementSets
 pub mod ReadBack
 pub mod NullBits
 pub mod ExecuteBack
@@ -8,3 +10,4 @@ pub mod PutTogether
 pub mod StreamBack
 pub mod JoinedStreams
 pub mod OneMeaning
+pub mod ObjectSets

@@ -8,7 +8,7 @@ use Rattle.std.proofs.lemmas.List.{drop-map, get_or-drop, length-drop, length-ma
 use Rattle.std.proofs.lemmas.List.FromFn.{get_or-map-range_with_len, length-map-range_with_len, map-range_with_len_more}
 use Rattle.mysql_values.specs.Value.{Value}
 use Rattle.mysql_values.specs.Value.TheVariants.{NULL}
-use Rattle.mysql_commands.specs.Reading.{is_null_at}
+use Rattle.mysql_null_bitmap.specs.NullBitmap.{is_null_at}
 use Rattle.mysql_session.specs.Commands.{is_null, null_bits, null_bitmap}
 
 -- 1 for true
@@ -43,7 +43,7 @@ is_one true = refl
 is_one false = refl
 
 -- the bitmap has a bit for each value, set for NULL
-pub null_at : (values : List Value) (place : ℕ) → place < length values → is_null_at (null_bitmap values) place ≡ is_null (get_or values place NULL)
+pub null_at : (values : List Value) (place : ℕ) → place < length values → is_null_at 0 (null_bitmap values) place ≡ is_null (get_or values place NULL)
 unfolding null_bitmap
 null_at values place inside =
     let byte : slice_index (null_bitmap values) (place / 8) ≡ null_bits 8 (drop (8 * (place / 8)) values) =
@@ -52,7 +52,8 @@ null_at values place inside =
     bit_of (place % 8) 8 (drop (8 * (place / 8)) values) (omega arith) (omega (arith, length-drop (8 * (place / 8)) values)) in
     let here : get_or (drop (8 * (place / 8)) values) (place % 8) NULL ≡ get_or values place NULL =
     get_or-drop (8 * (place / 8)) values (place % 8) NULL ∙ ap (λ n. get_or values n NULL) (omega arith) in
-    ap (λ b. (b / 2 ^ (place % 8) % 2) == 1) byte ∙ ap (λ n. n == 1) (bit ∙ ap (λ v. one_if (is_null v)) here) ∙ is_one (is_null (get_or values place NULL))
+    ap (λ n. slice_index (null_bitmap values) (n / 8) / 2 ^ (n % 8) % 2 == 1) (omega arith)
+    ∙ ap (λ b. (b / 2 ^ (place % 8) % 2) == 1) byte ∙ ap (λ n. n == 1) (bit ∙ ap (λ v. one_if (is_null v)) here) ∙ is_one (is_null (get_or values place NULL))
 
 -- a byte of the bitmap for each eight values
 pub bitmap_length : (values : List Value) → length (null_bitmap values) ≡ (length values + 7) / 8

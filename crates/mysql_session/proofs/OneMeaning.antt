@@ -1,5 +1,6 @@
 -- Sets have one meaning.
 use Rattle.std.proofs.Common.{◌≡◌, ℕ, List, [], ◌∷◌, map, Some, Ok, refl, sym, ◌∙◌, ap}
+use Rattle.std.specs.List.{AllZip}
 use Rattle.mysql_values.specs.Content.{Content}
 use Rattle.mysql_values.specs.declared.params.Params.{Params}
 use Rattle.mysql_values.specs.Laws.{OneTokens}
@@ -7,7 +8,6 @@ use Rattle.mysql_values.specs.Params.{IsMeaning, values_over}
 use Rattle.mysql_values.specs.Parsed.{names_of}
 use Rattle.mysql_values.specs.Values.{content_of}
 use Rattle.mysql_session.specs.Laws.{RoadsReadEqually}
-use Rattle.mysql_session.specs.Sending.{AreMeanings}
 
 one_list : (xs ys : List Content) → map Some xs ≡ map Some ys → xs ≡ ys
 one_list [] [] same = refl
@@ -25,7 +25,7 @@ one_meaning once query params xs ys m n =
     let values : m.values ≡ n.values = cc in
     one_list xs ys (sym m.each ∙ ap (λ v. map content_of v) values ∙ n.each)
 
-one_meaning_each : OneTokens → (query : List ℕ) (sets : List Params) (contents others : List (List Content)) → AreMeanings query sets contents → AreMeanings query sets others → contents ≡ others
+one_meaning_each : OneTokens → (query : List ℕ) (sets : List Params) (contents others : List (List Content)) → AllZip (IsMeaning query) sets contents → AllZip (IsMeaning query) sets others → contents ≡ others
 one_meaning_each once query [] [] [] first second = refl
 one_meaning_each once query [] [] (y ∷ ys) first second = absurd second
 one_meaning_each once query [] (x ∷ xs) ys first second = absurd first
@@ -35,4 +35,4 @@ one_meaning_each once query (params ∷ sets) (x ∷ xs) (y ∷ ys) first second
     ap (λ c. c ∷ xs) (one_meaning once query params x y first.0 second.0) ∙ ap (λ l. y ∷ l) (one_meaning_each once query sets xs ys first.1 second.1)
 
 pub read_equally : OneTokens → RoadsReadEqually
-read_equally once query sets id limit other_id other_limit old new before after first second = one_meaning_each once query sets first.contents second.contents first.meanings second.meanings
+read_equally once query sets id limit other_id other_limit stream other contents others first second = one_meaning_each once query sets contents others first.meanings second.meanings

@@ -1,127 +1,106 @@
--- The steps of sending sets one after another.
-use Rattle.std.proofs.Common.{◌≡◌, ℕ, suc, ◌+◌, ◌-◌, ◌<◌, ◌≤◌, List, [], ◌∷◌, ◌++◌, length, take, drop, get_or, Option, Some, None, refl, sym, ◌∙◌, ap, subst, arith, inl, inr, append_assoc, add-one, drop-cons, length-take}
+-- The steps of sending sets one after another by text.
+use Rattle.std.proofs.Common.{◌≡◌, ◌⊎◌, ℕ, ◌+◌, ◌≤◌, List, [], ◌∷◌, ◌++◌, length, map, take, drop, Some, None, Ok, sym, ◌∙◌, ap, subst, arith, inl, inr}
 use Rattle.std.specs.Option.{option_or}
-use Rattle.std.proofs.lemmas.List.{append-nil, take-append-le, take_all, drop_all}
+use Rattle.std.proofs.lemmas.List.{append-nil, take-append-le, take_all}
 use Rattle.mysql_wire.specs.Framing.{framing}
 use Rattle.mysql_wire.specs.Stream.{framings}
 use Rattle.mysql_wire.specs.Stream.Numbering.{EachFromZero}
 use Rattle.mysql_values.specs.Content.{Content}
 use Rattle.mysql_values.specs.declared.params.Params.{Params}
-use Rattle.mysql_values.specs.Place.{Place}
 use Rattle.mysql_values.specs.Laws.{OneTokens}
+use Rattle.mysql_values.specs.Params.{IsMeaning, values_over}
+use Rattle.mysql_values.specs.Parsed.{names_of}
 use Rattle.mysql_values.specs.Tokens.{HasTokens}
-use Rattle.mysql_values.specs.Queries.{HasPlaces, places_from, Slices}
+use Rattle.mysql_values.specs.Queries.{places_from}
+use Rattle.mysql_commands.specs.Reading.{TextReadsAs}
 use Rattle.mysql_session.specs.declared.refusal.Refusal.{Refusal}
-use Rattle.mysql_session.specs.Commands.{query_command}
-use Rattle.mysql_session.specs.Sent.{sent_as_text, text_of, values_of}
-use Rattle.mysql_session.specs.Cause.{first_of_sets, places_cause, text_cause, text_set_cause}
-use Rattle.mysql_session.specs.Sending.{RefusesText}
-use Rattle.mysql_session.specs.Sets.{AppendsQuery, AreRead, QueriesSent, RefusesSet}
+use Rattle.mysql_session.specs.declared.refusal.Refusal.TheVariants as refusals
+use Rattle.mysql_session.specs.declared.road.Road.TheVariants.{Text}
+use Rattle.mysql_session.specs.Sets.{given_by}
+use Rattle.mysql_session.specs.Sent.{query_text_of}
+use Rattle.mysql_session.specs.Cause.{first_of_sets, limits_of, places_cause, set_cause}
+use Rattle.mysql_session.specs.Sending.{Refuses}
+use Rattle.mysql_session.specs.OneSet.{AppendsQuery, IsReadable, RefusesQuery, SentReadable, held, query_and_set_cause, text_command}
+use Rattle.mysql_session.proofs.Contents.{gives_one, gives_values, held_contents}
+use Rattle.mysql_session.proofs.SentSets.{AllSent, SetsSent, all_sent as all_of, first_is, first_of_two, first_refused, front_length, no_cause, none_of_two, none_sent as none_of, one_each, one_more}
 
--- a front that is kept is no longer than the whole
-pub front_length : (old out : List ℕ) → take (length old) out ≡ old → length old ≤ length out
-front_length old out same = omega (arith, length-take (length old) out, ap length same)
-
--- so many sets were sent, each with no cause: what is left to send goes on from what stands
-pub record SetsSent (query : List ℕ) (places : List Place) (sets : List Params) (limit : ℕ) (old out : List ℕ) (i : ℕ) : Type 0 where
+-- so many queries were sent
+pub record QueriesSent (query : List ℕ) (sets : List Params) (limit : ℕ) (old out : List ℕ) (i : ℕ) : Type 0 where
   pub tokens : List (List ℕ)
   pub has : HasTokens query tokens
-  pub there : places ≡ places_from query 0 tokens
-  pub alone : places_cause places ≡ None
-  pub causes : first_of_sets (text_set_cause tokens (length places) (limit - 4)) i (drop i sets) ≡ first_of_sets (text_set_cause tokens (length places) (limit - 4)) 0 sets
-  pub bytes : out ++ framings (sent_as_text tokens (drop i sets)) EachFromZero ≡ old ++ framings (sent_as_text tokens sets) EachFromZero
+  pub alone : places_cause (places_from query 0 tokens) ≡ None
+  pub sent : SetsSent (IsReadable Text query tokens) (text_command tokens) (limits_of (places_from query 0 tokens) limit) (given_by (names_of tokens)) sets old out i
   pub kept : take (length old) out ≡ old
-  pub read : (later : List (List Content)) → AreRead query tokens (drop i sets) later → (all : List (List Content)) × AreRead query tokens sets all
 
-pub none_sent : (query : List ℕ) (places : List Place) (sets : List Params) (limit : ℕ) (old : List ℕ) → HasPlaces query places → places_cause places ≡ None → SetsSent query places sets limit old old 0
-none_sent query places sets limit old has alone = record {
+pub none_sent : (query : List ℕ) (sets : List Params) (limit : ℕ) (old : List ℕ) → (tokens : List (List ℕ)) × HasTokens query tokens × (places_cause (places_from query 0 tokens) ≡ None) → QueriesSent query sets limit old old 0
+none_sent query sets limit old has = record {
   tokens = has.0;
   has = has.1;
-  there = has.2;
-  alone = alone;
-  causes = refl;
-  bytes = refl;
+  alone = has.2;
+  sent = none_of (IsReadable Text query has.0) (text_command has.0) (limits_of (places_from query 0 has.0) limit) (given_by (names_of has.0)) sets old;
   kept = take_all (length old) old (omega arith);
-  read = λ later each. (later, each);
 }
 
-module _ (once : OneTokens) (query : List ℕ) (places : List Place) (sets : List Params) (limit : ℕ) (old out : List ℕ) (i : ℕ) (s : SetsSent query places sets limit old out i) (params : Params) (here : drop i sets ≡ params ∷ drop (i + 1) sets) where
-  -- the cause of a set, over the tokens at hand
-  cause : List (List ℕ) → Option Refusal
-  cause tokens = text_set_cause tokens (length places) (limit - 4) i params
+module _ (once : OneTokens) (query : List ℕ) (sets : List Params) (limit : ℕ) (old out : List ℕ) (i : ℕ) (s : QueriesSent query sets limit old out i) (params : Params) (here : drop i sets ≡ params ∷ drop (i + 1) sets) where
+  -- a query that reads as the set's meaning reads as what its values hold
+  readable : (new : List ℕ) → (a : AppendsQuery query s.tokens params i limit out new) → IsReadable Text query s.tokens a.appends.values
+  readable new a =
+      let m : IsMeaning query params a.contents = a.meant in
+      let over : values_over (names_of s.tokens) params ≡ Ok m.values = ap (λ t. values_over (names_of t) params) (once query s.tokens m.tokens s.has m.has) ∙ m.over in
+      let same : m.values ≡ a.appends.values = gives_one (given_by (names_of s.tokens) params) m.values a.appends.values (gives_values (names_of s.tokens) params m.values over) a.appends.gives in
+      let contents : a.contents ≡ map held a.appends.values = held_contents m.values a.contents m.each ∙ ap (λ v. map held v) same in
+      subst (λ (l : List Content). TextReadsAs query (query_text_of s.tokens a.appends.values) l) contents a.reads
 
-  -- one more set was sent
-  pub sent_next : (new : List ℕ) → AppendsQuery query params i limit out new → SetsSent query places sets limit old new (i + 1)
-  sent_next new a =
-      let same : a.tokens ≡ s.tokens = once query a.tokens s.tokens a.has s.has in
-      let count : length (places_from query 0 a.tokens) ≡ length places = ap (λ t. length (places_from query 0 t)) same ∙ ap length (sym s.there) in
-      let none : text_set_cause s.tokens (length places) (limit - 4) i params ≡ None =
-      subst (λ (n : ℕ). text_set_cause s.tokens n (limit - 4) i params ≡ None) count (subst (λ (t : List (List ℕ)). text_set_cause t (length (places_from query 0 a.tokens)) (limit - 4) i params ≡ None) same a.none) in
-      let command : List (List ℕ) → List ℕ = λ t. query_command (text_of t (values_of t params)) in
-      let put : new ≡ out ++ framing (command s.tokens) 0 = a.appended ∙ ap (λ t. out ++ framing (command t) 0) same in
-      let front : framings (sent_as_text s.tokens (drop i sets)) EachFromZero ≡ framing (command s.tokens) 0 ++ framings (sent_as_text s.tokens (drop (i + 1) sets)) EachFromZero =
-      ap (λ l. framings (sent_as_text s.tokens l) EachFromZero) here in
-      let bytes : new ++ framings (sent_as_text s.tokens (drop (i + 1) sets)) EachFromZero ≡ old ++ framings (sent_as_text s.tokens sets) EachFromZero =
-      ap (λ l. l ++ framings (sent_as_text s.tokens (drop (i + 1) sets)) EachFromZero) put
-      ∙ append_assoc out (framing (command s.tokens) 0) (framings (sent_as_text s.tokens (drop (i + 1) sets)) EachFromZero)
-      ∙ ap (λ l. out ++ l) (sym front) ∙ s.bytes in
+  -- one more query was sent
+  pub sent_next : (new : List ℕ) → (tokens : List (List ℕ)) × HasTokens query tokens × AppendsQuery query tokens params i limit out new → QueriesSent query sets limit old new (i + 1)
+  sent_next new q =
+      let a : AppendsQuery query s.tokens params i limit out new = subst (λ (t : List (List ℕ)). AppendsQuery query t params i limit out new) (once query q.0 s.tokens q.1 s.has) q.2 in
       record {
         tokens = s.tokens;
         has = s.has;
-        there = s.there;
         alone = s.alone;
-        causes = sym (ap (λ l. first_of_sets (text_set_cause s.tokens (length places) (limit - 4)) i l) here ∙ ap (λ c. option_or c (first_of_sets (text_set_cause s.tokens (length places) (limit - 4)) (i + 1) (drop (i + 1) sets))) none) ∙ s.causes;
-        bytes = bytes;
-        kept = ap (λ l. take (length old) l) put ∙ take-append-le (length old) out (framing (command s.tokens) 0) (front_length old out s.kept) ∙ s.kept;
-        read = λ later each. s.read (a.contents ∷ later) (subst (λ (l : List Params). AreRead query s.tokens l (a.contents ∷ later)) (sym here)
-            (a.meant, (subst (λ (t : List (List ℕ)). Slices query (text_of t (values_of t params)) a.contents) same a.slices, each)));
+        sent = one_more (IsReadable Text query s.tokens) (text_command s.tokens) (limits_of (places_from query 0 s.tokens) limit) (given_by (names_of s.tokens)) sets old out i s.sent params here new a.appends (readable new a);
+        kept = ap (λ l. take (length old) l) a.appends.appended ∙ take-append-le (length old) out (framing (text_command s.tokens a.appends.values) 0) (front_length old out s.kept) ∙ s.kept;
       }
 
   -- a set is refused
-  pub refused_at : (refusal : Refusal) → RefusesSet query params i limit refusal → RefusesText query sets limit refusal
-  refused_at refusal (inl memory) = inl memory
-  refused_at refusal (inr r) =
-      let same : r.tokens ≡ s.tokens = once query r.tokens s.tokens r.has s.has in
-      let over : option_or (places_cause (places_from query 0 s.tokens)) (text_set_cause s.tokens (length (places_from query 0 s.tokens)) (limit - 4) i params) ≡ Some refusal =
-      subst (λ (t : List (List ℕ)). option_or (places_cause (places_from query 0 t)) (text_set_cause t (length (places_from query 0 t)) (limit - 4) i params) ≡ Some refusal) same r.first in
-      let at : option_or (places_cause places) (text_set_cause s.tokens (length places) (limit - 4) i params) ≡ Some refusal =
-      subst (λ (p : List Place). option_or (places_cause p) (text_set_cause s.tokens (length p) (limit - 4) i params) ≡ Some refusal) (sym s.there) over in
-      let this : text_set_cause s.tokens (length places) (limit - 4) i params ≡ Some refusal = ap (λ c. option_or c (text_set_cause s.tokens (length places) (limit - 4) i params)) (sym s.alone) ∙ at in
-      let first : first_of_sets (text_set_cause s.tokens (length places) (limit - 4)) 0 sets ≡ Some refusal =
-      sym s.causes ∙ ap (λ l. first_of_sets (text_set_cause s.tokens (length places) (limit - 4)) i l) here
-      ∙ ap (λ c. option_or c (first_of_sets (text_set_cause s.tokens (length places) (limit - 4)) (i + 1) (drop (i + 1) sets))) this in
+  pub refused_at : (refusal : Refusal) → RefusesQuery query params i limit refusal → (id : ℕ) → Refuses Text query sets id limit refusal
+  refused_at refusal (inl memory) id = inl memory
+  refused_at refusal (inr r) id =
+      let first : query_and_set_cause query s.tokens limit i params ≡ Some refusal = subst (λ (t : List (List ℕ)). query_and_set_cause query t limit i params ≡ Some refusal) (once query r.0 s.tokens r.1 s.has) r.2 in
+      let this : set_cause (text_command s.tokens) (limits_of (places_from query 0 s.tokens) limit) i (given_by (names_of s.tokens) params) ≡ Some refusal =
+      ap (λ c. option_or c (set_cause (text_command s.tokens) (limits_of (places_from query 0 s.tokens) limit) i (given_by (names_of s.tokens) params))) (sym s.alone) ∙ first in
       inr (record {
         tokens = s.tokens;
         has = s.has;
-        first = subst (λ (p : List Place). text_cause s.tokens p limit sets ≡ Some refusal) s.there (ap (λ c. option_or c (first_of_sets (text_set_cause s.tokens (length places) (limit - 4)) 0 sets)) s.alone ∙ first);
+        first = first_of_two (places_cause (places_from query 0 s.tokens)) (first_of_sets (set_cause (text_command s.tokens) (limits_of (places_from query 0 s.tokens) limit)) 0 (map (given_by (names_of s.tokens)) sets)) refusal s.alone
+            (first_refused (IsReadable Text query s.tokens) (text_command s.tokens) (limits_of (places_from query 0 s.tokens) limit) (given_by (names_of s.tokens)) sets old out i s.sent params here refusal this);
       })
 
--- all sets were sent
-pub all_sent : (query : List ℕ) (places : List Place) (sets : List Params) (limit : ℕ) (old out : List ℕ) (i : ℕ) → SetsSent query places sets limit old out i → length sets ≤ i → QueriesSent query sets limit old out
-all_sent query places sets limit old out i s passed =
-    let none : drop i sets ≡ [] = drop_all i sets passed in
-    let causes : first_of_sets (text_set_cause s.tokens (length places) (limit - 4)) 0 sets ≡ None =
-    sym s.causes ∙ ap (λ l. first_of_sets (text_set_cause s.tokens (length places) (limit - 4)) i l) none in
-    let read : (all : List (List Content)) × AreRead query s.tokens sets all = s.read [] (subst (λ (l : List Params). AreRead query s.tokens l []) (sym none) tt) in
+-- all queries were sent
+pub all_sent : (query : List ℕ) (sets : List Params) (limit : ℕ) (old out : List ℕ) (i : ℕ) → QueriesSent query sets limit old out i → length sets ≤ i → (id : ℕ) → SentReadable Text query sets id limit old out
+all_sent query sets limit old out i s passed id =
+    let all : AllSent (IsReadable Text query s.tokens) (text_command s.tokens) (map (given_by (names_of s.tokens)) sets) old [] out =
+    all_of (IsReadable Text query s.tokens) (text_command s.tokens) (limits_of (places_from query 0 s.tokens) limit) (given_by (names_of s.tokens)) sets old out i s.sent passed in
     record {
       sends = record {
         tokens = s.tokens;
         has = s.has;
-        none = subst (λ (p : List Place). text_cause s.tokens p limit sets ≡ None) s.there (ap (λ c. option_or c (first_of_sets (text_set_cause s.tokens (length places) (limit - 4)) 0 sets)) s.alone ∙ causes);
-        appended = sym (append-nil out) ∙ sym (ap (λ l. out ++ framings (sent_as_text s.tokens l) EachFromZero) none) ∙ s.bytes;
+        values = all.values;
+        given = all.gives;
+        none = none_of_two (places_cause (places_from query 0 s.tokens)) (first_of_sets (set_cause (text_command s.tokens) (limits_of (places_from query 0 s.tokens) limit)) 0 (map (given_by (names_of s.tokens)) sets)) s.alone
+            (no_cause (IsReadable Text query s.tokens) (text_command s.tokens) (limits_of (places_from query 0 s.tokens) limit) (given_by (names_of s.tokens)) sets old out i s.sent passed);
+        appended = sym (append-nil out) ∙ sym all.bytes ∙ ap (λ l. old ++ framings l EachFromZero) (sym (one_each (text_command s.tokens) all.values));
       };
-      contents = read.0;
-      read = read.1;
+      readable = all.readable;
     }
 
 -- placeholders that are a cause are the first one
-pub refused_places : (query : List ℕ) (places : List Place) (sets : List Params) (limit : ℕ) (refusal : Refusal) → HasPlaces query places → places_cause places ≡ Some refusal → RefusesText query sets limit refusal
-refused_places query places sets limit refusal has cause = inr (record {
+pub refused_places : (query : List ℕ) (sets : List Params) (limit : ℕ) (refusal : Refusal) → (refusal ≡ refusals.Memory) ⊎ ((tokens : List (List ℕ)) × HasTokens query tokens × (places_cause (places_from query 0 tokens) ≡ Some refusal))
+    → (id : ℕ) → Refuses Text query sets id limit refusal
+refused_places query sets limit refusal (inl memory) id = inl memory
+refused_places query sets limit refusal (inr has) id = inr (record {
   tokens = has.0;
   has = has.1;
-  first = subst (λ (p : List Place). text_cause has.0 p limit sets ≡ Some refusal) has.2 (ap (λ c. option_or c (first_of_sets (text_set_cause has.0 (length places) (limit - 4)) 0 sets)) cause);
+  first = first_is (places_cause (places_from query 0 has.0)) _ refusal has.2;
 })
-
--- the set at an index comes before those behind it
-pub next_set : (sets : List Params) (i : ℕ) (params : Params) → i < length sets → params ≡ get_or sets i params → drop i sets ≡ params ∷ drop (i + 1) sets
-next_set sets i params inside is = drop-cons sets i params inside ∙ ap (λ first. first ∷ drop (suc i) sets) (sym is) ∙ ap (λ n. params ∷ drop n sets) (sym (add-one i))

@@ -1,21 +1,18 @@
--- Why parameter sets of a query are not sent: the first cause that holds, in the order of the refusals.
+-- Why sets of a query are not sent: the first cause that holds, in the order of the refusals.
 -- MySQL: Client/Server Protocol, "COM_QUERY", "COM_STMT_PREPARE", "COM_STMT_EXECUTE"; `max_allowed_packet` of the MySQL Reference Manual, "Server System Variables".
-use Rattle.std.specs.Prelude.{ℕ, ◌+◌, ◌-◌, ◌==◌, Bool, not, nat_lt, List, [], ◌∷◌, length, Option, None, Some, Result, Ok, Err, if◌then◌else◌}
+use Rattle.std.specs.Prelude.{ℕ, ◌+◌, ◌-◌, Bool, nat_lt, List, [], ◌∷◌, length, Option, None, Some, Ok, Err, if◌then◌else◌}
 use Rattle.std.specs.Option.{option_map, option_or}
 use Rattle.mysql_values.specs.Value.{Value}
-use Rattle.mysql_values.specs.declared.params.Params.{Params as ParamSet}
-use Rattle.mysql_values.specs.declared.params.ParamsError.{ParamsError}
-use Rattle.mysql_values.specs.declared.params.SetError.TheVariants as set_error
 use Rattle.mysql_values.specs.Place.{Place}
-use Rattle.mysql_values.specs.Queries.{is_mixed}
-use Rattle.mysql_values.specs.Params.{values_over}
-use Rattle.mysql_values.specs.Parsed.{names_of}
-use Rattle.mysql_values.specs.Binding.{first_float}
-use Rattle.mysql_values.specs.Queries.{first_not_alone}
+use Rattle.mysql_values.specs.Queries.{first_not_alone, is_mixed}
+use Rattle.mysql_values.specs.Binding.{values_cause}
 use Rattle.mysql_session.specs.declared.refusal.Refusal.{Refusal}
 use Rattle.mysql_session.specs.declared.refusal.Refusal.TheVariants as refusal
-use Rattle.mysql_session.specs.Commands.{execute_command, prepare_command, query_command}
-use Rattle.mysql_session.specs.Sent.{parsed_of, text_of}
+use Rattle.mysql_session.specs.declared.road.Road.{Road}
+use Rattle.mysql_session.specs.declared.road.Road.TheVariants.{Text, Execute, Bulk}
+use Rattle.mysql_session.specs.Commands.{prepare_command}
+use Rattle.mysql_session.specs.Sets.{Given}
+use Rattle.mysql_session.specs.Sent.{Statement, parsed_of, whole_command}
 
 -- the first cause in a list
 abbrev pub first_some : List (Option Refusal) → Option Refusal
@@ -26,36 +23,37 @@ first_some (cause ∷ causes) = option_or cause (first_some causes)
 abbrev pub cause_if : Bool → Refusal → Option Refusal
 cause_if test cause = if test then Some cause else None
 
+-- what a set has to meet: so many placeholders, and payloads of at most so many bytes
+pub record Limits : Type 0 where
+  pub places : ℕ
+  pub bytes : ℕ
+
+-- the limits for a query with these placeholders: a packet has four bytes beside its payload
+abbrev pub limits_of : List Place → ℕ → Limits
+limits_of places limit = record { places = length places; bytes = limit - 4 }
+
+-- what speaks against what a set gives: no values, or they are not as many as the placeholders, or one is a float
+abbrev pub given_cause : Limits → ℕ → Given → Option Refusal
+given_cause limits set (Err error) = Some (refusal.Params set error)
+given_cause limits set (Ok values) = values_cause (refusal.WrongCount set) (λ place. refusal.Float set place) limits.places values
+
+-- what speaks against the size of the command that carries a set's values
+abbrev pub size_cause : (List Value → List ℕ) → Limits → ℕ → Given → Option Refusal
+size_cause command limits set (Err error) = None
+size_cause command limits set (Ok values) = cause_if (nat_lt limits.bytes (length (command values))) (refusal.PacketTooLarge set)
+
+-- what speaks against a set by itself
+abbrev pub set_cause : (List Value → List ℕ) → Limits → ℕ → Given → Option Refusal
+set_cause command limits set given = option_or (given_cause limits set given) (size_cause command limits set given)
+
 -- the first cause over sets that are numbered on from here
-abbrev pub first_of_sets : (ℕ → ParamSet → Option Refusal) → ℕ → List ParamSet → Option Refusal
+abbrev pub first_of_sets : (ℕ → Given → Option Refusal) → ℕ → List Given → Option Refusal
 first_of_sets cause number [] = None
-first_of_sets cause number (params ∷ sets) = option_or (cause number params) (first_of_sets cause (number + 1) sets)
-
--- what speaks against the values of a set: they are not as many as the placeholders, one is a float, their command is too long for a payload of so many bytes
-abbrev pub values_cause : (List Value → List ℕ) → ℕ → ℕ → ℕ → List Value → Option Refusal
-values_cause command count room set values = first_some (
-    cause_if (not (length values == count)) (refusal.WrongCount set) ∷
-    option_map (λ place. refusal.Float set place) (first_float values) ∷
-    cause_if (nat_lt room (length (command values))) (refusal.PacketTooLarge set) ∷ [])
-
--- what speaks against a set: it gives the query no values, or what speaks against its values
-abbrev pub over_cause : (List Value → List ℕ) → ℕ → ℕ → ℕ → Result (List Value) ParamsError → Option Refusal
-over_cause command count room set (Err error) = Some (refusal.Params set (set_error.Params error))
-over_cause command count room set (Ok values) = values_cause command count room set values
-
--- what speaks against sending a set by text
-abbrev pub text_set_cause : List (List ℕ) → ℕ → ℕ → ℕ → ParamSet → Option Refusal
-text_set_cause tokens count room set params =
-    over_cause (λ values. query_command (text_of tokens values)) count room set (values_over (names_of tokens) params)
+first_of_sets cause number (given ∷ sets) = option_or (cause number given) (first_of_sets cause (number + 1) sets)
 
 -- what speaks against placeholders for literals: both kinds occur, or one does not stand alone
 abbrev pub places_cause : List Place → Option Refusal
 places_cause places = option_or (cause_if (is_mixed places) refusal.Mixed) (option_map (λ place. refusal.NotAlone place) (first_not_alone places))
-
--- what speaks against sending sets of a query with these tokens and placeholders by text
-abbrev pub text_cause : List (List ℕ) → List Place → ℕ → List ParamSet → Option Refusal
-text_cause tokens places limit sets =
-    option_or (places_cause places) (first_of_sets (text_set_cause tokens (length places) (limit - 4)) 0 sets)
 
 -- the most placeholders that a statement can have
 abbrev pub max_places : ℕ
@@ -68,12 +66,14 @@ prepare_cause places parsed room = first_some (
     cause_if (nat_lt max_places (length places)) refusal.TooManyPlaces ∷
     cause_if (nat_lt room (length (prepare_command parsed))) refusal.PrepareTooLarge ∷ [])
 
--- what speaks against executing a query with these names and so many placeholders with a set
-abbrev pub execution_cause : List (List ℕ) → ℕ → ℕ → ℕ → ℕ → ParamSet → Option Refusal
-execution_cause names id count room set params = over_cause (execute_command id) count room set (values_over names params)
+-- what speaks against the query by a road, with payloads of at most so many bytes
+abbrev pub query_cause : Road → Statement → ℕ → Option Refusal
+query_cause Text statement room = places_cause statement.places
+query_cause Execute statement room = prepare_cause statement.places (parsed_of statement.tokens) room
+query_cause Bulk statement room = prepare_cause statement.places (parsed_of statement.tokens) room
 
--- what speaks against sending sets of a query with these tokens and placeholders by execute
-abbrev pub executions_cause : List (List ℕ) → List Place → ℕ → ℕ → List ParamSet → Option Refusal
-executions_cause tokens places id limit sets =
-    option_or (prepare_cause places (parsed_of tokens) (limit - 4))
-    (first_of_sets (execution_cause (names_of tokens) id (length places) (limit - 4)) 0 sets)
+-- The first cause for which sets are not sent by a road: against the query, then set by set. Causes that look at all sets come behind these.
+abbrev pub cause_of : Road → Statement → ℕ → List Given → Option Refusal
+cause_of road statement limit sets = first_some (
+    query_cause road statement (limit - 4) ∷
+    first_of_sets (set_cause (whole_command road statement) (limits_of statement.places limit)) 0 sets ∷ [])

@@ -1,61 +1,58 @@
--- One set at a time, by text.
--- MySQL: Client/Server Protocol, "COM_QUERY".
-use Rattle.std.specs.Prelude.{◌≡◌, ◌⊎◌, ℕ, ◌-◌, List, [], ◌∷◌, ◌++◌, length, Some, None}
-use Rattle.std.specs.Option.{option_or}
-use Rattle.mysql_wire.specs.Framing.{framing}
+-- What sets give a query: all that is sent of them, and all that speaks against them, is stated over this.
+-- MySQL Reference Manual, "PREPARE Statement" (parameter markers); names as placeholders are a form of client libraries.
+use Rattle.std.specs.Prelude.{◌≡◌, ℕ, List, [], ◌∷◌, filter, length, map, Option, None, Some, Result, Ok, Err}
+use Rattle.std.specs.List.{filter_map}
+use Rattle.std.specs.Result.{result_map_both}
 use Rattle.mysql_values.specs.Content.{Content}
-use Rattle.mysql_values.specs.declared.params.Params.{Params}
-use Rattle.mysql_values.specs.declared.params.SetError.TheVariants as set_error
-use Rattle.mysql_values.specs.declared.bind.BindError.{BindError}
-use Rattle.mysql_values.specs.declared.bind.BindError.TheVariants as bind_error
+use Rattle.mysql_values.specs.Value.{Value}
+use Rattle.mysql_values.specs.Values.{content_of}
+use Rattle.mysql_values.specs.Params.{values_over}
+use Rattle.mysql_values.specs.Parsed.{names_of}
+use Rattle.mysql_values.specs.Queries.{is_place}
 use Rattle.mysql_values.specs.Tokens.{HasTokens}
-use Rattle.mysql_values.specs.Queries.{places_from, Slices}
-use Rattle.mysql_values.specs.Params.{IsMeaning}
-use Rattle.mysql_session.specs.declared.refusal.Refusal.{Refusal}
-use Rattle.mysql_session.specs.declared.refusal.Refusal.TheVariants as refusals
-use Rattle.mysql_session.specs.Commands.{query_command}
-use Rattle.mysql_session.specs.Sent.{text_of, values_of}
-use Rattle.mysql_session.specs.Cause.{text_set_cause, places_cause}
-use Rattle.mysql_session.specs.Sending.{SendsText}
+use Rattle.mysql_values.specs.declared.params.ParamsError.TheVariants.{Confusion}
+use Rattle.mysql_values.specs.declared.params.ParamsConfusionError.TheVariants.{PositionalParamsForNamedQuery}
+use Rattle.mysql_values.specs.declared.params.Params.{Params}
+use Rattle.mysql_values.specs.declared.params.SetError.{SetError}
+use Rattle.mysql_values.specs.declared.params.SetError.TheVariants as set_error
+use Rattle.mysql_convert.specs.Sets.{too_long}
 
--- each set's query reads as the set's meaning: the query's pieces with a literal of each of its contents between
-abbrev pub AreRead : List ℕ → List (List ℕ) → List Params → List (List Content) → Type 0
-AreRead query tokens [] [] = Unit {0}
-AreRead query tokens [] (contents ∷ others) = ⊥
-AreRead query tokens (params ∷ sets) [] = ⊥
-AreRead query tokens (params ∷ sets) (contents ∷ others) =
-    IsMeaning query params contents × (Slices query (text_of tokens (values_of tokens params)) contents × AreRead query tokens sets others)
+-- what a set gives a query: the values for its placeholders, or why it gives none
+abbrev pub Given : Type 0
+Given = Result (List Value) SetError
 
--- the refusal that stands for an error of binding a set's text
-abbrev pub refusal_by : ℕ → BindError → Refusal
-refusal_by set bind_error.Mixed = refusals.Mixed
-refusal_by set (bind_error.NotAlone place) = refusals.NotAlone place
-refusal_by set (bind_error.Params error) = refusals.Params set (set_error.Params error)
-refusal_by set bind_error.WrongCount = refusals.WrongCount set
-refusal_by set (bind_error.Float place) = refusals.Float set place
-refusal_by set bind_error.Memory = refusals.Memory
+-- what a parameter set gives a query with these names
+abbrev pub given_by : List (List ℕ) → Params → Given
+given_by names params = result_map_both (λ values. values) (λ error. set_error.Params error) (values_over names params)
 
--- the first cause of one set of a query whose placeholders are no cause
-pub record IsSetCause (query : List ℕ) (params : Params) (set limit : ℕ) (refusal : Refusal) : Type 0 where
+-- what each of the parameter sets gives it
+abbrev pub all_given : List Params → List (List ℕ) → List Given
+all_given sets names = map (given_by names) sets
+
+-- what values in order give a query with these names: no values are the empty set, and a query with names takes no others
+abbrev pub given_in_order : List (List ℕ) → List Value → Given
+given_in_order names [] = Ok []
+given_in_order [] (value ∷ values) = Ok (value ∷ values)
+given_in_order (name ∷ names) (value ∷ values) = Err (set_error.Params (Confusion PositionalParamsForNamedQuery))
+
+-- the refusal, where there is one
+abbrev pub unless_refused : Option SetError → Given → Given
+unless_refused None given = given
+unless_refused (Some error) given = Err error
+
+-- what a list of objects with these values gives it; none stands for an object that is too long for a value, and comes before all else
+abbrev pub given_by_objects : List (List ℕ) → List (Option Value) → Given
+given_by_objects names objects = unless_refused (too_long 0 objects) (given_in_order names (filter_map (λ object. object) objects))
+
+-- what each of the lists of objects gives it
+abbrev pub all_given_by_objects : List (List (Option Value)) → List (List ℕ) → List Given
+all_given_by_objects sets names = map (given_by_objects names) sets
+
+-- what a list of objects means over a query: the contents of its values, which are as many as the placeholders and none a float
+pub record IsObjectsMeaning (query : List ℕ) (objects : List (Option Value)) (contents : List Content) : Type 0 where
   pub tokens : List (List ℕ)
   pub has : HasTokens query tokens
-  pub first : option_or (places_cause (places_from query 0 tokens)) (text_set_cause tokens (length (places_from query 0 tokens)) (limit - 4) set params) ≡ Some refusal
-
-abbrev pub RefusesSet : List ℕ → Params → ℕ → ℕ → Refusal → Type 0
-RefusesSet query params set limit refusal = (refusal ≡ refusals.Memory) ⊎ IsSetCause query params set limit refusal
-
--- one set's query is appended, and no cause speaks against it
-pub record AppendsQuery (query : List ℕ) (params : Params) (set limit : ℕ) (old new : List ℕ) : Type 0 where
-  pub tokens : List (List ℕ)
-  pub has : HasTokens query tokens
-  pub none : text_set_cause tokens (length (places_from query 0 tokens)) (limit - 4) set params ≡ None
-  pub appended : new ≡ old ++ framing (query_command (text_of tokens (values_of tokens params))) 0
-  pub contents : List Content
-  pub meant : IsMeaning query params contents
-  pub slices : Slices query (text_of tokens (values_of tokens params)) contents
-
--- the sets were sent, and each query reads as its set's meaning
-pub record QueriesSent (query : List ℕ) (sets : List Params) (limit : ℕ) (old new : List ℕ) : Type 0 where
-  pub sends : SendsText query sets limit old new
-  pub contents : List (List Content)
-  pub read : AreRead query sends.tokens sets contents
+  pub values : List Value
+  pub gives : given_by_objects (names_of tokens) objects ≡ Ok values
+  pub count : length values ≡ length (filter is_place tokens)
+  pub each : map content_of values ≡ map Some contents

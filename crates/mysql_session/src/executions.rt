@@ -1,17 +1,20 @@
 //! Parameter sets as executions of a prepared statement.
 
-ghost use Rattle.std.specs.Prelude.{◌≡◌, ◌<◌, ◌≤◌, ◌++◌, ◌⊎◌, Err, IfErr, IfOk, None, Ok, OnErr, OnOk, Some, false, is_none, length, map, take, true, vec_len};
-ghost use Rattle.mysql_values.specs.Binding.{first_float as float_at};
+ghost use Rattle.std.specs.Prelude.{◌≡◌, ◌<◌, ◌≤◌, ◌++◌, ◌⊎◌, ℕ, Err, IfErr, IfOk, List, None, Ok, OnErr, OnOk, Some, false, is_none, length, map, take, true};
+ghost use Rattle.mysql_values.specs.Binding.{first_float as float_at, values_cause};
 ghost use Rattle.mysql_values.specs.Params.{values_over};
 ghost use Rattle.mysql_values.specs.Parsed.{HasNames};
-ghost use Rattle.mysql_values.specs.Queries.{HasMixed, IsParsed};
+ghost use Rattle.mysql_values.specs.Queries.{HasMixed, IsParsed, places_from};
+ghost use Rattle.mysql_values.specs.Tokens.{HasTokens};
 ghost use Rattle.mysql_values.specs.Values.{content_of};
 ghost use Rattle.mysql_values.specs.declared.params.ParamsError.{ParamsError as ParamsErrorOf};
 ghost use Rattle.mysql_wire.specs.Framing.{framing};
-ghost use Rattle.mysql_session.specs.Commands.{prepare_command};
-ghost use Rattle.mysql_session.specs.Executions.{AppendsExecution, ExecutionsSent, IsStatement, RefusesExecution, RefusesStatement, count_cause, refusal_of};
-ghost use Rattle.mysql_session.specs.Sending.{RefusesExecutions};
+ghost use Rattle.mysql_session.specs.Commands.{execute_command, prepare_command};
+ghost use Rattle.mysql_session.specs.OneSet.{AppendsExecution, AppendsExecutions, IsPreparable, RefusesSet, RefusesSets, RefusesStatement, SentReadable, refusal_of};
+ghost use Rattle.mysql_session.specs.Sending.{Refuses};
+ghost use Rattle.mysql_session.specs.Sets.{all_given, given_by};
 ghost use Rattle.mysql_session.specs.declared.refusal.Refusal.TheVariants as refusals;
+ghost use Rattle.mysql_session.specs.declared.road.Road.TheVariants as roads;
 
 use crate::execute_command::put_execution;
 use crate::refusal::Refusal;
@@ -82,8 +85,8 @@ fn values_for<'a>(
 
 /// Refuses `WrongCount`, then `Float`.
 fn check_values(values: &[&Value], places: usize, set: usize) -> Result<(), Refusal>
-    ensures ok { OnOk result (count_cause places set (map (λ value. value.now) values.now) ≡ None) }
-    ensures err { IfErr result (λ refusal. count_cause places set (map (λ value. value.now) values.now) ≡ Some refusal) }
+    ensures ok { OnOk result (values_cause (refusals.WrongCount set) (λ place. refusals.Float set place) places (map (λ value. value.now) values.now) ≡ None) }
+    ensures err { IfErr result (λ refusal. values_cause (refusals.WrongCount set) (λ place. refusals.Float set place) places (map (λ value. value.now) values.now) ≡ Some refusal) }
 {
     if values.len() != places {
         return Err(Refusal::WrongCount(set));
@@ -108,17 +111,25 @@ fn parsed<'q>(alloc: Global, query: &'q [u8]) -> Result<ParsedNamedParams<'q>, R
     }
 }
 
+/// How many placeholders a query has.
+fn place_count(alloc: Global, query: &[u8]) -> Result<usize, Refusal>
+    ensures ok { IfOk result (λ count. (tokens : List (List ℕ)) × HasTokens query.now tokens × (count ≡ length (places_from query.now 0 tokens))) }
+    ensures err { IfErr result (λ e. e ≡ refusals.Memory) }
+{
+    match places(alloc, query) {
+        Ok(places) => Ok(places.len()),
+        Err(_) => Err(Refusal::Memory),
+    }
+}
+
 /// The query as a statement. Refuses `Mixed`, then `TooManyPlaces`.
 fn statement_of<'q>(alloc: Global, query: &'q [u8], id: u32) -> Result<Statement<'q>, Refusal>
-    ensures ok { IfOk result (λ statement. IsStatement query.entry.now statement.parsed statement.places × (statement.id ≡ id)) }
+    ensures ok { IfOk result (λ statement. IsPreparable query.entry.now statement.parsed statement.places × (statement.id ≡ id)) }
     ensures err { IfErr result (RefusesStatement query.entry.now) }
 {
     tokens_of_a_text();
+    let places = place_count(alloc, query)?;
     let parsed = parsed(alloc, query)?;
-    let Ok(places) = places(alloc, query) else {
-        return Err(Refusal::Memory);
-    };
-    let places = places.len();
     if places > 65535 {
         return Err(Refusal::TooManyPlaces);
     }
@@ -155,6 +166,30 @@ fn put_prepare(
     Ok(())
 }
 
+/// Appends the execution with these values.
+fn put_values(
+    statement: &Statement<'_>,
+    set: usize,
+    values: &[&Value],
+    room: usize,
+    command: &mut Vec<u8>,
+    out: &mut Vec<u8>,
+) -> Result<(), Refusal>
+    requires { statement.now.places ≤ 65535 }
+    ensures ok { OnOk result (AppendsExecution statement.now.id (record { places = statement.now.places; bytes = room }) set (Ok (map (λ value. value.now) values.now)) out.old.items out.new.items) }
+    ensures err { IfErr result (RefusesSet (execute_command statement.now.id) (record { places = statement.now.places; bytes = room }) set (Ok (map (λ value. value.now) values.now))) }
+    ensures kept { OnErr result (out.new.items ≡ out.old.items) }
+{
+    check_values(values, statement.places, set)?;
+    command.clear();
+    put_execution(statement.id, values, command)?;
+    if command.len() > room {
+        return Err(Refusal::PacketTooLarge(set));
+    }
+    packet_to_chunks(0, command, out)?;
+    Ok(())
+}
+
 /// Appends the execution of one set.
 fn put_set(
     alloc: Global,
@@ -166,18 +201,31 @@ fn put_set(
     out: &mut Vec<u8>,
 ) -> Result<(), Refusal>
     requires { statement.now.places ≤ 65535 }
-    ensures ok { OnOk result (AppendsExecution statement.now.parsed.names statement.now.id statement.now.places room set params.now out.old.items out.new.items) }
-    ensures err { IfErr result (RefusesExecution statement.now.parsed.names statement.now.id statement.now.places room set params.now) }
+    ensures ok { OnOk result (AppendsExecution statement.now.id (record { places = statement.now.places; bytes = room }) set (given_by statement.now.parsed.names params.now) out.old.items out.new.items) }
+    ensures err { IfErr result (RefusesSet (execute_command statement.now.id) (record { places = statement.now.places; bytes = room }) set (given_by statement.now.parsed.names params.now)) }
     ensures kept { OnErr result (out.new.items ≡ out.old.items) }
 {
     let values = values_for(alloc, statement, set, params)?;
-    check_values(&values, statement.places, set)?;
-    command.clear();
-    put_execution(statement.id, &values, command)?;
-    if command.len() > room {
-        return Err(Refusal::PacketTooLarge(set));
+    put_values(statement, set, &values, room, command, out)
+}
+
+/// Appends the execution of each set. After a refusal what stood before stands in front.
+fn put_sets(
+    alloc: Global,
+    statement: &Statement<'_>,
+    sets: &[Params],
+    room: usize,
+    out: &mut Vec<u8>,
+) -> Result<(), Refusal>
+    requires { statement.now.places ≤ 65535 }
+    ensures ok { OnOk result (AppendsExecutions statement.now.id (record { places = statement.now.places; bytes = room }) (all_given sets.now statement.now.parsed.names) out.old.items out.new.items) }
+    ensures err { IfErr result (RefusesSets (execute_command statement.now.id) (record { places = statement.now.places; bytes = room }) (all_given sets.now statement.now.parsed.names)) }
+    ensures kept { take (length out.old.items) out.new.items ≡ out.old.items }
+{
+    let mut command = Vec::new(alloc);
+    'sets: for (set, params) in sets.iter().enumerate() {
+        put_set(alloc, statement, set, params, room, &mut command, out)?;
     }
-    packet_to_chunks(0, command, out)?;
     Ok(())
 }
 
@@ -191,15 +239,11 @@ pub(crate) fn put_executions(
     out: &mut Vec<u8>,
 ) -> Result<(), Refusal>
     requires { 4 ≤ limit }
-    ensures ok { OnOk result (ExecutionsSent query.now sets.now stmt_id limit out.old.items out.new.items) }
-    ensures err { IfErr result (RefusesExecutions query.now sets.now stmt_id limit) }
-    ensures kept { take (vec_len out.old) out.new.items ≡ out.old.items }
+    ensures ok { OnOk result (SentReadable roads.Execute query.now sets.now stmt_id limit out.old.items out.new.items) }
+    ensures err { IfErr result (Refuses roads.Execute query.now sets.now stmt_id limit) }
+    ensures kept { take (length out.old.items) out.new.items ≡ out.old.items }
 {
     let statement = statement_of(alloc, query, stmt_id)?;
     put_prepare(alloc, &statement, limit - 4, out)?;
-    let mut command = Vec::new(alloc);
-    'sets: for (set, params) in sets.iter().enumerate() {
-        put_set(alloc, &statement, set, params, limit - 4, &mut command, out)?;
-    }
-    Ok(())
+    put_sets(alloc, &statement, sets, limit - 4, out)
 }

@@ -4,6 +4,7 @@
 mod execute_command;
 mod executions;
 pub mod laws;
+mod objects;
 mod program;
 mod refusal;
 mod road;
@@ -12,6 +13,9 @@ mod text_queries;
 
 pub use mysql_commands::{Audit, End, Receiver, ReceiverError, StreamFault, receive};
 pub use mysql_const::{CapabilityFlags, StatusFlags};
+pub use mysql_convert::{
+    FromValue, FromValueError, IntoParams, ToValue, ToValueError, from_value, from_value_opt,
+};
 pub use mysql_packets::{Column, OkPacket, ProgressReport, ServerError, StmtPacket};
 pub use mysql_replies::{
     Reply, ReplyEnd, ReplyFault, ReplyKind, ReplyReader, ReplyResult, read_reply,
@@ -21,6 +25,7 @@ pub use mysql_values::{
     SetError, Value,
 };
 pub use mysql_wire::{PacketCodecError, PacketReader};
+pub use objects::send_values;
 pub use program::{Status, run};
 pub use refusal::Refusal;
 pub use road::Road;

@@ -21,7 +21,8 @@ fn counted(sets: &[Params]) -> usize
 /// Appends to `out` the commands that carry parameter sets of a query to a server, as framed packets, each numbered from 0:
 /// by [`Road::Text`] a query for each set, its values as literals in the places of the placeholders; by [`Road::Execute`] one
 /// prepare, also where there are no sets, and an execution of the statement `stmt_id` for each set. Sets and places count
-/// from 0; a payload has at most `limit - 4` bytes. `receive` with the same query, id and limit reads the sets back.
+/// from 0; a payload has at most `limit - 4` bytes, as the limit counts a packet with its header. `receive` with the same query,
+/// id and limit, which counts payloads alone there, reads the sets back.
 ///
 /// A placeholder is a question mark, or a colon and a name of `a` to `z`, `0` to `9` and `_` that begins with no digit, by
 /// which, without the colon, a set gives its value. `:aB` is the placeholder `a` before a `B`; `:Name` is none, so that a set

@@ -1,11 +1,13 @@
 //! Parameter sets as text queries.
 
-ghost use Rattle.std.specs.Prelude.{◌≡◌, ◌≤◌, IfErr, None, OnErr, OnOk, Some, take, vec_len};
-ghost use Rattle.mysql_values.specs.Queries.{HasPlaces};
-ghost use Rattle.mysql_values.specs.Queries.{first_not_alone as not_alone};
+ghost use Rattle.std.specs.Prelude.{◌≡◌, ◌⊎◌, ◌≤◌, ℕ, IfErr, List, None, OnErr, OnOk, Some, length, take};
+ghost use Rattle.mysql_values.specs.Queries.{places_from};
+ghost use Rattle.mysql_values.specs.Tokens.{HasTokens};
 ghost use Rattle.mysql_session.specs.Cause.{places_cause};
-ghost use Rattle.mysql_session.specs.Sending.{RefusesText};
-ghost use Rattle.mysql_session.specs.Sets.{AppendsQuery, QueriesSent, RefusesSet, refusal_by};
+ghost use Rattle.mysql_session.specs.OneSet.{AppendsQuery, RefusesQuery, SentReadable, refusal_by};
+ghost use Rattle.mysql_session.specs.Sending.{Refuses};
+ghost use Rattle.mysql_session.specs.declared.refusal.Refusal.TheVariants as refusals;
+ghost use Rattle.mysql_session.specs.declared.road.Road.TheVariants as roads;
 
 use crate::refusal::Refusal;
 use mysql_const::Command;
@@ -27,6 +29,17 @@ fn check_places(places: &[Place]) -> Result<(), Refusal>
     match first_not_alone(places) {
         Some(place) => Err(Refusal::NotAlone(place)),
         None => Ok(()),
+    }
+}
+
+/// Whether a text query can carry literals in the placeholders of a query.
+fn check_query(alloc: Global, query: &[u8]) -> Result<(), Refusal>
+    ensures ok { OnOk result ((tokens : List (List ℕ)) × HasTokens query.now tokens × (places_cause (places_from query.now 0 tokens) ≡ None)) }
+    ensures err { IfErr result (λ refusal. (refusal ≡ refusals.Memory) ⊎ ((tokens : List (List ℕ)) × HasTokens query.now tokens × (places_cause (places_from query.now 0 tokens) ≡ Some refusal))) }
+{
+    match places(alloc, query) {
+        Ok(places) => check_places(&places),
+        Err(_) => Err(Refusal::Memory),
     }
 }
 
@@ -55,8 +68,8 @@ fn put_query(
     out: &mut Vec<u8>,
 ) -> Result<(), Refusal>
     requires { 4 ≤ limit }
-    ensures ok { OnOk result (AppendsQuery query.now params.now set limit out.old.items out.new.items) }
-    ensures err { IfErr result (RefusesSet query.now params.now set limit) }
+    ensures ok { OnOk result ((tokens : List (List ℕ)) × HasTokens query.now tokens × AppendsQuery query.now tokens params.now set limit out.old.items out.new.items) }
+    ensures err { IfErr result (RefusesQuery query.now params.now set limit) }
     ensures kept { OnErr result (out.new.items ≡ out.old.items) }
 {
     command.clear();
@@ -80,15 +93,13 @@ pub(crate) fn put_queries(
     out: &mut Vec<u8>,
 ) -> Result<(), Refusal>
     requires { 4 ≤ limit }
-    ensures ok { OnOk result (QueriesSent query.now sets.now limit out.old.items out.new.items) }
-    ensures err { IfErr result (RefusesText query.now sets.now limit) }
-    ensures kept { take (vec_len out.old) out.new.items ≡ out.old.items }
+    // A text query carries no id: this holds of each.
+    ensures ok { OnOk result ((id : ℕ) → SentReadable roads.Text query.now sets.now id limit out.old.items out.new.items) }
+    ensures err { IfErr result (λ refusal. (id : ℕ) → Refuses roads.Text query.now sets.now id limit refusal) }
+    ensures kept { take (length out.old.items) out.new.items ≡ out.old.items }
 {
     tokens_of_a_text();
-    let Ok(places) = places(alloc, query) else {
-        return Err(Refusal::Memory);
-    };
-    check_places(&places)?;
+    check_query(alloc, query)?;
     let mut command = Vec::new(alloc);
     'sets: for (set, params) in sets.iter().enumerate() {
         put_query(alloc, query, set, params, limit, &mut command, out)?;

@@ -18,6 +18,8 @@ mod faults;
 #[cfg(test)]
 mod large;
 #[cfg(test)]
+mod objects;
+#[cfg(test)]
 mod program;
 #[cfg(test)]
 mod refusals;

@@ -116,7 +116,7 @@ fn sent(
 }
 
 /// Bytes that have to stay before what is sent.
-fn front(assert: &impl Assert, alloc: Global) -> Vec<u8> {
+pub fn front(assert: &impl Assert, alloc: Global) -> Vec<u8> {
     once_more(
         assert,
         Vec::from_slice(alloc, b"front"),
@@ -168,6 +168,7 @@ pub enum Cause {
     PrepareTooLarge,
     Missing(usize, &'static [u8]),
     Confusion(usize, ParamsConfusionError),
+    TooLong(usize, usize),
     WrongCount(usize),
     Float(usize, usize),
     PacketTooLarge(usize),
@@ -188,6 +189,7 @@ fn refusal(alloc: Global, cause: Cause) -> Result<Refusal, AllocError> {
         Cause::Confusion(set, confusion) => {
             Ok(Refusal::Params(set, SetError::Params(ParamsError::Confusion(confusion))))
         }
+        Cause::TooLong(set, place) => Ok(Refusal::Params(set, SetError::TooLong(place))),
         Cause::WrongCount(set) => Ok(Refusal::WrongCount(set)),
         Cause::Float(set, place) => Ok(Refusal::Float(set, place)),
         Cause::PacketTooLarge(set) => Ok(Refusal::PacketTooLarge(set)),
@@ -195,7 +197,12 @@ fn refusal(alloc: Global, cause: Cause) -> Result<Refusal, AllocError> {
 }
 
 /// Asserts that an answer is the refusal for this cause.
-fn assert_cause(assert: &impl Assert, alloc: Global, answer: Result<(), Refusal>, cause: Cause) {
+pub fn assert_cause(
+    assert: &impl Assert,
+    alloc: Global,
+    answer: Result<(), Refusal>,
+    cause: Cause,
+) {
     let wanted = once_more(assert, refusal(alloc, cause), refusal(alloc, cause));
     assert.holds(answer == Err(wanted));
 }

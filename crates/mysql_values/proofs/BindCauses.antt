@@ -1,13 +1,14 @@
 -- What binding a text gives, and why it is refused.
 use Rattle.std.proofs.Common.{◌≡◌, ℕ, ◌+◌, true, false, ◌==◌, if◌then◌else◌, List, [], ◌∷◌, ◌++◌, length, filter, refl, sym, ap, ◌∙◌, inl, inr, arith, subst, Option, Some, None, Result, Ok, IsSomeAnd}
 use Rattle.std.specs.List.{AllByRecursion}
+use Rattle.std.specs.Option.{option_map}
 use Rattle.std.proofs.lemmas.Bool.{cases_Bool}
 use Rattle.std.proofs.lemmas.Bool.Decides.{nat_tests}
 use Rattle.mysql_queries.specs.Queries.{HasPlaces, Slices, Lexes, first_not_alone, interleaved, is_place, is_mixed, places_from, pieces_of, slices_between}
 use Rattle.mysql_queries.specs.Laws.{FilledIsRead, NamesAreSlices, PiecesAreSlices}
 use Rattle.mysql_queries.specs.Parsed.{names_at, names_of}
 use Rattle.mysql_values.specs.Params.{IsMeaning, values_over}
-use Rattle.mysql_values.specs.Binding.{IsBindCause, IsBound, IsFilled, bind_cause, values_cause, alone_cause, float_cause, first_float}
+use Rattle.mysql_values.specs.Binding.{IsBindCause, IsBound, IsFilled, bind_cause, given_cause, alone_cause, first_float}
 use Rattle.mysql_queries.specs.declared.content.Content.{Content}
 use Rattle.mysql_cells.specs.declared.value.Value.{Value}
 use Rattle.mysql_values.specs.declared.params.Params.{Params}
@@ -28,23 +29,27 @@ pub is_cause : NamesAreSlices → (query : List ℕ) (params : Params) (places :
 is_cause law query params places e h k =
     (h.0, h.1, ap (λ ps. bind_cause ps (values_over (names_of h.0) params)) (sym h.2) ∙ ap (λ ns. bind_cause places (values_over ns params)) (sym (names_are law query places h)) ∙ k)
 
-cause_later : (places : List Place) (over : Result (List Value) ParamsError) → is_mixed places ≡ false → first_not_alone places ≡ None → bind_cause places over ≡ values_cause (length places) over
-cause_later places over m a = ap (λ b. if b then Some bind_error.Mixed else alone_cause (first_not_alone places) (values_cause (length places) over)) m ∙ ap (λ o. alone_cause o (values_cause (length places) over)) a
+cause_later : (places : List Place) (over : Result (List Value) ParamsError) → is_mixed places ≡ false → first_not_alone places ≡ None → bind_cause places over ≡ given_cause (length places) over
+cause_later places over m a = ap (λ b. if b then Some bind_error.Mixed else alone_cause (first_not_alone places) (given_cause (length places) over)) m ∙ ap (λ o. alone_cause o (given_cause (length places) over)) a
 
 pub values_are_cause : NamesAreSlices → (query : List ℕ) (params : Params) (places : List Place) (e : BindError) → HasPlaces query places → is_mixed places ≡ false → first_not_alone places ≡ None
-    → values_cause (length places) (values_over (names_at query places) params) ≡ Some e → IsBindCause query params e
+    → given_cause (length places) (values_over (names_at query places) params) ≡ Some e → IsBindCause query params e
 values_are_cause law query params places e h m a k = is_cause law query params places e h (cause_later places (values_over (names_at query places) params) m a ∙ k)
 
 same_numbers : (a b : ℕ) → a ≡ b → (a == b) ≡ true
 same_numbers a b h = grind (arith, nat_tests)
 
-counted_cause : (count : ℕ) (values : List Value) → length values ≡ count → values_cause count (Ok values) ≡ float_cause (first_float values)
-counted_cause count values n = ap (λ b. if b then float_cause (first_float values) else Some bind_error.WrongCount) (same_numbers (length values) count n)
+-- the first float as the error of binding
+abbrev float_error : Option ℕ → Option BindError
+float_error found = option_map (λ place. bind_error.Float place) found
+
+counted_cause : (count : ℕ) (values : List Value) → length values ≡ count → given_cause count (Ok values) ≡ float_error (first_float values)
+counted_cause count values n = ap (λ b. if b then float_error (first_float values) else Some bind_error.WrongCount) (same_numbers (length values) count n)
 
 pub float_is_cause : NamesAreSlices → (query : List ℕ) (params : Params) (places : List Place) (values : List Value) (place : ℕ) → HasPlaces query places → is_mixed places ≡ false → first_not_alone places ≡ None
     → values_over (names_at query places) params ≡ Ok values → length values ≡ length places → first_float values ≡ Some place → IsBindCause query params (bind_error.Float place)
 float_is_cause law query params places values place h m a o n f =
-    values_are_cause law query params places (bind_error.Float place) h m a (ap (values_cause (length places)) o ∙ counted_cause (length places) values n ∙ ap float_cause f)
+    values_are_cause law query params places (bind_error.Float place) h m a (ap (given_cause (length places)) o ∙ counted_cause (length places) values n ∙ ap float_error f)
 
 places_count : (query : List ℕ) (at : ℕ) (ts : List (List ℕ)) → length (places_from query at ts) ≡ length (filter is_place ts)
 places_count query at [] = refl
@@ -62,7 +67,7 @@ pub bind_ok : NamesAreSlices → PiecesAreSlices → FilledIsRead → (query : L
 bind_ok names pieces read query params places values before after h m a each o n text e f =
     let c : Contents values f.literals = contents_of values f.literals f.each f.have in
     let over : values_over (names_of h.0) params ≡ Ok values = ap (λ ns. values_over ns params) (sym (names_are names query places h)) ∙ o in
-    let none : bind_cause places (Ok values) ≡ None = cause_later places (Ok values) m a ∙ counted_cause (length places) values n ∙ ap float_cause (no_floats values f.literals 0 f.each) in
+    let none : bind_cause places (Ok values) ≡ None = cause_later places (Ok values) m a ∙ counted_cause (length places) values n ∙ ap float_error (no_floats values f.literals 0 f.each) in
     let r : Slices query text c.contents × Lexes query text c.contents = subst (λ y. Slices query y c.contents × Lexes query y c.contents) (sym f.spelled) (read query places f.literals c.contents h each (c.count ∙ n) c.are) in (
       text,
       c.contents,

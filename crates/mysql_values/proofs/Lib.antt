@@ -1,3 +1,4 @@
 pub mod Looked
 pub mod TextWritten
 pub mod BindCauses
+pub mod Cloned

@@ -2,6 +2,7 @@
 -- MySQL Reference Manual, "Literal Values" and "PREPARE Statement" (parameter markers).
 use Rattle.std.specs.Prelude.{◌≡◌, ℕ, ◌==◌, List, map, length, is_none, Option, Some, None, Result, Ok, Err, if◌then◌else◌}
 use Rattle.std.specs.List.{position_from, AllByRecursion}
+use Rattle.std.specs.Option.{option_map}
 use Rattle.mysql_queries.specs.Tokens.{HasTokens}
 use Rattle.mysql_queries.specs.Queries.{first_not_alone, interleaved, is_mixed, pieces_of, places_from, slices_between}
 use Rattle.mysql_queries.specs.Parsed.{names_of}
@@ -26,15 +27,14 @@ bind_error_of Memory = bind_error.Memory
 abbrev pub first_float : List Value → Option ℕ
 first_float values = position_from (λ value. is_none (content_of value)) 0 values
 
--- a fault at a placeholder, if there is one
-abbrev pub float_cause : Option ℕ → Option BindError
-float_cause None = None
-float_cause (Some place) = Some (bind_error.Float place)
+-- what is wrong with values for so many placeholders, by the errors that are handed in: they are not as many, or else the first float.
+abbrev pub values_cause : {E : Type 0} → E → (ℕ → E) → ℕ → List Value → Option E
+values_cause wrong_count float count values = if length values == count then option_map (λ place. float place) (first_float values) else Some wrong_count
 
--- what is wrong with values for so many placeholders
-abbrev pub values_cause : ℕ → Result (List Value) ParamsError → Option BindError
-values_cause count (Err error) = Some (bind_error.Params error)
-values_cause count (Ok values) = if length values == count then float_cause (first_float values) else Some bind_error.WrongCount
+-- what is wrong with what a set gives for so many placeholders: no values, or what is wrong with these
+abbrev pub given_cause : ℕ → Result (List Value) ParamsError → Option BindError
+given_cause count (Err error) = Some (bind_error.Params error)
+given_cause count (Ok values) = values_cause bind_error.WrongCount (λ place. bind_error.Float place) count values
 
 -- the cause at a placeholder that doesn't stand alone, else the one behind it
 abbrev pub alone_cause : Option ℕ → Option BindError → Option BindError
@@ -43,7 +43,7 @@ alone_cause (Some place) other = Some (bind_error.NotAlone place)
 
 -- The first cause, in the order of the errors, for which no text is bound to these placeholders and the values over them.
 abbrev pub bind_cause : List Place → Result (List Value) ParamsError → Option BindError
-bind_cause places over = if is_mixed places then Some bind_error.Mixed else alone_cause (first_not_alone places) (values_cause (length places) over)
+bind_cause places over = if is_mixed places then Some bind_error.Mixed else alone_cause (first_not_alone places) (given_cause (length places) over)
 
 -- no text is bound, for this cause
 abbrev pub IsBindCause : List ℕ → Params → BindError → Type 0

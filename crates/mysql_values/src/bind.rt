@@ -1,7 +1,7 @@
 //! A query's text with literals in the places of its placeholders.
 
 ghost use Rattle.mysql_cells.specs.AsSql.{HasLiteral};
-ghost use Rattle.mysql_values.specs.Binding.{IsBindCause, IsBound, IsFilled, bind_cause, bind_error_of, first_float, values_cause};
+ghost use Rattle.mysql_values.specs.Binding.{IsBindCause, IsBound, IsFilled, bind_cause, bind_error_of, first_float, given_cause};
 ghost use Rattle.mysql_values.specs.Params.{IsMeaning, values_over};
 ghost use Rattle.mysql_queries.specs.Parsed.{names_at};
 ghost use Rattle.mysql_queries.specs.Queries.{HasPlaces, Lexes, Slices, first_not_alone as first_apart, is_mixed as has_both_kinds};
@@ -121,7 +121,7 @@ fn values_to_bind<'a>(
     requires { HasPlaces query.now places.now }
     ensures over { IfOk result (λ values. values_over (names_at query.now places.now) params.entry.now ≡ Ok (map (λ value. value.now) values.items)) }
     ensures count { IfOk result (λ values. length values.items ≡ length places.now) }
-    ensures err { IfErr result (λ e. (e ≡ bind_error.Memory) ⊎ (values_cause (length places.now) (values_over (names_at query.now places.now) params.entry.now) ≡ Some e)) }
+    ensures err { IfErr result (λ e. (e ≡ bind_error.Memory) ⊎ (given_cause (length places.now) (values_over (names_at query.now places.now) params.entry.now) ≡ Some e)) }
 {
     let names = names_among(alloc, query, places)?;
     let values = values_over_names(alloc, params, &names)?;

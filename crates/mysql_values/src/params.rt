@@ -1,7 +1,7 @@
 //! Parameter sets of a query.
 
 ghost use Rattle.mysql_values.specs.Params.{IsMissing, IsPositional, names_given, value_named, values_named, values_over};
-ghost use Rattle.std.specs.Prelude.{◌≡◌, ◌⊎◌, Err, IfErr, IfOk, Ok, map, option_copied};
+ghost use Rattle.std.specs.Prelude.{◌≡◌, ◌⊎◌, Err, IfErr, IfOk, List, Ok, map, option_copied, ℕ};
 ghost use Rattle.mysql_values.specs.declared.params.ParamsError.TheVariants as params_error;
 ghost use Rattle.mysql_values.specs.declared.params.SetError.TheVariants as set_error;
 
@@ -193,6 +193,19 @@ fn lent<'a>(alloc: Global, values: &'a [Value]) -> Result<Vec<&'a Value>, AllocE
 }
 
 impl Params {
+    /// A copy of the set, which gives each query what the set gives it. Refused for want of memory.
+    pub fn clone(&self, alloc: Global) -> Result<Params, AllocError>
+        ensures { IfOk result (λ copy. (names : List (List ℕ)) → values_over names copy ≡ values_over names self.now) }
+    {
+        match self {
+            Params::Empty => Ok(Params::Empty),
+            Params::Named(entries) => Ok(Params::Named(entries.clone()?)),
+            Params::Positional(values) => {
+                Ok(Params::Positional(Vec::from_clones(alloc, values.as_slice())?))
+            }
+        }
+    }
+
     /// The values that the set gives a query, in the order of its placeholders, lent.
     ///
     /// A set by name looks up each name of the query, a name that occurs twice twice; names that the query lacks are left aside.

@@ -1,4 +1,4 @@
-//! Tests of `mysql_values` from outside: worked rows of placeholders, literals, parameters and texts.
+//! Tests of `mysql_values` and `mysql_convert` from outside: worked rows of placeholders, literals, parameters, texts and conversions.
 //!
 //! At most one allocation of a run is refused. So a call that answers that memory was refused is made once more, and then has
 //! to answer.
@@ -9,7 +9,11 @@ mod binding;
 #[cfg(test)]
 mod cells;
 #[cfg(test)]
+mod conversions;
+#[cfg(test)]
 mod literals;
+#[cfg(test)]
+mod parameter_sets;
 #[cfg(test)]
 mod params;
 #[cfg(test)]

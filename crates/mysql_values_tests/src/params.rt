@@ -6,7 +6,7 @@ use mysql_values::{
     ParsedNamedParams, Value,
 };
 use std::alloc::{AllocError, Global};
-use tests_support::{Assert, assert_answer, once_more};
+use tests_support::{Assert, assert_answer, assert_copied, once_more};
 
 fn copied(alloc: Global, names: &[&[u8]]) -> Result<Vec<Vec<u8>>, AllocError> {
     let mut copies = Vec::new(alloc);
@@ -43,6 +43,7 @@ fn assert_values(assert: &impl Assert, alloc: Global, values: &[Value], wanted: 
 fn assert_lends(assert: &impl Assert, alloc: Global, query: &[u8], set: Set, wanted: &[Given]) {
     let query = parsed(assert, alloc, query);
     let params = made_set(assert, alloc, set);
+    assert_copied(assert, &params, params.clone(alloc), params.clone(alloc));
     let first = params.values_for(alloc, &query);
     let values = once_more(assert, first, params.values_for(alloc, &query));
     assert_lent(assert, alloc, values.as_slice(), wanted);

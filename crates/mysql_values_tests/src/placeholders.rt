@@ -83,7 +83,10 @@ fn parsed_queries(rt: HostRuntime) {
         let second = ParsedNamedParams::parse(rt.alloc(), query);
         let found = once_more(&assert, first, second);
         assert_parsed(&assert, &found, parsed, names);
+        let copy = once_more(&assert, found.clone(rt.alloc()), found.clone(rt.alloc()));
         drop(found);
+        assert_parsed(&assert, &copy, parsed, names);
+        drop(copy);
     }
 }
 

@@ -44,7 +44,7 @@ pub enum PacketCodecError {
 
 /// A refusal that a codec keeps to.
 #[derive(Clone, Copy, Debug, PartialEq, Eq)]
-pub enum Refusal {
+pub(crate) enum Refusal {
     /// Answered as [`PacketCodecError::PacketTooLarge`].
     TooLarge,
     /// Answered as [`PacketCodecError::PacketsOutOfSync`].

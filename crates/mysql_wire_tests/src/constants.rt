@@ -115,6 +115,24 @@ fn the_held_of_two(rt: HostRuntime) {
     assert_equal(&assert, right.unwrap_right(), 2);
 }
 
+// Whether representations are equal where what they hold is.
+fn numbers_are_compared() -> bool {
+    (RawInt::<LeU16>::new(5) == RawInt::new(5)) & (RawInt::<LeU16>::new(5) != RawInt::default())
+}
+
+// Whether constants are equal where what they hold is.
+fn constants_are_compared() -> bool {
+    (ConstU8::<Header, 1>::new() == ConstU8::default())
+        & (RawConst::<u8, Command>::new(14) != RawConst::default())
+        & (Const::<Command, u8>::new(Command::COM_PING).get() == Command::COM_PING)
+}
+
+#[test]
+fn representations_compared(rt: HostRuntime) {
+    let assert = Asserting(&rt);
+    assert.holds(numbers_are_compared() & constants_are_compared());
+}
+
 #[test]
 fn flags_with_an_unknown_bit(rt: HostRuntime) {
     let assert = Asserting(&rt);

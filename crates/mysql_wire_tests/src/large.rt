@@ -3,9 +3,8 @@
 ghost use Rattle.std.specs.Prelude.{◌≡◌, true};
 ghost use Rattle.mysql_wire.specs.Codec.{CanGoOn};
 
-use crate::support::{Asserting, assert_fed, is_memory, put_payload};
+use crate::support::{Asserting, Cause, assert_fed, is_memory, put_payload};
 use bytes::BytesMut;
-use mysql_wire::codec::Refusal;
 use mysql_wire::{MAX_PAYLOAD_LEN, PacketCodec};
 use std::alloc::Global;
 use std::test::*;
@@ -16,7 +15,7 @@ const PIECE: [u8; 4095] = [0x20; 4095];
 
 // Asserts which packets the framing of a large payload is, within the limit and past it.
 fn assert_large(assert: &impl Assert, alloc: Global, stream: &[u8], payload: &[u8]) {
-    let past = Some(Refusal::TooLarge);
+    let past = Some(Cause::TooLarge);
     assert_fed(assert, alloc, (0, 16777214), &[stream], (&[], past));
     assert_fed(assert, alloc, (0, 20000000), &[stream], (&[payload], None));
 }

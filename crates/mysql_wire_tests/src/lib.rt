@@ -6,6 +6,8 @@
 #![tactic(auto)]
 
 #[cfg(test)]
+mod bitmaps;
+#[cfg(test)]
 mod chunks;
 #[cfg(test)]
 mod constants;
@@ -25,6 +27,8 @@ mod numbers;
 mod pieces;
 #[cfg(test)]
 mod reading;
+#[cfg(test)]
+mod sizes;
 #[cfg(test)]
 mod streams;
 #[cfg(test)]

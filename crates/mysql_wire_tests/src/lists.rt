@@ -9,8 +9,8 @@ use std::alloc::Global;
 use std::borrow::CowSlice;
 use std::test::*;
 use tests_support::{
-    Assert, assert_bytes, assert_equal, assert_reads_back, assert_refused, assert_same,
-    assert_written, first_of, once_more,
+    Assert, assert_bytes, assert_copied, assert_equal, assert_reads_back, assert_refused,
+    assert_same, assert_written, first_of, once_more,
 };
 
 #[test]
@@ -84,6 +84,17 @@ fn lists_are_owned(rt: HostRuntime) {
     );
     assert_equal(&assert, owned.get(0), Some(5));
     assert_equal(&assert, owned.0.as_slice(), numbers);
+}
+
+#[test]
+fn lists_are_copied(rt: HostRuntime) {
+    let assert = Asserting(&rt);
+    let alloc = rt.alloc();
+    let list = list_of(&[1, 2]);
+    assert_bytes(&assert, list.as_slice(), &[1, 2]);
+    assert_copied(&assert, &list, list.clone(alloc), list.clone(alloc));
+    let list = numbers_of(&[5, 0x0102]);
+    assert_copied(&assert, &list, list.clone(alloc), list.clone(alloc));
 }
 
 #[test]

@@ -3,10 +3,10 @@
 ghost use Rattle.mysql_wire.specs.Codec.{CanGoOn};
 
 use crate::support::{
-    Asserting, SELECT_1, assert_fed, assert_fed_by_bytes, is_memory, is_too_large, lacks_memory,
+    Asserting, Cause, SELECT_1, assert_fed, assert_fed_by_bytes, is_memory, is_too_large,
+    lacks_memory,
 };
 use bytes::{Buf, BytesMut};
-use mysql_wire::codec::Refusal;
 use mysql_wire::{DEFAULT_MAX_ALLOWED_PACKET, PacketCodec, PacketCodecError, PartialHeader};
 use std::alloc::Global;
 use std::test::*;
@@ -17,7 +17,7 @@ type Row = (
     (u8, usize),
     &'static [u8],
     &'static [&'static [u8]],
-    Option<Refusal>,
+    Option<Cause>,
 );
 
 // Asserts what each stream is, in one piece and byte by byte.
@@ -57,10 +57,10 @@ const HEADER: &[u8] = &[9, 0, 0, 0];
 
 const LIMITS: [Row; 4] = [
     ((0, 9), &SELECT_1, COMMAND, None),
-    ((0, 8), &SELECT_1, &[], Some(Refusal::TooLarge)),
+    ((0, 8), &SELECT_1, &[], Some(Cause::TooLarge)),
     // The fault comes once the header stands.
     ((0, 9), HEADER, &[], None),
-    ((0, 8), HEADER, &[], Some(Refusal::TooLarge)),
+    ((0, 8), HEADER, &[], Some(Cause::TooLarge)),
 ];
 
 #[test]
@@ -69,7 +69,7 @@ fn a_packet_within_the_limit_and_past_it(rt: HostRuntime) {
 }
 
 const NUMBERS: [Row; 2] = [
-    ((1, 1000), &SELECT_1, &[], Some(Refusal::OutOfSync)),
+    ((1, 1000), &SELECT_1, &[], Some(Cause::OutOfSync)),
     // All but the last byte of the command.
     (
         (1, 1000),

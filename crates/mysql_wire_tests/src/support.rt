@@ -3,7 +3,6 @@
 ghost use Rattle.std.specs.Prelude.{◌≡◌, true};
 
 use bytes::BytesMut;
-use mysql_wire::codec::Refusal;
 use mysql_wire::{PacketCodec, PacketCodecError, Packets, feed_all, packet_to_chunks};
 use std::alloc::Global;
 use std::process::Abort;
@@ -25,6 +24,14 @@ impl<R: Abort> Assert for Asserting<'_, R> {
 pub const SELECT_1: [u8; 13] = [
     9, 0, 0, 0, 3, 0x53, 0x45, 0x4c, 0x45, 0x43, 0x54, 0x20, 0x31,
 ];
+
+/// Why a codec refuses.
+#[derive(Clone, Copy, PartialEq, Eq)]
+pub enum Cause {
+    TooLarge,
+    OutOfSync,
+    Memory,
+}
 
 /// Whether an error is that of memory that was refused.
 pub fn is_memory(error: &PacketCodecError) -> bool {
@@ -58,17 +65,17 @@ pub fn put_payload(assert: &impl Assert, number: u8, payload: &[u8], next: u8, o
 }
 
 /// Whether a fault has this cause.
-fn is_by(fault: &PacketCodecError, cause: Refusal) -> bool {
+fn is_by(fault: &PacketCodecError, cause: Cause) -> bool {
     match fault {
-        PacketCodecError::PacketTooLarge => cause == Refusal::TooLarge,
-        PacketCodecError::PacketsOutOfSync => cause == Refusal::OutOfSync,
-        PacketCodecError::Memory => cause == Refusal::Memory,
+        PacketCodecError::PacketTooLarge => cause == Cause::TooLarge,
+        PacketCodecError::PacketsOutOfSync => cause == Cause::OutOfSync,
+        PacketCodecError::Memory => cause == Cause::Memory,
         PacketCodecError::Io(_) => false,
     }
 }
 
 /// Whether reading stopped for this cause, or for none.
-fn stops_by(fault: &Option<PacketCodecError>, cause: Option<Refusal>) -> bool {
+fn stops_by(fault: &Option<PacketCodecError>, cause: Option<Cause>) -> bool {
     match (fault, cause) {
         (Some(fault), Some(cause)) => is_by(fault, cause),
         (None, None) => true,
@@ -90,7 +97,7 @@ fn are_first(packets: &[Vec<u8>], wanted: &[&[u8]]) -> bool {
 }
 
 /// The packets that a stream has, and why reading stops.
-pub type Wanted<'a, 'b> = (&'a [&'b [u8]], Option<Refusal>);
+pub type Wanted<'a, 'b> = (&'a [&'b [u8]], Option<Cause>);
 
 /// Whether these are all packets, and reading stopped for this cause.
 fn are_all(found: &Packets, wanted: Wanted<'_, '_>) -> bool {
@@ -100,7 +107,7 @@ fn are_all(found: &Packets, wanted: Wanted<'_, '_>) -> bool {
 /// Asserts which packets were found: whether memory sufficed. Where it was refused they are the first ones.
 fn are_wanted(assert: &impl Assert, found: &Packets, wanted: Wanted<'_, '_>) -> bool {
     assert.holds(are_first(found.packets.as_slice(), wanted.0));
-    let sufficed = !stops_by(&found.fault, Some(Refusal::Memory));
+    let sufficed = !stops_by(&found.fault, Some(Cause::Memory));
     assert.holds(!sufficed || are_all(found, wanted));
     sufficed
 }

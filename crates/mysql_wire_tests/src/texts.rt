@@ -9,7 +9,7 @@ use mysql_raw_bytes::{
 };
 use std::alloc::Global;
 use std::test::*;
-use tests_support::{Assert, assert_refused, assert_written, first_of, once_more};
+use tests_support::{Assert, assert_copied, assert_refused, assert_written, first_of, once_more};
 
 // Asserts that a text in a representation, through its bound, is written as these bytes.
 fn assert_text<T: BytesRepr>(assert: &impl Assert, alloc: Global, text: &[u8], bytes: &[u8]) {
@@ -214,4 +214,13 @@ fn owned_texts_compared(rt: HostRuntime) {
     let owned = once_more(&assert, first, text(b"ab").into_owned(alloc));
     assert.holds((owned.len() == 2) & !owned.is_empty());
     assert.holds(is_text_ab(owned));
+}
+
+#[test]
+fn texts_are_copied(rt: HostRuntime) {
+    let assert = Asserting(&rt);
+    let alloc = rt.alloc();
+    let value = text(b"ab");
+    assert_copied(&assert, &value, value.clone(alloc), value.clone(alloc));
+    assert.holds(is_text_ab(value) & (text(b"") == RawBytes::default()));
 }

@@ -2,7 +2,7 @@ use Rattle.std.proofs.Common.{rules, arith, ◌≡◌, ◌<◌, ◌++◌, [], le
 use Rattle.std.proofs.lemmas.Result.{err_from_is_err_and}
 use Rattle.mysql_wire.specs.Incoming.{Incoming, codec_by}
 use Rattle.mysql_commands.specs.Views.{conversation_of}
-use Rattle.mysql_commands.specs.Progress.{ReadOne, OneBy}
+use Rattle.mysql_commands.specs.Steps.{ReadOne, OneBy}
 use Rattle.mysql_commands.proofs.Splits.{bytes_append}
 use Rattle.mysql_commands.proofs.Progressing.{behind_none, behind_next, waits_fed, waits_open, refused_fed, payload_fed, piece_reads, piece_fed}
 use Rattle.mysql_commands.proofs.incoming.read_piece.Goals as goal

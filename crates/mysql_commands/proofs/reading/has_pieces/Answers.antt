@@ -17,7 +17,7 @@ pub returns-in-Some : goal.returns-in-Some
 returns-in-Some c =
     let at = c.in-Some.ensures.lookup in
     let read = slice_get_read _ _ c.args.place c.in-Some.piece.now refl at.3.0 at.1 in
-    c.is_some.ensures ∙ piece_here c.args.standing.now.pieces.items c.args.place c.in-Some.piece.now (rw (← c.deref.ensures.value) read)
+    c.is_some.ensures ∙ piece_here c.args.statement.now.pieces.items c.args.place c.in-Some.piece.now (rw (← c.deref.ensures.value) read)
 
 pub returns-in-None : goal.returns-in-None
-returns-in-None c = no_piece c.args.standing.now.pieces.items c.args.place (rw (← c.deref.ensures.value) (slice_get_past _ c.args.place c.in-None.ensures.lookup.3))
+returns-in-None c = no_piece c.args.statement.now.pieces.items c.args.place (rw (← c.deref.ensures.value) (slice_get_past _ c.args.place c.in-None.ensures.lookup.3))

@@ -1,8 +1,10 @@
-use Rattle.std.proofs.Common.{◌≡◌, ◌-◌, length}
-use Rattle.mysql_commands.specs.Reading.{rows_at}
+use Rattle.std.proofs.Common.{length}
+use Rattle.mysql_commands.specs.Reading.{RowsAt}
 use Rattle.mysql_commands.specs.Views.{sets_of}
-use Rattle.mysql_commands.proofs.Loops.{behind}
 use Rattle.mysql_commands.proofs.reading.rows.Given as goal
 
-abbrev pub invariant-loop : goal.invariant-loop
-invariant-loop l = behind (sets_of l.sets.items) (rows_at l.types (length l.bytes - l.counter) l.rest) ≡ rows_at l.types (length l.bytes) l.bytes
+abbrev pub invariant-loop-rest : goal.invariant-loop-rest
+invariant-loop-rest l = RowsAt l.types l.bytes (sets_of l.sets.items) l.rest
+
+abbrev pub decreases-loop-rest : goal.decreases-loop-rest
+decreases-loop-rest l = length l.rest

@@ -6,5 +6,5 @@ use Rattle.mysql_commands.proofs.reading.whole_set.Given as goal
 
 abbrev pub invariant-loop-place : goal.invariant-loop-place
 invariant-loop-place l =
-    behind (l.set.items) (set_at (piece_kept l.standing.pieces.items) l.nulls l.place (drop l.place l.types) l.rest)
-    ≡ set_at (piece_kept l.standing.pieces.items) l.nulls 0 l.types l.cells
+    behind (l.set.items) (set_at (piece_kept l.statement.pieces.items) l.nulls l.place (drop l.place l.types) l.rest)
+    ≡ set_at (piece_kept l.statement.pieces.items) l.nulls 0 l.types l.cells

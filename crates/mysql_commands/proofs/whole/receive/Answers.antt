@@ -10,7 +10,7 @@ pub pieces-init : goal.pieces-init
 pieces-init c = record {
   about = c.in_ok-receiver.ensures.about;
   limit = c.in_ok-receiver.ensures.limit;
-  so_far = subst (λ h. SoFar c.in_ok-receiver.receiver.conversation c.in_ok-receiver.receiver.limit [] h) (sym c.in_ok-receiver.ensures.held) (so_far_nothing c.reader_laws.ensures _ _);
+  so_far = subst (λ h. SoFar c.in_ok-receiver.receiver.conversation c.in_ok-receiver.receiver.limit [] h) (sym c.in_ok-receiver.ensures.fresh) (so_far_nothing c.reader_laws.ensures _ _);
 }
 
 pub pieces-preserved : goal.pieces-preserved

@@ -1,5 +1,6 @@
 use Rattle.std.proofs.Common.{◌≡◌, ◌<◌, ◌∙◌, arith, ap, take, get_or}
-use Rattle.mysql_handshake.specs.Versions.{digits_len, is_digit}
+use Rattle.mysql_handshake.specs.VersionReading.{digits_len}
+use Rattle.mysql_handshake.specs.Versions.{is_digit}
 use Rattle.mysql_handshake.proofs.Digits.{digits_are, digits_few, digits_within}
 use Rattle.mysql_handshake.proofs.versions.number_at.Goals as goal
 

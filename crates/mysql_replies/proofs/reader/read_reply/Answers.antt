@@ -2,7 +2,7 @@ use Rattle.std.proofs.Common.{◌⊎◌, [], sym, subst, take_all}
 use Rattle.std.specs.List.{flat_map}
 use Rattle.mysql_replies.specs.Bytes.{IsReplyOf, IsShortReplyOf}
 use Rattle.mysql_replies.specs.Holding.{fault_of}
-use Rattle.mysql_replies.specs.Standings.{answer_view}
+use Rattle.mysql_replies.specs.Views.{answer_view}
 use Rattle.mysql_replies.proofs.Fed.{IsFed, fed_next, fed_answer, pieces_more}
 use Rattle.mysql_replies.proofs.reader.read_reply.Goals as goal
 

@@ -1,13 +1,13 @@
-use Rattle.std.proofs.Common.{rules, arith, ◌≡◌, ◌<◌, ◌++◌, [], length, Some, Ok, Err, refl, ap, sym, subst, ◌∙◌, true, false}
+use Rattle.std.proofs.Common.{rules, arith, ◌≡◌, ◌<◌, ◌++◌, [], length, Some, Err, refl, ap, sym, subst, ◌∙◌, true, false}
 use Rattle.std.specs.Prelude.{is_err}
 use Rattle.std.proofs.lemmas.List.{nil_from_length}
 use Rattle.mysql_wire.specs.Incoming.{codec_by}
 use Rattle.mysql_replies.specs.declared.fault.ReplyFault.TheVariants as faults
 use Rattle.mysql_replies.specs.declared.state.ReplyState.{ReplyState}
-use Rattle.mysql_replies.specs.Holding.{GoesOnOver}
-use Rattle.mysql_replies.specs.Standings.{held_of, held_by, GoesOverNumbered, UnlessMemory, fault_named}
+use Rattle.mysql_replies.specs.Holding.{ReaderGoesOn}
+use Rattle.mysql_replies.specs.Standings.{reader_state_of, reader_state, NumberedStateGoesOn, UnlessMemory, fault_named}
 use Rattle.mysql_replies.specs.Views.{awaited_view}
-use Rattle.mysql_replies.proofs.Receiving.{taking_starts, paused_empty, over_paused, not_empty, elsewhere, waits_plain, piece_bytes, piece_all, piece_goes_on, piece_runs_short, takes_piece, takes_all, goes_on_taken, goes_on_over, taken_goes_on, taken_short, taking_next, taken_ok, taken_unless, received_waits, rest_waits, paused_waits, refused_goes_on, failed_short}
+use Rattle.mysql_replies.proofs.Receiving.{taking_starts, paused_empty, not_empty, elsewhere, piece_bytes, piece_goes_on, piece_runs_short, goes_on_over, taken_goes_on, taken_short, taking_next, taken_ok, taken_unless, refused_goes_on, failed_short, over_taken, waits_taken}
 use Rattle.mysql_replies.proofs.reader.take_packets.Goals as goal
 
 pub packets-init : goal.packets-init
@@ -41,7 +41,7 @@ packets-preserved c =
     let t = c.packets.invariant.taking in
     let new = c.advance.new.self in
     let h = rw c.in-Ok-true.field-0-test at c.in-Ok-true.ensures.ok in
-    let goes = subst (λ p. UnlessMemory c.take-taken.result (GoesOverNumbered s p c.take-taken.new.self)) c.payload.ensures c.take-taken.ensures.goes_on in
+    let goes = subst (λ p. UnlessMemory c.take-taken.result (NumberedStateGoesOn s p c.take-taken.new.self)) c.payload.ensures c.take-taken.ensures.goes_on in
     let passed : is_err c.take-taken.result ≡ false = sym c.is_err.ensures.value ∙ c.if-is_err.false in
     let ok = taken_ok c.take-taken.result passed c.take-taken.ensures.ok in
     let none : new.bytes ≡ [] = search rules in
@@ -53,53 +53,27 @@ packets-preserved c =
 
 pub returns-then-is_empty-clause-paused : goal.returns-then-is_empty-clause-paused
 returns-then-is_empty-clause-paused c =
-    let laws = c.framing_laws.ensures in
-    let start = c.args.state.now in
-    let old = c.args.packets.now in
-    let piece = c.args.piece.now in
-    let fed = old.bytes ++ piece in
-    let s = c.packets.state in
-    let now = c.packets.packets in
-    let src = now.bytes ++ c.packets.rest.now in
     let t = c.packets.invariant.taking in
     let over = c.is_over.ensures.over c.if-is_over.true in
     let used : c.packets.rest.now ≡ [] = nil_from_length c.packets.rest.now (search rules) in
-    let p = over_paused laws start s (codec_by old) (codec_by now) fed [] now.bytes c.packets.rest.now [] t over (c.packets.invariant.over (ap awaited_view over)) used in
-    (t.going, p.1)
+    let taken = over_taken c.framing_laws.ensures c.args.state.now c.packets.state c.args.packets.now c.packets.packets c.args.piece.now c.packets.rest.now t c.requires.going over (c.packets.invariant.over (ap awaited_view over)) used in
+    (t.going, taken.0)
 
 pub returns-then-is_empty-clause-took : goal.returns-then-is_empty-clause-took
 returns-then-is_empty-clause-took c =
-    let laws = c.framing_laws.ensures in
-    let start = c.args.state.now in
-    let old = c.args.packets.now in
-    let piece = c.args.piece.now in
-    let fed = old.bytes ++ piece in
-    let s = c.packets.state in
-    let now = c.packets.packets in
-    let src = now.bytes ++ c.packets.rest.now in
     let t = c.packets.invariant.taking in
     let over = c.is_over.ensures.over c.if-is_over.true in
     let used : c.packets.rest.now ≡ [] = nil_from_length c.packets.rest.now (search rules) in
-    let p = over_paused laws start s (codec_by old) (codec_by now) fed [] now.bytes c.packets.rest.now [] t over (c.packets.invariant.over (ap awaited_view over)) used in
-    takes_piece laws start (codec_by old) old.bytes fed [] piece _ (Ok tt) refl
-    (takes_all start s (codec_by old) (codec_by now) fed [] now.bytes [] p.0.payloads p.1.rest p.0.received c.requires.going t.going p.0.count p.1.no_fault p.1.is_rest)
+    let taken = over_taken c.framing_laws.ensures c.args.state.now c.packets.state c.args.packets.now c.packets.packets c.args.piece.now c.packets.rest.now t c.requires.going over (c.packets.invariant.over (ap awaited_view over)) used in
+    taken.1
 
 pub returns-then-is_empty-clause-goes_on : goal.returns-then-is_empty-clause-goes_on
 returns-then-is_empty-clause-goes_on c =
-    let laws = c.framing_laws.ensures in
-    let start = c.args.state.now in
-    let old = c.args.packets.now in
-    let piece = c.args.piece.now in
-    let fed = old.bytes ++ piece in
-    let s = c.packets.state in
-    let now = c.packets.packets in
-    let src = now.bytes ++ c.packets.rest.now in
     let t = c.packets.invariant.taking in
     let over = c.is_over.ensures.over c.if-is_over.true in
     let used : c.packets.rest.now ≡ [] = nil_from_length c.packets.rest.now (search rules) in
-    let p = over_paused laws start s (codec_by old) (codec_by now) fed [] now.bytes c.packets.rest.now [] t over (c.packets.invariant.over (ap awaited_view over)) used in
-    piece_all laws start (codec_by old) old.bytes fed [] piece _ c.requires.going refl
-    (goes_on_taken laws start s (codec_by old) (codec_by now) fed [] now.bytes [] p.0.payloads p.0.received c.requires.going t.going)
+    let taken = over_taken c.framing_laws.ensures c.args.state.now c.packets.state c.args.packets.now c.packets.packets c.args.piece.now c.packets.rest.now t c.requires.going over (c.packets.invariant.over (ap awaited_view over)) used in
+    taken.2
 
 pub returns-then-is_over-clause-goes_on : goal.returns-then-is_over-clause-goes_on
 returns-then-is_over-clause-goes_on c =
@@ -117,9 +91,9 @@ returns-then-is_over-clause-goes_on c =
     let kept = c.packets.invariant.over (ap awaited_view over) in
     let some : src ≡ [] → ⊥ = λ none. not_empty c.packets.rest.now c.is_empty.result c.is_empty.ensures c.if-is_empty.false (ap (λ l. l ++ c.packets.rest.now) (sym kept) ∙ none) in
     let after = c.fail.new.self in
-    subst (λ f. UnlessMemory {X = Unit {0}} (Err f) (GoesOnOver (held_by start old) piece (held_by after now))) (sym c.fail.ensures.same)
-    (piece_goes_on laws start (codec_by old) old.bytes fed [] piece (held_by after now) (Err faults.AfterEnd) c.requires.going refl
-    (elsewhere (held_of start (codec_by old) fed []) after (held_of after (codec_by now) src []) (held_by after now) (Err faults.AfterEnd) refl (ap (λ (s : ReplyState). s.fault) c.fail.ensures.state) refl refl
+    subst (λ f. UnlessMemory {X = Unit {0}} (Err f) (ReaderGoesOn (reader_state start old) piece (reader_state after now))) (sym c.fail.ensures.same)
+    (piece_goes_on laws start (codec_by old) old.bytes fed [] piece (reader_state after now) (Err faults.AfterEnd) c.requires.going refl
+    (elsewhere (reader_state_of start (codec_by old) fed []) after (reader_state_of after (codec_by now) src []) (reader_state after now) (Err faults.AfterEnd) refl (ap (λ (s : ReplyState). s.fault) c.fail.ensures.state) refl refl
     (goes_on_over laws start s after (codec_by old) (codec_by now) fed [] src [] t.payloads t.received c.requires.going t.going c.fail.ensures.state (ap awaited_view over) begun.0 begun.1 begun.2 t.bytes some)))
 
 pub returns-then-is_err-clause-goes_on : goal.returns-then-is_err-clause-goes_on
@@ -135,11 +109,11 @@ returns-then-is_err-clause-goes_on c =
     let t = c.packets.invariant.taking in
     let new = c.advance.new.self in
     let h = rw c.in-Ok-true.field-0-test at c.in-Ok-true.ensures.ok in
-    let goes = subst (λ p. UnlessMemory c.take-taken.result (GoesOverNumbered s p c.take-taken.new.self)) c.payload.ensures c.take-taken.ensures.goes_on in
+    let goes = subst (λ p. UnlessMemory c.take-taken.result (NumberedStateGoesOn s p c.take-taken.new.self)) c.payload.ensures c.take-taken.ensures.goes_on in
     let failed : is_err c.take-taken.result ≡ true = sym c.is_err.ensures.value ∙ c.if-is_err.true in
     let next = c.take-taken.new.self in
-    piece_goes_on laws start (codec_by old) old.bytes fed [] piece (held_by next new) c.take-taken.result c.requires.going refl
-    (elsewhere (held_of start (codec_by old) fed []) next (held_of next (codec_by new) (new.bytes ++ c.advance.new.piece.now) []) (held_by next new) c.take-taken.result failed c.take-taken.ensures.fault refl refl
+    piece_goes_on laws start (codec_by old) old.bytes fed [] piece (reader_state next new) c.take-taken.result c.requires.going refl
+    (elsewhere (reader_state_of start (codec_by old) fed []) next (reader_state_of next (codec_by new) (new.bytes ++ c.advance.new.piece.now) []) (reader_state next new) c.take-taken.result failed c.take-taken.ensures.fault refl refl
     (taken_goes_on laws start s next (codec_by old) (codec_by now) (codec_by new) fed [] src [] (new.bytes ++ c.advance.new.piece.now) [] new.payload c.take-taken.result failed t c.requires.going h refl c.take-taken.ensures.fault goes))
 
 pub returns-then-is_err-clause-short : goal.returns-then-is_err-clause-short
@@ -154,66 +128,38 @@ returns-then-is_err-clause-short c =
     let src = now.bytes ++ c.packets.rest.now in
     let t = c.packets.invariant.taking in
     let new = c.advance.new.self in
-    piece_runs_short laws start (codec_by old) old.bytes [] piece c.take-taken.result (held_by c.take-taken.new.self new)
+    piece_runs_short laws start (codec_by old) old.bytes [] piece c.take-taken.result (reader_state c.take-taken.new.self new)
     (taken_short start s c.take-taken.new.self (codec_by old) (codec_by now) (codec_by new) fed [] src [] new.bytes [] c.take-taken.result t c.requires.going (c.is_over.ensures.awaiting c.if-is_over.false) c.take-taken.ensures.short)
 
 pub returns-in-Ok-false-clause-paused : goal.returns-in-Ok-false-clause-paused
 returns-in-Ok-false-clause-paused c =
-    let laws = c.framing_laws.ensures in
-    let start = c.args.state.now in
-    let old = c.args.packets.now in
-    let piece = c.args.piece.now in
-    let fed = old.bytes ++ piece in
-    let s = c.packets.state in
-    let now = c.packets.packets in
-    let src = now.bytes ++ c.packets.rest.now in
     let t = c.packets.invariant.taking in
     let new = c.advance.new.self in
-    let w0 = rw c.in-Ok-false.field-0-test at c.in-Ok-false.ensures.ok in
+    let w = rw c.in-Ok-false.field-0-test at c.in-Ok-false.ensures.ok in
     let used : c.advance.new.piece.now ≡ [] = search rules in
     let none : new.payload ≡ [] = search rules in
-    let w = waits_plain (codec_by now) (codec_by new) src [] new.bytes c.advance.new.piece.now new.payload w0 used none in
-    (t.going, paused_waits start s (codec_by old) (codec_by now) (codec_by new) fed [] src [] new.bytes [] t w (c.is_over.ensures.awaiting c.if-is_over.false))
+    let taken = waits_taken c.framing_laws.ensures c.args.state.now c.packets.state c.args.packets.now c.packets.packets new c.args.piece.now c.packets.rest.now c.advance.new.piece.now t c.requires.going (c.is_over.ensures.awaiting c.if-is_over.false) w used none in
+    (t.going, taken.0)
 
 pub returns-in-Ok-false-clause-took : goal.returns-in-Ok-false-clause-took
 returns-in-Ok-false-clause-took c =
-    let laws = c.framing_laws.ensures in
-    let start = c.args.state.now in
-    let old = c.args.packets.now in
-    let piece = c.args.piece.now in
-    let fed = old.bytes ++ piece in
-    let s = c.packets.state in
-    let now = c.packets.packets in
-    let src = now.bytes ++ c.packets.rest.now in
     let t = c.packets.invariant.taking in
     let new = c.advance.new.self in
-    let w0 = rw c.in-Ok-false.field-0-test at c.in-Ok-false.ensures.ok in
+    let w = rw c.in-Ok-false.field-0-test at c.in-Ok-false.ensures.ok in
     let used : c.advance.new.piece.now ≡ [] = search rules in
     let none : new.payload ≡ [] = search rules in
-    let w = waits_plain (codec_by now) (codec_by new) src [] new.bytes c.advance.new.piece.now new.payload w0 used none in
-    let r = received_waits laws _ _ _ _ t.payloads s (codec_by now) (codec_by new) src [] new.bytes [] t.received w in
-    takes_piece laws start (codec_by old) old.bytes fed [] piece _ (Ok tt) refl
-    (takes_all start s (codec_by old) (codec_by new) fed [] new.bytes [] t.payloads w.rest r c.requires.going t.going t.count w.no_fault (rest_waits (codec_by now) (codec_by new) src [] new.bytes [] w))
+    let taken = waits_taken c.framing_laws.ensures c.args.state.now c.packets.state c.args.packets.now c.packets.packets new c.args.piece.now c.packets.rest.now c.advance.new.piece.now t c.requires.going (c.is_over.ensures.awaiting c.if-is_over.false) w used none in
+    taken.1
 
 pub returns-in-Ok-false-clause-goes_on : goal.returns-in-Ok-false-clause-goes_on
 returns-in-Ok-false-clause-goes_on c =
-    let laws = c.framing_laws.ensures in
-    let start = c.args.state.now in
-    let old = c.args.packets.now in
-    let piece = c.args.piece.now in
-    let fed = old.bytes ++ piece in
-    let s = c.packets.state in
-    let now = c.packets.packets in
-    let src = now.bytes ++ c.packets.rest.now in
     let t = c.packets.invariant.taking in
     let new = c.advance.new.self in
-    let w0 = rw c.in-Ok-false.field-0-test at c.in-Ok-false.ensures.ok in
+    let w = rw c.in-Ok-false.field-0-test at c.in-Ok-false.ensures.ok in
     let used : c.advance.new.piece.now ≡ [] = search rules in
     let none : new.payload ≡ [] = search rules in
-    let w = waits_plain (codec_by now) (codec_by new) src [] new.bytes c.advance.new.piece.now new.payload w0 used none in
-    let r = received_waits laws _ _ _ _ t.payloads s (codec_by now) (codec_by new) src [] new.bytes [] t.received w in
-    piece_all laws start (codec_by old) old.bytes fed [] piece _ c.requires.going refl
-    (goes_on_taken laws start s (codec_by old) (codec_by new) fed [] new.bytes [] t.payloads r c.requires.going t.going)
+    let taken = waits_taken c.framing_laws.ensures c.args.state.now c.packets.state c.args.packets.now c.packets.packets new c.args.piece.now c.packets.rest.now c.advance.new.piece.now t c.requires.going (c.is_over.ensures.awaiting c.if-is_over.false) w used none in
+    taken.2
 
 pub returns-in-Err-clause-goes_on : goal.returns-in-Err-clause-goes_on
 returns-in-Err-clause-goes_on c =
@@ -231,7 +177,7 @@ returns-in-Err-clause-goes_on c =
     let named = c.fail-in-Err.ensures.same ∙ c.fault_from.ensures ∙ ap fault_named w.answered in
     let is = c.fail-in-Err.ensures.state ∙ ap (λ f. record s { fault = Some f }) (sym c.fail-in-Err.ensures.same) in
     let after = c.fail-in-Err.new.self in
-    piece_goes_on laws start (codec_by old) old.bytes fed [] piece (held_by after new) (Err c.fail-in-Err.result) c.requires.going refl
+    piece_goes_on laws start (codec_by old) old.bytes fed [] piece (reader_state after new) (Err c.fail-in-Err.result) c.requires.going refl
     (refused_goes_on laws start s after (codec_by old) (codec_by now) (codec_by new) fed [] src [] new.bytes [] w.refusal c.fail-in-Err.result t c.requires.going (c.is_over.ensures.awaiting c.if-is_over.false) named is (w.due t.received.read.refused))
 
 pub returns-in-Err-clause-short : goal.returns-in-Err-clause-short
@@ -248,5 +194,5 @@ returns-in-Err-clause-short c =
     let new = c.advance.new.self in
     let is = c.fail-in-Err.ensures.state ∙ ap (λ f. record s { fault = Some f }) (sym c.fail-in-Err.ensures.same) in
     let after = c.fail-in-Err.new.self in
-    piece_runs_short laws start (codec_by old) old.bytes [] piece (Err c.fail-in-Err.result) (held_by after new)
+    piece_runs_short laws start (codec_by old) old.bytes [] piece (Err c.fail-in-Err.result) (reader_state after new)
     (failed_short start s after (codec_by old) (codec_by now) (codec_by new) fed [] src [] new.bytes [] c.fail-in-Err.result t c.requires.going (c.is_over.ensures.awaiting c.if-is_over.false) is)

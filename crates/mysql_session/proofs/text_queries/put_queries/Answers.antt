@@ -1,18 +1,27 @@
 use Rattle.std.proofs.Common.{arith}
 use Rattle.std.proofs.lemmas.Result.{err_from_is_err_and}
-use Rattle.mysql_session.proofs.Queries.{sent_next, refused_at, all_sent, next_set}
+use Rattle.mysql_session.proofs.Queries.{all_sent, none_sent, refused_at, refused_places, sent_next}
+use Rattle.mysql_session.proofs.SentSets.{next_set}
 use Rattle.mysql_session.proofs.text_queries.put_queries.Goals as goal
+
+pub returns-in_err-check_query-clause-err : goal.returns-in_err-check_query-clause-err
+returns-in_err-check_query-clause-err c =
+    let p = err_from_is_err_and c.from_residual.result c.from_residual.ensures.1 in
+    rw (p.1, p.2) (refused_places c.args.query.now c.args.sets.now c.args.limit c.in_err-check_query.field-0.0 c.in_err-check_query.ensures.err)
+
+pub sets-init : goal.sets-init
+sets-init c = none_sent c.args.query.now c.args.sets.now c.args.limit c.args.out.now.items c.in_ok-check_query.ensures.ok
 
 pub returns-in_err-put_query-clause-err : goal.returns-in_err-put_query-clause-err
 returns-in_err-put_query-clause-err c =
     let p = err_from_is_err_and c.from_residual-in_err-put_query.result c.from_residual-in_err-put_query.ensures.1 in
-    rw (p.1, p.2) (refused_at c.tokens_of_a_text.ensures.one c.args.query.now _ c.args.sets.now c.args.limit c.args.out.now.items c.sets.out.items c.sets.set c.sets.invariant c.index-sets-set.result
+    rw (p.1, p.2) (refused_at c.tokens_of_a_text.ensures.one c.args.query.now c.args.sets.now c.args.limit c.args.out.now.items c.sets.out.items c.sets.set c.sets.invariant c.index-sets-set.result
     (next_set c.args.sets.now c.sets.set c.index-sets-set.result c.sets-test.true c.index-sets-set.is) c.in_err-put_query.field-0.0 c.in_err-put_query.ensures.err)
 
 pub sets-preserved : goal.sets-preserved
 sets-preserved c =
-    sent_next c.tokens_of_a_text.ensures.one c.args.query.now _ c.args.sets.now c.args.limit c.args.out.now.items c.sets.out.items c.sets.set c.sets.invariant c.index-sets-set.result
+    sent_next c.tokens_of_a_text.ensures.one c.args.query.now c.args.sets.now c.args.limit c.args.out.now.items c.sets.out.items c.sets.set c.sets.invariant c.index-sets-set.result
     (next_set c.args.sets.now c.sets.set c.index-sets-set.result c.sets-test.true c.index-sets-set.is) c.put_query.new.out.items c.in_ok-put_query.ensures.ok
 
 pub returns-clause-ok : goal.returns-clause-ok
-returns-clause-ok c = all_sent c.args.query.now _ c.args.sets.now c.args.limit c.args.out.now.items c.sets.out.items c.sets.set c.sets.invariant (omega arith)
+returns-clause-ok c = all_sent c.args.query.now c.args.sets.now c.args.limit c.args.out.now.items c.sets.out.items c.sets.set c.sets.invariant (omega arith)

@@ -2,7 +2,7 @@ use Rattle.std.proofs.Common.{◌≡◌, true, length, map, sym, refl, ap, ◌�
 use Rattle.std.specs.List.{AllByRecursion}
 use Rattle.std.proofs.lemmas.List.{length-map}
 use Rattle.std.proofs.lemmas.Result.{err_from_is_err_and}
-use Rattle.mysql_values.specs.Binding.{IsFilled, bind_cause, first_float, values_cause, IsBindCause}
+use Rattle.mysql_values.specs.Binding.{IsFilled, bind_cause, first_float, given_cause, IsBindCause}
 use Rattle.mysql_values.specs.Params.{values_over}
 use Rattle.mysql_queries.specs.Parsed.{names_at}
 use Rattle.mysql_queries.specs.Queries.{HasPlaces, first_not_alone, is_mixed}
@@ -37,7 +37,7 @@ returns-in_err-values-clause-err c =
       | inl m ↦ inl m
       | inr k ↦ inr (values_are_cause c.pieces_of_a_query.ensures.names query params places _ c.in_ok-places.ensures
           (ap is_mixed (sym c.deref.ensures.value) ∙ c.in_ok-check_places.ensures.one_kind) (ap first_not_alone (sym c.deref.ensures.value) ∙ c.in_ok-check_places.ensures.alone)
-          (ap (λ ps. values_cause (length ps) (values_over (names_at query ps) params)) (sym c.deref-2.ensures.value) ∙ k))
+          (ap (λ ps. given_cause (length ps) (values_over (names_at query ps) params)) (sym c.deref-2.ensures.value) ∙ k))
     ])
 
 pub returns-in-Ok-clause-ok : goal.returns-in-Ok-clause-ok

@@ -1,8 +1,8 @@
 use Rattle.std.proofs.Common.{◌++◌, [], Err, ap, subst, sym, refl, ◌∙◌}
 use Rattle.mysql_wire.specs.Incoming.{codec_by}
-use Rattle.mysql_replies.specs.Holding.{GoesOnOver, StandsShort, fault_of}
-use Rattle.mysql_replies.specs.Standings.{held_by, UnlessMemory, OnMemory}
-use Rattle.mysql_replies.proofs.Receiving.{fault_is, if_fault, if_no_fault, not_both, stays_going_on}
+use Rattle.mysql_replies.specs.Holding.{ReaderGoesOn, StandsShort, fault_of}
+use Rattle.mysql_replies.specs.Standings.{reader_state, UnlessMemory, OnMemory}
+use Rattle.mysql_replies.proofs.Receiving.{fault_is, if_fault, if_no_fault, not_both, stays_going_on, unless_is, on_is}
 use Rattle.mysql_replies.proofs.reader.ReplyReader.feed.Goals as goal
 
 pub returns-in-Some-clause-stays : goal.returns-in-Some-clause-stays
@@ -14,8 +14,8 @@ returns-in-Some-clause-fault c = ap (λ held. fault_of held.standing) (sym c.sel
 
 pub returns-in-Some-clause-goes_on : goal.returns-in-Some-clause-goes_on
 returns-in-Some-clause-goes_on c =
-    subst (λ held. UnlessMemory {X = Unit {0}} (Err c.in-Some.fault) (GoesOnOver held c.args.piece.now held)) c.self.view_is
-    (stays_going_on c.self.inside.state (codec_by c.self.inside.packets) c.self.inside.packets.bytes [] c.args.piece.now c.in-Some.fault c.in-Some.is)
+    λ never. unless_is (Err c.in-Some.fault) never (subst (λ held. UnlessMemory {X = Unit {0}} (Err c.in-Some.fault) (ReaderGoesOn held c.args.piece.now held)) c.self.view_is
+    (stays_going_on c.self.inside.state (codec_by c.self.inside.packets) c.self.inside.packets.bytes [] c.args.piece.now c.in-Some.fault c.in-Some.is))
 
 pub returns-in-Some-clause-short : goal.returns-in-Some-clause-short
 returns-in-Some-clause-short c =
@@ -26,8 +26,8 @@ returns-clause-stays c = if_no_fault _ _ (ap (λ held. fault_of held.standing) (
 
 pub returns-clause-goes_on : goal.returns-clause-goes_on
 returns-clause-goes_on c =
-    subst (λ old. UnlessMemory c.take_packets.result (GoesOnOver old c.args.piece.now (held_by c.take_packets.new.state c.take_packets.new.packets))) c.self.view_is c.take_packets.ensures.goes_on
+    λ never. unless_is c.take_packets.result never (subst (λ old. UnlessMemory c.take_packets.result (ReaderGoesOn old c.args.piece.now (reader_state c.take_packets.new.state c.take_packets.new.packets))) c.self.view_is c.take_packets.ensures.goes_on)
 
 pub returns-clause-short : goal.returns-clause-short
 returns-clause-short c =
-    λ none. subst (λ old. OnMemory c.take_packets.result (StandsShort old (old.bytes ++ c.args.piece.now) (held_by c.take_packets.new.state c.take_packets.new.packets))) c.self.view_is c.take_packets.ensures.short
+    λ none memory. on_is c.take_packets.result memory (subst (λ old. OnMemory c.take_packets.result (StandsShort old (old.bytes ++ c.args.piece.now) (reader_state c.take_packets.new.state c.take_packets.new.packets))) c.self.view_is c.take_packets.ensures.short)

@@ -1,11 +1,11 @@
 use Rattle.std.proofs.Common.{◌+◌, ◌^◌, ◌<◌, Err, sym, subst, arith}
-use Rattle.mysql_replies.specs.Standings.{UnlessMemory, GoesOverNumbered}
+use Rattle.mysql_replies.specs.Standings.{UnlessMemory, NumberedStateGoesOn}
 use Rattle.mysql_replies.proofs.Numbers.{too_large, numbered_unless}
 use Rattle.mysql_replies.proofs.state.ReplyState.take.Goals as goal
 
 pub returns-then-self-clause-goes_on : goal.returns-then-self-clause-goes_on
 returns-then-self-clause-goes_on c =
-    subst (λ f. UnlessMemory {X = Unit {0}} (Err f) (GoesOverNumbered c.args.self.now c.args.payload.now c.fail.new.self)) (sym c.fail.ensures.same)
+    subst (λ f. UnlessMemory {X = Unit {0}} (Err f) (NumberedStateGoesOn c.args.self.now c.args.payload.now c.fail.new.self)) (sym c.fail.ensures.same)
     (too_large c.args.self.now c.fail.new.self c.args.payload.now c.requires.going c.fail.ensures.state c.if-self.true c.requires.reading.settled c.requires.awaiting)
 
 pub returns-then-is_report_like-clause-goes_on : goal.returns-then-is_report_like-clause-goes_on

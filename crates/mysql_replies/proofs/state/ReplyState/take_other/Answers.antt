@@ -3,13 +3,13 @@ use Rattle.mysql_replies.specs.declared.awaited.Stepped.TheVariants.{Failed}
 use Rattle.mysql_replies.specs.Views.{awaited_view}
 use Rattle.mysql_replies.specs.Steps.{IsStep, Leads, Moves, listed_views}
 use Rattle.mysql_replies.specs.Reply.{rest_of}
-use Rattle.mysql_replies.specs.Standings.{UnlessMemory, GoesOver}
+use Rattle.mysql_replies.specs.Standings.{UnlessMemory, StateGoesOn}
 use Rattle.mysql_replies.proofs.Taking.{step_failed, step_moved, roomed, roomed_unless}
 use Rattle.mysql_replies.proofs.state.ReplyState.take_other.Goals as goal
 
 pub returns-in-Failed-clause-goes_on : goal.returns-in-Failed-clause-goes_on
 returns-in-Failed-clause-goes_on c =
-    subst (λ f. UnlessMemory {X = Unit {0}} (Err f) (GoesOver c.args.self.now c.args.payload.now c.fail-in-Failed.new.self)) (sym c.fail-in-Failed.ensures.same)
+    subst (λ f. UnlessMemory {X = Unit {0}} (Err f) (StateGoesOn c.args.self.now c.args.payload.now c.fail-in-Failed.new.self)) (sym c.fail-in-Failed.ensures.same)
     (roomed_unless c.args.self.now c.fail-in-Failed.new.self c.reserve.new.self c.args.payload.now c.in-Failed.fault c.reserve.ensures.items
     (step_failed (record c.args.self.now { results = c.reserve.new.self }) c.fail-in-Failed.new.self c.in-Failed.same c.args.payload.now c.in-Failed.fault c.requires.going c.fail-in-Failed.ensures.state
     (subst (λ a. IsStep c.args.self.now.context (awaited_view a) c.args.payload.now (Failed c.in-Failed.same c.in-Failed.fault)) c.replace-awaited.ensures.value c.in-Failed.ensures)))

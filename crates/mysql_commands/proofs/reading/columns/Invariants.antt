@@ -1,0 +1,7 @@
+use Rattle.std.proofs.Common.{◌≡◌, drop}
+use Rattle.mysql_commands.specs.Reading.{columns_at}
+use Rattle.mysql_commands.proofs.Loops.{with_front}
+use Rattle.mysql_commands.proofs.reading.columns.Given as goal
+
+abbrev pub invariant-loop-kind : goal.invariant-loop-kind
+invariant-loop-kind l = with_front (l.set.items) (columns_at (drop l.kind-index l.types) l.rest) ≡ columns_at l.types l.bytes

@@ -1,0 +1,6 @@
+pub mod Digits
+pub mod Fractions
+pub mod IntegersReadAgain
+pub mod Utf8Texts
+pub mod Places
+pub mod Pairs

@@ -1,0 +1,9 @@
+pub use Rattle.mysql_cells.specs.declared.value.Value
+pub mod Conversions
+pub mod Intermediates
+pub mod Numbers
+pub mod IntegerLaws
+pub mod Booleans
+pub mod Texts
+pub mod Durations
+pub mod Sets

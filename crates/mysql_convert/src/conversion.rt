@@ -1,0 +1,137 @@
+//! The traits of types that convert to values and from values.
+
+ghost use Rattle.std.specs.Prelude.{◌≡◌, ◌⊎◌, Err, IfErr, IfOk, IsSome, None, Ok, Option, Some};
+ghost use Rattle.mysql_cells.specs.declared.value.Value.{Value as ValueOf};
+ghost use Rattle.mysql_convert.specs.Conversions.{ReadsAgain};
+ghost use Rattle.mysql_convert.specs.declared.errors.ToValueError.TheVariants as to_value_error;
+
+use crate::errors::{FromValueError, ToValueError};
+use mysql_values::Value;
+use std::alloc::Global;
+
+/// A type that converts to a [`Value`].
+///
+/// Whole numbers convert to `Int`, but `u64` and `usize` to `UInt`; `i128` and `u128` to `Int` where they fit, else to `UInt`, else to
+/// `Bytes` of their digits; `bool` to `Int` of 0 or 1; texts and bytes to `Bytes`; `Duration` to `Time`, rounded half up to microseconds;
+/// None to `NULL`, and a [`Value`] to itself.
+///
+/// An impl says by `as_value` which value it gives. `Box<dyn ToValue + Drop>` is such a type too, so that a list can hold
+/// values of several types.
+pub trait ToValue {
+    // the value that it converts to, none where it is too long for any
+    ghost as_value: { Self → Option ValueOf };
+
+    /// The value that this converts to.
+    ///
+    /// # Errors
+    /// `TooLong` for a duration of more than 2^32-1 days, `Memory`.
+    fn to_value(&self, alloc: Global) -> Result<Value, ToValueError>
+        ensures ok { IfOk result (λ value. as_value self.now ≡ Some value) }
+        ensures err { IfErr result (λ e. (e ≡ to_value_error.Memory) ⊎ ((e ≡ to_value_error.TooLong) × (as_value self.now ≡ None))) };
+}
+
+/// A conversion from a value to `T` that can still be undone.
+pub trait Intermediate<T>: Sized {
+    // what committing gives
+    ghost committed: { Self → T };
+
+    // the value that rolling back gives, none where it is too long for any
+    ghost rolled_back: { Self → Option ValueOf };
+
+    /// Ends the conversion: what the value converts to.
+    fn commit(self) -> T
+        ensures { result ≡ committed self };
+
+    /// Undoes the conversion: a value that converts to the same again.
+    ///
+    /// It is the value that was read where that was kept or moved, and else the one that its result converts to.
+    ///
+    /// # Errors
+    /// `TooLong` where that has no value, which no intermediate of this crate that was read answers; `Memory`.
+    fn rollback(self, alloc: Global) -> Result<Value, ToValueError>
+        ensures ok { IfOk result (λ value. rolled_back self ≡ Some value) }
+        ensures err { IfErr result (λ e. (e ≡ to_value_error.Memory) ⊎ ((e ≡ to_value_error.TooLong) × (rolled_back self ≡ None))) };
+}
+
+/// A type that a [`Value`] converts to.
+///
+/// A whole number is read from `Int`, `UInt` and texts of an optional sign and digits, in its range; a `bool` from 0 and 1 in the same three;
+/// a text from `Bytes` that are UTF-8, a list of bytes from `Bytes`, an array from `Bytes` of its length; a `Duration` from a `Time` that isn't
+/// negative and from texts such as `838:59:59.5`; an `Option` is None of `NULL`; and a [`Value`] is any value.
+///
+/// No conversion asks for memory. An impl says by `converted` what each value converts to.
+pub trait FromValue: Sized {
+    /// A conversion to this type that can still be undone.
+    type Intermediate: Intermediate<Self>;
+
+    // what this is, apart from where it lies
+    ghost Shown: { Type 0 };
+
+    ghost shown: { Self → Shown };
+
+    // what a value converts to, if it converts
+    ghost converted: { ValueOf → Option Shown };
+
+    /// Converts a value so that it can still be undone.
+    ///
+    /// # Errors
+    /// `FromValueError` with the value, where it doesn't convert.
+    fn get_intermediate(value: Value) -> Result<Self::Intermediate, FromValueError>
+        ensures ok { IfOk result (λ step. converted value ≡ Some (shown (Self.Intermediate.committed step))) }
+        ensures again { IfOk result (λ step. ReadsAgain converted value (Self.Intermediate.rolled_back step)) }
+        ensures err { IfErr result (λ e. (converted value ≡ None) × (e.0 ≡ value)) };
+
+    /// Converts a value.
+    ///
+    /// # Errors
+    /// `FromValueError` with the value, where it doesn't convert.
+    final fn from_value_opt(value: Value) -> Result<Self, FromValueError>
+        ensures ok { IfOk result (λ x. converted value ≡ Some (shown x)) }
+        ensures err { IfErr result (λ e. (converted value ≡ None) × (e.0 ≡ value)) }
+    {
+        let step = Self::get_intermediate(value)?;
+        Ok(step.commit())
+    }
+
+    /// Converts a value that converts, as `from_value_opt` tells.
+    final fn from_value(value: Value) -> Self
+        requires { IsSome (converted value) }
+        ensures { converted value ≡ Some (shown result) }
+    {
+        match Self::from_value_opt(value) {
+            Ok(x) => x,
+            Err(_) => unreachable!(),
+        }
+    }
+}
+
+/// Converts a value that converts, as [`from_value_opt`] tells.
+pub fn from_value<T: FromValue>(value: Value) -> T
+    requires { IsSome (T.converted value) }
+    ensures { T.converted value ≡ Some (T.shown result) }
+{
+    T::from_value(value)
+}
+
+/// Converts a value.
+///
+/// # Errors
+/// `FromValueError` with the value, where it doesn't convert.
+pub fn from_value_opt<T: FromValue>(value: Value) -> Result<T, FromValueError>
+    ensures ok { IfOk result (λ x. T.converted value ≡ Some (T.shown x)) }
+    ensures err { IfErr result (λ e. (T.converted value ≡ None) × (e.0 ≡ value)) }
+{
+    T::from_value_opt(value)
+}
+
+/// Converts a value so that it can still be undone.
+///
+/// # Errors
+/// `FromValueError` with the value, where it doesn't convert.
+pub fn get_intermediate<T: FromValue>(value: Value) -> Result<T::Intermediate, FromValueError>
+    ensures ok { IfOk result (λ step. T.converted value ≡ Some (T.shown (T.Intermediate.committed step))) }
+    ensures again { IfOk result (λ step. ReadsAgain T.converted value (T.Intermediate.rolled_back step)) }
+    ensures err { IfErr result (λ e. (T.converted value ≡ None) × (e.0 ≡ value)) }
+{
+    T::get_intermediate(value)
+}

@@ -1,0 +1,249 @@
+//! Conversions of bytes and texts.
+
+ghost use Rattle.std.specs.Prelude.{◌≡◌, IfErr, IfOk, List, None, Option, Some, ℕ};
+ghost use Rattle.std.specs.String.{string_bytes};
+ghost use Rattle.std.specs.Cow.{cow_slice_items, cow_str_bytes};
+ghost use Rattle.mysql_cells.specs.declared.value.Value.TheVariants.{Bytes};
+ghost use Rattle.mysql_convert.specs.Texts.{array_of, bytes_of, text_of as text_of_value};
+
+use crate::conversion::{FromValue, Intermediate, ToValue};
+use crate::errors::{FromValueError, ToValueError};
+use mysql_values::{ByteString, Value};
+use std::alloc::Global;
+use std::borrow::{CowSlice, CowStr};
+
+/// A value of a copy of the bytes.
+fn bytes_value(alloc: Global, bytes: &[u8]) -> Result<Value, ToValueError>
+    ensures ok { IfOk result (λ value. value ≡ Bytes bytes.now) }
+    ensures err { IfErr result (λ e. e ≡ ToValueError.Memory) }
+{
+    Ok(Value::Bytes(ByteString::copy(alloc, bytes)?))
+}
+
+impl ToValue for Vec<u8> {
+    ghost as_value = { λ bytes. Some (Bytes bytes.items) };
+
+    fn to_value(&self, alloc: Global) -> Result<Value, ToValueError> {
+        bytes_value(alloc, self)
+    }
+}
+
+impl ToValue for CowSlice<'_, u8, Global> {
+    ghost as_value = { λ bytes. Some (Bytes (cow_slice_items bytes)) };
+
+    fn to_value(&self, alloc: Global) -> Result<Value, ToValueError> {
+        bytes_value(alloc, self.as_slice())
+    }
+}
+
+impl ToValue for &[u8] {
+    ghost as_value = { λ bytes. Some (Bytes bytes.now) };
+
+    fn to_value(&self, alloc: Global) -> Result<Value, ToValueError> {
+        bytes_value(alloc, *self)
+    }
+}
+
+impl<const N: usize> ToValue for [u8; N] {
+    ghost as_value = { λ bytes. Some (Bytes bytes) };
+
+    fn to_value(&self, alloc: Global) -> Result<Value, ToValueError> {
+        bytes_value(alloc, self)
+    }
+}
+
+impl ToValue for String {
+    ghost as_value = { λ text. Some (Bytes (string_bytes text)) };
+
+    fn to_value(&self, alloc: Global) -> Result<Value, ToValueError> {
+        bytes_value(alloc, self.as_bytes())
+    }
+}
+
+impl ToValue for CowStr<'_, Global> {
+    ghost as_value = { λ text. Some (Bytes (cow_str_bytes text)) };
+
+    fn to_value(&self, alloc: Global) -> Result<Value, ToValueError> {
+        bytes_value(alloc, self.as_str().as_bytes())
+    }
+}
+
+impl ToValue for &str {
+    ghost as_value = { λ text. Some (Bytes text.now) };
+
+    fn to_value(&self, alloc: Global) -> Result<Value, ToValueError> {
+        bytes_value(alloc, (*self).as_bytes())
+    }
+}
+
+/// The bytes that a value holds, moved, or the value.
+fn bytes_in(value: Value) -> Result<Vec<u8>, FromValueError>
+    ensures ok { IfOk result (λ bytes. value ≡ Bytes bytes.items) }
+    ensures err { IfErr result (λ e. (bytes_of value ≡ None) × (e.0 ≡ value)) }
+{
+    match value {
+        Value::Bytes(bytes) => Ok(bytes.into_vec()),
+        value => Err(FromValueError(value)),
+    }
+}
+
+/// The text that a value holds, moved, or the value.
+fn text_in(value: Value) -> Result<String, FromValueError>
+    ensures ok { IfOk result (λ text. (value ≡ Bytes (string_bytes text)) × (text_of_value value ≡ Some (string_bytes text))) }
+    ensures err { IfErr result (λ e. (text_of_value value ≡ None) × (e.0 ≡ value)) }
+{
+    match String::from_utf8(bytes_in(value)?) {
+        Ok(text) => Ok(text),
+        Err(e) => Err(FromValueError(Value::Bytes(ByteString::from_vec(e.into_bytes())))),
+    }
+}
+
+impl FromValue for Vec<u8> {
+    type Intermediate = Vec<u8>;
+
+    ghost Shown = { List ℕ };
+
+    ghost shown = { λ bytes. bytes.items };
+
+    ghost converted = { bytes_of };
+
+    fn get_intermediate(value: Value) -> Result<Vec<u8>, FromValueError> {
+        bytes_in(value)
+    }
+}
+
+impl Intermediate<Vec<u8>> for Vec<u8> {
+    ghost committed = { λ bytes. bytes };
+
+    ghost rolled_back = { λ bytes. Some (Bytes bytes.items) };
+
+    fn commit(self) -> Vec<u8> {
+        self
+    }
+
+    fn rollback(self, _alloc: Global) -> Result<Value, ToValueError> {
+        Ok(Value::Bytes(ByteString::from_vec(self)))
+    }
+}
+
+impl FromValue for CowSlice<'static, u8, Global> {
+    type Intermediate = CowSlice<'static, u8, Global>;
+
+    ghost Shown = { List ℕ };
+
+    ghost shown = { cow_slice_items };
+
+    ghost converted = { bytes_of };
+
+    fn get_intermediate(value: Value) -> Result<CowSlice<'static, u8, Global>, FromValueError> {
+        Ok(CowSlice::Owned(bytes_in(value)?))
+    }
+}
+
+impl Intermediate<CowSlice<'static, u8, Global>> for CowSlice<'static, u8, Global> {
+    ghost committed = { λ bytes. bytes };
+
+    ghost rolled_back = { λ bytes. Some (Bytes (cow_slice_items bytes)) };
+
+    fn commit(self) -> CowSlice<'static, u8, Global> {
+        self
+    }
+
+    fn rollback(self, alloc: Global) -> Result<Value, ToValueError> {
+        match self {
+            CowSlice::Owned(bytes) => Ok(Value::Bytes(ByteString::from_vec(bytes))),
+            CowSlice::Borrowed(bytes) => bytes_value(alloc, bytes),
+        }
+    }
+}
+
+impl<const N: usize> FromValue for [u8; N] {
+    type Intermediate = [u8; N];
+
+    ghost Shown = { List ℕ };
+
+    ghost shown = { λ bytes. bytes };
+
+    ghost converted = { array_of N };
+
+    fn get_intermediate(value: Value) -> Result<[u8; N], FromValueError> {
+        let bytes = bytes_in(value)?;
+        match <[u8; N]>::try_from(bytes.as_slice()) {
+            Ok(array) => Ok(array),
+            Err(_) => Err(FromValueError(Value::Bytes(ByteString::from_vec(bytes)))),
+        }
+    }
+}
+
+impl<const N: usize> Intermediate<[u8; N]> for [u8; N] {
+    ghost committed = { λ bytes. bytes };
+
+    ghost rolled_back = { λ bytes. Some (Bytes bytes) };
+
+    fn commit(self) -> [u8; N] {
+        self
+    }
+
+    fn rollback(self, alloc: Global) -> Result<Value, ToValueError> {
+        bytes_value(alloc, &self)
+    }
+}
+
+impl FromValue for String {
+    type Intermediate = String;
+
+    ghost Shown = { List ℕ };
+
+    ghost shown = { string_bytes };
+
+    ghost converted = { text_of_value };
+
+    fn get_intermediate(value: Value) -> Result<String, FromValueError> {
+        text_in(value)
+    }
+}
+
+impl Intermediate<String> for String {
+    ghost committed = { λ text. text };
+
+    ghost rolled_back = { λ text. Some (Bytes (string_bytes text)) };
+
+    fn commit(self) -> String {
+        self
+    }
+
+    fn rollback(self, _alloc: Global) -> Result<Value, ToValueError> {
+        Ok(Value::Bytes(ByteString::from_vec(self.into_bytes())))
+    }
+}
+
+impl FromValue for CowStr<'static, Global> {
+    type Intermediate = CowStr<'static, Global>;
+
+    ghost Shown = { List ℕ };
+
+    ghost shown = { cow_str_bytes };
+
+    ghost converted = { text_of_value };
+
+    fn get_intermediate(value: Value) -> Result<CowStr<'static, Global>, FromValueError> {
+        Ok(CowStr::Owned(text_in(value)?))
+    }
+}
+
+impl Intermediate<CowStr<'static, Global>> for CowStr<'static, Global> {
+    ghost committed = { λ text. text };
+
+    ghost rolled_back = { λ text. Some (Bytes (cow_str_bytes text)) };
+
+    fn commit(self) -> CowStr<'static, Global> {
+        self
+    }
+
+    fn rollback(self, alloc: Global) -> Result<Value, ToValueError> {
+        match self {
+            CowStr::Owned(text) => Ok(Value::Bytes(ByteString::from_vec(text.into_bytes()))),
+            CowStr::Borrowed(text) => bytes_value(alloc, text.as_bytes()),
+        }
+    }
+}

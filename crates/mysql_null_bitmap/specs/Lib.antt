@@ -1,0 +1,2 @@
+pub mod NullBitmap
+pub mod NullBits

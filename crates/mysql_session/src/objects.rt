@@ -1,0 +1,106 @@
+//! Lists of objects as commands.
+
+ghost use Rattle.std.specs.Prelude.{◌≡◌, ◌≤◌, IfErr, IfOk, MatchResult, OnErr, OnOk, Some, map};
+ghost use Rattle.mysql_convert.specs.Sets.{IsMadeOf, too_long};
+ghost use Rattle.mysql_convert.specs.Sets.Parts.{InOrder};
+ghost use Rattle.mysql_session.specs.Made.{AreMadeUpTo};
+ghost use Rattle.mysql_session.specs.Sending.{CanBeSent, ReadsBackValues, RefusesValues, SendsValues};
+
+use crate::refusal::Refusal;
+use crate::road::Road;
+use crate::sender::send;
+use mysql_convert::{IntoParams, ToValue};
+use mysql_values::{Params, SetError};
+use std::alloc::{AllocError, Global};
+
+/// The sets of the first lists, and why the list behind them makes none.
+#[derive(Drop)]
+struct MadeSets {
+    sets: Vec<Params>,
+    refusal: Option<SetError>,
+}
+
+/// A set of the objects' values, or why they make none.
+fn set_or_refusal(
+    alloc: Global,
+    objects: &[Box<dyn ToValue + Drop>],
+) -> Result<Result<Params, SetError>, AllocError>
+    ensures { IfOk result (λ made. MatchResult made (λ set. IsMadeOf (InOrder (map (λ object. as_value object) objects.now)) set) (λ error. too_long 0 (map (λ object. as_value object) objects.now) ≡ Some error)) }
+{
+    match objects.to_params(alloc) {
+        Ok(params) => Ok(Ok(params)),
+        Err(SetError::Memory) => Err(AllocError),
+        Err(SetError::TooLong(place)) => Ok(Err(SetError::TooLong(place))),
+        Err(SetError::Redefined(name)) => Ok(Err(SetError::Redefined(name))),
+        Err(SetError::Params(error)) => Ok(Err(SetError::Params(error))),
+    }
+}
+
+/// The sets of the objects' values, up to the first list that makes none.
+fn sets_of_objects(
+    alloc: Global,
+    lists: &[Vec<Box<dyn ToValue + Drop>>],
+) -> Result<MadeSets, AllocError>
+    ensures { IfOk result (λ made. AreMadeUpTo (map (λ list. map (λ object. as_value object) list.items) lists.now) made.sets.items made.refusal) }
+{
+    let mut sets = Vec::new(alloc);
+    for list in lists {
+        match set_or_refusal(alloc, list)? {
+            Ok(params) => sets.push(params)?,
+            Err(error) => {
+                return Ok(MadeSets {
+                    sets,
+                    refusal: Some(error),
+                });
+            }
+        }
+    }
+    Ok(MadeSets {
+        sets,
+        refusal: None,
+    })
+}
+
+/// Appends to `out` the commands that carry lists of objects to a server: what [`send`] appends of parameter sets of the
+/// objects' values, in order, one set for each list. A list without objects is the empty set. `receive` with the same query,
+/// id and limit reads back what the values mean.
+///
+/// The limit is at least 4, and by execute at most 16777219; the road is not [`Road::Bulk`].
+///
+/// # Errors
+/// The first cause that holds, in the order of [`Refusal`]: `Mixed`; by text `NotAlone`; by execute `TooManyPlaces`,
+/// `PrepareTooLarge`; list by list `Params` with `TooLong` and the least place whose object is too long for a value, `Params`
+/// with `PositionalParamsForNamedQuery` where a query with names is given objects, `WrongCount`, `Float`, `PacketTooLarge`;
+/// `Memory` where a growth was refused. `out` is then as it was.
+///
+/// (MySQL: Client/Server Protocol, "COM_QUERY", "COM_STMT_PREPARE", "COM_STMT_EXECUTE".)
+pub fn send_values(
+    alloc: Global,
+    query: &[u8],
+    sets: &[Vec<Box<dyn ToValue + Drop>>],
+    road: Road,
+    stmt_id: u32,
+    limit: usize,
+    out: &mut Vec<u8>,
+) -> Result<(), Refusal>
+    requires limit { 4 ≤ limit }
+    requires road { CanBeSent road limit }
+    ensures refused { IfErr result (RefusesValues road query.now (map (λ set. map (λ object. as_value object) set.items) sets.now) stmt_id limit) }
+    ensures kept { OnErr result (out.new.items ≡ out.old.items) }
+    ensures sent { OnOk result (SendsValues road query.now (map (λ set. map (λ object. as_value object) set.items) sets.now) stmt_id limit out.old.items out.new.items) }
+    ensures read_back { OnOk result (ReadsBackValues query.now (map (λ set. map (λ object. as_value object) set.items) sets.now) stmt_id limit out.old.items out.new.items) }
+{
+    let start = out.len();
+    let MadeSets {
+        sets: made,
+        refusal,
+    } = sets_of_objects(alloc, sets)?;
+    send(alloc, query, &made, road, stmt_id, limit, out)?;
+    match refusal {
+        Some(error) => {
+            out.truncate(start);
+            Err(Refusal::Params(made.len(), error))
+        }
+        None => Ok(()),
+    }
+}

@@ -1,0 +1,566 @@
+//! What values convert to, what converts to them, and what a conversion that is undone gives.
+
+use crate::support::{Asserting, Given, assert_value, made};
+use mysql_convert::{
+    FromValue, FromValueError, Intermediate, ParseIr, ParseIrOpt, ToValue, ToValueError,
+    from_value, from_value_opt, get_intermediate,
+};
+use mysql_values::Value;
+use std::alloc::Global;
+use std::borrow::{CowSlice, CowStr};
+use std::convert::AsSlice;
+use std::time::Duration;
+use tests_support::{Assert, assert_equal, once_more};
+
+/// Asserts that a conversion was refused, and that the value came back.
+fn assert_handed_back(assert: &impl Assert, alloc: Global, error: FromValueError, given: Given) {
+    assert_value(assert, alloc, &error.0, given);
+    drop(error);
+}
+
+fn assert_answer_is<T: PartialEq + Drop>(
+    assert: &impl Assert,
+    alloc: Global,
+    found: Result<T, FromValueError>,
+    given: Given,
+    wanted: Option<T>,
+) {
+    match found {
+        Ok(x) => assert.holds(Some(x) == wanted),
+        Err(error) => {
+            assert.holds(wanted.is_none());
+            drop(wanted);
+            assert_handed_back(assert, alloc, error, given);
+        }
+    }
+}
+
+fn committed<T: FromValue>(value: Value) -> Result<T, FromValueError> {
+    let step = get_intermediate::<T>(value)?;
+    Ok(step.commit())
+}
+
+fn rolled_back<T: FromValue>(alloc: Global, value: Value) -> Result<Value, ToValueError> {
+    match get_intermediate::<T>(value) {
+        Ok(step) => step.rollback(alloc),
+        Err(error) => {
+            drop(error);
+            Err(ToValueError::TooLong)
+        }
+    }
+}
+
+/// The value that undoing the conversion of a value gives.
+fn undone<T: FromValue>(assert: &impl Assert, alloc: Global, given: Given) -> Value {
+    let first = rolled_back::<T>(alloc, made(assert, alloc, given));
+    let second = rolled_back::<T>(alloc, made(assert, alloc, given));
+    once_more(assert, first, second)
+}
+
+/// Asserts what a value converts to, in both ways, and that it is read again once the conversion is undone.
+fn assert_converts<T: FromValue + PartialEq + Copy + Drop>(
+    assert: &impl Assert,
+    alloc: Global,
+    given: Given,
+    wanted: Option<T>,
+) {
+    let found = from_value_opt::<T>(made(assert, alloc, given));
+    assert_answer_is(assert, alloc, found, given, wanted);
+    let found = committed::<T>(made(assert, alloc, given));
+    assert_answer_is(assert, alloc, found, given, wanted);
+    if wanted.is_some() {
+        let found = from_value_opt::<T>(undone::<T>(assert, alloc, given));
+        assert_answer_is(assert, alloc, found, given, wanted);
+    }
+}
+
+/// Values that hold no number.
+const NO_NUMBERS: [Given; 13] = [
+    Given::Null,
+    Given::Float(0),
+    Given::Double(0),
+    Given::Date(7, 0, 0, 0, 0, 0, 0),
+    Given::Bytes(b""),
+    Given::Bytes(b"-"),
+    Given::Bytes(b"+"),
+    Given::Bytes(b"--7"),
+    Given::Bytes(b"- 7"),
+    Given::Bytes(b" 7"),
+    Given::Bytes(b"7 "),
+    Given::Bytes(b"7a"),
+    Given::Bytes(b"9999999999999999999999999999999999999999"),
+];
+
+/// Values that hold the number 7.
+const SEVENS: [Given; 6] = [
+    Given::Int(7),
+    Given::UInt(7),
+    Given::Bytes(b"7"),
+    Given::Bytes(b"+7"),
+    Given::Bytes(b"007"),
+    Given::Bytes(b"0000000000000000000000000000000000000007"),
+];
+
+/// Asserts what the integers of a type are read from: its least and its greatest, and the numbers past them.
+fn assert_range<T: FromValue + PartialEq + Copy + Drop>(
+    assert: &impl Assert,
+    alloc: Global,
+    seven: T,
+    least: (&'static [u8], T),
+    most: (&'static [u8], T),
+    past: [&'static [u8]; 2],
+) {
+    assert_converts(assert, alloc, Given::Bytes(least.0), Some(least.1));
+    assert_converts(assert, alloc, Given::Bytes(most.0), Some(most.1));
+    for text in past {
+        assert_converts::<T>(assert, alloc, Given::Bytes(text), None);
+    }
+    for given in SEVENS {
+        assert_converts(assert, alloc, given, Some(seven));
+    }
+    for given in NO_NUMBERS {
+        assert_converts::<T>(assert, alloc, given, None);
+    }
+}
+
+#[test]
+fn signed_integers(rt: HostRuntime) {
+    let a = Asserting(&rt);
+    let alloc = rt.alloc();
+    assert_range(
+        &a,
+        alloc,
+        7i8,
+        (b"-128", -128),
+        (b"127", 127),
+        [b"-129", b"128"],
+    );
+    assert_range(
+        &a,
+        alloc,
+        7i16,
+        (b"-32768", -32768),
+        (b"32767", 32767),
+        [b"-32769", b"32768"],
+    );
+    assert_range(
+        &a,
+        alloc,
+        7i32,
+        (b"-2147483648", -2147483648),
+        (b"2147483647", 2147483647),
+        [b"-2147483649", b"2147483648"],
+    );
+    assert_range(
+        &a,
+        alloc,
+        7i64,
+        (b"-9223372036854775808", i64::MIN),
+        (b"9223372036854775807", i64::MAX),
+        [b"-9223372036854775809", b"9223372036854775808"],
+    );
+    assert_range(
+        &a,
+        alloc,
+        7isize,
+        (b"-9223372036854775808", isize::MIN),
+        (b"9223372036854775807", isize::MAX),
+        [b"-9223372036854775809", b"9223372036854775808"],
+    );
+    assert_range(
+        &a,
+        alloc,
+        7i128,
+        (b"-170141183460469231731687303715884105728", i128::MIN),
+        (b"170141183460469231731687303715884105727", i128::MAX),
+        [
+            b"-170141183460469231731687303715884105729",
+            b"170141183460469231731687303715884105728",
+        ],
+    );
+}
+
+#[test]
+fn unsigned_integers(rt: HostRuntime) {
+    let a = Asserting(&rt);
+    let alloc = rt.alloc();
+    assert_range(&a, alloc, 7u8, (b"-0", 0), (b"255", 255), [b"-1", b"256"]);
+    assert_range(
+        &a,
+        alloc,
+        7u16,
+        (b"0", 0),
+        (b"65535", 65535),
+        [b"-1", b"65536"],
+    );
+    assert_range(
+        &a,
+        alloc,
+        7u32,
+        (b"0", 0),
+        (b"4294967295", 4294967295),
+        [b"-1", b"4294967296"],
+    );
+    assert_range(
+        &a,
+        alloc,
+        7u64,
+        (b"0", 0),
+        (b"18446744073709551615", u64::MAX),
+        [b"-1", b"18446744073709551616"],
+    );
+    assert_range(
+        &a,
+        alloc,
+        7usize,
+        (b"0", 0),
+        (b"18446744073709551615", usize::MAX),
+        [b"-1", b"18446744073709551616"],
+    );
+    assert_range(
+        &a,
+        alloc,
+        7u128,
+        (b"0", 0),
+        (b"340282366920938463463374607431768211455", u128::MAX),
+        [b"-1", b"340282366920938463463374607431768211456"],
+    );
+}
+
+/// Numbers of values that a type can't hold, or can.
+#[test]
+fn numbers_past_a_range(rt: HostRuntime) {
+    let a = Asserting(&rt);
+    let alloc = rt.alloc();
+    assert_converts::<u8>(&a, alloc, Given::Int(256), None);
+    assert_converts::<u8>(&a, alloc, Given::UInt(256), None);
+    assert_converts::<u64>(&a, alloc, Given::Int(-1), None);
+    assert_converts::<i64>(&a, alloc, Given::UInt(9223372036854775808), None);
+    assert_converts::<i8>(&a, alloc, Given::Int(-129), None);
+    assert_converts(&a, alloc, Given::Int(-128), Some(-128i8));
+    assert_converts(&a, alloc, Given::UInt(u64::MAX), Some(u64::MAX));
+    assert_converts(&a, alloc, Given::Int(i64::MIN), Some(i64::MIN));
+}
+
+const BOOLEANS: [(Given, Option<bool>); 9] = [
+    (Given::Int(0), Some(false)),
+    (Given::UInt(1), Some(true)),
+    (Given::Bytes(b"0"), Some(false)),
+    (Given::Bytes(b"1"), Some(true)),
+    (Given::Int(-1), None),
+    (Given::UInt(2), None),
+    (Given::Bytes(b""), None),
+    (Given::Bytes(b"01"), None),
+    (Given::Null, None),
+];
+
+#[test]
+fn booleans(rt: HostRuntime) {
+    for (given, wanted) in BOOLEANS {
+        assert_converts(&Asserting(&rt), rt.alloc(), given, wanted);
+    }
+}
+
+#[test]
+fn options_and_arrays(rt: HostRuntime) {
+    let a = Asserting(&rt);
+    let alloc = rt.alloc();
+    assert_converts(&a, alloc, Given::Null, Some(Option::<i64>::None));
+    assert_converts(&a, alloc, Given::Bytes(b"5"), Some(Some(5i64)));
+    assert_converts::<Option<i64>>(&a, alloc, Given::Bytes(b"x"), None);
+    assert_converts(&a, alloc, Given::Bytes(b"ab"), Some([97u8, 98]));
+    assert_converts::<[u8; 2]>(&a, alloc, Given::Bytes(b"a"), None);
+    assert_converts::<[u8; 2]>(&a, alloc, Given::Bytes(b"abc"), None);
+    assert_converts::<[u8; 2]>(&a, alloc, Given::Null, None);
+}
+
+/// Texts, and the nanoseconds of their durations.
+const DURATIONS: [(&[u8], u64); 10] = [
+    (b"838:59:59.500000", 3020399_500000000),
+    (b"00:00:00", 0),
+    (b"012:34:56", 45296_000000000),
+    (b"899:59:59", 3239999_000000000),
+    (b"99:59:59.1", 359999_100000000),
+    (b"00:00:01.02", 1_020000000),
+    (b"00:00:01.003", 1_003000000),
+    (b"00:00:01.0004", 1_000400000),
+    (b"00:00:01.00005", 1_000050000),
+    (b"00:00:01.000006", 1_000006000),
+];
+
+#[test]
+fn durations_of_texts(rt: HostRuntime) {
+    for (text, nanos) in DURATIONS {
+        let wanted = Some(Duration::from_nanos(nanos));
+        assert_converts(&Asserting(&rt), rt.alloc(), Given::Bytes(text), wanted);
+    }
+}
+
+/// Texts that are no duration.
+const NO_DURATIONS: [&[u8]; 11] = [
+    b"900:00:00",
+    b"00:00:01.0000070",
+    b"00:00:01.",
+    b"00:00:01,5",
+    b"-01:00:00",
+    b"1:00:00",
+    b"12:60:00",
+    b"12:00:60",
+    b"12:34",
+    b"12:",
+    b"",
+];
+
+#[test]
+fn texts_that_are_no_duration(rt: HostRuntime) {
+    for text in NO_DURATIONS {
+        assert_converts::<Duration>(&Asserting(&rt), rt.alloc(), Given::Bytes(text), None);
+    }
+}
+
+#[test]
+fn durations_of_times(rt: HostRuntime) {
+    let a = Asserting(&rt);
+    let alloc = rt.alloc();
+    let zero = Given::Time(false, 0, 0, 0, 0, 0);
+    assert_converts(&a, alloc, zero, Some(Duration::from_nanos(0)));
+    let time = Given::Time(false, 34, 22, 59, 59, 999999);
+    let wanted = Duration::from_nanos(3020399_999999000);
+    assert_converts(&a, alloc, time, Some(wanted));
+    let negative = Given::Time(true, 0, 0, 0, 1, 0);
+    assert_converts::<Duration>(&a, alloc, negative, None);
+    let negative = Given::Time(true, 0, 0, 0, 0, 0);
+    assert_converts::<Duration>(&a, alloc, negative, None);
+    assert_converts::<Duration>(&a, alloc, Given::Int(5), None);
+}
+
+/// No field of a time is checked. This one's duration has no value of its own, and undoing the conversion gives the time.
+#[test]
+fn the_longest_time(rt: HostRuntime) {
+    let assert = Asserting(&rt);
+    let longest = Given::Time(false, 4294967295, 255, 255, 255, 4294967295);
+    let wanted = Duration::new(371085175225849, 967295000);
+    assert_converts(&assert, rt.alloc(), longest, Some(wanted));
+    assert_undone::<Duration>(&assert, rt.alloc(), longest);
+    assert_too_long(&assert, rt.alloc(), wanted);
+}
+
+/// Asserts that a value is had again once its conversion is undone.
+fn assert_undone<T: FromValue>(assert: &impl Assert, alloc: Global, given: Given) {
+    let again = undone::<T>(assert, alloc, given);
+    assert_value(assert, alloc, &again, given);
+    drop(again);
+}
+
+/// Asserts the bytes that a value holds.
+fn assert_holds_bytes<T: FromValue + AsSlice<u8> + Drop>(
+    assert: &impl Assert,
+    alloc: Global,
+    given: Given,
+    wanted: Option<&[u8]>,
+) {
+    match from_value_opt::<T>(made(assert, alloc, given)) {
+        Ok(bytes) => {
+            assert.holds(Some(bytes.as_slice()) == wanted);
+            drop(bytes);
+            assert_undone::<T>(assert, alloc, given);
+        }
+        Err(error) => {
+            assert.holds(wanted.is_none());
+            assert_handed_back(assert, alloc, error, given);
+        }
+    }
+}
+
+type CowText = CowStr<'static, Global>;
+
+type CowBytes = CowSlice<'static, u8, Global>;
+
+/// Values, and the bytes and the text that they hold.
+const TEXTS: [(Given, Option<&[u8]>, Option<&[u8]>); 5] = [
+    (
+        Given::Bytes(b"h\xc3\xa9"),
+        Some(b"h\xc3\xa9"),
+        Some(b"h\xc3\xa9"),
+    ),
+    (Given::Bytes(b""), Some(b""), Some(b"")),
+    (Given::Bytes(b"a\xff"), Some(b"a\xff"), None),
+    (Given::Int(5), None, None),
+    (Given::Null, None, None),
+];
+
+/// Asserts the bytes that a value holds, by a type that may borrow.
+fn assert_holds_cow(assert: &impl Assert, alloc: Global, given: Given, wanted: Option<&[u8]>) {
+    match from_value_opt::<CowBytes>(made(assert, alloc, given)) {
+        Ok(bytes) => {
+            assert.holds(Some(bytes.as_slice()) == wanted);
+            drop(bytes);
+            assert_undone::<CowBytes>(assert, alloc, given);
+        }
+        Err(error) => {
+            assert.holds(wanted.is_none());
+            assert_handed_back(assert, alloc, error, given);
+        }
+    }
+}
+
+/// Asserts the text that a value holds, by a type that may borrow.
+fn assert_holds_text(assert: &impl Assert, alloc: Global, given: Given, wanted: Option<&[u8]>) {
+    match from_value_opt::<CowText>(made(assert, alloc, given)) {
+        Ok(text) => {
+            assert.holds(Some(text.as_str().as_bytes()) == wanted);
+            drop(text);
+            assert_undone::<CowText>(assert, alloc, given);
+        }
+        Err(error) => {
+            assert.holds(wanted.is_none());
+            assert_handed_back(assert, alloc, error, given);
+        }
+    }
+}
+
+#[test]
+fn texts_that_values_hold(rt: HostRuntime) {
+    let assert = Asserting(&rt);
+    for (given, bytes, text) in TEXTS {
+        assert_holds_bytes::<Vec<u8>>(&assert, rt.alloc(), given, bytes);
+        assert_holds_cow(&assert, rt.alloc(), given, bytes);
+        assert_holds_bytes::<String>(&assert, rt.alloc(), given, text);
+        assert_holds_text(&assert, rt.alloc(), given, text);
+    }
+}
+
+/// Any value is a value.
+#[test]
+fn values_that_values_hold(rt: HostRuntime) {
+    let assert = Asserting(&rt);
+    for given in [Given::Null, Given::Bytes(b"x"), Given::Float(1)] {
+        let value = from_value::<Value>(made(&assert, rt.alloc(), given));
+        assert_value(&assert, rt.alloc(), &value, given);
+        drop(value);
+        let again = undone::<Value>(&assert, rt.alloc(), given);
+        assert_value(&assert, rt.alloc(), &again, given);
+        drop(again);
+    }
+}
+
+/// What was read, and the value that it was read from, by types of callers.
+#[test]
+fn parsed_and_kept(rt: HostRuntime) {
+    let assert = Asserting(&rt);
+    assert_equal(&assert, ParseIr(5u8, Value::NULL).commit(), 5);
+    let kept = ParseIr(5u8, Value::UInt(7)).rollback(rt.alloc());
+    assert_equal(&assert, kept, Ok(Value::UInt(7)));
+    assert_equal(&assert, ParseIrOpt::Ready(5u8).commit(), 5);
+    assert_equal(&assert, ParseIrOpt::Parsed(5u8, Value::NULL).commit(), 5);
+    let made = ParseIrOpt::Ready(5u8).rollback(rt.alloc());
+    assert_equal(&assert, made, Ok(Value::Int(5)));
+    let kept = ParseIrOpt::Parsed(5u8, Value::UInt(7)).rollback(rt.alloc());
+    assert_equal(&assert, kept, Ok(Value::UInt(7)));
+}
+
+/// Asserts the value that something converts to.
+fn assert_gives<T: ToValue + Drop>(assert: &impl Assert, alloc: Global, x: T, wanted: Given) {
+    let value = once_more(assert, x.to_value(alloc), x.to_value(alloc));
+    drop(x);
+    assert_value(assert, alloc, &value, wanted);
+    drop(value);
+}
+
+#[test]
+fn values_of_integers(rt: HostRuntime) {
+    let a = Asserting(&rt);
+    let alloc = rt.alloc();
+    assert_gives(&a, alloc, -128i8, Given::Int(-128));
+    assert_gives(&a, alloc, -32768i16, Given::Int(-32768));
+    assert_gives(&a, alloc, 5i32, Given::Int(5));
+    assert_gives(&a, alloc, i64::MIN, Given::Int(i64::MIN));
+    assert_gives(&a, alloc, -1isize, Given::Int(-1));
+    assert_gives(&a, alloc, 255u8, Given::Int(255));
+    assert_gives(&a, alloc, 65535u16, Given::Int(65535));
+    assert_gives(&a, alloc, 4294967295u32, Given::Int(4294967295));
+    assert_gives(&a, alloc, 5u64, Given::UInt(5));
+    assert_gives(&a, alloc, 5usize, Given::UInt(5));
+    assert_gives(&a, alloc, true, Given::Int(1));
+    assert_gives(&a, alloc, false, Given::Int(0));
+}
+
+/// Numbers of 128 bits, and their values.
+const WIDE: [(i128, Given); 6] = [
+    (9223372036854775807, Given::Int(i64::MAX)),
+    (9223372036854775808, Given::UInt(9223372036854775808)),
+    (18446744073709551616, Given::Bytes(b"18446744073709551616")),
+    (-9223372036854775808, Given::Int(i64::MIN)),
+    (-9223372036854775809, Given::Bytes(b"-9223372036854775809")),
+    (
+        i128::MIN,
+        Given::Bytes(b"-170141183460469231731687303715884105728"),
+    ),
+];
+
+#[test]
+fn values_of_wide_integers(rt: HostRuntime) {
+    let a = Asserting(&rt);
+    for (number, wanted) in WIDE {
+        assert_gives(&a, rt.alloc(), number, wanted);
+    }
+    let most = Given::Bytes(b"340282366920938463463374607431768211455");
+    assert_gives(&a, rt.alloc(), u128::MAX, most);
+    assert_gives(&a, rt.alloc(), 5u128, Given::Int(5));
+    assert_gives(&a, rt.alloc(), 1u128 << 63, Given::UInt(1 << 63));
+}
+
+#[test]
+fn values_of_lent_texts(rt: HostRuntime) {
+    let a = Asserting(&rt);
+    let alloc = rt.alloc();
+    let ab = Given::Bytes(b"ab");
+    assert_gives(&a, alloc, "ab", ab);
+    assert_gives(&a, alloc, b"ab".as_slice(), ab);
+    assert_gives(&a, alloc, [97u8, 98], ab);
+    assert_gives(&a, alloc, CowText::Borrowed("ab"), ab);
+    assert_gives(&a, alloc, CowBytes::Borrowed(b"ab"), ab);
+    assert_gives(&a, alloc, &[97u8, 98], ab);
+    assert_gives(&a, alloc, Some("ab"), ab);
+    assert_gives(&a, alloc, Option::<u8>::None, Given::Null);
+    assert_gives(&a, alloc, Value::UInt(5), Given::UInt(5));
+}
+
+#[test]
+fn values_of_owned_texts(rt: HostRuntime) {
+    let a = Asserting(&rt);
+    let first = String::from_str(rt.alloc(), "ab");
+    let text = once_more(&a, first, String::from_str(rt.alloc(), "ab"));
+    assert_gives(&a, rt.alloc(), text, Given::Bytes(b"ab"));
+    let first = Vec::from_slice(rt.alloc(), b"ab");
+    let bytes = once_more(&a, first, Vec::from_slice(rt.alloc(), b"ab"));
+    assert_gives(&a, rt.alloc(), bytes, Given::Bytes(b"ab"));
+}
+
+/// Nanoseconds, and the time of that duration.
+const TIMES: [(u64, Given); 4] = [
+    (0, Given::Time(false, 0, 0, 0, 0, 0)),
+    (1_000000500, Given::Time(false, 0, 0, 0, 1, 1)),
+    (1_000000499, Given::Time(false, 0, 0, 0, 1, 0)),
+    (3020399_999999500, Given::Time(false, 34, 23, 0, 0, 0)),
+];
+
+fn assert_too_long(assert: &impl Assert, alloc: Global, duration: Duration) {
+    let refused = duration.to_value(alloc);
+    assert_equal(assert, refused, Err(ToValueError::TooLong));
+}
+
+#[test]
+fn values_of_durations(rt: HostRuntime) {
+    let assert = Asserting(&rt);
+    let alloc = rt.alloc();
+    for (nanos, time) in TIMES {
+        assert_gives(&assert, alloc, Duration::from_nanos(nanos), time);
+    }
+    // 2^32 days but 501 nanoseconds, and but 500, which round to another microsecond.
+    let longest = Given::Time(false, 4294967295, 23, 59, 59, 999999);
+    let short = Duration::new(371085174374399, 999999499);
+    assert_gives(&assert, alloc, short, longest);
+    assert_too_long(&assert, alloc, Duration::new(371085174374399, 999999500));
+    assert_too_long(&assert, alloc, Duration::new(u64::MAX, 999999999));
+}

@@ -1,0 +1,65 @@
+//! Bitmaps of columns that are NULL.
+
+use crate::support::Asserting;
+use mysql_null_bitmap::{ClientSide, NullBitmap, NullBits, ServerSide};
+use std::test::*;
+use tests_support::{Assert, assert_bytes, assert_equal, once_more};
+
+/// A client's bitmap of nine columns: the first, the third and the ninth are NULL.
+const NINE: [bool; 9] = [true, false, true, false, false, false, false, false, true];
+
+// Asserts which columns are NULL, one after another, and that no more follow.
+fn assert_nulls(assert: &impl Assert, bits: NullBits, wanted: &[bool]) {
+    let mut bits = bits;
+    for is_null in wanted {
+        assert.holds(bits.next() == Some(*is_null));
+    }
+    assert.holds(bits.next().is_none());
+}
+
+#[test]
+fn the_columns_of_a_client_and_of_a_server(rt: HostRuntime) {
+    let assert = Asserting(&rt);
+    let client = NullBitmap::<ClientSide, [u8; 2]>::from_bytes([5, 1]);
+    assert_nulls(&assert, client.iter(9), &NINE);
+    assert.holds(client.is_null(8) && !client.is_null(7));
+    let server = NullBitmap::<ServerSide, [u8; 1]>::from_bytes([4]);
+    assert_nulls(&assert, server.iter(1), &[true]);
+    assert_nulls(&assert, server.iter(0), &[]);
+    assert_equal(&assert, NullBitmap::<ServerSide, [u8; 1]>::bitmap_len(6), 1);
+    assert_equal(&assert, NullBitmap::<ServerSide, [u8; 1]>::bitmap_len(7), 2);
+}
+
+#[test]
+fn columns_are_set_and_cleared(rt: HostRuntime) {
+    let assert = Asserting(&rt);
+    let mut bitmap = once_more(
+        &assert,
+        NullBitmap::<ClientSide>::new(rt.alloc(), 9),
+        NullBitmap::<ClientSide>::new(rt.alloc(), 9),
+    );
+    assert_bytes(&assert, bitmap.as_slice(), &[0, 0]);
+    assert.holds(bitmap.as_slice().len() == 2);
+    if bitmap.as_slice().len() == 2 {
+        bitmap.set(8, true);
+        bitmap.set(2, true);
+        bitmap.set(0, true);
+        bitmap.set(2, false);
+    }
+    assert_bytes(&assert, bitmap.as_slice(), &[1, 1]);
+}
+
+#[test]
+fn a_bitmap_is_read_from_the_front(rt: HostRuntime) {
+    let assert = Asserting(&rt);
+    let mut input: &[u8] = &[5, 1, 7];
+    let mut again: &[u8] = &[5, 1, 7];
+    let bitmap = once_more(
+        &assert,
+        NullBitmap::<ClientSide>::read(rt.alloc(), &mut input, 9),
+        NullBitmap::<ClientSide>::read(rt.alloc(), &mut again, 9),
+    );
+    assert_bytes(&assert, bitmap.as_slice(), &[5, 1]);
+    assert.holds(input == [7].as_slice() || input == [5, 1, 7].as_slice());
+    assert.holds(input == [7].as_slice() || again == [7].as_slice());
+}

@@ -1,0 +1,36 @@
+//! How many bytes a value takes in its representation.
+
+use crate::support::Asserting;
+use mysql_raw::{IntRepr, LeU32, LenEnc, RawInt, Readable};
+use mysql_raw_bytes::{BytesRepr, FixedLengthText, NullBytes, RawBytes, U8Bytes};
+use mysql_raw_consts::{ConstU32, Skip};
+use mysql_raw_lists::Seq;
+use std::test::*;
+use tests_support::Assert;
+
+/// Names a header.
+struct Header;
+
+// Asserts a representation's size, through its bound.
+fn assert_size<T: Readable>(assert: &impl Assert, size: Option<usize>) {
+    assert.holds(T::size() == size);
+}
+
+#[test]
+fn sizes(rt: HostRuntime) {
+    let assert = Asserting(&rt);
+    assert.holds((LeU32::SIZE == Some(4)) & (U8Bytes::MAX_LEN == 255));
+    assert_size::<RawInt<LeU32>>(&assert, Some(4));
+    assert_size::<ConstU32<Header, 1>>(&assert, Some(4));
+    assert_size::<Skip<10>>(&assert, Some(10));
+    assert_size::<[u8; 6]>(&assert, Some(6));
+    assert_size::<RawBytes<FixedLengthText<5>>>(&assert, Some(5));
+}
+
+#[test]
+fn no_sizes(rt: HostRuntime) {
+    let assert = Asserting(&rt);
+    assert_size::<RawInt<LenEnc>>(&assert, None);
+    assert_size::<RawBytes<NullBytes>>(&assert, None);
+    assert_size::<Seq<RawInt<LeU32>, u8>>(&assert, None);
+}
