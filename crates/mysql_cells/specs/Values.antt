@@ -1,7 +1,7 @@
 -- The text of a value in a query, and what it means.
 -- MySQL Reference Manual, "Literal Values": "String Literals", "Numeric Literals", "Date and Time Literals", "Hexadecimal Literals", "NULL Values";
 -- of the SQL mode NO_BACKSLASH_ESCAPES: "Server SQL Modes".
-use Rattle.std.specs.Prelude.{ℕ, pos, ◌+◌, ◌*◌, ◌-◌, ◌==◌, ◌&&◌, Bool, false, not, if◌then◌else◌, List, [], ◌∷◌, ◌++◌, length, replicate, flat_map, codes, Option, Some, None}
+use Rattle.std.specs.Prelude.{ℕ, pos, ◌+◌, ◌*◌, ◌-◌, ◌==◌, ◌&&◌, Bool, true, false, not, if◌then◌else◌, List, [], ◌∷◌, ◌++◌, length, replicate, flat_map, codes, Option, Some, None}
 use Rattle.std.specs.Fmt.{decimal, signed_decimal, sign_text}
 use Rattle.std.specs.Str.{is_utf8}
 use Rattle.mysql_queries.specs.Tokens.{single_quote}
@@ -10,6 +10,11 @@ use Rattle.mysql_queries.specs.declared.content.Content.{Content}
 use Rattle.mysql_queries.specs.declared.content.Content.TheVariants as content
 use Rattle.mysql_cells.specs.declared.value.Value.{Value}
 use Rattle.mysql_cells.specs.declared.value.Value.TheVariants.{NULL, Bytes, Int, UInt, Float, Double, Date, Time}
+
+-- whether a value is NULL
+abbrev pub is_null : Value → Bool
+is_null NULL = true
+is_null _ = false
 
 -- a number in at least so many digits
 abbrev pub digits_in : ℕ → ℕ → List ℕ

@@ -3,7 +3,7 @@
 ghost use Rattle.mysql_cells.specs.Cells.{column_cell_at, has_no_sign, text_cell_at};
 ghost use Rattle.mysql_cells.specs.declared.value.Value.{Value as ValueOf};
 ghost use Rattle.mysql_raw.specs.Laws.{unsized};
-ghost use Rattle.std.specs.Prelude.{◌≡◌, None, ℕ};
+ghost use Rattle.std.specs.Prelude.{◌≡◌, None};
 
 use crate::cells::{read_cell, read_text_cell};
 use crate::value::Value;
@@ -101,34 +101,4 @@ impl<'de> MyDeserialize<'de> for ValueDeserializer<BinValue> {
         let value = read_cell(alloc, u8::from(column_type), without_sign(flags), buf)?;
         Ok(ValueDeserializer(value, PhantomData))
     }
-}
-
-/// Who wrote the cells of a row, which says where the bits of its null bitmap begin.
-///
-/// Follows "Binary Protocol Resultset Row" (Null-Bitmap) of the client/server protocol documentation.
-pub trait SerializationSide {
-    /// The number of the bit that stands for the first cell.
-    const BIT_OFFSET: usize;
-
-    ghost BIT_OFFSET: { ℕ };
-}
-
-/// The server, in the rows of a result.
-#[derive(Clone, Copy, Debug, PartialEq, Eq)]
-pub struct ServerSide;
-
-/// The client, in the parameters of an execution.
-#[derive(Clone, Copy, Debug, PartialEq, Eq)]
-pub struct ClientSide;
-
-impl SerializationSide for ServerSide {
-    const BIT_OFFSET: usize = 2;
-
-    ghost BIT_OFFSET = { 2 };
-}
-
-impl SerializationSide for ClientSide {
-    const BIT_OFFSET: usize = 0;
-
-    ghost BIT_OFFSET = { 0 };
 }

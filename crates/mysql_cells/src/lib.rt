@@ -15,7 +15,6 @@ pub mod value;
 
 pub use as_sql::AsSqlError;
 pub use cells::{read_cell, read_text_cell};
-pub use deserializer::{
-    BinValue, ClientSide, SerializationSide, ServerSide, TextValue, ValueDeserializer,
-};
+pub use deserializer::{BinValue, TextValue, ValueDeserializer};
+pub use mysql_null_bitmap::{ClientSide, SerializationSide, ServerSide};
 pub use value::Value;

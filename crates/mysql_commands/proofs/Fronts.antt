@@ -7,7 +7,7 @@ use Rattle.std.specs.Result.{result_ok}
 use Rattle.std.proofs.lemmas.Bool.{cases_lt, ne_eqb, or_parts, ltb-true}
 use Rattle.std.proofs.lemmas.List.{length-take, get_or-take}
 use Rattle.mysql_commands.specs.declared.fault.StreamFault.{StreamFault}
-use Rattle.mysql_commands.specs.declared.fault.StreamFault.TheVariants.{NotPrepared, NoTypes, NoRows, BadBulk, PiecesBeforeBulk, BadPlace}
+use Rattle.mysql_commands.specs.declared.fault.StreamFault.TheVariants.{WrongId, NotPrepared, NoTypes, NoRows, BadBulk, PiecesBeforeBulk, BadPlace}
 use Rattle.mysql_commands.specs.Fields.{must, little_at}
 use Rattle.mysql_wire.specs.Wire.{◌>>=◌}
 use Rattle.mysql_commands.specs.Query.{place_count}
@@ -15,7 +15,7 @@ use Rattle.mysql_commands.proofs.Readable.{readable as is_readable}
 use Rattle.mysql_commands.specs.Layout.{Conversation, Command, command_of, Types, Piece, piece_at, id_at, execute_head, bulk_head}
 use Rattle.mysql_commands.specs.Layout as layout
 use Rattle.mysql_commands.specs.InForce.{StatementState, state_after, nothing_yet, last_said, said_by, speaks_of_prepared, speaks_of_types, speaks_of_place, is_end, since, waiting_for, joined, is_waiting}
-use Rattle.mysql_commands.specs.Reading.{Set, ReadsAs, CommandReadsAs, PayloadReadsAs, execute_at, bulk_rows, prepared_piece, long_data_at, types_in_force, set_at}
+use Rattle.mysql_commands.specs.Reading.{Set, ReadsAs, CommandReadsAs, PayloadReadsAs, execute_at, bulk_rows, prepared_piece, long_data_at, statement_alone_at, types_in_force, set_at}
 use Rattle.mysql_values.specs.Laws.{TextIsDecided, OneReading, OnePlaces, SlicedIsLexed}
 use Rattle.mysql_wire.specs.Laws.{FrontsSplit}
 use Rattle.mysql_wire.specs.GoingOn.{ReaderLaws}
@@ -158,6 +158,12 @@ long_data_over c s t body sets h e =
     bind_from (must NotPrepared t.prepared >>= λ _. piece_at c body) (λ piece. Ok []) a.0 sets
     (bind_from (must NotPrepared t.prepared) (λ _. piece_at c body) 0 a.0 (must_from NotPrepared t.prepared (h.prepared (must_ok NotPrepared s.prepared b.0 b.1))) b.2) a.2
 
+alone_over : (c : Conversation) (s t : StatementState) (body : List ℕ) (sets : List Set) → Extends s t → statement_alone_at c s body ≡ Ok sets → statement_alone_at c t body ≡ Ok sets
+unfolding statement_alone_at
+alone_over c s t body sets h e =
+    let a = bind_ok (must NotPrepared s.prepared) (λ _. id_at c body >>= λ rest. must WrongId (length rest == 0) >>= λ _. Ok []) sets e in
+    bind_from (must NotPrepared t.prepared) (λ _. id_at c body >>= λ rest. must WrongId (length rest == 0) >>= λ _. Ok []) 0 sets (must_from NotPrepared t.prepared (h.prepared (must_ok NotPrepared s.prepared a.0 a.1))) a.2
+
 -- what reads where less is in force reads where more is
 command_over : (c : Conversation) (s t : StatementState) (command : Command) (body : List ℕ) (sets : List Set) → Extends s t → CommandReadsAs c s command body sets → CommandReadsAs c t command body sets
 command_over c s t layout.Text body sets h r = r
@@ -165,6 +171,8 @@ command_over c s t layout.Prepare body sets h r = r
 command_over c s t layout.LongData body sets h r = long_data_over c s t body sets h r
 command_over c s t layout.Execute body sets h r = (r.0, execute_over c s t body r.0 h r.1, r.2)
 command_over c s t layout.Bulk body sets h r = record { types = r.types; bytes = r.bytes; found = bulk_over c s t body (r.types, r.bytes) h r.found; rows = r.rows }
+command_over c s t layout.Reset body sets h r = alone_over c s t body sets h r
+command_over c s t layout.Close body sets h r = alone_over c s t body sets h r
 command_over c s t layout.Other body sets h r = r
 
 payload_over : (c : Conversation) (s t : StatementState) (payload : List ℕ) (sets : List Set) → Extends s t → PayloadReadsAs c s payload sets → PayloadReadsAs c t payload sets
@@ -222,6 +230,8 @@ no_place_past c k past (b ∷ body) = by_command (command_of b) body
     by_command layout.Prepare body = refl
     by_command layout.Execute body = refl
     by_command layout.Bulk body = refl
+    by_command layout.Reset body = refl
+    by_command layout.Close body = refl
     by_command layout.Other body = refl
 
 is_none : (o : Option (List ℕ)) → is_some o ≡ false → o ≡ None

@@ -9,7 +9,7 @@ use Rattle.mysql_commands.proofs.Readable.{IsReadable}
 use Rattle.mysql_commands.specs.Layout.{Conversation, Command, command_of, Types}
 use Rattle.mysql_commands.specs.Layout as layout
 use Rattle.mysql_commands.specs.InForce.{StatementState, state_after}
-use Rattle.mysql_commands.specs.Reading.{TextReadsAs, Set, execute_at, bulk_rows, BulkReadsAs, BulkFaulty, RowsAt, FaultyRow, long_data_at, CommandReadsAs, CommandFaulty, PayloadReadsAs, PayloadFaulty, ReadsAs, Faulty}
+use Rattle.mysql_commands.specs.Reading.{TextReadsAs, Set, execute_at, bulk_rows, BulkReadsAs, BulkFaulty, RowsAt, FaultyRow, long_data_at, statement_alone_at, CommandReadsAs, CommandFaulty, PayloadReadsAs, PayloadFaulty, ReadsAs, Faulty}
 use Rattle.mysql_commands.specs.Laws.{IsJudged}
 use Rattle.mysql_commands.proofs.Rows.{rows_or, rows_one, rows_not_both, fault_one as row_fault_one}
 
@@ -92,6 +92,8 @@ module _ (c : Conversation) (s : StatementState) (readable : IsReadable c.query)
   command_or layout.LongData body = answer_of (long_data_at c s body)
   command_or layout.Execute body = elim (answer_of (execute_at c s body)) [ inl h ↦ inl (h.0 ∷ [], (h.0, h.1, refl)) | inr h ↦ inr h ]
   command_or layout.Bulk body = elim (answer_of (bulk_rows c s body)) [ inl h ↦ bulk_or body h.0 h.1 | inr h ↦ inr (h.0, inl h.1) ]
+  command_or layout.Reset body = answer_of (statement_alone_at c s body)
+  command_or layout.Close body = answer_of (statement_alone_at c s body)
   command_or layout.Other body = inr (OtherCommand, refl)
 
   not_both : (command : Command) (body : List ℕ) (sets : List Set) (f : StreamFault) → CommandReadsAs c s command body sets → CommandFaulty c s command body f → ⊥
@@ -102,6 +104,8 @@ module _ (c : Conversation) (s : StatementState) (readable : IsReadable c.query)
   not_both layout.LongData body sets f h fails = no_answer_twice (long_data_at c s body) sets f h fails
   not_both layout.Execute body sets f h fails = no_answer_twice (execute_at c s body) h.0 f h.1 fails
   not_both layout.Bulk body sets f h fails = bulk_not_both body sets f h fails
+  not_both layout.Reset body sets f h fails = no_answer_twice (statement_alone_at c s body) sets f h fails
+  not_both layout.Close body sets f h fails = no_answer_twice (statement_alone_at c s body) sets f h fails
   not_both layout.Other body sets f h fails = h
 
   sets_one : (command : Command) (body : List ℕ) (xs ys : List Set) → CommandReadsAs c s command body xs → CommandReadsAs c s command body ys → xs ≡ ys
@@ -110,6 +114,8 @@ module _ (c : Conversation) (s : StatementState) (readable : IsReadable c.query)
   sets_one layout.LongData body xs ys p q = ok_one (long_data_at c s body) xs ys p q
   sets_one layout.Execute body xs ys p q = one_set p.0 q.0 xs ys p.2 q.2 (ok_one (execute_at c s body) p.0 q.0 p.1 q.1)
   sets_one layout.Bulk body xs ys p q = bulk_sets_one body xs ys p q
+  sets_one layout.Reset body xs ys p q = ok_one (statement_alone_at c s body) xs ys p q
+  sets_one layout.Close body xs ys p q = ok_one (statement_alone_at c s body) xs ys p q
   sets_one layout.Other body xs ys p q = absurd p
 
   fault_one : (command : Command) (body : List ℕ) (f g : StreamFault) → CommandFaulty c s command body f → CommandFaulty c s command body g → f ≡ g
@@ -124,6 +130,8 @@ module _ (c : Conversation) (s : StatementState) (readable : IsReadable c.query)
   fault_one layout.LongData body f g p q = err_one (long_data_at c s body) f g p q
   fault_one layout.Execute body f g p q = err_one (execute_at c s body) f g p q
   fault_one layout.Bulk body f g p q = bulk_fault_one body f g p q
+  fault_one layout.Reset body f g p q = err_one (statement_alone_at c s body) f g p q
+  fault_one layout.Close body f g p q = err_one (statement_alone_at c s body) f g p q
   fault_one layout.Other body f g p q = p ∙ sym q
 
   payload_or : (payload : List ℕ) → ((sets : List Set) × PayloadReadsAs c s payload sets) ⊎ ((f : StreamFault) × PayloadFaulty c s payload f)

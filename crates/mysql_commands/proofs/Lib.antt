@@ -14,3 +14,4 @@ pub mod Receiving
 pub mod Fronts
 pub mod Cuttings
 pub mod WrittenCells
+pub mod Nulls

@@ -14,6 +14,7 @@ use Rattle.mysql_commands.specs.declared.param_type.ParamType.{ParamType}
 use Rattle.mysql_values.specs.Content.{Content}
 use Rattle.mysql_commands.specs.Reading.{Set, parameter_at, set_at, column_at, columns_at}
 use Rattle.mysql_commands.specs.Views.{Fails}
+use Rattle.mysql_null_bitmap.specs.NullBitmap.{is_null_at}
 
 -- what was read before, and what is still read
 abbrev pub with_front : {A : Type 0} → List A → Result (List A × List ℕ) StreamFault → Result (List A × List ℕ) StreamFault
@@ -53,25 +54,33 @@ types_done before short count i bytes total le so_far =
 abbrev pub behind : {A : Type 0} → List A → Result (List A) StreamFault → Result (List A) StreamFault
 behind before read = read >>= λ x. Ok (before ++ x)
 
+pub behind_nothing : {A : Type 0} (read : Result (List A) StreamFault) → behind [] read ≡ read
+behind_nothing (Ok x) = refl
+behind_nothing (Err f) = refl
+
 behind_one : {A : Type 0} (before : List A) (n : A) (read : Result (List A) StreamFault) → behind before (read >>= λ x. Ok (n ∷ x)) ≡ behind (before ++ n ∷ []) read
 behind_one {A = A} before n (Ok x) = ap (λ (ns : List A). Ok ns) (simp append_assoc)
 behind_one before n (Err f) = refl
 
 module _ (pieces : ℕ → Option (List ℕ)) (nulls : List ℕ) (types : List ParamType) (total : Result Set StreamFault) where
-  pub set_goes_on : (before : Set) (place : ℕ) (t : ParamType) (rest : List ℕ) (n : Content) (after : List ℕ) → drop place types ≡ t ∷ drop (place + 1) types → parameter_at pieces nulls place t rest ≡ Ok (n, after)
+  pub set_goes_on : (before : Set) (place : ℕ) (t : ParamType) (null : Bool) (rest : List ℕ) (n : Content) (after : List ℕ) → drop place types ≡ t ∷ drop (place + 1) types
+      → null ≡ is_null_at 0 nulls place → parameter_at (pieces place) null t rest ≡ Ok (n, after)
       → behind before (set_at pieces nulls place (drop place types) rest) ≡ total → behind (before ++ n ∷ []) (set_at pieces nulls (place + 1) (drop (place + 1) types) after) ≡ total
   unfolding set_at
-  set_goes_on before place t rest n after e h so_far =
+  set_goes_on before place t null rest n after e bit h so_far =
+      let here : parameter_at (pieces place) (is_null_at 0 nulls place) t rest ≡ Ok (n, after) = ap (λ b. parameter_at (pieces place) b t rest) (sym bit) ∙ h in
       let one : behind before (set_at pieces nulls place (drop place types) rest) ≡ behind (before ++ n ∷ []) (set_at pieces nulls (place + 1) (drop (place + 1) types) after) =
-      rw (e, h) (behind_one before n (set_at pieces nulls (place + 1) (drop (place + 1) types) after)) in
+      rw (e, here) (behind_one before n (set_at pieces nulls (place + 1) (drop (place + 1) types) after)) in
       sym one ∙ so_far
 
-  pub set_ends : (r : Refusal) (before : Set) (place : ℕ) (t : ParamType) (rest : List ℕ) → drop place types ≡ t ∷ drop (place + 1) types → Fails r (parameter_at pieces nulls place t rest)
+  pub set_ends : (r : Refusal) (before : Set) (place : ℕ) (t : ParamType) (null : Bool) (rest : List ℕ) → drop place types ≡ t ∷ drop (place + 1) types
+      → null ≡ is_null_at 0 nulls place → Fails r (parameter_at (pieces place) null t rest)
       → behind before (set_at pieces nulls place (drop place types) rest) ≡ total → Fails r total
   unfolding set_at
-  set_ends refusal.Memory before place t rest e h so_far = tt
-  set_ends (refusal.Fault f) before place t rest e h so_far =
-      let one : behind before (set_at pieces nulls place (drop place types) rest) ≡ Err f = rw (e, h) refl in
+  set_ends refusal.Memory before place t null rest e bit h so_far = tt
+  set_ends (refusal.Fault f) before place t null rest e bit h so_far =
+      let here : parameter_at (pieces place) (is_null_at 0 nulls place) t rest ≡ Err f = ap (λ b. parameter_at (pieces place) b t rest) (sym bit) ∙ h in
+      let one : behind before (set_at pieces nulls place (drop place types) rest) ≡ Err f = rw (e, here) refl in
       sym so_far ∙ one
 
   pub set_done : (before : Set) (place : ℕ) (rest : List ℕ) → length types ≤ place → true ≡ (length rest == 0) → behind before (set_at pieces nulls place (drop place types) rest) ≡ total → total ≡ Ok before

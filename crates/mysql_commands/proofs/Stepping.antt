@@ -9,7 +9,7 @@ use Rattle.std.proofs.lemmas.Slice.Eq.{bytes_eq-Decides}
 use Rattle.mysql_commands.specs.declared.fault.StreamFault.{StreamFault}
 use Rattle.mysql_commands.specs.Layout.{Conversation, Types, Piece, piece_at}
 use Rattle.mysql_commands.specs.InForce.{StatementState, state_after, joined, execute_types, bulk_types}
-use Rattle.mysql_commands.specs.Steps.{with_piece, prepared_anew, after_execute, after_bulk, after_piece}
+use Rattle.mysql_commands.specs.Steps.{with_piece, prepared_anew, after_execute, after_bulk, after_piece, after_reset, closed}
 
 -- what waited is still what waits
 still : (o : Option (List ℕ)) → joined (option_to_list o ++ []) ≡ o
@@ -34,6 +34,12 @@ behind_prepare c s body is =
 
 pub behind_execute : (c : Conversation) (s : StatementState) (body : List ℕ) → state_after c s ((23 ∷ body) ∷ []) ≡ after_execute s (execute_types c body)
 behind_execute c s body = λ i. record { prepared = s.prepared; types = own_or (execute_types c body) s.types i; pieces = λ place. None }
+
+pub behind_reset : (c : Conversation) (s : StatementState) (body : List ℕ) → state_after c s ((26 ∷ body) ∷ []) ≡ after_reset s
+behind_reset c s body = refl
+
+pub behind_close : (c : Conversation) (s : StatementState) (body : List ℕ) → state_after c s ((25 ∷ body) ∷ []) ≡ closed
+behind_close c s body = refl
 
 pub behind_bulk : (c : Conversation) (s : StatementState) (body : List ℕ) → state_after c s ((250 ∷ body) ∷ []) ≡ after_bulk s (bulk_types c body)
 behind_bulk c s body = λ i. record { prepared = s.prepared; types = own_or (bulk_types c body) s.types i; pieces = λ place. still (s.pieces place) i }

@@ -28,9 +28,10 @@ said_by speaks (b ∷ body) = speaks (command_of b) body
 abbrev pub last_said : {A : Type 0} → (List ℕ → Option A) → A → List (List ℕ) → A
 last_said says before payloads = unwrap_or (last_or None (filter_map says payloads)) before
 
--- the prepare of the conversation's query says that the statement is prepared, and no other payload speaks of it
+-- the prepare of the conversation's query says that the statement is prepared, a close that it isn't, and no other payload speaks of it
 abbrev pub speaks_of_prepared : Conversation → Command → List ℕ → Option Bool
 speaks_of_prepared c layout.Prepare body = if bytes_eq body c.query.parsed then Some true else None
+speaks_of_prepared c layout.Close body = Some false
 speaks_of_prepared c _ body = None
 
 -- the types that an execute carries, and those that a bulk does
@@ -40,17 +41,20 @@ execute_types c body = option_and_then (λ head. head.own) (result_ok (execute_h
 abbrev pub bulk_types : Conversation → List ℕ → Option Types
 bulk_types c body = option_and_then (λ head. head.own) (result_ok (bulk_head c body))
 
--- a prepare says that there are no types; a typed execute or bulk says its own
+-- a prepare and a close say that there are no types; a typed execute or bulk says its own
 abbrev pub speaks_of_types : Conversation → Command → List ℕ → Option (Option Types)
 speaks_of_types c layout.Prepare body = Some None
 speaks_of_types c layout.Execute body = option_map (λ types. Some types) (execute_types c body)
 speaks_of_types c layout.Bulk body = option_map (λ types. Some types) (bulk_types c body)
+speaks_of_types c layout.Close body = Some None
 speaks_of_types c _ body = None
 
--- a prepare and an execute end the pieces that wait
+-- a prepare, an execute, a reset and a close end the pieces that wait
 abbrev pub ends_pieces : Command → List ℕ → Option Bool
 ends_pieces layout.Prepare body = Some true
 ends_pieces layout.Execute body = Some true
+ends_pieces layout.Reset body = Some true
+ends_pieces layout.Close body = Some true
 ends_pieces _ body = None
 
 abbrev pub is_end : List ℕ → Bool

@@ -1,5 +1,5 @@
 -- How commands lie in payloads: what each one says by its own bytes, whatever came before.
--- MySQL: Client/Server Protocol, "COM_QUERY", "COM_STMT_PREPARE", "COM_STMT_SEND_LONG_DATA", "COM_STMT_EXECUTE"; MariaDB: "COM_STMT_BULK_EXECUTE".
+-- MySQL: Client/Server Protocol, "COM_QUERY", "COM_STMT_PREPARE", "COM_STMT_SEND_LONG_DATA", "COM_STMT_EXECUTE", "COM_STMT_RESET", "COM_STMT_CLOSE"; MariaDB: "COM_STMT_BULK_EXECUTE".
 -- A reading takes bytes from the front: x.0 is what was read and x.1 the bytes left; the first refusal counts.
 use Rattle.std.specs.Prelude.{ℕ, zero, suc, ◌+◌, ◌/◌, Bool, List, [], ◌∷◌, Option, Some, None, Result, Ok, is_some, nat_lt, nat_le, ◌==◌, ◌||◌, if◌then◌else◌}
 use Rattle.mysql_commands.specs.declared.fault.StreamFault.{StreamFault}
@@ -8,7 +8,7 @@ use Rattle.mysql_commands.specs.declared.param_type.ParamType.{ParamType}
 use Rattle.mysql_const.specs.ColumnTypes.{column_type_named}
 use Rattle.mysql_const.specs.Commands.{command_named}
 use Rattle.mysql_const.specs.declared.command.Command.{Command as Name}
-use Rattle.mysql_const.specs.declared.command.Command.TheVariants.{COM_QUERY, COM_STMT_PREPARE, COM_STMT_SEND_LONG_DATA, COM_STMT_EXECUTE, COM_STMT_BULK_EXECUTE}
+use Rattle.mysql_const.specs.declared.command.Command.TheVariants.{COM_QUERY, COM_STMT_PREPARE, COM_STMT_SEND_LONG_DATA, COM_STMT_EXECUTE, COM_STMT_BULK_EXECUTE, COM_STMT_RESET, COM_STMT_CLOSE}
 use Rattle.mysql_commands.specs.Fields.{◌>>◌, must, bytes_at, little_at}
 use Rattle.mysql_wire.specs.Wire.{◌>>=◌}
 use Rattle.mysql_commands.specs.Query.{Query, place_count}
@@ -24,6 +24,8 @@ pub data Command : Type 0 where
   LongData : Command
   Execute : Command
   Bulk : Command
+  Reset : Command
+  Close : Command
   Other : Command
 
 -- by its name in the protocol
@@ -33,6 +35,8 @@ command_by (Some COM_STMT_PREPARE) = Prepare
 command_by (Some COM_STMT_SEND_LONG_DATA) = LongData
 command_by (Some COM_STMT_EXECUTE) = Execute
 command_by (Some COM_STMT_BULK_EXECUTE) = Bulk
+command_by (Some COM_STMT_RESET) = Reset
+command_by (Some COM_STMT_CLOSE) = Close
 command_by _ = Other
 
 -- by the first byte of a payload

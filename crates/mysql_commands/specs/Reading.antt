@@ -1,10 +1,10 @@
 -- What one payload reads as by what is in force there, or its first fault from the left.
--- MySQL: Client/Server Protocol, "COM_QUERY", "COM_STMT_PREPARE", "COM_STMT_SEND_LONG_DATA", "COM_STMT_EXECUTE", "Null-Bitmap"; MariaDB: "COM_STMT_BULK_EXECUTE".
+-- MySQL: Client/Server Protocol, "COM_QUERY", "COM_STMT_PREPARE", "COM_STMT_SEND_LONG_DATA", "COM_STMT_EXECUTE", "COM_STMT_RESET", "COM_STMT_CLOSE", "Null-Bitmap"; MariaDB: "COM_STMT_BULK_EXECUTE".
 -- A reading takes bytes from the front: x.0 is what was read and x.1 the bytes left; the first refusal counts.
 use Rattle.std.specs.Prelude.{◌≡◌, ◌≢◌, ℕ, ◌+◌, ◌<◌, ◌≤◌, ◌^◌, ◌⊎◌, Bool, true, false, List, [], ◌∷◌, length, Option, Some, None, Result, Ok, Err, nat_lt, nat_le, ◌==◌, not, if◌then◌else◌, IsTrue, IsFalse, ◌-◌}
 use Rattle.std.specs.Option.{ok_or, option_or}
 use Rattle.mysql_commands.specs.declared.fault.StreamFault.{StreamFault}
-use Rattle.mysql_commands.specs.declared.fault.StreamFault.TheVariants.{TooLarge, EmptyCommand, OtherCommand, TextMismatch, NotAlone, PrepareMismatch, TooManyPlaces, NotPrepared, BadExecute, NoTypes, BadType, Float, BadBulk, Indicator, NoRows, PiecesBeforeBulk}
+use Rattle.mysql_commands.specs.declared.fault.StreamFault.TheVariants.{TooLarge, EmptyCommand, OtherCommand, TextMismatch, NotAlone, PrepareMismatch, TooManyPlaces, NotPrepared, WrongId, BadExecute, NoTypes, BadType, Float, BadBulk, Indicator, NoRows, PiecesBeforeBulk}
 use Rattle.mysql_values.specs.Content.{Content}
 use Rattle.mysql_values.specs.Content.TheVariants as content
 use Rattle.mysql_values.specs.Values.{content_of}
@@ -17,7 +17,7 @@ use Rattle.mysql_commands.specs.declared.param_type.ParamType.{ParamType}
 use Rattle.mysql_commands.specs.Fields.{◌>>◌, must, little_at}
 use Rattle.mysql_wire.specs.Wire.{◌>>=◌}
 use Rattle.mysql_commands.specs.Query.{place_count, all_alone}
-use Rattle.mysql_commands.specs.Layout.{Conversation, Command, command_of, Types, Piece, piece_at, execute_head, bulk_head}
+use Rattle.mysql_commands.specs.Layout.{Conversation, Command, command_of, Types, Piece, piece_at, id_at, execute_head, bulk_head}
 use Rattle.mysql_commands.specs.Layout as layout
 use Rattle.mysql_commands.specs.InForce.{StatementState, state_after, is_waiting}
 
@@ -46,21 +46,18 @@ content_at short t bytes = do
 abbrev pub types_in_force : Conversation → StatementState → Option Types → Result Types StreamFault
 types_in_force c s own = if place_count c.query == 0 then Ok [] else ok_or (option_or own s.types) NoTypes
 
--- what a place of an execute holds: its pieces; else nothing, by the bitmap; else the content of the cell that stands first
-abbrev pub parameter_at : (ℕ → Option (List ℕ)) → List ℕ → ℕ → ParamType → List ℕ → Result (Content × List ℕ) StreamFault
-parameter_at pieces nulls place t bytes = by_piece (pieces place) (is_null_at 0 nulls place)
-  where
-    by_piece : Option (List ℕ) → Bool → Result (Content × List ℕ) StreamFault
-    by_piece (Some data_bytes) null = Ok (content.Bytes data_bytes, bytes)
-    by_piece None true = Ok (content.Null, bytes)
-    by_piece None false = content_at BadExecute t bytes
+-- what a place of an execute holds: its pieces; else nothing, where its bit is set; else the content of the cell that stands first
+abbrev pub parameter_at : Option (List ℕ) → Bool → ParamType → List ℕ → Result (Content × List ℕ) StreamFault
+parameter_at (Some data_bytes) null t bytes = Ok (content.Bytes data_bytes, bytes)
+parameter_at None true t bytes = Ok (content.Null, bytes)
+parameter_at None false t bytes = content_at BadExecute t bytes
 
 -- what the places from this one on hold, place by place, and no byte after them
 unfoldable pub set_at : (ℕ → Option (List ℕ)) → List ℕ → ℕ → Types → List ℕ → Result Set StreamFault
 set_at pieces nulls place [] [] = Ok []
 set_at pieces nulls place [] (b ∷ bytes) = Err BadExecute
 set_at pieces nulls place (t ∷ types) bytes = do
-  first ← parameter_at pieces nulls place t bytes
+  first ← parameter_at (pieces place) (is_null_at 0 nulls place) t bytes
   others ← set_at pieces nulls (place + 1) types first.1
   Ok (first.0 ∷ others)
 
@@ -141,6 +138,14 @@ long_data_at c s body = do
   piece ← prepared_piece c s body
   Ok []
 
+-- a reset and a close: the id and nothing behind it, as no set
+unfoldable pub statement_alone_at : Conversation → StatementState → List ℕ → Result (List Set) StreamFault
+statement_alone_at c s body = do
+  must NotPrepared s.prepared
+  rest ← id_at c body
+  must WrongId (length rest == 0)
+  Ok []
+
 -- A text reads as these contents over a query: it is the query's pieces with a literal of each content between, and its tokens are those of the query and of the literals.
 abbrev pub TextReadsAs : List ℕ → List ℕ → Set → Type 0
 TextReadsAs query text contents = Slices query text contents × Lexes query text contents
@@ -152,6 +157,8 @@ CommandReadsAs c s layout.Prepare body sets = (body ≡ c.query.parsed) × (plac
 CommandReadsAs c s layout.LongData body sets = long_data_at c s body ≡ Ok sets
 CommandReadsAs c s layout.Execute body sets = (set : Set) × (execute_at c s body ≡ Ok set) × (sets ≡ set ∷ [])
 CommandReadsAs c s layout.Bulk body sets = BulkReadsAs c s body sets
+CommandReadsAs c s layout.Reset body sets = statement_alone_at c s body ≡ Ok sets
+CommandReadsAs c s layout.Close body sets = statement_alone_at c s body ≡ Ok sets
 CommandReadsAs c s layout.Other body sets = ⊥
 
 -- This is the body's first fault from the left.
@@ -165,6 +172,8 @@ CommandFaulty c s layout.Prepare body f =
 CommandFaulty c s layout.LongData body f = long_data_at c s body ≡ Err f
 CommandFaulty c s layout.Execute body f = execute_at c s body ≡ Err f
 CommandFaulty c s layout.Bulk body f = BulkFaulty c s body f
+CommandFaulty c s layout.Reset body f = statement_alone_at c s body ≡ Err f
+CommandFaulty c s layout.Close body f = statement_alone_at c s body ≡ Err f
 CommandFaulty c s layout.Other body f = f ≡ OtherCommand
 
 -- a payload reads as these sets where this is in force

@@ -1,7 +1,7 @@
 -- Words of the receiver's own body, which no public call's clause has: what is in force behind one command, and what the
 -- reading of one payload leaves.
 -- MySQL: Client/Server Protocol, "Command Phase".
-use Rattle.std.specs.Prelude.{◌≡◌, ℕ, ◌+◌, true, List, [], ◌∷◌, ◌++◌, Option, None, Result, Ok, Err, ◌==◌, if◌then◌else◌}
+use Rattle.std.specs.Prelude.{◌≡◌, ℕ, ◌+◌, true, false, List, [], ◌∷◌, ◌++◌, Option, None, Result, Ok, Err, ◌==◌, if◌then◌else◌}
 use Rattle.std.specs.Option.{option_or, option_to_list}
 use Rattle.mysql_commands.specs.declared.refusal.Refusal.{Refusal}
 use Rattle.mysql_commands.specs.declared.refusal.Refusal.TheVariants as refusal
@@ -21,6 +21,13 @@ after_execute s own = record { prepared = s.prepared; types = option_or own s.ty
 
 abbrev pub after_bulk : StatementState → Option Types → StatementState
 after_bulk s own = record { prepared = s.prepared; types = option_or own s.types; pieces = s.pieces }
+
+-- behind a reset, and behind a close
+abbrev pub after_reset : StatementState → StatementState
+after_reset s = record { prepared = s.prepared; types = s.types; pieces = λ place. None }
+
+abbrev pub closed : StatementState
+closed = record { prepared = false; types = None; pieces = λ place. None }
 
 -- what waits, with more data for one place
 abbrev pub with_piece : (ℕ → Option (List ℕ)) → ℕ → List ℕ → ℕ → Option (List ℕ)

@@ -1,8 +1,8 @@
 //! What one payload reads as.
 
-ghost use Rattle.std.specs.Prelude.{◌≡◌, ℕ, ◌+◌, ◌<◌, ◌^◌, List, [], Option, Some, None, Ok, IfOk, length, map, is_some};
+ghost use Rattle.std.specs.Prelude.{◌≡◌, ℕ, ◌+◌, ◌*◌, ◌<◌, ◌≤◌, ◌^◌, List, [], Option, Some, None, Ok, IfOk, drop, false, get_or, length, map, is_some};
 ghost use Rattle.std.specs.Option.{option_map};
-ghost use Rattle.mysql_null_bitmap.specs.NullBitmap.{is_null_at};
+ghost use Rattle.mysql_null_bitmap.specs.NullBits.{bits_left};
 ghost use Rattle.mysql_commands.specs.Query.{place_count};
 ghost use Rattle.mysql_commands.specs.InForce.{is_waiting, execute_types, bulk_types};
 ghost use Rattle.mysql_commands.specs.Reading.{types_in_force, parameter_at, set_at, execute_at, column_at, columns_at, row_at, RowsAt, FaultyRow, BulkReadsAs, BulkFaulty};
@@ -15,6 +15,7 @@ use crate::layout::{BulkHead, ExecuteHead, bulk_front, execute_front};
 use crate::param_type::ParamType;
 use crate::refusal::Refusal;
 use crate::statement::{Conversation, StatementState};
+use mysql_null_bitmap::{ClientSide, NullBitmap, NullBits};
 use mysql_values::{ByteString, Content};
 use std::alloc::Global;
 
@@ -38,35 +39,42 @@ fn counting<'a>(
     }
 }
 
-/// Whether the place's bit is set.
-fn is_null(nulls: &[u8], place: usize) -> bool
-    ensures { result ≡ is_null_at 0 nulls.now place }
-{
-    match nulls.get(place / 8) {
-        Some(byte) => (*byte >> (place % 8)) % 2 == 1,
-        None => false,
-    }
-}
-
 /// What a place of an execute holds.
 #[tactic(auto, unfolding(crate::specs::Reading::content_at))]
 fn parameter<'a>(
     alloc: Global,
     statement: &StatementState,
-    nulls: &[u8],
     place: usize,
+    is_null: bool,
     kind: ParamType,
     bytes: &'a [u8],
 ) -> Result<(Content, &'a [u8]), Refusal>
-    ensures { Gives (λ x. (x.0, x.1.now)) result (parameter_at (piece_kept statement.now.pieces.items) nulls.now place kind bytes.now) }
+    ensures { Gives (λ x. (x.0, x.1.now)) result (parameter_at (piece_kept statement.now.pieces.items place) is_null kind bytes.now) }
 {
     if let Some(Some(piece)) = statement.pieces.get(place) {
         return Ok((Content::Bytes(ByteString::copy(alloc, piece)?), bytes));
     }
-    if is_null(nulls, place) {
+    if is_null {
         return Ok((Content::Null, bytes));
     }
     cell_content(alloc, StreamFault::BadExecute, kind, bytes)
+}
+
+/// How many of so many places have a bit in the bitmap.
+fn bit_count(nulls: &[u8], places: usize) -> usize
+    ensures few { result ≤ places }
+    ensures inside { result ≤ 8 * length nulls.now }
+    ensures all { result < places → result ≡ 8 * length nulls.now }
+{
+    places.min(nulls.len().saturating_mul(8))
+}
+
+/// The next bit; where none is left, nothing is null.
+fn next_bit(bits: &mut NullBits<'_>) -> bool
+    ensures bit { result ≡ get_or (bits_left bits.old) 0 false }
+    ensures left { bits_left bits.new ≡ drop 1 (bits_left bits.old) }
+{
+    bits.next().unwrap_or(false)
 }
 
 /// What all places hold.
@@ -81,8 +89,11 @@ fn whole_set(
 {
     let mut set = Vec::new(alloc);
     let mut rest = cells;
+    let bitmap = NullBitmap::<ClientSide, &[u8]>::from_bytes(nulls);
+    let mut bits = bitmap.iter(bit_count(nulls, types.len()));
     for (place, kind) in types.iter().enumerate() {
-        let (next, after) = parameter(alloc, statement, nulls, place, *kind, rest)?;
+        let is_null = next_bit(&mut bits);
+        let (next, after) = parameter(alloc, statement, place, is_null, *kind, rest)?;
         set.push(next)?;
         rest = after;
     }

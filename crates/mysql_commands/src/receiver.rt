@@ -1,7 +1,8 @@
 //! Reading a stream of commands back.
 
-ghost use Rattle.std.specs.Prelude.{◌≡◌, ◌≢◌, ◌≤◌, ◌⊎◌, [], true, false, None, Err, IfErr, IfOk, IfSome, OnOk};
+ghost use Rattle.std.specs.Prelude.{◌≡◌, ◌≢◌, ◌≤◌, ◌⊎◌, [], true, false, None, Err, IfErr, IfOk, IfSome, OnOk, length};
 ghost use Rattle.mysql_wire.specs.Bytes.{AreBytes};
+ghost use Rattle.mysql_wire.specs.Incoming.{bytes_kept};
 ghost use Rattle.mysql_values.specs.Queries.{HasMixed, IsParsed};
 ghost use Rattle.mysql_commands.specs.declared.fault.StreamFault.TheVariants.{Memory};
 ghost use Rattle.mysql_commands.specs.declared.receiver.ReceiverError.TheVariants as receiver_error;
@@ -225,6 +226,16 @@ impl Receiver {
                 Err(fault)
             }
         }
+    }
+
+    /// How many bytes are held of the packet that isn't whole: those that came of it, but for the headers of its chunks, of which
+    /// only one that doesn't stand whole is held. It takes no memory.
+    ///
+    /// Follows the MySQL Client/Server Protocol, "MySQL Packets".
+    pub fn kept(&self) -> usize
+        ensures { result ≡ bytes_kept (length self.now.partial) }
+    {
+        self.packets.kept()
     }
 
     /// The audit of what was fed. It takes no memory.

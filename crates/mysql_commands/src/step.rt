@@ -2,14 +2,14 @@
 
 ghost use Rattle.std.specs.Prelude.{◌≡◌, ℕ, ◌+◌, ◌<◌, ◌^◌, List, [], ◌∷◌, Option, Some, None, Ok, IfOk, OnOk, OnErr, length, vec_len};
 ghost use Rattle.mysql_commands.specs.Query.{IsQuery, all_alone as is_all_alone};
-ghost use Rattle.mysql_commands.specs.Layout.{Prepare, Text, Execute, Bulk, LongData, command_of};
+ghost use Rattle.mysql_commands.specs.Layout.{Prepare, Text, Execute, Bulk, LongData, Reset, Close, command_of};
 ghost use Rattle.mysql_commands.specs.InForce.{StatementState as InForce, state_after, execute_types, bulk_types};
-ghost use Rattle.mysql_commands.specs.Steps.{prepared_anew, after_execute, after_bulk, after_piece, with_piece};
-ghost use Rattle.mysql_commands.specs.Reading.{prepared_piece};
+ghost use Rattle.mysql_commands.specs.Steps.{prepared_anew, after_execute, after_bulk, after_piece, after_reset, closed, with_piece};
+ghost use Rattle.mysql_commands.specs.Reading.{prepared_piece, statement_alone_at};
 ghost use Rattle.mysql_commands.specs.Views.{Gives, piece_of, Judged, PayloadJudged, sets_of, types_kept, conversation_of, state_of, piece_kept};
 
 use crate::fault::StreamFault;
-use crate::layout::{Piece, long_data};
+use crate::layout::{Piece, id, long_data};
 use crate::param_type::ParamType;
 use crate::reading::{bulk, execute};
 use crate::refusal::Refusal;
@@ -36,6 +36,21 @@ impl StatementState {
             self.types = own;
         }
         self.pieces.clear();
+    }
+
+    /// Behind a reset.
+    pub fn reset(&mut self)
+        ensures { state_of self.new ≡ after_reset (state_of self.old) }
+    {
+        self.pieces.clear();
+    }
+
+    /// Behind a close.
+    pub fn close(&mut self)
+        ensures { state_of self.new ≡ closed }
+    {
+        self.prepare();
+        self.prepared = false;
     }
 
     /// Behind a bulk that carries these types, or none.
@@ -225,6 +240,57 @@ fn on_long_data(
     Ok(Vec::new(alloc))
 }
 
+/// Reads the body of a reset or a close.
+#[tactic(auto, unfolding(crate::specs::Reading::statement_alone_at))]
+fn statement_alone(
+    conversation: &Conversation,
+    statement: &StatementState,
+    body: &[u8],
+) -> Result<(), Refusal>
+    ensures { Gives (λ _. []) result (statement_alone_at (conversation_of conversation.now) (state_of statement.now) body.now) }
+{
+    if !statement.prepared {
+        return Err(Refusal::Fault(StreamFault::NotPrepared));
+    }
+    let rest = id(conversation, body)?;
+    if !rest.is_empty() {
+        return Err(Refusal::Fault(StreamFault::WrongId));
+    }
+    Ok(())
+}
+
+/// Reads a reset.
+fn on_reset(
+    alloc: Global,
+    conversation: &Conversation,
+    statement: &mut StatementState,
+    body: &[u8],
+) -> Result<Vec<Vec<Content>>, Refusal>
+    ensures judged { Judged (conversation_of conversation.now) (state_of statement.old) Reset body.now result }
+    ensures ok { OnOk result (state_of statement.new ≡ state_after (conversation_of conversation.now) (state_of statement.old) ((26 ∷ body.now) ∷ [])) }
+    ensures err { OnErr result (state_of statement.new ≡ state_of statement.old) }
+{
+    statement_alone(conversation, statement, body)?;
+    statement.reset();
+    Ok(Vec::new(alloc))
+}
+
+/// Reads a close.
+fn on_close(
+    alloc: Global,
+    conversation: &Conversation,
+    statement: &mut StatementState,
+    body: &[u8],
+) -> Result<Vec<Vec<Content>>, Refusal>
+    ensures judged { Judged (conversation_of conversation.now) (state_of statement.old) Close body.now result }
+    ensures ok { OnOk result (state_of statement.new ≡ state_after (conversation_of conversation.now) (state_of statement.old) ((25 ∷ body.now) ∷ [])) }
+    ensures err { OnErr result (state_of statement.new ≡ state_of statement.old) }
+{
+    statement_alone(conversation, statement, body)?;
+    statement.close();
+    Ok(Vec::new(alloc))
+}
+
 /// The first bytes of the commands that are read.
 const COM_QUERY: u8 = Command::COM_QUERY as u8;
 
@@ -233,6 +299,10 @@ const COM_STMT_PREPARE: u8 = Command::COM_STMT_PREPARE as u8;
 const COM_STMT_EXECUTE: u8 = Command::COM_STMT_EXECUTE as u8;
 
 const COM_STMT_SEND_LONG_DATA: u8 = Command::COM_STMT_SEND_LONG_DATA as u8;
+
+const COM_STMT_RESET: u8 = Command::COM_STMT_RESET as u8;
+
+const COM_STMT_CLOSE: u8 = Command::COM_STMT_CLOSE as u8;
 
 const COM_STMT_BULK_EXECUTE: u8 = Command::COM_STMT_BULK_EXECUTE as u8;
 
@@ -255,6 +325,8 @@ fn on_command(
         COM_STMT_EXECUTE => on_execute(alloc, conversation, statement, body),
         COM_STMT_SEND_LONG_DATA => on_long_data(alloc, conversation, statement, body),
         COM_STMT_BULK_EXECUTE => on_bulk(alloc, conversation, statement, body),
+        COM_STMT_RESET => on_reset(alloc, conversation, statement, body),
+        COM_STMT_CLOSE => on_close(alloc, conversation, statement, body),
         _ => Err(Refusal::Fault(StreamFault::OtherCommand)),
     }
 }

@@ -4,7 +4,8 @@ use Rattle.std.specs.Prelude.{IsSomeAnd}
 use Rattle.std.specs.Option.{option_and_then}
 use Rattle.mysql_cells.specs.declared.value.Value.{Value}
 use Rattle.mysql_cells.specs.declared.value.Value.TheVariants.{NULL, Bytes, Int, UInt, Float, Double, Date, Time}
-use Rattle.mysql_convert.specs.Conversions.{ReadsAgain, is_null}
+use Rattle.mysql_cells.specs.Values.{is_null}
+use Rattle.mysql_convert.specs.Conversions.{ReadsAgain}
 use Rattle.mysql_convert.specs.Numbers.{HoldsNumber, number_of, integer_of}
 
 not_null : (value : Value) (z : ℤ) → number_of value ≡ Some z → is_null value ≡ false

@@ -2,5 +2,4 @@ pub mod Digits
 pub mod Fractions
 pub mod IntegersReadAgain
 pub mod Utf8Texts
-pub mod Places
-pub mod Pairs
+pub mod DurationTexts

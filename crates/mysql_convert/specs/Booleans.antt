@@ -1,12 +1,8 @@
--- Booleans as values.
+-- The boolean that a value holds.
 -- MySQL Reference Manual, "Boolean Literals".
-use Rattle.std.specs.Prelude.{ℕ, ℤ, pos, Bool, true, false, ◌==◌, [], ◌∷◌, Option, Some, None, if◌then◌else◌}
+use Rattle.std.specs.Prelude.{ℕ, pos, Bool, true, false, ◌==◌, [], ◌∷◌, Option, Some, None, if◌then◌else◌}
 use Rattle.mysql_cells.specs.declared.value.Value.{Value}
 use Rattle.mysql_cells.specs.declared.value.Value.TheVariants.{Bytes, Int, UInt}
-
-abbrev pub number_of_boolean : Bool → ℤ
-number_of_boolean false = pos 0
-number_of_boolean true = pos 1
 
 -- one number is false, another true, and any other none of them
 abbrev pub boolean_among : ℕ → ℕ → ℕ → Option Bool

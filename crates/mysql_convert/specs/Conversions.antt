@@ -1,13 +1,9 @@
 -- What values convert to, and which value gives the same again.
 -- MySQL Reference Manual, "Working with NULL Values"; conversions between values and a language's types are a form of client libraries.
-use Rattle.std.specs.Prelude.{◌≡◌, Bool, true, false, Option, Some, None, if◌then◌else◌}
+use Rattle.std.specs.Prelude.{◌≡◌, Option, Some, None, if◌then◌else◌}
 use Rattle.std.specs.Option.{option_map}
 use Rattle.mysql_cells.specs.declared.value.Value.{Value}
-use Rattle.mysql_cells.specs.declared.value.Value.TheVariants.{NULL}
-
-abbrev pub is_null : Value → Bool
-is_null NULL = true
-is_null _ = false
+use Rattle.mysql_cells.specs.Values.{is_null}
 
 -- a value that was rolled back converts as the first one does, and is NULL exactly where that is
 abbrev pub ReadsAgain : {Shown : Type 0} → (Value → Option Shown) → Value → Option Value → Type 0

@@ -1,62 +1,43 @@
--- Durations as values.
+-- The duration that a value holds.
 -- MySQL Reference Manual, "The TIME Type", "Fractional Seconds in Time Values".
-use Rattle.std.specs.Prelude.{ℕ, ◌+◌, ◌*◌, ◌/◌, ◌%◌, ◌^◌, ◌-◌, Bool, false, ◌&&◌, ◌==◌, nat_le, nat_lt, List, [], ◌∷◌, length, Option, Some, None, if◌then◌else◌}
-use Rattle.std.specs.Option.{option_map}
-use Rattle.mysql_queries.specs.Literals.{is_digit}
+use Rattle.std.specs.Prelude.{◌≡◌, ◌≤◌, ◌<◌, ◌⊎◌, ◌↔◌, ℕ, ◌+◌, ◌*◌, ◌^◌, true, false, List, [], ◌++◌, codes, length, Option, Some, None}
+use Rattle.std.specs.List.{AllByRecursion}
+use Rattle.mysql_queries.specs.Literals.{AreDigits, digits_value, is_digit}
 use Rattle.mysql_cells.specs.declared.value.Value.{Value}
 use Rattle.mysql_cells.specs.declared.value.Value.TheVariants.{Bytes, Time}
-use Rattle.mysql_convert.specs.Numbers.{digits_number}
+use Rattle.mysql_convert.specs.DurationReading.{text_nanos, time_nanos}
 
--- the time of so many microseconds, none where it takes more than 2^32 - 1 days
-abbrev pub time_value : ℕ → Option Value
-time_value micros =
-    if nat_lt (micros / 86_400_000_000) (2 ^ 32)
-    then Some (Time false (micros / 86_400_000_000) (micros / 3_600_000_000 % 24) (micros / 60_000_000 % 60) (micros / 1_000_000 % 60) (micros % 1_000_000))
-    else None
+-- so many digits that write a number below a bound
+pub record IsGroup (count bound : ℕ) (digits : List ℕ) : Type 0 where
+  pub each : AllByRecursion (λ b. is_digit b ≡ true) digits
+  pub as_many : length digits ≡ count
+  pub below : digits_value digits < bound
 
--- nanoseconds rounded to microseconds, halves up
-abbrev pub rounded : ℕ → ℕ
-rounded nanos = nanos / 1_000 + (if nat_le 500 (nanos % 1_000) then 1 else 0)
+-- nothing, or a point and one to six digits, and the decimal fraction of a second that they write, in nanoseconds
+abbrev pub IsFraction : List ℕ → ℕ → Type 0
+IsFraction text nanos = ((text ≡ []) × (nanos ≡ 0))
+    ⊎ ((digits : List ℕ) × (text ≡ codes "." ++ digits) × AreDigits digits × (length digits ≤ 6) × (nanos * 10 ^ length digits ≡ digits_value digits * 1_000_000_000))
 
--- The value of a duration of so many nanoseconds.
-abbrev pub duration_value : ℕ → Option Value
-duration_value nanos = time_value (rounded nanos)
-
--- the nanoseconds of a time
-abbrev pub time_nanos : ℕ → ℕ → ℕ → ℕ → ℕ → ℕ
-time_nanos days hours minutes seconds micros = (((days * 24 + hours) * 60 + minutes) * 60 + seconds) * 1_000_000_000 + micros * 1_000
-
--- the number of two digits
-abbrev pub two_digits : ℕ → ℕ → ℕ
-two_digits tens ones = (tens - 0x30) * 10 + (ones - 0x30)
-
--- two digits from 00 to 59
-abbrev pub is_below_sixty : ℕ → ℕ → Bool
-is_below_sixty tens ones = is_digit tens && nat_le tens 0x35 && is_digit ones
-
--- the nanoseconds of nothing, or of a point and one to six digits
-abbrev pub fraction_nanos : List ℕ → Option ℕ
-fraction_nanos [] = Some 0
-fraction_nanos (point ∷ digits) =
-    if (point == 0x2e) && nat_le (length digits) 6 then option_map (λ n. n * 10 ^ (9 - length digits)) (digits_number digits) else None
-
--- the nanoseconds of hours and, behind them, `:MM:SS` and a fraction
-abbrev pub clock_nanos : ℕ → List ℕ → Option ℕ
-clock_nanos hours (a ∷ m ∷ n ∷ b ∷ s ∷ t ∷ fraction) =
-    if (a == 0x3a) && is_below_sixty m n && (b == 0x3a) && is_below_sixty s t
-    then option_map (λ nanos. time_nanos 0 hours (two_digits m n) (two_digits s t) 0 + nanos) (fraction_nanos fraction)
-    else None
-clock_nanos hours _ = None
-
--- the nanoseconds of a text: hours of two digits, or of three that begin with 0 to 8, and what stands behind them
-abbrev pub text_nanos : List ℕ → Option ℕ
-text_nanos (h ∷ i ∷ j ∷ clock) =
-    if is_digit h && is_digit i && (j == 0x3a) then clock_nanos (two_digits h i) (j ∷ clock) else
-    (if is_digit h && nat_le h 0x38 && is_digit i && is_digit j then clock_nanos ((h - 0x30) * 100 + two_digits i j) clock else None)
-text_nanos _ = None
+-- hours of two digits, or of three below 900, minutes and seconds of two digits below 60, with colons between, and a fraction of a second
+pub record IsDurationText (text : List ℕ) (nanos : ℕ) : Type 0 where
+  pub hours : List ℕ
+  pub minutes : List ℕ
+  pub seconds : List ℕ
+  pub fraction : List ℕ
+  pub part : ℕ
+  pub spelled : text ≡ hours ++ codes ":" ++ minutes ++ codes ":" ++ seconds ++ fraction
+  pub are_hours : IsGroup 2 100 hours ⊎ IsGroup 3 900 hours
+  pub are_minutes : IsGroup 2 60 minutes
+  pub are_seconds : IsGroup 2 60 seconds
+  pub is_fraction : IsFraction fraction part
+  pub value : nanos ≡ time_nanos 0 (digits_value hours) (digits_value minutes) (digits_value seconds) 0 + part
 
 -- The nanoseconds of the duration that a value holds: of a time that isn't negative, or of its text.
 abbrev pub duration_of : Value → Option ℕ
 duration_of (Time false days hours minutes seconds micros) = Some (time_nanos days hours minutes seconds micros)
 duration_of (Bytes bytes) = text_nanos bytes
 duration_of _ = None
+
+-- bytes hold a duration exactly where they are the text of one
+abbrev pub TextsHoldDurations : Type 0
+TextsHoldDurations = (text : List ℕ) (nanos : ℕ) → (duration_of (Bytes text) ≡ Some nanos) ↔ IsDurationText text nanos

@@ -1,8 +1,7 @@
 -- What conversions that can still be undone give.
 -- MySQL Reference Manual, "Working with NULL Values"; conversions between values and a language's types are a form of client libraries.
-use Rattle.std.specs.Prelude.{Option, Some, None}
+use Rattle.std.specs.Prelude.{Option, Some}
 use Rattle.mysql_cells.specs.declared.value.Value.{Value}
-use Rattle.mysql_cells.specs.declared.value.Value.TheVariants.{NULL}
 use Rattle.mysql_convert.specs.declared.intermediates.ParseIrOpt.{ParseIrOpt}
 use Rattle.mysql_convert.specs.declared.intermediates.ParseIrOpt.TheVariants.{Ready, Parsed}
 
@@ -15,8 +14,3 @@ committed_of (Parsed x value) = x
 abbrev pub rolled_back_of : {T : Type 0} → (T → Option Value) → ParseIrOpt T → Option Value
 rolled_back_of as_value (Ready x) = as_value x
 rolled_back_of as_value (Parsed x value) = Some value
-
--- the value of an option: NULL for None
-abbrev pub value_or_null : {T : Type 0} → (T → Option Value) → Option T → Option Value
-value_or_null as_value None = Some NULL
-value_or_null as_value (Some x) = as_value x

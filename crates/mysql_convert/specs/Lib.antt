@@ -1,3 +1,5 @@
+pub use Rattle.mysql_to_values.specs.Values
+pub use Rattle.mysql_to_values.specs.Sets
 pub use Rattle.mysql_cells.specs.declared.value.Value
 pub mod Conversions
 pub mod Intermediates
@@ -5,5 +7,5 @@ pub mod Numbers
 pub mod IntegerLaws
 pub mod Booleans
 pub mod Texts
+pub mod DurationReading
 pub mod Durations
-pub mod Sets

@@ -1,13 +1,12 @@
--- The whole number that a value holds, and the values of whole numbers.
+-- The whole number that a value holds.
 -- MySQL Reference Manual, "Numeric Literals", "Integer Types (Exact Value)".
-use Rattle.std.specs.Prelude.{◌≡◌, ℕ, ℤ, pos, negsuc, suc, neg_ℤ, ◌^◌, ◌-◌, Bool, true, false, nat_lt, List, [], ◌∷◌, Option, Some, None, if◌then◌else◌, ◌==◌}
-use Rattle.std.specs.Fmt.{decimal}
+use Rattle.std.specs.Prelude.{◌≡◌, ℕ, ℤ, pos, negsuc, neg_ℤ, ◌^◌, ◌-◌, Bool, true, false, nat_lt, List, [], ◌∷◌, Option, Some, None, if◌then◌else◌, ◌==◌}
 use Rattle.std.specs.List.{list_all}
 use Rattle.std.specs.Option.{option_map, option_and_then}
 use Rattle.mysql_queries.specs.Literals.{is_digit, digits_value}
 use Rattle.mysql_cells.specs.declared.value.Value.{Value}
 use Rattle.mysql_cells.specs.declared.value.Value.TheVariants.{Bytes, Int, UInt}
-use Rattle.mysql_convert.specs.Conversions.{is_null}
+use Rattle.mysql_cells.specs.Values.{is_null}
 
 -- a number by its sign and its magnitude
 abbrev pub signed : Bool → ℕ → ℤ
@@ -46,11 +45,6 @@ signed_in bits (negsuc n) = if nat_lt n (2 ^ (bits - 1)) then Some (negsuc n) el
 -- The number of an integer type that a value holds: one in the range that the type takes.
 abbrev pub integer_of : {N : Type 0} → (ℤ → Option N) → Value → Option N
 integer_of narrowed value = option_and_then narrowed (number_of value)
-
--- The value of a whole number of any size: Int where it fits, else UInt, else its digits.
-abbrev pub integer_value : ℤ → Value
-integer_value (pos n) = if nat_lt n (2 ^ 63) then Int (pos n) else (if nat_lt n (2 ^ 64) then UInt n else Bytes (decimal n))
-integer_value (negsuc n) = if nat_lt n (2 ^ 63) then Int (negsuc n) else Bytes (0x2d ∷ decimal (suc n))
 
 -- the value holds this number
 abbrev pub HoldsNumber : ℤ → Value → Type 0

@@ -1,22 +1,12 @@
 //! Conversions of booleans.
 
-ghost use Rattle.std.specs.Prelude.{Bool, Option, Some};
-ghost use Rattle.mysql_cells.specs.declared.value.Value.TheVariants.{Int};
-ghost use Rattle.mysql_convert.specs.Booleans.{boolean_of, number_of_boolean};
+ghost use Rattle.std.specs.Prelude.{Bool};
+ghost use Rattle.mysql_convert.specs.Booleans.{boolean_of};
 
-use crate::conversion::{FromValue, ToValue};
-use crate::errors::{FromValueError, ToValueError};
+use crate::conversion::FromValue;
+use crate::errors::FromValueError;
 use crate::intermediates::ParseIrOpt;
-use mysql_values::Value;
-use std::alloc::Global;
-
-impl ToValue for bool {
-    ghost as_value = { λ boolean. Some (Int (number_of_boolean boolean)) };
-
-    fn to_value(&self, _alloc: Global) -> Result<Value, ToValueError> {
-        Ok(Value::Int(i64::from(*self)))
-    }
-}
+use mysql_cells::Value;
 
 impl FromValue for bool {
     type Intermediate = ParseIrOpt<bool>;

@@ -1,34 +1,14 @@
-//! The traits of types that convert to values and from values.
+//! The trait of types that values convert to.
 
 ghost use Rattle.std.specs.Prelude.{◌≡◌, ◌⊎◌, Err, IfErr, IfOk, IsSome, None, Ok, Option, Some};
 ghost use Rattle.mysql_cells.specs.declared.value.Value.{Value as ValueOf};
 ghost use Rattle.mysql_convert.specs.Conversions.{ReadsAgain};
-ghost use Rattle.mysql_convert.specs.declared.errors.ToValueError.TheVariants as to_value_error;
+ghost use Rattle.mysql_to_values.specs.declared.errors.ToValueError.TheVariants as to_value_error;
 
-use crate::errors::{FromValueError, ToValueError};
-use mysql_values::Value;
+use crate::errors::FromValueError;
+use mysql_cells::Value;
+use mysql_to_values::ToValueError;
 use std::alloc::Global;
-
-/// A type that converts to a [`Value`].
-///
-/// Whole numbers convert to `Int`, but `u64` and `usize` to `UInt`; `i128` and `u128` to `Int` where they fit, else to `UInt`, else to
-/// `Bytes` of their digits; `bool` to `Int` of 0 or 1; texts and bytes to `Bytes`; `Duration` to `Time`, rounded half up to microseconds;
-/// None to `NULL`, and a [`Value`] to itself.
-///
-/// An impl says by `as_value` which value it gives. `Box<dyn ToValue + Drop>` is such a type too, so that a list can hold
-/// values of several types.
-pub trait ToValue {
-    // the value that it converts to, none where it is too long for any
-    ghost as_value: { Self → Option ValueOf };
-
-    /// The value that this converts to.
-    ///
-    /// # Errors
-    /// `TooLong` for a duration of more than 2^32-1 days, `Memory`.
-    fn to_value(&self, alloc: Global) -> Result<Value, ToValueError>
-        ensures ok { IfOk result (λ value. as_value self.now ≡ Some value) }
-        ensures err { IfErr result (λ e. (e ≡ to_value_error.Memory) ⊎ ((e ≡ to_value_error.TooLong) × (as_value self.now ≡ None))) };
-}
 
 /// A conversion from a value to `T` that can still be undone.
 pub trait Intermediate<T>: Sized {

@@ -4,35 +4,15 @@ ghost use Rattle.std.specs.Prelude.{◌≡◌, ◌<◌, ◌≤◌, ◌^◌, ◌*
 ghost use Rattle.std.specs.Option.{option_map};
 ghost use Rattle.std.specs.Duration.{as_nanos};
 ghost use Rattle.mysql_convert.specs.Numbers.{digits_number as number_of_digits};
-ghost use Rattle.mysql_convert.specs.Durations.{clock_nanos as nanos_of_clock, duration_of, duration_value, fraction_nanos as nanos_of_fraction, is_below_sixty as are_below_sixty, text_nanos as nanos_of_text, two_digits as number_of_two};
+ghost use Rattle.mysql_convert.specs.DurationReading.{clock_nanos as nanos_of_clock, fraction_nanos as nanos_of_fraction, is_below_sixty as are_below_sixty, text_nanos as nanos_of_text, two_digits as number_of_two};
+ghost use Rattle.mysql_convert.specs.Durations.{duration_of};
 
-use crate::conversion::{FromValue, ToValue};
-use crate::errors::{FromValueError, ToValueError};
+use crate::conversion::FromValue;
+use crate::errors::FromValueError;
 use crate::intermediates::ParseIrOpt;
 use crate::numbers::{digits_number, is_digit};
-use mysql_values::Value;
-use std::alloc::Global;
+use mysql_cells::Value;
 use std::time::Duration;
-
-impl ToValue for Duration {
-    ghost as_value = { λ duration. duration_value (as_nanos duration) };
-
-    fn to_value(&self, _alloc: Global) -> Result<Value, ToValueError> {
-        let nanos = self.as_nanos();
-        let micros = nanos / 1_000 + if nanos % 1_000 >= 500 { 1 } else { 0 };
-        let Ok(days) = u32::try_from(micros / 86_400_000_000) else {
-            return Err(ToValueError::TooLong);
-        };
-        Ok(Value::Time(
-            false,
-            days,
-            (micros / 3_600_000_000 % 24) as u8,
-            (micros / 60_000_000 % 60) as u8,
-            (micros / 1_000_000 % 60) as u8,
-            (micros % 1_000_000) as u32,
-        ))
-    }
-}
 
 /// Whether two bytes are digits from 00 to 59.
 fn is_below_sixty(tens: u8, ones: u8) -> bool

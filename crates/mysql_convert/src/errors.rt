@@ -1,39 +1,9 @@
-//! Why a conversion is refused.
+//! Why a value doesn't convert.
 
-ghost use Rattle.std.specs.Prelude.{◌≡◌};
-ghost use Rattle.mysql_convert.specs.declared.errors.ToValueError.TheVariants as to_value_error;
-
-use mysql_values::Value;
-use std::alloc::{AllocError, AllocFailed};
+use mysql_cells::Value;
 use thiserror::Error;
 
 /// A value that doesn't convert to the type that was asked for. It holds the value itself.
 #[derive(Debug, PartialEq, Eq, Drop, Error)]
 #[error("the value doesn't convert to this type")]
 pub struct FromValueError(pub Value);
-
-/// Why a value of Rust has no [`Value`].
-#[derive(Clone, Copy, Debug, PartialEq, Eq, Hash, Error)]
-pub enum ToValueError {
-    /// A duration of more than 2^32-1 days.
-    #[error("too long for a value")]
-    TooLong,
-    #[error("out of memory")]
-    Memory,
-}
-
-impl From<AllocError> for ToValueError {
-    ghost from_gives = { λ _ e. e ≡ to_value_error.Memory };
-
-    fn from(_e: AllocError) -> ToValueError {
-        ToValueError::Memory
-    }
-}
-
-impl<T: Drop> From<AllocFailed<T>> for ToValueError {
-    ghost from_gives = { λ _ e. e ≡ to_value_error.Memory };
-
-    fn from(_e: AllocFailed<T>) -> ToValueError {
-        ToValueError::Memory
-    }
-}

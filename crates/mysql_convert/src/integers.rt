@@ -1,25 +1,10 @@
-//! Conversions of integer types to values, and their ranges.
+//! The ranges of integer types.
 
-ghost use Rattle.std.specs.Prelude.{Some, pos};
-ghost use Rattle.mysql_cells.specs.declared.value.Value.TheVariants.{Int, UInt};
-ghost use Rattle.mysql_convert.specs.Numbers.{signed_in, unsigned_in, integer_value};
+ghost use Rattle.mysql_convert.specs.Numbers.{signed_in, unsigned_in};
 ghost use Rattle.mysql_convert.specs.IntegerLaws.{signed_in-held_wide, signed_in-holds, signed_in-small, unsigned_in-held_signed, unsigned_in-held_wide, unsigned_in-holds, unsigned_in-small};
 ghost use Rattle.std.proofs.Common.{lit<, lit≤};
 
-use crate::conversion::ToValue;
-use crate::errors::ToValueError;
 use crate::numbers::{Integer, Number};
-use itoa::Buffer;
-use mysql_values::{ByteString, Value};
-use std::alloc::Global;
-
-impl ToValue for i8 {
-    ghost as_value = { λ x. Some (Int x) };
-
-    fn to_value(&self, _alloc: Global) -> Result<Value, ToValueError> {
-        Ok(Value::Int(i64::from(*self)))
-    }
-}
 
 impl Integer for i8 {
     ghost narrowed = { signed_in 8 };
@@ -31,14 +16,6 @@ impl Integer for i8 {
     ghost holds = { signed_in-holds 8 };
 
     ghost small = { signed_in-small 8 (lit< tt) };
-}
-
-impl ToValue for i16 {
-    ghost as_value = { λ x. Some (Int x) };
-
-    fn to_value(&self, _alloc: Global) -> Result<Value, ToValueError> {
-        Ok(Value::Int(i64::from(*self)))
-    }
 }
 
 impl Integer for i16 {
@@ -53,14 +30,6 @@ impl Integer for i16 {
     ghost small = { signed_in-small 16 (lit< tt) };
 }
 
-impl ToValue for i32 {
-    ghost as_value = { λ x. Some (Int x) };
-
-    fn to_value(&self, _alloc: Global) -> Result<Value, ToValueError> {
-        Ok(Value::Int(i64::from(*self)))
-    }
-}
-
 impl Integer for i32 {
     ghost narrowed = { signed_in 32 };
 
@@ -71,14 +40,6 @@ impl Integer for i32 {
     ghost holds = { signed_in-holds 32 };
 
     ghost small = { signed_in-small 32 (lit< tt) };
-}
-
-impl ToValue for i64 {
-    ghost as_value = { λ x. Some (Int x) };
-
-    fn to_value(&self, _alloc: Global) -> Result<Value, ToValueError> {
-        Ok(Value::Int(*self))
-    }
 }
 
 impl Integer for i64 {
@@ -93,14 +54,6 @@ impl Integer for i64 {
     ghost small = { signed_in-small 64 (lit< tt) };
 }
 
-impl ToValue for isize {
-    ghost as_value = { λ x. Some (Int x) };
-
-    fn to_value(&self, _alloc: Global) -> Result<Value, ToValueError> {
-        Ok(Value::Int(*self as i64))
-    }
-}
-
 impl Integer for isize {
     ghost narrowed = { signed_in 64 };
 
@@ -111,14 +64,6 @@ impl Integer for isize {
     ghost holds = { signed_in-holds 64 };
 
     ghost small = { signed_in-small 64 (lit< tt) };
-}
-
-impl ToValue for u8 {
-    ghost as_value = { λ x. Some (Int (pos x)) };
-
-    fn to_value(&self, _alloc: Global) -> Result<Value, ToValueError> {
-        Ok(Value::Int(i64::from(*self)))
-    }
 }
 
 impl Integer for u8 {
@@ -133,14 +78,6 @@ impl Integer for u8 {
     ghost small = { unsigned_in-small 8 (lit≤ tt) };
 }
 
-impl ToValue for u16 {
-    ghost as_value = { λ x. Some (Int (pos x)) };
-
-    fn to_value(&self, _alloc: Global) -> Result<Value, ToValueError> {
-        Ok(Value::Int(i64::from(*self)))
-    }
-}
-
 impl Integer for u16 {
     ghost narrowed = { unsigned_in 16 };
 
@@ -151,14 +88,6 @@ impl Integer for u16 {
     ghost holds = { unsigned_in-held_signed 16 };
 
     ghost small = { unsigned_in-small 16 (lit≤ tt) };
-}
-
-impl ToValue for u32 {
-    ghost as_value = { λ x. Some (Int (pos x)) };
-
-    fn to_value(&self, _alloc: Global) -> Result<Value, ToValueError> {
-        Ok(Value::Int(i64::from(*self)))
-    }
 }
 
 impl Integer for u32 {
@@ -173,14 +102,6 @@ impl Integer for u32 {
     ghost small = { unsigned_in-small 32 (lit≤ tt) };
 }
 
-impl ToValue for u64 {
-    ghost as_value = { λ x. Some (UInt x) };
-
-    fn to_value(&self, _alloc: Global) -> Result<Value, ToValueError> {
-        Ok(Value::UInt(*self))
-    }
-}
-
 impl Integer for u64 {
     ghost narrowed = { unsigned_in 64 };
 
@@ -191,14 +112,6 @@ impl Integer for u64 {
     ghost holds = { unsigned_in-holds 64 };
 
     ghost small = { unsigned_in-small 64 (lit≤ tt) };
-}
-
-impl ToValue for usize {
-    ghost as_value = { λ x. Some (UInt x) };
-
-    fn to_value(&self, _alloc: Global) -> Result<Value, ToValueError> {
-        Ok(Value::UInt(*self as u64))
-    }
 }
 
 impl Integer for usize {
@@ -213,22 +126,6 @@ impl Integer for usize {
     ghost small = { unsigned_in-small 64 (lit≤ tt) };
 }
 
-impl ToValue for i128 {
-    ghost as_value = { λ x. Some (integer_value x) };
-
-    fn to_value(&self, alloc: Global) -> Result<Value, ToValueError> {
-        if let Ok(number) = i64::try_from(*self) {
-            return Ok(Value::Int(number));
-        }
-        if let Ok(number) = u64::try_from(*self) {
-            return Ok(Value::UInt(number));
-        }
-        let mut buffer = Buffer::new();
-        let text = buffer.format(*self);
-        Ok(Value::Bytes(ByteString::copy(alloc, text.as_bytes())?))
-    }
-}
-
 impl Integer for i128 {
     ghost narrowed = { signed_in 128 };
 
@@ -239,22 +136,6 @@ impl Integer for i128 {
     ghost holds = { signed_in-held_wide };
 
     ghost small = { signed_in-small 128 (lit< tt) };
-}
-
-impl ToValue for u128 {
-    ghost as_value = { λ x. Some (integer_value (pos x)) };
-
-    fn to_value(&self, alloc: Global) -> Result<Value, ToValueError> {
-        if let Ok(number) = i64::try_from(*self) {
-            return Ok(Value::Int(number));
-        }
-        if let Ok(number) = u64::try_from(*self) {
-            return Ok(Value::UInt(number));
-        }
-        let mut buffer = Buffer::new();
-        let text = buffer.format(*self);
-        Ok(Value::Bytes(ByteString::copy(alloc, text.as_bytes())?))
-    }
 }
 
 impl Integer for u128 {

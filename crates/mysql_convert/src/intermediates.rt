@@ -5,12 +5,13 @@ ghost use Rattle.std.specs.Option.{option_map};
 ghost use Rattle.mysql_cells.specs.declared.value.Value.{Value as ValueOf};
 ghost use Rattle.mysql_cells.specs.declared.value.Value.TheVariants.{NULL};
 ghost use Rattle.mysql_convert.specs.Conversions.{converted_if_some};
-ghost use Rattle.mysql_convert.specs.Intermediates.{committed_of, rolled_back_of, value_or_null};
+ghost use Rattle.mysql_convert.specs.Intermediates.{committed_of, rolled_back_of};
 ghost use Rattle.mysql_convert.specs.declared.intermediates.OptionIr2.TheVariants as option_step;
 
-use crate::conversion::{FromValue, Intermediate, ToValue};
-use crate::errors::{FromValueError, ToValueError};
-use mysql_values::Value;
+use crate::conversion::{FromValue, Intermediate};
+use crate::errors::FromValueError;
+use mysql_cells::Value;
+use mysql_to_values::{ToValue, ToValueError};
 use std::alloc::Global;
 
 /// What was parsed from a value, and that value.
@@ -62,14 +63,6 @@ impl FromValue for Value {
 
     fn get_intermediate(value: Value) -> Result<ValueIr, FromValueError> {
         Ok(ValueIr(value))
-    }
-}
-
-impl ToValue for Value {
-    ghost as_value = { λ value. Some value };
-
-    fn to_value(&self, alloc: Global) -> Result<Value, ToValueError> {
-        Ok(self.clone(alloc)?)
     }
 }
 
@@ -141,16 +134,5 @@ impl<T: FromValue> FromValue for Option<T> {
             return Ok(OptionIr2::None);
         }
         Ok(OptionIr2::Some(T::get_intermediate(value)?))
-    }
-}
-
-impl<T: ToValue> ToValue for Option<T> {
-    ghost as_value = { value_or_null T.as_value };
-
-    fn to_value(&self, alloc: Global) -> Result<Value, ToValueError> {
-        match self {
-            None => Ok(Value::NULL),
-            Some(x) => x.to_value(alloc),
-        }
     }
 }

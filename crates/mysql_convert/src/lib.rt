@@ -1,4 +1,4 @@
-//! Conversions between Rust's types and values, and parameter sets made of lists, pairs, tuples and boxed objects.
+//! Conversions between Rust's types and values: what values convert to, and by `mysql_to_values` the values and parameter sets of Rust's types.
 #![tactic(auto)]
 
 mod booleans;
@@ -7,16 +7,11 @@ mod durations;
 pub mod errors;
 mod integers;
 pub mod intermediates;
+pub mod laws;
 mod numbers;
-pub mod objects;
-pub mod sets;
 mod texts;
-mod tuples;
 
-pub use conversion::{
-    FromValue, Intermediate, ToValue, from_value, from_value_opt, get_intermediate,
-};
-pub use errors::{FromValueError, ToValueError};
+pub use conversion::{FromValue, Intermediate, from_value, from_value_opt, get_intermediate};
+pub use errors::FromValueError;
 pub use intermediates::{OptionIr2, ParseIr, ParseIrOpt, ValueIr};
-pub use mysql_values::SetError;
-pub use sets::IntoParams;
+pub use mysql_to_values::{IntoParams, SetError, ToValue, ToValueError};

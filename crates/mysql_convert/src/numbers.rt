@@ -6,10 +6,11 @@ ghost use Rattle.mysql_convert.specs.Conversions.{ReadsAgain};
 ghost use Rattle.mysql_convert.specs.Numbers.{HoldsNumber, digits_number as number_of_digits, integer_of, number_of, signed, signed_in, text_number as number_of_text, unsigned_in};
 ghost use Rattle.mysql_convert.specs.Intermediates.{committed_of, rolled_back_of};
 
-use crate::conversion::{FromValue, ToValue};
+use crate::conversion::FromValue;
 use crate::errors::FromValueError;
 use crate::intermediates::ParseIrOpt;
-use mysql_values::Value;
+use mysql_cells::Value;
+use mysql_to_values::ToValue;
 
 /// A whole number by its sign and its magnitude.
 #[derive(Clone, Copy)]

@@ -6,75 +6,13 @@ ghost use Rattle.std.specs.Cow.{cow_slice_items, cow_str_bytes};
 ghost use Rattle.mysql_cells.specs.declared.value.Value.TheVariants.{Bytes};
 ghost use Rattle.mysql_convert.specs.Texts.{array_of, bytes_of, text_of as text_of_value};
 
-use crate::conversion::{FromValue, Intermediate, ToValue};
-use crate::errors::{FromValueError, ToValueError};
-use mysql_values::{ByteString, Value};
+use crate::conversion::{FromValue, Intermediate};
+use crate::errors::FromValueError;
+use mysql_cells::Value;
+use mysql_queries::ByteString;
+use mysql_to_values::{ToValue, ToValueError};
 use std::alloc::Global;
 use std::borrow::{CowSlice, CowStr};
-
-/// A value of a copy of the bytes.
-fn bytes_value(alloc: Global, bytes: &[u8]) -> Result<Value, ToValueError>
-    ensures ok { IfOk result (λ value. value ≡ Bytes bytes.now) }
-    ensures err { IfErr result (λ e. e ≡ ToValueError.Memory) }
-{
-    Ok(Value::Bytes(ByteString::copy(alloc, bytes)?))
-}
-
-impl ToValue for Vec<u8> {
-    ghost as_value = { λ bytes. Some (Bytes bytes.items) };
-
-    fn to_value(&self, alloc: Global) -> Result<Value, ToValueError> {
-        bytes_value(alloc, self)
-    }
-}
-
-impl ToValue for CowSlice<'_, u8, Global> {
-    ghost as_value = { λ bytes. Some (Bytes (cow_slice_items bytes)) };
-
-    fn to_value(&self, alloc: Global) -> Result<Value, ToValueError> {
-        bytes_value(alloc, self.as_slice())
-    }
-}
-
-impl ToValue for &[u8] {
-    ghost as_value = { λ bytes. Some (Bytes bytes.now) };
-
-    fn to_value(&self, alloc: Global) -> Result<Value, ToValueError> {
-        bytes_value(alloc, *self)
-    }
-}
-
-impl<const N: usize> ToValue for [u8; N] {
-    ghost as_value = { λ bytes. Some (Bytes bytes) };
-
-    fn to_value(&self, alloc: Global) -> Result<Value, ToValueError> {
-        bytes_value(alloc, self)
-    }
-}
-
-impl ToValue for String {
-    ghost as_value = { λ text. Some (Bytes (string_bytes text)) };
-
-    fn to_value(&self, alloc: Global) -> Result<Value, ToValueError> {
-        bytes_value(alloc, self.as_bytes())
-    }
-}
-
-impl ToValue for CowStr<'_, Global> {
-    ghost as_value = { λ text. Some (Bytes (cow_str_bytes text)) };
-
-    fn to_value(&self, alloc: Global) -> Result<Value, ToValueError> {
-        bytes_value(alloc, self.as_str().as_bytes())
-    }
-}
-
-impl ToValue for &str {
-    ghost as_value = { λ text. Some (Bytes text.now) };
-
-    fn to_value(&self, alloc: Global) -> Result<Value, ToValueError> {
-        bytes_value(alloc, (*self).as_bytes())
-    }
-}
 
 /// The bytes that a value holds, moved, or the value.
 fn bytes_in(value: Value) -> Result<Vec<u8>, FromValueError>
@@ -152,7 +90,7 @@ impl Intermediate<CowSlice<'static, u8, Global>> for CowSlice<'static, u8, Globa
     fn rollback(self, alloc: Global) -> Result<Value, ToValueError> {
         match self {
             CowSlice::Owned(bytes) => Ok(Value::Bytes(ByteString::from_vec(bytes))),
-            CowSlice::Borrowed(bytes) => bytes_value(alloc, bytes),
+            CowSlice::Borrowed(bytes) => bytes.to_value(alloc),
         }
     }
 }
@@ -185,7 +123,7 @@ impl<const N: usize> Intermediate<[u8; N]> for [u8; N] {
     }
 
     fn rollback(self, alloc: Global) -> Result<Value, ToValueError> {
-        bytes_value(alloc, &self)
+        self.to_value(alloc)
     }
 }
 
@@ -243,7 +181,7 @@ impl Intermediate<CowStr<'static, Global>> for CowStr<'static, Global> {
     fn rollback(self, alloc: Global) -> Result<Value, ToValueError> {
         match self {
             CowStr::Owned(text) => Ok(Value::Bytes(ByteString::from_vec(text.into_bytes()))),
-            CowStr::Borrowed(text) => bytes_value(alloc, text.as_bytes()),
+            CowStr::Borrowed(text) => text.to_value(alloc),
         }
     }
 }

@@ -1,166 +1,86 @@
--- The packets of a server's reply, each as read from its payload.
--- MySQL: Client/Server Protocol, "OK_Packet", "EOF_Packet", "ERR_Packet", "Column Definition", "Text Resultset Row",
--- "Binary Protocol Resultset Row" and "COM_STMT_PREPARE Response"; MariaDB: 'Progress report' of "ERR_Packet".
+-- Error packets, progress reports, requests for files and statement packets, as bytes: what is written of their fields, and
+-- what is read of any bytes.
+-- MySQL: Client/Server Protocol, "ERR_Packet", "LOCAL INFILE Request" and "COM_STMT_PREPARE Response"; MariaDB: 'Progress
+-- report' of "ERR_Packet".
 -- A reading takes bytes from the front: x.0 is what was read and x.1 the bytes left; the first refusal counts.
-use Rattle.std.specs.Prelude.{ℕ, zero, suc, ◌+◌, ◌/◌, List, [], ◌∷◌, length, Bool, Option, Some, None, Ok, ◌==◌, if◌then◌else◌}
-use Rattle.mysql_cells.specs.declared.value.Value.{Value}
-use Rattle.mysql_cells.specs.declared.value.Value.TheVariants.{NULL}
-use Rattle.mysql_cells.specs.Cells.{column_cell_at, text_cell_at}
-use Rattle.mysql_null_bitmap.specs.NullBitmap.{is_null_at}
-use Rattle.mysql_const.specs.declared.column_flags.ColumnFlags.{ColumnFlags}
-use Rattle.mysql_const.specs.declared.column_type.ColumnType.{ColumnType}
-use Rattle.mysql_const.specs.ColumnTypes.{column_type_named}
-use Rattle.mysql_wire.specs.Wire.{Reading, ◌>>=◌, from_block}
-use Rattle.mysql_wire.specs.Forms.{bytes_at, lenenc_number_at, little_at}
-use Rattle.mysql_wire.specs.Texts.{lenenc_text_at}
-use Rattle.mysql_wire.specs.Lists.{elements_at}
-use Rattle.mysql_wire.specs.Constants.{constant_at, named_at, text_constant_at, skipped_at}
-use Rattle.mysql_wire.specs.Flags.{contains, status_named}
-
--- None for a field that holds no bytes.
-abbrev pub unless_empty : List ℕ → Option (List ℕ)
-unless_empty [] = None
-unless_empty (b ∷ bytes) = Some (b ∷ bytes)
+use Rattle.std.specs.Prelude.{◌≡◌, ℕ, ◌==◌, ◌^◌, ◌<◌, List, [], ◌∷◌, length, replicate, Bool, true, false, ◌&&◌, Option, Some, None, Ok, if◌then◌else◌, ⊤}
+use Rattle.std.specs.List.{concat}
+use Rattle.byteorder.specs.Endian.{little_bytes}
+use Rattle.mysql_buf.specs.Writing.{lenenc_str}
+use Rattle.mysql_raw.specs.Wire.{Reading, ◌>>=◌, from_block}
+use Rattle.mysql_raw.specs.Forms.{bytes_at, little_at}
+use Rattle.mysql_raw_bytes.specs.Texts.{lenenc_text_at}
+use Rattle.mysql_raw_consts.specs.Constants.{constant_at, skipped_at}
+use Rattle.mysql_const.specs.FlagSets.{contains}
 
 -- Capabilities, by their flags.
 abbrev pub protocol_41 : ℕ → Bool
 protocol_41 capabilities = contains capabilities 0x200
 
-abbrev pub session_track : ℕ → Bool
-session_track capabilities = contains capabilities 0x800000
-
-abbrev pub deprecate_eof : ℕ → Bool
-deprecate_eof capabilities = contains capabilities 0x1000000
-
 abbrev pub progress_obsolete : ℕ → Bool
 progress_obsolete capabilities = contains capabilities 0x20000000
 
--- Server status, by its flags.
-abbrev pub more_results_exist : ℕ → Bool
-more_results_exist status = contains status 8
+-- An SQL state: `#` and five bytes, which are there together or not at all.
+unfoldable pub sql_state : List ℕ → List ℕ
+sql_state state = concat (little_bytes 1 35 ∷ state ∷ [])
 
-abbrev pub session_state_changed : ℕ → Bool
-session_state_changed status = contains status 0x4000
+unfoldable pub sql_state_fields_at : List ℕ → Reading (List ℕ)
+sql_state_fields_at bytes = do
+  marker ← constant_at 1 35 bytes
+  bytes_at 5 marker.1
 
--- What an OK packet says.
-pub record OkPacket : Type 0 where
-  pub affected_rows : ℕ
-  pub last_insert_id : Option ℕ
-  pub status_flags : ℕ
-  pub warnings : ℕ
-  pub info : Option (List ℕ)
-  pub session_state_info : Option (List ℕ)
+unfoldable pub sql_state_at : List ℕ → Reading (List ℕ)
+sql_state_at bytes = from_block 6 sql_state_fields_at bytes
 
--- An id of 0 is none.
-abbrev pub unless_zero : ℕ → Option ℕ
-unless_zero zero = None
-unless_zero (suc n) = Some (suc n)
-
--- What may follow the warnings of an OK packet: the info and the session state. The manual has the info as string<EOF> where sessions
--- aren't tracked; servers write it after its length in each case.
-unfoldable pub info_at : ℕ → ℕ → List ℕ → Reading (List ℕ × List ℕ)
-info_at capabilities status [] = Ok (([], []), [])
-info_at capabilities status (b ∷ bytes) =
-    if session_track capabilities then (do
-      info ← lenenc_text_at (b ∷ bytes)
-      if session_state_changed status
-          then (lenenc_text_at info.1 >>= λ state. Ok ((info.0, state.0), state.1))
-          else Ok ((info.0, []), info.1))
-    else if b == 0 then Ok (([], []), b ∷ bytes)
-    else (do
-      info ← lenenc_text_at (b ∷ bytes)
-      Ok ((info.0, []), info.1))
-
--- Status, warnings and what follows them; status and warnings are there together or not at all.
-unfoldable pub status_and_info_at : ℕ → ℕ → ℕ → List ℕ → Reading OkPacket
-status_and_info_at capabilities affected id bytes = do
-  block ← bytes_at 4 bytes
-  status ← named_at status_named (little_at 2) block.0
-  warnings ← little_at 2 status.1
-  info ← info_at capabilities status.0.0 block.1
-  Ok (
-    record {
-      affected_rows = affected;
-      last_insert_id = unless_zero id;
-      status_flags = status.0.0;
-      warnings = warnings.0;
-      info = unless_empty info.0.0;
-      session_state_info = unless_empty info.0.1;
-    },
-    info.1,
-  )
-
--- An OK packet behind its header.
-abbrev pub ok_body_at : ℕ → List ℕ → Reading OkPacket
-ok_body_at capabilities bytes = do
-  affected ← lenenc_number_at bytes
-  id ← lenenc_number_at affected.1
-  status_and_info_at capabilities affected.0 id.0 id.1
-
--- An OK packet.
-unfoldable pub ok_packet_at : ℕ → List ℕ → Reading OkPacket
-ok_packet_at capabilities bytes = do
-  header ← constant_at 1 0 bytes
-  ok_body_at capabilities header.1
-
--- The OK packet that ends a result set, behind its header; its two numbers are passed over.
-abbrev pub result_set_terminator_body_at : ℕ → List ℕ → Reading OkPacket
-result_set_terminator_body_at capabilities bytes = do
-  affected ← lenenc_number_at bytes
-  id ← lenenc_number_at affected.1
-  status_and_info_at capabilities 0 0 id.1
-
--- The OK packet that ends a result set.
-unfoldable pub result_set_terminator_at : ℕ → List ℕ → Reading OkPacket
-result_set_terminator_at capabilities bytes = do
-  header ← constant_at 1 254 bytes
-  result_set_terminator_body_at capabilities header.1
-
--- The EOF packet behind its header.
-abbrev pub old_eof_body_at : List ℕ → Reading OkPacket
-old_eof_body_at bytes = do
-  block ← bytes_at 4 bytes
-  warnings ← little_at 2 block.0
-  status ← named_at status_named (little_at 2) warnings.1
-  Ok (
-    record {
-      affected_rows = 0;
-      last_insert_id = None;
-      status_flags = status.0.0;
-      warnings = warnings.0;
-      info = None;
-      session_state_info = None;
-    },
-    block.1,
-  )
-
--- The EOF packet.
-unfoldable pub old_eof_at : List ℕ → Reading OkPacket
-old_eof_at bytes = do
-  header ← constant_at 1 254 bytes
-  old_eof_body_at header.1
-
--- What an error packet says.
-pub record ErrPacket : Type 0 where
+-- What a server says of an error.
+pub record ServerError : Type 0 where
   pub error_code : ℕ
   pub sql_state : Option (List ℕ)
   pub error_message : List ℕ
 
--- An error packet of this code behind its header and the code; what follows the state is the message.
-abbrev pub err_body_at : ℕ → ℕ → List ℕ → Reading ErrPacket
-err_body_at capabilities code bytes =
-    if protocol_41 capabilities
-    then (constant_at 1 35 bytes >>= λ marker. bytes_at 5 marker.1 >>= λ state.
-    Ok (record { error_code = code; sql_state = Some state.0; error_message = state.1 }, []))
-    else Ok (record { error_code = code; sql_state = None; error_message = bytes }, [])
+abbrev pub state_part : Option (List ℕ) → List ℕ
+state_part None = []
+state_part (Some state) = sql_state state
 
--- An error packet.
-unfoldable pub err_packet_at : ℕ → List ℕ → Reading ErrPacket
-err_packet_at capabilities bytes = do
+-- An error behind its code: its state, where it has one, and its message.
+unfoldable pub server_error : ServerError → List ℕ
+server_error e = concat (state_part e.sql_state ∷ e.error_message ∷ [])
+
+-- With PROTOCOL_41 an error has a state.
+abbrev pub state_part_at : Bool → List ℕ → Reading (Option (List ℕ))
+state_part_at protocol bytes = if protocol then (sql_state_at bytes >>= λ state. Ok (Some state.0, state.1)) else Ok (None, bytes)
+
+-- An error of this code; all that is left behind its state is its message.
+unfoldable pub server_error_at : Bool → ℕ → List ℕ → Reading ServerError
+server_error_at protocol code bytes = do
+  state ← state_part_at protocol bytes
+  Ok (record { error_code = code; sql_state = state.0; error_message = state.1 }, [])
+
+-- In this protocol an error has a state, which has five bytes, or none.
+abbrev pub HasState : Bool → Option (List ℕ) → Type 0
+HasState true None = ⊥
+HasState true (Some state) = length state ≡ 5
+HasState false None = ⊤
+HasState false (Some state) = ⊥
+
+-- An error of this code, as this protocol has them.
+pub record IsServerError (protocol : Bool) (code : ℕ) (e : ServerError) : Type 0 where
+  pub error_code : code ≡ e.error_code
+  pub sql_state : HasState protocol e.sql_state
+
+-- The front of an error packet: ff and the code, which are there together or not at all.
+unfoldable pub error_code_at : List ℕ → Reading ℕ
+error_code_at bytes = do
   block ← bytes_at 3 bytes
   header ← constant_at 1 255 block.0
   code ← little_at 2 header.1
-  err_body_at capabilities code.0 block.1
+  Ok (code.0, block.1)
+
+-- An error packet that is no progress report.
+unfoldable pub error_at : ℕ → List ℕ → Reading ServerError
+error_at capabilities bytes = do
+  code ← error_code_at bytes
+  server_error_at (protocol_41 capabilities) code.0 code.1
 
 -- What a progress report says.
 pub record ProgressReport : Type 0 where
@@ -175,7 +95,11 @@ pub record StageProgress : Type 0 where
   pub max_stage : ℕ
   pub progress : ℕ
 
--- They stand behind a count of texts, which is passed over.
+-- They stand behind a count of texts, of which there is one.
+unfoldable pub stage_progress : StageProgress → List ℕ
+stage_progress p = concat (little_bytes 1 1 ∷ little_bytes 1 p.stage ∷ little_bytes 1 p.max_stage ∷ little_bytes 3 p.progress ∷ [])
+
+-- The count is passed over.
 unfoldable pub stage_progress_at : List ℕ → Reading StageProgress
 stage_progress_at bytes = do
   count ← little_at 1 bytes
@@ -184,8 +108,14 @@ stage_progress_at bytes = do
   progress ← little_at 3 max_stage.1
   Ok (record { stage = stage.0; max_stage = max_stage.0; progress = progress.0 }, progress.1)
 
+abbrev pub numbers_in : ProgressReport → StageProgress
+numbers_in r = record { stage = r.stage; max_stage = r.max_stage; progress = r.progress }
+
 -- A progress report behind its header and the code: six bytes with the numbers, and its text.
-abbrev pub progress_body_at : List ℕ → Reading ProgressReport
+unfoldable pub progress_body : ProgressReport → List ℕ
+progress_body r = concat (stage_progress (numbers_in r) ∷ lenenc_str r.progress_info ∷ [])
+
+unfoldable pub progress_body_at : List ℕ → Reading ProgressReport
 progress_body_at bytes = do
   block ← bytes_at 6 bytes
   numbers ← stage_progress_at block.0
@@ -195,11 +125,56 @@ progress_body_at bytes = do
     info.1,
   )
 
+-- A progress in three bytes, and what the types of the other fields hold.
+pub record IsProgressReport (r : ProgressReport) : Type 0 where
+  pub stage : r.stage < 2 ^ 8
+  pub max_stage : r.max_stage < 2 ^ 8
+  pub progress : r.progress < 2 ^ 24
+  pub progress_info : length r.progress_info < 2 ^ 64
+
 -- A progress report, from its first byte ff on: three bytes, which its form tests (ff ff ff), and its body.
 unfoldable pub progress_report_at : List ℕ → Reading ProgressReport
 progress_report_at bytes = do
   header ← bytes_at 3 bytes
   progress_body_at header.1
+
+-- An error packet holds an error or a progress report.
+pub data ErrPacket : Type 0 where
+  Error : ServerError → ErrPacket
+  Progress : ProgressReport → ErrPacket
+
+abbrev pub holds_error : ErrPacket → Bool
+holds_error (Error e) = true
+holds_error (Progress r) = false
+
+-- ff, the code and what stands behind it; the code of a progress report is ffff.
+abbrev pub err_packet : ErrPacket → List ℕ
+err_packet (Error e) = concat (little_bytes 1 255 ∷ little_bytes 2 e.error_code ∷ server_error e ∷ [])
+err_packet (Progress r) = concat (little_bytes 1 255 ∷ little_bytes 2 0xffff ∷ progress_body r ∷ [])
+
+abbrev pub is_progress_code : ℕ → ℕ → Bool
+is_progress_code capabilities code = code == 0xffff && progress_obsolete capabilities
+
+abbrev pub err_body_at : ℕ → ℕ → List ℕ → Reading ErrPacket
+err_body_at capabilities code bytes =
+    if is_progress_code capabilities code
+    then (progress_body_at bytes >>= λ report. Ok (Progress report.0, report.1))
+    else (server_error_at (protocol_41 capabilities) code bytes >>= λ error. Ok (Error error.0, error.1))
+
+-- An error packet: with PROGRESS_OBSOLETE one of the code ffff is a progress report.
+unfoldable pub err_packet_at : ℕ → List ℕ → Reading ErrPacket
+err_packet_at capabilities bytes = do
+  code ← error_code_at bytes
+  err_body_at capabilities code.0 code.1
+
+-- The request for a file: fb and the file's name to the end.
+unfoldable pub local_infile : List ℕ → List ℕ
+local_infile name = concat (little_bytes 1 251 ∷ name ∷ [])
+
+unfoldable pub local_infile_at : List ℕ → Reading (List ℕ)
+local_infile_at bytes = do
+  header ← constant_at 1 251 bytes
+  Ok (header.1, [])
 
 -- What a statement packet says.
 pub record PrepareOk : Type 0 where
@@ -208,7 +183,13 @@ pub record PrepareOk : Type 0 where
   pub num_params : ℕ
   pub warning_count : ℕ
 
--- The fields of a statement packet: 00, the id, two counts, a filler byte, the warnings.
+-- A statement packet: 00, the id, two counts, a filler byte, the warnings.
+unfoldable pub prepare_ok : PrepareOk → List ℕ
+prepare_ok s =
+    concat (
+    little_bytes 1 0 ∷ little_bytes 4 s.statement_id ∷ little_bytes 2 s.num_columns ∷ little_bytes 2 s.num_params ∷ replicate 1 0
+    ∷ little_bytes 2 s.warning_count ∷ [])
+
 unfoldable pub prepare_ok_fields_at : List ℕ → Reading PrepareOk
 prepare_ok_fields_at bytes = do
   header ← constant_at 1 0 bytes
@@ -219,114 +200,13 @@ prepare_ok_fields_at bytes = do
   warnings ← little_at 2 filler.1
   Ok (record { statement_id = id.0; num_columns = columns.0; num_params = parameters.0; warning_count = warnings.0 }, warnings.1)
 
--- A statement packet; its twelve bytes are there together or not at all.
+-- Its twelve bytes are there together or not at all.
 unfoldable pub prepare_ok_at : List ℕ → Reading PrepareOk
 prepare_ok_at bytes = from_block 12 prepare_ok_fields_at bytes
 
--- What a column packet says.
-pub record ColumnDefinition : Type 0 where
-  pub schema : List ℕ
-  pub table : List ℕ
-  pub org_table : List ℕ
-  pub name : List ℕ
-  pub org_name : List ℕ
-  pub character_set : ℕ
-  pub column_length : ℕ
-  pub column_type : ColumnType
-  pub flags : ColumnFlags
-  pub decimals : ℕ
-
--- The catalog, which is always "def", after its length.
-abbrev pub catalog : List ℕ
-catalog = 3 ∷ 100 ∷ 101 ∷ 102 ∷ []
-
--- The names of a column: of its schema, of its table in the query and in the schema, and its own in the query and in the table.
-pub record ColumnNames : Type 0 where
-  pub schema : List ℕ
-  pub table : List ℕ
-  pub org_table : List ℕ
-  pub name : List ℕ
-  pub org_name : List ℕ
-
-unfoldable pub column_names_at : List ℕ → Reading ColumnNames
-column_names_at bytes = do
-  schema ← lenenc_text_at bytes
-  table ← lenenc_text_at schema.1
-  org_table ← lenenc_text_at table.1
-  name ← lenenc_text_at org_table.1
-  org_name ← lenenc_text_at name.1
-  Ok (
-    record { schema = schema.0; table = table.0; org_table = org_table.0; name = name.0; org_name = org_name.0 },
-    org_name.1,
-  )
-
--- The fields of a column that have a fixed length.
-pub record ColumnFields : Type 0 where
-  pub character_set : ℕ
-  pub column_length : ℕ
-  pub column_type : ColumnType
-  pub flags : ColumnFlags
-  pub decimals : ℕ
-
--- The fixed fields: 0c, which counts them, and each; two filler bytes behind them are passed over.
-unfoldable pub column_fields_at : List ℕ → Reading ColumnFields
-column_fields_at bytes = do
-  size ← constant_at 1 12 bytes
-  character_set ← little_at 2 size.1
-  column_length ← little_at 4 character_set.1
-  column_type ← named_at column_type_named (little_at 1) column_length.1
-  flags ← little_at 2 column_type.1
-  decimals ← little_at 1 flags.1
-  Ok (
-    record {
-      character_set = character_set.0;
-      column_length = column_length.0;
-      column_type = column_type.0;
-      flags = record { 0 = flags.0 };
-      decimals = decimals.0;
-    },
-    decimals.1,
-  )
-
--- A column of these names and fields.
-abbrev pub column_with : ColumnNames → ColumnFields → ColumnDefinition
-column_with names fields = record {
-  schema = names.schema;
-  table = names.table;
-  org_table = names.org_table;
-  name = names.name;
-  org_name = names.org_name;
-  character_set = fields.character_set;
-  column_length = fields.column_length;
-  column_type = fields.column_type;
-  flags = fields.flags;
-  decimals = fields.decimals;
-}
-
--- A column packet; its last 13 bytes are there together or not at all.
-unfoldable pub column_at : List ℕ → Reading ColumnDefinition
-column_at bytes = do
-  def ← text_constant_at 4 catalog bytes
-  names ← column_names_at def.1
-  block ← bytes_at 13 names.1
-  fields ← column_fields_at block.0
-  Ok (column_with names.0 fields.0, block.1)
-
--- A text row: a cell for each column.
-abbrev pub text_row_at : List ColumnDefinition → List ℕ → Reading (List Value)
-text_row_at columns bytes = elements_at text_cell_at (length columns) bytes
-
--- The cells of a binary row from this place on: null by the bitmap, else by the column's type and flags.
-unfoldable pub binary_cells_at : List ℕ → ℕ → List ColumnDefinition → List ℕ → Reading (List Value)
-binary_cells_at bitmap place [] bytes = Ok ([], bytes)
-binary_cells_at bitmap place (column ∷ columns) bytes = do
-  cell ← (if is_null_at 2 bitmap place then Ok (NULL, bytes) else column_cell_at (column.column_type, column.flags) bytes)
-  cells ← binary_cells_at bitmap (place + 1) columns cell.1
-  Ok (cell.0 ∷ cells.0, cells.1)
-
--- A binary row: a zero, the bitmap, and the cells that aren't null.
-unfoldable pub binary_row_at : List ColumnDefinition → List ℕ → Reading (List Value)
-binary_row_at columns bytes = do
-  header ← constant_at 1 0 bytes
-  bitmap ← bytes_at ((length columns + 9) / 8) header.1
-  binary_cells_at bitmap.0 0 columns bitmap.1
+-- What the types of its fields hold.
+pub record IsPrepareOk (s : PrepareOk) : Type 0 where
+  pub statement_id : s.statement_id < 2 ^ 32
+  pub num_columns : s.num_columns < 2 ^ 16
+  pub num_params : s.num_params < 2 ^ 16
+  pub warning_count : s.warning_count < 2 ^ 16

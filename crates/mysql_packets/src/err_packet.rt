@@ -1,98 +1,126 @@
-//! Error packets and progress reports.
+//! Error packets.
 
-ghost use Rattle.std.specs.Prelude.{◌≡◌, List, Ok, option_map};
-ghost use Rattle.mysql_wire.specs.Wire.{Gives, GivesPart};
-ghost use Rattle.mysql_packets.specs.Packets.{protocol_41, err_packet_at, progress_report_at, stage_progress_at};
-ghost use Rattle.mysql_packets.specs.Views.{err_packet_view, progress_report_view, stage_progress_view};
+ghost use Rattle.std.specs.Prelude.{◌≡◌, IfOk, None, Some, false, not, true, ℕ};
+ghost use Rattle.mysql_raw.specs.Laws.{unsized};
+ghost use Rattle.mysql_raw.specs.Wire.{Tells, TellsPart};
+ghost use Rattle.mysql_packets.specs.Packets.{Error, ErrPacket as ErrPacketFields, Progress, err_body_at, err_packet, err_packet_at, error_at, error_code_at, holds_error, is_progress_code, protocol_41};
+ghost use Rattle.mysql_packets.specs.Texts.{err_packet_text};
+ghost use Rattle.mysql_packets.specs.Views.{err_packet_view, progress_report_view, server_error_view};
 
-use crate::texts::text_of;
+use crate::headers::ErrPacketHeader;
+use crate::progress_report::ProgressReport;
+use crate::server_error::ServerError;
 use bitflags::Flags;
+use mysql_buf::ParseBuf;
 use mysql_const::CapabilityFlags;
-use mysql_wire::{ConstU8, ParseBuf, ParseExt, WireError};
-use std::alloc::Global;
+use mysql_raw::{
+    LeU16, MyDeserialize, MySerialize, ParseExt, RawInt, Readable, WireError, in_order,
+};
+use std::alloc::{AllocError, Global};
+use std::fmt;
 
-/// Another byte than ff begins an error packet.
-#[derive(Clone, Copy, Debug, Default, PartialEq, Eq, Hash)]
-pub struct ErrPacketHeader;
-
-/// Another byte than `#` stands before the SQL state.
-#[derive(Clone, Copy, Debug, Default, PartialEq, Eq, Hash)]
-pub struct SqlStateMarker;
-
-/// An error that the server reports.
+/// An error packet, which holds an error or a progress report.
 ///
 /// MySQL: Client/Server Protocol, "ERR_Packet".
-#[derive(Debug, Drop)]
-pub struct ServerError {
-    code: u16,
-    state: Option<Vec<u8>>,
-    message: Vec<u8>,
+#[derive(Debug, PartialEq, Drop)]
+pub enum ErrPacket<'a> {
+    /// An error, which ends the reply.
+    Error(ServerError<'a>),
+    /// How far a command has come, from a MariaDB server.
+    Progress(ProgressReport<'a>),
 }
 
-impl ServerError {
-    /// The error's number.
-    pub fn error_code(&self) -> u16
-        ensures { result ≡ (err_packet_view self.now).error_code }
+impl<'a> ErrPacket<'a> {
+    /// Whether it holds an error.
+    pub fn is_error(&self) -> bool
+        ensures { result ≡ holds_error (err_packet_view self.now) }
     {
-        self.code
-    }
-
-    /// The five bytes of the SQL state, where the packet has it.
-    pub fn sql_state_ref(&self) -> Option<&[u8]>
-        ensures { option_map (λ state. state.now) result ≡ (err_packet_view self.now).sql_state }
-    {
-        match &self.state {
-            Some(state) => Some(state.as_slice()),
-            None => None,
+        match self {
+            ErrPacket::Error(_) => true,
+            ErrPacket::Progress(_) => false,
         }
     }
 
-    /// The error's text, as bytes.
-    pub fn message_ref(&self) -> &[u8]
-        ensures { result.now ≡ (err_packet_view self.now).error_message }
+    /// Whether it holds a progress report.
+    pub fn is_progress_report(&self) -> bool
+        ensures { result ≡ not (holds_error (err_packet_view self.now)) }
     {
-        self.message.as_slice()
+        !self.is_error()
+    }
+
+    /// The error. Called where [`ErrPacket::is_error`] holds.
+    pub fn server_error(&self) -> &ServerError<'a>
+        requires { holds_error (err_packet_view self.now) ≡ true }
+        ensures { err_packet_view self.now ≡ Error (server_error_view result.now) }
+    {
+        match self {
+            ErrPacket::Error(error) => error,
+            ErrPacket::Progress(_) => unreachable!(),
+        }
+    }
+
+    /// The progress report. Called where [`ErrPacket::is_progress_report`] holds.
+    pub fn progress_report(&self) -> &ProgressReport<'a>
+        requires { holds_error (err_packet_view self.now) ≡ false }
+        ensures { err_packet_view self.now ≡ Progress (progress_report_view result.now) }
+    {
+        match self {
+            ErrPacket::Error(_) => unreachable!(),
+            ErrPacket::Progress(report) => report,
+        }
+    }
+
+    /// A copy, which borrows nothing. Refused for want of memory.
+    pub fn clone(&self, alloc: Global) -> Result<ErrPacket<'static>, AllocError>
+        ensures { IfOk result (λ copy. err_packet_view copy ≡ err_packet_view self.now) }
+    {
+        match self {
+            ErrPacket::Error(error) => Ok(ErrPacket::Error(error.clone(alloc)?)),
+            ErrPacket::Progress(report) => Ok(ErrPacket::Progress(report.clone(alloc)?)),
+        }
     }
 }
 
-/// A progress report: how far a long command has come.
-///
-/// MariaDB: Client/Server Protocol, "ERR_Packet", 'Progress report'.
-#[derive(Debug, Drop)]
-pub struct ProgressReport {
-    stage: u8,
-    max_stage: u8,
-    progress: u32,
-    stage_info: Vec<u8>,
+/// ff, the code of the error or ffff, and the error or the report.
+impl<'a> MySerialize for ErrPacket<'a> {
+    ghost written = { λ p. err_packet (err_packet_view p) };
+
+    fn serialize(&self, buf: &mut Vec<u8>) -> Result<(), AllocError> {
+        let header = ErrPacketHeader::new();
+        match self {
+            ErrPacket::Error(error) => {
+                let code: RawInt<LeU16> = RawInt::new(error.error_code());
+                in_order!(header, code, error).serialize(buf)
+            }
+            ErrPacket::Progress(report) => {
+                let code: RawInt<LeU16> = RawInt::new(0xffff);
+                in_order!(header, code, report).serialize(buf)
+            }
+        }
+    }
 }
 
-impl ProgressReport {
-    /// The stage, from 1.
-    pub fn stage(&self) -> u8
-        ensures { result ≡ (progress_report_view self.now).stage }
-    {
-        self.stage
-    }
+impl<'a> Readable for ErrPacket<'a> {
+    type Ctx = CapabilityFlags;
 
-    /// How many stages there are.
-    pub fn max_stage(&self) -> u8
-        ensures { result ≡ (progress_report_view self.now).max_stage }
-    {
-        self.max_stage
-    }
+    ghost SIZE = { None };
 
-    /// How far the stage is, in thousandths of a percent.
-    pub fn progress(&self) -> u32
-        ensures { result ≡ (progress_report_view self.now).progress }
-    {
-        self.progress
-    }
+    ghost AsksForMemory = { false };
 
-    /// The stage's name, as bytes.
-    pub fn stage_info_ref(&self) -> &[u8]
-        ensures { result.now ≡ (progress_report_view self.now).progress_info }
+    ghost Shown = { ErrPacketFields };
+
+    ghost shown = { err_packet_view };
+
+    ghost kept = { err_packet_view };
+
+    ghost read_at = { λ capabilities bytes. err_packet_at capabilities.0 bytes };
+
+    ghost sized = { λ capabilities. unsized (err_packet_at capabilities.0) };
+
+    fn size() -> Option<usize>
+        ensures { result ≡ None }
     {
-        self.stage_info.as_slice()
+        None
     }
 }
 
@@ -102,90 +130,91 @@ fn speaks_protocol_41(capabilities: CapabilityFlags) -> bool
     capabilities.contains(CapabilityFlags::CLIENT_PROTOCOL_41)
 }
 
-/// An error packet: ff, its code, with PROTOCOL_41 `#` and five bytes of state, and the message to the end.
-/// Refuses UnexpectedEof, BadConstant for another first byte or marker, and Memory; all bytes are then left.
-///
-/// MySQL: Client/Server Protocol, "ERR_Packet".
-#[tactic(auto, unfolding(crate::specs::Packets::err_packet_at))]
-pub fn server_error_of(
-    alloc: Global,
-    capabilities: CapabilityFlags,
-    buf: &mut ParseBuf,
-) -> Result<ServerError, WireError>
-    ensures { Gives err_packet_view buf.old.0.now buf.new.0.now result (err_packet_at capabilities.0 buf.old.0.now) }
+// Whether this is the code of a progress report.
+fn is_progress(capabilities: CapabilityFlags, code: u16) -> bool
+    ensures { result ≡ is_progress_code capabilities.0 code }
 {
-    let mut rest = *buf;
+    code == 0xffff && capabilities.contains(CapabilityFlags::CLIENT_PROGRESS_OBSOLETE)
+}
+
+// The code, behind the header.
+#[tactic(auto, unfolding(crate::specs::Packets::error_code_at))]
+fn error_code(alloc: Global, rest: &mut ParseBuf) -> Result<u16, WireError>
+    ensures { TellsPart (λ (code : ℕ). code) rest.new.0.now result (error_code_at rest.old.0.now) }
+{
     let mut block = rest.parse::<ParseBuf>(alloc, 3)?;
-    block.parse::<ConstU8<ErrPacketHeader, 255>>(alloc, ())?;
+    let _header: ErrPacketHeader = block.parse(alloc, ())?;
     let Some(code) = block.checked_eat_u16_le() else {
         return Err(WireError::UnexpectedEof);
     };
-    let state = if speaks_protocol_41(capabilities) {
-        rest.parse::<ConstU8<SqlStateMarker, 35>>(alloc, ())?;
-        let state = rest.parse::<&[u8]>(alloc, 5)?;
-        Some(Vec::from_slice(alloc, state)?)
-    } else {
-        None
-    };
-    let message = Vec::from_slice(alloc, rest.eat_all())?;
-    *buf = rest;
-    Ok(ServerError {
-        code,
-        state,
-        message,
-    })
+    Ok(code)
 }
 
-// The numbers of a progress report.
-#[derive(Clone, Copy)]
-struct StageProgress {
-    stage: u8,
-    max_stage: u8,
-    progress: u32,
-}
-
-#[tactic(auto, unfolding(crate::specs::Packets::stage_progress_at))]
-fn stage_progress(block: &mut ParseBuf) -> Result<StageProgress, WireError>
-    ensures { GivesPart stage_progress_view block.new.0.now result (stage_progress_at block.old.0.now) }
-{
-    let Some(_) = block.checked_eat_u8() else {
-        return Err(WireError::UnexpectedEof);
-    };
-    let Some(stage) = block.checked_eat_u8() else {
-        return Err(WireError::UnexpectedEof);
-    };
-    let Some(max_stage) = block.checked_eat_u8() else {
-        return Err(WireError::UnexpectedEof);
-    };
-    let Some(progress) = block.checked_eat_u24_le() else {
-        return Err(WireError::UnexpectedEof);
-    };
-    Ok(StageProgress {
-        stage,
-        max_stage,
-        progress,
-    })
-}
-
-/// A progress report, whose first three bytes are ff ff ff: a count that is passed over, stage, number of stages,
-/// progress in three bytes, and the stage's name. Refuses UnexpectedEof and Memory; all bytes are then left.
+/// The error of a packet that is no progress report, as where reports were not agreed on or this packet's form was seen. Refused
+/// by UnexpectedEof below three bytes, then by BadConstant for another first byte than ff, then as the error is; all bytes are
+/// then left.
 ///
-/// MariaDB: Client/Server Protocol, "ERR_Packet", 'Progress report'.
-#[tactic(auto, unfolding(crate::specs::Packets::progress_report_at))]
-pub fn report_of(alloc: Global, buf: &mut ParseBuf) -> Result<ProgressReport, WireError>
-    ensures { Gives progress_report_view buf.old.0.now buf.new.0.now result (progress_report_at buf.old.0.now) }
+/// MySQL: Client/Server Protocol, "ERR_Packet".
+#[tactic(auto, unfolding(crate::specs::Packets::error_at))]
+pub fn server_error_of<'de>(
+    alloc: Global,
+    capabilities: CapabilityFlags,
+    buf: &mut ParseBuf<'de>,
+) -> Result<ServerError<'de>, WireError>
+    ensures { Tells server_error_view buf.old.0.now buf.new.0.now result (error_at capabilities.0 buf.old.0.now) }
 {
     let mut rest = *buf;
-    rest.parse::<&[u8]>(alloc, 3)?;
-    let mut block = rest.parse::<ParseBuf>(alloc, 6)?;
-    let progress = stage_progress(&mut block)?;
-    let info = text_of(&mut rest)?;
-    let stage_info = Vec::from_slice(alloc, info)?;
+    let code = error_code(alloc, &mut rest)?;
+    let error: ServerError = rest.parse(alloc, (code, speaks_protocol_41(capabilities)))?;
     *buf = rest;
-    Ok(ProgressReport {
-        stage: progress.stage,
-        max_stage: progress.max_stage,
-        progress: progress.progress,
-        stage_info,
-    })
+    Ok(error)
+}
+
+// What stands behind the code.
+fn body_of<'de>(
+    alloc: Global,
+    capabilities: CapabilityFlags,
+    code: u16,
+    rest: &mut ParseBuf<'de>,
+) -> Result<ErrPacket<'de>, WireError>
+    ensures { TellsPart err_packet_view rest.new.0.now result (err_body_at capabilities.0 code rest.old.0.now) }
+{
+    if is_progress(capabilities, code) {
+        let report: ProgressReport = rest.parse(alloc, ())?;
+        Ok(ErrPacket::Progress(report))
+    } else {
+        let error: ServerError = rest.parse(alloc, (code, speaks_protocol_41(capabilities)))?;
+        Ok(ErrPacket::Error(error))
+    }
+}
+
+/// Reads an error packet: ff, its code, and a progress report where the code is ffff and reports were agreed on, else an error.
+/// Refused by UnexpectedEof below three bytes, then by BadConstant for another first byte, then as the report or the error is.
+///
+/// MySQL: Client/Server Protocol, "ERR_Packet"; MariaDB: 'Progress report' of "ERR_Packet".
+#[tactic(auto, unfolding(crate::specs::Packets::err_packet_at))]
+impl<'de> MyDeserialize<'de> for ErrPacket<'de> {
+    fn deserialize(
+        alloc: Global,
+        capabilities: CapabilityFlags,
+        buf: &mut ParseBuf<'de>,
+    ) -> Result<ErrPacket<'de>, WireError> {
+        let mut rest = *buf;
+        let code = error_code(alloc, &mut rest)?;
+        let packet = body_of(alloc, capabilities, code, &mut rest)?;
+        *buf = rest;
+        Ok(packet)
+    }
+}
+
+/// Shown as the error or the report is.
+impl<'a> fmt::Display for ErrPacket<'a> {
+    ghost output = { λ p. Some (err_packet_text (err_packet_view p)) };
+
+    fn fmt<W: fmt::Write>(&self, f: &mut fmt::Formatter<W>) -> fmt::Result {
+        match self {
+            ErrPacket::Error(error) => write!(f, "{error}"),
+            ErrPacket::Progress(report) => write!(f, "{report}"),
+        }
+    }
 }

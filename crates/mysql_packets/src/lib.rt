@@ -1,16 +1,27 @@
-//! Packets of a server's reply, read from their payloads: OK, EOF and error packets, progress reports,
-//! prepared statements, columns and text rows.
+//! Packets of a server's reply: error packets and progress reports, requests for files, statement packets; columns and OK
+//! packets are passed on.
 #![tactic(auto)]
 
-pub mod column;
 pub mod err_packet;
+pub mod headers;
 pub mod laws;
-pub mod ok_packet;
-pub mod row;
+pub mod local_infile;
+pub mod progress_report;
+pub mod server_error;
 pub mod statement;
 mod texts;
 
-pub use column::Column;
-pub use err_packet::{ProgressReport, ServerError};
-pub use ok_packet::OkPacket;
+pub use err_packet::ErrPacket;
+pub use headers::{
+    ErrPacketHeader, InvalidErrPacketHeader, InvalidLocalInfileHeader, InvalidSqlStateMarker,
+    InvalidStmtPacketStatus, LocalInfileHeader, SqlStateMarker, StmtPacketStatus,
+};
+pub use local_infile::LocalInfilePacket;
+pub use mysql_columns::{
+    Catalog, Column, ColumnDefinitionCatalog, FixedLengthFieldsLen, InvalidCatalog,
+    InvalidFixedLengthFieldsLen,
+};
+pub use mysql_ok_packets::OkPacket;
+pub use progress_report::ProgressReport;
+pub use server_error::{ServerError, SqlState};
 pub use statement::StmtPacket;

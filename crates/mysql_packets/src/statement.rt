@@ -1,21 +1,24 @@
 //! Statement packets.
 
-ghost use Rattle.std.specs.Prelude.{◌≡◌, List, Ok};
-ghost use Rattle.mysql_wire.specs.Wire.{Tells, TellsPart};
-ghost use Rattle.mysql_packets.specs.Packets.{prepare_ok_at, prepare_ok_fields_at};
+ghost use Rattle.std.specs.Prelude.{◌≡◌, Some, false};
+ghost use Rattle.mysql_raw.specs.Wire.{TellsPart};
+ghost use Rattle.mysql_packets.specs.PacketLaws.{prepare_ok_at-back, prepare_ok_at-sized};
+ghost use Rattle.mysql_packets.specs.Packets.{IsPrepareOk, PrepareOk, prepare_ok, prepare_ok_at, prepare_ok_fields_at};
 ghost use Rattle.mysql_packets.specs.Views.{prepare_ok_view};
 
-use mysql_wire::{ConstU8, ParseBuf, ParseExt, Skip, WireError};
-use std::alloc::Global;
-
-/// Another byte than 00 begins a statement packet.
-#[derive(Clone, Copy, Debug, Default, PartialEq, Eq, Hash)]
-pub struct InvalidStmtPacketStatus;
+use crate::headers::StmtPacketStatus;
+use mysql_buf::ParseBuf;
+use mysql_raw::{
+    LeU16, LeU32, MyDeserialize, MySerialize, ParseExt, RawInt, Readable, ReadsBack, WireError,
+    in_order,
+};
+use mysql_raw_consts::Skip;
+use std::alloc::{AllocError, Global};
 
 /// A prepared statement: the first packet of the answer to COM_STMT_PREPARE.
 ///
 /// MySQL: Client/Server Protocol, "COM_STMT_PREPARE Response".
-#[derive(Clone, Copy, Debug, PartialEq, Eq)]
+#[derive(Clone, Copy, Debug, PartialEq, Eq, Hash)]
 pub struct StmtPacket {
     statement_id: u32,
     num_columns: u16,
@@ -57,7 +60,7 @@ impl StmtPacket {
 fn statement_fields(alloc: Global, buf: &mut ParseBuf) -> Result<StmtPacket, WireError>
     ensures { TellsPart prepare_ok_view buf.new.0.now result (prepare_ok_fields_at buf.old.0.now) }
 {
-    buf.parse::<ConstU8<InvalidStmtPacketStatus, 0>>(alloc, ())?;
+    let _status: StmtPacketStatus = buf.parse(alloc, ())?;
     let Some(statement_id) = buf.checked_eat_u32_le() else {
         return Err(WireError::UnexpectedEof);
     };
@@ -67,7 +70,7 @@ fn statement_fields(alloc: Global, buf: &mut ParseBuf) -> Result<StmtPacket, Wir
     let Some(num_params) = buf.checked_eat_u16_le() else {
         return Err(WireError::UnexpectedEof);
     };
-    buf.parse::<Skip<1>>(alloc, ())?;
+    let _filler: Skip<1> = buf.parse(alloc, ())?;
     let Some(warning_count) = buf.checked_eat_u16_le() else {
         return Err(WireError::UnexpectedEof);
     };
@@ -79,19 +82,73 @@ fn statement_fields(alloc: Global, buf: &mut ParseBuf) -> Result<StmtPacket, Wir
     })
 }
 
-/// A statement packet at the front of the bytes. Refuses UnexpectedEof below twelve bytes, then BadConstant for another
-/// first byte than 00; all bytes are then left.
+/// 00, the id, how many columns and parameters there are, a filler byte, how many warnings.
+#[tactic(auto, unfolding(crate::specs::Packets::prepare_ok))]
+impl MySerialize for StmtPacket {
+    ghost written = { λ p. prepare_ok (prepare_ok_view p) };
+
+    fn serialize(&self, buf: &mut Vec<u8>) -> Result<(), AllocError> {
+        let status = StmtPacketStatus::new();
+        let statement_id: RawInt<LeU32> = RawInt::new(self.statement_id);
+        let num_columns: RawInt<LeU16> = RawInt::new(self.num_columns);
+        let num_params: RawInt<LeU16> = RawInt::new(self.num_params);
+        let filler: Skip<1> = Skip;
+        let warning_count: RawInt<LeU16> = RawInt::new(self.warning_count);
+        in_order!(
+            status,
+            statement_id,
+            num_columns,
+            num_params,
+            filler,
+            warning_count,
+        )
+        .serialize(buf)
+    }
+}
+
+impl Readable for StmtPacket {
+    type Ctx = ();
+
+    ghost SIZE = { Some 12 };
+
+    ghost AsksForMemory = { false };
+
+    ghost Shown = { PrepareOk };
+
+    ghost shown = { prepare_ok_view };
+
+    ghost kept = { prepare_ok_view };
+
+    ghost read_at = { λ _ bytes. prepare_ok_at bytes };
+
+    ghost IsReadBack = { λ _ p _. IsPrepareOk (prepare_ok_view p) };
+
+    ghost sized = { λ _. prepare_ok_at-sized };
+
+    fn size() -> Option<usize>
+        ensures { result ≡ Some 12 }
+    {
+        Some(12)
+    }
+}
+
+impl ReadsBack for StmtPacket {
+    ghost reads_back = { λ _ p. prepare_ok_at-back (prepare_ok_view p) };
+}
+
+/// Reads a statement packet. Refused by BadConstant for another first byte than 00.
 ///
 /// MySQL: Client/Server Protocol, "COM_STMT_PREPARE Response".
-#[tactic(auto, unfolding(crate::specs::Packets::prepare_ok_at))]
-pub fn statement_of(alloc: Global, buf: &mut ParseBuf) -> Result<StmtPacket, WireError>
-    ensures { Tells prepare_ok_view buf.old.0.now buf.new.0.now result (prepare_ok_at buf.old.0.now) }
-{
-    if buf.len() < 12 {
-        return Err(WireError::UnexpectedEof);
+#[tactic(auto, using(crate::proofs::Rules::sizes))]
+impl<'de> MyDeserialize<'de> for StmtPacket {
+    fn deserialize(
+        alloc: Global,
+        _ctx: (),
+        buf: &mut ParseBuf<'de>,
+    ) -> Result<StmtPacket, WireError> {
+        let mut rest = *buf;
+        let packet = statement_fields(alloc, &mut rest)?;
+        *buf = rest;
+        Ok(packet)
     }
-    let mut rest = *buf;
-    let packet = statement_fields(alloc, &mut rest)?;
-    *buf = rest;
-    Ok(packet)
 }

@@ -1,16 +1,26 @@
 //! Texts of packets.
 
-ghost use Rattle.mysql_wire.specs.Texts.{lenenc_text_at};
-ghost use Rattle.mysql_wire.specs.Wire.{TellsPart};
+ghost use Rattle.std.specs.Prelude.{◌≡◌, IfOk, IsOkUnless};
+ghost use Rattle.std.specs.Cow.{cow_slice_items, cow_str_bytes};
+ghost use Rattle.mysql_raw.specs.WireError.TheVariants as wire;
+ghost use Rattle.mysql_packets.specs.Texts.{lossy};
 
-use mysql_wire::{ParseBuf, WireError};
+use bstr::ByteSlice;
+use mysql_raw::WireError;
+use std::alloc::{AllocError, Global};
+use std::borrow::{CowSlice, CowStr};
 
-// The text that stands first, after its length. Refused by UnexpectedEof.
-pub(crate) fn text_of<'a>(buf: &mut ParseBuf<'a>) -> Result<&'a [u8], WireError>
-    ensures { TellsPart (λ text. text.now) buf.new.0.now result (lenenc_text_at buf.old.0.now) }
+// Bytes as text, where those that aren't UTF-8 are replaced.
+pub(crate) fn lossy(alloc: Global, text: &[u8]) -> Result<CowStr<'_>, WireError>
+    ensures memory { IsOkUnless result wire.Memory }
+    ensures value { IfOk result (λ shown. cow_str_bytes shown ≡ lossy text.now) }
 {
-    match buf.checked_eat_lenenc_str() {
-        Some(text) => Ok(text),
-        None => Err(WireError::UnexpectedEof),
-    }
+    Ok(text.to_str_lossy(alloc)?)
+}
+
+// The same bytes, which borrow nothing.
+pub(crate) fn copy_of(alloc: Global, text: &[u8]) -> Result<CowSlice<'static, u8>, AllocError>
+    ensures { IfOk result (λ copy. cow_slice_items copy ≡ text.now) }
+{
+    Ok(CowSlice::Owned(Vec::from_slice(alloc, text)?))
 }

@@ -203,23 +203,23 @@ pub cuttings : HasOneSplit → CuttingsAgree
 cuttings law c first_id limit pieces others a b are same x y =
     one_answer law c first_id limit (flat_map (λ piece. piece) pieces) a b are x (subst (λ bytes. IsReplyOf c first_id limit bytes b) (sym same) y)
 
-holding_decides : HasOneSplit → (standing : Standing) (held : ReaderState) (more : List ℕ) → AreBytes (held.bytes ++ more) → (answer : Answer) × ReaderDecidesFrom standing held more answer
-holding_decides law (Answered known) held more are = (known, refl)
-holding_decides law (GoingOn s) held more are =
+standing_decides : HasOneSplit → (standing : Standing) (held : ReaderState) (more : List ℕ) → AreBytes (held.bytes ++ more) → (answer : Answer) × ReaderDecidesFrom standing held more answer
+standing_decides law (Answered known) held more are = (known, refl)
+standing_decides law (GoingOn s) held more are =
     let one = law held.limit (OnFrom held.number) (held.bytes ++ more) are in
     let decided = each_decides (GoingOn s) (numbered s.count one.0.payloads) (after_numbered s.count one.0.payloads one.0.rest) in
     (decided.0, record { split = one.0; splits = one.1; decides = decided.1 })
 
 pub each_reader_decides : HasOneSplit → EachReaderDecides
-each_reader_decides law held more are = holding_decides law held.standing held more are
+each_reader_decides law held more are = standing_decides law held.standing held more are
 
-holding_agrees : HasOneSplit → (standing : Standing) (held : ReaderState) (more : List ℕ) (a b : Answer) → AreBytes (held.bytes ++ more) → ReaderDecidesFrom standing held more a → ReaderDecidesFrom standing held more b → a ≡ b
-holding_agrees law (Answered known) held more a b are x y = x ∙ sym y
-holding_agrees law (GoingOn s) held more a b are x y =
+standing_agrees : HasOneSplit → (standing : Standing) (held : ReaderState) (more : List ℕ) (a b : Answer) → AreBytes (held.bytes ++ more) → ReaderDecidesFrom standing held more a → ReaderDecidesFrom standing held more b → a ≡ b
+standing_agrees law (Answered known) held more a b are x y = x ∙ sym y
+standing_agrees law (GoingOn s) held more a b are x y =
     let one = law held.limit (OnFrom held.number) (held.bytes ++ more) are in
     let same : x.split ≡ y.split = one.2 x.split x.splits ∙ sym (one.2 y.split y.splits) in
     decisions_agree (GoingOn s) (numbered s.count y.split.payloads) (after_numbered s.count y.split.payloads y.split.rest) a b
     (subst (λ k. NumberedPayloadsDecide (GoingOn s) k.payloads k.rest a) same x.decides) y.decides
 
 pub readers_agree : HasOneSplit → ReadersAgree
-readers_agree law held more a b are x y = holding_agrees law held.standing held more a b are x y
+readers_agree law held more a b are x y = standing_agrees law held.standing held more a b are x y

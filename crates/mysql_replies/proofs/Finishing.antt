@@ -3,17 +3,18 @@ use Rattle.std.proofs.Common.{◌≡◌, ℕ, zero, suc, ◌+◌, List, [], ◌�
 use Rattle.std.specs.Prelude.{map}
 use Rattle.std.proofs.lemmas.List.{append-nil}
 use Rattle.mysql_wire.specs.Stream.{Rest}
-use Rattle.mysql_packets.specs.Packets.{ColumnDefinition}
-use Rattle.mysql_packets.specs.Views.{progress_report_view}
+use Rattle.mysql_columns.specs.Columns.{ColumnDefinition}
+use Rattle.mysql_packets.specs.Views.{prepare_ok_view, progress_report_view}
 use Rattle.mysql_replies.specs.declared.context.Context.{Context}
 use Rattle.mysql_replies.specs.declared.awaited.Awaited as code
 use Rattle.mysql_replies.specs.declared.awaited.Awaited.TheVariants as awaiting
 use Rattle.mysql_replies.specs.declared.state.ReplyState.{ReplyState}
-use Rattle.mysql_replies.specs.Grammar.{Begun, Ending, Ended, Open, Results, last, begun, next_payload, columns, columns_end, column_group, rows, result_set, one_result}
-use Rattle.mysql_replies.specs.Reply.{Answer, before_end, end_of, Awaited, Columns, Nothing, rest_of, Continues}
+use Rattle.mysql_replies.specs.Grammar.{Begun, Ending, Ended, Open, Results, last, begun, next_payload, columns, columns_end, column_group, rows, one_result}
+use Rattle.mysql_replies.specs.Reply.{Answer, before_end, end_of, Awaited, Nothing, rest_of, Continues}
 use Rattle.mysql_replies.specs.Views.{outcome_views, awaited_view, column_views}
-use Rattle.mysql_replies.specs.Steps.{IsSettled, listed_of}
+use Rattle.mysql_replies.specs.Steps.{Group, OfResultSet, OfParameters, OfPrepared, group_awaited, IsGroupSettled, IsSettled, listed_of}
 use Rattle.mysql_replies.specs.Standings.{progressing_of}
+use Rattle.mysql_replies.proofs.Stepping.{group_from}
 
 -- How the results end where no more payloads come.
 abbrev pub ending_at : Awaited → Ending
@@ -24,20 +25,25 @@ record AtEnd (c : Context) (a : code.Awaited) : Type 0 where
   reading : Results c (rest_of c (awaited_view a) []) (listed_of (awaited_view a)) (ending_at (awaited_view a))
   none : before_end [] (ending_at (awaited_view a)) ≡ []
 
-columns_begun : (c : Context) (n : ℕ) (these : List ColumnDefinition) → IsSettled c (Columns n these) → result_set c n these [] ≡ Begun []
-unfolding result_set column_group columns columns_end next_payload
+columns_begun : (c : Context) (n : ℕ) (these : List ColumnDefinition) → IsGroupSettled c n these → column_group c n these [] ≡ Begun []
+unfolding column_group columns columns_end next_payload
 columns_begun c zero [] settled = absurd settled
 columns_begun c zero (first ∷ others) settled = rw settled refl
 columns_begun c (suc n) these settled = refl
 
+group_begun : (c : Context) (g : Group) (n : ℕ) (these : List ColumnDefinition) → IsGroupSettled c n these → Results c (rest_of c (group_awaited g n these) []) [] Open
+group_begun c g n these settled = subst (λ p. Results c p [] Open) (sym (group_from c g n these [] (Begun []) (columns_begun c n these settled))) (begun [])
+
 at_end : (c : Context) (a : code.Awaited) → IsSettled c (awaited_view a) → AtEnd c a
 unfolding one_result rows next_payload
 at_end c awaiting.First settled = record { reading = begun []; none = refl }
-at_end c (awaiting.Columns left these) settled = record {
-  reading = subst (λ p. Results c p [] Open) (sym (columns_begun c left (column_views these.items) settled)) (begun []);
+at_end c (awaiting.Columns left these) settled = record { reading = group_begun c OfResultSet left (column_views these.items) settled; none = refl }
+at_end c (awaiting.Rows columns rows) settled = record { reading = begun _; none = refl }
+at_end c (awaiting.Parameters stmt left these) settled = record { reading = group_begun c (OfParameters (prepare_ok_view stmt)) left (column_views these.items) settled; none = refl }
+at_end c (awaiting.PreparedColumns stmt params left these) settled = record {
+  reading = group_begun c (OfPrepared (prepare_ok_view stmt) (column_views params.items)) left (column_views these.items) settled;
   none = refl;
 }
-at_end c (awaiting.Rows columns rows) settled = record { reading = begun _; none = refl }
 at_end c awaiting.Nothing settled = record { reading = last [] []; none = refl }
 
 -- What no more payloads decide.

@@ -1,3 +1,4 @@
+pub mod BinaryRows
 pub mod Taken
 pub mod Determined
 pub mod Payloads
@@ -8,3 +9,9 @@ pub mod Finishing
 pub mod Numbers
 pub mod Receiving
 pub mod Fed
+pub mod ManualReadings
+pub mod ManualReports
+pub mod ManualFronts
+pub mod ManualOnly
+pub mod ManualSome
+pub mod ManualBytes

@@ -1,8 +1,11 @@
 -- What one more payload does to what is awaited.
 use Rattle.std.proofs.Common.{◌≡◌, ℕ, zero, suc, List, [], ◌∷◌, ◌++◌, Bool, true, false, Result, Ok, Err, refl, ap, sym, subst, if◌then◌else◌, ◌∙◌}
 use Rattle.std.proofs.lemmas.List.{append-nil}
-use Rattle.mysql_cells.specs.declared.value.Value.{Value}
-use Rattle.mysql_packets.specs.Packets.{OkPacket, PrepareOk, ColumnDefinition, deprecate_eof}
+use Rattle.mysql_rows.specs.Rows.{Row}
+use Rattle.mysql_ok_packets.specs.OkPackets.{OkPacket}
+use Rattle.mysql_packets.specs.Packets.{PrepareOk}
+use Rattle.mysql_columns.specs.Columns.{ColumnDefinition}
+use Rattle.mysql_replies.specs.Grammar.{deprecate_eof}
 use Rattle.mysql_replies.specs.declared.fault.ReplyFault.{ReplyFault}
 use Rattle.mysql_replies.specs.declared.context.Context.{Context}
 use Rattle.mysql_replies.specs.Grammar.{Payload, Outcome, PreparedResult, Part, Stands, Unexpected, ◌>>=◌, Stretch, Ending, Ended, Wrong, Results, last, more, unexpected, Line, RowLine, TerminatorLine, ErrorLine, Opening, OkOpening, ErrorOpening, FileOpening, CountOpening, StatementOpening, is_report, unless_report, as_part, next_payload, column, eof, columns, columns_end, column_group, line, after_rows, rows, result_set, prepared, prepared_columns, opening, after_opening, one_result}
@@ -124,16 +127,16 @@ group_cases c n these payload f again is stands ends (GroupFails fault) same =
 group_then : (c : Context) (n : ℕ) (these : List ColumnDefinition) (payload : Payload) (f : List ColumnDefinition × List Payload → Part Stretch) (again : ℕ → List ColumnDefinition → Awaited) → ((m : ℕ) (those : List ColumnDefinition) (z : List Payload) → rest_of c (again m those) z ≡ (column_group c m those z >>= f)) → Step c (λ z. f (these, payload ∷ z)) payload → Step c (λ z. f (these, z)) payload → Step c (λ z. column_group c n these (payload ∷ z) >>= f) payload
 group_then c n these payload f again is stands ends = let g = group_step c n these payload in group_cases c n these payload f again is stands ends g.0 g.1
 
-line_step : (c : Context) (columns : List ColumnDefinition) (these : List (List Value)) (payload : Payload) (r : Result Line ReplyFault) → Step c (λ z. after_rows columns these (λ cells. rows c columns (these ++ cells ∷ []) z) r payload z) payload
-line_step c columns these payload (Ok (RowLine cells)) = Step-awaits c (Rows columns (these ++ cells ∷ [])) payload
+line_step : (c : Context) (columns : List ColumnDefinition) (these : List Row) (payload : Payload) (r : Result Line ReplyFault) → Step c (λ z. after_rows columns these (λ found. rows c columns (these ++ found ∷ []) z) r payload z) payload
+line_step c columns these payload (Ok (RowLine found)) = Step-awaits c (Rows columns (these ++ found ∷ [])) payload
 line_step c columns these payload (Ok (TerminatorLine ok)) = Step-stands c _ payload
 line_step c columns these payload (Ok (ErrorLine error)) = Step-stands c _ payload
 line_step c columns these payload (Err fault) = Step-unexpected c _ fault payload
 
-rows_step : (c : Context) (columns : List ColumnDefinition) (these : List (List Value)) (payload : Payload) → Step c (λ z. rows c columns these (payload ∷ z)) payload
+rows_step : (c : Context) (columns : List ColumnDefinition) (these : List Row) (payload : Payload) → Step c (λ z. rows c columns these (payload ∷ z)) payload
 unfolding rows
 rows_step c columns these payload =
-    Step-if c payload (is_report c payload) (λ z. rows c columns these z) (λ z. after_rows columns these (λ cells. rows c columns (these ++ cells ∷ []) z) (unless_report c (line c columns) payload) payload z)
+    Step-if c payload (is_report c payload) (λ z. rows c columns these z) (λ z. after_rows columns these (λ found. rows c columns (these ++ found ∷ []) z) (unless_report c (line c columns) payload) payload z)
     (Step-awaits c (Rows columns these) payload) (line_step c columns these payload (unless_report c (line c columns) payload))
 
 result_set_step : (c : Context) (n : ℕ) (these : List ColumnDefinition) (payload : Payload) → Step c (λ z. result_set c n these (payload ∷ z)) payload

@@ -1,19 +1,21 @@
 -- What a payload that is no progress report leads to, by what stands in its place.
-use Rattle.std.proofs.Common.{◌≡◌, ◌≢◌, ℕ, zero, suc, ◌<◌, ◌-◌, List, [], ◌∷◌, ◌++◌, length, Bool, true, false, Result, Ok, Err, refl, ap, sym, subst, arith, if◌then◌else◌, ◌∙◌, ◌⊎◌, inl, inr}
-use Rattle.std.specs.Prelude.{nat_lt}
+use Rattle.std.proofs.Common.{◌≡◌, ℕ, zero, suc, ◌<◌, ◌-◌, List, [], ◌∷◌, ◌++◌, length, Bool, true, false, Result, Ok, Err, refl, ap, sym, subst, arith, if◌then◌else◌, ◌∙◌, ◌⊎◌, inl, inr}
 use Rattle.std.proofs.lemmas.List.{append-nil}
-use Rattle.mysql_cells.specs.declared.value.Value.{Value}
-use Rattle.mysql_packets.specs.Packets.{OkPacket, ColumnDefinition, old_eof_at, deprecate_eof}
-use Rattle.mysql_wire.specs.Wire.{Reading}
+use Rattle.mysql_rows.specs.Rows.{Row}
+use Rattle.mysql_ok_packets.specs.OkPackets.{OkPacket}
+use Rattle.mysql_columns.specs.Columns.{ColumnDefinition}
+use Rattle.mysql_replies.specs.Grammar.{deprecate_eof}
 use Rattle.mysql_replies.specs.declared.context.Context.{Context}
 use Rattle.mysql_replies.specs.declared.fault.ReplyFault.{ReplyFault}
-use Rattle.mysql_replies.specs.declared.fault.ReplyFault.TheVariants.{BadTerminator, Memory}
+use Rattle.mysql_replies.specs.declared.fault.ReplyFault.TheVariants.{Memory}
 use Rattle.mysql_replies.specs.declared.awaited.Awaited as code
-use Rattle.mysql_replies.specs.declared.awaited.Stepped.TheVariants.{Failed}
-use Rattle.mysql_replies.specs.Grammar.{Payload, Outcome, Part, Stands, Unexpected, ◌>>=◌, Stretch, Ending, Wrong, Results, last, more, unexpected, Line, RowLine, Opening, has_report_form, or_fault, as_part, next_payload, column, eof, columns, columns_end, column_group, line, after_rows, rows, result_set, opening, after_opening, one_result}
-use Rattle.mysql_replies.specs.Reply.{Awaited, First, Columns, Nothing, rest_of}
+use Rattle.mysql_replies.specs.declared.awaited.Listed.TheVariants as listed
+use Rattle.mysql_replies.specs.declared.awaited.Stepped.{Stepped}
+use Rattle.mysql_replies.specs.declared.awaited.Stepped.TheVariants.{Moved, Failed}
+use Rattle.mysql_replies.specs.Grammar.{Payload, Outcome, Part, Stands, Unexpected, ◌>>=◌, Stretch, Ending, Wrong, Results, last, more, unexpected, Line, RowLine, Opening, has_report_form, as_part, next_payload, column, eof, columns, columns_end, column_group, line, after_rows, rows, result_set, prepared, prepared_columns, opening, after_opening, one_result}
+use Rattle.mysql_replies.specs.Reply.{Awaited, First, Nothing, rest_of}
 use Rattle.mysql_replies.specs.Views.{Refuses, awaited_view}
-use Rattle.mysql_replies.specs.Steps.{Moves, Leads, IsSettled, listed_of, IsStep}
+use Rattle.mysql_replies.specs.Steps.{Moves, Leads, Group, OfResultSet, OfParameters, OfPrepared, group_awaited, after_group, IsGroupSettled, IsSettled, listed_of, listed_views, IsMove, IsStep}
 
 -- A payload not in the form of a progress report is read.
 pub next_is : {A : Type 0} (c : Context) (read : Payload → Result A ReplyFault) (payload : Payload) (z : List Payload) → has_report_form c payload ≡ false → next_payload c read (payload ∷ z) ≡ as_part (read payload) payload z
@@ -46,9 +48,9 @@ pub step_awaits : (c : Context) (payload : Payload) (q : List Payload → Part S
 step_awaits c payload q a same = λ z others ending h. subst (λ p. Results c p others ending) (sym (same z)) h
 
 -- A payload has no place.
-pub step_fails : {A : Type 0} (c : Context) (a : Awaited) (payload : Payload) (awaited : code.Awaited) (fault : ReplyFault) (read : Result A ReplyFault) → awaited_view awaited ≡ a → ((f : ReplyFault) → read ≡ Err f → (z : List Payload) → rest_of c a (payload ∷ z) ≡ Unexpected (listed_of a) f (payload ∷ z)) → Refuses fault read → IsStep c a payload (Failed awaited fault)
-step_fails c a payload awaited Memory read e each h = e
-step_fails c a payload awaited fault read e each h =
+pub step_fails : {A : Type 0} (c : Context) (a : Awaited) (payload : Payload) (awaited : code.Awaited) (fault : ReplyFault) → IsSettled c a → (read : Result A ReplyFault) → awaited_view awaited ≡ a → ((f : ReplyFault) → read ≡ Err f → (z : List Payload) → rest_of c a (payload ∷ z) ≡ Unexpected (listed_of a) f (payload ∷ z)) → Refuses fault read → IsStep c a payload (Failed awaited fault)
+step_fails c a payload awaited Memory settled read e each h = record { listed = ap listed_of e; settled = subst (IsSettled c) (sym e) settled }
+step_fails c a payload awaited fault settled read e each h =
     (e, λ z. subst (λ p. Results c p (listed_of a) (Wrong fault (payload ∷ z))) (sym (each fault h z)) (unexpected (listed_of a) fault (payload ∷ z)))
 
 -- A refusal that is the reading's is one that may be.
@@ -56,68 +58,123 @@ pub refuses_by : {A : Type 0} (fault : ReplyFault) (read : Result A ReplyFault) 
 refuses_by Memory read h = tt
 refuses_by fault read h = h
 
--- An EOF packet is refused by its own fault alone.
-pub eof_has_memory : (payload : Payload) (fault : ReplyFault) → eof payload ≡ Err fault → fault ≢ Memory
-eof_has_memory payload fault h memory = by (nat_lt (length payload) 9) (old_eof_at payload) (h ∙ ap (λ f. Err f) memory)
-  where
-    by : (short : Bool) (read : Reading OkPacket) → (if short then or_fault BadTerminator read else Err BadTerminator) ≡ Err Memory → ⊥
-    by true (Ok x) e = absurd cc
-    by true (Err f) e = absurd cc
-    by false read e = absurd cc
+-- What is made of payloads where more columns of a group are awaited.
+group_is : (c : Context) (g : Group) (n : ℕ) (these : List ColumnDefinition) (payloads : List Payload) → rest_of c (group_awaited g n these) payloads ≡ (column_group c n these payloads >>= λ x. after_group c g x.0 x.1)
+unfolding result_set prepared prepared_columns
+group_is c OfResultSet n these payloads = refl
+group_is c (OfParameters statement) n these payloads = refl
+group_is c (OfPrepared statement parameters) n these payloads = refl
 
-rows_deprecated : (c : Context) (these : List ColumnDefinition) (z : List Payload) → deprecate_eof c.capabilities.0 ≡ true → rows c these [] z ≡ result_set c 0 these z
-unfolding result_set column_group columns columns_end
-rows_deprecated c [] z h = refl
-rows_deprecated c (first ∷ others) z h = rw h refl
+pub group_from : (c : Context) (g : Group) (n : ℕ) (these : List ColumnDefinition) (payloads : List Payload) (p : Part (List ColumnDefinition)) → column_group c n these payloads ≡ p → rest_of c (group_awaited g n these) payloads ≡ (p >>= λ x. after_group c g x.0 x.1)
+group_from c g n these payloads p same = group_is c g n these payloads ∙ ap (λ (q : Part (List ColumnDefinition)). q >>= λ x. after_group c g x.0 x.1) same
 
-rows_none : (c : Context) (these : List ColumnDefinition) (z : List Payload) → length these ≡ 0 → rows c these [] z ≡ result_set c 0 these z
-unfolding result_set column_group columns columns_end
-rows_none c [] z h = refl
-rows_none c (first ∷ others) z h = absurd (omega arith)
+-- What is made of the payloads doesn't change where the group's columns don't.
+pub group_same : (c : Context) (g : Group) (n m : ℕ) (these those : List ColumnDefinition) (here there : List Payload) → column_group c n these here ≡ column_group c m those there → rest_of c (group_awaited g n these) here ≡ rest_of c (group_awaited g m those) there
+group_same c g n m these those here there same = group_from c g n these here (column_group c m those there) same ∙ sym (group_is c g m those there)
 
--- Where no columns are left and no EOF is due, rows are awaited.
-pub rows_after_columns : (c : Context) (n : ℕ) (these : List ColumnDefinition) (read : List (List Value)) → n ≡ 0 → read ≡ [] → (deprecate_eof c.capabilities.0 ≡ true) ⊎ (length these ≡ 0) → (z : List Payload) → rows c these read z ≡ result_set c n these z
-rows_after_columns c n these read none empty (inl h) z = rw (none, empty) (rows_deprecated c these z h)
-rows_after_columns c n these read none empty (inr h) z = rw (none, empty) (rows_none c these z h)
+pub settled_group : (c : Context) (g : Group) (n : ℕ) (these : List ColumnDefinition) → IsGroupSettled c n these → IsSettled c (group_awaited g n these)
+settled_group c OfResultSet n these settled = settled
+settled_group c (OfParameters statement) n these settled = settled
+settled_group c (OfPrepared statement parameters) n these settled = settled
+
+pub listed_group : (g : Group) (n : ℕ) (these : List ColumnDefinition) → listed_of (group_awaited g n these) ≡ []
+listed_group OfResultSet n these = refl
+listed_group (OfParameters statement) n these = refl
+listed_group (OfPrepared statement parameters) n these = refl
+
+pub settled_some : (c : Context) (n : ℕ) (these : List ColumnDefinition) → 0 < n → IsGroupSettled c n these
+settled_some c zero these some = absurd (omega arith)
+settled_some c (suc n) these some = tt
+
+pub settled_due : (c : Context) (n : ℕ) (these : List ColumnDefinition) → n ≡ 0 → deprecate_eof c.capabilities.0 ≡ false → (length these ≡ 0 → ⊥) → IsGroupSettled c n these
+settled_due c n [] none due some = absurd (some refl)
+settled_due c n (first ∷ others) none due some = rw none due
+
+-- More columns of a group are awaited.
+pub moves_group : (c : Context) (g : Group) (n : ℕ) (these : List ColumnDefinition) (awaited : code.Awaited) → awaited_view awaited ≡ group_awaited g n these → IsGroupSettled c n these → IsMove c (λ z. rest_of c (group_awaited g n these) z) (Moved listed.None awaited)
+moves_group c g n these awaited is settled = (
+  λ z others ending h. subst (λ a. Results c (rest_of c a z) others ending) is h,
+  subst (IsSettled c) (sym is) (settled_group c g n these settled),
+)
+
+-- What a step makes of the same.
+pub move_same : (c : Context) (q r : List Payload → Part Stretch) (stepped : Stepped) → ((z : List Payload) → q z ≡ r z) → IsMove c r stepped → IsMove c q stepped
+move_same c q r (Moved these awaited) same (goes, settled) = (λ z others ending h. subst (λ p. Results c p (listed_views these ++ others) ending) (sym (same z)) (goes z others ending h), settled)
+move_same c q r (Failed awaited fault) same move = move
+
+-- A payload leads to what a move says.
+pub step_moves : (c : Context) (a : Awaited) (payload : Payload) (q : List Payload → Part Stretch) (stepped : Stepped) → listed_of a ≡ [] → ((z : List Payload) → rest_of c a (payload ∷ z) ≡ q z) → IsMove c q stepped → IsStep c a payload stepped
+step_moves c a payload q (Moved these awaited) none same move = move_same c (λ z. rest_of c a (payload ∷ z)) q (Moved these awaited) same move
+step_moves c a payload q (Failed awaited fault) none same (memory, listed, settled) =
+    subst (λ f. IsStep c a payload (Failed awaited f)) (sym memory) (record { listed = listed ∙ sym none; settled = settled })
+
+-- Where no columns are left and no EOF is due, the group stands.
+stands_at_once : (c : Context) (these : List ColumnDefinition) → (deprecate_eof c.capabilities.0 ≡ true) ⊎ (length these ≡ 0) → (z : List Payload) → column_group c 0 these z ≡ Stands these z
+unfolding column_group columns columns_end
+stands_at_once c [] stands z = refl
+stands_at_once c (first ∷ others) (inl h) z = rw h refl
+stands_at_once c (first ∷ others) (inr h) z = absurd (omega arith)
+
+pub group_stands : (c : Context) (g : Group) (n : ℕ) (these : List ColumnDefinition) → n ≡ 0 → (deprecate_eof c.capabilities.0 ≡ true) ⊎ (length these ≡ 0) → (z : List Payload) → rest_of c (group_awaited g n these) z ≡ after_group c g these z
+group_stands c g n these none stands z = rw none (group_from c g 0 these z (Stands these z) (stands_at_once c these stands z))
 
 -- The EOF that is due stands.
-pub eof_found : (c : Context) (first : ColumnDefinition) (others : List ColumnDefinition) (payload : Payload) (ok : OkPacket) → has_report_form c payload ≡ false → deprecate_eof c.capabilities.0 ≡ false → eof payload ≡ Ok ok → (z : List Payload) → result_set c 0 (first ∷ others) (payload ∷ z) ≡ rows c (first ∷ others) [] z
-unfolding result_set column_group columns columns_end
+eof_found : (c : Context) (first : ColumnDefinition) (others : List ColumnDefinition) (payload : Payload) (ok : OkPacket) → has_report_form c payload ≡ false → deprecate_eof c.capabilities.0 ≡ false → eof payload ≡ Ok ok → (z : List Payload) → column_group c 0 (first ∷ others) (payload ∷ z) ≡ Stands (first ∷ others) z
+unfolding column_group columns columns_end
 eof_found c first others payload ok form due h z = rw (due, next_is c eof payload z form, h) refl
 
-pub eof_unexpected : (c : Context) (first : ColumnDefinition) (others : List ColumnDefinition) (payload : Payload) (fault : ReplyFault) → has_report_form c payload ≡ false → deprecate_eof c.capabilities.0 ≡ false → eof payload ≡ Err fault → (z : List Payload) → result_set c 0 (first ∷ others) (payload ∷ z) ≡ Unexpected [] fault (payload ∷ z)
-unfolding result_set column_group columns columns_end
+eof_unexpected : (c : Context) (first : ColumnDefinition) (others : List ColumnDefinition) (payload : Payload) (fault : ReplyFault) → has_report_form c payload ≡ false → deprecate_eof c.capabilities.0 ≡ false → eof payload ≡ Err fault → (z : List Payload) → column_group c 0 (first ∷ others) (payload ∷ z) ≡ Unexpected [] fault (payload ∷ z)
+unfolding column_group columns columns_end
 eof_unexpected c first others payload fault form due h z = rw (due, next_is c eof payload z form, h) refl
 
-pub column_found : (c : Context) (n : ℕ) (these : List ColumnDefinition) (payload : Payload) (found : ColumnDefinition) → has_report_form c payload ≡ false → column payload ≡ Ok found → (z : List Payload) → result_set c (suc n) these (payload ∷ z) ≡ result_set c n (these ++ found ∷ []) z
-unfolding result_set column_group columns
+pub eof_leads : (c : Context) (g : Group) (these : List ColumnDefinition) (payload : Payload) (ok : OkPacket) → has_report_form c payload ≡ false → IsGroupSettled c 0 these → eof payload ≡ Ok ok → (z : List Payload) → rest_of c (group_awaited g 0 these) (payload ∷ z) ≡ after_group c g these z
+eof_leads c g [] payload ok form settled h z = absurd settled
+eof_leads c g (first ∷ others) payload ok form settled h z = group_from c g 0 (first ∷ others) (payload ∷ z) (Stands (first ∷ others) z) (eof_found c first others payload ok form settled h z)
+
+eof_fails : (c : Context) (g : Group) (these : List ColumnDefinition) (payload : Payload) (fault : ReplyFault) → has_report_form c payload ≡ false → IsGroupSettled c 0 these → eof payload ≡ Err fault → (z : List Payload) → rest_of c (group_awaited g 0 these) (payload ∷ z) ≡ Unexpected [] fault (payload ∷ z)
+eof_fails c g [] payload fault form settled h z = absurd settled
+eof_fails c g (first ∷ others) payload fault form settled h z = group_from c g 0 (first ∷ others) (payload ∷ z) (Unexpected [] fault (payload ∷ z)) (eof_unexpected c first others payload fault form settled h z)
+
+column_found : (c : Context) (n : ℕ) (these : List ColumnDefinition) (payload : Payload) (found : ColumnDefinition) → has_report_form c payload ≡ false → column payload ≡ Ok found → (z : List Payload) → column_group c (suc n) these (payload ∷ z) ≡ column_group c n (these ++ found ∷ []) z
+unfolding column_group columns
 column_found c n these payload found form h z = rw (next_is c column payload z form, h) refl
 
-pub column_unexpected : (c : Context) (n : ℕ) (these : List ColumnDefinition) (payload : Payload) (fault : ReplyFault) → has_report_form c payload ≡ false → column payload ≡ Err fault → (z : List Payload) → result_set c (suc n) these (payload ∷ z) ≡ Unexpected [] fault (payload ∷ z)
-unfolding result_set column_group columns
+column_unexpected : (c : Context) (n : ℕ) (these : List ColumnDefinition) (payload : Payload) (fault : ReplyFault) → has_report_form c payload ≡ false → column payload ≡ Err fault → (z : List Payload) → column_group c (suc n) these (payload ∷ z) ≡ Unexpected [] fault (payload ∷ z)
+unfolding column_group columns
 column_unexpected c n these payload fault form h z = rw (next_is c column payload z form, h) refl
 
+pub column_leads : (c : Context) (g : Group) (n : ℕ) (these those : List ColumnDefinition) (payload : Payload) (found : ColumnDefinition) → has_report_form c payload ≡ false → 0 < n → column payload ≡ Ok found → those ≡ these ++ found ∷ [] → (z : List Payload) → rest_of c (group_awaited g n these) (payload ∷ z) ≡ rest_of c (group_awaited g (n - 1) those) z
+column_leads c g zero these those payload found form some h pushed z = absurd (omega arith)
+column_leads c g (suc n) these those payload found form some h pushed z =
+    let e : suc n - 1 ≡ n = omega arith in rw (e, pushed) (group_same c g (suc n) n these (these ++ found ∷ []) (payload ∷ z) z (column_found c n these payload found form h z))
+
+column_fails : (c : Context) (g : Group) (n : ℕ) (these : List ColumnDefinition) (payload : Payload) (fault : ReplyFault) → has_report_form c payload ≡ false → 0 < n → column payload ≡ Err fault → (z : List Payload) → rest_of c (group_awaited g n these) (payload ∷ z) ≡ Unexpected [] fault (payload ∷ z)
+column_fails c g zero these payload fault form some h z = absurd (omega arith)
+column_fails c g (suc n) these payload fault form some h z = group_from c g (suc n) these (payload ∷ z) (Unexpected [] fault (payload ∷ z)) (column_unexpected c n these payload fault form h z)
+
+-- A payload has no place in a group.
+group_fails : {A : Type 0} (c : Context) (g : Group) (n : ℕ) (these : List ColumnDefinition) (payload : Payload) (awaited : code.Awaited) (fault : ReplyFault) → IsGroupSettled c n these → (read : Result A ReplyFault) → awaited_view awaited ≡ group_awaited g n these → ((f : ReplyFault) → read ≡ Err f → (z : List Payload) → rest_of c (group_awaited g n these) (payload ∷ z) ≡ Unexpected [] f (payload ∷ z)) → Refuses fault read → IsStep c (group_awaited g n these) payload (Failed awaited fault)
+group_fails c g n these payload awaited fault settled read is each h =
+    step_fails c (group_awaited g n these) payload awaited fault (settled_group c g n these settled) read is
+    (λ f e z. each f e z ∙ ap (λ results. Unexpected results f (payload ∷ z)) (sym (listed_group g n these))) h
+
+pub eof_step_fails : (c : Context) (g : Group) (these : List ColumnDefinition) (payload : Payload) (awaited : code.Awaited) (fault : ReplyFault) → has_report_form c payload ≡ false → IsGroupSettled c 0 these → awaited_view awaited ≡ group_awaited g 0 these → eof payload ≡ Err fault → IsStep c (group_awaited g 0 these) payload (Failed awaited fault)
+eof_step_fails c g these payload awaited fault form settled is h =
+    group_fails c g 0 these payload awaited fault settled (eof payload) is (λ f e. eof_fails c g these payload f form settled e) (refuses_by fault (eof payload) h)
+
+pub column_step_fails : (c : Context) (g : Group) (n : ℕ) (these : List ColumnDefinition) (payload : Payload) (awaited : code.Awaited) (fault : ReplyFault) → has_report_form c payload ≡ false → 0 < n → awaited_view awaited ≡ group_awaited g n these → Refuses fault (column payload) → IsStep c (group_awaited g n these) payload (Failed awaited fault)
+column_step_fails c g n these payload awaited fault form some is h =
+    group_fails c g n these payload awaited fault (settled_some c n these some) (column payload) is (λ f e. column_fails c g n these payload f form some e) h
+
 -- A line is read.
-pub rows_are : (c : Context) (columns : List ColumnDefinition) (these : List (List Value)) (payload : Payload) (r : Result Line ReplyFault) → has_report_form c payload ≡ false → line c columns payload ≡ r → (z : List Payload) → rows c columns these (payload ∷ z) ≡ after_rows columns these (λ cells. rows c columns (these ++ cells ∷ []) z) r payload z
+pub rows_are : (c : Context) (columns : List ColumnDefinition) (these : List Row) (payload : Payload) (r : Result Line ReplyFault) → has_report_form c payload ≡ false → line c columns payload ≡ r → (z : List Payload) → rows c columns these (payload ∷ z) ≡ after_rows columns these (λ found. rows c columns (these ++ found ∷ []) z) r payload z
 unfolding rows
-rows_are c columns these payload r form h z = rw form (ap (λ x. after_rows columns these (λ cells. rows c columns (these ++ cells ∷ []) z) x payload z) h)
+rows_are c columns these payload r form h z = rw form (ap (λ x. after_rows columns these (λ found. rows c columns (these ++ found ∷ []) z) x payload z) h)
 
-pub eof_leads : (c : Context) (these : List ColumnDefinition) (payload : Payload) (ok : OkPacket) (read : List (List Value)) → has_report_form c payload ≡ false → IsSettled c (Columns 0 these) → eof payload ≡ Ok ok → read ≡ [] → (z : List Payload) → result_set c 0 these (payload ∷ z) ≡ rows c these read z
-eof_leads c [] payload ok read form settled h empty z = absurd settled
-eof_leads c (first ∷ others) payload ok read form settled h empty z = eof_found c first others payload ok form settled h z ∙ ap (λ r. rows c (first ∷ others) r z) (sym empty)
+pub row_leads : (c : Context) (columns : List ColumnDefinition) (these those : List Row) (payload : Payload) (found : Row) → has_report_form c payload ≡ false → line c columns payload ≡ Ok (RowLine found) → those ≡ these ++ found ∷ [] → (z : List Payload) → rows c columns these (payload ∷ z) ≡ rows c columns those z
+row_leads c columns these those payload found form h pushed z = rows_are c columns these payload (Ok (RowLine found)) form h z ∙ ap (λ r. rows c columns r z) (sym pushed)
 
-pub eof_fails : (c : Context) (these : List ColumnDefinition) (payload : Payload) (fault : ReplyFault) → has_report_form c payload ≡ false → IsSettled c (Columns 0 these) → eof payload ≡ Err fault → (z : List Payload) → result_set c 0 these (payload ∷ z) ≡ Unexpected [] fault (payload ∷ z)
-eof_fails c [] payload fault form settled h z = absurd settled
-eof_fails c (first ∷ others) payload fault form settled h z = eof_unexpected c first others payload fault form settled h z
-
-pub column_leads : (c : Context) (n : ℕ) (these those : List ColumnDefinition) (payload : Payload) (found : ColumnDefinition) → has_report_form c payload ≡ false → 0 < n → column payload ≡ Ok found → those ≡ these ++ found ∷ [] → (z : List Payload) → result_set c n these (payload ∷ z) ≡ result_set c (n - 1) those z
-column_leads c zero these those payload found form some h pushed z = absurd (omega arith)
-column_leads c (suc n) these those payload found form some h pushed z =
-    let e : suc n - 1 ≡ n = omega arith in rw (e, pushed) (column_found c n these payload found form h z)
-
-pub column_fails : (c : Context) (n : ℕ) (these : List ColumnDefinition) (payload : Payload) (fault : ReplyFault) → has_report_form c payload ≡ false → 0 < n → column payload ≡ Err fault → (z : List Payload) → result_set c n these (payload ∷ z) ≡ Unexpected [] fault (payload ∷ z)
-column_fails c zero these payload fault form some h z = absurd (omega arith)
-column_fails c (suc n) these payload fault form some h z = column_unexpected c n these payload fault form h z
-
-pub row_leads : (c : Context) (columns : List ColumnDefinition) (these those : List (List Value)) (payload : Payload) (cells : List Value) → has_report_form c payload ≡ false → line c columns payload ≡ Ok (RowLine cells) → those ≡ these ++ cells ∷ [] → (z : List Payload) → rows c columns these (payload ∷ z) ≡ rows c columns those z
-row_leads c columns these those payload cells form h pushed z = rows_are c columns these payload (Ok (RowLine cells)) form h z ∙ ap (λ r. rows c columns r z) (sym pushed)
+-- A step that failed leaves nothing more due.
+pub failed_settled : (c : Context) (a : Awaited) (payload : Payload) (awaited : code.Awaited) (fault : ReplyFault) → IsSettled c a → IsStep c a payload (Failed awaited fault) → IsSettled c (awaited_view awaited)
+failed_settled c a payload awaited Memory settled step = step.settled
+failed_settled c a payload awaited fault settled step = subst (IsSettled c) (sym step.0) settled

@@ -1,7 +1,9 @@
 -- How many payloads a part takes: what follows it is shorter by as many.
 use Rattle.std.proofs.Common.{ℕ, zero, suc, ◌+◌, ◌≤◌, List, [], ◌∷◌, ◌++◌, length, Bool, true, false, Result, Ok, Err, arith, if◌then◌else◌}
-use Rattle.mysql_cells.specs.declared.value.Value.{Value}
-use Rattle.mysql_packets.specs.Packets.{PrepareOk, ColumnDefinition, deprecate_eof}
+use Rattle.mysql_rows.specs.Rows.{Row}
+use Rattle.mysql_packets.specs.Packets.{PrepareOk}
+use Rattle.mysql_columns.specs.Columns.{ColumnDefinition}
+use Rattle.mysql_replies.specs.Grammar.{deprecate_eof}
 use Rattle.mysql_replies.specs.declared.fault.ReplyFault.{ReplyFault}
 use Rattle.mysql_replies.specs.declared.context.Context.{Context}
 use Rattle.mysql_replies.specs.Grammar.{Payload, Part, Stands, Begun, Unexpected, ◌>>=◌, Stretch, Line, RowLine, TerminatorLine, ErrorLine, Opening, OkOpening, ErrorOpening, FileOpening, CountOpening, StatementOpening, is_report, unless_report, as_part, next_payload, column, eof, columns, columns_end, column_group, line, after_rows, rows, result_set, prepared, prepared_columns, opening, after_opening, one_result}
@@ -68,18 +70,18 @@ unfolding column_group
 Takes-column_group c n these payloads =
     Takes-then 0 payloads (columns c n these payloads) _ (Takes-columns c n these payloads) (λ a rest. Takes-columns_end c a rest)
 
-Takes-after_rows : (columns : List ColumnDefinition) (rows : List (List Value)) (on : List Value → Part Stretch) (r : Result Line ReplyFault) (payload : Payload) (rest : List Payload) → ((cells : List Value) → Takes 0 rest (on cells)) → Takes 0 (payload ∷ rest) (after_rows columns rows on r payload rest)
-Takes-after_rows columns rows on (Ok (RowLine cells)) payload rest each = Takes-cons 0 payload rest _ (each cells)
+Takes-after_rows : (columns : List ColumnDefinition) (rows : List Row) (on : Row → Part Stretch) (r : Result Line ReplyFault) (payload : Payload) (rest : List Payload) → ((found : Row) → Takes 0 rest (on found)) → Takes 0 (payload ∷ rest) (after_rows columns rows on r payload rest)
+Takes-after_rows columns rows on (Ok (RowLine found)) payload rest each = Takes-cons 0 payload rest _ (each found)
 Takes-after_rows columns rows on (Ok (TerminatorLine ok)) payload rest each = omega arith
 Takes-after_rows columns rows on (Ok (ErrorLine error)) payload rest each = omega arith
 Takes-after_rows columns rows on (Err fault) payload rest each = omega arith
 
-pub Takes-rows : (c : Context) (columns : List ColumnDefinition) (these : List (List Value)) (payloads : List Payload) → Takes 0 payloads (rows c columns these payloads)
+pub Takes-rows : (c : Context) (columns : List ColumnDefinition) (these : List Row) (payloads : List Payload) → Takes 0 payloads (rows c columns these payloads)
 unfolding rows
 Takes-rows c columns these [] = tt
 Takes-rows c columns these (payload ∷ rest) =
     Takes-if 0 (payload ∷ rest) (is_report c payload) _ _ (Takes-cons 0 payload rest _ (Takes-rows c columns these rest))
-    (Takes-after_rows columns these _ (unless_report c (line c columns) payload) payload rest (λ cells. Takes-rows c columns (these ++ cells ∷ []) rest))
+    (Takes-after_rows columns these _ (unless_report c (line c columns) payload) payload rest (λ found. Takes-rows c columns (these ++ found ∷ []) rest))
 
 pub Takes-result_set : (c : Context) (n : ℕ) (these : List ColumnDefinition) (payloads : List Payload) → Takes 0 payloads (result_set c n these payloads)
 unfolding result_set

@@ -1,19 +1,20 @@
 -- What a state is after a payload.
-use Rattle.std.proofs.Common.{◌≡◌, ℕ, zero, suc, ◌+◌, List, [], ◌∷◌, ◌++◌, true, false, Some, None, Result, Ok, Err, refl, ap, sym, subst, ◌∙◌}
-use Rattle.std.specs.Prelude.{is_ok, OnOk, Vec}
+use Rattle.std.proofs.Common.{◌≡◌, ℕ, zero, suc, ◌+◌, ◌<◌, List, [], ◌∷◌, ◌++◌, true, false, Some, None, Result, Ok, Err, refl, ap, sym, subst, ◌∙◌}
+use Rattle.std.specs.Prelude.{is_ok, OnOk, Vec, vec_len, vec_capacity}
 use Rattle.std.specs.declared.alloc.Global.{Global}
 use Rattle.mysql_replies.specs.declared.results.ReplyResult.{ReplyResult}
 use Rattle.std.proofs.lemmas.List.{append-nil}
-use Rattle.mysql_packets.specs.Packets.{ProgressReport, ColumnDefinition, progress_report_at}
+use Rattle.mysql_packets.specs.Packets.{ProgressReport, progress_report_at}
+use Rattle.mysql_columns.specs.Columns.{ColumnDefinition}
 use Rattle.mysql_replies.specs.declared.context.Context.{Context}
 use Rattle.mysql_replies.specs.declared.fault.ReplyFault.{ReplyFault}
 use Rattle.mysql_replies.specs.declared.fault.ReplyFault.TheVariants.{BadError, AfterEnd}
 use Rattle.mysql_replies.specs.declared.awaited.Awaited as code
 use Rattle.mysql_replies.specs.declared.awaited.Awaited.TheVariants as awaiting
-use Rattle.mysql_replies.specs.Grammar.{Payload, Outcome, Unexpected, Wrong, Results, last, unexpected, has_report_form, is_report, next_payload, columns, columns_end, column_group, rows, result_set, one_result}
-use Rattle.mysql_replies.specs.Reply.{FaultAt, report_of, Columns, Nothing, rest_of, Progressing, GoingOn, Answered, PayloadsDecide}
+use Rattle.mysql_replies.specs.Grammar.{Payload, Outcome, Unexpected, Wrong, Results, last, unexpected, has_report_form, is_report, next_payload, columns, columns_end, column_group, rows, one_result}
+use Rattle.mysql_replies.specs.Reply.{FaultAt, report_of, Nothing, rest_of, Progressing, GoingOn, Answered, PayloadsDecide}
 use Rattle.mysql_wire.specs.Wire.{Reading}
-use Rattle.mysql_packets.specs.Views.{progress_report_view}
+use Rattle.mysql_packets.specs.Views.{prepare_ok_view, progress_report_view}
 use Rattle.mysql_replies.specs.declared.fault.ReplyFault.TheVariants.{Memory}
 use Rattle.mysql_replies.specs.declared.awaited.Stepped.TheVariants.{Failed}
 use Rattle.mysql_replies.specs.declared.state.ReplyState.{ReplyState}
@@ -21,12 +22,12 @@ use Rattle.std.specs.Prelude.{map}
 use Rattle.mysql_replies.specs.Grammar.{or_fault}
 use Rattle.mysql_replies.specs.Reply.{read_report}
 use Rattle.mysql_replies.specs.Steps.{IsStep}
-use Rattle.mysql_replies.specs.Standings.{progressing_of, faulted, standing_of, UnlessMemory, OnMemory, IsShortOf}
+use Rattle.mysql_replies.specs.Standings.{progressing_of, faulted, standing_of, HasRoom, IsReading, UnlessMemory, OnMemory, IsShortOf}
 use Rattle.mysql_replies.specs.Standings as states
 use Rattle.mysql_replies.specs.Views.{Refuses, outcome_views, awaited_view, column_views}
-use Rattle.mysql_replies.specs.Steps.{Moves, Fails, Over, Leads, IsSettled, IsAwaiting, listed_of}
+use Rattle.mysql_replies.specs.Steps.{Moves, Fails, Over, Leads, Group, OfResultSet, OfParameters, OfPrepared, group_awaited, IsGroupSettled, IsSettled, IsAwaiting, listed_of}
 use Rattle.mysql_replies.proofs.GoingOn.{StateGoesOn, after_move, go_over}
-use Rattle.mysql_replies.proofs.Stepping.{step_awaits}
+use Rattle.mysql_replies.proofs.Stepping.{failed_settled, group_from, group_same, step_awaits}
 
 -- The state goes on where the payload leads there.
 pub went_on : (s : Progressing) (payload : Payload) (listed : List Outcome) (after : Progressing) → Leads s.context (λ z. rest_of s.context s.awaited (payload ∷ z)) payload (Moves listed after.awaited) → after.context ≡ s.context → after.results ≡ s.results ++ listed → after.progress ≡ s.progress ++ report_of s.context payload → after.count ≡ s.count + 1 → StateGoesOn s (payload ∷ []) (GoingOn after)
@@ -48,34 +49,46 @@ went_over s payload none z rest answer h =
     let leads : Leads s.context (λ z. rest_of s.context s.awaited (payload ∷ z)) payload (Over (listed_of s.awaited)) = λ z. rw none (last [] (payload ∷ z)) in
     go_over s payload (Over (listed_of s.awaited)) leads z rest answer h
 
-passed_columns : (c : Context) (n : ℕ) (these : List ColumnDefinition) (payload : Payload) → is_report c payload ≡ true → IsSettled c (Columns n these) → (z : List Payload) → result_set c n these (payload ∷ z) ≡ result_set c n these z
-unfolding result_set column_group columns columns_end next_payload
+passed_columns : (c : Context) (n : ℕ) (these : List ColumnDefinition) (payload : Payload) → is_report c payload ≡ true → IsGroupSettled c n these → (z : List Payload) → column_group c n these (payload ∷ z) ≡ column_group c n these z
+unfolding column_group columns columns_end next_payload
 passed_columns c zero [] payload h settled z = absurd settled
 passed_columns c zero (first ∷ others) payload h settled z = rw (settled, h) refl
 passed_columns c (suc n) these payload h settled z = rw h refl
 
+passed_group : (c : Context) (g : Group) (n : ℕ) (these : List ColumnDefinition) (payload : Payload) → is_report c payload ≡ true → IsGroupSettled c n these → (z : List Payload) → rest_of c (group_awaited g n these) (payload ∷ z) ≡ rest_of c (group_awaited g n these) z
+passed_group c g n these payload h settled z = group_same c g n n these these (payload ∷ z) z (passed_columns c n these payload h settled z)
+
 passed : (c : Context) (a : code.Awaited) (payload : Payload) → is_report c payload ≡ true → IsSettled c (awaited_view a) → IsAwaiting (awaited_view a) → (z : List Payload) → rest_of c (awaited_view a) (payload ∷ z) ≡ rest_of c (awaited_view a) z
 unfolding one_result rows next_payload
 passed c awaiting.First payload h settled some z = rw h refl
-passed c (awaiting.Columns left these) payload h settled some z = passed_columns c left (column_views these.items) payload h settled z
+passed c (awaiting.Columns left these) payload h settled some z = passed_group c OfResultSet left (column_views these.items) payload h settled z
 passed c (awaiting.Rows columns rows) payload h settled some z = rw h refl
+passed c (awaiting.Parameters stmt left these) payload h settled some z = passed_group c (OfParameters (prepare_ok_view stmt)) left (column_views these.items) payload h settled z
+passed c (awaiting.PreparedColumns stmt params left these) payload h settled some z =
+    passed_group c (OfPrepared (prepare_ok_view stmt) (column_views params.items)) left (column_views these.items) payload h settled z
 passed c awaiting.Nothing payload h settled some z = absurd some
 
 -- A progress report changes nothing awaited.
 pub report_passes : (c : Context) (a : code.Awaited) (payload : Payload) → is_report c payload ≡ true → IsSettled c (awaited_view a) → IsAwaiting (awaited_view a) → Leads c (λ z. rest_of c (awaited_view a) (payload ∷ z)) payload (Moves [] (awaited_view a))
 report_passes c a payload h settled some = step_awaits c payload (λ z. rest_of c (awaited_view a) (payload ∷ z)) (awaited_view a) (passed c a payload h settled some)
 
-refused_columns : (c : Context) (n : ℕ) (these : List ColumnDefinition) (payload : Payload) → has_report_form c payload ≡ true → is_ok (progress_report_at payload) ≡ false → IsSettled c (Columns n these) → (z : List Payload) → result_set c n these (payload ∷ z) ≡ Unexpected [] BadError (payload ∷ z)
-unfolding result_set column_group columns columns_end next_payload
+refused_columns : (c : Context) (n : ℕ) (these : List ColumnDefinition) (payload : Payload) → has_report_form c payload ≡ true → is_ok (progress_report_at payload) ≡ false → IsGroupSettled c n these → (z : List Payload) → column_group c n these (payload ∷ z) ≡ Unexpected [] BadError (payload ∷ z)
+unfolding column_group columns columns_end next_payload
 refused_columns c zero [] payload h bad settled z = absurd settled
 refused_columns c zero (first ∷ others) payload h bad settled z = rw (settled, h, bad) refl
 refused_columns c (suc n) these payload h bad settled z = rw (h, bad) refl
 
+refused_group : (c : Context) (g : Group) (n : ℕ) (these : List ColumnDefinition) (payload : Payload) → has_report_form c payload ≡ true → is_ok (progress_report_at payload) ≡ false → IsGroupSettled c n these → (z : List Payload) → rest_of c (group_awaited g n these) (payload ∷ z) ≡ Unexpected [] BadError (payload ∷ z)
+refused_group c g n these payload h bad settled z = group_from c g n these (payload ∷ z) (Unexpected [] BadError (payload ∷ z)) (refused_columns c n these payload h bad settled z)
+
 refused : (c : Context) (a : code.Awaited) (payload : Payload) → has_report_form c payload ≡ true → is_ok (progress_report_at payload) ≡ false → IsSettled c (awaited_view a) → IsAwaiting (awaited_view a) → (z : List Payload) → rest_of c (awaited_view a) (payload ∷ z) ≡ Unexpected (listed_of (awaited_view a)) BadError (payload ∷ z)
 unfolding one_result rows next_payload
 refused c awaiting.First payload h bad settled some z = rw (h, bad) refl
-refused c (awaiting.Columns left these) payload h bad settled some z = refused_columns c left (column_views these.items) payload h bad settled z
+refused c (awaiting.Columns left these) payload h bad settled some z = refused_group c OfResultSet left (column_views these.items) payload h bad settled z
 refused c (awaiting.Rows columns rows) payload h bad settled some z = rw (h, bad) refl
+refused c (awaiting.Parameters stmt left these) payload h bad settled some z = refused_group c (OfParameters (prepare_ok_view stmt)) left (column_views these.items) payload h bad settled z
+refused c (awaiting.PreparedColumns stmt params left these) payload h bad settled some z =
+    refused_group c (OfPrepared (prepare_ok_view stmt) (column_views params.items)) left (column_views these.items) payload h bad settled z
 refused c awaiting.Nothing payload h bad settled some z = absurd some
 
 -- A payload in the form of a report that is none has no place.
@@ -169,13 +182,12 @@ roomed_unless before after room payload Memory same goes = tt
 roomed_unless before after room payload fault same goes = roomed before after room payload same goes
 
 -- Memory ran out over a payload.
-pub short_failed : (before after : ReplyState) (same : code.Awaited) (fault : ReplyFault) → after ≡ record before { awaited = same; fault = Some fault } → awaited_view same ≡ awaited_view before.awaited → OnMemory {X = Unit {0}} (Err fault) (IsShortOf before after)
-short_failed before after same Memory is awaited =
-    ap standing_of is ∙ ap (λ a. Answered (record { results = outcome_views before.results.items ++ listed_of a; progress = map progress_report_view before.progress.items; end = FaultAt before.count Memory })) awaited
-short_failed before after same fault is awaited = tt
+short_failed : (before after : ReplyState) (same : code.Awaited) → after ≡ record before { awaited = same; fault = Some Memory } → listed_of (awaited_view same) ≡ listed_of (awaited_view before.awaited) → IsShortOf before after
+short_failed before after same is listed =
+    ap standing_of is ∙ ap (λ these. Answered (record { results = outcome_views before.results.items ++ these; progress = map progress_report_view before.progress.items; end = FaultAt before.count Memory })) listed
 
 pub step_short : (before after : ReplyState) (same : code.Awaited) (payload : Payload) (fault : ReplyFault) → after ≡ record before { awaited = same; fault = Some fault } → IsStep before.context (awaited_view before.awaited) payload (Failed same fault) → OnMemory {X = Unit {0}} (Err fault) (IsShortOf before after)
-step_short before after same payload Memory is step = short_failed before after same Memory is step
+step_short before after same payload Memory is step = short_failed before after same is step.listed
 step_short before after same payload fault is step = tt
 
 -- The same, over a list with more room.
@@ -183,3 +195,16 @@ pub short_roomed : (before after : ReplyState) (room : Vec ReplyResult Global) (
 short_roomed before after room Memory same short =
     short ∙ ap (λ items. Answered (record { results = outcome_views items ++ listed_of (awaited_view before.awaited); progress = map progress_report_view before.progress.items; end = FaultAt before.count Memory })) same
 short_roomed before after room fault same short = tt
+
+has_room : (a : code.Awaited) (results : Vec ReplyResult Global) → vec_len results < vec_capacity results → HasRoom a results
+has_room awaiting.First results room = tt
+has_room (awaiting.Columns left these) results room = tt
+has_room (awaiting.Rows columns these) results room = room
+has_room (awaiting.Parameters stmt left these) results room = tt
+has_room (awaiting.PreparedColumns stmt params left these) results room = tt
+has_room awaiting.Nothing results room = tt
+
+-- A step that failed leaves what every state keeps.
+pub reading_failed : (before after : ReplyState) (same : code.Awaited) (payload : Payload) (fault : ReplyFault) → after ≡ record before { awaited = same; fault = Some fault } → IsSettled before.context (awaited_view before.awaited) → vec_len before.results < vec_capacity before.results → IsStep before.context (awaited_view before.awaited) payload (Failed same fault) → IsReading after
+reading_failed before after same payload fault is settled room step =
+    subst IsReading (sym is) (record { settled = failed_settled before.context (awaited_view before.awaited) payload same fault settled step; room = has_room same before.results room })

@@ -4,8 +4,12 @@
 use Rattle.std.specs.Prelude.{ℕ, zero, suc, List, [], ◌∷◌, ◌++◌, length, take, drop, Bool, true, false, Option, Some, None, Result, Ok, Err, nat_lt, ◌==◌, ◌&&◌, if◌then◌else◌, is_ok, bytes_eq}
 use Rattle.mysql_wire.specs.Forms.{lenenc_number_at}
 use Rattle.mysql_wire.specs.Wire.{Reading}
-use Rattle.mysql_cells.specs.declared.value.Value.{Value}
-use Rattle.mysql_packets.specs.Packets.{OkPacket, ErrPacket, PrepareOk, ColumnDefinition, ok_packet_at, old_eof_at, result_set_terminator_at, err_packet_at, progress_report_at, prepare_ok_at, column_at, text_row_at, binary_row_at, deprecate_eof, progress_obsolete, more_results_exist}
+use Rattle.mysql_wire.specs.Flags.{contains}
+use Rattle.mysql_ok_packets.specs.OkPackets.{OkPacket, ok_packet_at, old_eof_at, result_set_terminator_at, more_results_exist}
+pub use Rattle.mysql_packets.specs.Packets.{progress_obsolete}
+use Rattle.mysql_packets.specs.Packets.{PrepareOk, ServerError, error_at, progress_report_at, prepare_ok_at}
+use Rattle.mysql_columns.specs.Columns.{ColumnDefinition, column_at}
+use Rattle.mysql_rows.specs.Rows.{Row, as_row, text_row_at, binary_resultset_row_at}
 use Rattle.mysql_replies.specs.declared.context.ReplyKind.{ReplyKind}
 use Rattle.mysql_replies.specs.declared.context.ReplyKind.TheVariants.{Binary, Prepare}
 use Rattle.mysql_replies.specs.declared.context.Context.{Context}
@@ -15,12 +19,16 @@ use Rattle.mysql_replies.specs.declared.fault.ReplyFault.TheVariants.{BadHeader,
 abbrev pub Payload : Type 0
 Payload = List ℕ
 
+-- Capabilities, by their flags.
+abbrev pub deprecate_eof : ℕ → Bool
+deprecate_eof capabilities = contains capabilities 0x1000000
+
 -- A result of a reply. Rows without a terminator ended by an error, or haven't ended.
 pub data Outcome : Type 0 where
   OkResult : OkPacket → Outcome
-  RowsResult : List ColumnDefinition → List (List Value) → Option OkPacket → Outcome
+  RowsResult : List ColumnDefinition → List Row → Option OkPacket → Outcome
   PreparedResult : PrepareOk → List ColumnDefinition → List ColumnDefinition → Outcome
-  ErrorResult : ErrPacket → Outcome
+  ErrorResult : ServerError → Outcome
   FileResult : List ℕ → Outcome
 
 -- What a part of the grammar makes of a list of payloads.
@@ -104,18 +112,18 @@ column_group c n these payloads = do
 
 -- What may stand in a row's place.
 pub data Line : Type 0 where
-  RowLine : List Value → Line
+  RowLine : Row → Line
   TerminatorLine : OkPacket → Line
-  ErrorLine : ErrPacket → Line
+  ErrorLine : ServerError → Line
 
 abbrev pub is_binary : ReplyKind → Bool
 is_binary Binary = true
 is_binary kind = false
 
 -- A row, by the kind of the command.
-abbrev pub row : Context → List ColumnDefinition → Payload → Result (List Value) ReplyFault
+abbrev pub row : Context → List ColumnDefinition → Payload → Result Row ReplyFault
 row c columns payload =
-    whole_or_fault BadRow (if is_binary c.kind then binary_row_at columns payload else text_row_at columns payload)
+    whole_or_fault BadRow (as_row columns (if is_binary c.kind then binary_resultset_row_at columns payload else text_row_at columns payload))
 
 -- A terminator: the OK packet with fe with DEPRECATE_EOF, else the EOF packet.
 abbrev pub terminator : Context → Payload → Result OkPacket ReplyFault
@@ -134,7 +142,7 @@ begins_with b (first ∷ rest) = first == b
 -- A payload in a row's place: an error, a terminator or a row.
 abbrev pub line : Context → List ColumnDefinition → Payload → Result Line ReplyFault
 line c columns payload =
-    if begins_with 255 payload then map_ok ErrorLine (or_fault BadError (err_packet_at c.capabilities.0 payload))
+    if begins_with 255 payload then map_ok ErrorLine (or_fault BadError (error_at c.capabilities.0 payload))
     else if begins_with 254 payload && nat_lt (length payload) (terminator_limit c)
     then map_ok TerminatorLine (terminator c payload)
     else map_ok RowLine (row c columns payload)
@@ -145,8 +153,8 @@ pub record Stretch : Type 0 where
   pub more : Bool
 
 -- What a line means after these rows: a row goes on, a terminator or an error ends them.
-abbrev pub after_rows : List ColumnDefinition → List (List Value) → (List Value → Part Stretch) → Result Line ReplyFault → Payload → List Payload → Part Stretch
-after_rows columns rows on (Ok (RowLine cells)) payload rest = on cells
+abbrev pub after_rows : List ColumnDefinition → List Row → (Row → Part Stretch) → Result Line ReplyFault → Payload → List Payload → Part Stretch
+after_rows columns rows on (Ok (RowLine found)) payload rest = on found
 after_rows columns rows on (Ok (TerminatorLine ok)) payload rest =
     Stands (record { results = RowsResult columns rows (Some ok) ∷ []; more = more_results_exist ok.status_flags }) rest
 after_rows columns rows on (Ok (ErrorLine error)) payload rest =
@@ -155,11 +163,11 @@ after_rows columns rows on (Err fault) payload rest =
     Unexpected (RowsResult columns rows None ∷ []) fault (payload ∷ rest)
 
 -- The rows after these, to their terminator or an error.
-unfoldable pub rows : Context → List ColumnDefinition → List (List Value) → List Payload → Part Stretch
+unfoldable pub rows : Context → List ColumnDefinition → List Row → List Payload → Part Stretch
 rows c columns these [] = Begun (RowsResult columns these None ∷ [])
 rows c columns these (payload ∷ rest) =
     if is_report c payload then rows c columns these rest
-    else after_rows columns these (λ cells. rows c columns (these ++ cells ∷ []) rest) (unless_report c (line c columns) payload) payload rest
+    else after_rows columns these (λ found. rows c columns (these ++ found ∷ []) rest) (unless_report c (line c columns) payload) payload rest
 
 -- A result set after its count: n more columns after these, the EOF that is due, and the rows.
 unfoldable pub result_set : Context → ℕ → List ColumnDefinition → List Payload → Part Stretch
@@ -182,7 +190,7 @@ prepared c statement n these payloads = do
 -- What the first payload of a result may be.
 pub data Opening : Type 0 where
   OkOpening : OkPacket → Opening
-  ErrorOpening : ErrPacket → Opening
+  ErrorOpening : ServerError → Opening
   FileOpening : List ℕ → Opening
   CountOpening : ℕ → Opening
   StatementOpening : PrepareOk → Opening
@@ -199,7 +207,7 @@ count_within (Err e) = Err BadCount
 -- The first payload of a result, by its first byte.
 abbrev pub opening : Context → Payload → Result Opening ReplyFault
 opening c payload =
-    if begins_with 255 payload then map_ok ErrorOpening (or_fault BadError (err_packet_at c.capabilities.0 payload))
+    if begins_with 255 payload then map_ok ErrorOpening (or_fault BadError (error_at c.capabilities.0 payload))
     else if is_prepare c.kind then
     (if begins_with 0 payload then map_ok StatementOpening (or_fault BadPrepare (prepare_ok_at payload)) else Err BadHeader)
     else if begins_with 0 payload then map_ok OkOpening (or_fault BadOk (ok_packet_at c.capabilities.0 payload))

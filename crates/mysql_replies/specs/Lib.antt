@@ -5,3 +5,4 @@ pub mod Holding
 pub mod Views
 pub mod Steps
 pub mod Standings
+pub mod Manual

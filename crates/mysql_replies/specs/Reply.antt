@@ -3,8 +3,9 @@
 -- "ERR_Packet".
 use Rattle.std.specs.Prelude.{◌≡◌, ℕ, ◌+◌, ◌-◌, List, [], ◌∷◌, ◌++◌, length, take, false, Ok, Err, if◌then◌else◌}
 use Rattle.mysql_wire.specs.Wire.{Reading}
-use Rattle.mysql_cells.specs.declared.value.Value.{Value}
-use Rattle.mysql_packets.specs.Packets.{ProgressReport, PrepareOk, ColumnDefinition, progress_report_at}
+use Rattle.mysql_rows.specs.Rows.{Row}
+use Rattle.mysql_packets.specs.Packets.{ProgressReport, PrepareOk, progress_report_at}
+use Rattle.mysql_columns.specs.Columns.{ColumnDefinition}
 use Rattle.mysql_replies.specs.declared.fault.ReplyFault.{ReplyFault}
 use Rattle.mysql_replies.specs.declared.fault.ReplyFault.TheVariants as faults
 use Rattle.mysql_replies.specs.declared.fault.ReplyFault.TheVariants.{AfterEnd}
@@ -67,7 +68,7 @@ pub data Awaited : Type 0 where
   -- Of a result set: n more columns after these, and all that follows them.
   Columns : ℕ → List ColumnDefinition → Awaited
   -- Rows after these, under these columns.
-  Rows : List ColumnDefinition → List (List Value) → Awaited
+  Rows : List ColumnDefinition → List Row → Awaited
   -- Of a prepared reply: n more parameters after these, and all that follows them.
   Parameters : PrepareOk → ℕ → List ColumnDefinition → Awaited
   -- Of a prepared reply: n more columns after these.

@@ -1,6 +1,6 @@
 -- Words of the reader's own body, which no public call's clause has: what the code holds of a reply, as what stands of it.
 -- MySQL: Client/Server Protocol, "COM_QUERY Response" and "MySQL Packets".
-use Rattle.std.specs.Prelude.{◌≡◌, ℕ, ◌<◌, List, [], ◌∷◌, ◌++◌, map, Option, Some, None, Result, Err, false, Vec, vec_len, vec_capacity}
+use Rattle.std.specs.Prelude.{◌≡◌, ℕ, ◌<◌, List, [], ◌∷◌, ◌++◌, map, Option, Some, None, Result, Err, Vec, vec_len, vec_capacity}
 use Rattle.std.specs.declared.alloc.Global.{Global}
 use Rattle.mysql_packets.specs.Views.{progress_report_view}
 use Rattle.mysql_wire.specs.Codec.{Codec, CanGoOn, IsBetween, held, packet_number}
@@ -18,7 +18,7 @@ use Rattle.mysql_replies.specs.declared.results.ReplyResult.{ReplyResult}
 use Rattle.mysql_replies.specs.declared.awaited.Awaited.{Awaited}
 use Rattle.mysql_replies.specs.declared.awaited.Awaited.TheVariants as awaiting
 use Rattle.mysql_replies.specs.declared.state.ReplyState.{ReplyState}
-use Rattle.mysql_replies.specs.Grammar.{Payload, is_binary, is_prepare}
+use Rattle.mysql_replies.specs.Grammar.{Payload}
 use Rattle.mysql_replies.specs.Reply.{Answer, PayloadsDecide, Progressing, Standing, GoingOn, Answered, FaultAt, End, Whole, Unfinished}
 use Rattle.mysql_replies.specs.Reply as reply
 use Rattle.mysql_replies.specs.Bytes.{NumberedPayloadsDecide}
@@ -52,10 +52,8 @@ abbrev pub HasRoom : Awaited → Vec ReplyResult Global → Type 0
 HasRoom (awaiting.Rows columns rows) results = vec_len results < vec_capacity results
 HasRoom awaited results = Unit {0}
 
--- What every state of a text reply keeps.
+-- What every state keeps.
 pub record IsReading (s : ReplyState) : Type 0 where
-  pub text : is_binary s.context.kind ≡ false
-  pub unprepared : is_prepare s.context.kind ≡ false
   pub settled : IsSettled s.context (awaited_view s.awaited)
   pub room : HasRoom s.awaited s.results
 

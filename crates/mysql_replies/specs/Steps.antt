@@ -1,17 +1,22 @@
 -- Words of the reader's own body, which no public call's clause has: what one more payload leads to.
 -- MySQL: Client/Server Protocol, "COM_QUERY Response" and "Text Resultset".
-use Rattle.std.specs.Prelude.{◌≡◌, ◌≢◌, zero, suc, List, [], ◌∷◌, ◌++◌, false, None}
-use Rattle.mysql_packets.specs.Packets.{deprecate_eof}
+use Rattle.std.specs.Prelude.{◌≡◌, ℕ, zero, suc, List, [], ◌∷◌, ◌++◌, false, None}
+use Rattle.mysql_columns.specs.Columns.{ColumnDefinition}
+use Rattle.mysql_packets.specs.Packets.{PrepareOk}
+use Rattle.mysql_packets.specs.Views.{prepare_ok_view}
+use Rattle.mysql_replies.specs.Grammar.{deprecate_eof}
 use Rattle.mysql_replies.specs.declared.context.Context.{Context}
 use Rattle.mysql_replies.specs.declared.fault.ReplyFault.{ReplyFault}
 use Rattle.mysql_replies.specs.declared.fault.ReplyFault.TheVariants.{Memory}
+use Rattle.mysql_replies.specs.declared.awaited.ColumnGroup.{ColumnGroup}
+use Rattle.mysql_replies.specs.declared.awaited.ColumnGroup.TheVariants as groups
 use Rattle.mysql_replies.specs.declared.awaited.Listed.{Listed}
 use Rattle.mysql_replies.specs.declared.awaited.Listed.TheVariants as listed
 use Rattle.mysql_replies.specs.declared.awaited.Stepped.{Stepped}
 use Rattle.mysql_replies.specs.declared.awaited.Stepped.TheVariants.{Moved, Failed}
-use Rattle.mysql_replies.specs.Grammar.{Payload, Outcome, RowsResult, Part, Stretch, Ending, Ended, Wrong, Results}
-use Rattle.mysql_replies.specs.Reply.{Awaited, Columns, Rows, Nothing, rest_of}
-use Rattle.mysql_replies.specs.Views.{outcome_view, awaited_view}
+use Rattle.mysql_replies.specs.Grammar.{Payload, Outcome, RowsResult, PreparedResult, Part, Stands, Stretch, Ending, Ended, Wrong, Results, rows, prepared_columns}
+use Rattle.mysql_replies.specs.Reply.{Awaited, Columns, Rows, Parameters, PreparedColumns, Nothing, rest_of}
+use Rattle.mysql_replies.specs.Views.{outcome_view, awaited_view, column_views}
 
 -- What a payload leads to: these results stand and that is awaited; these results stand and the payload has
 -- no place; or these results stand, and the payload follows the last of them.
@@ -20,18 +25,52 @@ pub data Move : Type 0 where
   Fails : List Outcome → ReplyFault → Move
   Over : List Outcome → Move
 
+-- What q makes of the payloads to come: these results, and then what is made of them where that is awaited.
+abbrev pub GoesOnTo : Context → (List Payload → Part Stretch) → List Outcome → Awaited → Type 0
+GoesOnTo c q results awaited =
+    (z : List Payload) (others : List Outcome) (ending : Ending) → Results c (rest_of c awaited z) others ending → Results c (q z) (results ++ others) ending
+
 -- The payload leads there, where q is what it and the payloads after it are read as.
 abbrev pub Leads : Context → (List Payload → Part Stretch) → Payload → Move → Type 0
-Leads c q payload (Moves results awaited) =
-    (z : List Payload) (others : List Outcome) (ending : Ending) → Results c (rest_of c awaited z) others ending → Results c (q z) (results ++ others) ending
+Leads c q payload (Moves results awaited) = GoesOnTo c q results awaited
 Leads c q payload (Fails results fault) = (z : List Payload) → Results c (q z) results (Wrong fault (payload ∷ z))
 Leads c q payload (Over results) = (z : List Payload) → Results c (q z) results (Ended (payload ∷ z))
 
+-- What a group of columns belongs to: a result set, a prepared statement whose parameters they are, or one with these
+-- parameters whose columns they are.
+pub data Group : Type 0 where
+  OfResultSet : Group
+  OfParameters : PrepareOk → Group
+  OfPrepared : PrepareOk → List ColumnDefinition → Group
+
+abbrev pub group_view : ColumnGroup → Group
+group_view groups.ResultSet = OfResultSet
+group_view (groups.Parameters stmt) = OfParameters (prepare_ok_view stmt)
+group_view (groups.Prepared stmt params) = OfPrepared (prepare_ok_view stmt) (column_views params.items)
+
+-- n more columns of the group after these are awaited, and all that follows them.
+abbrev pub group_awaited : Group → ℕ → List ColumnDefinition → Awaited
+group_awaited OfResultSet n these = Columns n these
+group_awaited (OfParameters statement) n these = Parameters statement n these
+group_awaited (OfPrepared statement parameters) n these = PreparedColumns statement parameters n these
+
+-- What follows a group of these columns.
+abbrev pub after_group : Context → Group → List ColumnDefinition → List Payload → Part Stretch
+after_group c OfResultSet columns payloads = rows c columns [] payloads
+after_group c (OfParameters statement) columns payloads = prepared_columns c statement columns statement.num_columns [] payloads
+after_group c (OfPrepared statement parameters) columns payloads = Stands (record { results = PreparedResult statement parameters columns ∷ []; more = false }) payloads
+
+-- Another payload is needed before the group of columns stands.
+abbrev pub IsGroupSettled : Context → ℕ → List ColumnDefinition → Type 0
+IsGroupSettled c zero [] = ⊥
+IsGroupSettled c zero (first ∷ others) = deprecate_eof c.capabilities.0 ≡ false
+IsGroupSettled c (suc n) these = Unit {0}
+
 -- Another payload is needed before anything more stands.
 abbrev pub IsSettled : Context → Awaited → Type 0
-IsSettled c (Columns zero []) = ⊥
-IsSettled c (Columns zero (first ∷ others)) = deprecate_eof c.capabilities.0 ≡ false
-IsSettled c (Columns (suc n) these) = Unit {0}
+IsSettled c (Columns n these) = IsGroupSettled c n these
+IsSettled c (Parameters statement n these) = IsGroupSettled c n these
+IsSettled c (PreparedColumns statement parameters n these) = IsGroupSettled c n these
 IsSettled c awaited = Unit {0}
 
 -- A result is awaited, or what is still to come of one.
@@ -49,14 +88,20 @@ listed_views listed.None = []
 listed_views (listed.One first) = outcome_view first ∷ []
 listed_views (listed.Two first second) = outcome_view first ∷ outcome_view second ∷ []
 
--- A step leads where it says; a payload without a place, or want of memory, changes nothing.
+-- Where memory ran out over a step: as much is listed of what is awaited.
+pub record LosesNone (c : Context) (before after : Awaited) : Type 0 where
+  pub listed : listed_of after ≡ listed_of before
+  pub settled : IsSettled c after
+
+-- The step moves on from there: these results stand, and that is awaited of what q makes of the payloads to come. Where
+-- memory ran out nothing is listed of what is awaited.
+abbrev pub IsMove : Context → (List Payload → Part Stretch) → Stepped → Type 0
+IsMove c q (Moved listed awaited) = GoesOnTo c q (listed_views listed) (awaited_view awaited) × IsSettled c (awaited_view awaited)
+IsMove c q (Failed awaited fault) = (fault ≡ Memory) × (listed_of (awaited_view awaited) ≡ []) × IsSettled c (awaited_view awaited)
+
+-- A step leads where it says; a payload without a place changes nothing, and want of memory nothing that is listed.
 abbrev pub IsStep : Context → Awaited → Payload → Stepped → Type 0
 IsStep c a payload (Moved listed awaited) =
     Leads c (λ z. rest_of c a (payload ∷ z)) payload (Moves (listed_views listed) (awaited_view awaited)) × IsSettled c (awaited_view awaited)
-IsStep c a payload (Failed awaited Memory) = awaited_view awaited ≡ a
+IsStep c a payload (Failed awaited Memory) = LosesNone c a (awaited_view awaited)
 IsStep c a payload (Failed awaited fault) = (awaited_view awaited ≡ a) × Leads c (λ z. rest_of c a (payload ∷ z)) payload (Fails (listed_of a) fault)
-
--- Memory didn't run out over the step.
-abbrev pub HasMemory : Stepped → Type 0
-HasMemory (Moved listed awaited) = Unit {0}
-HasMemory (Failed awaited fault) = fault ≢ Memory

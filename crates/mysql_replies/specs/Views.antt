@@ -3,16 +3,19 @@
 use Rattle.std.specs.Prelude.{◌≡◌, List, map, Result, Ok, Err}
 use Rattle.mysql_wire.specs.WireError.{WireError}
 use Rattle.mysql_wire.specs.WireError.TheVariants as wire
-use Rattle.mysql_cells.specs.declared.value.Value.{Value}
-use Rattle.mysql_packets.specs.Packets.{ColumnDefinition}
-use Rattle.mysql_packets.specs.Views.{ok_packet_view, err_packet_view, progress_report_view, prepare_ok_view, column_view}
+use Rattle.mysql_rows.specs.declared.row.Row.{Row}
+use Rattle.mysql_rows.specs.Rows as rows
+use Rattle.mysql_rows.specs.Views.{row_view, shared_columns}
+use Rattle.mysql_columns.specs.Columns.{ColumnDefinition}
+use Rattle.mysql_ok_packets.specs.Views.{ok_packet_view}
+use Rattle.mysql_packets.specs.Views.{local_infile_view, prepare_ok_view, progress_report_view, server_error_view}
+use Rattle.mysql_columns.specs.Views.{column_view}
 use Rattle.mysql_replies.specs.declared.fault.ReplyFault.{ReplyFault}
 use Rattle.mysql_replies.specs.declared.fault.ReplyFault.TheVariants.{Memory}
 use Rattle.mysql_replies.specs.declared.opening.Opening.{Opening}
 use Rattle.mysql_replies.specs.declared.opening.Opening.TheVariants as openings
-use Rattle.mysql_packets.specs.declared.column.Column.{Column}
-use Rattle.std.specs.Prelude.{Vec, option_map}
-use Rattle.std.specs.declared.alloc.Global.{Global}
+use Rattle.mysql_columns.specs.declared.column.Column.{Column}
+use Rattle.std.specs.Prelude.{option_map}
 use Rattle.mysql_replies.specs.declared.lines.Line.{Line}
 use Rattle.mysql_replies.specs.declared.lines.Line.TheVariants as lines
 use Rattle.mysql_replies.specs.declared.results.ReplyResult.{ReplyResult}
@@ -53,28 +56,28 @@ refused (Err e) fault = Err fault
 
 abbrev pub opening_view : Opening → grammar.Opening
 opening_view (openings.Ok ok) = grammar.OkOpening (ok_packet_view ok)
-opening_view (openings.Error error) = grammar.ErrorOpening (err_packet_view error)
-opening_view (openings.File name) = grammar.FileOpening name.items
+opening_view (openings.Error error) = grammar.ErrorOpening (server_error_view error)
+opening_view (openings.File file) = grammar.FileOpening (local_infile_view file)
 opening_view (openings.Count n) = grammar.CountOpening n
 opening_view (openings.Statement statement) = grammar.StatementOpening (prepare_ok_view statement)
 
 abbrev pub column_views : List Column → List ColumnDefinition
 column_views columns = map column_view columns
 
-abbrev pub row_views : List (Vec Value Global) → List (List Value)
-row_views rows = map (λ row. row.items) rows
+abbrev pub row_views : List Row → List rows.Row
+row_views these = map row_view these
 
 abbrev pub line_view : Line → grammar.Line
-line_view (lines.Row cells) = grammar.RowLine cells.items
+line_view (lines.Row row) = grammar.RowLine (row_view row)
 line_view (lines.Terminator ok) = grammar.TerminatorLine (ok_packet_view ok)
-line_view (lines.Error error) = grammar.ErrorLine (err_packet_view error)
+line_view (lines.Error error) = grammar.ErrorLine (server_error_view error)
 
 abbrev pub outcome_view : ReplyResult → grammar.Outcome
 outcome_view (results.Ok ok) = grammar.OkResult (ok_packet_view ok)
-outcome_view (results.Rows columns rows terminator) = grammar.RowsResult (column_views columns.items) (row_views rows.items) (option_map ok_packet_view terminator)
+outcome_view (results.Rows columns these terminator) = grammar.RowsResult (shared_columns columns) (row_views these.items) (option_map ok_packet_view terminator)
 outcome_view (results.Prepared stmt params columns) = grammar.PreparedResult (prepare_ok_view stmt) (column_views params.items) (column_views columns.items)
-outcome_view (results.Error error) = grammar.ErrorResult (err_packet_view error)
-outcome_view (results.File name) = grammar.FileResult name.items
+outcome_view (results.Error error) = grammar.ErrorResult (server_error_view error)
+outcome_view (results.File file) = grammar.FileResult (local_infile_view file)
 
 abbrev pub outcome_views : List ReplyResult → List grammar.Outcome
 outcome_views results = map outcome_view results
@@ -82,7 +85,9 @@ outcome_views results = map outcome_view results
 abbrev pub awaited_view : Awaited → reply.Awaited
 awaited_view awaiting.First = reply.First
 awaited_view (awaiting.Columns left these) = reply.Columns left (column_views these.items)
-awaited_view (awaiting.Rows columns rows) = reply.Rows (column_views columns.items) (row_views rows.items)
+awaited_view (awaiting.Rows columns these) = reply.Rows (shared_columns columns) (row_views these.items)
+awaited_view (awaiting.Parameters stmt left these) = reply.Parameters (prepare_ok_view stmt) left (column_views these.items)
+awaited_view (awaiting.PreparedColumns stmt params left these) = reply.PreparedColumns (prepare_ok_view stmt) (column_views params.items) left (column_views these.items)
 awaited_view awaiting.Nothing = reply.Nothing
 
 abbrev pub end_view : ReplyEnd → reply.End

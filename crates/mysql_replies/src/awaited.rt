@@ -2,8 +2,10 @@
 
 use crate::fault::ReplyFault;
 use crate::results::ReplyResult;
-use mysql_cells::Value;
-use mysql_packets::Column;
+use mysql_columns::Column;
+use mysql_packets::StmtPacket;
+use mysql_rows::Row;
+use std::rc::RcSlice;
 
 /// What is awaited.
 #[derive(Drop)]
@@ -17,11 +19,35 @@ pub enum Awaited {
     },
     /// Rows after these.
     Rows {
-        columns: Vec<Column>,
-        rows: Vec<Vec<Value>>,
+        columns: RcSlice<Column>,
+        rows: Vec<Row>,
+    },
+    /// So many more parameters of a prepared statement after these, and its columns.
+    Parameters {
+        stmt: StmtPacket,
+        left: u16,
+        these: Vec<Column>,
+    },
+    /// So many more columns of a prepared statement after these.
+    PreparedColumns {
+        stmt: StmtPacket,
+        params: Vec<Column>,
+        left: u16,
+        these: Vec<Column>,
     },
     /// Nothing: the last result stands.
     Nothing,
+}
+
+/// What a group of columns belongs to.
+#[derive(Drop)]
+pub enum ColumnGroup {
+    /// A result set, whose rows follow.
+    ResultSet,
+    /// A prepared statement, whose parameters they are; its columns follow.
+    Parameters(StmtPacket),
+    /// A prepared statement with these parameters, whose columns they are.
+    Prepared(StmtPacket, Vec<Column>),
 }
 
 /// Results that a payload completed.

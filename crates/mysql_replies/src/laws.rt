@@ -3,8 +3,9 @@
 ghost use Rattle.mysql_replies.specs.Reply.{EachHasAnswer, AnswersAgree, EachStandingDecides, StandingsAgree, FreshStandingDecides, StandingGoesOn};
 ghost use Rattle.mysql_replies.specs.Bytes.{AnyBytesHaveAnswer, CuttingsAgree};
 ghost use Rattle.mysql_replies.specs.Holding.{EachReaderDecides, ReadersAgree, FreshReaderDecides};
+ghost use Rattle.mysql_replies.specs.Manual.{EachSuchListIsWhole, OnlySuchListsAreWhole, EachFramingIsWhole, OnlyFramingsAreWhole};
 
-use mysql_wire::laws::one_split;
+use mysql_wire::laws::{one_split, reader_laws};
 
 /// Each list of payloads, with whatever rest, has one answer.
 pub fn each_reply_has_one_answer()
@@ -40,4 +41,19 @@ pub fn each_reader_decides()
     ensures fresh { FreshReaderDecides }
 {
     one_split();
+}
+
+/// A list of payloads has an answer that ends whole exactly where the manual has it as a whole reply: results one after another, and
+/// before any of their payloads progress reports. The answer's results and reports are those.
+pub fn whole_replies_are_results()
+    ensures some { EachSuchListIsWhole }
+    ensures only { OnlySuchListsAreWhole }
+{}
+
+/// Bytes have an answer that ends whole exactly where they are the framings of a whole reply.
+pub fn whole_bytes_are_framed_results()
+    ensures some { EachFramingIsWhole }
+    ensures only { OnlyFramingsAreWhole }
+{
+    reader_laws();
 }

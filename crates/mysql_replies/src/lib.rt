@@ -10,6 +10,7 @@ mod lines;
 mod opening;
 mod reader;
 pub mod results;
+mod row_packets;
 mod state;
 mod steps;
 

@@ -1,54 +1,62 @@
 //! What stands in a column's, an EOF packet's and a row's place.
 
-ghost use Rattle.std.specs.Prelude.{◌≡◌, List, map, length, Ok, Err, false};
-ghost use Rattle.mysql_packets.specs.Views.{ok_packet_view, column_view};
-ghost use Rattle.mysql_packets.specs.Packets.{deprecate_eof};
-ghost use Rattle.mysql_replies.specs.Grammar.{column, eof, terminator, terminator_limit, line, row, is_binary};
-ghost use Rattle.mysql_replies.specs.Views.{Gives, Tells, line_view, column_views};
+ghost use Rattle.std.specs.Prelude.{◌≡◌, List, map, length, Ok, Err, if◌then◌else◌};
+ghost use Rattle.mysql_rows.specs.Views.{shared_columns};
+ghost use Rattle.mysql_ok_packets.specs.OkPackets.{old_eof_at, result_set_terminator_at};
+ghost use Rattle.mysql_ok_packets.specs.Views.{ok_packet_view};
+ghost use Rattle.mysql_wire.specs.Wire.{TellsPart};
+ghost use Rattle.mysql_columns.specs.Views.{column_view};
+ghost use Rattle.mysql_replies.specs.Grammar.{deprecate_eof};
+ghost use Rattle.mysql_replies.specs.Grammar.{column, eof, terminator, terminator_limit, line};
+ghost use Rattle.mysql_replies.specs.Views.{Gives, Tells, line_view};
 
-use crate::context::{Context, ReplyKind};
+use crate::context::Context;
 use crate::fault::ReplyFault;
 use crate::opening::{error_packet, named_of, refused_of, starts_with};
+use crate::row_packets::row_packet;
 use bitflags::Flags;
-use mysql_cells::Value;
+use mysql_columns::Column;
 use mysql_const::{CapabilityFlags, MAX_PAYLOAD_LEN};
-use mysql_packets::column::{Column, column_of};
-use mysql_packets::err_packet::ServerError;
-use mysql_packets::ok_packet::{OkPacket, old_eof_of, result_set_terminator_of};
-use mysql_packets::row::text_cells_of;
-use mysql_wire::{ParseBuf, WireError};
+use mysql_ok_packets::{OkPacket, OkPacketDeserializer, OldEofPacket, ResultSetTerminator};
+use mysql_packets::ServerError;
+use mysql_rows::Row;
+use mysql_wire::{ParseBuf, ParseExt, WireError};
 use std::alloc::Global;
+use std::rc::RcSlice;
 
 /// What may stand in a row's place.
 #[derive(Drop)]
 pub enum Line {
-    Row(Vec<Value>),
-    Terminator(OkPacket),
-    Error(ServerError),
+    Row(Row),
+    Terminator(OkPacket<'static>),
+    Error(ServerError<'static>),
 }
 
 /// A column packet.
 pub fn column_packet(alloc: Global, payload: &[u8]) -> Result<Column, ReplyFault>
     ensures { Gives column_view result (column payload.now) }
 {
-    named_of(
-        column_of(alloc, &mut ParseBuf(payload)),
-        ReplyFault::BadColumn,
-    )
+    named_of(ParseBuf(payload).parse(alloc, ()), ReplyFault::BadColumn)
 }
 
 /// The EOF packet.
-pub fn eof_packet(alloc: Global, payload: &[u8]) -> Result<OkPacket, ReplyFault>
+#[tactic(auto, unfolding(mysql_ok_packets::specs::OkPackets::old_eof_at))]
+pub fn eof_packet<'a>(
+    alloc: Global,
+    context: Context,
+    payload: &'a [u8],
+) -> Result<OkPacket<'a>, ReplyFault>
     ensures { Tells ok_packet_view result (eof payload.now) }
 {
-    if payload.len() < 9 {
-        refused_of(
-            old_eof_of(alloc, &mut ParseBuf(payload)),
-            ReplyFault::BadTerminator,
-        )
-    } else {
-        Err(ReplyFault::BadTerminator)
+    if payload.len() >= 9 {
+        return Err(ReplyFault::BadTerminator);
     }
+    let read = ParseBuf(payload).parse::<OkPacketDeserializer<OldEofPacket>>(
+        alloc,
+        context.capabilities,
+    );
+    let eof = refused_of(read, ReplyFault::BadTerminator)?;
+    Ok(eof.into_inner())
 }
 
 /// No EOF packets are due.
@@ -59,24 +67,38 @@ pub fn deprecates_eof(capabilities: CapabilityFlags) -> bool
     capabilities.contains(CapabilityFlags::CLIENT_DEPRECATE_EOF)
 }
 
+// A terminator, which borrows from the payload.
+#[tactic(auto, unfolding(mysql_ok_packets::specs::OkPackets::old_eof_at, mysql_ok_packets::specs::OkPackets::result_set_terminator_at))]
+fn terminator_of<'a>(
+    alloc: Global,
+    capabilities: CapabilityFlags,
+    buf: &mut ParseBuf<'a>,
+) -> Result<OkPacket<'a>, WireError>
+    ensures { TellsPart ok_packet_view buf.new.0.now result (if deprecate_eof capabilities.0 then result_set_terminator_at capabilities.0 buf.old.0.now else old_eof_at buf.old.0.now) }
+{
+    if deprecates_eof(capabilities) {
+        let read: OkPacketDeserializer<ResultSetTerminator> = buf.parse(alloc, capabilities)?;
+        Ok(read.into_inner())
+    } else {
+        let read: OkPacketDeserializer<OldEofPacket> = buf.parse(alloc, capabilities)?;
+        Ok(read.into_inner())
+    }
+}
+
 /// A terminator.
 fn terminator_packet(
     alloc: Global,
     context: Context,
     payload: &[u8],
-) -> Result<OkPacket, ReplyFault>
+) -> Result<OkPacket<'static>, ReplyFault>
     ensures { Gives ok_packet_view result (terminator context payload.now) }
 {
-    if deprecates_eof(context.capabilities) {
-        named_of(
-            result_set_terminator_of(alloc, context.capabilities, &mut ParseBuf(payload)),
-            ReplyFault::BadTerminator,
-        )
-    } else {
-        named_of(
-            old_eof_of(alloc, &mut ParseBuf(payload)),
-            ReplyFault::BadTerminator,
-        )
+    let mut buf = ParseBuf(payload);
+    let read = terminator_of(alloc, context.capabilities, &mut buf);
+    let ok = refused_of(read, ReplyFault::BadTerminator)?;
+    match ok.into_owned(alloc) {
+        Ok(ok) => Ok(ok),
+        Err(_) => Err(ReplyFault::Memory),
     }
 }
 
@@ -90,39 +112,14 @@ fn limit_of_terminators(context: Context) -> usize
     }
 }
 
-/// A text row.
-fn text_row(
-    alloc: Global,
-    context: Context,
-    columns: &[Column],
-    payload: &[u8],
-) -> Result<Vec<Value>, ReplyFault>
-    requires { is_binary context.kind ≡ false }
-    ensures { Gives (λ cells. cells.items) result (row context (column_views columns.now) payload.now) }
-{
-    let mut buf = ParseBuf(payload);
-    match text_cells_of(alloc, columns.len(), &mut buf) {
-        Ok(cells) => {
-            if buf.is_empty() {
-                Ok(cells)
-            } else {
-                Err(ReplyFault::BadRow)
-            }
-        }
-        Err(WireError::Memory) => Err(ReplyFault::Memory),
-        Err(_) => Err(ReplyFault::BadRow),
-    }
-}
-
 /// A payload in a row's place.
 pub fn line_of(
     alloc: Global,
     context: Context,
-    columns: &[Column],
+    columns: &RcSlice<Column>,
     payload: &[u8],
 ) -> Result<Line, ReplyFault>
-    requires { is_binary context.kind ≡ false }
-    ensures { Gives line_view result (line context (column_views columns.now) payload.now) }
+    ensures { Gives line_view result (line context (shared_columns columns.now) payload.now) }
 {
     if starts_with(payload, 255) {
         let error = error_packet(alloc, context.capabilities, payload)?;
@@ -131,7 +128,7 @@ pub fn line_of(
         let ok = terminator_packet(alloc, context, payload)?;
         Ok(Line::Terminator(ok))
     } else {
-        let cells = text_row(alloc, context, columns, payload)?;
-        Ok(Line::Row(cells))
+        let row = row_packet(alloc, context.kind, columns, payload)?;
+        Ok(Line::Row(row))
     }
 }

@@ -1,10 +1,12 @@
 //! The first payload of a result.
 
-ghost use Rattle.std.specs.Prelude.{◌≡◌, List, length, Ok, Err};
+ghost use Rattle.std.specs.Prelude.{◌≡◌, ◌≤◌, List, length, drop, Ok, Err};
 ghost use Rattle.mysql_replies.specs.Grammar.{opening, or_fault, begins_with, is_prepare, count_within, map_ok};
-ghost use Rattle.mysql_packets.specs.Packets.{ok_packet_at, err_packet_at, prepare_ok_at};
+ghost use Rattle.mysql_ok_packets.specs.OkPackets.{ok_packet_at};
+ghost use Rattle.mysql_packets.specs.Packets.{error_at, prepare_ok_at};
 ghost use Rattle.mysql_wire.specs.Forms.{lenenc_number_at};
-ghost use Rattle.mysql_packets.specs.Views.{ok_packet_view, err_packet_view, prepare_ok_view};
+ghost use Rattle.mysql_ok_packets.specs.Views.{ok_packet_view};
+ghost use Rattle.mysql_packets.specs.Views.{local_infile_view, prepare_ok_view, server_error_view};
 ghost use Rattle.mysql_replies.specs.declared.fault.ReplyFault.TheVariants.{BadOk, BadError, BadPrepare};
 ghost use Rattle.mysql_replies.specs.Grammar as grammar;
 ghost use Rattle.mysql_replies.specs.Views.{Gives, Tells, named, refused, opening_view};
@@ -12,18 +14,19 @@ ghost use Rattle.mysql_replies.specs.Views.{Gives, Tells, named, refused, openin
 use crate::context::{Context, ReplyKind};
 use crate::fault::ReplyFault;
 use mysql_const::CapabilityFlags;
-use mysql_packets::err_packet::{ServerError, server_error_of};
-use mysql_packets::ok_packet::{OkPacket, ok_packet_of};
-use mysql_packets::statement::{StmtPacket, statement_of};
-use mysql_wire::{ParseBuf, WireError};
+use mysql_ok_packets::{CommonOkPacket, OkPacket, OkPacketDeserializer};
+use mysql_packets::err_packet::server_error_of;
+use mysql_packets::{LocalInfilePacket, ServerError, StmtPacket};
+use mysql_wire::{ParseBuf, ParseExt, WireError};
 use std::alloc::Global;
+use std::borrow::CowSlice;
 
 /// What the first payload of a result says.
 #[derive(Drop)]
 pub enum Opening {
-    Ok(OkPacket),
-    Error(ServerError),
-    File(Vec<u8>),
+    Ok(OkPacket<'static>),
+    Error(ServerError<'static>),
+    File(LocalInfilePacket<'static>),
     Count(u16),
     Statement(StmtPacket),
 }
@@ -60,17 +63,20 @@ pub fn starts_with(payload: &[u8], byte: u8) -> bool
 }
 
 /// An OK packet.
+#[tactic(auto, unfolding(mysql_ok_packets::specs::OkPackets::ok_packet_at))]
 pub fn ok_packet(
     alloc: Global,
     capabilities: CapabilityFlags,
     payload: &[u8],
-) -> Result<OkPacket, ReplyFault>
+) -> Result<OkPacket<'static>, ReplyFault>
     ensures { Gives ok_packet_view result (or_fault BadOk (ok_packet_at capabilities.0 payload.now)) }
 {
-    named_of(
-        ok_packet_of(alloc, capabilities, &mut ParseBuf(payload)),
-        ReplyFault::BadOk,
-    )
+    let read = ParseBuf(payload).parse::<OkPacketDeserializer<CommonOkPacket>>(alloc, capabilities);
+    let ok = refused_of(read, ReplyFault::BadOk)?;
+    match ok.into_inner().into_owned(alloc) {
+        Ok(ok) => Ok(ok),
+        Err(_) => Err(ReplyFault::Memory),
+    }
 }
 
 /// An error packet.
@@ -78,13 +84,15 @@ pub fn error_packet(
     alloc: Global,
     capabilities: CapabilityFlags,
     payload: &[u8],
-) -> Result<ServerError, ReplyFault>
-    ensures { Gives err_packet_view result (or_fault BadError (err_packet_at capabilities.0 payload.now)) }
+) -> Result<ServerError<'static>, ReplyFault>
+    ensures { Gives server_error_view result (or_fault BadError (error_at capabilities.0 payload.now)) }
 {
-    named_of(
-        server_error_of(alloc, capabilities, &mut ParseBuf(payload)),
-        ReplyFault::BadError,
-    )
+    let read = server_error_of(alloc, capabilities, &mut ParseBuf(payload));
+    let error = refused_of(read, ReplyFault::BadError)?;
+    match error.into_owned(alloc) {
+        Ok(error) => Ok(error),
+        Err(_) => Err(ReplyFault::Memory),
+    }
 }
 
 /// A statement packet.
@@ -92,9 +100,20 @@ fn statement_packet(alloc: Global, payload: &[u8]) -> Result<StmtPacket, ReplyFa
     ensures { Tells prepare_ok_view result (or_fault BadPrepare (prepare_ok_at payload.now)) }
 {
     refused_of(
-        statement_of(alloc, &mut ParseBuf(payload)),
+        ParseBuf(payload).parse::<StmtPacket>(alloc, ()),
         ReplyFault::BadPrepare,
     )
+}
+
+/// A request for the file of the name behind the first byte. Refused for want of memory alone.
+fn file_packet(alloc: Global, payload: &[u8]) -> Result<LocalInfilePacket<'static>, ReplyFault>
+    requires { 1 ≤ length payload.now }
+    ensures { Gives local_infile_view result (Ok (drop 1 payload.now)) }
+{
+    match Vec::from_slice(alloc, &payload[1..]) {
+        Ok(name) => Ok(LocalInfilePacket::new(CowSlice::Owned(name))),
+        Err(_) => Err(ReplyFault::Memory),
+    }
 }
 
 /// A count of columns.
@@ -139,10 +158,8 @@ pub fn opening_of(alloc: Global, context: Context, payload: &[u8]) -> Result<Ope
         let ok = ok_packet(alloc, context.capabilities, payload)?;
         Ok(Opening::Ok(ok))
     } else if starts_with(payload, 251) {
-        match Vec::from_slice(alloc, &payload[1..]) {
-            Ok(name) => Ok(Opening::File(name)),
-            Err(_) => Err(ReplyFault::Memory),
-        }
+        let file = file_packet(alloc, payload)?;
+        Ok(Opening::File(file))
     } else if payload.is_empty() {
         Err(ReplyFault::BadHeader)
     } else {

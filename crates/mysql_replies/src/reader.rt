@@ -73,7 +73,8 @@ fn take_packets(
 /// Reads a server's reply from the bytes of a connection, in whatever pieces they come. What it holds, beside the
 /// results and the reports that it read, is at most one packet within the limit.
 ///
-/// MySQL: Client/Server Protocol, "COM_QUERY Response" and "Text Resultset".
+/// MySQL: Client/Server Protocol, "COM_QUERY Response", "Text Resultset", "Binary Protocol Resultset" and
+/// "COM_STMT_PREPARE Response".
 #[derive(Drop)]
 pub struct ReplyReader {
     alloc: Global,
@@ -97,7 +98,7 @@ impl Model for ReplyReader {
 
 impl ReplyReader {
     /// A reader of the reply to a command of this kind, of which nothing came yet. The reply's first chunk has the number
-    /// `first_id`; a packet of more than `limit` bytes (at least 4) is a fault. The kind is `Text`.
+    /// `first_id`; a packet of more than `limit` bytes (at least 4) is a fault.
     pub fn new(
         alloc: Global,
         kind: ReplyKind,
@@ -105,7 +106,6 @@ impl ReplyReader {
         first_id: u8,
         limit: usize,
     ) -> ReplyReader
-        requires text { kind ≡ ReplyKind.Text }
         ensures { result ≡ fresh_reader (record { kind = kind; capabilities = capabilities }) first_id limit }
     {
         framing_laws();
@@ -147,7 +147,8 @@ impl ReplyReader {
 /// The reply of these pieces' bytes, one after another: the answer of a [`ReplyReader`] that is fed them. Where memory ran
 /// out its end is Fault(p, Memory), and it has the results and the reports of the first p payloads.
 ///
-/// MySQL: Client/Server Protocol, "COM_QUERY Response" and "Text Resultset".
+/// MySQL: Client/Server Protocol, "COM_QUERY Response", "Text Resultset", "Binary Protocol Resultset" and
+/// "COM_STMT_PREPARE Response".
 pub fn read_reply(
     alloc: Global,
     kind: ReplyKind,
@@ -156,7 +157,6 @@ pub fn read_reply(
     limit: usize,
     pieces: &[&[u8]],
 ) -> Reply
-    requires text { kind ≡ ReplyKind.Text }
     ensures { IsReplyOf (record { kind = kind; capabilities = capabilities }) first_id limit (flat_map (λ piece. piece.now) pieces.now) (answer_view result)
         ⊎ IsShortReplyOf (record { kind = kind; capabilities = capabilities }) first_id limit (flat_map (λ piece. piece.now) pieces.now) (answer_view result) }
 {

@@ -1,9 +1,11 @@
 //! The results of a reply.
 
 use crate::fault::ReplyFault;
-use mysql_cells::Value;
-use mysql_packets::{Column, OkPacket, ProgressReport, ServerError, StmtPacket};
+use mysql_columns::Column;
+use mysql_packets::{LocalInfilePacket, OkPacket, ProgressReport, ServerError, StmtPacket};
+use mysql_rows::Row;
 use std::fmt;
+use std::rc::RcSlice;
 
 /// A result of a reply.
 ///
@@ -11,13 +13,13 @@ use std::fmt;
 #[derive(Debug, Drop)]
 pub enum ReplyResult {
     /// A command that gives no rows was done.
-    Ok(OkPacket),
-    /// Rows under their columns, and the packet that ended them. Without it they ended by an error, which is the next
+    Ok(OkPacket<'static>),
+    /// Rows under their columns, which they share, and the packet that ended them. Without it they ended by an error, which is the next
     /// result, or haven't ended.
     Rows {
-        columns: Vec<Column>,
-        rows: Vec<Vec<Value>>,
-        terminator: Option<OkPacket>,
+        columns: RcSlice<Column>,
+        rows: Vec<Row>,
+        terminator: Option<OkPacket<'static>>,
     },
     /// A statement was prepared.
     Prepared {
@@ -26,9 +28,9 @@ pub enum ReplyResult {
         columns: Vec<Column>,
     },
     /// The command failed, or its rows ended by an error.
-    Error(ServerError),
-    /// The server asks for the file of this name.
-    File(Vec<u8>),
+    Error(ServerError<'static>),
+    /// The server asks for a file of the client.
+    File(LocalInfilePacket<'static>),
 }
 
 /// How a reply ends.
@@ -58,7 +60,7 @@ pub struct Reply {
     /// The results, in order. Rows are listed from when their columns stand.
     pub results: Vec<ReplyResult>,
     /// The progress reports, in order.
-    pub progress: Vec<ProgressReport>,
+    pub progress: Vec<ProgressReport<'static>>,
     /// How the reply ends.
     pub end: ReplyEnd,
 }

@@ -1,10 +1,12 @@
 //! A reply, read payload by payload.
 
 ghost use Rattle.std.specs.Prelude.{◌≡◌, ℕ, ◌<◌, ◌+◌, ◌-◌, ◌^◌, List, [], ◌∷◌, ◌++◌, true, false, None, Some, vec_len, vec_capacity, ◌≤◌, ◌↔◌, IsTrue, length, map, OnOk, IfErr};
-ghost use Rattle.mysql_packets.specs.Packets.{progress_obsolete, progress_report_at};
+ghost use Rattle.mysql_replies.specs.Grammar.{progress_obsolete};
+ghost use Rattle.mysql_packets.specs.Packets.{progress_report_at};
 ghost use Rattle.mysql_packets.specs.Views.{progress_report_view};
+ghost use Rattle.mysql_wire.specs.Wire.{TellsPart};
 ghost use Rattle.mysql_replies.specs.declared.fault.ReplyFault.TheVariants.{BadError};
-ghost use Rattle.mysql_replies.specs.Grammar.{or_fault, is_binary, is_prepare, has_report_form};
+ghost use Rattle.mysql_replies.specs.Grammar.{or_fault, has_report_form};
 ghost use Rattle.mysql_replies.specs.Reply.{fresh};
 ghost use Rattle.mysql_replies.specs.Reply as reply;
 ghost use Rattle.mysql_replies.specs.Views.{Gives, awaited_view, outcome_views, end_view, answer_view};
@@ -12,15 +14,15 @@ ghost use Rattle.mysql_replies.specs.Steps.{IsSettled, IsAwaiting, listed_views,
 ghost use Rattle.mysql_replies.specs.Standings.{standing_of, UnlessMemory, OnMemory, IsReading, IsShortOf, StateGoesOn, NumberedStateGoesOn, HasRoom, end_at, answer_of};
 
 use crate::awaited::{Awaited, Listed, Stepped};
-use crate::context::{Context, ReplyKind};
+use crate::context::Context;
 use crate::fault::ReplyFault;
-use crate::opening::named_of;
+use crate::opening::refused_of;
 use crate::results::{Reply, ReplyEnd, ReplyResult};
 use crate::steps::step;
 use bitflags::Flags;
 use mysql_const::CapabilityFlags;
-use mysql_packets::err_packet::{ProgressReport, report_of};
-use mysql_wire::ParseBuf;
+use mysql_packets::ProgressReport;
+use mysql_wire::{ParseBuf, ParseExt, WireError};
 use std::alloc::Global;
 use std::mem;
 
@@ -29,7 +31,7 @@ use std::mem;
 pub struct ReplyState {
     pub context: Context,
     pub results: Vec<ReplyResult>,
-    pub progress: Vec<ProgressReport>,
+    pub progress: Vec<ProgressReport<'static>>,
     pub count: u64,
     pub awaited: Awaited,
     pub fault: Option<ReplyFault>,
@@ -54,14 +56,26 @@ pub fn is_report_like(context: Context, payload: &[u8]) -> bool
         && payload[2] == 255
 }
 
+// A progress report behind the three bytes of its form, which borrows from the payload.
+#[tactic(auto, unfolding(mysql_packets::specs::Packets::progress_report_at))]
+fn report_of<'a>(alloc: Global, buf: &mut ParseBuf<'a>) -> Result<ProgressReport<'a>, WireError>
+    ensures { TellsPart progress_report_view buf.new.0.now result (progress_report_at buf.old.0.now) }
+{
+    buf.parse::<ParseBuf>(alloc, 3)?;
+    let report: ProgressReport = buf.parse(alloc, ())?;
+    Ok(report)
+}
+
 /// A progress report.
-fn progress_packet(alloc: Global, payload: &[u8]) -> Result<ProgressReport, ReplyFault>
+fn progress_packet(alloc: Global, payload: &[u8]) -> Result<ProgressReport<'static>, ReplyFault>
     ensures { Gives progress_report_view result (or_fault BadError (progress_report_at payload.now)) }
 {
-    named_of(
-        report_of(alloc, &mut ParseBuf(payload)),
-        ReplyFault::BadError,
-    )
+    let read = report_of(alloc, &mut ParseBuf(payload));
+    let report = refused_of(read, ReplyFault::BadError)?;
+    match report.into_owned(alloc) {
+        Ok(report) => Ok(report),
+        Err(_) => Err(ReplyFault::Memory),
+    }
 }
 
 /// Appends a result where there is room for it.
@@ -82,7 +96,7 @@ impl ReplyState {
         ensures fresh { standing_of result ≡ fresh context }
         ensures first { result.awaited ≡ Awaited.First }
         ensures going { result.fault ≡ None }
-        ensures reading { context.kind ≡ ReplyKind.Text → IsReading result }
+        ensures reading { IsReading result }
     {
         ReplyState {
             context,
@@ -225,6 +239,17 @@ fn closed(mut results: Vec<ReplyResult>, awaited: Awaited) -> Vec<ReplyResult>
             results
         }
         Awaited::Columns {
+            left: _,
+            these: _these,
+        } => results,
+        Awaited::Parameters {
+            stmt: _,
+            left: _,
+            these: _these,
+        } => results,
+        Awaited::PreparedColumns {
+            stmt: _,
+            params: _params,
             left: _,
             these: _these,
         } => results,

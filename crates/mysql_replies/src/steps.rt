@@ -1,23 +1,28 @@
 //! What one more payload leads to.
 
 ghost use Rattle.std.specs.Prelude.{◌≡◌, ℕ, ◌<◌, List, map, length, Ok, Err, false, [], ◌∷◌, ◌++◌, if◌then◌else◌, ◌==◌, ◌||◌, ◌&&◌};
-ghost use Rattle.mysql_packets.specs.Packets.{deprecate_eof, more_results_exist};
-ghost use Rattle.mysql_replies.specs.Grammar.{is_binary, is_prepare, has_report_form, one_result, result_set, rows};
+ghost use Rattle.mysql_replies.specs.Grammar.{deprecate_eof};
+ghost use Rattle.mysql_ok_packets.specs.OkPackets.{more_results_exist};
+ghost use Rattle.mysql_packets.specs.Views.{prepare_ok_view};
+ghost use Rattle.mysql_replies.specs.Grammar.{has_report_form, one_result, rows};
 ghost use Rattle.mysql_replies.specs.Reply as reply;
 ghost use Rattle.mysql_replies.specs.Views.{awaited_view, column_views, row_views};
-ghost use Rattle.mysql_replies.specs.Steps.{IsStep, HasMemory, IsSettled, IsAwaiting, Leads, Moves};
+ghost use Rattle.mysql_rows.specs.Views.{shared_columns};
+ghost use Rattle.mysql_replies.specs.Steps.{IsStep, IsMove, IsSettled, IsGroupSettled, IsAwaiting, Leads, Moves, OfParameters, group_view, group_awaited, after_group};
 
-use crate::awaited::{Awaited, Listed, Stepped};
+use crate::awaited::{Awaited, ColumnGroup, Listed, Stepped};
 use crate::context::Context;
 use crate::fault::ReplyFault;
 use crate::lines::{Line, column_packet, deprecates_eof, eof_packet, line_of};
 use crate::opening::{Opening, opening_of};
 use crate::results::ReplyResult;
-use mysql_cells::Value;
+use mysql_columns::Column;
 use mysql_const::StatusFlags;
-use mysql_packets::column::Column;
-use mysql_packets::ok_packet::has_more_results;
+use mysql_ok_packets::ok_packet::has_more_results;
+use mysql_packets::StmtPacket;
+use mysql_rows::Row;
 use std::alloc::Global;
+use std::rc::RcSlice;
 
 /// What is awaited after a result with this status.
 fn awaited_after(status: StatusFlags) -> Awaited
@@ -30,34 +35,100 @@ fn awaited_after(status: StatusFlags) -> Awaited
     }
 }
 
-/// What is awaited where so many columns are left after these.
-fn columns_awaited(alloc: Global, context: Context, left: u16, these: Vec<Column>) -> Awaited
-    ensures settled { IsSettled context (awaited_view result) }
-    ensures same { (z : List (List ℕ)) → reply.rest_of context (awaited_view result) z ≡ result_set context left (column_views these.items) z }
+/// More columns of a group are awaited.
+fn awaited_of_group(group: ColumnGroup, left: u16, these: Vec<Column>) -> Awaited
+    ensures { awaited_view result ≡ group_awaited (group_view group) left (column_views these.items) }
+{
+    match group {
+        ColumnGroup::ResultSet => Awaited::Columns { left, these },
+        ColumnGroup::Parameters(stmt) => Awaited::Parameters { stmt, left, these },
+        ColumnGroup::Prepared(stmt, params) => Awaited::PreparedColumns {
+            stmt,
+            params,
+            left,
+            these,
+        },
+    }
+}
+
+/// What follows the parameters of a prepared statement.
+fn after_parameters(
+    alloc: Global,
+    context: Context,
+    stmt: StmtPacket,
+    params: Vec<Column>,
+) -> Stepped
+    ensures { IsMove context (λ z. after_group context (OfParameters (prepare_ok_view stmt)) (column_views params.items) z) result }
+{
+    let left = stmt.num_columns();
+    let columns = Vec::new(alloc);
+    if left > 0 {
+        let next = Awaited::PreparedColumns {
+            stmt,
+            params,
+            left,
+            these: columns,
+        };
+        Stepped::Moved(Listed::None, next)
+    } else {
+        let result = ReplyResult::Prepared {
+            stmt,
+            params,
+            columns,
+        };
+        Stepped::Moved(Listed::One(result), Awaited::Nothing)
+    }
+}
+
+/// What follows a group that stands.
+fn after_columns(alloc: Global, context: Context, group: ColumnGroup, these: Vec<Column>) -> Stepped
+    ensures { IsMove context (λ z. after_group context (group_view group) (column_views these.items) z) result }
+{
+    match group {
+        ColumnGroup::ResultSet => match RcSlice::from_vec(these) {
+            Ok(columns) => {
+                let rows = Vec::new(alloc);
+                Stepped::Moved(Listed::None, Awaited::Rows { columns, rows })
+            }
+            // The columns are lost; nothing was listed of them.
+            Err(_) => Stepped::Failed(Awaited::First, ReplyFault::Memory),
+        },
+        ColumnGroup::Parameters(stmt) => after_parameters(alloc, context, stmt, these),
+        ColumnGroup::Prepared(stmt, params) => {
+            let result = ReplyResult::Prepared {
+                stmt,
+                params,
+                columns: these,
+            };
+            Stepped::Moved(Listed::One(result), Awaited::Nothing)
+        }
+    }
+}
+
+/// What follows where so many columns of a group are left after these.
+fn columns_awaited(
+    alloc: Global,
+    context: Context,
+    group: ColumnGroup,
+    left: u16,
+    these: Vec<Column>,
+) -> Stepped
+    ensures { IsMove context (λ z. reply.rest_of context (group_awaited (group_view group) left (column_views these.items)) z) result }
 {
     if left > 0 {
-        Awaited::Columns { left, these }
+        Stepped::Moved(Listed::None, awaited_of_group(group, left, these))
     } else if deprecates_eof(context.capabilities) {
-        let rows = Vec::new(alloc);
-        Awaited::Rows {
-            columns: these,
-            rows,
-        }
+        after_columns(alloc, context, group, these)
     } else if these.is_empty() {
-        let rows = Vec::new(alloc);
-        Awaited::Rows {
-            columns: these,
-            rows,
-        }
+        after_columns(alloc, context, group, these)
     } else {
-        Awaited::Columns { left, these }
+        Stepped::Moved(Listed::None, awaited_of_group(group, left, these))
     }
 }
 
 /// The first payload of a result.
 fn first_step(alloc: Global, context: Context, payload: &[u8]) -> Stepped
     requires no_report { has_report_form context payload.now ≡ false }
-    requires unprepared { is_prepare context.kind ≡ false }
     ensures { IsStep context reply.First payload.now result }
 {
     match opening_of(alloc, context, payload) {
@@ -68,77 +139,108 @@ fn first_step(alloc: Global, context: Context, payload: &[u8]) -> Stepped
         Ok(Opening::Error(error)) => {
             Stepped::Moved(Listed::One(ReplyResult::Error(error)), Awaited::Nothing)
         }
-        Ok(Opening::File(name)) => {
-            Stepped::Moved(Listed::One(ReplyResult::File(name)), Awaited::Nothing)
+        Ok(Opening::File(file)) => {
+            Stepped::Moved(Listed::One(ReplyResult::File(file)), Awaited::Nothing)
         }
         Ok(Opening::Count(left)) => {
-            let next = columns_awaited(alloc, context, left, Vec::new(alloc));
-            Stepped::Moved(Listed::None, next)
+            columns_awaited(
+                alloc,
+                context,
+                ColumnGroup::ResultSet,
+                left,
+                Vec::new(alloc),
+            )
         }
-        Ok(Opening::Statement(_)) => unreachable!(),
+        Ok(Opening::Statement(stmt)) => {
+            let left = stmt.num_params();
+            columns_awaited(
+                alloc,
+                context,
+                ColumnGroup::Parameters(stmt),
+                left,
+                Vec::new(alloc),
+            )
+        }
         Err(fault) => Stepped::Failed(Awaited::First, fault),
     }
 }
 
 /// The EOF after the columns.
-fn eof_step(alloc: Global, context: Context, these: Vec<Column>, payload: &[u8]) -> Stepped
+fn eof_step(
+    alloc: Global,
+    context: Context,
+    group: ColumnGroup,
+    these: Vec<Column>,
+    payload: &[u8],
+) -> Stepped
     requires no_report { has_report_form context payload.now ≡ false }
-    requires settled { IsSettled context (reply.Columns 0 (column_views these.items)) }
-    ensures step { IsStep context (reply.Columns 0 (column_views these.items)) payload.now result }
-    ensures memory { HasMemory result }
+    requires settled { IsGroupSettled context 0 (column_views these.items) }
+    ensures { IsStep context (group_awaited (group_view group) 0 (column_views these.items)) payload.now result }
 {
-    let _eof = match eof_packet(alloc, payload) {
+    let _eof = match eof_packet(alloc, context, payload) {
         Ok(eof) => eof,
-        Err(fault) => return Stepped::Failed(Awaited::Columns { left: 0, these }, fault),
+        Err(fault) => return Stepped::Failed(awaited_of_group(group, 0, these), fault),
     };
-    let rows = Vec::new(alloc);
-    Stepped::Moved(
-        Listed::None,
-        Awaited::Rows {
-            columns: these,
-            rows,
-        },
-    )
+    after_columns(alloc, context, group, these)
 }
 
 /// A column.
 fn column_step(
     alloc: Global,
     context: Context,
+    group: ColumnGroup,
     left: u16,
     mut these: Vec<Column>,
     payload: &[u8],
 ) -> Stepped
     requires no_report { has_report_form context payload.now ≡ false }
     requires some { 0 < left }
-    ensures { IsStep context (reply.Columns left (column_views these.items)) payload.now result }
+    ensures { IsStep context (group_awaited (group_view group) left (column_views these.items)) payload.now result }
 {
     let column = match column_packet(alloc, payload) {
         Ok(column) => column,
-        Err(fault) => return Stepped::Failed(Awaited::Columns { left, these }, fault),
+        Err(fault) => return Stepped::Failed(awaited_of_group(group, left, these), fault),
     };
     if these.push(column).is_err() {
-        return Stepped::Failed(Awaited::Columns { left, these }, ReplyFault::Memory);
+        return Stepped::Failed(awaited_of_group(group, left, these), ReplyFault::Memory);
     }
-    let next = columns_awaited(alloc, context, left - 1, these);
-    Stepped::Moved(Listed::None, next)
+    columns_awaited(alloc, context, group, left - 1, these)
+}
+
+/// A column, or the EOF after them.
+fn group_step(
+    alloc: Global,
+    context: Context,
+    group: ColumnGroup,
+    left: u16,
+    these: Vec<Column>,
+    payload: &[u8],
+) -> Stepped
+    requires no_report { has_report_form context payload.now ≡ false }
+    requires settled { IsGroupSettled context left (column_views these.items) }
+    ensures { IsStep context (group_awaited (group_view group) left (column_views these.items)) payload.now result }
+{
+    if left == 0 {
+        eof_step(alloc, context, group, these, payload)
+    } else {
+        column_step(alloc, context, group, left, these, payload)
+    }
 }
 
 /// A row, or what ends the rows.
 fn rows_step(
     alloc: Global,
     context: Context,
-    columns: Vec<Column>,
-    mut rows: Vec<Vec<Value>>,
+    columns: RcSlice<Column>,
+    mut rows: Vec<Row>,
     payload: &[u8],
 ) -> Stepped
     requires no_report { has_report_form context payload.now ≡ false }
-    requires text { is_binary context.kind ≡ false }
-    ensures { IsStep context (reply.Rows (column_views columns.items) (row_views rows.items)) payload.now result }
+    ensures { IsStep context (reply.Rows (shared_columns columns) (row_views rows.items)) payload.now result }
 {
     match line_of(alloc, context, &columns, payload) {
-        Ok(Line::Row(cells)) => {
-            if rows.push(cells).is_err() {
+        Ok(Line::Row(row)) => {
+            if rows.push(row).is_err() {
                 return Stepped::Failed(Awaited::Rows { columns, rows }, ReplyFault::Memory);
             }
             return Stepped::Moved(Listed::None, Awaited::Rows { columns, rows });
@@ -172,8 +274,6 @@ fn rows_step(
 /// What a payload that is no progress report leads to.
 pub fn step(alloc: Global, context: Context, awaited: Awaited, payload: &[u8]) -> Stepped
     requires no_report { has_report_form context payload.now ≡ false }
-    requires text { is_binary context.kind ≡ false }
-    requires unprepared { is_prepare context.kind ≡ false }
     requires settled { IsSettled context (awaited_view awaited) }
     requires awaiting { IsAwaiting (awaited_view awaited) }
     ensures { IsStep context (awaited_view awaited) payload.now result }
@@ -181,11 +281,26 @@ pub fn step(alloc: Global, context: Context, awaited: Awaited, payload: &[u8]) -
     match awaited {
         Awaited::First => first_step(alloc, context, payload),
         Awaited::Columns { left, these } => {
-            if left == 0 {
-                eof_step(alloc, context, these, payload)
-            } else {
-                column_step(alloc, context, left, these, payload)
-            }
+            group_step(alloc, context, ColumnGroup::ResultSet, left, these, payload)
+        }
+        Awaited::Parameters { stmt, left, these } => {
+            group_step(
+                alloc,
+                context,
+                ColumnGroup::Parameters(stmt),
+                left,
+                these,
+                payload,
+            )
+        }
+        Awaited::PreparedColumns {
+            stmt,
+            params,
+            left,
+            these,
+        } => {
+            let group = ColumnGroup::Prepared(stmt, params);
+            group_step(alloc, context, group, left, these, payload)
         }
         Awaited::Rows { columns, rows } => rows_step(alloc, context, columns, rows, payload),
         Awaited::Nothing => unreachable!(),

@@ -26,7 +26,8 @@ use Rattle.mysql_values.specs.AsSql.{FitsFields}
 use Rattle.mysql_values.specs.Cells.{cell, is_unsigned, type_number}
 use Rattle.mysql_commands.specs.Laws.{WrittenCellsAreHeld}
 use Rattle.mysql_null_bitmap.specs.NullBitmap.{is_null_at}
-use Rattle.mysql_session.specs.Commands.{execute_command, is_null, null_bitmap, parameters, type_bytes}
+use Rattle.mysql_values.specs.Values.{is_null}
+use Rattle.mysql_session.specs.Commands.{execute_command, null_bitmap, parameters, type_bytes}
 use Rattle.mysql_session.proofs.NullBits.{bitmap_length, null_at}
 
 bind_from : {A B F : Type 0} (r : Result A F) (f : A → Result B F) (x : A) (y : Result B F) → r ≡ Ok x → f x ≡ y → (r >>= f) ≡ y
@@ -80,19 +81,18 @@ types_read (value ∷ values) rest =
 no_pieces : ℕ → Option (List ℕ)
 no_pieces place = None
 
-held_by : (b : Bool) (nulls : List ℕ) (place : ℕ) (t : ParamType) (bytes : List ℕ) → is_null_at 0 nulls place ≡ b →
-    parameter_at (λ k. None) nulls place t bytes ≡ (if b then Ok (content.Null, bytes) else content_at BadExecute t bytes)
-held_by true nulls place t bytes is = rw is refl
-held_by false nulls place t bytes is = rw is refl
+held_by : (b null : Bool) (t : ParamType) (bytes : List ℕ) → null ≡ b → parameter_at None null t bytes ≡ (if b then Ok (content.Null, bytes) else content_at BadExecute t bytes)
+held_by true null t bytes is = rw is refl
+held_by false null t bytes is = rw is refl
 
 module _ (law : WrittenCellsAreHeld) where
   one_held : (nulls : List ℕ) (place : ℕ) (value : Value) (held : Content) (rest : List ℕ) → FitsFields value → content_of value ≡ Some held → is_null_at 0 nulls place ≡ is_null value →
-      parameter_at (λ k. None) nulls place (type_of value) (cell value ++ rest) ≡ Ok (held, rest)
+      parameter_at None (is_null_at 0 nulls place) (type_of value) (cell value ++ rest) ≡ Ok (held, rest)
   unfolding type_of
   one_held nulls place NULL held rest fits is bit =
-      let e : content.Null ≡ held = cc in held_by true nulls place (record { number = 6; unsigned = false }) rest bit ∙ ap (λ h. Ok (h, rest)) e
+      let e : content.Null ≡ held = cc in held_by true (is_null_at 0 nulls place) (record { number = 6; unsigned = false }) rest bit ∙ ap (λ h. Ok (h, rest)) e
   one_held nulls place value held rest fits is bit =
-      held_by false nulls place (record { number = type_number value; unsigned = is_unsigned value }) (cell value ++ rest) bit ∙ law BadExecute value held rest fits is
+      held_by false (is_null_at 0 nulls place) (record { number = type_number value; unsigned = is_unsigned value }) (cell value ++ rest) bit ∙ law BadExecute value held rest fits is
 
   set_reads : (pieces : ℕ → Option (List ℕ)) → ((k : ℕ) → pieces k ≡ None) → (nulls : List ℕ) (place : ℕ) (values : List Value) (contents : List Content) →
       AllByRecursion (λ value. FitsFields value) values → map content_of values ≡ map Some contents → ((k : ℕ) → k < length values → is_null_at 0 nulls (place + k) ≡ is_null (get_or values k NULL)) →
@@ -107,9 +107,9 @@ module _ (law : WrittenCellsAreHeld) where
       let bit : is_null_at 0 nulls place ≡ is_null value = ap (λ n. is_null_at 0 nulls n) (omega arith) ∙ bits 0 (omega arith) in
       let next : (k : ℕ) → k < length values → is_null_at 0 nulls (place + 1 + k) ≡ is_null (get_or values k NULL) =
       λ k inside. ap (λ n. is_null_at 0 nulls n) (omega arith) ∙ bits (suc k) (omega arith) in
-      bind_from (parameter_at pieces nulls place (type_of value) (cell value ++ flat_map cell values)) (λ first. set_at pieces nulls (place + 1) (map type_of values) first.1 >>= λ others. Ok (first.0 ∷ others))
+      bind_from (parameter_at (pieces place) (is_null_at 0 nulls place) (type_of value) (cell value ++ flat_map cell values)) (λ first. set_at pieces nulls (place + 1) (map type_of values) first.1 >>= λ others. Ok (first.0 ∷ others))
       (held, flat_map cell values) (Ok (held ∷ contents))
-      (ap (λ p. parameter_at (λ k. p) nulls place (type_of value) (cell value ++ flat_map cell values)) (none place) ∙ one_held nulls place value held (flat_map cell values) fit.0 first bit)
+      (ap (λ p. parameter_at p (is_null_at 0 nulls place) (type_of value) (cell value ++ flat_map cell values)) (none place) ∙ one_held nulls place value held (flat_map cell values) fit.0 first bit)
       (bind_from (set_at pieces nulls (place + 1) (map type_of values) (flat_map cell values)) (λ others. Ok (held ∷ others)) contents (Ok (held ∷ contents))
       (set_reads pieces none nulls (place + 1) values contents fit.1 others next) refl)
 

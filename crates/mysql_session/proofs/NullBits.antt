@@ -9,7 +9,8 @@ use Rattle.std.proofs.lemmas.List.FromFn.{get_or-map-range_with_len, length-map-
 use Rattle.mysql_values.specs.Value.{Value}
 use Rattle.mysql_values.specs.Value.TheVariants.{NULL}
 use Rattle.mysql_null_bitmap.specs.NullBitmap.{is_null_at}
-use Rattle.mysql_session.specs.Commands.{is_null, null_bits, null_bitmap}
+use Rattle.mysql_values.specs.Values.{is_null}
+use Rattle.mysql_session.specs.Commands.{null_bits, null_bitmap}
 
 -- 1 for true
 abbrev one_if : Bool → ℕ

@@ -1,13 +1,13 @@
 -- The payloads of the commands that carry a query or its values.
 -- MySQL: Client/Server Protocol, "COM_QUERY", "COM_STMT_PREPARE", "COM_STMT_EXECUTE", "Null-Bitmap".
-use Rattle.std.specs.Prelude.{ℕ, zero, suc, ◌+◌, ◌*◌, ◌/◌, Bool, true, false, if◌then◌else◌, List, [], ◌∷◌, ◌++◌, length, drop, map}
+use Rattle.std.specs.Prelude.{ℕ, zero, suc, ◌+◌, ◌*◌, ◌/◌, if◌then◌else◌, List, [], ◌∷◌, ◌++◌, length, drop, map}
 use Rattle.std.specs.Int.{w32, to_le_bytes}
 use Rattle.std.specs.List.{flat_map, range_with_len}
 use Rattle.mysql_const.specs.Commands.{command_number}
 use Rattle.mysql_const.specs.declared.command.Command.TheVariants.{COM_QUERY, COM_STMT_PREPARE, COM_STMT_EXECUTE}
 use Rattle.mysql_values.specs.Value.{Value}
-use Rattle.mysql_values.specs.Value.TheVariants.{NULL, Bytes, Int, UInt, Float, Double, Date, Time}
 use Rattle.mysql_values.specs.Cells.{cell, is_unsigned, type_number}
+use Rattle.mysql_values.specs.Values.{is_null}
 
 -- a text query: its number, and the text to the end
 abbrev pub query_command : List ℕ → List ℕ
@@ -16,17 +16,6 @@ query_command text = command_number COM_QUERY ∷ text
 -- a prepare: its number, and the query with a question mark for each placeholder
 abbrev pub prepare_command : List ℕ → List ℕ
 prepare_command parsed = command_number COM_STMT_PREPARE ∷ parsed
-
--- whether nothing is sent for the value but its bit
-abbrev pub is_null : Value → Bool
-is_null NULL = true
-is_null (Bytes bytes) = false
-is_null (Int z) = false
-is_null (UInt n) = false
-is_null (Float bits) = false
-is_null (Double bits) = false
-is_null (Date year month day hour minute second micros) = false
-is_null (Time negative days hours minutes seconds micros) = false
 
 -- a bit for each of the first so many values, the first one the lowest: 1 for NULL
 unfoldable pub null_bits : ℕ → List Value → ℕ

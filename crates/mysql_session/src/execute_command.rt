@@ -4,7 +4,8 @@ ghost use Rattle.std.specs.Prelude.{◌≡◌, ◌≤◌, ◌<◌, ◌^◌, ◌+
 ghost use Rattle.std.specs.List.{AllByRecursion};
 ghost use Rattle.mysql_values.specs.AsSql.{FitsFields};
 ghost use Rattle.mysql_values.specs.Cells.{cell};
-ghost use Rattle.mysql_session.specs.Commands.{execute_command, is_null as is_no_value, null_bitmap, null_bits as bits_of, type_bytes};
+ghost use Rattle.mysql_values.specs.Values.{is_null as is_no_value};
+ghost use Rattle.mysql_session.specs.Commands.{execute_command, null_bitmap, null_bits as bits_of, type_bytes};
 
 use mysql_const::Command;
 use mysql_values::Value;

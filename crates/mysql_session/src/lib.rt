@@ -16,10 +16,13 @@ pub use mysql_const::{CapabilityFlags, StatusFlags};
 pub use mysql_convert::{
     FromValue, FromValueError, IntoParams, ToValue, ToValueError, from_value, from_value_opt,
 };
-pub use mysql_packets::{Column, OkPacket, ProgressReport, ServerError, StmtPacket};
+pub use mysql_packets::{
+    Column, LocalInfilePacket, OkPacket, ProgressReport, ServerError, SqlState, StmtPacket,
+};
 pub use mysql_replies::{
     Reply, ReplyEnd, ReplyFault, ReplyKind, ReplyReader, ReplyResult, read_reply,
 };
+pub use mysql_rows::{ColumnIndex, Row};
 pub use mysql_values::{
     ByteString, Content, MissingNamedParameterError, Params, ParamsConfusionError, ParamsError,
     SetError, Value,

@@ -1,7 +1,8 @@
 //! What replies of servers say.
 
 use crate::audits::joined;
-use mysql_packets::{OkPacket, ProgressReport, ServerError};
+use mysql_packets::{LocalInfilePacket, OkPacket, ProgressReport, ServerError, StmtPacket};
+use mysql_rows::Row as RowOf;
 use mysql_session::{
     CapabilityFlags, Reply, ReplyEnd, ReplyFault, ReplyKind, ReplyReader, ReplyResult, StatusFlags,
     Value, read_reply,
@@ -12,6 +13,9 @@ use tests_support::Assert;
 /// The cells of a row that are expected. None is NULL.
 pub type Cells = &'static [Option<&'static [u8]>];
 
+/// The numbers of a row that are expected. None is NULL.
+pub type Numbers = &'static [Option<i64>];
+
 /// A result that is expected.
 #[derive(Clone, Copy)]
 pub enum Expected {
@@ -19,8 +23,12 @@ pub enum Expected {
     Ok(u64, StatusFlags),
     /// How many columns there are, the rows, and the server's status behind them.
     Rows(usize, &'static [Cells], Option<StatusFlags>),
+    /// The same of rows of numbers.
+    NumberRows(usize, &'static [Numbers], Option<StatusFlags>),
+    /// The statement's id, how many parameters it has, and how many columns.
+    Prepared(u32, usize, usize),
     /// The code, the state and the message.
-    Error(u16, &'static [u8], &'static [u8]),
+    Error(u16, [u8; 5], &'static [u8]),
     /// The file's name.
     File(&'static [u8]),
 }
@@ -40,32 +48,64 @@ fn is_ok(packet: &OkPacket, wanted: Expected) -> bool {
     }
 }
 
-fn meets(cell: &Value, wanted: Option<&[u8]>) -> bool {
+fn meets(cell: Option<&Value>, wanted: Option<&[u8]>) -> bool {
     match cell {
-        Value::NULL => wanted.is_none(),
-        Value::Bytes(bytes) => wanted == Some(bytes.as_slice()),
+        Some(Value::NULL) => wanted.is_none(),
+        Some(Value::Bytes(bytes)) => wanted == Some(bytes.as_slice()),
         _ => false,
     }
 }
 
-fn is_row(row: &[Value], wanted: Cells) -> bool {
+fn is_row(row: &RowOf, wanted: Cells) -> bool {
     if row.len() != wanted.len() {
         return false;
     }
     for i in 0..wanted.len() {
-        if !meets(&row[i], wanted[i]) {
+        if !meets(row.as_ref(i), wanted[i]) {
             return false;
         }
     }
     true
 }
 
-fn are_rows(rows: &[Vec<Value>], wanted: &[Cells]) -> bool {
+fn are_rows(rows: &[RowOf], wanted: &[Cells]) -> bool {
     if rows.len() != wanted.len() {
         return false;
     }
     for i in 0..wanted.len() {
-        if !is_row(rows[i].as_slice(), wanted[i]) {
+        if !is_row(&rows[i], wanted[i]) {
+            return false;
+        }
+    }
+    true
+}
+
+fn is_number(cell: Option<&Value>, wanted: Option<i64>) -> bool {
+    match cell {
+        Some(Value::NULL) => wanted.is_none(),
+        Some(Value::Int(number)) => wanted == Some(*number),
+        _ => false,
+    }
+}
+
+fn has_numbers(row: &RowOf, wanted: Numbers) -> bool {
+    if row.len() != wanted.len() {
+        return false;
+    }
+    for i in 0..wanted.len() {
+        if !is_number(row.as_ref(i), wanted[i]) {
+            return false;
+        }
+    }
+    true
+}
+
+fn have_numbers(rows: &[RowOf], wanted: &[Numbers]) -> bool {
+    if rows.len() != wanted.len() {
+        return false;
+    }
+    for i in 0..wanted.len() {
+        if !has_numbers(&rows[i], wanted[i]) {
             return false;
         }
     }
@@ -81,13 +121,16 @@ fn status_of(terminator: &Option<OkPacket>) -> Option<StatusFlags> {
 
 fn is_result_set(
     columns: usize,
-    rows: &[Vec<Value>],
+    rows: &[RowOf],
     status: Option<StatusFlags>,
     wanted: Expected,
 ) -> bool {
     match wanted {
         Expected::Rows(count, cells, behind) => {
             columns == count && status == behind && are_rows(rows, cells)
+        }
+        Expected::NumberRows(count, cells, behind) => {
+            columns == count && status == behind && have_numbers(rows, cells)
         }
         _ => false,
     }
@@ -97,16 +140,25 @@ fn is_error(error: &ServerError, wanted: Expected) -> bool {
     match wanted {
         Expected::Error(code, state, message) => {
             (error.error_code() == code)
-                & (error.sql_state_ref() == Some(state))
+                & (error.sql_state_ref().map(|state| state.as_bytes()) == Some(state))
                 & (error.message_ref() == message)
         }
         _ => false,
     }
 }
 
-fn is_file(found: &[u8], wanted: Expected) -> bool {
+fn is_file(found: &LocalInfilePacket, wanted: Expected) -> bool {
     match wanted {
-        Expected::File(name) => found == name,
+        Expected::File(name) => found.file_name_ref() == name,
+        _ => false,
+    }
+}
+
+fn is_prepared(stmt: &StmtPacket, params: usize, columns: usize, wanted: Expected) -> bool {
+    match wanted {
+        Expected::Prepared(id, param_count, column_count) => {
+            (stmt.statement_id() == id) & (params == param_count) & (columns == column_count)
+        }
         _ => false,
     }
 }
@@ -119,18 +171,18 @@ fn is_result(found: &ReplyResult, wanted: Expected) -> bool {
             rows,
             terminator,
         } => is_result_set(
-            columns.len(),
+            columns.as_slice().len(),
             rows.as_slice(),
             status_of(terminator),
             wanted,
         ),
         ReplyResult::Error(error) => is_error(error, wanted),
-        ReplyResult::File(name) => is_file(name.as_slice(), wanted),
+        ReplyResult::File(packet) => is_file(packet, wanted),
         ReplyResult::Prepared {
-            stmt: _,
-            params: _,
-            columns: _,
-        } => false,
+            stmt,
+            params,
+            columns,
+        } => is_prepared(stmt, params.len(), columns.len(), wanted),
     }
 }
 
@@ -189,17 +241,16 @@ fn says(assert: &impl Assert, reply: &Reply, wanted: Wanted<'_>) -> bool {
     true
 }
 
-/// The capabilities, and the number that is due first.
-pub type Start = (CapabilityFlags, u8);
+/// The kind of the command, the capabilities, and the number that is due first.
+pub type Start = (ReplyKind, CapabilityFlags, u8);
 
 fn is_read(
     assert: &impl Assert,
     alloc: Global,
-    (capabilities, first_id): Start,
+    (kind, capabilities, first_id): Start,
     stream: &[u8],
     wanted: Wanted<'_>,
 ) -> bool {
-    let kind = ReplyKind::Text;
     let reply = read_reply(alloc, kind, capabilities, first_id, 1000, &[stream]);
     says(assert, &reply, wanted)
 }
@@ -213,11 +264,11 @@ fn feed_bytes(reader: &mut ReplyReader, stream: &[u8]) {
 fn is_read_by_bytes(
     assert: &impl Assert,
     alloc: Global,
-    (capabilities, first_id): Start,
+    (kind, capabilities, first_id): Start,
     stream: &[u8],
     wanted: Wanted<'_>,
 ) -> bool {
-    let mut reader = ReplyReader::new(alloc, ReplyKind::Text, capabilities, first_id, 1000);
+    let mut reader = ReplyReader::new(alloc, kind, capabilities, first_id, 1000);
     feed_bytes(&mut reader, stream);
     says(assert, &reader.finish(), wanted)
 }
@@ -247,15 +298,26 @@ fn assert_packets(
     assert_reads(assert, alloc, start, stream.as_slice(), wanted);
 }
 
-/// Asserts what each of these replies, from the number 1 on, says.
+/// Asserts what each of these replies to a command of this kind, from the number 1 on, says.
+pub fn assert_replies_of(
+    assert: &impl Assert,
+    alloc: Global,
+    kind: ReplyKind,
+    capabilities: CapabilityFlags,
+    rows: &[Row],
+) {
+    for (packets, results, end) in rows {
+        let wanted: Wanted = (&[], results, *end);
+        assert_packets(assert, alloc, (kind, capabilities, 1), packets, wanted);
+    }
+}
+
+/// Asserts what each of these replies to a query, from the number 1 on, says.
 pub fn assert_replies(
     assert: &impl Assert,
     alloc: Global,
     capabilities: CapabilityFlags,
     rows: &[Row],
 ) {
-    for (packets, results, end) in rows {
-        let wanted: Wanted = (&[], results, *end);
-        assert_packets(assert, alloc, (capabilities, 1), packets, wanted);
-    }
+    assert_replies_of(assert, alloc, ReplyKind::Text, capabilities, rows);
 }

@@ -16,15 +16,21 @@ mod expected;
 #[cfg(test)]
 mod faults;
 #[cfg(test)]
+mod kept;
+#[cfg(test)]
 mod large;
 #[cfg(test)]
 mod objects;
+#[cfg(test)]
+mod prepared;
 #[cfg(test)]
 mod program;
 #[cfg(test)]
 mod refusals;
 #[cfg(test)]
 mod replies;
+#[cfg(test)]
+mod resets;
 #[cfg(test)]
 mod rows;
 #[cfg(test)]

@@ -2,7 +2,7 @@
 
 use crate::expected::{Expected, Row, Wanted, assert_reads, assert_replies};
 use crate::support::Asserting;
-use mysql_session::{CapabilityFlags, ReplyEnd, ReplyFault, StatusFlags};
+use mysql_session::{CapabilityFlags, ReplyEnd, ReplyFault, ReplyKind, StatusFlags};
 use std::alloc::Global;
 use tests_support::Assert;
 
@@ -45,7 +45,7 @@ const REPLIES: [Row; 7] = [
     ),
     (
         &[b"\x17\x00\x00\x01\xff\x48\x04#HY000No tables used"],
-        &[Expected::Error(1096, b"HY000", b"No tables used")],
+        &[Expected::Error(1096, *b"HY000", b"No tables used")],
         ReplyEnd::Whole,
     ),
     (
@@ -67,7 +67,7 @@ fn a_progress_report(rt: HostRuntime) {
     assert_reads(
         &Asserting(&rt),
         rt.alloc(),
-        (WITH_PROGRESS, 1),
+        (ReplyKind::Text, WITH_PROGRESS, 1),
         PROGRESS,
         (
             &[(1, 10, 23500, b"stage name")],
@@ -94,7 +94,13 @@ const NUMBERED: [(&[u8], u8, &[Expected], ReplyEnd); 4] = [
 fn numbered_on_from_the_command(rt: HostRuntime) {
     for (stream, id, results, end) in &NUMBERED {
         let wanted: Wanted = (&[], results, *end);
-        assert_reads(&Asserting(&rt), rt.alloc(), (TEXT, *id), stream, wanted);
+        assert_reads(
+            &Asserting(&rt),
+            rt.alloc(),
+            (ReplyKind::Text, TEXT, *id),
+            stream,
+            wanted,
+        );
     }
 }
 
@@ -116,8 +122,8 @@ const BOTH: [Expected; 2] = [
 fn assert_numbered(assert: &impl Assert, alloc: Global, id: u8) {
     let stream = two(id);
     let whole: Wanted = (&[], &BOTH, ReplyEnd::Whole);
-    assert_reads(assert, alloc, (TEXT, id), &stream, whole);
-    let start = (TEXT, id.wrapping_add(1));
+    assert_reads(assert, alloc, (ReplyKind::Text, TEXT, id), &stream, whole);
+    let start = (ReplyKind::Text, TEXT, id.wrapping_add(1));
     assert_reads(assert, alloc, start, &stream, (&[], &[], OUT_OF_SYNC));
 }
 

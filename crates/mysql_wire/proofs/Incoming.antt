@@ -1,13 +1,13 @@
 -- The steps of a reader of packets, from its codec's to what it holds.
-use Rattle.std.proofs.Common.{◌≡◌, ℕ, zero, suc, ◌+◌, ◌-◌, ◌*◌, ◌<◌, ◌≤◌, Bool, true, false, List, [], ◌∷◌, ◌++◌, length, take, drop, refl, ap, sym, ◌∙◌, subst, append_assoc, arith, inl, inr, length-append, length-take, drop-drop}
+use Rattle.std.proofs.Common.{◌≡◌, ◌≢◌, ℕ, zero, suc, ◌+◌, ◌-◌, ◌*◌, ◌<◌, ◌≤◌, Bool, true, false, List, [], ◌∷◌, ◌++◌, length, take, drop, refl, ap, sym, ◌∙◌, subst, append_assoc, arith, inl, inr, length-append, length-take, drop-drop}
 use Rattle.std.specs.Prelude.{Option, Some, None, IfSome, Result, Ok, Err, ◌==◌, ◌||◌, not}
-use Rattle.std.proofs.lemmas.List.{take_all, take_at, drop_at, take-append-drop, append-nil, nil_from_length}
+use Rattle.std.proofs.lemmas.List.{take_all, take_at, drop_at, take-append-drop, append-nil, nil_from_length, length-drop}
 use Rattle.std.proofs.lemmas.Bool.{cases_lt, ne_eqb}
 use Rattle.mysql_wire.specs.Framing.{chunks, framing, number_after}
 use Rattle.mysql_wire.specs.Stream.{Rest, IsRest}
 use Rattle.mysql_wire.specs.Stream.Rest.{Empty, TooLarge, OutOfSync}
 use Rattle.mysql_wire.specs.Codec.{Begun, Codec, codec_at, IsOfPacket, HandsOut, Waits, IsDue, RefusesBy, held, begun_bytes, packet_number, whole_chunks, error_of}
-use Rattle.mysql_wire.specs.Incoming.{Incoming, ReadsOn, codec_by, incoming_at}
+use Rattle.mysql_wire.specs.Incoming.{Incoming, ReadsOn, bytes_kept, codec_by, incoming_at}
 use Rattle.mysql_wire.specs.Reader.{HasRead, IsAnswer}
 use Rattle.mysql_wire.specs.Stream.Numbering.{OnFrom}
 use Rattle.mysql_wire.specs.Kept.{unfinished, handed_out, bytes_of, incoming_of, Stands, IsKept}
@@ -147,8 +147,9 @@ module _ (codec : Codec) (header dst piece : List ℕ) (number : ℕ) (bytes : L
     is_rest = rest_by w.rest w.is_rest;
   }
 
-  pub stands_on : (new : Codec) (header' dst' : List ℕ) → Waits codec (header ++ piece) dst new header' dst' → Stands new header' dst' number (bytes ++ piece)
-  stands_on new header' dst' w = record {
+  pub stands_on : (new : Codec) (header' dst' : List ℕ) → (new.begun ≢ None → header' ≡ []) → Waits codec (header ++ piece) dst new header' dst' → Stands new header' dst' number (bytes ++ piece)
+  stands_on new header' dst' moved w = record {
+    moved = moved;
     goes_on = w.goes_on;
     number_is = w.number ∙ s.number_is;
     held_is = w.held_same ∙ all_held;
@@ -161,6 +162,7 @@ module _ (codec : Codec) (header dst piece : List ℕ) (number : ℕ) (bytes : L
 -- nothing is held between packets
 pub stands_between : (codec : Codec) (header : List ℕ) (number : ℕ) → codec.begun ≡ None → header ≡ [] → packet_number codec [] ≡ number → Stands codec header [] number []
 stands_between codec header number none empty e = record {
+  moved = λ _. empty;
   goes_on = between_goes_on codec [] none refl;
   number_is = e;
   held_is = held_between codec header [] none refl ∙ empty;
@@ -172,6 +174,7 @@ stands_between codec header number none empty e = record {
 -- and then the number is set to 0
 pub stands_reset : (codec : Codec) (header : List ℕ) (number : ℕ) → Stands codec header [] number [] → Stands (record codec { number = 0 }) header [] 0 []
 stands_reset codec header number s = record {
+  moved = s.moved;
   goes_on = s.goes_on;
   number_is = omega arith;
   held_is = held_renumbered codec header 0 ∙ s.held_is;
@@ -267,7 +270,7 @@ module _ (r : Inside) (v : Incoming) (view : incoming_of r ≡ v) (kept : IsKept
             (subst (λ d. IsDue r.codec (r.header ++ piece) d q.refusal) same (q.due fine));
       })
 
-  module _ (fine : r.codec.refused ≡ None) (new : Codec) (header' left packet' : List ℕ) (used : left ≡ []) (w : Waits r.codec (r.header ++ piece) dst new (header' ++ left) packet') where
+  module _ (fine : r.codec.refused ≡ None) (new : Codec) (header' left packet' : List ℕ) (used : left ≡ []) (moved : new.begun ≢ None → header' ≡ []) (w : Waits r.codec (r.header ++ piece) dst new (header' ++ left) packet') where
     abbrev begun : Bool
     begun = r.begun || not (length piece == 0)
 
@@ -279,7 +282,7 @@ module _ (r : Inside) (v : Incoming) (view : incoming_of r ≡ v) (kept : IsKept
     pub waited_on : Waited new header' packet' r.number (bytes ++ piece) begun
     waited_on =
         waited r.begun r.codec r.header r.packet.items piece r.number new header' packet' kept.begun w.refused
-        (stands_on r.codec r.header (unfinished r.begun r.packet.items) piece r.number bytes (kept.stands fine) new header' packet' waits)
+        (stands_on r.codec r.header (unfinished r.begun r.packet.items) piece r.number bytes (kept.stands fine) new header' packet' moved waits)
 
     pub waits_view : Waits (codec_by v) (v.bytes ++ piece) [] (at new r.number) (bytes_of begun new header' packet' ++ left) (handed_out begun packet')
     waits_view =
@@ -324,3 +327,45 @@ waits_on limit id before payloads r new piece rest read w used none =
           (subst (λ l. HasRead limit (OnFrom id) before payloads (codec_by new) (new.bytes ++ rest) l) none found.0),
       found.1,
     )
+
+-- each chunk that is full has four bytes more than it carries
+length-chunks : (payload : List ℕ) (id count : ℕ) → count * 16777215 ≤ length payload → length (chunks payload id count) ≡ count * 16777219
+length-chunks payload id zero h = ap length (chunks-zero payload id)
+length-chunks payload id (suc n) h =
+    let others = chunks (drop 16777215 payload) (id + 1) n in
+    let rest : n * 16777215 ≤ length (drop 16777215 payload) = omega (arith, h, length-drop 16777215 payload) in
+    omega (arith, h, ap length (chunks_first payload id n []), length-append (chunks payload id (suc n)) [], length-chunk id (take 16777215 payload) (others ++ []), length-append others [], length-take 16777215 payload, length-chunks (drop 16777215 payload) (id + 1) n rest)
+
+-- of a packet's bytes its whole chunks and what came of the last one are held, and a header that doesn't stand whole
+pub kept_bytes : (codec : Codec) (header packet : List ℕ) → length header < 4 → IsOfPacket codec.limit codec.begun packet → (codec.begun ≢ None → header ≡ [])
+    → length header + length packet ≡ bytes_kept (length (held codec header packet))
+unfolding held
+kept_bytes codec header packet few fits moved = by codec.begun fits moved
+  where
+    count : ℕ
+    count = whole_chunks packet
+
+    front : List ℕ
+    front = chunks packet (packet_number codec packet) count
+
+    len : length front ≡ count * 16777219
+    len = length-chunks packet (packet_number codec packet) count (omega arith)
+
+    by : (begun : Option Begun) → IsOfPacket codec.limit begun packet → (begun ≢ None → header ≡ []) →
+        length header + length packet ≡ bytes_kept (length (front ++ (begun_bytes begun (drop (count * 16777215) packet) ++ header)))
+    by None fits moved = omega (arith, few, fits.1, len, length-append front header)
+    by (Some begun) fits moved =
+        let part = drop (count * 16777215) packet in
+        let none : header ≡ [] = moved (λ e. cc) in
+        omega (arith, len, ap length none, fits.1, length-append front (begun_bytes (Some begun) part ++ header), length-append part header, length-drop (count * 16777215) packet)
+
+pub kept_view : (r : Inside) (v : Incoming) → incoming_of r ≡ v → IsKept r → r.begun ≡ true → length r.header < 4 → length r.header + length r.packet.items ≡ bytes_kept (length v.bytes)
+kept_view r v view kept holds few = by r.begun holds r.codec.refused refl kept.stands kept.refused ∙ ap (λ (x : Incoming). bytes_kept (length x.bytes)) view
+  where
+    by : (b : Bool) → b ≡ true → (o : Option Refusal) → r.codec.refused ≡ o
+        → (r.codec.refused ≡ None → Stands r.codec r.header (unfinished b r.packet.items) r.number (bytes_of b r.codec r.header r.packet.items))
+        → IfSome r.codec.refused (λ _. (b ≡ false) × (r.packet.items ≡ []))
+        → length r.header + length r.packet.items ≡ bytes_kept (length (bytes_of b r.codec r.header r.packet.items))
+    by false never o is s k = absurd cc
+    by true is_begun None is s k = kept_bytes r.codec r.header r.packet.items few ((s is).goes_on is) (s is).moved
+    by true is_begun (Some x) is s k = absurd (let no : true ≡ false = (subst (λ (o : Option Refusal). IfSome o (λ _. (true ≡ false) × (r.packet.items ≡ []))) is k).0 in cc)

@@ -1,8 +1,9 @@
 -- What a reader of packets holds of a stream that comes in pieces, and what its calls do to it.
 -- (MySQL: Client/Server Protocol, "Protocol Basics: MySQL Packets" and "Sequence ID".)
-use Rattle.std.specs.Prelude.{◌≡◌, ℕ, Bool, true, false, List, [], ◌++◌, length, ◌<◌, Option, Some, None, Result, Ok, Err}
+use Rattle.std.specs.Prelude.{◌≡◌, ℕ, ◌+◌, ◌-◌, ◌*◌, ◌/◌, Bool, true, false, List, [], ◌++◌, length, ◌<◌, Option, Some, None, Result, Ok, Err}
 use Rattle.std.specs.Borrow.{Bor}
 use Rattle.mysql_wire.specs.Codec.{Codec, Decodes, RefusesBy}
+use Rattle.mysql_wire.specs.Framing.{max_payload_len}
 use Rattle.mysql_wire.specs.declared.codec.PacketCodecError.{PacketCodecError}
 use Rattle.mysql_wire.specs.declared.codec.Refusal.{Refusal}
 
@@ -14,6 +15,14 @@ pub record Incoming : Type 0 where
   pub bytes : List ℕ
   pub payload : List ℕ
   pub refused : Option Refusal
+
+-- how many chunk headers stand whole in so many bytes of one packet: each chunk but the last has the most bytes that one carries
+abbrev pub whole_headers : ℕ → ℕ
+whole_headers came = (came + max_payload_len) / (max_payload_len + 4)
+
+-- how many of so many bytes of one packet are held: all but the headers that stand whole
+abbrev pub bytes_kept : ℕ → ℕ
+bytes_kept came = came - 4 * whole_headers came
 
 -- a reader to which nothing came
 abbrev pub incoming_at : ℕ → ℕ → Incoming

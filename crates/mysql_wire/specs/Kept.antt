@@ -1,6 +1,6 @@
 -- Words of the reader's own body, which no public call's clause has: how its fields stand for what it holds, and what is true of them.
 -- (MySQL: Client/Server Protocol, "Protocol Basics: MySQL Packets".)
-use Rattle.std.specs.Prelude.{◌≡◌, ◌==◌, ℕ, Bool, true, false, not, List, [], length, None}
+use Rattle.std.specs.Prelude.{◌≡◌, ◌≢◌, ◌==◌, ℕ, Bool, true, false, not, List, [], length, None}
 use Rattle.std.specs.Option.{IfSome}
 use Rattle.mysql_wire.specs.Codec.{Codec, CanGoOn, held, packet_number}
 use Rattle.mysql_wire.specs.Stream.{Rest, IsRest, IsFault}
@@ -35,6 +35,7 @@ pub record Stands (codec : Codec) (header packet : List ℕ) (number : ℕ) (byt
   pub goes_on : CanGoOn codec packet
   pub number_is : packet_number codec packet ≡ number
   pub held_is : held codec header packet ≡ bytes
+  pub moved : codec.begun ≢ None → header ≡ []
   pub rest : Rest
   pub no_fault : ¬ IsFault rest
   pub is_rest : IsRest codec.limit number bytes rest

@@ -1,6 +1,6 @@
 //! The codec: reads packets from a stream and writes payloads as packets.
 
-ghost use Rattle.std.specs.Prelude.{◌≡◌, ◌++◌, ◌<◌, ◌≤◌, Err, IfErr, IfOk, IfSome, Ok, OnErr, OnOk, false, length};
+ghost use Rattle.std.specs.Prelude.{◌≡◌, ◌≢◌, ◌++◌, ◌<◌, ◌≤◌, [], None, Err, IfErr, IfOk, IfSome, Ok, OnErr, OnOk, false, length};
 ghost use Rattle.mysql_wire.specs.Chunk.{IsTooLargeOrMemory};
 ghost use Rattle.mysql_wire.specs.Codec.{CanGoOn, Decodes, RefusesBy, codec_at, error_of};
 ghost use Rattle.mysql_wire.specs.Framing.{framing, number_after};
@@ -180,8 +180,9 @@ impl PacketCodec {
         ensures refused { IfErr result (RefusesBy self.old (B.unread src.old) dst.old.items self.new) }
         ensures stays { IfSome self.old.refused (λ refusal. (result ≡ Err (error_of refusal))
             × (self.new ≡ self.old) × (src.new ≡ src.old) × (dst.new ≡ dst.old)) }
-        // What came of a chunk is moved at once.
+        // What came of a chunk is moved at once: what is left is the front of a header, or nothing behind a chunk that was begun.
         ensures moved { result ≡ Ok false → length (B.unread src.new) < 4 }
+        ensures used { result ≡ Ok false → self.new.begun ≢ None → B.unread src.new ≡ [] }
     {
         if let Some(refusal) = self.refused {
             return Err(refusal.error());

@@ -1,7 +1,7 @@
 //! One packet read from a buffer: its payload bytes go on to where they are wanted as they come.
 
 ghost use Rattle.std.specs.Bool.{OnFalse, OnTrue};
-ghost use Rattle.std.specs.Prelude.{◌≡◌, ◌≢◌, ◌⊎◌, ◌%◌, ◌^◌, false, ◌<◌, ◌≤◌, ◌++◌, IfErr, IfOk, Ok, OnErr, OnOk, drop, length, take};
+ghost use Rattle.std.specs.Prelude.{◌≡◌, ◌≢◌, ◌⊎◌, ◌%◌, ◌^◌, [], None, false, ◌<◌, ◌≤◌, ◌++◌, IfErr, IfOk, Ok, OnErr, OnOk, drop, length, take};
 ghost use Rattle.mysql_wire.specs.Codec.{Decodes, IsDue, IsOfPacket};
 ghost use Rattle.mysql_wire.specs.Framing.{max_payload_len};
 ghost use Rattle.mysql_wire.specs.Moving.{NextChunk, begun_of, codec_of};
@@ -85,6 +85,7 @@ pub(super) fn take_packet<B: Buf>(
         (codec_of number.new limit begun.new) (B.unread src.new) dst.new.items) }
     ensures err { IfErr result (IsDue (codec_of number.old limit begun.old) (B.unread src.old) dst.old.items) }
     ensures moved { result ≡ Ok false → length (B.unread src.new) < 4 }
+    ensures used { result ≡ Ok false → begun.new ≢ None → B.unread src.new ≡ [] }
 {
     'chunks: loop {
         let chunk = match next_chunk(*begun, src, dst.len(), limit) {

@@ -1,8 +1,8 @@
 //! A reader of the packets of a stream that comes in pieces.
 
-ghost use Rattle.std.specs.Prelude.{◌≡◌, ◌==◌, ◌<◌, ◌++◌, not, [], None, Err, IfErr, IfOk, IfSome, MatchOption, Ok, OnErr, OnOk, false, length, true};
+ghost use Rattle.std.specs.Prelude.{◌≡◌, ◌≢◌, ◌==◌, ◌<◌, ◌++◌, not, [], None, Err, IfErr, IfOk, IfSome, MatchOption, Ok, OnErr, OnOk, false, length, true};
 ghost use Rattle.mysql_wire.specs.Codec.{Decodes, RefusesBy, error_of, held, packet_number};
-ghost use Rattle.mysql_wire.specs.Incoming.{Reads, ReadsOn, RefusesOn, incoming_at};
+ghost use Rattle.mysql_wire.specs.Incoming.{Reads, ReadsOn, RefusesOn, bytes_kept, incoming_at};
 ghost use Rattle.std.specs.Borrow.{sem};
 ghost use Rattle.std.specs.Io.BufRead.{Rests};
 ghost use Rattle.mysql_wire.specs.Kept.{Stands, unfinished};
@@ -61,6 +61,7 @@ fn decode_piece(
     ensures ok { IfOk result (λ whole. Decodes codec.old (header.old ++ piece.old.now) packet.old.items whole codec.new (header.new ++ piece.new.now) packet.new.items) }
     ensures whole { result ≡ Ok true → (header.new ≡ []) × (length piece.new.now < length piece.old.now) }
     ensures used { result ≡ Ok false → piece.new.now ≡ [] }
+    ensures moved { result ≡ Ok false → codec.new.begun ≢ None → header.new ≡ [] }
     ensures refused { IfErr result (RefusesBy codec.old (header.old ++ piece.old.now) packet.old.items codec.new) }
     ensures stays { IfSome codec.old.refused (λ refusal. (result ≡ Err (error_of refusal)) × (codec.new ≡ codec.old)) }
     ensures err { OnErr result (piece.new ≡ piece.old) }
@@ -154,6 +155,17 @@ impl PacketReader {
             return Ok(Some(self.payload()));
         }
         Ok(None)
+    }
+
+    /// How many bytes are held of the packet that isn't whole: those that came, but for the headers of its chunks, of which only
+    /// one that doesn't stand whole is held.
+    pub fn kept(&self) -> usize
+        ensures { result ≡ bytes_kept (length self.now.bytes) }
+    {
+        if self.begun {
+            return self.header.as_slice().len() + self.packet.len();
+        }
+        0
     }
 
     /// The payload that was handed out, until more is read.

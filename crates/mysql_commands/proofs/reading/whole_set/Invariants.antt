@@ -1,10 +1,13 @@
-use Rattle.std.proofs.Common.{◌≡◌, drop}
+use Rattle.std.proofs.Common.{◌≡◌, drop, length}
 use Rattle.mysql_commands.specs.Reading.{set_at}
 use Rattle.mysql_commands.specs.Views.{piece_kept}
 use Rattle.mysql_commands.proofs.Loops.{behind}
+use Rattle.mysql_commands.proofs.Nulls.{SayNulls}
+use Rattle.mysql_null_bitmap.specs.NullBits.{bits_left}
 use Rattle.mysql_commands.proofs.reading.whole_set.Given as goal
 
 abbrev pub invariant-loop-place : goal.invariant-loop-place
 invariant-loop-place l =
-    behind (l.set.items) (set_at (piece_kept l.statement.pieces.items) l.nulls l.place (drop l.place l.types) l.rest)
-    ≡ set_at (piece_kept l.statement.pieces.items) l.nulls 0 l.types l.cells
+    (behind (l.set.items) (set_at (piece_kept l.statement.pieces.items) l.nulls l.place (drop l.place l.types) l.rest)
+    ≡ set_at (piece_kept l.statement.pieces.items) l.nulls 0 l.types l.cells)
+    × SayNulls (bits_left l.bits) l.nulls l.place (length l.types)

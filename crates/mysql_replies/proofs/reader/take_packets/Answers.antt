@@ -51,29 +51,13 @@ packets-preserved c =
       over = λ _. none;
     }
 
-pub returns-then-is_empty-clause-paused : goal.returns-then-is_empty-clause-paused
-returns-then-is_empty-clause-paused c =
+pub returns-then-is_empty : goal.returns-then-is_empty
+returns-then-is_empty c =
     let t = c.packets.invariant.taking in
     let over = c.is_over.ensures.over c.if-is_over.true in
     let used : c.packets.rest.now ≡ [] = nil_from_length c.packets.rest.now (search rules) in
     let taken = over_taken c.framing_laws.ensures c.args.state.now c.packets.state c.args.packets.now c.packets.packets c.args.piece.now c.packets.rest.now t c.requires.going over (c.packets.invariant.over (ap awaited_view over)) used in
-    (t.going, taken.0)
-
-pub returns-then-is_empty-clause-took : goal.returns-then-is_empty-clause-took
-returns-then-is_empty-clause-took c =
-    let t = c.packets.invariant.taking in
-    let over = c.is_over.ensures.over c.if-is_over.true in
-    let used : c.packets.rest.now ≡ [] = nil_from_length c.packets.rest.now (search rules) in
-    let taken = over_taken c.framing_laws.ensures c.args.state.now c.packets.state c.args.packets.now c.packets.packets c.args.piece.now c.packets.rest.now t c.requires.going over (c.packets.invariant.over (ap awaited_view over)) used in
-    taken.1
-
-pub returns-then-is_empty-clause-goes_on : goal.returns-then-is_empty-clause-goes_on
-returns-then-is_empty-clause-goes_on c =
-    let t = c.packets.invariant.taking in
-    let over = c.is_over.ensures.over c.if-is_over.true in
-    let used : c.packets.rest.now ≡ [] = nil_from_length c.packets.rest.now (search rules) in
-    let taken = over_taken c.framing_laws.ensures c.args.state.now c.packets.state c.args.packets.now c.packets.packets c.args.piece.now c.packets.rest.now t c.requires.going over (c.packets.invariant.over (ap awaited_view over)) used in
-    taken.2
+    record { reading = t.reading; paused = (t.going, taken.0); fault = tt; took = taken.1; goes_on = taken.2; short = tt }
 
 pub returns-then-is_over-clause-goes_on : goal.returns-then-is_over-clause-goes_on
 returns-then-is_over-clause-goes_on c =
@@ -131,35 +115,15 @@ returns-then-is_err-clause-short c =
     piece_runs_short laws start (codec_by old) old.bytes [] piece c.take-taken.result (reader_state c.take-taken.new.self new)
     (taken_short start s c.take-taken.new.self (codec_by old) (codec_by now) (codec_by new) fed [] src [] new.bytes [] c.take-taken.result t c.requires.going (c.is_over.ensures.awaiting c.if-is_over.false) c.take-taken.ensures.short)
 
-pub returns-in-Ok-false-clause-paused : goal.returns-in-Ok-false-clause-paused
-returns-in-Ok-false-clause-paused c =
+pub returns-in-Ok-false : goal.returns-in-Ok-false
+returns-in-Ok-false c =
     let t = c.packets.invariant.taking in
     let new = c.advance.new.self in
     let w = rw c.in-Ok-false.field-0-test at c.in-Ok-false.ensures.ok in
     let used : c.advance.new.piece.now ≡ [] = search rules in
     let none : new.payload ≡ [] = search rules in
     let taken = waits_taken c.framing_laws.ensures c.args.state.now c.packets.state c.args.packets.now c.packets.packets new c.args.piece.now c.packets.rest.now c.advance.new.piece.now t c.requires.going (c.is_over.ensures.awaiting c.if-is_over.false) w used none in
-    (t.going, taken.0)
-
-pub returns-in-Ok-false-clause-took : goal.returns-in-Ok-false-clause-took
-returns-in-Ok-false-clause-took c =
-    let t = c.packets.invariant.taking in
-    let new = c.advance.new.self in
-    let w = rw c.in-Ok-false.field-0-test at c.in-Ok-false.ensures.ok in
-    let used : c.advance.new.piece.now ≡ [] = search rules in
-    let none : new.payload ≡ [] = search rules in
-    let taken = waits_taken c.framing_laws.ensures c.args.state.now c.packets.state c.args.packets.now c.packets.packets new c.args.piece.now c.packets.rest.now c.advance.new.piece.now t c.requires.going (c.is_over.ensures.awaiting c.if-is_over.false) w used none in
-    taken.1
-
-pub returns-in-Ok-false-clause-goes_on : goal.returns-in-Ok-false-clause-goes_on
-returns-in-Ok-false-clause-goes_on c =
-    let t = c.packets.invariant.taking in
-    let new = c.advance.new.self in
-    let w = rw c.in-Ok-false.field-0-test at c.in-Ok-false.ensures.ok in
-    let used : c.advance.new.piece.now ≡ [] = search rules in
-    let none : new.payload ≡ [] = search rules in
-    let taken = waits_taken c.framing_laws.ensures c.args.state.now c.packets.state c.args.packets.now c.packets.packets new c.args.piece.now c.packets.rest.now c.advance.new.piece.now t c.requires.going (c.is_over.ensures.awaiting c.if-is_over.false) w used none in
-    taken.2
+    record { reading = t.reading; paused = (t.going, taken.0); fault = tt; took = taken.1; goes_on = taken.2; short = tt }
 
 pub returns-in-Err-clause-goes_on : goal.returns-in-Err-clause-goes_on
 returns-in-Err-clause-goes_on c =

@@ -1,23 +1,16 @@
-use Rattle.std.proofs.Common.{◌∷◌, refl, ap}
-use Rattle.mysql_packets.specs.Views.{ok_packet_view}
-use Rattle.mysql_replies.specs.declared.awaited.Awaited.TheVariants as awaiting
-use Rattle.mysql_replies.specs.Grammar.{eof, result_set}
-use Rattle.mysql_replies.specs.Reply as reply
-use Rattle.mysql_replies.specs.Views.{column_views, row_views}
-use Rattle.mysql_replies.proofs.Stepping.{eof_leads, eof_fails, eof_has_memory, refuses_by, step_awaits, step_fails}
+use Rattle.mysql_ok_packets.specs.Views.{ok_packet_view}
+use Rattle.mysql_replies.specs.Views.{column_views}
+use Rattle.mysql_replies.specs.Steps.{group_view, group_awaited, after_group}
+use Rattle.mysql_replies.proofs.Stepping.{eof_leads, eof_step_fails, listed_group, step_moves}
 use Rattle.mysql_replies.proofs.steps.eof_step.Goals as goal
 
-pub returns-in-Err-clause-step : goal.returns-in-Err-clause-step
-returns-in-Err-clause-step c =
-    step_fails c.args.context (reply.Columns 0 (column_views c.args.these.items)) c.args.payload.now (awaiting.Columns 0 c.args.these) c.in-Err.fault (eof c.args.payload.now) refl
-    (λ f h. eof_fails c.args.context (column_views c.args.these.items) c.args.payload.now f c.requires.no_report c.requires.settled h) (refuses_by c.in-Err.fault (eof c.args.payload.now) c.in-Err.ensures)
+pub returns-in-Err : goal.returns-in-Err
+returns-in-Err c =
+    eof_step_fails c.args.context (group_view c.args.group) (column_views c.args.these.items) c.args.payload.now c.awaited_of_group.result c.in-Err.fault c.requires.no_report c.requires.settled c.awaited_of_group.ensures c.in-Err.ensures
 
-pub returns-clause-step : goal.returns-clause-step
-returns-clause-step c = (
-  step_awaits c.args.context c.args.payload.now (λ z. result_set c.args.context 0 (column_views c.args.these.items) (c.args.payload.now ∷ z)) (reply.Rows (column_views c.args.these.items) (row_views c.new-rows.result.items))
-      (eof_leads c.args.context (column_views c.args.these.items) c.args.payload.now (ok_packet_view c.in-Ok.eof) (row_views c.new-rows.result.items) c.requires.no_report c.requires.settled c.in-Ok.ensures (ap row_views c.new-rows.ensures.items)),
-  tt,
-)
-
-pub returns-in-Err-clause-memory : goal.returns-in-Err-clause-memory
-returns-in-Err-clause-memory c = eof_has_memory c.args.payload.now c.in-Err.fault c.in-Err.ensures
+pub returns : goal.returns
+returns c =
+    let g = group_view c.args.group in
+    let these = column_views c.args.these.items in
+    step_moves c.args.context (group_awaited g 0 these) c.args.payload.now (λ z. after_group c.args.context g these z) c.after_columns.result (listed_group g 0 these)
+    (eof_leads c.args.context g these c.args.payload.now (ok_packet_view c.in-Ok.eof) c.requires.no_report c.requires.settled c.in-Ok.ensures) c.after_columns.ensures

@@ -1,0 +1,4 @@
+pub mod Columns
+pub mod ColumnsOfRows
+pub mod Each
+pub mod Rows

@@ -1,0 +1,9 @@
+//! Laws of bulk executions. Functions without a result do nothing: their contracts are the laws.
+
+ghost use Rattle.mysql_bulk.specs.Laws.{ColumnsAreThoseOfRows};
+
+/// A column of rows of the same length, joined to one list, holds the value of each row at its place.
+#[tactic(auto, using(crate::proofs::ColumnsOfRows::columns_are_those_of_rows))]
+pub fn columns_are_those_of_rows()
+    ensures { ColumnsAreThoseOfRows }
+{}

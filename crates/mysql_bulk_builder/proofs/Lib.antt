@@ -1,0 +1,12 @@
+pub mod Greedy
+pub mod Sizes
+pub mod Tight
+pub mod Bytes
+pub mod Rows
+pub mod LongestPart
+pub mod OneKindLemmas
+pub mod InForceLemmas
+pub mod TypedTight
+pub mod Kept
+pub mod Filling
+pub mod Iterating

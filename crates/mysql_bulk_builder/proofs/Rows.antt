@@ -1,0 +1,37 @@
+-- The size of a row, by its values as they lie in memory.
+use Rattle.std.proofs.Common.{◌≡◌, ℕ, ◌+◌, ◌<◌, ◌≤◌, List, [], length, take, get_or, refl, sym, ◌∙◌, ap, arith, Vec}
+use Rattle.std.specs.declared.alloc.Global.{Global}
+use Rattle.std.proofs.lemmas.List.{get_or-map, get_or_default, length-map}
+use Rattle.std.specs.Prelude.{sum_by}
+use Rattle.std.proofs.lemmas.List.Sums.{sum_by-cons, sum_by_more, sum_by_more_le}
+use Rattle.std.proofs.lemmas.List.Recursion.{is_sum_by}
+use Rattle.mysql_cells.specs.declared.value.Value.{Value}
+use Rattle.mysql_cells.specs.Cells.{bin_len}
+use Rattle.mysql_bulk_builder.specs.Cut.{Row, row_size}
+use Rattle.mysql_bulk_builder.specs.RowLists.{rows_in}
+
+pub row_size-is : (values : List Value) → row_size values ≡ sum_by (λ v. 1 + bin_len v) values
+row_size-is values = is_sum_by (λ vs. row_size vs) (λ v. 1 + bin_len v) refl (λ v vs. sum_by-cons (λ value. 1 + bin_len value) v vs) values
+
+-- a value that takes more than what is left makes the row too large
+pub past_room : (values : List Value) (i room left : ℕ) (x : Value) → i < length values → x ≡ get_or values i x →
+    left + row_size (take i values) ≡ room → left ≤ bin_len x → room < row_size values
+past_room values i room left x lt is so_far past =
+    let more = sum_by_more_le (λ v. 1 + bin_len v) values i x lt in
+    let at : bin_len (get_or values i x) ≡ bin_len x = sym (ap bin_len is) in
+    omega (arith, more, at, row_size-is values, row_size-is (take i values), so_far, past)
+
+-- a value and a row, whatever stands for a missing one
+pub value_at : (values : List Value) (i : ℕ) (x : Value) (d : Value) → i < length values → x ≡ get_or values i x → get_or values i d ≡ x
+value_at values i x d lt is = get_or_default values i d x lt ∙ sym is
+
+pub row_at : (rows : List (Vec Value Global)) (i : ℕ) (x : Vec Value Global) (d : Row) → i < length rows → x ≡ get_or rows i x → get_or (rows_in rows) i d ≡ x.items
+row_at rows i x d lt is = get_or-map (λ (r : Vec Value Global). r.items) rows i x d lt ∙ ap (λ (r : Vec Value Global). r.items) (sym is)
+
+-- the rows so far and one more
+pub sum_more : (rows : List (Vec Value Global)) (i : ℕ) (x : Vec Value Global) → i < length rows → x ≡ get_or rows i x →
+    sum_by row_size (take (i + 1) (rows_in rows)) ≡ sum_by row_size (take i (rows_in rows)) + row_size x.items
+sum_more rows i x lt is =
+    let lt' : i < length (rows_in rows) = omega (arith, lt, length-map rows (λ (r : Vec Value Global). r.items)) in
+    let more = sum_by_more row_size (rows_in rows) i [] lt' in
+    omega (arith, more, ap row_size (row_at rows i x [] lt is))

@@ -1,0 +1,6 @@
+use Rattle.std.proofs.Common.{◌≡◌, ◌+◌, take}
+use Rattle.mysql_bulk_builder.specs.Cut.{row_size}
+use Rattle.mysql_bulk_builder.proofs.row_size.row_size_within.Given as goal
+
+abbrev pub invariant-loop-value : goal.invariant-loop-value
+invariant-loop-value l = l.left + row_size (take l.value-index l.row) ≡ l.room

@@ -1,0 +1,20 @@
+-- Errors within errors: want of memory is that of the whole.
+use Rattle.mysql_values.specs.declared.params.ParamsError.{ParamsError}
+use Rattle.mysql_values.specs.declared.params.ParamsError.TheVariants.{Missing, Confusion, Memory}
+use Rattle.mysql_bulk.specs.declared.error.BulkExecuteRequestError.{BulkExecuteRequestError}
+use Rattle.mysql_bulk.specs.declared.error.BulkExecuteRequestError.TheVariants as request_error
+use Rattle.mysql_bulk_builder.specs.declared.error.BulkExecuteRequestBuilderError.{BulkExecuteRequestBuilderError}
+use Rattle.mysql_bulk_builder.specs.declared.error.BulkExecuteRequestBuilderError.TheVariants as builder_error
+
+-- the error for a set that gives no values
+abbrev pub error_of_params : ParamsError → BulkExecuteRequestBuilderError
+error_of_params (Missing name) = builder_error.Params (Missing name)
+error_of_params (Confusion confusion) = builder_error.Params (Confusion confusion)
+error_of_params Memory = builder_error.Memory
+
+-- the error for rows of which no request is built
+abbrev pub error_of_request : BulkExecuteRequestError → BulkExecuteRequestBuilderError
+error_of_request request_error.NoParams = builder_error.Request request_error.NoParams
+error_of_request request_error.MixedArity = builder_error.Request request_error.MixedArity
+error_of_request (request_error.RowTooLarge row) = builder_error.Request (request_error.RowTooLarge row)
+error_of_request request_error.Memory = builder_error.Memory

@@ -1,0 +1,252 @@
+//! A builder of bulk execute requests.
+
+ghost use Rattle.std.specs.Prelude.{◌≡◌, ◌+◌, ◌*◌, ◌<◌, ◌≤◌, if◌then◌else◌, length, MatchOption};
+ghost use Rattle.mysql_bulk_builder.specs.Cut.{row_size};
+ghost use Rattle.mysql_bulk_builder.specs.RequestView.{bulk_flags as flags_of};
+
+use crate::error::BulkExecuteRequestBuilderError;
+use crate::flat::append_row;
+use crate::row_size::row_size_within;
+use mysql_bulk::{BulkExecuteRequestError, ComStmtBulkExecuteRequest, StmtBulkExecuteParamValue};
+use mysql_cells::Value;
+use mysql_const::StmtBulkExecuteFlags;
+use mysql_values::{Params, ParamsError};
+use std::alloc::Global;
+use std::marker::Model;
+
+/// Fills bulk execute requests row by row.
+///
+/// The first request built carries the types of its parameters, later ones don't. The rows are kept one after another in one list.
+///
+/// Follows MariaDB's "COM_STMT_BULK_EXECUTE".
+#[derive(Drop)]
+pub struct ComStmtBulkExecuteRequestBuilder<'a> {
+    alloc: Global,
+    stmt_id: u32,
+    // the most bytes of a request
+    room: usize,
+    named_params: Option<&'a [Vec<u8>]>,
+    with_results: bool,
+    with_types: bool,
+    arity: Option<usize>,
+    // the rows held: what they take, how many they are, and their values
+    held: usize,
+    count: usize,
+    values: Vec<StmtBulkExecuteParamValue>,
+}
+
+impl<'a> Model for ComStmtBulkExecuteRequestBuilder<'a> {
+    ghost use Rattle.mysql_bulk_builder.specs.Builder.{Builder};
+
+    ghost Value = { Builder };
+
+    ghost use Rattle.mysql_bulk_builder.specs.BuilderView.{builder_of, IsBuilder};
+
+    ghost view = { builder_of };
+
+    ghost invariant = { IsBuilder };
+}
+
+/// What a row takes in a request beside rows of `held` bytes, where it has room.
+fn row_size_beside(row: &[Value], typed: bool, held: usize, room: usize) -> Option<usize>
+    ensures { let rest = 7 + (if typed then 2 * length row.now else 0) + held in
+        MatchOption result (room < rest + row_size row.now) (λ n. (n ≡ row_size row.now) × (rest + n ≤ room)) }
+{
+    if room < 7 {
+        return None;
+    }
+    let mut left = room - 7;
+    if typed {
+        if left / 2 < row.len() {
+            return None;
+        }
+        left -= 2 * row.len();
+    }
+    if left < held {
+        return None;
+    }
+    row_size_within(row, left - held)
+}
+
+/// The flags of a request.
+fn bulk_flags(with_results: bool, with_types: bool) -> StmtBulkExecuteFlags
+    ensures { result.0 ≡ flags_of with_results with_types }
+{
+    match (with_results, with_types) {
+        (false, false) => StmtBulkExecuteFlags(0),
+        (false, true) => StmtBulkExecuteFlags::SEND_TYPES_TO_SERVER,
+        (true, false) => StmtBulkExecuteFlags::SEND_UNIT_RESULTS,
+        (true, true) => StmtBulkExecuteFlags(0xc0),
+    }
+}
+
+impl<'a> ComStmtBulkExecuteRequestBuilder<'a> {
+    ghost use Rattle.std.specs.Prelude.{◌≡◌, ◌≢◌, ◌↔◌, ◌<◌, ◌≤◌, ◌-◌, length, option_copied, IsTrue, IfOk, IfErr, OnOk, OnErr, None, true, false, []};
+    ghost use Rattle.std.specs.Prelude.{◌⊎◌, Ok, Err};
+    ghost use Rattle.mysql_values.specs.declared.params.ParamsError.TheVariants as params_error;
+    ghost use Rattle.mysql_values.specs.Params.{names_given, values_over};
+    ghost use Rattle.mysql_bulk_builder.specs.Builder.{after_build, request_of, HasOneMore, IsFilled};
+    ghost use Rattle.mysql_bulk_builder.specs.RequestView.{execution_of};
+    ghost use Rattle.mysql_bulk.specs.Views.{bulk_view};
+    ghost use Rattle.mysql_bulk.specs.declared.error.BulkExecuteRequestError.TheVariants as request_error;
+    ghost use Rattle.mysql_bulk_builder.specs.Adds.{Adds, AddsGiven, GivesBack};
+
+    /// A builder of requests of at most `max_allowed_packet - 4` bytes for a prepared statement.
+    pub fn new(
+        alloc: Global,
+        stmt_id: u32,
+        max_allowed_packet: usize,
+    ) -> ComStmtBulkExecuteRequestBuilder<'a>
+        requires { 4 ≤ max_allowed_packet }
+        ensures { result ≡ record { id = stmt_id; room = max_allowed_packet - 4; names = []; results = false; typed = true; arity = None; rows = [] } }
+    {
+        ComStmtBulkExecuteRequestBuilder {
+            alloc,
+            stmt_id,
+            room: max_allowed_packet - 4,
+            named_params: None,
+            with_results: false,
+            with_types: true,
+            arity: None,
+            held: 0,
+            count: 0,
+            values: Vec::new(alloc),
+        }
+    }
+
+    /// The builder for sets over these names, in the order of the query's places. An empty list of names counts as none.
+    pub fn with_named_params<'b>(
+        self,
+        named_params: Option<&'b [Vec<u8>]>,
+    ) -> ComStmtBulkExecuteRequestBuilder<'b>
+        ensures { result ≡ record self.entry { names = names_given (option_copied named_params.entry) } }
+    {
+        ComStmtBulkExecuteRequestBuilder {
+            alloc: self.alloc,
+            stmt_id: self.stmt_id,
+            room: self.room,
+            named_params,
+            with_results: self.with_results,
+            with_types: self.with_types,
+            arity: self.arity,
+            held: self.held,
+            count: self.count,
+            values: self.values,
+        }
+    }
+
+    /// The builder of requests that ask for the result of each row (MariaDB 11.5.1, `MARIADB_CLIENT_BULK_UNIT_RESULTS`).
+    pub fn with_results(self) -> ComStmtBulkExecuteRequestBuilder<'a>
+        ensures { result ≡ record self.entry { results = true } }
+    {
+        let mut builder = self;
+        builder.with_results = true;
+        builder
+    }
+
+    /// What the rows held and one more take together, and how many they are, where the next request has room for it.
+    fn with_one_more(&self, row: &[Value]) -> Option<(usize, usize)>
+        ensures { HasOneMore self.now row.now result }
+    {
+        if self.count == usize::MAX {
+            return None;
+        }
+        let size = row_size_beside(row, self.with_types, self.held, self.room)?;
+        Some((self.held + size, self.count + 1))
+    }
+
+    /// Adds a row.
+    ///
+    /// Answers None where the row was taken, and the row where the rows held leave no room for it, or where `usize::MAX` rows are held: build their request
+    /// first, and then add it again. The first row taken sets how many values each row has, over builds too.
+    ///
+    /// # Errors
+    /// `MixedArity`; `RowTooLarge` with the row where no rows are held and it fits no request; `Memory`. They change nothing.
+    pub fn add_row(
+        &mut self,
+        row: Vec<Value>,
+    ) -> Result<Option<Vec<Value>>, BulkExecuteRequestBuilderError>
+        ensures adds { Adds self.old row.items self.new result }
+        ensures same { GivesBack row result }
+    {
+        if let Some(arity) = self.arity {
+            if row.len() != arity {
+                return Err(BulkExecuteRequestBuilderError::Request(
+                    BulkExecuteRequestError::MixedArity,
+                ));
+            }
+        }
+        let Some((held, count)) = self.with_one_more(&row) else {
+            if self.count > 0 {
+                return Ok(Some(row));
+            }
+            return Err(BulkExecuteRequestBuilderError::Request(BulkExecuteRequestError::RowTooLarge(
+                row,
+            )));
+        };
+        let arity = row.len();
+        append_row(&mut self.values, row)?;
+        self.arity = Some(arity);
+        self.held = held;
+        self.count = count;
+        Ok(None)
+    }
+
+    /// The values that a set gives over the builder's names.
+    pub(crate) fn values_of(&self, params: Params) -> Result<Vec<Value>, ParamsError>
+        ensures ok { IfOk result (λ values. values_over self.now.names params ≡ Ok values.items) }
+        ensures err { IfErr result (λ e. (e ≡ params_error.Memory) ⊎ (values_over self.now.names params ≡ Err e)) }
+    {
+        params.into_values(self.alloc, self.named_params)
+    }
+
+    /// Adds the row of values that a set gives over the builder's names, as `add_row` does.
+    ///
+    /// # Errors
+    /// `Params` where the set gives no values; then those of `add_row`. They change nothing.
+    pub fn add_params(
+        &mut self,
+        params: Params,
+    ) -> Result<Option<Vec<Value>>, BulkExecuteRequestBuilderError>
+        ensures { AddsGiven self.old (values_over self.old.names params) self.new result }
+    {
+        let row = self.values_of(params)?;
+        self.add_row(row)
+    }
+
+    /// Whether rows are held.
+    pub fn has_rows(&self) -> bool
+        ensures { IsTrue result ↔ (0 < length self.now.rows) }
+    {
+        self.count > 0
+    }
+
+    /// Builds the request of the rows held, and lets them go.
+    ///
+    /// # Errors
+    /// `NoParams` where no rows are held; `Memory`. They change nothing.
+    pub fn build(&mut self) -> Result<ComStmtBulkExecuteRequest, BulkExecuteRequestError>
+        ensures built { IfOk result (λ request. bulk_view request ≡ execution_of (request_of self.old)) }
+        ensures some { OnOk result (self.old.rows ≢ []) }
+        ensures fits { OnOk result (IsFilled self.old) }
+        ensures new { OnOk result (self.new ≡ after_build self.old) }
+        ensures unchanged { OnErr result (self.new ≡ self.old) }
+        ensures err { IfErr result (λ e. (e ≡ request_error.Memory) ⊎ ((e ≡ request_error.NoParams) × (self.old.rows ≡ []))) }
+    {
+        if self.count == 0 {
+            return Err(BulkExecuteRequestError::NoParams);
+        }
+        let request = ComStmtBulkExecuteRequest::from_flat(
+            self.alloc,
+            self.stmt_id,
+            bulk_flags(self.with_results, self.with_types),
+            self.arity.unwrap_or(0),
+            self.count,
+            &mut self.values,
+        )?;
+        self.with_types = false;
+        self.held = 0;
+        self.count = 0;
+        Ok(request)
+    }
+}

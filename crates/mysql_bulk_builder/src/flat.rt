@@ -1,0 +1,24 @@
+//! Rows appended to one flat list.
+
+ghost use Rattle.std.specs.Prelude.{◌≡◌, ◌++◌, OnErr, OnOk, map};
+ghost use Rattle.mysql_bulk.specs.Bulk.{param_value_of};
+
+use mysql_bulk::StmtBulkExecuteParamValue;
+use mysql_cells::Value;
+use std::alloc::{AllocError, Global};
+
+/// Appends the values of a row, each as it is sent: all of them, or none where memory is refused.
+pub(crate) fn append_row(
+    values: &mut Vec<StmtBulkExecuteParamValue>,
+    row: Vec<Value>,
+) -> Result<(), AllocError>
+    ensures ok { OnOk result (values.new.items ≡ values.old.items ++ map param_value_of row.items) }
+    ensures err { OnErr result (values.new.items ≡ values.old.items) }
+{
+    // The list grows first, so that each value then has room.
+    values.reserve(row.len())?;
+    for value in row {
+        values.push(StmtBulkExecuteParamValue::new(value)).unwrap();
+    }
+    Ok(())
+}

@@ -1,0 +1,32 @@
+//! What rows take in a bulk request.
+
+ghost use Rattle.std.specs.Prelude.{◌≡◌, ◌+◌, ◌<◌, ◌≤◌, MatchOption};
+ghost use Rattle.mysql_bulk_builder.specs.ValueTypes.{is_null};
+ghost use Rattle.mysql_bulk_builder.specs.Cut.{row_size};
+
+use mysql_cells::Value;
+
+/// Whether the value is NULL.
+pub(crate) fn is_null(value: &Value) -> bool
+    ensures { result ≡ is_null value.now }
+{
+    match value {
+        Value::NULL => true,
+        _ => false,
+    }
+}
+
+/// What a row takes in a request, where that is at most `room`.
+pub(crate) fn row_size_within(row: &[Value], room: usize) -> Option<usize>
+    ensures { MatchOption result (room < row_size row.now) (λ n. (n ≡ row_size row.now) × (n ≤ room)) }
+{
+    let mut left = room;
+    for value in row {
+        let len = value.bin_len() as usize;
+        if left <= len {
+            return None;
+        }
+        left = left - len - 1;
+    }
+    Some(room - left)
+}

@@ -1,0 +1,215 @@
+//! The longest part of the rows that fits one request.
+ghost use Rattle.std.specs.Prelude.{◌≡◌, ℕ, ◌+◌, ◌*◌, ◌<◌, ◌≤◌, ◌||◌, false, length, take, sum_by, All, MatchBool, MatchOption, IfOk, IfErr, ◌-◌, slice_index_or, vec_len, []};
+ghost use Rattle.mysql_bulk_builder.specs.Cut.{row_size};
+ghost use Rattle.mysql_bulk_builder.specs.TypedCut.{has_value_at};
+ghost use Rattle.mysql_bulk_builder.specs.Seen.{IsKnown, IsUnknown, AreSeen};
+ghost use Rattle.mysql_bulk_builder.specs.TypedCut.{IsTightTypedPart, IsTightTyped};
+ghost use Rattle.mysql_bulk_builder.specs.TypedCutLaws.{EachRowFitsTyped};
+ghost use Rattle.mysql_bulk_builder.specs.TypedRequests.{view_part, view_parts, IsFirstTooLarge, HasNoTypedCut};
+ghost use Rattle.mysql_bulk_builder.specs.RowLists.{rows_in};
+
+use crate::row_size::{is_null, row_size_within};
+use mysql_cells::Value;
+use std::alloc::{AllocError, AllocFailed, Global};
+
+/// A part of the rows, for one request.
+#[derive(Clone, Copy, Debug, PartialEq, Eq)]
+pub struct BulkPart {
+    pub typed: bool,
+    pub count: usize,
+}
+
+/// Why rows are not cut.
+#[derive(Clone, Copy, Debug, PartialEq, Eq)]
+pub enum BulkCutError {
+    RowTooLarge(usize),
+    Memory,
+}
+
+impl From<AllocError> for BulkCutError {
+    ghost use Rattle.std.specs.Prelude.{◌≡◌};
+    ghost use Rattle.mysql_bulk_builder.specs.declared.search.BulkCutError.TheVariants.{Memory};
+
+    ghost from_gives = { λ _ e. e ≡ Memory };
+
+    fn from(_e: AllocError) -> BulkCutError {
+        BulkCutError::Memory
+    }
+}
+
+impl<T: Drop> From<AllocFailed<T>> for BulkCutError {
+    ghost use Rattle.std.specs.Prelude.{◌≡◌};
+    ghost use Rattle.mysql_bulk_builder.specs.declared.search.BulkCutError.TheVariants.{Memory};
+
+    ghost from_gives = { λ _ e. e ≡ Memory };
+
+    fn from(_e: AllocFailed<T>) -> BulkCutError {
+        BulkCutError::Memory
+    }
+}
+
+/// How many of the first rows take at most `room` bytes together.
+fn longest_within(rows: &[Vec<Value>], room: usize) -> usize
+    ensures within { result ≤ length rows.now }
+    ensures fits { sum_by row_size (take result (rows_in rows.now)) ≤ room }
+    ensures longest { result < length rows.now → room < sum_by row_size (take (result + 1) (rows_in rows.now)) }
+{
+    let mut left = room;
+    for (i, row) in rows.iter().enumerate() {
+        match row_size_within(row, left) {
+            None => return i,
+            Some(len) => left -= len,
+        }
+    }
+    rows.len()
+}
+
+/// Whether each of the row's values is in a column that was seen.
+fn is_known(row: &[Value], seen: &[bool]) -> bool
+    requires { length row.now ≡ length seen.now }
+    ensures { MatchBool result (IsKnown seen.now row.now) (IsUnknown seen.now row.now) }
+{
+    for (i, value) in row.iter().enumerate() {
+        if !is_null(value) && !seen[i] {
+            return false;
+        }
+    }
+    true
+}
+
+/// How many of the first rows have values in columns that were seen alone.
+fn longest_known(rows: &[Vec<Value>], seen: &[bool]) -> usize
+    requires { All (λ row. vec_len row ≡ length seen.now) rows.now }
+    ensures within { result ≤ length rows.now }
+    ensures known { (k : ℕ) → k < result → IsKnown seen.now (slice_index_or (rows_in rows.now) k []) }
+    ensures longest { result < length rows.now → IsUnknown seen.now (slice_index_or (rows_in rows.now) result []) }
+{
+    for (i, row) in rows.iter().enumerate() {
+        if !is_known(row, seen) {
+            return i;
+        }
+    }
+    rows.len()
+}
+
+/// Marks the columns in which the row has a value.
+fn mark(seen: &mut [bool], row: &[Value])
+    requires { length row.now ≡ length seen.old }
+    ensures { (column : ℕ) → column < length seen.old → slice_index_or seen.new column false ≡ (slice_index_or seen.old column false || has_value_at column row.now) }
+{
+    for (i, value) in row.iter().enumerate() {
+        if !is_null(value) {
+            seen[i] = true;
+        }
+    }
+}
+
+/// Marks the columns in which the rows from `from` to before `to` have a value.
+fn mark_rows(seen: &mut [bool], rows: &[Vec<Value>], from: usize, to: usize)
+    requires order { from ≤ to }
+    requires within { to ≤ length rows.now }
+    requires arity { All (λ row. vec_len row ≡ length seen.old) rows.now }
+    requires seen { AreSeen (length seen.old) (rows_in rows.now) from seen.old }
+    ensures { AreSeen (length seen.old) (rows_in rows.now) to seen.new }
+{
+    for k in from..to {
+        mark(seen, &rows[k]);
+    }
+}
+
+/// The longest part from a row on: untyped where that is no shorter than the longest typed one, and not the first.
+fn next_part(
+    rows: &[Vec<Value>],
+    start: usize,
+    columns: usize,
+    room: usize,
+    seen: &[bool],
+) -> BulkPart
+    requires start { start < length rows.now }
+    requires arity { All (λ row. vec_len row ≡ columns) rows.now }
+    requires seen { AreSeen columns (rows_in rows.now) start seen.now }
+    requires fits { EachRowFitsTyped room columns (rows_in rows.now) }
+    ensures tight { IsTightTypedPart room columns (rows_in rows.now) start (view_part result) }
+    ensures some { 0 < result.count }
+    ensures within { start + result.count ≤ length rows.now }
+{
+    let rest = &rows[start..];
+    let typed = longest_within(rest, room - 7 - 2 * columns);
+    if start > 0 {
+        let within = longest_within(rest, room - 7);
+        let known = longest_known(rest, seen);
+        let untyped = if within < known { within } else { known };
+        if typed <= untyped {
+            return BulkPart {
+                typed: false,
+                count: untyped,
+            };
+        }
+    }
+    BulkPart {
+        typed: true,
+        count: typed,
+    }
+}
+
+/// The first row that takes more than `room` bytes.
+fn first_past(rows: &[Vec<Value>], room: usize) -> Option<usize>
+    ensures { MatchOption result
+        ((k : ℕ) → k < length rows.now → row_size (slice_index_or (rows_in rows.now) k []) ≤ room)
+        (λ k. (k < length rows.now) × (room < row_size (slice_index_or (rows_in rows.now) k [])) × ((j : ℕ) → j < k → row_size (slice_index_or (rows_in rows.now) j []) ≤ room)) }
+{
+    for (i, row) in rows.iter().enumerate() {
+        match row_size_within(row, room) {
+            None => return Some(i),
+            Some(_) => {}
+        }
+    }
+    None
+}
+
+/// What the types of so many columns leave of a request, where they leave anything.
+fn room_beside_types(columns: usize, room: usize) -> Option<usize>
+    ensures { MatchOption result (room < 7 + 2 * columns) (λ left. left + (7 + 2 * columns) ≡ room) }
+{
+    if room < 7 || (room - 7) / 2 < columns {
+        return None;
+    }
+    Some(room - 7 - 2 * columns)
+}
+
+/// The first row that fits no typed request.
+fn first_too_large(rows: &[Vec<Value>], columns: usize, room: usize) -> Option<usize>
+    ensures { MatchOption result (EachRowFitsTyped room columns (rows_in rows.now)) (IsFirstTooLarge room columns (rows_in rows.now)) }
+{
+    match room_beside_types(columns, room) {
+        None => { if rows.is_empty() { None } else { Some(0) } }
+        Some(left) => first_past(rows, left),
+    }
+}
+
+/// Cuts rows into as few requests as there can be, each with types or without.
+pub fn bulk_cut(
+    alloc: Global,
+    rows: &[Vec<Value>],
+    columns: usize,
+    room: usize,
+) -> Result<Vec<BulkPart>, BulkCutError>
+    requires { All (λ row. vec_len row ≡ columns) rows.now }
+    ensures tight { IfOk result (λ cut. IsTightTyped room columns (rows_in rows.now) (view_parts cut.items)) }
+    ensures refused { IfErr result (HasNoTypedCut room columns (rows_in rows.now)) }
+{
+    if let Some(k) = first_too_large(rows, columns, room) {
+        return Err(BulkCutError::RowTooLarge(k));
+    }
+    let mut seen = vec![in alloc; false; columns]?;
+    let mut cut = Vec::new(alloc);
+    let mut start = 0;
+    while start < rows.len() {
+        let part = next_part(rows, start, columns, room, &seen);
+        let end = start + part.count;
+        mark_rows(&mut seen, rows, start, end);
+        cut.push(part)?;
+        start = end;
+    }
+    Ok(cut)
+}

@@ -1,0 +1,4 @@
+pub mod ColumnLaws
+pub mod Columns
+pub mod Statements
+pub mod Views

@@ -1,0 +1,473 @@
+//! Column packets.
+
+ghost use Rattle.std.specs.Prelude.{◌≡◌, [], IfOk, IsOkUnless, None, true};
+ghost use Rattle.std.specs.Cow.{cow_str_bytes};
+ghost use Rattle.std.specs.Str.{encode_utf8_all};
+ghost use Rattle.bstr.specs.Utf8.{lossy_chars};
+ghost use Rattle.mysql_raw.specs.Laws.{unsized};
+ghost use Rattle.mysql_raw.specs.Wire.{TellsPart};
+ghost use Rattle.mysql_raw.specs.WireError.TheVariants as wire;
+ghost use Rattle.mysql_columns.specs.ColumnLaws.{column_at-back};
+ghost use Rattle.mysql_columns.specs.Columns.{ColumnDefinition, IsColumn, column, column_at, column_fields, column_fields_at, column_names, column_names_at, column_with, fields_in, names_in};
+ghost use Rattle.mysql_columns.specs.Views.{column_view, fields_view, names_view};
+
+use crate::headers::{ColumnDefinitionCatalog, FixedLengthFieldsLen};
+use crate::texts::{LenencText, lossy, text_of};
+use bitflags::Flags;
+use mysql_buf::ParseBuf;
+use mysql_const::{ColumnFlags, ColumnType};
+use mysql_raw::{
+    LeU16, LeU32, MyDeserialize, MySerialize, ParseExt, RawInt, Readable, ReadsBack, WireError,
+    in_order,
+};
+use mysql_raw_consts::{Const, Skip};
+use std::alloc::{AllocError, Global};
+use std::borrow::CowStr;
+
+/// A column of a result set, or a parameter or a column of a prepared statement.
+///
+/// MySQL: Client/Server Protocol, "Column Definition".
+#[derive(Debug, PartialEq, Eq, Drop)]
+pub struct Column {
+    schema: Vec<u8>,
+    table: Vec<u8>,
+    org_table: Vec<u8>,
+    name: Vec<u8>,
+    org_name: Vec<u8>,
+    character_set: u16,
+    column_length: u32,
+    column_type: ColumnType,
+    flags: ColumnFlags,
+    decimals: u8,
+}
+
+impl Column {
+    /// A column of this type, with empty names, no flag and zeros.
+    pub fn new(alloc: Global, column_type: ColumnType) -> Column
+        ensures { column_view result ≡ record {
+          schema = [];
+          table = [];
+          org_table = [];
+          name = [];
+          org_name = [];
+          character_set = 0;
+          column_length = 0;
+          column_type = column_type;
+          flags = record { 0 = 0 };
+          decimals = 0;
+        } }
+    {
+        Column {
+            schema: Vec::new(alloc),
+            table: Vec::new(alloc),
+            org_table: Vec::new(alloc),
+            name: Vec::new(alloc),
+            org_name: Vec::new(alloc),
+            character_set: 0,
+            column_length: 0,
+            column_type,
+            flags: ColumnFlags(0),
+            decimals: 0,
+        }
+    }
+
+    /// The same with this name of its schema, which is copied. Refused for want of memory.
+    pub fn with_schema(mut self, schema: &[u8]) -> Result<Column, AllocError>
+        ensures { IfOk result (λ column. column_view column ≡ record (column_view self) { schema = schema.now }) }
+    {
+        self.schema.clear();
+        self.schema.extend_from_slice(schema)?;
+        Ok(self)
+    }
+
+    /// The same with this name of its table in the query, which is copied. Refused for want of memory.
+    pub fn with_table(mut self, table: &[u8]) -> Result<Column, AllocError>
+        ensures { IfOk result (λ column. column_view column ≡ record (column_view self) { table = table.now }) }
+    {
+        self.table.clear();
+        self.table.extend_from_slice(table)?;
+        Ok(self)
+    }
+
+    /// The same with this name of its table in the schema, which is copied. Refused for want of memory.
+    pub fn with_org_table(mut self, org_table: &[u8]) -> Result<Column, AllocError>
+        ensures { IfOk result (λ column. column_view column ≡ record (column_view self) { org_table = org_table.now }) }
+    {
+        self.org_table.clear();
+        self.org_table.extend_from_slice(org_table)?;
+        Ok(self)
+    }
+
+    /// The same with this name in the query, which is copied. Refused for want of memory.
+    pub fn with_name(mut self, name: &[u8]) -> Result<Column, AllocError>
+        ensures { IfOk result (λ column. column_view column ≡ record (column_view self) { name = name.now }) }
+    {
+        self.name.clear();
+        self.name.extend_from_slice(name)?;
+        Ok(self)
+    }
+
+    /// The same with this name in the table, which is copied. Refused for want of memory.
+    pub fn with_org_name(mut self, org_name: &[u8]) -> Result<Column, AllocError>
+        ensures { IfOk result (λ column. column_view column ≡ record (column_view self) { org_name = org_name.now }) }
+    {
+        self.org_name.clear();
+        self.org_name.extend_from_slice(org_name)?;
+        Ok(self)
+    }
+
+    /// The same with these flags.
+    pub fn with_flags(mut self, flags: ColumnFlags) -> Column
+        ensures { column_view result ≡ record (column_view self) { flags = flags } }
+    {
+        self.flags = flags;
+        self
+    }
+
+    /// The same with this length.
+    pub fn with_column_length(mut self, column_length: u32) -> Column
+        ensures { column_view result ≡ record (column_view self) { column_length = column_length } }
+    {
+        self.column_length = column_length;
+        self
+    }
+
+    /// The same with this number of its character set's collation.
+    pub fn with_character_set(mut self, character_set: u16) -> Column
+        ensures { column_view result ≡ record (column_view self) { character_set = character_set } }
+    {
+        self.character_set = character_set;
+        self
+    }
+
+    /// The same with so many digits behind the decimal point.
+    pub fn with_decimals(mut self, decimals: u8) -> Column
+        ensures { column_view result ≡ record (column_view self) { decimals = decimals } }
+    {
+        self.decimals = decimals;
+        self
+    }
+
+    /// The name of the column's schema, as bytes.
+    pub fn schema_ref(&self) -> &[u8]
+        ensures { result.now ≡ (column_view self.now).schema }
+    {
+        self.schema.as_slice()
+    }
+
+    /// The name of the column's schema, as text, where bytes that aren't UTF-8 are replaced. Refused for want of memory.
+    pub fn schema_str(&self, alloc: Global) -> Result<CowStr<'_>, WireError>
+        ensures memory { IsOkUnless result wire.Memory }
+        ensures value { IfOk result (λ text. cow_str_bytes text ≡ encode_utf8_all (lossy_chars (column_view self.now).schema)) }
+    {
+        lossy(alloc, self.schema_ref())
+    }
+
+    /// The name of its table in the query, as bytes.
+    pub fn table_ref(&self) -> &[u8]
+        ensures { result.now ≡ (column_view self.now).table }
+    {
+        self.table.as_slice()
+    }
+
+    /// The name of its table in the query, as text, where bytes that aren't UTF-8 are replaced. Refused for want of memory.
+    pub fn table_str(&self, alloc: Global) -> Result<CowStr<'_>, WireError>
+        ensures memory { IsOkUnless result wire.Memory }
+        ensures value { IfOk result (λ text. cow_str_bytes text ≡ encode_utf8_all (lossy_chars (column_view self.now).table)) }
+    {
+        lossy(alloc, self.table_ref())
+    }
+
+    /// The name of its table in the schema, as bytes.
+    pub fn org_table_ref(&self) -> &[u8]
+        ensures { result.now ≡ (column_view self.now).org_table }
+    {
+        self.org_table.as_slice()
+    }
+
+    /// The name of its table in the schema, as text, where bytes that aren't UTF-8 are replaced. Refused for want of memory.
+    pub fn org_table_str(&self, alloc: Global) -> Result<CowStr<'_>, WireError>
+        ensures memory { IsOkUnless result wire.Memory }
+        ensures value { IfOk result (λ text. cow_str_bytes text ≡ encode_utf8_all (lossy_chars (column_view self.now).org_table)) }
+    {
+        lossy(alloc, self.org_table_ref())
+    }
+
+    /// Its name in the query, as bytes.
+    pub fn name_ref(&self) -> &[u8]
+        ensures { result.now ≡ (column_view self.now).name }
+    {
+        self.name.as_slice()
+    }
+
+    /// Its name in the query, as text, where bytes that aren't UTF-8 are replaced. Refused for want of memory.
+    pub fn name_str(&self, alloc: Global) -> Result<CowStr<'_>, WireError>
+        ensures memory { IsOkUnless result wire.Memory }
+        ensures value { IfOk result (λ text. cow_str_bytes text ≡ encode_utf8_all (lossy_chars (column_view self.now).name)) }
+    {
+        lossy(alloc, self.name_ref())
+    }
+
+    /// Its name in the table, as bytes.
+    pub fn org_name_ref(&self) -> &[u8]
+        ensures { result.now ≡ (column_view self.now).org_name }
+    {
+        self.org_name.as_slice()
+    }
+
+    /// Its name in the table, as text, where bytes that aren't UTF-8 are replaced. Refused for want of memory.
+    pub fn org_name_str(&self, alloc: Global) -> Result<CowStr<'_>, WireError>
+        ensures memory { IsOkUnless result wire.Memory }
+        ensures value { IfOk result (λ text. cow_str_bytes text ≡ encode_utf8_all (lossy_chars (column_view self.now).org_name)) }
+    {
+        lossy(alloc, self.org_name_ref())
+    }
+
+    /// The number of its character set's collation.
+    pub fn character_set(&self) -> u16
+        ensures { result ≡ (column_view self.now).character_set }
+    {
+        self.character_set
+    }
+
+    /// The most bytes or characters that its cells have.
+    pub fn column_length(&self) -> u32
+        ensures { result ≡ (column_view self.now).column_length }
+    {
+        self.column_length
+    }
+
+    /// Its type.
+    pub fn column_type(&self) -> ColumnType
+        ensures { result ≡ (column_view self.now).column_type }
+    {
+        self.column_type
+    }
+
+    /// Its flags.
+    pub fn flags(&self) -> ColumnFlags
+        ensures { result ≡ (column_view self.now).flags }
+    {
+        self.flags
+    }
+
+    /// How many digits stand behind the decimal point.
+    pub fn decimals(&self) -> u8
+        ensures { result ≡ (column_view self.now).decimals }
+    {
+        self.decimals
+    }
+
+    /// A copy. Refused for want of memory.
+    pub fn clone(&self, alloc: Global) -> Result<Column, AllocError>
+        ensures { IfOk result (λ copy. column_view copy ≡ column_view self.now) }
+    {
+        copied(alloc, &self.names(), self.fields())
+    }
+
+    // Its names.
+    fn names(&self) -> Names<'_>
+        ensures { names_view result ≡ names_in (column_view self.now) }
+    {
+        Names {
+            schema: self.schema.as_slice(),
+            table: self.table.as_slice(),
+            org_table: self.org_table.as_slice(),
+            name: self.name.as_slice(),
+            org_name: self.org_name.as_slice(),
+        }
+    }
+
+    // Its fields of a fixed length.
+    fn fields(&self) -> FixedFields
+        ensures { fields_view result ≡ fields_in (column_view self.now) }
+    {
+        FixedFields {
+            character_set: self.character_set,
+            column_length: self.column_length,
+            column_type: self.column_type,
+            flags: self.flags,
+            decimals: self.decimals,
+        }
+    }
+}
+
+// The names of a column.
+#[derive(Clone, Copy)]
+struct Names<'a> {
+    schema: &'a [u8],
+    table: &'a [u8],
+    org_table: &'a [u8],
+    name: &'a [u8],
+    org_name: &'a [u8],
+}
+
+#[tactic(auto, unfolding(crate::specs::Columns::column_names))]
+impl<'a> MySerialize for Names<'a> {
+    ghost written = { λ n. column_names (names_view n) };
+
+    fn serialize(&self, buf: &mut Vec<u8>) -> Result<(), AllocError> {
+        let schema = LenencText(self.schema);
+        let table = LenencText(self.table);
+        let org_table = LenencText(self.org_table);
+        let name = LenencText(self.name);
+        let org_name = LenencText(self.org_name);
+        in_order!(schema, table, org_table, name, org_name).serialize(buf)
+    }
+}
+
+#[tactic(auto, unfolding(crate::specs::Columns::column_names_at))]
+fn names_of<'a>(buf: &mut ParseBuf<'a>) -> Result<Names<'a>, WireError>
+    ensures { TellsPart names_view buf.new.0.now result (column_names_at buf.old.0.now) }
+{
+    let schema = text_of(buf)?;
+    let table = text_of(buf)?;
+    let org_table = text_of(buf)?;
+    let name = text_of(buf)?;
+    let org_name = text_of(buf)?;
+    Ok(Names {
+        schema,
+        table,
+        org_table,
+        name,
+        org_name,
+    })
+}
+
+// The fields of a column that have a fixed length.
+#[derive(Clone, Copy)]
+struct FixedFields {
+    character_set: u16,
+    column_length: u32,
+    column_type: ColumnType,
+    flags: ColumnFlags,
+    decimals: u8,
+}
+
+#[tactic(auto, unfolding(crate::specs::Columns::column_fields))]
+impl MySerialize for FixedFields {
+    ghost written = { λ f. column_fields (fields_view f) };
+
+    fn serialize(&self, buf: &mut Vec<u8>) -> Result<(), AllocError> {
+        let length = FixedLengthFieldsLen::new();
+        let character_set: RawInt<LeU16> = RawInt::new(self.character_set);
+        let column_length: RawInt<LeU32> = RawInt::new(self.column_length);
+        let column_type: Const<ColumnType, u8> = Const::new(self.column_type);
+        let flags: RawInt<LeU16> = RawInt::new(self.flags.0);
+        let decimals: RawInt<u8> = RawInt::new(self.decimals);
+        let filler: Skip<2> = Skip;
+        in_order!(
+            length,
+            character_set,
+            column_length,
+            column_type,
+            flags,
+            decimals,
+            filler,
+        )
+        .serialize(buf)
+    }
+}
+
+#[tactic(auto, unfolding(crate::specs::Columns::column_fields_at))]
+fn fixed_fields_of(alloc: Global, block: &mut ParseBuf) -> Result<FixedFields, WireError>
+    ensures { TellsPart fields_view block.new.0.now result (column_fields_at block.old.0.now) }
+{
+    let _length: FixedLengthFieldsLen = block.parse(alloc, ())?;
+    let Some(character_set) = block.checked_eat_u16_le() else {
+        return Err(WireError::UnexpectedEof);
+    };
+    let Some(column_length) = block.checked_eat_u32_le() else {
+        return Err(WireError::UnexpectedEof);
+    };
+    let column_type = block.parse::<Const<ColumnType, u8>>(alloc, ())?;
+    let Some(flags) = block.checked_eat_u16_le() else {
+        return Err(WireError::UnexpectedEof);
+    };
+    let Some(decimals) = block.checked_eat_u8() else {
+        return Err(WireError::UnexpectedEof);
+    };
+    Ok(FixedFields {
+        character_set,
+        column_length,
+        column_type: column_type.0,
+        flags: ColumnFlags::from_bits_retain(flags),
+        decimals,
+    })
+}
+
+// A column of copies of these names, and of these fields.
+fn copied(alloc: Global, names: &Names, fields: FixedFields) -> Result<Column, AllocError>
+    ensures { IfOk result (λ column. column_view column ≡ column_with (names_view names.now) (fields_view fields)) }
+{
+    Ok(Column {
+        schema: Vec::from_slice(alloc, names.schema)?,
+        table: Vec::from_slice(alloc, names.table)?,
+        org_table: Vec::from_slice(alloc, names.org_table)?,
+        name: Vec::from_slice(alloc, names.name)?,
+        org_name: Vec::from_slice(alloc, names.org_name)?,
+        character_set: fields.character_set,
+        column_length: fields.column_length,
+        column_type: fields.column_type,
+        flags: fields.flags,
+        decimals: fields.decimals,
+    })
+}
+
+#[tactic(auto, unfolding(crate::specs::Columns::column))]
+impl MySerialize for Column {
+    ghost written = { λ p. column (column_view p) };
+
+    fn serialize(&self, buf: &mut Vec<u8>) -> Result<(), AllocError> {
+        in_order!(ColumnDefinitionCatalog::new(), self.names(), self.fields()).serialize(buf)
+    }
+}
+
+impl Readable for Column {
+    type Ctx = ();
+
+    ghost SIZE = { None };
+
+    ghost AsksForMemory = { true };
+
+    ghost Shown = { ColumnDefinition };
+
+    ghost shown = { column_view };
+
+    ghost kept = { column_view };
+
+    ghost read_at = { λ _ bytes. column_at bytes };
+
+    ghost IsReadBack = { λ _ p _. IsColumn (column_view p) };
+
+    ghost sized = { λ _. unsized column_at };
+
+    fn size() -> Option<usize>
+        ensures { result ≡ None }
+    {
+        None
+    }
+}
+
+impl ReadsBack for Column {
+    ghost reads_back = { λ _ p. column_at-back (column_view p) };
+}
+
+/// Reads a column, whose names are copied. Refused, from the left, by UnexpectedEof where it is cut off, by BadConstant for
+/// another catalog than `def` or another length of the fixed fields than 12, by UnknownValue for a type without a name, then
+/// by Memory.
+///
+/// MySQL: Client/Server Protocol, "Column Definition".
+#[tactic(auto, unfolding(crate::specs::Columns::column_at))]
+impl<'de> MyDeserialize<'de> for Column {
+    fn deserialize(alloc: Global, _ctx: (), buf: &mut ParseBuf<'de>) -> Result<Column, WireError> {
+        let mut rest = *buf;
+        let _catalog: ColumnDefinitionCatalog = rest.parse(alloc, ())?;
+        let names = names_of(&mut rest)?;
+        let mut block = rest.parse::<ParseBuf>(alloc, 13)?;
+        let fields = fixed_fields_of(alloc, &mut block)?;
+        let column = copied(alloc, &names, fields)?;
+        *buf = rest;
+        Ok(column)
+    }
+}

@@ -1,0 +1,13 @@
+//! Columns of result sets and of prepared statements.
+#![tactic(auto)]
+
+pub mod column;
+pub mod headers;
+pub mod laws;
+mod texts;
+
+pub use column::Column;
+pub use headers::{
+    Catalog, ColumnDefinitionCatalog, FixedLengthFieldsLen, InvalidCatalog,
+    InvalidFixedLengthFieldsLen,
+};

@@ -1,0 +1,2 @@
+pub mod OkPackets
+pub mod Views

@@ -1,0 +1,220 @@
+//! OK packets.
+
+ghost use Rattle.std.specs.Prelude.{◌≡◌, IfOk, IsOkUnless, [], map, option_map};
+ghost use Rattle.std.specs.Cow.{cow_str_bytes};
+ghost use Rattle.mysql_raw.specs.Wire.{GivesPart};
+ghost use Rattle.mysql_raw.specs.WireError.TheVariants as wire;
+ghost use Rattle.mysql_session_states.specs.Views.{state_view};
+ghost use Rattle.mysql_ok_packets.specs.OkPackets.{all_states_at, lossy_text, more_results_exist, unless_empty, unless_zero};
+ghost use Rattle.mysql_ok_packets.specs.Views.{IsPacketOf, body_view, bytes_view, ok_packet_view};
+
+use crate::body::OkPacketBody;
+use bitflags::Flags;
+use bstr::ByteSlice;
+use mysql_const::StatusFlags;
+use mysql_raw::WireError;
+use mysql_session_states::{SessionStateInfo, states_of};
+use std::alloc::{AllocError, Global};
+use std::borrow::{CowSlice, CowStr};
+
+/// An OK packet: what a server answers to a command that gives no rows, and what ends a result set where EOF
+/// packets are deprecated.
+///
+/// MySQL: Client/Server Protocol, "OK_Packet".
+#[derive(Debug, PartialEq, Eq, Drop)]
+pub struct OkPacket<'a> {
+    affected_rows: u64,
+    last_insert_id: Option<u64>,
+    status_flags: StatusFlags,
+    warnings: u16,
+    info: Option<CowSlice<'a, u8>>,
+    session_state_info: Option<CowSlice<'a, u8>>,
+}
+
+/// Another result follows.
+pub fn has_more_results(status: StatusFlags) -> bool
+    ensures { result ≡ more_results_exist status.0 }
+{
+    status.contains(StatusFlags::SERVER_MORE_RESULTS_EXISTS)
+}
+
+// The bytes, where there are any.
+fn unless_empty_of(bytes: &[u8]) -> Option<CowSlice<'_, u8>>
+    ensures { bytes_view result ≡ unless_empty bytes.now }
+{
+    match bytes {
+        [] => None,
+        [..] => Some(CowSlice::Borrowed(bytes)),
+    }
+}
+
+// An id of 0 is none.
+fn unless_zero_of(id: u64) -> Option<u64>
+    ensures { result ≡ unless_zero id }
+{
+    if id == 0 { None } else { Some(id) }
+}
+
+// The same bytes, which borrow nothing.
+fn owned<'b>(
+    alloc: Global,
+    bytes: Option<CowSlice<'_, u8>>,
+) -> Result<Option<CowSlice<'b, u8>>, AllocError>
+    ensures { IfOk result (λ same. bytes_view same ≡ bytes_view bytes.entry) }
+{
+    match bytes {
+        Some(bytes) => Ok(Some(CowSlice::Owned(bytes.into_owned(alloc)?))),
+        None => Ok(None),
+    }
+}
+
+// A copy of the bytes, which borrows nothing.
+fn copy_of<'b>(
+    alloc: Global,
+    bytes: &Option<CowSlice<'_, u8>>,
+) -> Result<Option<CowSlice<'b, u8>>, AllocError>
+    ensures { IfOk result (λ copy. bytes_view copy ≡ bytes_view bytes.now) }
+{
+    match bytes {
+        Some(bytes) => Ok(Some(CowSlice::Owned(Vec::from_slice(alloc, bytes.as_slice())?))),
+        None => Ok(None),
+    }
+}
+
+// The bytes, where there are any.
+fn lent<'a>(bytes: &'a Option<CowSlice<'_, u8>>) -> Option<&'a [u8]>
+    ensures { option_map (λ some. some.now) result ≡ bytes_view bytes.now }
+{
+    match bytes {
+        Some(bytes) => Some(bytes.as_slice()),
+        None => None,
+    }
+}
+
+impl<'a> OkPacket<'a> {
+    // The packet of this body.
+    pub(crate) fn of_body(body: OkPacketBody<'a>) -> OkPacket<'a>
+        ensures { ok_packet_view result ≡ body_view body.entry }
+    {
+        OkPacket {
+            affected_rows: body.affected_rows,
+            last_insert_id: unless_zero_of(body.last_insert_id),
+            status_flags: body.status_flags,
+            warnings: body.warnings,
+            info: unless_empty_of(body.info),
+            session_state_info: unless_empty_of(body.session_state_info),
+        }
+    }
+
+    /// The same packet, which borrows nothing. Refused for want of memory.
+    pub fn into_owned(self, alloc: Global) -> Result<OkPacket<'static>, AllocError>
+        ensures { IfOk result (λ same. ok_packet_view same ≡ ok_packet_view self.entry) }
+    {
+        let info = owned(alloc, self.info)?;
+        let session_state_info = owned(alloc, self.session_state_info)?;
+        Ok(OkPacket {
+            affected_rows: self.affected_rows,
+            last_insert_id: self.last_insert_id,
+            status_flags: self.status_flags,
+            warnings: self.warnings,
+            info,
+            session_state_info,
+        })
+    }
+
+    /// A copy of the packet, which borrows nothing. Refused for want of memory.
+    pub fn clone(&self, alloc: Global) -> Result<OkPacket<'static>, AllocError>
+        ensures { IfOk result (λ copy. ok_packet_view copy ≡ ok_packet_view self.now) }
+    {
+        let info = copy_of(alloc, &self.info)?;
+        let session_state_info = copy_of(alloc, &self.session_state_info)?;
+        Ok(OkPacket {
+            affected_rows: self.affected_rows,
+            last_insert_id: self.last_insert_id,
+            status_flags: self.status_flags,
+            warnings: self.warnings,
+            info,
+            session_state_info,
+        })
+    }
+
+    /// How many rows the command changed.
+    pub fn affected_rows(&self) -> u64
+        ensures { result ≡ (ok_packet_view self.now).affected_rows }
+    {
+        self.affected_rows
+    }
+
+    /// The id that the command gave last, where it gave one.
+    pub fn last_insert_id(&self) -> Option<u64>
+        ensures { result ≡ (ok_packet_view self.now).last_insert_id }
+    {
+        self.last_insert_id
+    }
+
+    /// The server's state after the command.
+    pub fn status_flags(&self) -> StatusFlags
+        ensures { result.0 ≡ (ok_packet_view self.now).status_flags }
+    {
+        self.status_flags
+    }
+
+    /// How many warnings there are.
+    pub fn warnings(&self) -> u16
+        ensures { result ≡ (ok_packet_view self.now).warnings }
+    {
+        self.warnings
+    }
+
+    /// The server's text on the command as bytes, where it isn't empty.
+    pub fn info_ref(&self) -> Option<&[u8]>
+        ensures { option_map (λ info. info.now) result ≡ (ok_packet_view self.now).info }
+    {
+        lent(&self.info)
+    }
+
+    /// The server's text on the command as text, where it isn't empty; bytes that aren't UTF-8 are replaced. Refused for want of
+    /// memory.
+    pub fn info_str(&self, alloc: Global) -> Result<Option<CowStr<'_>>, WireError>
+        ensures memory { IsOkUnless result wire.Memory }
+        ensures value { IfOk result (λ text. option_map cow_str_bytes text ≡ option_map lossy_text (ok_packet_view self.now).info) }
+    {
+        match &self.info {
+            Some(info) => Ok(Some(info.as_slice().to_str_lossy(alloc)?)),
+            None => Ok(None),
+        }
+    }
+
+    /// The changes of the session's state as bytes, where there are any.
+    pub fn session_state_info_ref(&self) -> Option<&[u8]>
+        ensures { option_map (λ state. state.now) result ≡ (ok_packet_view self.now).session_state_info }
+    {
+        lent(&self.session_state_info)
+    }
+
+    /// The changes of the session's state, in their order; none where there are none. Refused by `UnexpectedEof` where one is cut
+    /// off and by `UnknownValue` for a type without a name, whichever stands first, and by `Memory`.
+    ///
+    /// MySQL: Client/Server Protocol, "OK_Packet", 'Session State Information'.
+    pub fn session_state_info(&self, alloc: Global) -> Result<Vec<SessionStateInfo<'_>>, WireError>
+        ensures { GivesPart (λ all. map state_view all.items) [] result (all_states_at (ok_packet_view self.now).session_state_info) }
+    {
+        match &self.session_state_info {
+            Some(bytes) => states_of(alloc, bytes.as_slice()),
+            None => Ok(Vec::new(alloc)),
+        }
+    }
+}
+
+/// The packet of a body: an id of 0 is none, and so are an empty info and an empty session state. Never refused.
+///
+/// MySQL: Client/Server Protocol, "OK_Packet".
+impl<'a> TryFrom<OkPacketBody<'a>> for OkPacket<'a> {
+    type Error = WireError;
+
+    ghost try_from_gives = { λ body answer. IsPacketOf body answer };
+
+    fn try_from(body: OkPacketBody<'a>) -> Result<OkPacket<'a>, WireError> {
+        Ok(OkPacket::of_body(body))
+    }
+}

@@ -1,0 +1,128 @@
+//! Requests for files.
+
+ghost use Rattle.std.specs.Prelude.{◌≡◌, [], IfOk, IsOkUnless, List, None, false, ℕ};
+ghost use Rattle.std.specs.Cow.{cow_slice_items, cow_str_bytes};
+ghost use Rattle.mysql_raw.specs.Laws.{unsized};
+ghost use Rattle.mysql_raw.specs.WireError.TheVariants as wire;
+ghost use Rattle.mysql_packets.specs.PacketLaws.{local_infile_at-back};
+ghost use Rattle.mysql_packets.specs.Packets.{local_infile, local_infile_at};
+ghost use Rattle.mysql_packets.specs.Texts.{lossy};
+ghost use Rattle.mysql_packets.specs.Views.{local_infile_view};
+
+use crate::headers::LocalInfileHeader;
+use crate::texts::{copy_of, lossy};
+use mysql_buf::ParseBuf;
+use mysql_raw::{MyDeserialize, MySerialize, ParseExt, Readable, ReadsBack, WireError, in_order};
+use mysql_raw_bytes::{EofBytes, RawBytes};
+use std::alloc::{AllocError, Global};
+use std::borrow::{CowSlice, CowStr};
+
+/// The server's request for a file of the client.
+///
+/// MySQL: Client/Server Protocol, "LOCAL INFILE Request".
+#[derive(Debug, PartialEq, Eq, Drop)]
+pub struct LocalInfilePacket<'a> {
+    file_name: CowSlice<'a, u8>,
+}
+
+impl<'a> LocalInfilePacket<'a> {
+    /// The request for the file of this name.
+    pub fn new(file_name: CowSlice<'a, u8>) -> LocalInfilePacket<'a>
+        ensures { local_infile_view result ≡ cow_slice_items file_name.entry }
+    {
+        LocalInfilePacket { file_name }
+    }
+
+    /// The file's name, as bytes.
+    pub fn file_name_ref(&self) -> &[u8]
+        ensures { result.now ≡ local_infile_view self.now }
+    {
+        self.file_name.as_slice()
+    }
+
+    /// The file's name, where bytes that aren't UTF-8 are replaced. Refused for want of memory.
+    pub fn file_name_str(&self, alloc: Global) -> Result<CowStr<'_>, WireError>
+        ensures memory { IsOkUnless result wire.Memory }
+        ensures value { IfOk result (λ text. cow_str_bytes text ≡ lossy (local_infile_view self.now)) }
+    {
+        lossy(alloc, self.file_name_ref())
+    }
+
+    /// The same request, which borrows nothing. Refused for want of memory.
+    pub fn into_owned(self, alloc: Global) -> Result<LocalInfilePacket<'static>, AllocError>
+        ensures { IfOk result (λ owned. local_infile_view owned ≡ local_infile_view self.entry) }
+    {
+        Ok(LocalInfilePacket {
+            file_name: CowSlice::Owned(self.file_name.into_owned(alloc)?),
+        })
+    }
+
+    /// A copy, which borrows nothing. Refused for want of memory.
+    pub fn clone(&self, alloc: Global) -> Result<LocalInfilePacket<'static>, AllocError>
+        ensures { IfOk result (λ copy. local_infile_view copy ≡ local_infile_view self.now) }
+    {
+        Ok(LocalInfilePacket {
+            file_name: copy_of(alloc, self.file_name.as_slice())?,
+        })
+    }
+}
+
+/// fb, and the name to the end.
+#[tactic(auto, unfolding(crate::specs::Packets::local_infile))]
+impl<'a> MySerialize for LocalInfilePacket<'a> {
+    ghost written = { λ p. local_infile (local_infile_view p) };
+
+    fn serialize(&self, buf: &mut Vec<u8>) -> Result<(), AllocError> {
+        let name: RawBytes<EofBytes> = RawBytes::new(CowSlice::Borrowed(self.file_name_ref()));
+        in_order!(LocalInfileHeader::new(), name).serialize(buf)
+    }
+}
+
+impl<'a> Readable for LocalInfilePacket<'a> {
+    type Ctx = ();
+
+    ghost SIZE = { None };
+
+    ghost AsksForMemory = { false };
+
+    ghost Shown = { List ℕ };
+
+    ghost shown = { local_infile_view };
+
+    ghost kept = { local_infile_view };
+
+    ghost read_at = { λ _ bytes. local_infile_at bytes };
+
+    ghost IsReadBack = { λ _ _ rest. rest ≡ [] };
+
+    ghost sized = { λ _. unsized local_infile_at };
+
+    fn size() -> Option<usize>
+        ensures { result ≡ None }
+    {
+        None
+    }
+}
+
+impl<'a> ReadsBack for LocalInfilePacket<'a> {
+    ghost reads_back = { λ _ p. local_infile_at-back (local_infile_view p) };
+}
+
+/// Reads a request; the name is all that is left. Refused by UnexpectedEof where there is no byte, then by BadConstant for
+/// another first byte than fb.
+///
+/// MySQL: Client/Server Protocol, "LOCAL INFILE Request".
+#[tactic(auto, unfolding(crate::specs::Packets::local_infile_at))]
+impl<'de> MyDeserialize<'de> for LocalInfilePacket<'de> {
+    fn deserialize(
+        alloc: Global,
+        _ctx: (),
+        buf: &mut ParseBuf<'de>,
+    ) -> Result<LocalInfilePacket<'de>, WireError> {
+        let mut rest = *buf;
+        let _header: LocalInfileHeader = rest.parse(alloc, ())?;
+        let file_name = CowSlice::Borrowed(rest.eat_all());
+        *buf = rest;
+        Ok(LocalInfilePacket { file_name })
+    }
+}

@@ -1,0 +1,110 @@
+//! Columns.
+
+use crate::support::{Asserting, assert_text};
+use mysql_const::{ColumnFlags, ColumnType};
+use mysql_packets::Column;
+use mysql_raw::WireError;
+use std::alloc::{AllocError, Global};
+use tests_support::{
+    Assert, assert_bytes, assert_cut_off, assert_equal, assert_made, assert_reads_back,
+    assert_refused, whole,
+};
+
+const COLUMN: &[u8] =
+    b"\x03def\x06schema\x05table\x09org_table\x04name\x08org_name\x0c\x21\0\x0f\0\0\0\0\x01\0\x08\0\0";
+
+fn assert_names(assert: &impl Assert, column: &Column) {
+    assert_bytes(assert, column.schema_ref(), b"schema");
+    assert_bytes(assert, column.table_ref(), b"table");
+    assert_bytes(assert, column.org_table_ref(), b"org_table");
+    assert_bytes(assert, column.name_ref(), b"name");
+    assert_bytes(assert, column.org_name_ref(), b"org_name");
+}
+
+fn assert_fields(assert: &impl Assert, column: &Column) {
+    assert_equal(assert, column.character_set(), 33);
+    assert_equal(assert, column.column_length(), 15);
+    assert_equal(assert, column.column_type(), ColumnType::MYSQL_TYPE_DECIMAL);
+    assert_equal(assert, column.flags(), ColumnFlags::NOT_NULL_FLAG);
+    assert_equal(assert, column.decimals(), 8);
+}
+
+fn assert_texts(assert: &impl Assert, alloc: Global, column: &Column) {
+    assert_text(
+        assert,
+        column.schema_str(alloc),
+        column.schema_str(alloc),
+        "schema",
+    );
+    assert_text(
+        assert,
+        column.name_str(alloc),
+        column.name_str(alloc),
+        "name",
+    );
+}
+
+#[test]
+fn a_column(rt: HostRuntime) {
+    let assert = Asserting(&rt);
+    let column = whole::<Column, ()>(&assert, rt.alloc(), (), COLUMN);
+    assert_names(&assert, &column);
+    assert_fields(&assert, &column);
+    assert_texts(&assert, rt.alloc(), &column);
+}
+
+#[test]
+fn read_back(rt: HostRuntime) {
+    let assert = Asserting(&rt);
+    assert_reads_back::<Column, ()>(&assert, rt.alloc(), (), COLUMN);
+    assert_cut_off::<Column, ()>(&assert, rt.alloc(), (), COLUMN, 0, COLUMN.len());
+}
+
+fn with_names(alloc: Global) -> Result<Column, AllocError> {
+    Column::new(alloc, ColumnType::MYSQL_TYPE_DECIMAL)
+        .with_schema(b"schema")?
+        .with_table(b"table")?
+        .with_org_table(b"org_table")?
+        .with_name(b"name")?
+        .with_org_name(b"org_name")
+}
+
+fn made(alloc: Global) -> Result<Column, AllocError> {
+    let column = with_names(alloc)?;
+    Ok(
+        column
+            .with_character_set(33)
+            .with_column_length(15)
+            .with_flags(ColumnFlags::NOT_NULL_FLAG)
+            .with_decimals(8),
+    )
+}
+
+#[test]
+fn made_by_its_parts(rt: HostRuntime) {
+    let alloc = rt.alloc();
+    assert_made(&Asserting(&rt), alloc, made(alloc), made(alloc), COLUMN);
+}
+
+// Bytes, and why they are refused: another catalog, another count of the fixed fields, a type without a name.
+const NO_COLUMNS: [(&[u8], WireError); 3] = [
+    (
+        b"\x03dex\0\0\0\0\0\x0c\x21\0\x0f\0\0\0\0\x01\0\x08\0\0",
+        WireError::BadConstant,
+    ),
+    (
+        b"\x03def\0\0\0\0\0\x0d\x21\0\x0f\0\0\0\0\x01\0\x08\0\0",
+        WireError::BadConstant,
+    ),
+    (
+        b"\x03def\0\0\0\0\0\x0c\x21\0\x0f\0\0\0\xf0\x01\0\x08\0\0",
+        WireError::UnknownValue,
+    ),
+];
+
+#[test]
+fn no_columns(rt: HostRuntime) {
+    for (bytes, cause) in &NO_COLUMNS {
+        assert_refused::<Column, ()>(&Asserting(&rt), rt.alloc(), (), *bytes, *cause);
+    }
+}

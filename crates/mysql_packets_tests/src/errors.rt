@@ -1,0 +1,179 @@
+//! Error packets, progress reports, requests for files, and statement packets.
+
+use crate::support::{Asserting, assert_text};
+use mysql_const::CapabilityFlags;
+use mysql_packets::{
+    ErrPacket, LocalInfilePacket, ProgressReport, ServerError, SqlState, StmtPacket,
+};
+use mysql_raw::WireError;
+use std::alloc::Global;
+use std::borrow::CowSlice;
+use std::fmt::Display;
+use tests_support::{
+    Assert, assert_bytes, assert_cut_off, assert_equal, assert_reads_back, assert_refused,
+    once_more, whole,
+};
+
+const NONE: CapabilityFlags = CapabilityFlags(0);
+
+const PROTOCOL_41: CapabilityFlags = CapabilityFlags::CLIENT_PROTOCOL_41;
+
+const WITH_PROGRESS: CapabilityFlags = CapabilityFlags(0x2000_0200);
+
+const NO_TABLES: &[u8] = b"\xff\x48\x04#HY000No tables used";
+
+const TOO_MANY: &[u8] = b"\xff\x10\x04Too many connections";
+
+const PROGRESS: &[u8] = b"\xff\xff\xff\x01\x01\x0a\xcc\x5b\0\x0astage name";
+
+fn assert_error(assert: &impl Assert, packet: &ErrPacket, code: u16, message: &[u8]) {
+    match packet {
+        ErrPacket::Error(error) => {
+            assert_equal(assert, error.error_code(), code);
+            assert_bytes(assert, error.message_ref(), message);
+        }
+        ErrPacket::Progress(_) => assert.holds(false),
+    }
+}
+
+fn assert_state(assert: &impl Assert, packet: &ErrPacket, state: Option<[u8; 5]>) {
+    match packet {
+        ErrPacket::Error(error) => {
+            let found = error.sql_state_ref().map(|state| state.as_bytes());
+            assert_equal(assert, found, state);
+        }
+        ErrPacket::Progress(_) => assert.holds(false),
+    }
+}
+
+#[test]
+fn an_error(rt: HostRuntime) {
+    let assert = Asserting(&rt);
+    let packet = whole::<ErrPacket, CapabilityFlags>(&assert, rt.alloc(), PROTOCOL_41, NO_TABLES);
+    assert.holds(packet.is_error());
+    assert_error(&assert, &packet, 1096, b"No tables used");
+    assert_state(&assert, &packet, Some(*b"HY000"));
+}
+
+#[test]
+fn an_error_without_a_state(rt: HostRuntime) {
+    let assert = Asserting(&rt);
+    let packet = whole::<ErrPacket, CapabilityFlags>(&assert, rt.alloc(), NONE, TOO_MANY);
+    assert_error(&assert, &packet, 1040, b"Too many connections");
+    assert_state(&assert, &packet, None);
+}
+
+/// Packets, the capabilities by which they are read, and the number of bytes without which they are cut off.
+const READ_BACK: [(&[u8], CapabilityFlags, usize); 3] = [
+    (NO_TABLES, PROTOCOL_41, 9),
+    (TOO_MANY, NONE, 3),
+    (PROGRESS, WITH_PROGRESS, 20),
+];
+
+#[test]
+fn read_back(rt: HostRuntime) {
+    let assert = Asserting(&rt);
+    for (bytes, capabilities, len) in &READ_BACK {
+        assert_reads_back::<ErrPacket, CapabilityFlags>(&assert, rt.alloc(), *capabilities, *bytes);
+        assert_cut_off::<ErrPacket, CapabilityFlags>(
+            &assert,
+            rt.alloc(),
+            *capabilities,
+            *bytes,
+            0,
+            *len,
+        );
+    }
+}
+
+#[test]
+fn no_errors(rt: HostRuntime) {
+    let assert = Asserting(&rt);
+    let cause = WireError::BadConstant;
+    assert_refused::<ErrPacket, CapabilityFlags>(&assert, rt.alloc(), NONE, b"\xfe\x10\x04", cause);
+    assert_refused::<ErrPacket, CapabilityFlags>(&assert, rt.alloc(), PROTOCOL_41, TOO_MANY, cause);
+}
+
+fn assert_report(assert: &impl Assert, packet: &ErrPacket) {
+    match packet {
+        ErrPacket::Progress(report) => {
+            assert_equal(assert, report.stage(), 1);
+            assert_equal(assert, report.max_stage(), 10);
+            assert_equal(assert, report.progress(), 23500);
+            assert_bytes(assert, report.stage_info_ref(), b"stage name");
+        }
+        ErrPacket::Error(_) => assert.holds(false),
+    }
+}
+
+#[test]
+fn a_progress_report(rt: HostRuntime) {
+    let assert = Asserting(&rt);
+    let packet = whole::<ErrPacket, CapabilityFlags>(&assert, rt.alloc(), WITH_PROGRESS, PROGRESS);
+    assert.holds(packet.is_progress_report());
+    assert_report(&assert, &packet);
+}
+
+/// Asserts how a value prints.
+fn assert_prints<T: Display>(assert: &impl Assert, alloc: Global, value: &T, wanted: &str) {
+    let text = once_more(assert, value.to_string(alloc), value.to_string(alloc));
+    assert_bytes(assert, text.as_bytes(), wanted.as_bytes());
+}
+
+#[test]
+fn errors_print(rt: HostRuntime) {
+    let assert = Asserting(&rt);
+    let state = Some(SqlState::new(*b"HY000"));
+    let error = ServerError::new(1096, state, CowSlice::Borrowed(b"No tables used"));
+    assert_prints(
+        &assert,
+        rt.alloc(),
+        &error,
+        "ERROR 1096 (HY000): No tables used",
+    );
+}
+
+#[test]
+fn reports_print(rt: HostRuntime) {
+    let assert = Asserting(&rt);
+    let report = ProgressReport::new(1, 10, 23500, CowSlice::Borrowed(b"stage name"));
+    assert_prints(
+        &assert,
+        rt.alloc(),
+        &report,
+        "Stage: 1 of 10 'stage name'  23.50% of stage done",
+    );
+}
+
+const FILE: &[u8] = b"\xfbfile_name";
+
+#[test]
+fn a_request_for_a_file(rt: HostRuntime) {
+    let assert = Asserting(&rt);
+    let alloc = rt.alloc();
+    let packet = whole::<LocalInfilePacket, ()>(&assert, alloc, (), FILE);
+    assert_bytes(&assert, packet.file_name_ref(), b"file_name");
+    assert_text(
+        &assert,
+        packet.file_name_str(alloc),
+        packet.file_name_str(alloc),
+        "file_name",
+    );
+    assert_reads_back::<LocalInfilePacket, ()>(&assert, alloc, (), FILE);
+    assert_refused::<LocalInfilePacket, ()>(&assert, alloc, (), b"\xfa", WireError::BadConstant);
+}
+
+const PREPARED: &[u8] = b"\0\x01\0\0\0\x01\0\x02\0\0\0\0";
+
+#[test]
+fn a_statement(rt: HostRuntime) {
+    let assert = Asserting(&rt);
+    let alloc = rt.alloc();
+    let packet = whole::<StmtPacket, ()>(&assert, alloc, (), PREPARED);
+    assert_equal(&assert, packet.statement_id(), 1);
+    assert_equal(&assert, packet.num_columns(), 1);
+    assert_equal(&assert, packet.num_params(), 2);
+    assert_equal(&assert, packet.warning_count(), 0);
+    assert_reads_back::<StmtPacket, ()>(&assert, alloc, (), PREPARED);
+    assert_cut_off::<StmtPacket, ()>(&assert, alloc, (), PREPARED, 0, 12);
+}

@@ -1,0 +1,20 @@
+//! Tests of `mysql_packets` and the crates below it from outside: columns, OK and error packets, session states, rows and
+//! commands of prepared statements, whole and cut off at each byte.
+#![tactic(auto)]
+
+#[cfg(test)]
+mod bulk;
+#[cfg(test)]
+mod columns;
+#[cfg(test)]
+mod errors;
+#[cfg(test)]
+mod ok_packets;
+#[cfg(test)]
+mod rows;
+#[cfg(test)]
+mod session_states;
+#[cfg(test)]
+mod statements;
+#[cfg(test)]
+mod support;

@@ -1,0 +1,218 @@
+//! Rows, and what is taken of them.
+
+use crate::support::Asserting;
+use mysql_buf::ParseBuf;
+use mysql_cells::Value;
+use mysql_const::ColumnType;
+use mysql_convert::FromValueError;
+use mysql_null_bitmap::{ClientSide, ServerSide};
+use mysql_packets::Column;
+use mysql_raw::{Binary, MyDeserialize, ParseExt, Readable, Text, WireError};
+use mysql_rows::{Row, RowDeserializer};
+use std::alloc::{AllocError, Global};
+use std::rc::RcSlice;
+use tests_support::{Assert, assert_equal, once_more};
+
+fn column(alloc: Global, name: &[u8], kind: ColumnType) -> Result<Column, AllocError> {
+    Column::new(alloc, kind).with_name(name)
+}
+
+fn two(alloc: Global) -> Result<RcSlice<Column>, AllocError> {
+    let mut columns = Vec::new(alloc);
+    columns.push(column(alloc, b"id", ColumnType::MYSQL_TYPE_LONGLONG)?)?;
+    columns.push(column(alloc, b"name", ColumnType::MYSQL_TYPE_VAR_STRING)?)?;
+    RcSlice::from_vec(columns)
+}
+
+/// Two columns, `id` and `name`.
+fn columns(assert: &impl Assert, alloc: Global) -> RcSlice<Column> {
+    once_more(assert, two(alloc), two(alloc))
+}
+
+/// The row that these bytes are; None where memory was refused.
+fn read<'a, T: MyDeserialize<'a> + Readable<Ctx = RcSlice<Column>> + Drop>(
+    assert: &impl Assert,
+    alloc: Global,
+    columns: RcSlice<Column>,
+    bytes: &'a [u8],
+) -> Result<T, WireError> {
+    let mut buf = ParseBuf(bytes);
+    let row = buf.parse::<T>(alloc, columns);
+    assert.holds(row.is_err() || buf.is_empty());
+    row
+}
+
+/// The row that these bytes are, with none left. It is read once more where memory was refused.
+fn row_of<'a, T: MyDeserialize<'a> + Readable<Ctx = RcSlice<Column>> + Drop>(
+    assert: &impl Assert,
+    alloc: Global,
+    bytes: &'a [u8],
+) -> T {
+    let first = read::<T>(assert, alloc, columns(assert, alloc), bytes);
+    let second = read::<T>(assert, alloc, columns(assert, alloc), bytes);
+    once_more(assert, first, second)
+}
+
+fn assert_cells(assert: &impl Assert, row: &Row, id: Option<i64>, name: Option<&[u8]>) {
+    assert_equal(assert, row.len(), 2);
+    assert.holds(row.is_whole());
+    assert_id(assert, row.as_ref(0), id);
+    assert_name(assert, row.as_ref(1), name);
+    assert.holds(row.as_ref(2).is_none());
+}
+
+fn assert_id(assert: &impl Assert, found: Option<&Value>, wanted: Option<i64>) {
+    match found {
+        Some(Value::Int(number)) => assert.holds(wanted == Some(*number)),
+        Some(Value::NULL) => assert.holds(wanted.is_none()),
+        _ => assert.holds(false),
+    }
+}
+
+fn assert_name(assert: &impl Assert, found: Option<&Value>, wanted: Option<&[u8]>) {
+    match found {
+        Some(Value::Bytes(bytes)) => assert.holds(wanted == Some(bytes.as_slice())),
+        Some(Value::NULL) => assert.holds(wanted.is_none()),
+        _ => assert.holds(false),
+    }
+}
+
+/// A binary row of a server: a number and a text.
+const BINARY: &[u8] = b"\x00\x00\x05\0\0\0\0\0\0\0\x01x";
+
+/// The same with the number NULL: its bit is the third.
+const BINARY_NULL: &[u8] = b"\x00\x04\x01x";
+
+/// Of a client the bits begin with the first.
+const CLIENT_NULL: &[u8] = b"\x00\x01\x01x";
+
+#[test]
+fn binary_rows(rt: HostRuntime) {
+    let assert = Asserting(&rt);
+    let row = row_of::<RowDeserializer<ServerSide, Binary>>(&assert, rt.alloc(), BINARY);
+    assert_cells(&assert, &row.into_inner(), Some(5), Some(b"x"));
+    let row = row_of::<RowDeserializer<ServerSide, Binary>>(&assert, rt.alloc(), BINARY_NULL);
+    assert_cells(&assert, &row.into_inner(), None, Some(b"x"));
+    let row = row_of::<RowDeserializer<ClientSide, Binary>>(&assert, rt.alloc(), CLIENT_NULL);
+    assert_cells(&assert, &row.into_inner(), None, Some(b"x"));
+}
+
+fn assert_first_taken(assert: &impl Assert, row: &mut Row) {
+    // Text of a number converts, by name; it is taken once.
+    let taken: Option<Result<u64, FromValueError>> = row.take_opt("id");
+    assert.holds(matches!(taken, Some(Ok(7))));
+    let again: Option<Result<u64, FromValueError>> = row.take_opt(0);
+    assert.holds(again.is_none());
+    assert.holds(!row.is_whole());
+}
+
+fn assert_second_refused(assert: &impl Assert, row: &mut Row) {
+    // What doesn't convert comes back with its error.
+    let taken: Option<Result<u64, FromValueError>> = row.take_opt("name");
+    match taken {
+        Some(Err(FromValueError(Value::Bytes(bytes)))) => {
+            assert.holds(bytes.as_slice() == b"x".as_slice());
+        }
+        _ => assert.holds(false),
+    }
+}
+
+fn assert_placed(assert: &impl Assert, row: &mut Row) {
+    assert.holds(row.len() == 2);
+    row.place(0, Value::Int(1));
+    assert_id(assert, row.as_ref(0), Some(1));
+}
+
+#[test]
+fn taken_once(rt: HostRuntime) {
+    let assert = Asserting(&rt);
+    let read = row_of::<RowDeserializer<ServerSide, Text>>(&assert, rt.alloc(), b"\x017\x01x");
+    let mut row = read.into_inner();
+    assert_first_taken(&assert, &mut row);
+    assert_second_refused(&assert, &mut row);
+    assert_placed(&assert, &mut row);
+}
+
+fn copy_of(
+    alloc: Global,
+    row: &Row,
+    name: &str,
+) -> Result<Option<Result<u64, FromValueError>>, AllocError> {
+    row.get_opt(alloc, name)
+}
+
+#[test]
+fn copied(rt: HostRuntime) {
+    let assert = Asserting(&rt);
+    let alloc = rt.alloc();
+    let read = row_of::<RowDeserializer<ServerSide, Text>>(&assert, alloc, b"\x017\xfb");
+    let row = read.into_inner();
+    let found = once_more(
+        &assert,
+        copy_of(alloc, &row, "id"),
+        copy_of(alloc, &row, "id"),
+    );
+    assert.holds(matches!(found, Some(Ok(7))));
+    let missing = once_more(
+        &assert,
+        copy_of(alloc, &row, "no"),
+        copy_of(alloc, &row, "no"),
+    );
+    assert.holds(missing.is_none());
+    assert.holds(row.is_whole());
+}
+
+/// Why bytes are no row; None where they are one.
+fn refusal_of<'a, T: MyDeserialize<'a> + Readable<Ctx = RcSlice<Column>> + Drop>(
+    assert: &impl Assert,
+    alloc: Global,
+    bytes: &'a [u8],
+) -> Option<WireError> {
+    let mut found = read::<T>(assert, alloc, columns(assert, alloc), bytes).err();
+    if found == Some(WireError::Memory) {
+        found = read::<T>(assert, alloc, columns(assert, alloc), bytes).err();
+    }
+    found
+}
+
+/// Text rows that are none, and why.
+const NO_TEXT_ROWS: [(&[u8], WireError); 3] = [
+    (b"", WireError::UnexpectedEof),
+    (b"\x015", WireError::UnexpectedEof),
+    (b"\x015\xff", WireError::BadLength),
+];
+
+#[test]
+fn no_text_rows(rt: HostRuntime) {
+    for (bytes, cause) in &NO_TEXT_ROWS {
+        let found = refusal_of::<RowDeserializer<ServerSide, Text>>(
+            &Asserting(&rt),
+            rt.alloc(),
+            *bytes,
+        );
+        assert_equal(&Asserting(&rt), found, Some(*cause));
+    }
+}
+
+/// Each prefix of a binary row is cut off.
+#[test]
+fn cut_off(rt: HostRuntime) {
+    for len in 0..BINARY.len() {
+        let found = refusal_of::<RowDeserializer<ServerSide, Binary>>(
+            &Asserting(&rt),
+            rt.alloc(),
+            &BINARY[..len],
+        );
+        assert_equal(&Asserting(&rt), found, Some(WireError::UnexpectedEof));
+    }
+}
+
+#[test]
+fn shared_columns(rt: HostRuntime) {
+    let assert = Asserting(&rt);
+    let alloc = rt.alloc();
+    let row = row_of::<RowDeserializer<ServerSide, Text>>(&assert, alloc, b"\xfb\xfb");
+    let row = row.into_inner();
+    let shared = once_more(&assert, row.columns(), row.columns());
+    assert_equal(&assert, shared.as_slice().len(), row.columns_ref().len());
+}

@@ -1,0 +1,128 @@
+//! Session states.
+
+use crate::support::Asserting;
+use mysql_const::SessionStateType;
+use mysql_raw::WireError;
+use mysql_session_states::{SessionStateChange, SessionStateInfo, SystemVariable};
+use std::alloc::Global;
+use tests_support::{
+    Assert, assert_bytes, assert_cut_off, assert_equal, assert_reads_back, assert_refused, whole,
+};
+
+/// What a state is decoded to.
+enum Told {
+    Tracked(bool),
+    Schema(&'static [u8]),
+    Variable(&'static [u8], &'static [u8]),
+    Gtids(&'static [u8]),
+    Refused(WireError),
+}
+
+fn assert_variables(assert: &impl Assert, all: &[SystemVariable], told: &Told) {
+    match all {
+        [variable] => assert.holds(
+            matches!(told, Told::Variable(name, value) if *name == variable.name_bytes() && *value == variable.value_bytes()),
+        ),
+        _ => assert.holds(false),
+    }
+}
+
+fn assert_change(assert: &impl Assert, change: &SessionStateChange, told: &Told) {
+    match change {
+        SessionStateChange::IsTracked(tracked) => {
+            assert.holds(matches!(told, Told::Tracked(wanted) if *wanted == *tracked))
+        }
+        SessionStateChange::Schema(schema) => {
+            assert.holds(matches!(told, Told::Schema(wanted) if *wanted == schema.as_bytes()))
+        }
+        SessionStateChange::Gtids(set) => {
+            assert.holds(matches!(told, Told::Gtids(wanted) if *wanted == set.as_bytes()))
+        }
+        SessionStateChange::SystemVariables(all) => assert_variables(assert, all.as_slice(), told),
+        _ => assert.holds(false),
+    }
+}
+
+/// Asserts what a state is decoded to. It is decoded once more where memory was refused.
+fn assert_decoded(assert: &impl Assert, alloc: Global, state: &SessionStateInfo, told: &Told) {
+    let mut found = state.decode(alloc);
+    if matches!(found, Err(WireError::Memory)) {
+        found = state.decode(alloc);
+    }
+    match found {
+        Ok(change) => assert_change(assert, &change, told),
+        Err(error) => assert.holds(matches!(told, Told::Refused(wanted) if *wanted == error)),
+    }
+}
+
+/// States, the type of each, and what it is decoded to.
+const STATES: [(&[u8], SessionStateType, Told); 7] = [
+    (
+        b"\x00\x0f\x0aautocommit\x03OFF",
+        SessionStateType::SESSION_TRACK_SYSTEM_VARIABLES,
+        Told::Variable(b"autocommit", b"OFF"),
+    ),
+    (
+        b"\x01\x05\x04test",
+        SessionStateType::SESSION_TRACK_SCHEMA,
+        Told::Schema(b"test"),
+    ),
+    (
+        b"\x02\x02\x011",
+        SessionStateType::SESSION_TRACK_STATE_CHANGE,
+        Told::Tracked(true),
+    ),
+    (
+        b"\x02\x02\x010",
+        SessionStateType::SESSION_TRACK_STATE_CHANGE,
+        Told::Tracked(false),
+    ),
+    (
+        b"\x03\x04\x00a:1",
+        SessionStateType::SESSION_TRACK_GTIDS,
+        Told::Gtids(b"\x00a:1"),
+    ),
+    // A server that writes no inner length: the state is read, and isn't decoded.
+    (
+        b"\x02\x011",
+        SessionStateType::SESSION_TRACK_STATE_CHANGE,
+        Told::Refused(WireError::UnexpectedEof),
+    ),
+    // An inner length past the bytes.
+    (
+        b"\x01\x05\x05test",
+        SessionStateType::SESSION_TRACK_SCHEMA,
+        Told::Refused(WireError::UnexpectedEof),
+    ),
+];
+
+#[test]
+fn states(rt: HostRuntime) {
+    let assert = Asserting(&rt);
+    for (bytes, kind, told) in &STATES {
+        let state = whole::<SessionStateInfo, ()>(&assert, rt.alloc(), (), *bytes);
+        assert_equal(&assert, state.data_type(), *kind);
+        assert_bytes(&assert, state.data_ref(), &bytes[2..]);
+        assert_decoded(&assert, rt.alloc(), &state, told);
+    }
+}
+
+#[test]
+fn read_back(rt: HostRuntime) {
+    let assert = Asserting(&rt);
+    for (bytes, _, _) in &STATES {
+        assert_reads_back::<SessionStateInfo, ()>(&assert, rt.alloc(), (), *bytes);
+        assert_cut_off::<SessionStateInfo, ()>(&assert, rt.alloc(), (), *bytes, 0, bytes.len());
+    }
+}
+
+#[test]
+fn a_type_without_a_name(rt: HostRuntime) {
+    assert_refused::<SessionStateInfo, ()>(
+        &Asserting(&rt),
+        rt.alloc(),
+        (),
+        b"\x06\x00",
+        WireError::UnknownValue,
+    );
+}

@@ -1,0 +1,160 @@
+-- A reply in the manual's words: which lists of payloads are a whole reply, and with which results. The grammar says what becomes of
+-- any payloads, one by one; here whole lists are put together from their parts. That both say the same is the law at the end.
+-- MySQL: Client/Server Protocol, "COM_QUERY Response", "Text Resultset", "Binary Protocol Resultset" and
+-- "COM_STMT_PREPARE Response"; MariaDB: 'Progress report' of "ERR_Packet".
+use Rattle.std.specs.Prelude.{◌≡◌, ℕ, ◌<◌, ◌≤◌, ◌^◌, List, [], ◌∷◌, ◌++◌, length, Bool, true, false, Some, None, Ok, nat_lt, ◌&&◌, if◌then◌else◌}
+use Rattle.std.specs.List.{AllZip, AllByRecursion}
+use Rattle.mysql_wire.specs.Forms.{lenenc_number_at}
+use Rattle.mysql_wire.specs.Stream.{Rest, framings}
+use Rattle.mysql_wire.specs.Stream.Numbering.{OnFrom}
+use Rattle.mysql_wire.specs.Stream.Rest.{Empty}
+use Rattle.mysql_wire.specs.Wire.{Reading}
+use Rattle.mysql_ok_packets.specs.OkPackets.{OkPacket, ok_packet_at, old_eof_at, result_set_terminator_at, more_results_exist}
+use Rattle.mysql_packets.specs.Packets.{ServerError, PrepareOk, ProgressReport, error_at, progress_report_at, prepare_ok_at}
+use Rattle.mysql_columns.specs.Columns.{ColumnDefinition, column_at}
+pub use Rattle.mysql_rows.specs.Rows.{Row}
+use Rattle.mysql_rows.specs.Rows.{as_row, binary_resultset_row_at, text_row_at}
+use Rattle.mysql_replies.specs.declared.context.Context.{Context}
+use Rattle.mysql_replies.specs.Grammar.{Payload, Outcome, OkResult, RowsResult, PreparedResult, ErrorResult, FileResult, begins_with, deprecate_eof, has_report_form, is_binary, is_prepare, terminator_limit}
+use Rattle.mysql_replies.specs.Reply.{Answer, IsReply, Whole}
+use Rattle.mysql_replies.specs.Bytes.{IsReplyOf}
+
+-- A payload is read as this, whatever bytes are left behind it.
+abbrev pub Reads : {A : Type 0} → Reading A → A → Type 0
+Reads reading value = (left : List ℕ) × (reading ≡ Ok (value, left))
+
+-- An OK packet: it begins with 00.
+pub record IsOk (c : Context) (payload : Payload) (ok : OkPacket) : Type 0 where
+  pub header : begins_with 0 payload ≡ true
+  pub fields : Reads (ok_packet_at c.capabilities.0 payload) ok
+
+-- An error packet: it begins with ff.
+pub record IsError (c : Context) (payload : Payload) (error : ServerError) : Type 0 where
+  pub header : begins_with 255 payload ≡ true
+  pub fields : Reads (error_at c.capabilities.0 payload) error
+
+-- A column count: a number from 1 to 65535, and nothing behind it. What begins with 00, fb or ff is none.
+pub record IsCount (payload : Payload) (n : ℕ) : Type 0 where
+  pub number : lenenc_number_at payload ≡ Ok (n, [])
+  pub some : 0 < n
+  pub below : n < 65536
+
+-- Column packets, one for each column.
+abbrev pub AreColumns : List Payload → List ColumnDefinition → Type 0
+AreColumns payloads columns = AllZip (λ payload column. Reads (column_at payload) column) payloads columns
+
+-- The EOF packet: it begins with fe and has fewer than nine bytes.
+pub record IsEof (payload : Payload) : Type 0 where
+  pub below : length payload < 9
+  pub says : OkPacket
+  pub fields : Reads (old_eof_at payload) says
+
+-- The EOF that is due after columns: none after no columns, none with DEPRECATE_EOF, else one packet.
+pub data IsEofDue (c : Context) : List ColumnDefinition → List Payload → Type 0 where
+  no_columns : IsEofDue c [] []
+  deprecated : {columns : List ColumnDefinition} → deprecate_eof c.capabilities.0 ≡ true → IsEofDue c columns []
+  eof : {first : ColumnDefinition} {others : List ColumnDefinition} {payload : Payload} →
+      deprecate_eof c.capabilities.0 ≡ false → IsEof payload → IsEofDue c (first ∷ others) (payload ∷ [])
+
+-- So many column packets, and the EOF that is due.
+pub data IsColumnGroup (c : Context) : ℕ → List Payload → List ColumnDefinition → Type 0 where
+  group : (payloads end : List Payload) {columns : List ColumnDefinition} →
+      AreColumns payloads columns → IsEofDue c columns end → IsColumnGroup c (length columns) (payloads ++ end) columns
+
+-- A payload that begins with fe ends the rows: with DEPRECATE_EOF below 16777215 bytes, else below nine.
+abbrev pub ends_rows : Context → Payload → Bool
+ends_rows c payload = begins_with 254 payload && nat_lt (length payload) (terminator_limit c)
+
+-- A terminator: with DEPRECATE_EOF an OK packet that begins with fe, else the EOF packet.
+pub record IsTerminator (c : Context) (payload : Payload) (ok : OkPacket) : Type 0 where
+  pub ends : ends_rows c payload ≡ true
+  pub fields : Reads (if deprecate_eof c.capabilities.0 then result_set_terminator_at c.capabilities.0 payload else old_eof_at payload) ok
+
+-- A row's reading, by the kind of the command.
+abbrev pub row_at : Context → List ColumnDefinition → Payload → Reading Row
+row_at c columns payload = as_row columns (if is_binary c.kind then binary_resultset_row_at columns payload else text_row_at columns payload)
+
+-- A row is no error and no terminator, and nothing is left behind it.
+pub record IsRow (c : Context) (columns : List ColumnDefinition) (payload : Payload) (row : Row) : Type 0 where
+  pub no_error : begins_with 255 payload ≡ false
+  pub no_terminator : ends_rows c payload ≡ false
+  pub cells : row_at c columns payload ≡ Ok (row, [])
+
+abbrev pub AreRows : Context → List ColumnDefinition → List Payload → List Row → Type 0
+AreRows c columns payloads rows = AllZip (IsRow c columns) payloads rows
+
+-- Rows to their end, what they list, and whether another result follows: a terminator says so; an error, which is a result of
+-- its own, leaves the rows without a terminator, and nothing follows it.
+pub data EndedRows (c : Context) (columns : List ColumnDefinition) : List Payload → List Outcome → Bool → Type 0 where
+  terminated : (payloads : List Payload) {rows : List Row} {last : Payload} {ok : OkPacket} →
+      AreRows c columns payloads rows → IsTerminator c last ok →
+      EndedRows c columns (payloads ++ last ∷ []) (RowsResult columns rows (Some ok) ∷ []) (more_results_exist ok.status_flags)
+  failed : (payloads : List Payload) {rows : List Row} {last : Payload} {error : ServerError} →
+      AreRows c columns payloads rows → IsError c last error →
+      EndedRows c columns (payloads ++ last ∷ []) (RowsResult columns rows None ∷ ErrorResult error ∷ []) false
+
+-- The payloads of a result, what it lists, and whether another follows: an OK packet says so; none follows an error, the request of
+-- a file or a prepared statement.
+pub data IsResult (c : Context) : List Payload → List Outcome → Bool → Type 0 where
+  ok : {payload : Payload} {ok : OkPacket} → is_prepare c.kind ≡ false → IsOk c payload ok →
+      IsResult c (payload ∷ []) (OkResult ok ∷ []) (more_results_exist ok.status_flags)
+  error : {payload : Payload} {error : ServerError} → IsError c payload error → IsResult c (payload ∷ []) (ErrorResult error ∷ []) false
+  file : {name : List ℕ} → is_prepare c.kind ≡ false → IsResult c ((251 ∷ name) ∷ []) (FileResult name ∷ []) false
+  rows : {count : Payload} {n : ℕ} (group rows : List Payload) {columns : List ColumnDefinition} {listed : List Outcome} {more : Bool} →
+      is_prepare c.kind ≡ false → IsCount count n → IsColumnGroup c n group columns → EndedRows c columns rows listed more →
+      IsResult c (count ∷ group ++ rows) listed more
+  prepared : {packet : Payload} {statement : PrepareOk} (first second : List Payload) {parameters columns : List ColumnDefinition} →
+      is_prepare c.kind ≡ true → begins_with 0 packet ≡ true → Reads (prepare_ok_at packet) statement →
+      IsColumnGroup c statement.num_params first parameters → IsColumnGroup c statement.num_columns second columns →
+      IsResult c (packet ∷ first ++ second) (PreparedResult statement parameters columns ∷ []) false
+
+-- Results one after another: another follows exactly where the one before says so.
+pub data AreResults (c : Context) : List Payload → List Outcome → Type 0 where
+  last : {payloads : List Payload} {listed : List Outcome} → IsResult c payloads listed false → AreResults c payloads listed
+  followed : (payloads others : List Payload) (listed rest : List Outcome) →
+      IsResult c payloads listed true → AreResults c others rest → AreResults c (payloads ++ others) (listed ++ rest)
+
+-- Payloads, what the progress reports among them report, and the others. Each payload in a report's form is read as one, and
+-- stands before one of the others: behind the last result there is nothing, no report either.
+pub data WithoutReports (c : Context) : List Payload → List ProgressReport → List Payload → Type 0 where
+  nothing : WithoutReports c [] [] []
+  other : {payload : Payload} {payloads others : List Payload} {reports : List ProgressReport} →
+      has_report_form c payload ≡ false → WithoutReports c payloads reports others →
+      WithoutReports c (payload ∷ payloads) reports (payload ∷ others)
+  report : {payload next : Payload} {payloads others : List Payload} {report : ProgressReport} {reports : List ProgressReport} →
+      has_report_form c payload ≡ true → Reads (progress_report_at payload) report → WithoutReports c payloads reports (next ∷ others) →
+      WithoutReports c (payload ∷ payloads) (report ∷ reports) (next ∷ others)
+
+-- A whole reply: its payloads without the reports are these results one after another.
+pub record IsWholeReply (c : Context) (payloads : List Payload) (listed : List Outcome) (reports : List ProgressReport) : Type 0 where
+  pub others : List Payload
+  pub without_reports : WithoutReports c payloads reports others
+  pub results : AreResults c others listed
+
+-- Each such list of payloads, with nothing behind it, has the answer Whole with these results and reports.
+abbrev pub EachSuchListIsWhole : Type 0
+EachSuchListIsWhole = (c : Context) (payloads : List Payload) (listed : List Outcome) (reports : List ProgressReport) →
+    IsWholeReply c payloads listed reports → IsReply c payloads Empty (record { results = listed; progress = reports; end = Whole })
+
+-- An answer is Whole only of such a list with nothing behind it, and has its results and reports.
+abbrev pub OnlySuchListsAreWhole : Type 0
+OnlySuchListsAreWhole = (c : Context) (payloads : List Payload) (rest : Rest) (answer : Answer) →
+    IsReply c payloads rest answer → answer.end ≡ Whole → (rest ≡ Empty) × IsWholeReply c payloads answer.results answer.progress
+
+-- The framings of a whole reply, numbered on from the first id: below 2^64 payloads, each within the limit.
+pub record IsFramedReply (c : Context) (first_id limit : ℕ) (bytes : List ℕ) (listed : List Outcome) (reports : List ProgressReport) : Type 0 where
+  pub payloads : List Payload
+  pub whole : IsWholeReply c payloads listed reports
+  pub few : length payloads < 2 ^ 64
+  pub within : AllByRecursion (λ payload. length payload ≤ limit) payloads
+  pub framed : bytes ≡ framings payloads (OnFrom first_id)
+
+-- The same of bytes: such framings have the answer Whole with these results and reports,
+abbrev pub EachFramingIsWhole : Type 0
+EachFramingIsWhole = (c : Context) (first_id limit : ℕ) (bytes : List ℕ) (listed : List Outcome) (reports : List ProgressReport) →
+    IsFramedReply c first_id limit bytes listed reports → IsReplyOf c first_id limit bytes (record { results = listed; progress = reports; end = Whole })
+
+-- and no other bytes have one.
+abbrev pub OnlyFramingsAreWhole : Type 0
+OnlyFramingsAreWhole = (c : Context) (first_id limit : ℕ) (bytes : List ℕ) (answer : Answer) →
+    IsReplyOf c first_id limit bytes answer → answer.end ≡ Whole → IsFramedReply c first_id limit bytes answer.results answer.progress

@@ -1,0 +1,12 @@
+use Rattle.std.proofs.Common.{◌≡◌, ◌-◌, length}
+use Rattle.mysql_raw_lists.specs.ElementLaws.{with_front}
+use Rattle.mysql_wire.specs.Lists.{elements_at}
+use Rattle.mysql_cells.specs.Cells.{text_cell_at}
+use Rattle.mysql_rows.specs.Rows.{some_cells}
+use Rattle.mysql_rows.proofs.deserializer.text_cells.Given as goal
+
+abbrev pub invariant-loop : goal.invariant-loop
+invariant-loop l = record {
+  cells : with_front l.cells.items (some_cells (elements_at text_cell_at (l.count - l.counter) l.rest.0.now)) ≡ some_cells (elements_at text_cell_at l.count l.initial.rest.0.now);
+  len : length l.cells.items ≡ l.counter;
+}

@@ -1,0 +1,242 @@
+//! What is done with rows.
+
+ghost use Rattle.std.specs.Prelude.{◌≡◌, ◌==◌, ◌<◌, IfOk, IfSome, IsSome, List, None, Option, Some, length, map, true};
+ghost use Rattle.std.specs.Option.{option_and_then, option_copied, option_map};
+ghost use Rattle.std.specs.Rc.{rc_slice_items};
+ghost use Rattle.mysql_rows.specs.Rows.{cell_at, column_named, is_whole, whole_row, with_cell, without_cell};
+ghost use Rattle.mysql_rows.specs.Views.{answer_view, column_views, converted_or_value, row_view, shared_columns};
+
+use crate::column_index::ColumnIndex;
+use crate::row::Row;
+use mysql_cells::Value;
+use mysql_columns::Column;
+use mysql_convert::{FromValue, FromValueError};
+use std::alloc::{AllocError, Global};
+use std::mem;
+use std::ops::Index;
+use std::rc::RcSlice;
+
+/// The row of these values, as many as there are columns. Refused for want of memory alone.
+pub fn new_row(
+    alloc: Global,
+    values: Vec<Value>,
+    columns: RcSlice<Column>,
+) -> Result<Row, AllocError>
+    requires { length values.items ≡ length (rc_slice_items columns) }
+    ensures { IfOk result (λ row. row_view row ≡ whole_row (shared_columns columns) values.items) }
+{
+    let cells = values.into_iter().map(|value| Some(value)).collect(alloc)?;
+    Ok(new_row_raw(cells, columns))
+}
+
+/// The row of these cells, as many as there are columns; None is a cell whose value was taken.
+pub fn new_row_raw(values: Vec<Option<Value>>, columns: RcSlice<Column>) -> Row
+    requires { length values.items ≡ length (rc_slice_items columns) }
+    ensures { row_view result ≡ record { columns = shared_columns columns; cells = values.items } }
+{
+    Row {
+        cells: values,
+        columns,
+    }
+}
+
+impl Row {
+    /// How many cells there are, taken or not: as many as columns.
+    pub fn len(&self) -> usize
+        ensures cells { result ≡ length (row_view self.now).cells }
+        ensures columns { result ≡ length (row_view self.now).columns }
+    {
+        self.cells.len()
+    }
+
+    /// Whether there are no cells.
+    pub fn is_empty(&self) -> bool
+        ensures { result ≡ (length (row_view self.now).cells == 0) }
+    {
+        self.cells.is_empty()
+    }
+
+    /// Whether no cell's value was taken.
+    pub fn is_whole(&self) -> bool
+        ensures { result ≡ is_whole (row_view self.now) }
+    {
+        self.cells.iter().all(|cell| cell.is_some())
+    }
+
+    /// The columns.
+    pub fn columns_ref(&self) -> &[Column]
+        ensures { column_views result.now ≡ (row_view self.now).columns }
+    {
+        self.columns.as_slice()
+    }
+
+    /// The same columns, shared. Refused for want of memory alone.
+    pub fn columns(&self) -> Result<RcSlice<Column>, AllocError>
+        ensures { IfOk result (λ columns. shared_columns columns ≡ (row_view self.now).columns) }
+    {
+        self.columns.clone()
+    }
+
+    /// The value of the cell of this number; None where there is no such cell, or its value was taken.
+    pub fn as_ref(&self, index: usize) -> Option<&Value>
+        ensures { option_copied result ≡ cell_at (row_view self.now) (Some index) }
+    {
+        match self.cells.get(index) {
+            Some(Some(value)) => Some(value),
+            _ => None,
+        }
+    }
+
+    // The same by what names the column.
+    fn value_at<I: ColumnIndex>(&self, index: &I) -> Option<&Value>
+        ensures { option_copied result ≡ cell_at (row_view self.now) (I.place index.now (row_view self.now).columns) }
+    {
+        match index.idx(self.columns.as_slice()) {
+            Some(number) => self.as_ref(number),
+            None => None,
+        }
+    }
+
+    // Takes a value out of its cell.
+    fn take_value<I: ColumnIndex>(&mut self, index: &I) -> Option<Value>
+        ensures value { result ≡ cell_at (row_view self.old) (I.place index.now (row_view self.old).columns) }
+        ensures taken { row_view self.new ≡ without_cell (row_view self.old) (I.place index.now (row_view self.old).columns) }
+    {
+        let number = index.idx(self.columns.as_slice())?;
+        if number < self.cells.len() {
+            mem::replace(&mut self.cells[number], None)
+        } else {
+            None
+        }
+    }
+
+    /// A copy of the value in a cell, converted to `T`; None where there is no such column, or its value was taken. Where
+    /// the value doesn't convert the error holds it. Refused for want of memory alone.
+    pub fn get_opt<T: FromValue, I: ColumnIndex>(
+        &self,
+        alloc: Global,
+        index: I,
+    ) -> Result<Option<Result<T, FromValueError>>, AllocError>
+        ensures { IfOk result (λ answer. option_map (answer_view T.shown) answer ≡ option_map (converted_or_value T.converted) (cell_at (row_view self.now) (I.place index (row_view self.now).columns))) }
+    {
+        match self.value_at(&index) {
+            Some(value) => Ok(Some(T::from_value_opt(value.clone(alloc)?))),
+            None => Ok(None),
+        }
+    }
+
+    /// A copy of the value in a cell, converted to `T`, where it converts, as [`get_opt`](Self::get_opt) tells; None where there
+    /// is no such column, or its value was taken. Refused for want of memory alone.
+    pub fn get<T: FromValue, I: ColumnIndex>(
+        &self,
+        alloc: Global,
+        index: I,
+    ) -> Result<Option<T>, AllocError>
+        requires { IfSome (cell_at (row_view self.now) (I.place index (row_view self.now).columns)) (λ value. IsSome (T.converted value)) }
+        ensures { IfOk result (λ answer. option_map T.shown answer ≡ option_and_then T.converted (cell_at (row_view self.now) (I.place index (row_view self.now).columns))) }
+    {
+        match self.value_at(&index) {
+            Some(value) => Ok(Some(T::from_value(value.clone(alloc)?))),
+            None => Ok(None),
+        }
+    }
+
+    /// Takes the value out of a cell and converts it to `T`; None where there is no such column, or its value was taken.
+    /// Where the value doesn't convert it is taken all the same, and the error holds it.
+    pub fn take_opt<T: FromValue, I: ColumnIndex>(
+        &mut self,
+        index: I,
+    ) -> Option<Result<T, FromValueError>>
+        ensures value { option_map (answer_view T.shown) result ≡ option_map (converted_or_value T.converted) (cell_at (row_view self.old) (I.place index (row_view self.old).columns)) }
+        ensures taken { row_view self.new ≡ without_cell (row_view self.old) (I.place index (row_view self.old).columns) }
+    {
+        match self.take_value(&index) {
+            Some(value) => Some(T::from_value_opt(value)),
+            None => None,
+        }
+    }
+
+    /// Takes the value out of a cell and converts it to `T`, where it converts; None where there is no such column, or its
+    /// value was taken.
+    pub fn take<T: FromValue, I: ColumnIndex>(&mut self, index: I) -> Option<T>
+        requires { IfSome (cell_at (row_view self.old) (I.place index (row_view self.old).columns)) (λ value. IsSome (T.converted value)) }
+        ensures value { option_map T.shown result ≡ option_and_then T.converted (cell_at (row_view self.old) (I.place index (row_view self.old).columns)) }
+        ensures taken { row_view self.new ≡ without_cell (row_view self.old) (I.place index (row_view self.old).columns) }
+    {
+        match self.take_value(&index) {
+            Some(value) => Some(T::from_value(value)),
+            None => None,
+        }
+    }
+
+    /// Puts a value into the cell of this number, below the number of cells. The value that it held, if any, is dropped.
+    pub fn place(&mut self, index: usize, value: Value)
+        requires { index < length (row_view self.old).cells }
+        ensures { row_view self.new ≡ with_cell (row_view self.old) index (Some value) }
+    {
+        self.cells[index] = Some(value);
+    }
+
+    /// The cells; None is one whose value was taken.
+    pub fn unwrap_raw(self) -> Vec<Option<Value>>
+        ensures { result.items ≡ (row_view self).cells }
+    {
+        self.cells
+    }
+
+    /// The same row again: copies of its cells, under the columns that it shares. Refused for want of memory alone.
+    pub fn clone(&self, alloc: Global) -> Result<Row, AllocError>
+        ensures { IfOk result (λ copy. row_view copy ≡ row_view self.now) }
+    {
+        let cells = Vec::from_clones(alloc, self.cells.as_slice())?;
+        let columns = self.columns.clone()?;
+        Ok(new_row_raw(cells, columns))
+    }
+
+    /// The values of a row of which nothing was taken. Refused for want of memory alone.
+    pub fn unwrap(self, alloc: Global) -> Result<Vec<Value>, AllocError>
+        requires { is_whole (row_view self) ≡ true }
+        ensures { IfOk result (λ values. map Some values.items ≡ (row_view self).cells) }
+    {
+        let mut values = Vec::with_capacity(alloc, self.cells.len())?;
+        for cell in self.cells {
+            match cell {
+                Some(value) => values.push(value)?,
+                None => unreachable!(),
+            }
+        }
+        Ok(values)
+    }
+}
+
+/// The value of the cell of this number, where there is one that wasn't taken, as [`as_ref`](Row::as_ref) tells.
+impl Index<usize> for Row {
+    type Output = Value;
+
+    ghost can_index = { λ row index. IsSome (cell_at (row_view row) (Some index)) };
+
+    ghost index_gives = { λ row index value. cell_at (row_view row) (Some index) ≡ Some value };
+
+    fn index(&self, index: usize) -> &Value {
+        match self.as_ref(index) {
+            Some(value) => value,
+            None => unreachable!(),
+        }
+    }
+}
+
+/// The value in the first column of this name, where there is one that wasn't taken.
+impl Index<&str> for Row {
+    type Output = Value;
+
+    ghost can_index = { λ row name. IsSome (cell_at (row_view row) (column_named name.now (row_view row).columns)) };
+
+    ghost index_gives = { λ row name value. cell_at (row_view row) (column_named name.now (row_view row).columns) ≡ Some value };
+
+    fn index(&self, name: &str) -> &Value {
+        match self.value_at(&name) {
+            Some(value) => value,
+            None => unreachable!(),
+        }
+    }
+}

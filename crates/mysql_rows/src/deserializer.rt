@@ -1,0 +1,219 @@
+//! Rows read from their payloads.
+
+ghost use Rattle.std.specs.Prelude.{◌≡◌, ◌≤◌, ◌∷◌, Bool, IfOk, List, None, length};
+ghost use Rattle.mysql_raw.specs.Laws.{unsized};
+ghost use Rattle.mysql_wire.specs.Wire.{GivesPart};
+ghost use Rattle.mysql_null_bitmap.specs.NullBitmap.{bitmap_len, is_null_at};
+ghost use Rattle.mysql_columns.specs.Views.{column_view};
+ghost use Rattle.mysql_rows.specs.Rows.{Row as RowOf, as_row, binary_cell_at, binary_cells_at, binary_row_at, binary_row_body_at, some_cells, text_row_at};
+ghost use Rattle.mysql_wire.specs.Lists.{elements_at};
+ghost use Rattle.mysql_cells.specs.Cells.{text_cell_at};
+ghost use Rattle.mysql_null_bitmap.specs.NullBits.{bits_left};
+ghost use Rattle.mysql_rows.specs.Views.{column_views, row_view, shared_columns};
+
+use crate::calls::new_row_raw;
+use crate::row::Row;
+use mysql_cells::{BinValue, Value, ValueDeserializer, read_text_cell};
+use mysql_columns::Column;
+use mysql_null_bitmap::{NullBitmap, NullBits, SerializationSide};
+use mysql_wire::{Binary, MyDeserialize, ParseBuf, ParseExt, Readable, Text, WireError};
+use std::alloc::{AllocError, Global};
+use std::marker::PhantomData;
+use std::rc::RcSlice;
+
+/// A row that was read by the protocol `P`, `Text` or `Binary`. In the binary protocol the side `S` wrote it: a bitmap of
+/// a server has two bits before that of the first column, and one of a client none.
+#[derive(Drop)]
+#[derive_where(Debug, PartialEq)]
+pub struct RowDeserializer<S, P>(Row, PhantomData<(S, P)>);
+
+impl<S, P> RowDeserializer<S, P> {
+    /// The row.
+    pub fn into_inner(self) -> Row
+        ensures { result ≡ self.0 }
+    {
+        self.0
+    }
+
+    /// The same again. Refused for want of memory alone.
+    pub fn clone(&self, alloc: Global) -> Result<RowDeserializer<S, P>, AllocError>
+        ensures { IfOk result (λ copy. row_view copy.0 ≡ row_view self.now.0) }
+    {
+        let row = self.0.clone(alloc)?;
+        Ok(RowDeserializer(row, PhantomData))
+    }
+}
+
+/// The row.
+impl<S, P> From<RowDeserializer<S, P>> for Row {
+    ghost from_gives = { λ read row. row ≡ read.0 };
+
+    fn from(read: RowDeserializer<S, P>) -> Row {
+        read.0
+    }
+}
+
+// The cells of a text row.
+fn text_cells(
+    alloc: Global,
+    count: usize,
+    rest: &mut ParseBuf,
+) -> Result<Vec<Option<Value>>, WireError>
+    ensures cells { GivesPart (λ cells. cells.items) rest.new.0.now result (some_cells (elements_at text_cell_at count rest.old.0.now)) }
+    ensures len { IfOk result (λ cells. length cells.items ≡ count) }
+{
+    let mut cells = Vec::with_capacity(alloc, count)?;
+    for _ in 0..count {
+        let value = read_text_cell(alloc, rest)?;
+        cells.push(Some(value))?;
+    }
+    Ok(cells)
+}
+
+// Whether the next column is NULL.
+fn next_is_null(nulls: &mut NullBits) -> bool
+    ensures { (first : Bool) (others : List Bool) → bits_left nulls.old ≡ first ∷ others → (result ≡ first) × (bits_left nulls.new ≡ others) }
+{
+    match nulls.next() {
+        Some(is_null) => is_null,
+        None => false,
+    }
+}
+
+// A cell that is null, or stands first.
+fn binary_cell(
+    alloc: Global,
+    is_null: bool,
+    column: &Column,
+    rest: &mut ParseBuf,
+) -> Result<Value, WireError>
+    ensures { GivesPart (λ value. value) rest.new.0.now result (binary_cell_at is_null (column_view column.now) rest.old.0.now) }
+{
+    if is_null {
+        return Ok(Value::NULL);
+    }
+    let context = (column.column_type(), column.flags());
+    let value: ValueDeserializer<BinValue> = rest.parse(alloc, context)?;
+    Ok(value.0)
+}
+
+// The cells of a binary row.
+fn binary_cells<S: SerializationSide>(
+    alloc: Global,
+    columns: &[Column],
+    bitmap: &[u8],
+    rest: &mut ParseBuf,
+) -> Result<Vec<Option<Value>>, WireError>
+    requires { bitmap_len S.BIT_OFFSET (length columns.now) ≤ length bitmap.now }
+    ensures cells { GivesPart (λ cells. cells.items) rest.new.0.now result (some_cells (binary_cells_at S.BIT_OFFSET bitmap.now 0 (column_views columns.now) rest.old.0.now)) }
+    ensures len { IfOk result (λ cells. length cells.items ≡ length columns.now) }
+{
+    let bitmap = NullBitmap::<S, &[u8]>::from_bytes(bitmap);
+    let mut nulls = bitmap.iter(columns.len());
+    let mut cells = Vec::with_capacity(alloc, columns.len())?;
+    for column in columns {
+        let is_null = next_is_null(&mut nulls);
+        let value = binary_cell(alloc, is_null, column, rest)?;
+        cells.push(Some(value))?;
+    }
+    Ok(cells)
+}
+
+// The cells of a binary row, after its first byte and its bitmap.
+#[tactic(auto, unfolding(crate::specs::Rows::binary_row_at, crate::specs::Rows::binary_row_body_at))]
+fn binary_row<S: SerializationSide>(
+    alloc: Global,
+    columns: &[Column],
+    rest: &mut ParseBuf,
+) -> Result<Vec<Option<Value>>, WireError>
+    ensures cells { GivesPart (λ cells. cells.items) rest.new.0.now result (some_cells (binary_row_at S.BIT_OFFSET (column_views columns.now) rest.old.0.now)) }
+    ensures len { IfOk result (λ cells. length cells.items ≡ length columns.now) }
+{
+    let Some(_header) = rest.checked_eat(1) else {
+        return Err(WireError::UnexpectedEof);
+    };
+    let len = NullBitmap::<S, &[u8]>::bitmap_len(columns.len());
+    let Some(bitmap) = rest.checked_eat(len) else {
+        return Err(WireError::UnexpectedEof);
+    };
+    binary_cells::<S>(alloc, columns, bitmap, rest)
+}
+
+impl<S> Readable for RowDeserializer<S, Text> {
+    type Ctx = RcSlice<Column>;
+
+    ghost SIZE = { None };
+
+    ghost Shown = { RowOf };
+
+    ghost shown = { λ x. row_view x.0 };
+
+    ghost kept = { λ x. row_view x.0 };
+
+    ghost read_at = { λ columns bytes. as_row (shared_columns columns) (text_row_at (shared_columns columns) bytes) };
+
+    ghost sized = { λ columns. unsized (λ bytes. as_row (shared_columns columns) (text_row_at (shared_columns columns) bytes)) };
+
+    fn size() -> Option<usize>
+        ensures { result ≡ None }
+    {
+        None
+    }
+}
+
+/// Reads a row: a cell for each column, fb for NULL, else length-encoded bytes. Refuses, at the first cell that fails,
+/// UnexpectedEof or BadLength (a first byte ff), and Memory; all bytes are then left.
+///
+/// MySQL: Client/Server Protocol, "Text Resultset Row".
+impl<'de, S> MyDeserialize<'de> for RowDeserializer<S, Text> {
+    fn deserialize(
+        alloc: Global,
+        columns: RcSlice<Column>,
+        buf: &mut ParseBuf<'de>,
+    ) -> Result<RowDeserializer<S, Text>, WireError> {
+        let mut rest = *buf;
+        let cells = text_cells(alloc, columns.len(), &mut rest)?;
+        *buf = rest;
+        Ok(RowDeserializer(new_row_raw(cells, columns), PhantomData))
+    }
+}
+
+impl<S: SerializationSide> Readable for RowDeserializer<S, Binary> {
+    type Ctx = RcSlice<Column>;
+
+    ghost SIZE = { None };
+
+    ghost Shown = { RowOf };
+
+    ghost shown = { λ x. row_view x.0 };
+
+    ghost kept = { λ x. row_view x.0 };
+
+    ghost read_at = { λ columns bytes. as_row (shared_columns columns) (binary_row_at S.BIT_OFFSET (shared_columns columns) bytes) };
+
+    ghost sized = { λ columns. unsized (λ bytes. as_row (shared_columns columns) (binary_row_at S.BIT_OFFSET (shared_columns columns) bytes)) };
+
+    fn size() -> Option<usize>
+        ensures { result ≡ None }
+    {
+        None
+    }
+}
+
+/// Reads a row: a byte of any value, the bitmap of the columns that are NULL, and the cells of the others by their
+/// columns' types and flags. Refuses UnexpectedEof where the first byte or the bitmap is cut off, then, at the first cell
+/// that fails, UnexpectedEof or UnsupportedType (a type without cells), and Memory; all bytes are then left.
+///
+/// MySQL: Client/Server Protocol, "Binary Protocol Resultset Row".
+impl<'de, S: SerializationSide> MyDeserialize<'de> for RowDeserializer<S, Binary> {
+    fn deserialize(
+        alloc: Global,
+        columns: RcSlice<Column>,
+        buf: &mut ParseBuf<'de>,
+    ) -> Result<RowDeserializer<S, Binary>, WireError> {
+        let mut rest = *buf;
+        let cells = binary_row::<S>(alloc, columns.as_slice(), &mut rest)?;
+        *buf = rest;
+        Ok(RowDeserializer(new_row_raw(cells, columns), PhantomData))
+    }
+}

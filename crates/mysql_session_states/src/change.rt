@@ -1,0 +1,214 @@
+//! Changes of a session's state.
+
+ghost use Rattle.std.specs.Prelude.{◌≡◌, IfOk, None, map};
+ghost use Rattle.std.specs.List.{flat_map};
+ghost use Rattle.mysql_raw.specs.Laws.{unsized};
+ghost use Rattle.mysql_raw.specs.Wire.{Appends};
+ghost use Rattle.mysql_session_states.specs.SessionStates.{Change, IsReadBy, change, change_at, variable};
+ghost use Rattle.mysql_session_states.specs.StateLaws.{change_at-back};
+ghost use Rattle.mysql_session_states.specs.Views.{change_view, variable_view};
+
+use crate::fields::{CountedText, text_from};
+use crate::members::{Gtids, Schema, TransactionCharacteristics, TransactionState, Unsupported};
+use crate::to_end::parse_to_end;
+use crate::variable::SystemVariable;
+use mysql_buf::ParseBuf;
+use mysql_const::SessionStateType;
+use mysql_raw::{MyDeserialize, MySerialize, ParseExt, Readable, ReadsBack, WireError};
+use mysql_raw_lists::{Seq, Unknown};
+use std::alloc::{AllocError, Global};
+use std::borrow::CowSlice;
+
+/// A change of a session's state.
+///
+/// MySQL: Client/Server Protocol, "OK_Packet", 'Session State Information'.
+#[derive(Debug, PartialEq, Eq, Drop)]
+pub enum SessionStateChange<'a> {
+    /// Whether changes of the state are tracked.
+    IsTracked(bool),
+    /// The schema that became the default.
+    Schema(Schema<'a>),
+    /// The system variables that got values.
+    SystemVariables(Vec<SystemVariable<'a>>),
+    /// The GTIDs of a transaction that was committed.
+    Gtids(Gtids<'a>),
+    /// How the next transaction is to be begun.
+    TransactionCharacteristics(TransactionCharacteristics<'a>),
+    /// The state of the transaction.
+    TransactionState(TransactionState<'a>),
+    /// A change of a type without a name. It is written, and no type reads it.
+    Unsupported(Unsupported<'a>),
+}
+
+// The same variables, which borrow nothing.
+fn owned_variables<'b>(
+    alloc: Global,
+    all: Vec<SystemVariable<'_>>,
+) -> Result<Vec<SystemVariable<'b>>, AllocError>
+    ensures { IfOk result (λ same. map variable_view same.items ≡ map variable_view all.entry.items) }
+{
+    let mut same = Vec::new(alloc);
+    for one in all {
+        same.push(one.into_owned(alloc)?)?;
+    }
+    Ok(same)
+}
+
+// Copies of variables, which borrow nothing.
+fn copied_variables<'b>(
+    alloc: Global,
+    all: &[SystemVariable<'_>],
+) -> Result<Vec<SystemVariable<'b>>, AllocError>
+    ensures { IfOk result (λ copies. map variable_view copies.items ≡ map variable_view all.now) }
+{
+    let mut copies = Vec::new(alloc);
+    for one in all {
+        copies.push(one.clone(alloc)?)?;
+    }
+    Ok(copies)
+}
+
+impl<'a> SessionStateChange<'a> {
+    /// The same change, which borrows nothing. Refused for want of memory.
+    pub fn into_owned(self, alloc: Global) -> Result<SessionStateChange<'static>, AllocError>
+        ensures { IfOk result (λ same. change_view same ≡ change_view self.entry) }
+    {
+        Ok(match self {
+            SessionStateChange::IsTracked(tracked) => SessionStateChange::IsTracked(tracked),
+            SessionStateChange::Schema(x) => SessionStateChange::Schema(x.into_owned(alloc)?),
+            SessionStateChange::SystemVariables(all) => {
+                SessionStateChange::SystemVariables(owned_variables(alloc, all)?)
+            }
+            SessionStateChange::Gtids(x) => SessionStateChange::Gtids(x.into_owned(alloc)?),
+            SessionStateChange::TransactionCharacteristics(x) => {
+                SessionStateChange::TransactionCharacteristics(x.into_owned(alloc)?)
+            }
+            SessionStateChange::TransactionState(x) => {
+                SessionStateChange::TransactionState(x.into_owned(alloc)?)
+            }
+            SessionStateChange::Unsupported(x) => {
+                SessionStateChange::Unsupported(x.into_owned(alloc)?)
+            }
+        })
+    }
+
+    /// A copy of the change, which borrows nothing. Refused for want of memory.
+    pub fn clone(&self, alloc: Global) -> Result<SessionStateChange<'static>, AllocError>
+        ensures { IfOk result (λ copy. change_view copy ≡ change_view self.now) }
+    {
+        Ok(match self {
+            SessionStateChange::IsTracked(tracked) => SessionStateChange::IsTracked(*tracked),
+            SessionStateChange::Schema(x) => SessionStateChange::Schema(x.clone(alloc)?),
+            SessionStateChange::SystemVariables(all) => {
+                SessionStateChange::SystemVariables(copied_variables(alloc, all.as_slice())?)
+            }
+            SessionStateChange::Gtids(x) => SessionStateChange::Gtids(x.clone(alloc)?),
+            SessionStateChange::TransactionCharacteristics(x) => {
+                SessionStateChange::TransactionCharacteristics(x.clone(alloc)?)
+            }
+            SessionStateChange::TransactionState(x) => {
+                SessionStateChange::TransactionState(x.clone(alloc)?)
+            }
+            SessionStateChange::Unsupported(x) => SessionStateChange::Unsupported(x.clone(alloc)?),
+        })
+    }
+}
+
+// Appends all variables or none.
+fn put_variables(all: &[SystemVariable], buf: &mut Vec<u8>) -> Result<(), AllocError>
+    ensures { Appends result buf.old.items buf.new.items (flat_map variable (map variable_view all.now)) }
+{
+    let len = buf.len();
+    for one in all {
+        if let Err(e) = one.serialize(buf) {
+            buf.truncate(len);
+            return Err(e);
+        }
+    }
+    Ok(())
+}
+
+/// Whether changes are tracked, as the text `1` or `0` after its length; variables one after another; each other member as its
+/// own type writes it.
+#[tactic(auto, unfolding(crate::specs::SessionStates::change))]
+impl<'a> MySerialize for SessionStateChange<'a> {
+    ghost written = { λ c. change (change_view c) };
+
+    fn serialize(&self, buf: &mut Vec<u8>) -> Result<(), AllocError> {
+        match self {
+            SessionStateChange::IsTracked(true) => CountedText(b"1").serialize(buf),
+            SessionStateChange::IsTracked(false) => CountedText(b"0").serialize(buf),
+            SessionStateChange::Schema(x) => x.serialize(buf),
+            SessionStateChange::SystemVariables(all) => put_variables(all.as_slice(), buf),
+            SessionStateChange::Gtids(x) => x.serialize(buf),
+            SessionStateChange::TransactionCharacteristics(x) => x.serialize(buf),
+            SessionStateChange::TransactionState(x) => x.serialize(buf),
+            SessionStateChange::Unsupported(x) => x.serialize(buf),
+        }
+    }
+}
+
+impl<'a> Readable for SessionStateChange<'a> {
+    type Ctx = SessionStateType;
+
+    ghost SIZE = { None };
+
+    ghost Shown = { Change };
+
+    ghost shown = { change_view };
+
+    ghost kept = { change_view };
+
+    ghost read_at = { change_at };
+
+    ghost IsReadBack = { λ type c rest. IsReadBy type (change_view c) rest };
+
+    ghost sized = { λ type. unsized (change_at type) };
+
+    fn size() -> Option<usize>
+        ensures { result ≡ None }
+    {
+        None
+    }
+}
+
+impl<'a> ReadsBack for SessionStateChange<'a> {
+    ghost reads_back = { λ type c. change_at-back type (change_view c) };
+}
+
+/// The change of this type. Refused by `UnexpectedEof` where a text is cut off, and by `Memory`. Bytes behind a text are left;
+/// variables and GTIDs stand to the end.
+///
+/// MySQL: Client/Server Protocol, "OK_Packet", 'Session State Information'.
+#[tactic(auto, using(crate::proofs::Back::variables_eat), unfolding(crate::specs::SessionStates::change_at))]
+impl<'de> MyDeserialize<'de> for SessionStateChange<'de> {
+    fn deserialize(
+        alloc: Global,
+        data_type: SessionStateType,
+        buf: &mut ParseBuf<'de>,
+    ) -> Result<SessionStateChange<'de>, WireError> {
+        Ok(match data_type {
+            SessionStateType::SESSION_TRACK_SYSTEM_VARIABLES => {
+                let all = parse_to_end(alloc, *buf)?;
+                *buf = ParseBuf(&[]);
+                SessionStateChange::SystemVariables(all)
+            }
+            SessionStateType::SESSION_TRACK_SCHEMA => {
+                SessionStateChange::Schema(buf.parse(alloc, ())?)
+            }
+            SessionStateType::SESSION_TRACK_STATE_CHANGE => {
+                let text = text_from(buf)?;
+                SessionStateChange::IsTracked(text.as_slice() == b"1".as_slice())
+            }
+            SessionStateType::SESSION_TRACK_GTIDS => {
+                SessionStateChange::Gtids(buf.parse(alloc, ())?)
+            }
+            SessionStateType::SESSION_TRACK_TRANSACTION_CHARACTERISTICS => {
+                SessionStateChange::TransactionCharacteristics(buf.parse(alloc, ())?)
+            }
+            SessionStateType::SESSION_TRACK_TRANSACTION_STATE => {
+                SessionStateChange::TransactionState(buf.parse(alloc, ())?)
+            }
+        })
+    }
+}

@@ -1,0 +1,147 @@
+//! The states of a session, as they stand in an OK packet.
+
+ghost use Rattle.std.specs.Prelude.{◌≡◌, IfOk, None, [], false, map};
+ghost use Rattle.mysql_raw.specs.Laws.{unsized};
+ghost use Rattle.mysql_raw.specs.Wire.{GivesPart};
+ghost use Rattle.mysql_session_states.specs.Reading.{GivesValue, value_at};
+ghost use Rattle.mysql_session_states.specs.SessionStates.{IsState, State, change_at, state, state_at, states_at};
+ghost use Rattle.mysql_session_states.specs.StateLaws.{state_at-back};
+ghost use Rattle.mysql_session_states.specs.Views.{change_view, state_view};
+
+use crate::change::SessionStateChange;
+use crate::fields::{CountedText, copy_of, owned, text_from};
+use crate::to_end::parse_to_end;
+use mysql_buf::ParseBuf;
+use mysql_const::SessionStateType;
+use mysql_raw::{MyDeserialize, MySerialize, ParseExt, Readable, ReadsBack, WireError};
+use mysql_raw_consts::Const;
+use std::alloc::{AllocError, Global};
+use std::borrow::CowSlice;
+
+/// The type of a change of a session's state, and the bytes that tell it.
+///
+/// MySQL: Client/Server Protocol, "OK_Packet", 'Session State Information'.
+#[derive(Debug, PartialEq, Eq, Drop)]
+pub struct SessionStateInfo<'a> {
+    data_type: SessionStateType,
+    data: CowSlice<'a, u8>,
+}
+
+impl<'a> SessionStateInfo<'a> {
+    /// The type of the change.
+    pub fn data_type(&self) -> SessionStateType
+        ensures { result ≡ (state_view self.now).data_type }
+    {
+        self.data_type
+    }
+
+    /// The bytes that tell the change.
+    pub fn data_ref(&self) -> &[u8]
+        ensures { result.now ≡ (state_view self.now).content }
+    {
+        self.data.as_slice()
+    }
+
+    /// The change that the bytes tell; bytes that are left behind it are ignored. Refused by `UnexpectedEof` where a text is cut
+    /// off, and by `Memory`.
+    pub fn decode(&self, alloc: Global) -> Result<SessionStateChange<'_>, WireError>
+        ensures { GivesValue change_view result (value_at (change_at (state_view self.now).data_type (state_view self.now).content)) }
+    {
+        ParseBuf(self.data.as_slice()).parse(alloc, self.data_type)
+    }
+
+    /// The same state, which borrows nothing. Refused for want of memory.
+    pub fn into_owned(self, alloc: Global) -> Result<SessionStateInfo<'static>, AllocError>
+        ensures { IfOk result (λ same. state_view same ≡ state_view self.entry) }
+    {
+        Ok(SessionStateInfo {
+            data_type: self.data_type,
+            data: owned(alloc, self.data)?,
+        })
+    }
+
+    /// A copy of the state, which borrows nothing. Refused for want of memory.
+    pub fn clone(&self, alloc: Global) -> Result<SessionStateInfo<'static>, AllocError>
+        ensures { IfOk result (λ copy. state_view copy ≡ state_view self.now) }
+    {
+        Ok(SessionStateInfo {
+            data_type: self.data_type,
+            data: copy_of(alloc, self.data.as_slice())?,
+        })
+    }
+}
+
+/// The type in one byte, and the bytes that tell the change after their length.
+#[tactic(auto, unfolding(crate::specs::SessionStates::state))]
+impl<'a> MySerialize for SessionStateInfo<'a> {
+    ghost written = { λ info. state (state_view info) };
+
+    fn serialize(&self, buf: &mut Vec<u8>) -> Result<(), AllocError> {
+        let data_type: Const<SessionStateType, u8> = Const::new(self.data_type);
+        let data = CountedText(self.data.as_slice());
+        (data_type, data).serialize(buf)
+    }
+}
+
+impl<'a> Readable for SessionStateInfo<'a> {
+    type Ctx = ();
+
+    ghost SIZE = { None };
+
+    ghost AsksForMemory = { false };
+
+    ghost Shown = { State };
+
+    ghost shown = { state_view };
+
+    ghost kept = { state_view };
+
+    ghost read_at = { λ _ bytes. state_at bytes };
+
+    ghost IsReadBack = { λ _ info _. IsState (state_view info) };
+
+    ghost sized = { λ _. unsized state_at };
+
+    fn size() -> Option<usize>
+        ensures { result ≡ None }
+    {
+        None
+    }
+}
+
+impl<'a> ReadsBack for SessionStateInfo<'a> {
+    ghost reads_back = { λ _ info. state_at-back (state_view info) };
+}
+
+/// Refused by `UnexpectedEof` where there is no byte, then by `UnknownValue` for a type without a name, then by `UnexpectedEof`
+/// where the data are cut off.
+///
+/// MySQL: Client/Server Protocol, "OK_Packet", 'Session State Information'.
+#[tactic(auto, unfolding(crate::specs::SessionStates::state_at))]
+impl<'de> MyDeserialize<'de> for SessionStateInfo<'de> {
+    fn deserialize(
+        alloc: Global,
+        _ctx: (),
+        buf: &mut ParseBuf<'de>,
+    ) -> Result<SessionStateInfo<'de>, WireError> {
+        let mut rest = *buf;
+        let data_type: Const<SessionStateType, u8> = rest.parse(alloc, ())?;
+        let data = text_from(&mut rest)?;
+        *buf = rest;
+        Ok(SessionStateInfo {
+            data_type: data_type.0,
+            data,
+        })
+    }
+}
+
+/// The states that stand one after another in these bytes, to their end. Refused where one of them is, by the first one's
+/// refusal, and by `Memory`.
+///
+/// MySQL: Client/Server Protocol, "OK_Packet", 'Session State Information'.
+#[tactic(auto, using(crate::proofs::Back::states_eat))]
+pub fn states_of(alloc: Global, bytes: &[u8]) -> Result<Vec<SessionStateInfo<'_>>, WireError>
+    ensures { GivesPart (λ all. map state_view all.items) [] result (states_at bytes.now) }
+{
+    parse_to_end(alloc, ParseBuf(bytes))
+}

@@ -1,0 +1,33 @@
+//! Laws of session states. Functions without a result do nothing: their contracts are the laws.
+
+ghost use Rattle.mysql_session_states.specs.Statements.{ChangesReadBack, GtidsReadBack, StatesReadBack, TextsReadBack, VariablesReadBack};
+
+/// A member that is written after its length is read again, whatever follows it.
+#[tactic(auto, using(crate::proofs::Back::texts_read_back))]
+pub fn texts_read_back()
+    ensures { TextsReadBack }
+{}
+
+/// GTIDs that were written are read again where nothing follows them.
+#[tactic(auto, using(crate::proofs::Back::gtids_read_back))]
+pub fn gtids_read_back()
+    ensures { GtidsReadBack }
+{}
+
+/// A system variable that was written is read again, whatever follows it.
+#[tactic(auto, using(crate::proofs::Back::variables_read_back))]
+pub fn variables_read_back()
+    ensures { VariablesReadBack }
+{}
+
+/// A change that was written is read again by its type: whatever follows it, or where nothing does if it stands to the end.
+#[tactic(auto, using(crate::proofs::Back::changes_read_back))]
+pub fn changes_read_back()
+    ensures { ChangesReadBack }
+{}
+
+/// A state that was written is read again, whatever follows it.
+#[tactic(auto, using(crate::proofs::Back::states_read_back))]
+pub fn states_read_back()
+    ensures { StatesReadBack }
+{}

@@ -1,0 +1,16 @@
+//! Changes of a session's state, as an OK packet tells them.
+#![tactic(auto)]
+
+pub mod change;
+mod fields;
+pub mod info;
+pub mod laws;
+pub mod members;
+mod to_end;
+pub mod variable;
+
+pub use change::SessionStateChange;
+pub use info::{SessionStateInfo, states_of};
+pub use members::{Gtids, Schema, TransactionCharacteristics, TransactionState, Unsupported};
+pub use mysql_const::{SessionStateType, UnknownSessionStateType};
+pub use variable::SystemVariable;

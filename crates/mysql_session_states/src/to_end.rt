@@ -1,0 +1,25 @@
+//! Elements that stand one after another to the end.
+
+ghost use Rattle.std.specs.Prelude.{map, []};
+ghost use Rattle.mysql_raw.specs.Wire.{GivesPart};
+ghost use Rattle.mysql_session_states.specs.Reading.{EatsBytes, to_end_at};
+
+use mysql_buf::ParseBuf;
+use mysql_raw::{MyDeserialize, ParseExt, Readable, WireError};
+use std::alloc::Global;
+
+// Reads elements to the end, of which each takes a byte at least; the list grows as they come.
+pub(crate) fn parse_to_end<'de, T: MyDeserialize<'de> + Readable<Ctx = ()> + Drop>(
+    alloc: Global,
+    mut rest: ParseBuf<'de>,
+) -> Result<Vec<T>, WireError>
+    requires { EatsBytes (T.read_at tt) }
+    ensures { GivesPart (λ v. map T.shown v.items) [] result (to_end_at (T.read_at tt) rest.entry.0.now) }
+{
+    let mut items = Vec::new(alloc);
+    while !rest.is_empty() {
+        let item: T = rest.parse(alloc, ())?;
+        items.push(item)?;
+    }
+    Ok(items)
+}

@@ -1,0 +1,4 @@
+pub mod Back
+pub mod Bitmaps
+pub mod Lists
+pub mod LongData

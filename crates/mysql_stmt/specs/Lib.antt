@@ -1,0 +1,6 @@
+pub mod Commands
+pub mod CommandLaws
+pub mod Executions
+pub mod NullBits
+pub mod Statements
+pub mod Views

@@ -1,0 +1,297 @@
+//! Executions of prepared statements.
+
+ghost use Rattle.std.specs.Prelude.{◌≡◌, ◌≤◌, IfOk, flat_map, length, map};
+ghost use Rattle.mysql_raw.specs.Wire.{Appends};
+ghost use Rattle.mysql_stmt.specs.Executions.{execution, execution_of, needs_long_data as has_to_be_apart, parameters, sent_cell, type_bytes};
+ghost use Rattle.mysql_stmt.specs.Views.{execution_view};
+
+use crate::headers::{ComStmtExecuteHeader, IterationCount};
+use crate::null_bits::null_bitmap_of;
+use mysql_cells::Value;
+use mysql_const::{CursorType, MAX_PAYLOAD_LEN, StmtExecuteParamsFlags};
+use mysql_raw::{LeU32, MySerialize, RawInt, in_order};
+use std::alloc::{AllocError, Global};
+
+/// Makes executions of a prepared statement.
+///
+/// MySQL: Client/Server Protocol, "COM_STMT_EXECUTE".
+#[derive(Debug, Clone, Copy, PartialEq)]
+pub struct ComStmtExecuteRequestBuilder {
+    /// The statement's id.
+    pub stmt_id: u32,
+}
+
+impl ComStmtExecuteRequestBuilder {
+    /// Where the bitmap begins in an execution, in bytes.
+    pub const NULL_BITMAP_OFFSET: usize = 10;
+
+    /// Makes executions of the statement with this id.
+    pub fn new(stmt_id: u32) -> ComStmtExecuteRequestBuilder
+        ensures { result.stmt_id ≡ stmt_id }
+    {
+        ComStmtExecuteRequestBuilder { stmt_id }
+    }
+
+    /// The execution with these values, at most 65535, and whether their byte strings have to be sent before it as long data:
+    /// where an execution that holds them exceeds the most bytes of one chunk. Refused for want of memory.
+    ///
+    /// MySQL: Client/Server Protocol, "COM_STMT_EXECUTE" and "COM_STMT_SEND_LONG_DATA".
+    pub fn build<'a>(
+        self,
+        alloc: Global,
+        params: &'a [Value],
+    ) -> Result<(ComStmtExecuteRequest<'a>, bool), AllocError>
+        requires { length params.now ≤ 65535 }
+        ensures request { IfOk result (λ made. execution_view made.0 ≡ execution_of self.stmt_id params.entry.now (has_to_be_apart params.entry.now)) }
+        ensures apart { IfOk result (λ made. made.1 ≡ has_to_be_apart params.entry.now) }
+    {
+        self.build_from_refs(alloc, lent(alloc, params)?)
+    }
+
+    /// The same of values that lie apart from each other.
+    pub fn build_from_refs<'a>(
+        self,
+        alloc: Global,
+        params: Vec<&'a Value>,
+    ) -> Result<(ComStmtExecuteRequest<'a>, bool), AllocError>
+        requires { length params.items ≤ 65535 }
+        ensures request { let values = map (λ value. value.now) params.entry.items in IfOk result (λ made. execution_view made.0 ≡ execution_of self.stmt_id values (has_to_be_apart values)) }
+        ensures apart { IfOk result (λ made. made.1 ≡ has_to_be_apart (map (λ value. value.now) params.entry.items)) }
+    {
+        let bitmap = null_bitmap_of(alloc, &params)?;
+        let as_long_data = needs_long_data(&params);
+        let request = ComStmtExecuteRequest {
+            stmt_id: self.stmt_id,
+            bitmap,
+            params,
+            as_long_data,
+        };
+        Ok((request, as_long_data))
+    }
+}
+
+// A reference to each value.
+fn lent<'a>(alloc: Global, values: &'a [Value]) -> Result<Vec<&'a Value>, AllocError>
+    ensures { IfOk result (λ lent. map (λ value. value.now) lent.items ≡ values.entry.now) }
+{
+    let mut lent = Vec::new(alloc);
+    for value in values {
+        lent.push(value)?;
+    }
+    Ok(lent)
+}
+
+// Whether an execution that holds all cells exceeds the most bytes of one chunk.
+fn needs_long_data(values: &[&Value]) -> bool
+    requires { length values.now ≤ 65535 }
+    ensures { result ≡ has_to_be_apart (map (λ value. value.now) values.now) }
+{
+    let head = 10 + (values.len() + 7) / 8 + 1 + 2 * values.len();
+    let mut room = (MAX_PAYLOAD_LEN - head) as u64;
+    for value in values {
+        match room.checked_sub(value.bin_len()) {
+            Some(left) => room = left,
+            None => return true,
+        }
+    }
+    false
+}
+
+/// An execution of a prepared statement: no cursor, a count of 1, and types for all values.
+///
+/// MySQL: Client/Server Protocol, "COM_STMT_EXECUTE".
+#[derive(Debug, PartialEq, Drop)]
+pub struct ComStmtExecuteRequest<'a> {
+    stmt_id: u32,
+    bitmap: Vec<u8>,
+    params: Vec<&'a Value>,
+    as_long_data: bool,
+}
+
+impl<'a> ComStmtExecuteRequest<'a> {
+    /// The statement's id.
+    pub fn stmt_id(&self) -> u32
+        ensures { result ≡ (execution_view self.now).stmt_id }
+    {
+        self.stmt_id
+    }
+
+    /// A copy, of references to the same values. Refused for want of memory.
+    pub fn clone(&self, alloc: Global) -> Result<ComStmtExecuteRequest<'a>, AllocError>
+        ensures { IfOk result (λ copy. execution_view copy ≡ execution_view self.now) }
+    {
+        let bitmap = Vec::from_slice(alloc, &self.bitmap)?;
+        let params = Vec::from_slice(alloc, &self.params)?;
+        Ok(ComStmtExecuteRequest {
+            stmt_id: self.stmt_id,
+            bitmap,
+            params,
+            as_long_data: self.as_long_data,
+        })
+    }
+
+    /// The cursor that is asked for: none.
+    pub fn flags(&self) -> CursorType
+        ensures { result.0 ≡ 0 }
+    {
+        CursorType::CURSOR_TYPE_NO_CURSOR
+    }
+
+    /// A bit for each value, 1 for NULL, the first one the lowest of the first byte. Unused bits are 0.
+    ///
+    /// MySQL: Client/Server Protocol, "Null-Bitmap".
+    pub fn bitmap(&self) -> &[u8]
+        ensures { result.now ≡ (execution_view self.now).bitmap }
+    {
+        &self.bitmap
+    }
+
+    /// That types are sent.
+    pub fn params_flags(&self) -> StmtExecuteParamsFlags
+        ensures { result.0 ≡ 1 }
+    {
+        StmtExecuteParamsFlags::NEW_PARAMS_BOUND
+    }
+
+    /// The values.
+    pub fn params(&self) -> &[&'a Value]
+        ensures { map (λ value. value.now) result.now ≡ (execution_view self.now).values }
+    {
+        &self.params
+    }
+
+    /// Whether byte strings are sent before the execution as long data, and so have no cells in it.
+    pub fn as_long_data(&self) -> bool
+        ensures { result ≡ (execution_view self.now).apart }
+    {
+        self.as_long_data
+    }
+}
+
+// Bytes as they are.
+#[derive(Clone, Copy)]
+struct Plain<'a>(&'a [u8]);
+
+impl<'a> MySerialize for Plain<'a> {
+    ghost written = { λ bytes. bytes.0.now };
+
+    fn serialize(&self, buf: &mut Vec<u8>) -> Result<(), AllocError> {
+        buf.extend_from_slice(self.0)
+    }
+}
+
+// The type of one value.
+fn put_type(value: &Value, buf: &mut Vec<u8>) -> Result<(), AllocError>
+    ensures { Appends result buf.old.items buf.new.items (type_bytes value.now) }
+{
+    let flags = if value.is_unsigned() { 0x80 } else { 0 };
+    buf.extend_from_slice(&[u8::from(value.column_type()), flags])
+}
+
+// The types of values.
+fn put_types(values: &[&Value], buf: &mut Vec<u8>) -> Result<(), AllocError>
+    ensures { Appends result buf.old.items buf.new.items (flat_map (λ value. type_bytes value.now) values.now) }
+{
+    let len = buf.len();
+    for value in values {
+        if let Err(e) = put_type(*value, buf) {
+            buf.truncate(len);
+            return Err(e);
+        }
+    }
+    Ok(())
+}
+
+#[derive(Clone, Copy)]
+struct Types<'a>(&'a [&'a Value]);
+
+impl<'a> MySerialize for Types<'a> {
+    ghost written = { λ types. flat_map type_bytes (map (λ value. value.now) types.0.now) };
+
+    fn serialize(&self, buf: &mut Vec<u8>) -> Result<(), AllocError> {
+        put_types(self.0, buf)
+    }
+}
+
+// The cell of one value, where it has one.
+fn put_cell(value: &Value, apart: bool, buf: &mut Vec<u8>) -> Result<(), AllocError>
+    ensures { Appends result buf.old.items buf.new.items (sent_cell apart value.now) }
+{
+    match value {
+        Value::Bytes(_) if apart => Ok(()),
+        _ => value.serialize(buf),
+    }
+}
+
+// The cells of values.
+fn put_cells(values: &[&Value], apart: bool, buf: &mut Vec<u8>) -> Result<(), AllocError>
+    ensures { Appends result buf.old.items buf.new.items (flat_map (λ value. sent_cell apart value.now) values.now) }
+{
+    let len = buf.len();
+    for value in values {
+        if let Err(e) = put_cell(*value, apart, buf) {
+            buf.truncate(len);
+            return Err(e);
+        }
+    }
+    Ok(())
+}
+
+#[derive(Clone, Copy)]
+struct Cells<'a> {
+    values: &'a [&'a Value],
+    apart: bool,
+}
+
+impl<'a> MySerialize for Cells<'a> {
+    ghost written = { λ cells. flat_map (sent_cell cells.apart) (map (λ value. value.now) cells.values.now) };
+
+    fn serialize(&self, buf: &mut Vec<u8>) -> Result<(), AllocError> {
+        put_cells(self.values, self.apart, buf)
+    }
+}
+
+// What an execution carries of its values: nothing where there are none.
+#[derive(Clone, Copy)]
+struct Parameters<'a> {
+    bitmap: &'a [u8],
+    values: &'a [&'a Value],
+    apart: bool,
+}
+
+impl<'a> MySerialize for Parameters<'a> {
+    ghost written = { λ p. parameters p.bitmap.now (map (λ value. value.now) p.values.now) p.apart };
+
+    fn serialize(&self, buf: &mut Vec<u8>) -> Result<(), AllocError> {
+        if self.values.is_empty() {
+            return Ok(());
+        }
+        let cells = Cells {
+            values: self.values,
+            apart: self.apart,
+        };
+        in_order!(Plain(self.bitmap), [1u8], Types(self.values), cells).serialize(buf)
+    }
+}
+
+#[tactic(auto, unfolding(crate::specs::Executions::execution))]
+impl<'a> MySerialize for ComStmtExecuteRequest<'a> {
+    ghost written = { λ r. execution (execution_view r) };
+
+    fn serialize(&self, buf: &mut Vec<u8>) -> Result<(), AllocError> {
+        let id: RawInt<LeU32> = RawInt::new(self.stmt_id);
+        let parameters = Parameters {
+            bitmap: &self.bitmap,
+            values: &self.params,
+            apart: self.as_long_data,
+        };
+        in_order!(
+            ComStmtExecuteHeader::new(),
+            id,
+            [0u8],
+            IterationCount::new(),
+            parameters
+        )
+        .serialize(buf)
+    }
+}

@@ -1,0 +1,21 @@
+//! Laws of the commands. Functions without a result do nothing: their contracts are the laws.
+
+ghost use Rattle.mysql_stmt.specs.Statements.{BitmapsSayWhichAreNull, ClosesReadBack, ResetsReadBack};
+
+/// A request to end a statement that was written is read again, whatever follows it.
+#[tactic(auto, using(crate::proofs::Back::closes_read_back))]
+pub fn closes_read_back()
+    ensures { ClosesReadBack }
+{}
+
+/// A request to reset a statement that was written is read again, whatever follows it.
+#[tactic(auto, using(crate::proofs::Back::resets_read_back))]
+pub fn resets_read_back()
+    ensures { ResetsReadBack }
+{}
+
+/// The bitmap of an execution has a byte for each eight values, and a bit for each value that says whether it is NULL.
+#[tactic(auto, using(crate::proofs::Back::bitmaps_say_which_are_null))]
+pub fn bitmaps_say_which_are_null()
+    ensures { BitmapsSayWhichAreNull }
+{}

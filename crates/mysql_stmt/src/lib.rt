@@ -1,0 +1,20 @@
+//! Commands of prepared statements: executions, long data, closing and resetting.
+#![tactic(auto)]
+
+pub mod close;
+pub mod execute;
+pub mod headers;
+pub mod laws;
+pub mod long_data;
+mod null_bits;
+pub mod reset;
+
+pub use close::ComStmtClose;
+pub use execute::{ComStmtExecuteRequest, ComStmtExecuteRequestBuilder};
+pub use headers::{
+    ComStmtCloseHeader, ComStmtExecuteHeader, ComStmtResetHeader, ComStmtSendLongDataHeader,
+    InvalidComStmtCloseHeader, InvalidComStmtExecuteHeader, InvalidComStmtResetHeader,
+    InvalidComStmtSendLongDataHeader, InvalidIterationCount, IterationCount,
+};
+pub use long_data::ComStmtSendLongData;
+pub use reset::ComStmtReset;

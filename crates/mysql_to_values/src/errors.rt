@@ -1,0 +1,33 @@
+//! Why a value of Rust has no value.
+
+ghost use Rattle.std.specs.Prelude.{◌≡◌};
+ghost use Rattle.mysql_to_values.specs.declared.errors.ToValueError.TheVariants as to_value_error;
+
+use std::alloc::{AllocError, AllocFailed};
+use thiserror::Error;
+
+/// Why a value of Rust has no [`Value`].
+#[derive(Clone, Copy, Debug, PartialEq, Eq, Hash, Error)]
+pub enum ToValueError {
+    /// A duration of more than 2^32-1 days.
+    #[error("too long for a value")]
+    TooLong,
+    #[error("out of memory")]
+    Memory,
+}
+
+impl From<AllocError> for ToValueError {
+    ghost from_gives = { λ _ e. e ≡ to_value_error.Memory };
+
+    fn from(_e: AllocError) -> ToValueError {
+        ToValueError::Memory
+    }
+}
+
+impl<T: Drop> From<AllocFailed<T>> for ToValueError {
+    ghost from_gives = { λ _ e. e ≡ to_value_error.Memory };
+
+    fn from(_e: AllocFailed<T>) -> ToValueError {
+        ToValueError::Memory
+    }
+}
