@@ -3,6 +3,10 @@ pub mod Sizes
 pub mod Tight
 pub mod Bytes
 pub mod Rows
+pub mod FirstAt
+pub mod TooLarge
+pub mod FirstValues
+pub mod MixedKinds
 pub mod LongestPart
 pub mod OneKindLemmas
 pub mod InForceLemmas

@@ -1,6 +1,6 @@
 -- The longest part from a start.
-use Rattle.std.proofs.Common.{◌≡◌, ℕ, zero, suc, ◌+◌, ◌-◌, ◌*◌, ◌<◌, ◌≤◌, ◌⊎◌, inl, inr, Bool, true, false, List, [], ◌∷◌, ◌++◌, length, take, drop, get_or, sym, ◌∙◌, ap, subst, arith, length-take, length-drop, Vec, Option, Some, None}
-use Rattle.std.specs.Prelude.{sum_by, count_by, cond, ◌||◌, MatchOption}
+use Rattle.std.proofs.Common.{◌≡◌, ℕ, zero, suc, ◌+◌, ◌-◌, ◌*◌, ◌<◌, ◌≤◌, ◌⊎◌, inl, inr, Bool, true, false, List, [], ◌∷◌, ◌++◌, length, take, drop, get_or, sym, ◌∙◌, ap, subst, arith, length-take, length-drop, Vec, Bor}
+use Rattle.std.specs.Prelude.{sum_by, count_by, cond, ◌||◌}
 use Rattle.std.specs.List.{AllByRecursion}
 use Rattle.std.specs.declared.alloc.Global.{Global}
 use Rattle.std.proofs.lemmas.Bool.{cases_Bool, cond-true, cond-false, false≢true, or_cases, or_left, or_right}
@@ -12,8 +12,8 @@ use Rattle.mysql_bulk_builder.specs.Cut.{Row, row_size, rows_of, rows_size}
 use Rattle.mysql_bulk_builder.specs.TypedCut.{Typed, Untyped, Part, placed, placed_from, has_value_at, HasValue, HasKnownColumns, PartFits, IsTightTypedPart}
 use Rattle.mysql_bulk_builder.specs.TypedCutLaws.{EachRowFitsTyped}
 use Rattle.mysql_bulk_builder.specs.Seen.{IsSet, IsKnown, IsUnknown, AreSeen}
-use Rattle.mysql_bulk_builder.specs.TypedRequests.{view_part, view_parts, IsFirstTooLarge}
-use Rattle.mysql_bulk_builder.specs.RowLists.{rows_in}
+use Rattle.mysql_bulk_builder.specs.TypedRequests.{view_part, view_parts}
+use Rattle.mysql_bulk_builder.specs.RowLists.{row_in, rows_in}
 use Rattle.mysql_bulk_builder.proofs.Sizes.{sum_within}
 use Rattle.mysql_bulk_builder.proofs.TypedTight.{part_fits_later, longest_by_one}
 
@@ -130,27 +130,15 @@ one_row rows k lt =
     let e : rows_size rows k 1 ≡ sum_by row_size (get_or rows k [] ∷ []) = ap (λ (r : List Row). sum_by row_size (take 1 r)) (drop_more rows k [] lt) in
     omega (arith, e)
 
--- the first row that fits no typed request, by the room that a row has
-pub too_large_from_past : (room columns left n : ℕ) (rows : List Row) (o : Option ℕ) → left + (7 + 2 * columns) ≡ room → n ≡ length rows →
-    MatchOption o ((k : ℕ) → k < n → row_size (get_or rows k []) ≤ left) (λ k. (k < n) × (left < row_size (get_or rows k [])) × ((j : ℕ) → j < k → row_size (get_or rows j []) ≤ left)) →
-    MatchOption o (EachRowFitsTyped room columns rows) (IsFirstTooLarge room columns rows)
-too_large_from_past room columns left n rows None e same all = λ k lt. omega (arith, e, one_row rows k lt, all k (omega (arith, lt, same)))
-too_large_from_past room columns left n rows (Some k) e same found =
-    let lt : k < length rows = omega (arith, found.0, same) in (
-      lt,
-      λ fits. omega (arith, e, one_row rows k lt, found.1, fits),
-      λ j below. let lt' : j < length rows = omega (arith, lt, below) in omega (arith, e, one_row rows j lt', found.2 j below),
-    )
-
-module _ (room columns : ℕ) (rows rest : List (Vec Value Global)) (start : ℕ) (is_rest : rest ≡ drop start rows) (lt : start < length rows) (each : EachRowFitsTyped room columns (rows_in rows)) where
+module _ (room columns : ℕ) (rows rest : List (Vec (Bor Value) Global)) (start : ℕ) (is_rest : rest ≡ drop start rows) (lt : start < length rows) (each : EachRowFitsTyped room columns (rows_in rows)) where
   rest_view : rows_in rest ≡ drop start (rows_in rows)
-  rest_view = ap rows_in is_rest ∙ sym (drop-map (λ (r : Vec Value Global). r.items) start rows)
+  rest_view = ap rows_in is_rest ∙ sym (drop-map (λ (r : Vec (Bor Value) Global). row_in r.items) start rows)
 
   sizes : (n : ℕ) → sum_by row_size (take n (rows_in rest)) ≡ rows_size (rows_in rows) start n
   sizes n = ap (λ (r : List Row). sum_by row_size (take n r)) rest_view
 
   lengths : (length rest + start ≡ length rows) × (length (rows_in rows) ≡ length rows)
-  lengths = (omega (arith, ap length is_rest, length-drop start rows, lt), length-map rows (λ (r : Vec Value Global). r.items))
+  lengths = (omega (arith, ap length is_rest, length-drop start rows, lt), length-map rows (λ (r : Vec (Bor Value) Global). row_in r.items))
 
   room_is : 7 + 2 * columns ≤ room
   room_is = let f : 7 + 2 * columns + rows_size (rows_in rows) start 1 ≤ room = each start (omega (arith, lt, lengths)) in omega (arith, f)

@@ -49,7 +49,7 @@ no_place test row none column lt = fails (test column (get_or row column NULL)) 
     fails false place e = refl
 
 -- the first value of rows that go on
-first_of_append : (column : ℕ) (a b : List Row) → is_null (first_value column a) ≡ false → first_value column (a ++ b) ≡ first_value column a
+pub first_of_append : (column : ℕ) (a b : List Row) → is_null (first_value column a) ≡ false → first_value column (a ++ b) ≡ first_value column a
 first_of_append column [] b e = absurd (true≢false e)
 first_of_append column (row ∷ a) b e = by (is_null (get_or row column NULL)) (get_or row column NULL) (first_of_append column a b) e
   where
@@ -57,7 +57,7 @@ first_of_append column (row ∷ a) b e = by (is_null (get_or row column NULL)) (
     by true v rest e = rest e
     by false v rest e = refl
 
-first_of_rest : (column : ℕ) (a b : List Row) → is_null (first_value column a) ≡ true → first_value column (a ++ b) ≡ first_value column b
+pub first_of_rest : (column : ℕ) (a b : List Row) → is_null (first_value column a) ≡ true → first_value column (a ++ b) ≡ first_value column b
 first_of_rest column [] b e = refl
 first_of_rest column (row ∷ a) b e = by (get_or row column NULL) (is_null (get_or row column NULL)) (first_of_rest column a b) refl e
   where

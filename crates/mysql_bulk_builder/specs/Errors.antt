@@ -1,4 +1,6 @@
 -- Errors within errors: want of memory is that of the whole.
+use Rattle.std.specs.Prelude.{◌≡◌}
+use Rattle.mysql_bulk.specs.Errors.{refusal_parts}
 use Rattle.mysql_values.specs.declared.params.ParamsError.{ParamsError}
 use Rattle.mysql_values.specs.declared.params.ParamsError.TheVariants.{Missing, Confusion, Memory}
 use Rattle.mysql_bulk.specs.declared.error.BulkExecuteRequestError.{BulkExecuteRequestError}
@@ -18,3 +20,10 @@ error_of_request request_error.NoParams = builder_error.Request request_error.No
 error_of_request request_error.MixedArity = builder_error.Request request_error.MixedArity
 error_of_request (request_error.RowTooLarge row) = builder_error.Request (request_error.RowTooLarge row)
 error_of_request request_error.Memory = builder_error.Memory
+
+-- the same error, wherever the values of its row lie
+abbrev pub IsSameError : BulkExecuteRequestBuilderError → BulkExecuteRequestBuilderError → Type 0
+IsSameError (builder_error.Request a) (builder_error.Request b) = refusal_parts a ≡ refusal_parts b
+IsSameError (builder_error.Params a) (builder_error.Params b) = a ≡ b
+IsSameError builder_error.Memory builder_error.Memory = Unit {0}
+IsSameError _ _ = ⊥

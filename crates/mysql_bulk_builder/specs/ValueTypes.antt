@@ -1,6 +1,7 @@
 -- The types that values are sent by.
 -- MariaDB: "COM_STMT_BULK_EXECUTE" (parameter types and their flags); MySQL: Client/Server Protocol, "Column Definition Flags".
-use Rattle.std.specs.Prelude.{ℕ, ◌==◌, ◌&&◌, Bool, if◌then◌else◌, List, [], ◌∷◌, slice_index_or}
+use Rattle.std.specs.Prelude.{ℕ, ◌==◌, ◌&&◌, Bool, if◌then◌else◌, List, [], ◌∷◌, map, slice_index_or}
+use Rattle.std.specs.List.{range_with_len}
 use Rattle.mysql_cells.specs.Cells.{is_unsigned, type_number}
 pub use Rattle.mysql_cells.specs.Values.{is_null}
 use Rattle.mysql_cells.specs.declared.value.Value.{Value}
@@ -20,3 +21,7 @@ abbrev pub first_value : ℕ → List Row → Value
 first_value column [] = NULL
 first_value column (row ∷ rows) =
     let value = slice_index_or row column NULL in if is_null value then first_value column rows else value
+
+-- the first value of each of so many columns
+abbrev pub first_values : ℕ → List Row → Row
+first_values columns rows = map (λ column. first_value column rows) (range_with_len 0 columns)

@@ -1,12 +1,12 @@
 //! Why a row is not taken, and why no request is built.
 
-ghost use Rattle.std.specs.Prelude.{◌≡◌};
+ghost use Rattle.std.specs.Prelude.{◌≡◌, IfOk};
 ghost use Rattle.mysql_bulk_builder.specs.declared.error.BulkExecuteRequestBuilderError.TheVariants as builder_error;
-ghost use Rattle.mysql_bulk_builder.specs.Errors.{error_of_params, error_of_request};
+ghost use Rattle.mysql_bulk_builder.specs.Errors.{IsSameError, error_of_params, error_of_request};
 
 use mysql_bulk::BulkExecuteRequestError;
 use mysql_values::ParamsError;
-use std::alloc::AllocError;
+use std::alloc::{AllocError, Global};
 use thiserror::Error;
 
 /// Why a builder does not take a row, or builds no request.
@@ -18,6 +18,23 @@ pub enum BulkExecuteRequestBuilderError {
     Params(ParamsError),
     #[error("out of memory")]
     Memory,
+}
+
+impl BulkExecuteRequestBuilderError {
+    /// A copy. Refused for want of memory.
+    pub fn clone(&self, alloc: Global) -> Result<BulkExecuteRequestBuilderError, AllocError>
+        ensures { IfOk result (λ copy. IsSameError copy self.now) }
+    {
+        match self {
+            BulkExecuteRequestBuilderError::Request(error) => {
+                Ok(BulkExecuteRequestBuilderError::Request(error.clone(alloc)?))
+            }
+            BulkExecuteRequestBuilderError::Params(error) => {
+                Ok(BulkExecuteRequestBuilderError::Params(error.clone(alloc)?))
+            }
+            BulkExecuteRequestBuilderError::Memory => Ok(BulkExecuteRequestBuilderError::Memory),
+        }
+    }
 }
 
 impl From<AllocError> for BulkExecuteRequestBuilderError {

@@ -3,8 +3,10 @@
 
 pub mod builder;
 pub mod error;
+pub mod first_values;
 mod flat;
 mod given;
+pub mod kinds;
 pub mod laws;
 pub mod requests;
 mod row_size;
@@ -12,6 +14,8 @@ pub mod search;
 
 pub use builder::ComStmtBulkExecuteRequestBuilder;
 pub use error::BulkExecuteRequestBuilderError;
+pub use first_values::{no_first_values, put_first_values};
+pub use kinds::mixed_kinds;
 pub use mysql_bulk::{BulkExecuteRequestError, ComStmtBulkExecuteRequest};
 pub use requests::BulkRequests;
 pub use search::{BulkCutError, BulkPart, bulk_cut};

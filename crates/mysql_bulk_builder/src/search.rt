@@ -1,14 +1,15 @@
 //! The longest part of the rows that fits one request.
-ghost use Rattle.std.specs.Prelude.{◌≡◌, ℕ, ◌+◌, ◌*◌, ◌<◌, ◌≤◌, ◌||◌, false, length, take, sum_by, All, MatchBool, MatchOption, IfOk, IfErr, ◌-◌, slice_index_or, vec_len, []};
+ghost use Rattle.std.specs.Prelude.{◌≡◌, ℕ, ◌+◌, ◌*◌, ◌<◌, ◌≤◌, ◌||◌, false, length, take, sum_by, None, All, MatchBool, MatchOption, IfOk, IfErr, ◌-◌, slice_index_or, vec_len, []};
+ghost use Rattle.mysql_bulk_builder.specs.Causes.{row_too_large};
 ghost use Rattle.mysql_bulk_builder.specs.Cut.{row_size};
 ghost use Rattle.mysql_bulk_builder.specs.TypedCut.{has_value_at};
 ghost use Rattle.mysql_bulk_builder.specs.Seen.{IsKnown, IsUnknown, AreSeen};
 ghost use Rattle.mysql_bulk_builder.specs.TypedCut.{IsTightTypedPart, IsTightTyped};
 ghost use Rattle.mysql_bulk_builder.specs.TypedCutLaws.{EachRowFitsTyped};
-ghost use Rattle.mysql_bulk_builder.specs.TypedRequests.{view_part, view_parts, IsFirstTooLarge, HasNoTypedCut};
-ghost use Rattle.mysql_bulk_builder.specs.RowLists.{rows_in};
+ghost use Rattle.mysql_bulk_builder.specs.TypedRequests.{view_part, view_parts, HasNoTypedCut};
+ghost use Rattle.mysql_bulk_builder.specs.RowLists.{row_in, rows_in};
 
-use crate::row_size::{is_null, row_size_within};
+use crate::row_size::{is_null, refs_size_within};
 use mysql_cells::Value;
 use std::alloc::{AllocError, AllocFailed, Global};
 
@@ -49,14 +50,14 @@ impl<T: Drop> From<AllocFailed<T>> for BulkCutError {
 }
 
 /// How many of the first rows take at most `room` bytes together.
-fn longest_within(rows: &[Vec<Value>], room: usize) -> usize
+fn longest_within(rows: &[Vec<&Value>], room: usize) -> usize
     ensures within { result ≤ length rows.now }
     ensures fits { sum_by row_size (take result (rows_in rows.now)) ≤ room }
     ensures longest { result < length rows.now → room < sum_by row_size (take (result + 1) (rows_in rows.now)) }
 {
     let mut left = room;
     for (i, row) in rows.iter().enumerate() {
-        match row_size_within(row, left) {
+        match refs_size_within(row, left) {
             None => return i,
             Some(len) => left -= len,
         }
@@ -65,12 +66,12 @@ fn longest_within(rows: &[Vec<Value>], room: usize) -> usize
 }
 
 /// Whether each of the row's values is in a column that was seen.
-fn is_known(row: &[Value], seen: &[bool]) -> bool
+fn is_known(row: &[&Value], seen: &[bool]) -> bool
     requires { length row.now ≡ length seen.now }
-    ensures { MatchBool result (IsKnown seen.now row.now) (IsUnknown seen.now row.now) }
+    ensures { MatchBool result (IsKnown seen.now (row_in row.now)) (IsUnknown seen.now (row_in row.now)) }
 {
     for (i, value) in row.iter().enumerate() {
-        if !is_null(value) && !seen[i] {
+        if !is_null(*value) && !seen[i] {
             return false;
         }
     }
@@ -78,7 +79,7 @@ fn is_known(row: &[Value], seen: &[bool]) -> bool
 }
 
 /// How many of the first rows have values in columns that were seen alone.
-fn longest_known(rows: &[Vec<Value>], seen: &[bool]) -> usize
+fn longest_known(rows: &[Vec<&Value>], seen: &[bool]) -> usize
     requires { All (λ row. vec_len row ≡ length seen.now) rows.now }
     ensures within { result ≤ length rows.now }
     ensures known { (k : ℕ) → k < result → IsKnown seen.now (slice_index_or (rows_in rows.now) k []) }
@@ -93,19 +94,19 @@ fn longest_known(rows: &[Vec<Value>], seen: &[bool]) -> usize
 }
 
 /// Marks the columns in which the row has a value.
-fn mark(seen: &mut [bool], row: &[Value])
+fn mark(seen: &mut [bool], row: &[&Value])
     requires { length row.now ≡ length seen.old }
-    ensures { (column : ℕ) → column < length seen.old → slice_index_or seen.new column false ≡ (slice_index_or seen.old column false || has_value_at column row.now) }
+    ensures { (column : ℕ) → column < length seen.old → slice_index_or seen.new column false ≡ (slice_index_or seen.old column false || has_value_at column (row_in row.now)) }
 {
     for (i, value) in row.iter().enumerate() {
-        if !is_null(value) {
+        if !is_null(*value) {
             seen[i] = true;
         }
     }
 }
 
 /// Marks the columns in which the rows from `from` to before `to` have a value.
-fn mark_rows(seen: &mut [bool], rows: &[Vec<Value>], from: usize, to: usize)
+fn mark_rows(seen: &mut [bool], rows: &[Vec<&Value>], from: usize, to: usize)
     requires order { from ≤ to }
     requires within { to ≤ length rows.now }
     requires arity { All (λ row. vec_len row ≡ length seen.old) rows.now }
@@ -119,7 +120,7 @@ fn mark_rows(seen: &mut [bool], rows: &[Vec<Value>], from: usize, to: usize)
 
 /// The longest part from a row on: untyped where that is no shorter than the longest typed one, and not the first.
 fn next_part(
-    rows: &[Vec<Value>],
+    rows: &[Vec<&Value>],
     start: usize,
     columns: usize,
     room: usize,
@@ -153,13 +154,13 @@ fn next_part(
 }
 
 /// The first row that takes more than `room` bytes.
-fn first_past(rows: &[Vec<Value>], room: usize) -> Option<usize>
+fn first_past(rows: &[Vec<&Value>], room: usize) -> Option<usize>
     ensures { MatchOption result
         ((k : ℕ) → k < length rows.now → row_size (slice_index_or (rows_in rows.now) k []) ≤ room)
         (λ k. (k < length rows.now) × (room < row_size (slice_index_or (rows_in rows.now) k [])) × ((j : ℕ) → j < k → row_size (slice_index_or (rows_in rows.now) j []) ≤ room)) }
 {
     for (i, row) in rows.iter().enumerate() {
-        match row_size_within(row, room) {
+        match refs_size_within(row, room) {
             None => return Some(i),
             Some(_) => {}
         }
@@ -178,8 +179,8 @@ fn room_beside_types(columns: usize, room: usize) -> Option<usize>
 }
 
 /// The first row that fits no typed request.
-fn first_too_large(rows: &[Vec<Value>], columns: usize, room: usize) -> Option<usize>
-    ensures { MatchOption result (EachRowFitsTyped room columns (rows_in rows.now)) (IsFirstTooLarge room columns (rows_in rows.now)) }
+fn first_too_large(rows: &[Vec<&Value>], columns: usize, room: usize) -> Option<usize>
+    ensures { result ≡ row_too_large room columns (rows_in rows.now) }
 {
     match room_beside_types(columns, room) {
         None => { if rows.is_empty() { None } else { Some(0) } }
@@ -190,12 +191,13 @@ fn first_too_large(rows: &[Vec<Value>], columns: usize, room: usize) -> Option<u
 /// Cuts rows into as few requests as there can be, each with types or without.
 pub fn bulk_cut(
     alloc: Global,
-    rows: &[Vec<Value>],
+    rows: &[Vec<&Value>],
     columns: usize,
     room: usize,
 ) -> Result<Vec<BulkPart>, BulkCutError>
     requires { All (λ row. vec_len row ≡ columns) rows.now }
     ensures tight { IfOk result (λ cut. IsTightTyped room columns (rows_in rows.now) (view_parts cut.items)) }
+    ensures none { IfOk result (λ _. row_too_large room columns (rows_in rows.now) ≡ None) }
     ensures refused { IfErr result (HasNoTypedCut room columns (rows_in rows.now)) }
 {
     if let Some(k) = first_too_large(rows, columns, room) {

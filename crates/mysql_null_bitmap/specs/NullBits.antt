@@ -1,6 +1,6 @@
 -- What the iterator over a bitmap has still to give.
 -- MySQL: Client/Server Protocol, "Null-Bitmap".
-use Rattle.std.specs.Prelude.{ℕ, ◌-◌, Bool, List}
+use Rattle.std.specs.Prelude.{◌-◌, Bool, List}
 use Rattle.mysql_null_bitmap.specs.NullBitmap.{bits_from}
 use Rattle.mysql_null_bitmap.specs.declared.null_bits.NullBits.{NullBits}
 

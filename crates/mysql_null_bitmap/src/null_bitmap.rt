@@ -36,6 +36,7 @@ impl BitmapBytes for &mut [u8] {
 ///
 /// MySQL: Client/Server Protocol, "Null-Bitmap".
 #[derive(Drop)]
+#[derive_where(Debug, PartialEq, Eq; U)]
 pub struct NullBitmap<T: SerializationSide, U = Vec<u8>>(pub U, PhantomData<T>);
 
 impl<T: SerializationSide> NullBitmap<T, Vec<u8>> {
@@ -48,6 +49,13 @@ impl<T: SerializationSide> NullBitmap<T, Vec<u8>> {
         let mut bytes = Vec::new(alloc);
         bytes.resize(len, 0)?;
         Ok(NullBitmap(bytes, PhantomData))
+    }
+
+    /// A copy. Refused for want of memory.
+    pub fn clone(&self, alloc: Global) -> Result<NullBitmap<T, Vec<u8>>, AllocError>
+        ensures { IfOk result (λ copy. copy.0.items ≡ self.now.0.items) }
+    {
+        Ok(NullBitmap(Vec::from_slice(alloc, &self.0)?, PhantomData))
     }
 
     /// Takes the bitmap of so many columns from the front of `input`, where its bytes have to stand. Refused for want of memory

@@ -1,5 +1,5 @@
 //! Packets of a server's reply: error packets and progress reports, requests for files, statement packets; columns and OK
-//! packets are passed on.
+//! packets, and the commands of prepared statements, single and in bulk, are passed on.
 #![tactic(auto)]
 
 pub mod err_packet;
@@ -17,11 +17,22 @@ pub use headers::{
     InvalidStmtPacketStatus, LocalInfileHeader, SqlStateMarker, StmtPacketStatus,
 };
 pub use local_infile::LocalInfilePacket;
+pub use mysql_bulk::{
+    BulkExecuteRequestError, ComStmtBulkExecuteRequest, StmtBulkExecuteParamType,
+    StmtBulkExecuteParamValue, StmtBulkExecuteParamValues, read_bulk_row,
+};
+pub use mysql_bulk_builder::{
+    BulkExecuteRequestBuilderError, BulkRequests, ComStmtBulkExecuteRequestBuilder,
+};
 pub use mysql_columns::{
     Catalog, Column, ColumnDefinitionCatalog, FixedLengthFieldsLen, InvalidCatalog,
     InvalidFixedLengthFieldsLen,
 };
 pub use mysql_ok_packets::OkPacket;
+pub use mysql_stmt::{
+    ComStmtClose, ComStmtExecuteRequest, ComStmtExecuteRequestBuilder, ComStmtReset,
+    ComStmtSendLongData,
+};
 pub use progress_report::ProgressReport;
 pub use server_error::{ServerError, SqlState};
 pub use statement::StmtPacket;

@@ -2,12 +2,14 @@
 
 use crate::support::Asserting;
 use mysql_buf::ParseBuf;
-use mysql_bulk::{BulkExecuteRequestError, ComStmtBulkExecuteRequest, read_bulk_row};
+use mysql_bulk::{
+    BulkExecuteRequestError, ComStmtBulkExecuteRequest, StmtBulkExecuteParamValue, read_bulk_row,
+};
 use mysql_cells::Value;
-use mysql_const::{ColumnFlags, ColumnType, StmtBulkExecuteFlags};
+use mysql_const::{ColumnFlags, ColumnType, MariadbBulkIndicator, StmtBulkExecuteFlags};
 use mysql_raw::WireError;
 use std::alloc::{AllocError, Global};
-use tests_support::{Assert, assert_written, once_more};
+use tests_support::{Assert, assert_equal, assert_written, once_more, whole};
 
 const TYPED: StmtBulkExecuteFlags = StmtBulkExecuteFlags::SEND_TYPES_TO_SERVER;
 
@@ -75,5 +77,29 @@ fn indicators_without_values(rt: HostRuntime) {
             is_null(rt.alloc(), bytes),
         );
         assert.holds(null);
+    }
+}
+
+/// Indicators without a value, and their bytes.
+const WITHOUT_VALUES: [(&[u8], MariadbBulkIndicator); 3] = [
+    (b"\x01", MariadbBulkIndicator::BULK_INDICATOR_NULL),
+    (b"\x02", MariadbBulkIndicator::BULK_INDICATOR_DEFAULT),
+    (b"\x03", MariadbBulkIndicator::BULK_INDICATOR_IGNORE),
+];
+
+/// Asserts that these bytes are NULL, with this indicator.
+fn assert_null(assert: &impl Assert, alloc: Global, bytes: &[u8], indicator: MariadbBulkIndicator) {
+    let column = (ColumnType::MYSQL_TYPE_LONGLONG, ColumnFlags(0));
+    let found = whole::<StmtBulkExecuteParamValue, (ColumnType, ColumnFlags)>(
+        assert, alloc, column, bytes,
+    );
+    assert_equal(assert, found.indicator(), indicator);
+    assert.holds(matches!(found.value(), Value::NULL));
+}
+
+#[test]
+fn indicators_are_kept(rt: HostRuntime) {
+    for (bytes, indicator) in &WITHOUT_VALUES {
+        assert_null(&Asserting(&rt), rt.alloc(), *bytes, *indicator);
     }
 }

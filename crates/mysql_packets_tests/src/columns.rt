@@ -7,7 +7,7 @@ use mysql_raw::WireError;
 use std::alloc::{AllocError, Global};
 use tests_support::{
     Assert, assert_bytes, assert_cut_off, assert_equal, assert_made, assert_reads_back,
-    assert_refused, whole,
+    assert_refused, once_more, whole,
 };
 
 const COLUMN: &[u8] =
@@ -84,6 +84,62 @@ fn made(alloc: Global) -> Result<Column, AllocError> {
 fn made_by_its_parts(rt: HostRuntime) {
     let alloc = rt.alloc();
     assert_made(&Asserting(&rt), alloc, made(alloc), made(alloc), COLUMN);
+}
+
+/// What stands before and behind a name of 300 bytes.
+const BEFORE_LONG_NAME: &[u8] = b"\x03def\0\0\0\xfc\x2c\x01";
+
+const BEHIND_LONG_NAME: &[u8] = b"\0\x0c\x21\0\x0f\0\0\0\x08\x01\0\0\0\0";
+
+fn long_name(alloc: Global) -> Result<Vec<u8>, AllocError> {
+    let mut name = Vec::new(alloc);
+    name.resize(300, b'n')?;
+    Ok(name)
+}
+
+/// The bytes of a column with that name.
+fn bytes_with_long_name(alloc: Global) -> Result<Vec<u8>, AllocError> {
+    let mut bytes = Vec::from_slice(alloc, BEFORE_LONG_NAME)?;
+    bytes.resize(310, b'n')?;
+    bytes.extend_from_slice(BEHIND_LONG_NAME)?;
+    Ok(bytes)
+}
+
+fn with_long_name(alloc: Global) -> Result<Column, AllocError> {
+    let name = long_name(alloc)?;
+    let column = Column::new(alloc, ColumnType::MYSQL_TYPE_LONGLONG).with_name(&name)?;
+    Ok(
+        column
+            .with_character_set(33)
+            .with_column_length(15)
+            .with_flags(ColumnFlags::NOT_NULL_FLAG),
+    )
+}
+
+/// Asserts that these bytes are a column with that name, and none with a byte less of it.
+fn assert_long_name(assert: &impl Assert, alloc: Global, bytes: &[u8]) {
+    assert_made(
+        assert,
+        alloc,
+        with_long_name(alloc),
+        with_long_name(alloc),
+        bytes,
+    );
+    assert_reads_back::<Column, ()>(assert, alloc, (), bytes);
+    assert_cut_off::<Column, ()>(assert, alloc, (), bytes, 300, 324);
+}
+
+#[test]
+fn a_long_name(rt: HostRuntime) {
+    let assert = Asserting(&rt);
+    let alloc = rt.alloc();
+    let bytes = once_more(
+        &assert,
+        bytes_with_long_name(alloc),
+        bytes_with_long_name(alloc),
+    );
+    assert.holds(bytes.len() == 324);
+    assert_long_name(&assert, alloc, &bytes);
 }
 
 // Bytes, and why they are refused: another catalog, another count of the fixed fields, a type without a name.

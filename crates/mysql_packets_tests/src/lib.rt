@@ -1,7 +1,9 @@
 //! Tests of `mysql_packets` and the crates below it from outside: columns, OK and error packets, session states, rows and
-//! commands of prepared statements, whole and cut off at each byte.
+//! commands of prepared statements, whole and cut off at each byte; and of the builder of bulk requests.
 #![tactic(auto)]
 
+#[cfg(test)]
+mod building;
 #[cfg(test)]
 mod bulk;
 #[cfg(test)]

@@ -1,13 +1,2 @@
-pub mod Texts
-pub mod Queries
-pub mod Contents
-pub mod StatementSets
-pub mod ReadBack
-pub mod NullBits
-pub mod ExecuteBack
-pub mod SentSets
-pub mod PutTogether
-pub mod StreamBack
-pub mod JoinedStreams
-pub mod OneMeaning
+pub mod OnAnswers
 pub mod ObjectSets

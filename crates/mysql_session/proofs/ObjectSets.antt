@@ -1,8 +1,9 @@
 -- Lists of objects, and the parameter sets that are made of them.
-use Rattle.std.proofs.Common.{◌≡◌, ◌≢◌, ◌⊎◌, inl, inr, ℕ, suc, ◌+◌, ◌-◌, ◌<◌, ◌≤◌, List, [], ◌∷◌, ◌++◌, length, map, take, drop, get_or, Option, Some, None, Result, Ok, Err, refl, sym, ◌∙◌, ap, subst, arith, add-one, drop-cons, is_none}
+use Rattle.std.proofs.Common.{◌≡◌, ◌≢◌, inl, inr, ℕ, suc, ◌+◌, ◌-◌, ◌^◌, ◌<◌, ◌≤◌, List, [], ◌∷◌, ◌++◌, length, map, take, drop, get_or, Option, Some, None, Result, Ok, Err, refl, sym, ◌∙◌, ap, subst, add-one, drop-cons, is_none}
 use Rattle.std.specs.List.{AllZip, filter_map, position_from}
 use Rattle.std.specs.Option.{option_map, option_or}
-use Rattle.std.proofs.lemmas.List.{append-nil, drop_all, length-map, map-append, take-append-drop, take_more}
+use Rattle.std.specs.Result.{result_map_both}
+use Rattle.std.proofs.lemmas.List.{append-nil, drop_all, map-append, take-append-drop, take_more}
 use Rattle.mysql_values.specs.Content.{Content}
 use Rattle.mysql_values.specs.Value.{Value}
 use Rattle.mysql_values.specs.declared.params.Params.{Params}
@@ -11,19 +12,22 @@ use Rattle.mysql_values.specs.declared.params.ParamsError.TheVariants.{Confusion
 use Rattle.mysql_values.specs.declared.params.ParamsConfusionError.TheVariants.{PositionalParamsForNamedQuery}
 use Rattle.mysql_values.specs.declared.params.SetError.{SetError}
 use Rattle.mysql_values.specs.declared.params.SetError.TheVariants as set_error
-use Rattle.mysql_values.specs.Params.{IsMeaning}
+use Rattle.mysql_values.specs.Params.{IsMeaning, values_over}
+use Rattle.mysql_values.specs.declared.params.ParamsError.{ParamsError}
 use Rattle.mysql_values.specs.Parsed.{names_of}
 use Rattle.mysql_convert.specs.Sets.{IsMadeOf, too_long}
 use Rattle.mysql_convert.specs.Sets.Parts.{InOrder}
-use Rattle.mysql_session.specs.declared.refusal.Refusal.{Refusal}
-use Rattle.mysql_session.specs.declared.refusal.Refusal.TheVariants as refusals
-use Rattle.mysql_session.specs.declared.road.Road.{Road}
-use Rattle.mysql_session.specs.Sets.{Given, IsObjectsMeaning, all_given, all_given_by_objects, given_by, given_by_objects, given_in_order, unless_refused}
-use Rattle.mysql_session.specs.Sent.{Statement, statement_of, whole_command}
-use Rattle.mysql_session.specs.Cause.{Limits, cause_of, first_of_sets, limits_of, query_cause, set_cause}
-use Rattle.mysql_session.specs.Sending.{ReadsBack, ReadsBackValues, Refuses, RefusesValues, Sends, SendsValues}
+use Rattle.mysql_streams.specs.declared.refusal.Refusal.{Refusal}
+use Rattle.mysql_streams.specs.declared.refusal.Refusal.TheVariants as refusals
+use Rattle.mysql_streams.specs.declared.road.Road.{Road}
+use Rattle.mysql_session.specs.Objects.{IsObjectsMeaning, ReadsBackValues, RefusesValues, SendsValues, SendsWholeValues, all_given_by_objects, given_by_objects, given_in_order, unless_refused}
+use Rattle.mysql_streams.specs.Sets.{Given, all_given, given_by, given_up_to, values_of}
+use Rattle.mysql_streams.specs.Sent.{Statement, statement_of, whole_command}
+use Rattle.mysql_streams.specs.Cause.{cause_of, first_of_sets, limits_of, query_cause, set_cause, sets_cause}
+use Rattle.mysql_streams.specs.Reading.{SentReadable}
+use Rattle.mysql_streams.specs.Sending.{RefusesGiven, SendsGiven}
+use Rattle.mysql_streams.specs.Laws.{IsDelivered, SentSetsAreDelivered}
 use Rattle.mysql_session.specs.Made.{AreLeft, AreMade, AreMadeUpTo}
-use Rattle.mysql_session.proofs.Contents.{gives_values, neither}
 
 -- ---- one list
 
@@ -57,6 +61,10 @@ made_gives [] objects (Positional list) made =
 made_gives (name ∷ names) objects (Positional list) made =
     sym (ap (λ (l : List (Option Value)). given_by_objects (name ∷ names) l) made.1 ∙ objects_give (name ∷ names) list.items ∙ with_names name names list.items (λ none. made.0 (made.1 ∙ ap (λ (l : List Value). map Some l) none)))
 made_gives names objects (Named entries) made = absurd made
+
+-- values over a query's names are given
+gives_values : (names : List (List ℕ)) (params : Params) (values : List Value) → values_over names params ≡ Ok values → given_by names params ≡ Ok values
+gives_values names params values over = ap (λ (o : Result (List Value) ParamsError). result_map_both (λ values. values) (λ error. set_error.Params error) o) over
 
 -- and means what they mean
 made_means : (query : List ℕ) (objects : List (Option Value)) (params : Params) (contents : List Content) → IsMadeOf (InOrder objects) params → IsMeaning query params contents → IsObjectsMeaning query objects contents
@@ -131,101 +139,106 @@ made_all f xs i sets passed made = record {
 
 -- ---- causes
 
--- the first cause of sets is that of more sets
-first_in_front : (cause : ℕ → Given → Option Refusal) (n : ℕ) (front behind : List Given) (refusal : Refusal) → first_of_sets cause n front ≡ Some refusal → first_of_sets cause n (front ++ behind) ≡ Some refusal
-first_in_front cause n [] behind refusal first = cc
-first_in_front cause n (given ∷ front) behind refusal first =
-    by (cause n given) (first_of_sets cause (n + 1) front) (first_of_sets cause (n + 1) (front ++ behind)) first (first_in_front cause (n + 1) front behind refusal)
+-- the first cause of sets of which one gives nothing is found before those behind it
+first_refused : (cause : ℕ → Given → Option Refusal) (error : SetError) (refusal : ℕ → Refusal) → ((k : ℕ) → cause k (Err error) ≡ Some (refusal k))
+    → (n : ℕ) (front : List Given) → (first : Refusal) × ((later : List Given) → first_of_sets cause n (front ++ Err error ∷ later) ≡ Some first)
+first_refused cause error refusal is n [] = (refusal n, λ later. ap (λ c. option_or c (first_of_sets cause (n + 1) later)) (is n))
+first_refused cause error refusal is n (given ∷ front) =
+    by (cause n given) refl (first_refused cause error refusal is (n + 1) front)
   where
-    by : (here rest more : Option Refusal) → option_or here rest ≡ Some refusal → (rest ≡ Some refusal → more ≡ Some refusal) → option_or here more ≡ Some refusal
-    by None rest more first step = step first
-    by (Some other) rest more first step = first
+    by : (here : Option Refusal) → cause n given ≡ here → (first : Refusal) × ((later : List Given) → first_of_sets cause (n + 1) (front ++ Err error ∷ later) ≡ Some first)
+        → (first : Refusal) × ((later : List Given) → option_or (cause n given) (first_of_sets cause (n + 1) (front ++ Err error ∷ later)) ≡ Some first)
+    by None same behind = (behind.0, λ later. ap (λ c. option_or c (first_of_sets cause (n + 1) (front ++ Err error ∷ later))) same ∙ behind.1 later)
+    by (Some first) same behind = (first, λ later. ap (λ c. option_or c (first_of_sets cause (n + 1) (front ++ Err error ∷ later))) same)
 
--- behind sets without a cause come the causes of the others
-first_behind : (cause : ℕ → Given → Option Refusal) (n : ℕ) (front behind : List Given) → first_of_sets cause n front ≡ None → first_of_sets cause n (front ++ behind) ≡ first_of_sets cause (n + length front) behind
-first_behind cause n [] behind none =
-    let same : n ≡ n + 0 = omega arith in ap (λ m. first_of_sets cause m behind) same
-first_behind cause n (given ∷ front) behind none =
-    let parts = neither (cause n given) (first_of_sets cause (n + 1) front) none in
-    let same : n + 1 + length front ≡ n + length (given ∷ front) = omega arith in
-    ap (λ c. option_or c (first_of_sets cause (n + 1) (front ++ behind))) parts.0 ∙ first_behind cause (n + 1) front behind parts.1 ∙ ap (λ m. first_of_sets cause m behind) same
+-- behind a cause of one set those of all together don't count
+same_first : (against_query here there some other : Option Refusal) (first : Refusal) → here ≡ Some first → there ≡ Some first
+    → option_or against_query (option_or here some) ≡ option_or against_query (option_or there other)
+same_first against_query here there some other first one two = rw (one, two) refl
 
--- a cause that only that of the sets can change
-cause_stays : (against_query some more : Option Refusal) (refusal : Refusal) → option_or against_query (option_or some None) ≡ Some refusal → (some ≡ Some refusal → more ≡ Some refusal) → option_or against_query (option_or more None) ≡ Some refusal
-cause_stays (Some cause) some more refusal first step = first
-cause_stays None None more refusal first step = cc
-cause_stays None (Some cause) more refusal first step = rw (step first) refl
-
--- the cause of the lists that are left
-cause_left : (names : List (List ℕ)) (command : List Value → List ℕ) (limits : Limits) (n : ℕ) (left : List (List (Option Value))) (error : SetError) → AreLeft (Some error) left
-    → first_of_sets (set_cause command limits) n (map (given_by_objects names) left) ≡ Some (refusals.Params n error)
-cause_left names command limits n [] error rest = absurd rest
-cause_left names command limits n (objects ∷ left) error rest =
-    ap (λ (g : Given). option_or (set_cause command limits n g) (first_of_sets (set_cause command limits) (n + 1) (map (given_by_objects names) left))) (refused_give names objects error rest)
+-- sets of which one gives nothing are not all values
+none_stopped : (given : List Given) (error : SetError) (values : List (List Value)) → given ++ Err error ∷ [] ≡ map Ok values → ⊥
+none_stopped [] error [] all = cc
+none_stopped [] error (first ∷ values) all = cc
+none_stopped (given ∷ others) error [] all = cc
+none_stopped (given ∷ others) error (first ∷ values) all =
+    let behind : others ++ Err error ∷ [] ≡ map Ok values = cc in none_stopped others error values behind
 
 -- ---- sending them
 
-module _ (road : Road) (query : List ℕ) (lists : List (List (Option Value))) (sets : List Params) (id limit : ℕ) (stop : Option SetError) (m : AreMadeUpTo lists sets stop) where
+module _ (road : Road) (query : List ℕ) (lists : List (List (Option Value))) (sets : List Params) (id limit : ℕ) where
   -- what the lists give, by those of which sets were made
-  given_in_parts : (names : List (List ℕ)) → all_given_by_objects lists names ≡ all_given sets names ++ map (given_by_objects names) m.left
-  given_in_parts names =
+  given_in_parts : (stop : Option SetError) (m : AreMadeUpTo lists sets stop) (names : List (List ℕ)) → all_given_by_objects lists names ≡ all_given sets names ++ map (given_by_objects names) m.left
+  given_in_parts stop m names =
       ap (λ l. map (given_by_objects names) l) m.parts ∙ map-append (given_by_objects names) m.front m.left
       ∙ ap (λ l. l ++ map (given_by_objects names) m.left) (sym (all_made_give names m.front sets m.made))
 
+  -- where sets are made of all lists, they give the same
+  same_given : (m : AreMadeUpTo lists sets None) (names : List (List ℕ)) → all_given sets names ≡ all_given_by_objects lists names
+  same_given m names = sym (given_in_parts None m names ∙ ap (λ l. all_given sets names ++ map (given_by_objects names) l) m.rest ∙ append-nil (all_given sets names))
+
+  -- sets up to one that gives nothing have the cause of all lists
+  same_cause : (stop : Option SetError) (m : AreMadeUpTo lists sets stop) (statement : Statement) (names : List (List ℕ))
+      → cause_of road statement limit (given_up_to sets stop names) ≡ cause_of road statement limit (all_given_by_objects lists names)
+  same_cause None m statement names = ap (λ l. cause_of road statement limit l) (same_given m names)
+  same_cause (Some error) m statement names = by m.left m.rest (given_in_parts (Some error) m names)
+    where
+      by : (left : List (List (Option Value))) → AreLeft (Some error) left → all_given_by_objects lists names ≡ all_given sets names ++ map (given_by_objects names) left
+          → cause_of road statement limit (given_up_to sets (Some error) names) ≡ cause_of road statement limit (all_given_by_objects lists names)
+      by [] rest parts = absurd rest
+      by (objects ∷ left) rest parts =
+          let cause : ℕ → Given → Option Refusal = set_cause (whole_command road statement) (limits_of statement.places limit) in
+          let whole : all_given_by_objects lists names ≡ all_given sets names ++ Err error ∷ map (given_by_objects names) left =
+          parts ∙ ap (λ (g : Given). all_given sets names ++ g ∷ map (given_by_objects names) left) (refused_give names objects error rest) in
+          let first = first_refused cause error (λ k. refusals.Params k error) (λ k. refl) 0 (all_given sets names) in
+          same_first (query_cause road statement (limit - 4)) (first_of_sets cause 0 (given_up_to sets (Some error) names)) (first_of_sets cause 0 (all_given_by_objects lists names))
+          (option_or (sets_cause road statement (limit - 4) (values_of (given_up_to sets (Some error) names))) None)
+          (option_or (sets_cause road statement (limit - 4) (values_of (all_given_by_objects lists names))) None)
+          first.0 (first.1 []) (ap (λ l. first_of_sets cause 0 l) whole ∙ first.1 (map (given_by_objects names) left))
+
   -- why the made sets are refused is why the lists are
-  pub refused : (refusal : Refusal) → Refuses road query sets id limit refusal → RefusesValues road query lists id limit refusal
-  refused refusal (inl memory) = inl memory
-  refused refusal (inr c) =
-      let cause : ℕ → Given → Option Refusal = set_cause (whole_command road (statement_of query c.tokens id)) (limits_of (statement_of query c.tokens id).places limit) in
-      inr record {
-        tokens = c.tokens;
-        has = c.has;
-        first = cause_stays (query_cause road (statement_of query c.tokens id) (limit - 4)) (first_of_sets cause 0 (all_given sets (names_of c.tokens))) (first_of_sets cause 0 (all_given_by_objects lists (names_of c.tokens))) refusal c.first
-            (λ first. ap (λ l. first_of_sets cause 0 l) (given_in_parts (names_of c.tokens)) ∙ first_in_front cause 0 (all_given sets (names_of c.tokens)) (map (given_by_objects (names_of c.tokens)) m.left) refusal first);
-      }
-
-  -- where they are sent, the first list that is left is refused
-  pub refused_left : (error : SetError) (old new : List ℕ) (n : ℕ) → n ≡ length sets → stop ≡ Some error → Sends road query sets id limit old new → RefusesValues road query lists id limit (refusals.Params n error)
-  refused_left error old new n count stopped s =
-      let names : List (List ℕ) = names_of s.tokens in
-      let cause : ℕ → Given → Option Refusal = set_cause (whole_command road (statement_of query s.tokens id)) (limits_of (statement_of query s.tokens id).places limit) in
-      let parts = neither (query_cause road (statement_of query s.tokens id) (limit - 4)) (option_or (first_of_sets cause 0 (all_given sets names)) None) s.none in
-      let none = neither (first_of_sets cause 0 (all_given sets names)) None parts.1 in
-      let same : 0 + length (all_given sets names) ≡ n = omega (arith, count, length-map sets (given_by names)) in
-      let first : first_of_sets cause 0 (all_given_by_objects lists names) ≡ Some (refusals.Params n error) =
-      ap (λ l. first_of_sets cause 0 l) (given_in_parts names) ∙ first_behind cause 0 (all_given sets names) (map (given_by_objects names) m.left) none.0
-      ∙ ap (λ k. first_of_sets cause k (map (given_by_objects names) m.left)) same
-      ∙ cause_left names (whole_command road (statement_of query s.tokens id)) (limits_of (statement_of query s.tokens id).places limit) n m.left error (subst (λ (r : Option SetError). AreLeft r m.left) stopped m.rest) in
-      inr record { tokens = s.tokens; has = s.has; first = rw (parts.0, first) refl }
-
--- ---- where sets are made of all lists
-
-module _ (road : Road) (query : List ℕ) (lists : List (List (Option Value))) (sets : List Params) (id limit : ℕ) (m : AreMadeUpTo lists sets None) (old new : List ℕ) where
-  all_in_front : lists ≡ m.front
-  all_in_front = m.parts ∙ ap (λ l. m.front ++ l) m.rest ∙ append-nil m.front
-
-  same_given : (names : List (List ℕ)) → all_given sets names ≡ all_given_by_objects lists names
-  same_given names = all_made_give names m.front sets m.made ∙ ap (λ l. map (given_by_objects names) l) (sym all_in_front)
-
-  -- what is sent of the sets is what is sent of the lists
-  pub sent : Sends road query sets id limit old new → SendsValues road query lists id limit old new
-  sent s = record {
-    tokens = s.tokens;
-    has = s.has;
-    values = s.values;
-    given = sym (same_given (names_of s.tokens)) ∙ s.given;
-    none = ap (λ l. cause_of road (statement_of query s.tokens id) limit l) (sym (same_given (names_of s.tokens))) ∙ s.none;
-    appended = s.appended;
+  pub refused : (stop : Option SetError) (m : AreMadeUpTo lists sets stop) (refusal : Refusal) → RefusesGiven road query (given_up_to sets stop) id limit refusal → RefusesValues road query lists id limit refusal
+  refused stop m refusal (inl memory) = inl memory
+  refused stop m refusal (inr c) = inr record {
+    tokens = c.tokens;
+    has = c.has;
+    first = sym (same_cause stop m (statement_of query c.tokens id) (names_of c.tokens)) ∙ c.first;
   }
 
-  -- and what is read back of it
-  pub read : ReadsBack query sets id limit old new → ReadsBackValues query lists id limit old new
-  read r = record {
-    stream = r.stream;
-    appended = r.appended;
-    contents = r.contents;
-    reads = record {
-      meanings = subst (λ (l : List (List (Option Value))). AllZip (IsObjectsMeaning query) l r.contents) (sym all_in_front) (all_made_mean query m.front sets r.contents m.made r.reads.meanings);
-      audit = r.reads.audit;
-    };
-  }
+  module _ (law : SentSetsAreDelivered) (small : id < 2 ^ 32) (four : 4 ≤ limit) (old new : List ℕ) (short : length new < 2 ^ 64) where
+    -- what was sent of the made sets was sent of all lists, and is delivered
+    delivered : (m : AreMadeUpTo lists sets None) → SentReadable road query (all_given sets) id limit old new
+        → SendsValues road query lists id limit old new × ReadsBackValues query lists id limit old new × SendsWholeValues road query lists id limit old new
+    delivered m s =
+        let d : IsDelivered road query sets id limit old new = law road query sets id limit old new small four short s in
+        let front : lists ≡ m.front = m.parts ∙ ap (λ l. m.front ++ l) m.rest ∙ append-nil m.front in
+        let over : SendsGiven road query (all_given sets) id limit old new → SendsValues road query lists id limit old new = over_lists m in (
+          over s.sends,
+          record {
+            stream = d.read_back.stream;
+            appended = d.read_back.appended;
+            contents = d.read_back.contents;
+            reads = record {
+              meanings = subst (λ (l : List (List (Option Value))). AllZip (IsObjectsMeaning query) l d.read_back.contents) (sym front) (all_made_mean query m.front sets d.read_back.contents m.made d.read_back.reads.meanings);
+              audit = d.read_back.reads.audit;
+            };
+          },
+          record { sends = over d.whole.sends; fronts = d.whole.fronts; fewest = d.whole.fewest },
+        )
+      where
+        over_lists : AreMadeUpTo lists sets None → SendsGiven road query (all_given sets) id limit old new → SendsValues road query lists id limit old new
+        over_lists m s = record {
+          tokens = s.tokens;
+          has = s.has;
+          values = s.values;
+          given = sym (same_given m (names_of s.tokens)) ∙ s.given;
+          none = ap (λ l. cause_of road (statement_of query s.tokens id) limit l) (sym (same_given m (names_of s.tokens))) ∙ s.none;
+          sent = s.sent;
+          are_sent = s.are_sent;
+          appended = s.appended;
+        }
+
+    pub all_delivered : (stop : Option SetError) → AreMadeUpTo lists sets stop → SentReadable road query (given_up_to sets stop) id limit old new
+        → SendsValues road query lists id limit old new × ReadsBackValues query lists id limit old new × SendsWholeValues road query lists id limit old new
+    all_delivered None m s = delivered m s
+    all_delivered (Some error) m s = absurd (none_stopped (all_given sets (names_of s.sends.tokens)) error s.sends.values s.sends.given)

@@ -1,15 +1,10 @@
 //! Parameter sets of one query as streams of commands, and back.
 #![tactic(auto)]
 
-mod execute_command;
-mod executions;
 pub mod laws;
 mod objects;
 mod program;
-mod refusal;
-mod road;
 mod sender;
-mod text_queries;
 
 pub use mysql_commands::{Audit, End, Receiver, ReceiverError, StreamFault, receive};
 pub use mysql_const::{CapabilityFlags, StatusFlags};
@@ -23,6 +18,7 @@ pub use mysql_replies::{
     Reply, ReplyEnd, ReplyFault, ReplyKind, ReplyReader, ReplyResult, read_reply,
 };
 pub use mysql_rows::{ColumnIndex, Row};
+pub use mysql_streams::{Refusal, Road};
 pub use mysql_values::{
     ByteString, Content, MissingNamedParameterError, Params, ParamsConfusionError, ParamsError,
     SetError, Value,
@@ -30,6 +26,4 @@ pub use mysql_values::{
 pub use mysql_wire::{PacketCodecError, PacketReader};
 pub use objects::send_values;
 pub use program::{Status, run};
-pub use refusal::Refusal;
-pub use road::Road;
 pub use sender::send;

@@ -4,12 +4,12 @@ ghost use Rattle.std.specs.Prelude.{◌≡◌, ◌≤◌, IfErr, IfOk, MatchResu
 ghost use Rattle.mysql_convert.specs.Sets.{IsMadeOf, too_long};
 ghost use Rattle.mysql_convert.specs.Sets.Parts.{InOrder};
 ghost use Rattle.mysql_session.specs.Made.{AreMadeUpTo};
-ghost use Rattle.mysql_session.specs.Sending.{CanBeSent, ReadsBackValues, RefusesValues, SendsValues};
+ghost use Rattle.mysql_session.specs.Objects.{ReadsBackValues, RefusesValues, SendsValues, SendsWholeValues};
 
-use crate::refusal::Refusal;
-use crate::road::Road;
-use crate::sender::send;
+use crate::sender::send_sets;
 use mysql_convert::{IntoParams, ToValue};
+use mysql_streams::laws::sent_sets_are_delivered;
+use mysql_streams::{Refusal, Road};
 use mysql_values::{Params, SetError};
 use std::alloc::{AllocError, Global};
 
@@ -61,19 +61,21 @@ fn sets_of_objects(
     })
 }
 
-/// Appends to `out` the commands that carry lists of objects to a server: what [`send`] appends of parameter sets of the
-/// objects' values, in order, one set for each list. A list without objects is the empty set. `receive` with the same query,
-/// id and limit reads back what the values mean.
+/// Appends to `out` the commands that carry lists of objects to a server: what [`send`](crate::send) appends of parameter sets
+/// of the objects' values, in order, one set for each list. A list without objects is the empty set. `receive` with the same
+/// query, id and limit reads back what the values mean.
 ///
-/// The limit is at least 4, and by execute at most 16777219; the road is not [`Road::Bulk`].
+/// The limit is at least 4.
 ///
 /// # Errors
-/// The first cause that holds, in the order of [`Refusal`]: `Mixed`; by text `NotAlone`; by execute `TooManyPlaces`,
-/// `PrepareTooLarge`; list by list `Params` with `TooLong` and the least place whose object is too long for a value, `Params`
-/// with `PositionalParamsForNamedQuery` where a query with names is given objects, `WrongCount`, `Float`, `PacketTooLarge`;
-/// `Memory` where a growth was refused. `out` is then as it was.
+/// The first cause that holds, in the order of [`Refusal`]: `Mixed`; by text `NotAlone`; by execute and bulk `TooManyPlaces`,
+/// `PrepareTooLarge`; by bulk `NoPlaces`; list by list `Params` with `TooLong` and the least place whose object is too long for
+/// a value, `Params` with `PositionalParamsForNamedQuery` where a query with names is given objects, `WrongCount`, `Float`, and
+/// but by bulk `PacketTooLarge`; by bulk over all lists `MixedKinds`, `RowTooLarge`; `Memory` where a growth was refused. `out`
+/// is then as it was.
 ///
-/// (MySQL: Client/Server Protocol, "COM_QUERY", "COM_STMT_PREPARE", "COM_STMT_EXECUTE".)
+/// (MySQL: Client/Server Protocol, "COM_QUERY", "COM_STMT_PREPARE", "COM_STMT_SEND_LONG_DATA", "COM_STMT_EXECUTE"; MariaDB:
+/// Client/Server Protocol, "COM_STMT_BULK_EXECUTE".)
 pub fn send_values(
     alloc: Global,
     query: &[u8],
@@ -83,24 +85,19 @@ pub fn send_values(
     limit: usize,
     out: &mut Vec<u8>,
 ) -> Result<(), Refusal>
-    requires limit { 4 ≤ limit }
-    requires road { CanBeSent road limit }
+    requires { 4 ≤ limit }
     ensures refused { IfErr result (RefusesValues road query.now (map (λ set. map (λ object. as_value object) set.items) sets.now) stmt_id limit) }
     ensures kept { OnErr result (out.new.items ≡ out.old.items) }
     ensures sent { OnOk result (SendsValues road query.now (map (λ set. map (λ object. as_value object) set.items) sets.now) stmt_id limit out.old.items out.new.items) }
     ensures read_back { OnOk result (ReadsBackValues query.now (map (λ set. map (λ object. as_value object) set.items) sets.now) stmt_id limit out.old.items out.new.items) }
+    ensures whole { OnOk result (SendsWholeValues road query.now (map (λ set. map (λ object. as_value object) set.items) sets.now) stmt_id limit out.old.items out.new.items) }
 {
-    let start = out.len();
+    sent_sets_are_delivered();
     let MadeSets {
         sets: made,
         refusal,
     } = sets_of_objects(alloc, sets)?;
-    send(alloc, query, &made, road, stmt_id, limit, out)?;
-    match refusal {
-        Some(error) => {
-            out.truncate(start);
-            Err(Refusal::Params(made.len(), error))
-        }
-        None => Ok(()),
-    }
+    let sent = send_sets(alloc, query, &made, refusal, road, stmt_id, limit, out);
+    let _len = out.len();
+    sent
 }

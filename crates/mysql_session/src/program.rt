@@ -2,12 +2,11 @@
 
 ghost use Rattle.std.specs.Prelude.{◌≡◌};
 ghost use Rattle.mysql_session.specs.declared.program.Stop.TheVariants as stop;
-ghost use Rattle.mysql_session.specs.declared.refusal.Refusal.TheVariants as refusal;
+ghost use Rattle.mysql_streams.specs.declared.refusal.Refusal.TheVariants as refusal;
 
-use crate::refusal::Refusal;
-use crate::road::Road;
 use crate::sender::send;
 use mysql_commands::{Audit, End, Receiver, ReceiverError};
+use mysql_streams::{Refusal, Road};
 use mysql_values::{Content, Params, Value};
 use std::alloc::{AllocError, AllocFailed, Global};
 use std::collections::HashMap;
@@ -199,7 +198,6 @@ fn refusal_name(refusal: &Refusal) -> &'static str {
         Refusal::PacketTooLarge(_) => "PacketTooLarge",
         Refusal::MixedKinds(_, _) => "MixedKinds",
         Refusal::RowTooLarge(_) => "RowTooLarge",
-        Refusal::LateValue(_, _) => "LateValue",
         Refusal::Memory => "Memory",
     }
 }

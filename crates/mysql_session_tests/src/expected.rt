@@ -27,8 +27,8 @@ pub enum Expected {
     NumberRows(usize, &'static [Numbers], Option<StatusFlags>),
     /// The statement's id, how many parameters it has, and how many columns.
     Prepared(u32, usize, usize),
-    /// The code, the state and the message.
-    Error(u16, [u8; 5], &'static [u8]),
+    /// The code, the state where there is one, and the message.
+    Error(u16, Option<[u8; 5]>, &'static [u8]),
     /// The file's name.
     File(&'static [u8]),
 }
@@ -140,7 +140,7 @@ fn is_error(error: &ServerError, wanted: Expected) -> bool {
     match wanted {
         Expected::Error(code, state, message) => {
             (error.error_code() == code)
-                & (error.sql_state_ref().map(|state| state.as_bytes()) == Some(state))
+                & (error.sql_state_ref().map(|state| state.as_bytes()) == state)
                 & (error.message_ref() == message)
         }
         _ => false,
@@ -287,7 +287,8 @@ pub fn assert_reads(
     assert.holds(first || is_read_by_bytes(assert, alloc, start, stream, wanted));
 }
 
-fn assert_packets(
+/// Asserts what packets one after another say, as the bytes of a reply.
+pub fn assert_packets(
     assert: &impl Assert,
     alloc: Global,
     start: Start,

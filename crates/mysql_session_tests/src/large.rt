@@ -8,7 +8,7 @@ use mysql_values::ByteString;
 use std::alloc::{AllocError, Global};
 use tests_support::{Assert, once_more};
 
-const LIMIT: usize = 20000000;
+pub const LIMIT: usize = 20000000;
 
 const ONE_PLACE: &[u8] = b"SELECT :a";
 
@@ -77,7 +77,7 @@ fn a_text_by_bytes(rt: HostRuntime) {
     assert_text_by_bytes(&assert, rt.alloc(), stream.as_slice());
 }
 
-const TWO_PLACES: &[u8] = b"SELECT :a, :b";
+pub const TWO_PLACES: &[u8] = b"SELECT :a, :b";
 
 /// What stands before the data of the large piece: the prepare, a chunk's header, and the command with its id and place.
 const BEFORE: &[u8] = b"\x0c\0\0\0\x16SELECT ?, ?\xff\xff\xff\0\x18\x01\0\0\0\0\0";
@@ -88,7 +88,7 @@ const BEHIND: &[u8] =
     b"\x07\0\0\x01xxxxxxx\x07\0\0\0\x18\x01\0\0\0\x01\0\x10\0\0\0\x17\x01\0\0\0\0\x01\0\0\0\0\x01\xfd\0\xfd\0";
 
 /// How many bytes the large piece carries: as many as a full chunk.
-const PIECE_LEN: usize = 16777215;
+pub const PIECE_LEN: usize = 16777215;
 
 /// Puts a large piece of long data and an empty one.
 fn put_long_data(out: &mut Vec<u8>) -> Result<(), AllocError> {
@@ -99,7 +99,7 @@ fn put_long_data(out: &mut Vec<u8>) -> Result<(), AllocError> {
 }
 
 /// The stream of a large piece of long data and an empty one.
-fn long_data_stream(assert: &impl Assert, alloc: Global) -> Vec<u8> {
+pub fn long_data_stream(assert: &impl Assert, alloc: Global) -> Vec<u8> {
     let mut out = Vec::new(alloc);
     if put_long_data(&mut out).is_err() {
         // Memory was refused: a part may stand.
@@ -109,7 +109,7 @@ fn long_data_stream(assert: &impl Assert, alloc: Global) -> Vec<u8> {
     out
 }
 
-const LONG_DATA: [WantedSet; 1] = [&[Want::Filled(PIECE_LEN), Want::Filled(0)]];
+pub const LONG_DATA: [WantedSet; 1] = [&[Want::Filled(PIECE_LEN), Want::Filled(0)]];
 
 /// Asserts that the stream carries both pieces.
 fn assert_long_data(assert: &impl Assert, alloc: Global, stream: &[u8]) {

@@ -10,6 +10,8 @@ mod audits;
 #[cfg(test)]
 mod bulk;
 #[cfg(test)]
+mod bulk_sending;
+#[cfg(test)]
 mod executions;
 #[cfg(test)]
 mod expected;
@@ -41,3 +43,5 @@ mod support;
 mod texts;
 #[cfg(test)]
 mod texts_of_errors;
+#[cfg(test)]
+mod wide;

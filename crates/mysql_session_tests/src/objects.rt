@@ -76,10 +76,7 @@ fn sent_once(
     sets: &[Vec<Box<dyn ToValue + Drop>>],
     out: &mut Vec<u8>,
 ) -> Result<(), Refusal> {
-    match road {
-        Road::Execute => send_values(alloc, query, sets, Road::Execute, 1, LIMIT, out),
-        _ => send_values(alloc, query, sets, Road::Text, 1, LIMIT, out),
-    }
+    send_values(alloc, query, sets, road, 1, LIMIT, out)
 }
 
 /// Makes the objects and sends them with the id 1; once more where memory was refused.
@@ -100,7 +97,7 @@ fn sent(
 /// Lists of objects that are sent, their stream and its contents.
 type RoundTrip = (Sending, &'static [u8], &'static [WantedSet]);
 
-const SENT: [RoundTrip; 4] = [
+const SENT: [RoundTrip; 5] = [
     (
         (
             Road::Text,
@@ -140,6 +137,16 @@ const SENT: [RoundTrip; 4] = [
         ),
         b"\x09\0\0\0\x16SELECT ?\x16\0\0\0\x17\x01\0\0\0\0\x01\0\0\0\0\x01\x08\0\x01\0\0\0\0\0\0\0\x0e\0\0\0\x17\x01\0\0\0\0\x01\0\0\0\x01\x01\x06\0",
         &[&[Want::Number(1)], &[Want::Null]],
+    ),
+    // By bulk the lists are the rows of one request.
+    (
+        (
+            Road::Bulk,
+            b"SELECT ?",
+            &[&[Object::Int(1)], &[Object::Int(2)]],
+        ),
+        b"\x09\0\0\0\x16SELECT ?\x1b\0\0\0\xfa\x01\0\0\0\x80\0\x08\0\0\x01\0\0\0\0\0\0\0\0\x02\0\0\0\0\0\0\0",
+        &[&[Want::Number(1)], &[Want::Number(2)]],
     ),
     // A list without objects is the empty set.
     (

@@ -45,7 +45,7 @@ const REPLIES: [Row; 7] = [
     ),
     (
         &[b"\x17\x00\x00\x01\xff\x48\x04#HY000No tables used"],
-        &[Expected::Error(1096, *b"HY000", b"No tables used")],
+        &[Expected::Error(1096, Some(*b"HY000"), b"No tables used")],
         ReplyEnd::Whole,
     ),
     (
@@ -60,6 +60,58 @@ const REPLIES: [Row; 7] = [
 #[test]
 fn one_packet(rt: HostRuntime) {
     assert_replies(&Asserting(&rt), rt.alloc(), TEXT, &REPLIES);
+}
+
+/// An error without a state.
+const TOO_MANY: &[u8] = b"\x17\0\0\x01\xff\x10\x04Too many connections";
+
+/// Its code alone.
+const CODE: &[u8] = b"\x03\0\0\x01\xff\x10\x04";
+
+const BAD_ERROR: ReplyEnd = ReplyEnd::Fault(0, ReplyFault::BadError);
+
+const WITHOUT_STATES: [Row; 4] = [
+    (
+        &[TOO_MANY],
+        &[Expected::Error(1040, None, b"Too many connections")],
+        ReplyEnd::Whole,
+    ),
+    (
+        &[CODE],
+        &[Expected::Error(1040, None, b"")],
+        ReplyEnd::Whole,
+    ),
+    // What would be a state is a part of the message.
+    (
+        &[b"\x09\0\0\x01\xff\x10\x04#08004"],
+        &[Expected::Error(1040, None, b"#08004")],
+        ReplyEnd::Whole,
+    ),
+    (&[b"\x02\0\0\x01\xff\x10"], &[], BAD_ERROR),
+];
+
+/// Errors of the protocol before version 4.1 have no state.
+#[test]
+fn errors_without_states(rt: HostRuntime) {
+    assert_replies(
+        &Asserting(&rt),
+        rt.alloc(),
+        CapabilityFlags(0),
+        &WITHOUT_STATES,
+    );
+}
+
+const NO_ERRORS: [Row; 3] = [
+    (&[TOO_MANY], &[], BAD_ERROR),
+    (&[CODE], &[], BAD_ERROR),
+    // A state that is cut off.
+    (&[b"\x08\0\0\x01\xff\x10\x04#0800"], &[], BAD_ERROR),
+];
+
+/// Since version 4.1 each error has a state.
+#[test]
+fn errors_that_lack_states(rt: HostRuntime) {
+    assert_replies(&Asserting(&rt), rt.alloc(), TEXT, &NO_ERRORS);
 }
 
 #[test]

@@ -1,8 +1,10 @@
 //! Replies with rows.
 
-use crate::expected::{Expected, Row, assert_replies};
+use crate::expected::{Expected, Report, Row, Wanted, assert_packets, assert_replies};
 use crate::support::Asserting;
-use mysql_session::{CapabilityFlags, ReplyEnd, ReplyFault, StatusFlags};
+use mysql_session::{CapabilityFlags, ReplyEnd, ReplyFault, ReplyKind, StatusFlags};
+use std::alloc::Global;
+use tests_support::Assert;
 
 /// EOF packets end columns and rows.
 const TEXT: CapabilityFlags = CapabilityFlags::CLIENT_PROTOCOL_41;
@@ -135,4 +137,146 @@ const WITH_EOF_PACKETS: [Row; 6] = [
 #[test]
 fn with_eof_packets(rt: HostRuntime) {
     assert_replies(&Asserting(&rt), rt.alloc(), TEXT, &WITH_EOF_PACKETS);
+}
+
+/// EOF packets, and progress reports.
+const REPORTING: CapabilityFlags = CapabilityFlags(0x2000_0200);
+
+/// No EOF packets, and progress reports.
+const REPORTING_WITHOUT_EOF: CapabilityFlags = CapabilityFlags(0x2100_0200);
+
+const FIRST: Report = (1, 2, 23500, b"sort");
+
+const SECOND: Report = (1, 2, 23600, b"sort");
+
+const THIRD: Report = (2, 2, 0, b"copy");
+
+const FIRST_AT_3: &[u8] = b"\x0e\0\0\x03\xff\xff\xff\x01\x01\x02\xcc\x5b\0\x04sort";
+
+const SECOND_AT_5: &[u8] = b"\x0e\0\0\x05\xff\xff\xff\x01\x01\x02\x30\x5c\0\x04sort";
+
+const THIRD_AT_7: &[u8] = b"\x0e\0\0\x07\xff\xff\xff\x01\x02\x02\0\0\0\x04copy";
+
+/// The packets of a reply with progress reports, the reports, the results, and the reply's end.
+type Reported = (
+    &'static [&'static [u8]],
+    &'static [Report],
+    &'static [Expected],
+    ReplyEnd,
+);
+
+/// Reports before the columns' end, before the rows, and between them.
+const AMONG_ROWS: [Reported; 6] = [
+    (
+        &[
+            ONE_COLUMN,
+            FIRST_AT_3,
+            b"\x05\0\0\x04\xfe\0\0\x02\0",
+            SECOND_AT_5,
+            b"\x02\0\0\x06\x015",
+            THIRD_AT_7,
+            b"\x02\0\0\x08\x016",
+            b"\x05\0\0\x09\xfe\0\0\x02\0",
+        ],
+        &[FIRST, SECOND, THIRD],
+        &[Expected::Rows(1, &[&[Some(b"5")], &[Some(b"6")]], AUTOCOMMIT)],
+        ReplyEnd::Whole,
+    ),
+    // The end of the columns is still awaited, and then the rows are.
+    (
+        &[ONE_COLUMN, FIRST_AT_3],
+        &[FIRST],
+        &[],
+        ReplyEnd::Unfinished,
+    ),
+    (
+        &[
+            ONE_COLUMN,
+            FIRST_AT_3,
+            b"\x05\0\0\x04\xfe\0\0\x02\0",
+            SECOND_AT_5,
+        ],
+        &[FIRST, SECOND],
+        &[NO_ROWS],
+        ReplyEnd::Unfinished,
+    ),
+    // An error is no report.
+    (
+        &[
+            ONE_COLUMN,
+            END_OF_COLUMNS,
+            b"\x02\0\0\x04\x015",
+            SECOND_AT_5,
+            b"\x0c\0\0\x06\xff\x25\x05#70100end",
+        ],
+        &[SECOND],
+        &[
+            Expected::Rows(1, &[&[Some(b"5")]], None),
+            Expected::Error(1317, Some(*b"70100"), b"end"),
+        ],
+        ReplyEnd::Whole,
+    ),
+    // A report that is cut off, behind a row and a report.
+    (
+        &[
+            ONE_COLUMN,
+            END_OF_COLUMNS,
+            b"\x02\0\0\x04\x015",
+            SECOND_AT_5,
+            b"\x04\0\0\x06\xff\xff\xff\x01",
+        ],
+        &[SECOND],
+        &[Expected::Rows(1, &[&[Some(b"5")]], None)],
+        ReplyEnd::Fault(5, ReplyFault::BadError),
+    ),
+    // The same before the end of the columns.
+    (
+        &[ONE_COLUMN, b"\x04\0\0\x03\xff\xff\xff\x01"],
+        &[],
+        &[],
+        ReplyEnd::Fault(2, ReplyFault::BadError),
+    ),
+];
+
+/// Asserts what each of these replies says.
+fn assert_reported(
+    assert: &impl Assert,
+    alloc: Global,
+    capabilities: CapabilityFlags,
+    rows: &[Reported],
+) {
+    for (packets, reports, results, end) in rows {
+        let wanted: Wanted = (reports, results, *end);
+        let start = (ReplyKind::Text, capabilities, 1);
+        assert_packets(assert, alloc, start, packets, wanted);
+    }
+}
+
+#[test]
+fn reports_among_rows(rt: HostRuntime) {
+    assert_reported(&Asserting(&rt), rt.alloc(), REPORTING, &AMONG_ROWS);
+}
+
+/// The rows begin where the columns end without a packet of their own.
+const AMONG_ROWS_WITHOUT_EOF: [Reported; 1] = [(
+    &[
+        ONE_COLUMN,
+        FIRST_AT_3,
+        b"\x02\0\0\x04\x015",
+        SECOND_AT_5,
+        b"\x07\0\0\x06\xfe\0\0\x02\0\0\0",
+    ],
+    &[FIRST, SECOND],
+    &[Expected::Rows(1, &[&[Some(b"5")]], AUTOCOMMIT)],
+    ReplyEnd::Whole,
+)];
+
+#[test]
+fn reports_among_rows_without_eof(rt: HostRuntime) {
+    assert_reported(
+        &Asserting(&rt),
+        rt.alloc(),
+        REPORTING_WITHOUT_EOF,
+        &AMONG_ROWS_WITHOUT_EOF,
+    );
 }

@@ -12,6 +12,8 @@ use tests_support::{Assert, once_more};
 pub enum Given {
     Null,
     Bytes(&'static [u8]),
+    /// So many bytes `x`.
+    Filled(usize),
     Int(i64),
     UInt(u64),
     Float(u32),
@@ -19,10 +21,17 @@ pub enum Given {
     ZeroTime,
 }
 
+fn filled(alloc: Global, len: usize) -> Result<ByteString, AllocError> {
+    let mut bytes = Vec::new(alloc);
+    bytes.resize(len, b'x')?;
+    Ok(ByteString::from_vec(bytes))
+}
+
 fn value(alloc: Global, given: Given) -> Result<Value, AllocError> {
     match given {
         Given::Null => Ok(Value::NULL),
         Given::Bytes(bytes) => Ok(Value::Bytes(ByteString::copy(alloc, bytes)?)),
+        Given::Filled(len) => Ok(Value::Bytes(filled(alloc, len)?)),
         Given::Int(number) => Ok(Value::Int(number)),
         Given::UInt(number) => Ok(Value::UInt(number)),
         Given::Float(bits) => Ok(Value::Float(bits)),
@@ -39,6 +48,8 @@ pub enum Set {
     List(Given),
     /// A value for the name `a`.
     A(Given),
+    /// A value for `a`, and one for `b`.
+    Both(Given, Given),
 }
 
 /// A list of one value.
@@ -48,14 +59,33 @@ fn list(alloc: Global, value: Value) -> Result<Params, AllocError> {
     Ok(Params::Positional(values))
 }
 
+/// Gives a name a value.
+fn insert(
+    alloc: Global,
+    values: &mut HashMap<Vec<u8>, Value>,
+    name: &[u8],
+    value: Value,
+) -> Result<(), AllocError> {
+    let name = Vec::from_slice(alloc, name)?;
+    let answer = values.insert(name, value);
+    let is_ok = answer.is_ok();
+    drop(answer);
+    if is_ok { Ok(()) } else { Err(AllocError) }
+}
+
 /// A set that gives the name `a` a value.
 pub fn named(alloc: Global, value: Value) -> Result<Params, AllocError> {
-    let name = Vec::from_slice(alloc, b"a")?;
     let mut values = HashMap::new(alloc);
-    match values.insert(name, value) {
-        Ok(_) => Ok(Params::Named(values)),
-        Err(_) => Err(AllocError),
-    }
+    insert(alloc, &mut values, b"a", value)?;
+    Ok(Params::Named(values))
+}
+
+/// A set that gives the names `a` and `b` values.
+fn both(alloc: Global, a: Value, b: Value) -> Result<Params, AllocError> {
+    let mut values = HashMap::new(alloc);
+    insert(alloc, &mut values, b"a", a)?;
+    insert(alloc, &mut values, b"b", b)?;
+    Ok(Params::Named(values))
 }
 
 fn params(alloc: Global, set: Set) -> Result<Params, AllocError> {
@@ -63,6 +93,7 @@ fn params(alloc: Global, set: Set) -> Result<Params, AllocError> {
         Set::Empty => Ok(Params::Empty),
         Set::List(given) => list(alloc, value(alloc, given)?),
         Set::A(given) => named(alloc, value(alloc, given)?),
+        Set::Both(a, b) => both(alloc, value(alloc, a)?, value(alloc, b)?),
     }
 }
 
@@ -83,15 +114,11 @@ fn sent_by(
     sets: &[Params],
     out: &mut Vec<u8>,
 ) -> Result<(), Refusal> {
-    let limit = limit.max(4).min(16777219);
-    match road {
-        Road::Execute => send(alloc, query, sets, Road::Execute, 1, limit, out),
-        _ => send(alloc, query, sets, Road::Text, 1, limit, out),
-    }
+    send(alloc, query, sets, road, 1, limit.max(4), out)
 }
 
 /// Sends sets with the id 1; once more where memory was refused.
-fn sent_at_last(
+pub fn sent_at_last(
     alloc: Global,
     sending: Sending,
     sets: &[Params],
@@ -166,12 +193,15 @@ pub enum Cause {
     Mixed,
     NotAlone(usize),
     PrepareTooLarge,
+    NoPlaces,
     Missing(usize, &'static [u8]),
     Confusion(usize, ParamsConfusionError),
     TooLong(usize, usize),
     WrongCount(usize),
     Float(usize, usize),
     PacketTooLarge(usize),
+    MixedKinds(usize, usize),
+    RowTooLarge(usize),
 }
 
 fn missing(alloc: Global, name: &[u8]) -> Result<ParamsError, AllocError> {
@@ -183,6 +213,7 @@ fn refusal(alloc: Global, cause: Cause) -> Result<Refusal, AllocError> {
         Cause::Mixed => Ok(Refusal::Mixed),
         Cause::NotAlone(place) => Ok(Refusal::NotAlone(place)),
         Cause::PrepareTooLarge => Ok(Refusal::PrepareTooLarge),
+        Cause::NoPlaces => Ok(Refusal::NoPlaces),
         Cause::Missing(set, name) => {
             Ok(Refusal::Params(set, SetError::Params(missing(alloc, name)?)))
         }
@@ -193,6 +224,8 @@ fn refusal(alloc: Global, cause: Cause) -> Result<Refusal, AllocError> {
         Cause::WrongCount(set) => Ok(Refusal::WrongCount(set)),
         Cause::Float(set, place) => Ok(Refusal::Float(set, place)),
         Cause::PacketTooLarge(set) => Ok(Refusal::PacketTooLarge(set)),
+        Cause::MixedKinds(set, place) => Ok(Refusal::MixedKinds(set, place)),
+        Cause::RowTooLarge(set) => Ok(Refusal::RowTooLarge(set)),
     }
 }
 

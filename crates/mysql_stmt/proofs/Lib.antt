@@ -2,3 +2,4 @@ pub mod Back
 pub mod Bitmaps
 pub mod Lists
 pub mod LongData
+pub mod Sizes

@@ -6,7 +6,7 @@ use Rattle.std.proofs.lemmas.List.Sums.{sum_by-cons}
 use Rattle.std.specs.List.{sum_by}
 use Rattle.mysql_cells.specs.Cells.{bin_len}
 use Rattle.mysql_cells.specs.declared.value.Value.{Value}
-use Rattle.mysql_stmt.specs.Executions.{needs_long_data}
+use Rattle.mysql_stmt.specs.Executions.{whole_size}
 
 -- the bytes of the cells from a place on
 abbrev pub left : List (Bor Value) → ℕ → ℕ
@@ -24,11 +24,25 @@ less values i value inside here =
     ∙ sum_by-cons bin_len (get_or values i value).now (map (λ value. value.now) (drop (i + 1) values))
     ∙ ap (λ (v : Bor Value). bin_len v.now + left values (i + 1)) (sym here)
 
-pub at_first : (values : List (Bor Value)) (head room : ℕ) → length values ≤ 65535 → head ≡ 10 + (length values + 7) / 8 + 1 + 2 * length values → room ≡ 16777215 - head
-    → nat_lt room (left values 0) ≡ needs_long_data (map (λ value. value.now) values)
-at_first values head room few is room_is =
-    let len = length-map values (λ (value : Bor Value). value.now) in
-    shift room (left values 0) 16777215 (10 + (length (map (λ value. value.now) values) + 7) / 8 + 1 + 2 * length (map (λ value. value.now) values) + left values 0) head (omega (arith, is, room_is)) (omega (arith, is, len))
+-- what stands before the cells
+abbrev pub head_size : List (Bor Value) → ℕ
+head_size values = 10 + (length values + 7) / 8 + 1 + 2 * length values
+
+-- the size counts what stands before the cells, and the cells
+whole : (values : List (Bor Value)) → whole_size (map (λ value. value.now) values) ≡ head_size values + left values 0
+whole values = ap (λ n. 10 + (n + 7) / 8 + 1 + 2 * n + left values 0) (length-map values (λ (value : Bor Value). value.now))
+
+-- the room that is left for the cells
+pub at_first : (values : List (Bor Value)) (head room most : ℕ) → head ≡ head_size values → head ≤ most → room ≡ most - head → nat_lt room (left values 0) ≡ nat_lt most (whole_size (map (λ value. value.now) values))
+at_first values head room most is fits room_is =
+    shift room (left values 0) most (head + left values 0) head (omega (arith, fits, room_is)) (omega arith)
+    ∙ ap (λ n. nat_lt most n) (ap (λ h. h + left values 0) is ∙ sym (whole values))
+
+-- no room for what stands before the cells
+pub no_head : (values : List (Bor Value)) (head most : ℕ) → head ≡ head_size values → most < head → true ≡ nat_lt most (whole_size (map (λ value. value.now) values))
+no_head values head most is short =
+    sym (lt-ltb most (head + left values 0) (omega (arith, short)))
+    ∙ ap (λ n. nat_lt most n) (ap (λ h. h + left values 0) is ∙ sym (whole values))
 
 -- no room for a value
 pub too_much : (values : List (Bor Value)) (room i : ℕ) (value : Bor Value) (all : Bool) → i < length values → value ≡ get_or values i value → room < bin_len value.now → nat_lt room (left values i) ≡ all → true ≡ all

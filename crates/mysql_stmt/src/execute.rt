@@ -1,8 +1,8 @@
 //! Executions of prepared statements.
 
-ghost use Rattle.std.specs.Prelude.{◌≡◌, ◌≤◌, IfOk, flat_map, length, map};
+ghost use Rattle.std.specs.Prelude.{◌≡◌, ◌≤◌, IfOk, flat_map, length, map, nat_lt};
 ghost use Rattle.mysql_raw.specs.Wire.{Appends};
-ghost use Rattle.mysql_stmt.specs.Executions.{execution, execution_of, needs_long_data as has_to_be_apart, parameters, sent_cell, type_bytes};
+ghost use Rattle.mysql_stmt.specs.Executions.{execution, execution_of, needs_long_data as has_to_be_apart, parameters, sent_cell, type_bytes, whole_size};
 ghost use Rattle.mysql_stmt.specs.Views.{execution_view};
 
 use crate::headers::{ComStmtExecuteHeader, IterationCount};
@@ -30,6 +30,17 @@ impl ComStmtExecuteRequestBuilder {
         ensures { result.stmt_id ≡ stmt_id }
     {
         ComStmtExecuteRequestBuilder { stmt_id }
+    }
+
+    /// Whether an execution with these values, at most 65535, that holds the cells of all of them is longer than so many bytes.
+    /// An execution without values has 10 bytes, and counts as one of 11 here.
+    ///
+    /// MySQL: Client/Server Protocol, "COM_STMT_EXECUTE".
+    pub fn exceeds(values: &[&Value], most: usize) -> bool
+        requires { length values.now ≤ 65535 }
+        ensures { result ≡ nat_lt most (whole_size (map (λ value. value.now) values.now)) }
+    {
+        is_longer(values, most)
     }
 
     /// The execution with these values, at most 65535, and whether their byte strings have to be sent before it as long data:
@@ -81,13 +92,16 @@ fn lent<'a>(alloc: Global, values: &'a [Value]) -> Result<Vec<&'a Value>, AllocE
     Ok(lent)
 }
 
-// Whether an execution that holds all cells exceeds the most bytes of one chunk.
-fn needs_long_data(values: &[&Value]) -> bool
+// Whether an execution that holds all cells exceeds so many bytes.
+fn is_longer(values: &[&Value], most: usize) -> bool
     requires { length values.now ≤ 65535 }
-    ensures { result ≡ has_to_be_apart (map (λ value. value.now) values.now) }
+    ensures { result ≡ nat_lt most (whole_size (map (λ value. value.now) values.now)) }
 {
     let head = 10 + (values.len() + 7) / 8 + 1 + 2 * values.len();
-    let mut room = (MAX_PAYLOAD_LEN - head) as u64;
+    if most < head {
+        return true;
+    }
+    let mut room = (most - head) as u64;
     for value in values {
         match room.checked_sub(value.bin_len()) {
             Some(left) => room = left,
@@ -95,6 +109,14 @@ fn needs_long_data(values: &[&Value]) -> bool
         }
     }
     false
+}
+
+// Whether it exceeds the most bytes of one chunk.
+fn needs_long_data(values: &[&Value]) -> bool
+    requires { length values.now ≤ 65535 }
+    ensures { result ≡ has_to_be_apart (map (λ value. value.now) values.now) }
+{
+    is_longer(values, MAX_PAYLOAD_LEN)
 }
 
 /// An execution of a prepared statement: no cursor, a count of 1, and types for all values.

@@ -1,6 +1,8 @@
 //! Laws of the commands. Functions without a result do nothing: their contracts are the laws.
 
-ghost use Rattle.mysql_stmt.specs.Statements.{BitmapsSayWhichAreNull, ClosesReadBack, ResetsReadBack};
+ghost use Rattle.mysql_stmt.specs.Statements.{BitmapsSayWhichAreNull, ClosesReadBack, ExecutionsHaveSizes, ResetsReadBack};
+
+use mysql_cells::laws::cells_have_lengths;
 
 /// A request to end a statement that was written is read again, whatever follows it.
 #[tactic(auto, using(crate::proofs::Back::closes_read_back))]
@@ -19,3 +21,11 @@ pub fn resets_read_back()
 pub fn bitmaps_say_which_are_null()
     ensures { BitmapsSayWhichAreNull }
 {}
+
+/// An execution that holds the cells of all its values has as many bytes as `ComStmtExecuteRequestBuilder::exceeds` counts, and
+/// one without values has 10.
+pub fn executions_have_sizes()
+    ensures { ExecutionsHaveSizes }
+{
+    cells_have_lengths();
+}

@@ -171,6 +171,38 @@ fn put_text(
     Ok(())
 }
 
+/// [`bind_text`] over the placeholders of the query, as [`places`] lists them, so that many sets need them found once.
+///
+/// # Errors
+/// Those of [`bind_text`], in its order; nothing is appended then.
+pub fn bind_text_at(
+    alloc: Global,
+    query: &[u8],
+    places: &[Place],
+    params: &Params,
+    out: &mut Vec<u8>,
+) -> Result<(), BindError>
+    requires { HasPlaces query.now places.now }
+    // What is appended is the text of the set over the query, and reads as the set's meaning in both ways.
+    ensures ok { OnOk result ((text : List ℕ) × (contents : List Content) × (out.new.items ≡ out.old.items ++ text) × IsBound query.now params.now text
+        × IsMeaning query.now params.now contents × Slices query.now text contents × Lexes query.now text contents) }
+    ensures err { IfErr result (λ e. (e ≡ bind_error.Memory) ⊎ IsBindCause query.now params.now e) }
+    ensures kept { OnErr result (out.new.items ≡ out.old.items) }
+{
+    pieces_of_a_query();
+    filled_text_is_read();
+    check_places(places)?;
+    let values = values_to_bind(alloc, query, places, params)?;
+    let start = out.len();
+    match put_text(out, query, places, &values) {
+        Ok(()) => Ok(()),
+        Err(e) => {
+            out.truncate(start);
+            Err(e)
+        }
+    }
+}
+
 /// Appends the text of a query with the literals of a set's values in the places of its placeholders.
 ///
 /// A placeholder is a question mark, or a colon and a name of `a` to `z`, `0` to `9` and `_` that begins with no digit; the
@@ -193,17 +225,6 @@ pub fn bind_text(
     ensures err { IfErr result (λ e. (e ≡ bind_error.Memory) ⊎ IsBindCause query.now params.now e) }
     ensures kept { OnErr result (out.new.items ≡ out.old.items) }
 {
-    pieces_of_a_query();
-    filled_text_is_read();
     let places = places(alloc, query)?;
-    check_places(&places)?;
-    let values = values_to_bind(alloc, query, &places, params)?;
-    let start = out.len();
-    match put_text(out, query, &places, &values) {
-        Ok(()) => Ok(()),
-        Err(e) => {
-            out.truncate(start);
-            Err(e)
-        }
-    }
+    bind_text_at(alloc, query, &places, params, out)
 }

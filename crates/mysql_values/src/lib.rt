@@ -5,7 +5,7 @@ pub mod bind;
 pub mod laws;
 pub mod params;
 
-pub use bind::{BindError, bind_text};
+pub use bind::{BindError, bind_text, bind_text_at};
 pub use mysql_cells::{
     AsSqlError, BinValue, ClientSide, SerializationSide, ServerSide, TextValue, Value,
     ValueDeserializer, read_cell, read_text_cell,

@@ -28,6 +28,15 @@ pub enum Params {
 #[error("the named parameter {name} has no value", name = .0.as_slice().escape_ascii())]
 pub struct MissingNamedParameterError(pub ByteString);
 
+impl MissingNamedParameterError {
+    /// A copy. Refused for want of memory.
+    pub fn clone(&self, alloc: Global) -> Result<MissingNamedParameterError, AllocError>
+        ensures { IfOk result (λ copy. copy ≡ self.now) }
+    {
+        Ok(MissingNamedParameterError(self.0.clone(alloc)?))
+    }
+}
+
 /// A set of the other kind than the query's placeholders.
 #[derive(Clone, Copy, Debug, PartialEq, Eq, Hash, Error)]
 pub enum ParamsConfusionError {
@@ -48,6 +57,19 @@ pub enum ParamsError {
     Confusion(ParamsConfusionError),
     #[error("out of memory")]
     Memory,
+}
+
+impl ParamsError {
+    /// A copy. Refused for want of memory.
+    pub fn clone(&self, alloc: Global) -> Result<ParamsError, AllocError>
+        ensures { IfOk result (λ copy. copy ≡ self.now) }
+    {
+        match self {
+            ParamsError::Missing(error) => Ok(ParamsError::Missing(error.clone(alloc)?)),
+            ParamsError::Confusion(confusion) => Ok(ParamsError::Confusion(*confusion)),
+            ParamsError::Memory => Ok(ParamsError::Memory),
+        }
+    }
 }
 
 impl From<AllocError> for ParamsError {

@@ -1,7 +1,9 @@
-use Rattle.std.proofs.Common.{◌≡◌, ◌+◌, ◌++◌, length, take, drop, sym, ◌∙◌, ap, subst, arith}
+use Rattle.std.proofs.Common.{◌≡◌, ◌+◌, ◌++◌, length, take, drop, sym, ◌∙◌, ap, subst, arith, None}
 use Rattle.std.proofs.lemmas.List.{take_at}
 use Rattle.mysql_bulk_builder.specs.Seen.{AreSeen}
 use Rattle.mysql_bulk_builder.specs.RowLists.{rows_in}
+use Rattle.mysql_bulk_builder.specs.Causes.{row_too_large}
+use Rattle.mysql_bulk_builder.proofs.OneKindLemmas.{none_too_large}
 use Rattle.mysql_bulk_builder.proofs.LongestPart.{push_part}
 use Rattle.mysql_bulk_builder.proofs.search.bulk_cut.Goals as goal
 
@@ -17,3 +19,8 @@ loop-start-preserved c =
       within = c.next_part-part.ensures.within;
       cut = push_part c.args.room c.args.columns (rows_in c.args.rows.now) c.loop-start.start c.loop-start.cut.items c.push.new.self.items c.next_part-part.result c.loop-start.invariant.cut c.next_part-part.ensures.some c.next_part-part.ensures.tight c.in_ok-push.ensures.items;
     }
+
+pub next_part-part-requires-clause-fits : goal.next_part-part-requires-clause-fits
+next_part-part-requires-clause-fits c =
+    let none : row_too_large c.args.room c.args.columns (rows_in c.args.rows.now) ≡ None = sym c.first_too_large.ensures ∙ c.in_default.is in
+    none_too_large c.args.room c.args.columns (rows_in c.args.rows.now) none

@@ -1,11 +1,12 @@
 use Rattle.std.proofs.Common.{◌≡◌, ap, arith}
 use Rattle.mysql_bulk_builder.specs.Cut.{row_size}
+use Rattle.mysql_bulk_builder.specs.RowLists.{row_in}
 use Rattle.mysql_bulk_builder.proofs.Rows.{sum_more}
 use Rattle.mysql_bulk_builder.proofs.search.longest_within.Goals as goal
 use Rattle.mysql_bulk_builder.proofs.search.longest_within.Goals.{After-deref}
 
-same_size : (c : After-deref) → row_size c.deref.result.now ≡ row_size c.index-rows-i.result.items
-same_size c = ap row_size c.deref.ensures.value
+same_size : (c : After-deref) → row_size (row_in c.deref.result.now) ≡ row_size (row_in c.index-rows-i.result.items)
+same_size c = ap (λ l. row_size (row_in l)) c.deref.ensures.value
 
 pub returns-in-None-clause-longest : goal.returns-in-None-clause-longest
 returns-in-None-clause-longest c = λ _.

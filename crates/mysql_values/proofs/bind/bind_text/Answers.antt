@@ -1,70 +1,11 @@
-use Rattle.std.proofs.Common.{◌≡◌, true, length, map, sym, refl, ap, ◌∙◌, inl, inr, subst}
-use Rattle.std.specs.List.{AllByRecursion}
-use Rattle.std.proofs.lemmas.List.{length-map}
+use Rattle.std.proofs.Common.{List, inl, refl, subst, sym}
 use Rattle.std.proofs.lemmas.Result.{err_from_is_err_and}
-use Rattle.mysql_values.specs.Binding.{IsFilled, bind_cause, first_float, given_cause, IsBindCause}
-use Rattle.mysql_values.specs.Params.{values_over}
-use Rattle.mysql_queries.specs.Parsed.{names_at}
-use Rattle.mysql_queries.specs.Queries.{HasPlaces, first_not_alone, is_mixed}
-use Rattle.mysql_values.proofs.BindCauses.{bind_ok, is_cause, values_are_cause, float_is_cause}
+use Rattle.mysql_queries.specs.Queries.{HasPlaces}
+use Rattle.mysql_queries.specs.declared.placeholders.Place.{Place}
 use Rattle.mysql_values.proofs.bind.bind_text.Goals as goal
 
 pub returns-in_err-places-clause-err : goal.returns-in_err-places-clause-err
 returns-in_err-places-clause-err c = let p = err_from_is_err_and c.from_residual.result c.from_residual.ensures.1 in rw (p.1, p.2) (inl refl)
 
-pub returns-in_err-check_places-clause-err : goal.returns-in_err-check_places-clause-err
-returns-in_err-check_places-clause-err c =
-    let query = c.args.query.now in
-    let places = c.in_ok-places.places.items in
-    let over = values_over (names_at query places) c.args.params.now in
-    let p = err_from_is_err_and c.from_residual-in_err-check_places.result c.from_residual-in_err-check_places.ensures.1 in
-    rw (p.1, p.2) (inr (is_cause c.pieces_of_a_query.ensures.names query c.args.params.now places _ c.in_ok-places.ensures
-    (ap (λ ps. bind_cause ps over) (sym c.deref.ensures.value) ∙ c.in_err-check_places.ensures.err over)))
-
-pub put_text-requires-clause-places : goal.put_text-requires-clause-places
-put_text-requires-clause-places c = subst (HasPlaces c.args.query.now) (sym c.deref-3.ensures.value) c.in_ok-places.ensures
-
-pub put_text-requires-clause-count : goal.put_text-requires-clause-count
-put_text-requires-clause-count c = ap length c.deref-4.ensures.value ∙ c.in_ok-values.ensures.count ∙ ap length (c.deref-2.ensures.value ∙ sym c.deref-3.ensures.value)
-
-pub returns-in_err-values-clause-err : goal.returns-in_err-values-clause-err
-returns-in_err-values-clause-err c =
-    let query = c.args.query.now in
-    let params = c.args.params.now in
-    let places = c.in_ok-places.places.items in
-    let p = err_from_is_err_and c.from_residual-in_err-values.result c.from_residual-in_err-values.ensures.1 in
-    rw (p.1, p.2) (elim c.in_err-values.ensures.err [
-      | inl m ↦ inl m
-      | inr k ↦ inr (values_are_cause c.pieces_of_a_query.ensures.names query params places _ c.in_ok-places.ensures
-          (ap is_mixed (sym c.deref.ensures.value) ∙ c.in_ok-check_places.ensures.one_kind) (ap first_not_alone (sym c.deref.ensures.value) ∙ c.in_ok-check_places.ensures.alone)
-          (ap (λ ps. given_cause (length ps) (values_over (names_at query ps) params)) (sym c.deref-2.ensures.value) ∙ k))
-    ])
-
-pub returns-in-Ok-clause-ok : goal.returns-in-Ok-clause-ok
-returns-in-Ok-clause-ok c =
-    let query = c.args.query.now in
-    let params = c.args.params.now in
-    let places = c.in_ok-places.places.items in
-    let values = map (λ value. value.now) c.in_ok-values.values.items in
-    bind_ok c.pieces_of_a_query.ensures.names c.pieces_of_a_query.ensures.pieces c.filled_text_is_read.ensures query params places values c.args.out.now.items c.put_text.new.out.items c.in_ok-places.ensures
-    (ap is_mixed (sym c.deref.ensures.value) ∙ c.in_ok-check_places.ensures.one_kind) (ap first_not_alone (sym c.deref.ensures.value) ∙ c.in_ok-check_places.ensures.alone)
-    (subst (λ ps. AllByRecursion (λ place. place.alone ≡ true) ps) c.deref.ensures.value c.in_ok-check_places.ensures.each)
-    (ap (λ ps. values_over (names_at query ps) params) (sym c.deref-2.ensures.value) ∙ c.in_ok-values.ensures.over)
-    (length-map c.in_ok-values.values.items (λ value. value.now) ∙ c.in_ok-values.ensures.count ∙ ap length c.deref-2.ensures.value)
-    c.in-Ok.ensures.ok.0 c.in-Ok.ensures.ok.1
-    (subst (λ ps. IsFilled query ps values c.in-Ok.ensures.ok.0) c.deref-3.ensures.value (subst (λ vs. IsFilled query c.deref-3.result.now (map (λ value. value.now) vs) c.in-Ok.ensures.ok.0) c.deref-4.ensures.value c.in-Ok.ensures.ok.2))
-
-pub returns-clause-err : goal.returns-clause-err
-returns-clause-err c =
-    let query = c.args.query.now in
-    let params = c.args.params.now in
-    let places = c.in_ok-places.places.items in
-    let values = map (λ value. value.now) c.in_ok-values.values.items in
-    elim c.in-Err.ensures.err [
-      | inl m ↦ inl m
-      | inr k ↦ inr (subst (IsBindCause query params) (sym k.1) (float_is_cause c.pieces_of_a_query.ensures.names query params places values k.0 c.in_ok-places.ensures
-          (ap is_mixed (sym c.deref.ensures.value) ∙ c.in_ok-check_places.ensures.one_kind) (ap first_not_alone (sym c.deref.ensures.value) ∙ c.in_ok-check_places.ensures.alone)
-          (ap (λ ps. values_over (names_at query ps) params) (sym c.deref-2.ensures.value) ∙ c.in_ok-values.ensures.over)
-          (length-map c.in_ok-values.values.items (λ value. value.now) ∙ c.in_ok-values.ensures.count ∙ ap length c.deref-2.ensures.value)
-          (ap (λ vs. first_float (map (λ value. value.now) vs)) (sym c.deref-4.ensures.value) ∙ k.2)))
-    ]
+pub bind_text_at-requires : goal.bind_text_at-requires
+bind_text_at-requires c = subst (λ (places : List Place). HasPlaces c.args.query.now places) (sym c.deref.ensures.value) c.in_ok-places.ensures

@@ -1,5 +1,5 @@
 -- The bits of the columns.
-use Rattle.std.proofs.Common.{◌≡◌, ℕ, List, ap, ◌∙◌}
+use Rattle.std.proofs.Common.{ℕ, List, ap, ◌∙◌}
 use Rattle.mysql_null_bitmap.specs.NullBitmap.{bits_from}
 use Rattle.mysql_null_bitmap.proofs.null_bitmap.NullBitmap.iter.Goals as goal
 use Rattle.mysql_null_bitmap.proofs.Bits.{columns_of}

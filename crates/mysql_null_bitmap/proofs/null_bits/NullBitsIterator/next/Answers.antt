@@ -1,5 +1,5 @@
 -- The mask and the byte are those of the next bit.
-use Rattle.std.proofs.Common.{◌≡◌, ◌<◌, ℕ, ap, ◌∙◌, sym, arith}
+use Rattle.std.proofs.Common.{◌<◌, arith}
 use Rattle.mysql_null_bitmap.proofs.null_bits.NullBitsIterator.next.Goals as goal
 use Rattle.mysql_null_bitmap.proofs.Bits.{next_bit, mask_returns, mask_moves, byte_stays}
 

@@ -1,0 +1,66 @@
+//! Values of different kinds in one column.
+
+ghost use Rattle.std.specs.Prelude.{◌≡◌, ◌||◌, All, IfOk, List, length, not, vec_len};
+ghost use Rattle.mysql_bulk_builder.specs.Causes.{is_of_other_kind, mixed_kinds, place_where};
+ghost use Rattle.mysql_bulk_builder.specs.Cut.{Row};
+ghost use Rattle.mysql_bulk_builder.specs.RowLists.{row_in, rows_in};
+ghost use Rattle.mysql_bulk_builder.specs.ValueTypes.{first_values, is_null, same_kind, sent_type};
+
+use crate::first_values::{no_first_values, put_first_values};
+use crate::row_size::is_null;
+use mysql_cells::Value;
+use std::alloc::{AllocError, Global};
+
+/// The flags of the type that a value is sent by.
+fn sent_flags(value: &Value) -> u8
+    ensures { result ≡ (sent_type value.now).1 }
+{
+    if value.is_unsigned() { 0x80 } else { 0 }
+}
+
+/// Whether two values are sent by one type.
+fn same_kind(a: &Value, b: &Value) -> bool
+    ensures { result ≡ same_kind a.now b.now }
+{
+    u8::from(a.column_type()) == u8::from(b.column_type()) && sent_flags(a) == sent_flags(b)
+}
+
+/// Whether a value is of another kind than the first one of its column.
+fn is_other(first: &Value, value: &Value) -> bool
+    ensures { result ≡ not (is_null value.now || is_null first.now || same_kind first.now value.now) }
+{
+    !(is_null(value) || is_null(first) || same_kind(first, value))
+}
+
+/// The least place of a value of another kind than the first one of its column.
+fn place_of_other(firsts: &[&Value], row: &[&Value]) -> Option<usize>
+    requires { length row.now ≡ length firsts.now }
+    ensures { (before : List Row) → row_in firsts.now ≡ first_values (length firsts.now) before → result ≡ place_where (is_of_other_kind before) (row_in row.now) }
+{
+    for (i, value) in row.iter().enumerate() {
+        if is_other(firsts[i], *value) {
+            return Some(i);
+        }
+    }
+    None
+}
+
+/// The least row, and in it the least place, with a value of another kind than the earlier ones of its column.
+pub fn mixed_kinds(
+    alloc: Global,
+    rows: &[Vec<&Value>],
+    columns: usize,
+) -> Result<Option<(usize, usize)>, AllocError>
+    requires { All (λ row. vec_len row ≡ columns) rows.now }
+    ensures { IfOk result (λ found. found ≡ mixed_kinds (rows_in rows.now)) }
+{
+    let null = Value::NULL;
+    let mut firsts = no_first_values(alloc, &null, columns)?;
+    for (set, row) in rows.iter().enumerate() {
+        if let Some(place) = place_of_other(&firsts, row) {
+            return Ok(Some((set, place)));
+        }
+        put_first_values(&mut firsts, row);
+    }
+    Ok(None)
+}

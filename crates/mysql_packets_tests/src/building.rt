@@ -1,0 +1,420 @@
+//! Rows filled into bulk requests.
+
+use crate::support::Asserting;
+use mysql_bulk_builder::{
+    BulkExecuteRequestBuilderError, BulkExecuteRequestError, ComStmtBulkExecuteRequest,
+    ComStmtBulkExecuteRequestBuilder,
+};
+use mysql_cells::Value;
+use mysql_raw::MySerialize;
+use mysql_values::{ByteString, MissingNamedParameterError, Params, ParamsError};
+use std::alloc::{AllocError, Global};
+use std::collections::HashMap;
+use tests_support::{Assert, assert_bytes, assert_equal, assert_written, once_more};
+
+/// A value of a row.
+#[derive(Clone, Copy)]
+enum Given {
+    Null,
+    Int(i64),
+    /// So many bytes `x`.
+    Filled(usize),
+}
+
+/// The values of a row.
+type Cells = &'static [Given];
+
+fn filled(alloc: Global, len: usize) -> Result<ByteString, AllocError> {
+    let mut bytes = Vec::new(alloc);
+    bytes.resize(len, b'x')?;
+    Ok(ByteString::from_vec(bytes))
+}
+
+fn value(alloc: Global, given: Given) -> Result<Value, AllocError> {
+    match given {
+        Given::Null => Ok(Value::NULL),
+        Given::Int(number) => Ok(Value::Int(number)),
+        Given::Filled(len) => Ok(Value::Bytes(filled(alloc, len)?)),
+    }
+}
+
+fn row(alloc: Global, cells: Cells) -> Result<Vec<Value>, AllocError> {
+    let mut values = Vec::new(alloc);
+    for given in cells {
+        values.push(value(alloc, *given)?)?;
+    }
+    Ok(values)
+}
+
+fn rows(alloc: Global, all: &[Cells]) -> Result<Vec<Vec<Value>>, AllocError> {
+    let mut rows = Vec::new(alloc);
+    for cells in all {
+        rows.push(row(alloc, *cells)?)?;
+    }
+    Ok(rows)
+}
+
+/// What a builder answers about a row.
+type Answer = Result<Option<Vec<Value>>, BulkExecuteRequestBuilderError>;
+
+/// What is wanted of it.
+#[derive(Clone, Copy)]
+enum Wanted {
+    Taken,
+    /// The row comes back.
+    Back,
+    MixedArity,
+    /// The row comes back with the error.
+    TooLarge,
+}
+
+fn wanted_answer(alloc: Global, cells: Cells, wanted: Wanted) -> Result<Answer, AllocError> {
+    let error = match wanted {
+        Wanted::Taken => return Ok(Ok(None)),
+        Wanted::Back => return Ok(Ok(Some(row(alloc, cells)?))),
+        Wanted::MixedArity => BulkExecuteRequestError::MixedArity,
+        Wanted::TooLarge => BulkExecuteRequestError::RowTooLarge(row(alloc, cells)?),
+    };
+    Ok(Err(BulkExecuteRequestBuilderError::Request(error)))
+}
+
+/// Adds a row; once more where memory was refused.
+fn added(
+    assert: &impl Assert,
+    alloc: Global,
+    builder: &mut ComStmtBulkExecuteRequestBuilder<'_>,
+    cells: Cells,
+) -> Answer {
+    let values = once_more(assert, row(alloc, cells), row(alloc, cells));
+    match builder.add_row(values) {
+        Err(BulkExecuteRequestBuilderError::Memory) => {
+            let values = once_more(assert, row(alloc, cells), row(alloc, cells));
+            builder.add_row(values)
+        }
+        answer => answer,
+    }
+}
+
+/// Asserts what is answered about a row.
+fn assert_adds(
+    assert: &impl Assert,
+    alloc: Global,
+    builder: &mut ComStmtBulkExecuteRequestBuilder<'_>,
+    cells: Cells,
+    wanted: Wanted,
+) {
+    let answer = added(assert, alloc, builder, cells);
+    let wanted = once_more(
+        assert,
+        wanted_answer(alloc, cells, wanted),
+        wanted_answer(alloc, cells, wanted),
+    );
+    assert_equal(assert, answer, wanted);
+}
+
+/// Builds a request; once more where memory was refused.
+fn built(
+    builder: &mut ComStmtBulkExecuteRequestBuilder<'_>,
+) -> Result<ComStmtBulkExecuteRequest, BulkExecuteRequestError> {
+    match builder.build() {
+        Err(BulkExecuteRequestError::Memory) => builder.build(),
+        answer => answer,
+    }
+}
+
+/// Asserts which request the rows held make, and that they are let go.
+fn assert_builds(
+    assert: &impl Assert,
+    alloc: Global,
+    builder: &mut ComStmtBulkExecuteRequestBuilder<'_>,
+    bytes: &[u8],
+) {
+    assert.holds(builder.has_rows());
+    let request = once_more(assert, built(builder), Err(BulkExecuteRequestError::Memory));
+    assert_written(assert, alloc, &request, bytes);
+    assert.holds(!builder.has_rows());
+}
+
+const ONE: Cells = &[Given::Int(1)];
+
+const TWO: Cells = &[Given::Int(2)];
+
+const THREE: Cells = &[Given::Int(3)];
+
+const TWO_VALUES: Cells = &[Given::Int(2), Given::Int(3)];
+
+const TYPED_1_2: &[u8] = b"\xfa\x01\0\0\0\x80\0\x08\0\0\x01\0\0\0\0\0\0\0\0\x02\0\0\0\0\0\0\0";
+
+const TYPED_1: &[u8] = b"\xfa\x01\0\0\0\x80\0\x08\0\0\x01\0\0\0\0\0\0\0";
+
+const UNTYPED_2: &[u8] = b"\xfa\x01\0\0\0\0\0\0\x02\0\0\0\0\0\0\0";
+
+#[test]
+fn both_rows_fit(rt: HostRuntime) {
+    let assert = Asserting(&rt);
+    let alloc = rt.alloc();
+    let mut builder = ComStmtBulkExecuteRequestBuilder::new(alloc, 1, 31);
+    assert_adds(&assert, alloc, &mut builder, ONE, Wanted::Taken);
+    assert_adds(&assert, alloc, &mut builder, TWO, Wanted::Taken);
+    assert_builds(&assert, alloc, &mut builder, TYPED_1_2);
+}
+
+/// A byte less: the second row comes back, and fits a request of its own, which carries no types.
+#[test]
+fn as_many_rows_as_fit(rt: HostRuntime) {
+    let assert = Asserting(&rt);
+    let alloc = rt.alloc();
+    let mut builder = ComStmtBulkExecuteRequestBuilder::new(alloc, 1, 30);
+    assert_adds(&assert, alloc, &mut builder, ONE, Wanted::Taken);
+    assert_adds(&assert, alloc, &mut builder, TWO, Wanted::Back);
+    assert_builds(&assert, alloc, &mut builder, TYPED_1);
+    assert_adds(&assert, alloc, &mut builder, TWO, Wanted::Taken);
+    assert_builds(&assert, alloc, &mut builder, UNTYPED_2);
+}
+
+const LONG: Cells = &[Given::Filled(100)];
+
+const LONG_AND_NULL: Cells = &[Given::Filled(100), Given::Null];
+
+/// Rows that fit no request leave the builder unchanged, also in how many values its rows have.
+#[test]
+fn rows_that_do_not_fit(rt: HostRuntime) {
+    let assert = Asserting(&rt);
+    let alloc = rt.alloc();
+    let mut builder = ComStmtBulkExecuteRequestBuilder::new(alloc, 1, 31);
+    assert_adds(&assert, alloc, &mut builder, LONG, Wanted::TooLarge);
+    assert_adds(
+        &assert,
+        alloc,
+        &mut builder,
+        LONG_AND_NULL,
+        Wanted::TooLarge,
+    );
+    assert_adds(&assert, alloc, &mut builder, ONE, Wanted::Taken);
+    assert_adds(&assert, alloc, &mut builder, TWO, Wanted::Taken);
+    assert_builds(&assert, alloc, &mut builder, TYPED_1_2);
+}
+
+const SHORT: Cells = &[Given::Filled(1)];
+
+const TYPED_SHORT: &[u8] = b"\xfa\x01\0\0\0\x80\0\xfd\0\0\x01x";
+
+/// While a row is held the same row only comes back; behind its request it is refused.
+#[test]
+fn a_long_row_behind_a_short_one(rt: HostRuntime) {
+    let assert = Asserting(&rt);
+    let alloc = rt.alloc();
+    let mut builder = ComStmtBulkExecuteRequestBuilder::new(alloc, 1, 31);
+    assert_adds(&assert, alloc, &mut builder, SHORT, Wanted::Taken);
+    assert_adds(&assert, alloc, &mut builder, LONG, Wanted::Back);
+    assert_builds(&assert, alloc, &mut builder, TYPED_SHORT);
+    assert_adds(&assert, alloc, &mut builder, LONG, Wanted::TooLarge);
+}
+
+/// The first row taken sets how many values each row has, over builds too.
+#[test]
+fn rows_of_another_length(rt: HostRuntime) {
+    let assert = Asserting(&rt);
+    let alloc = rt.alloc();
+    let mut builder = ComStmtBulkExecuteRequestBuilder::new(alloc, 1, 31);
+    assert_adds(&assert, alloc, &mut builder, ONE, Wanted::Taken);
+    assert_adds(&assert, alloc, &mut builder, TWO_VALUES, Wanted::MixedArity);
+    assert_adds(&assert, alloc, &mut builder, TWO, Wanted::Taken);
+    assert_builds(&assert, alloc, &mut builder, TYPED_1_2);
+    assert_adds(&assert, alloc, &mut builder, TWO_VALUES, Wanted::MixedArity);
+}
+
+#[test]
+fn no_rows(rt: HostRuntime) {
+    let mut builder = ComStmtBulkExecuteRequestBuilder::new(rt.alloc(), 1, 31);
+    let found = built(&mut builder).err();
+    Asserting(&rt).holds(matches!(found, Some(BulkExecuteRequestError::NoParams)));
+}
+
+/// A request that asks for the result of each row.
+#[test]
+fn with_results(rt: HostRuntime) {
+    let assert = Asserting(&rt);
+    let alloc = rt.alloc();
+    let mut builder = ComStmtBulkExecuteRequestBuilder::new(alloc, 1, 31).with_results();
+    assert_adds(&assert, alloc, &mut builder, SHORT, Wanted::Taken);
+    assert_builds(
+        &assert,
+        alloc,
+        &mut builder,
+        b"\xfa\x01\0\0\0\xc0\0\xfd\0\0\x01x",
+    );
+}
+
+/// A set that gives a name a number.
+fn named(alloc: Global, name: &[u8], number: i64) -> Result<Params, AllocError> {
+    let name = Vec::from_slice(alloc, name)?;
+    let mut values = HashMap::new(alloc);
+    match values.insert(name, Value::Int(number)) {
+        Ok(_) => Ok(Params::Named(values)),
+        Err(_) => Err(AllocError),
+    }
+}
+
+/// Adds a set that gives a name a number; once more where memory was refused.
+fn added_set(
+    assert: &impl Assert,
+    alloc: Global,
+    builder: &mut ComStmtBulkExecuteRequestBuilder<'_>,
+    name: &[u8],
+    number: i64,
+) -> Answer {
+    let set = once_more(
+        assert,
+        named(alloc, name, number),
+        named(alloc, name, number),
+    );
+    match builder.add_params(set) {
+        Err(BulkExecuteRequestBuilderError::Memory) => {
+            let set = once_more(
+                assert,
+                named(alloc, name, number),
+                named(alloc, name, number),
+            );
+            builder.add_params(set)
+        }
+        answer => answer,
+    }
+}
+
+fn missing(alloc: Global, name: &[u8]) -> Result<Answer, AllocError> {
+    let name = ByteString::copy(alloc, name)?;
+    let error = ParamsError::Missing(MissingNamedParameterError(name));
+    Ok(Err(BulkExecuteRequestBuilderError::Params(error)))
+}
+
+/// Asserts that sets which name `a` are taken, and that one without it is refused and changes nothing.
+fn assert_takes_sets(
+    assert: &impl Assert,
+    alloc: Global,
+    builder: &mut ComStmtBulkExecuteRequestBuilder<'_>,
+) {
+    assert_equal(assert, added_set(assert, alloc, builder, b"a", 1), Ok(None));
+    let wanted = once_more(assert, missing(alloc, b"a"), missing(alloc, b"a"));
+    assert_equal(assert, added_set(assert, alloc, builder, b"b", 7), wanted);
+    assert_equal(assert, added_set(assert, alloc, builder, b"a", 2), Ok(None));
+    assert_builds(assert, alloc, builder, TYPED_1_2);
+}
+
+#[test]
+fn sets_by_name(rt: HostRuntime) {
+    let assert = Asserting(&rt);
+    let alloc = rt.alloc();
+    let name = once_more(
+        &assert,
+        Vec::from_slice(alloc, b"a"),
+        Vec::from_slice(alloc, b"a"),
+    );
+    let names = [name];
+    let builder = ComStmtBulkExecuteRequestBuilder::new(alloc, 1, 31);
+    let mut builder = builder.with_named_params(Some(&names));
+    assert_takes_sets(&assert, alloc, &mut builder);
+}
+
+/// The bytes of the requests of three rows at the limit 29, one after another.
+fn iterated(alloc: Global) -> Result<Vec<u8>, BulkExecuteRequestBuilderError> {
+    let mut builder = ComStmtBulkExecuteRequestBuilder::new(alloc, 1, 29);
+    let mut bytes = Vec::new(alloc);
+    let rows = rows(alloc, &[ONE, TWO, THREE])?;
+    for request in builder.build_iter(rows) {
+        request?.serialize(&mut bytes)?;
+    }
+    Ok(bytes)
+}
+
+/// Two rows fit a request without types alone.
+#[test]
+fn requests_of_three_rows(rt: HostRuntime) {
+    let assert = Asserting(&rt);
+    let found = once_more(&assert, iterated(rt.alloc()), iterated(rt.alloc()));
+    assert_bytes(
+        &assert,
+        found.as_slice(),
+        b"\xfa\x01\0\0\0\x80\0\x08\0\0\x01\0\0\0\0\0\0\0\xfa\x01\0\0\0\0\0\0\x02\0\0\0\0\0\0\0\0\x03\0\0\0\0\0\0\0",
+    );
+}
+
+fn two_sets(alloc: Global) -> Result<Vec<Params>, AllocError> {
+    let mut sets = Vec::new(alloc);
+    sets.push(named(alloc, b"a", 1)?)?;
+    sets.push(named(alloc, b"a", 2)?)?;
+    Ok(sets)
+}
+
+/// The bytes of the requests of two sets at the limit 30, one after another.
+fn iterated_sets(
+    alloc: Global,
+    names: &[Vec<u8>],
+) -> Result<Vec<u8>, BulkExecuteRequestBuilderError> {
+    let builder = ComStmtBulkExecuteRequestBuilder::new(alloc, 1, 30);
+    let mut builder = builder.with_named_params(Some(names));
+    let mut bytes = Vec::new(alloc);
+    let sets = two_sets(alloc)?;
+    for request in builder.build_params_iter(sets) {
+        request?.serialize(&mut bytes)?;
+    }
+    Ok(bytes)
+}
+
+#[test]
+fn requests_of_two_sets(rt: HostRuntime) {
+    let assert = Asserting(&rt);
+    let alloc = rt.alloc();
+    let name = once_more(
+        &assert,
+        Vec::from_slice(alloc, b"a"),
+        Vec::from_slice(alloc, b"a"),
+    );
+    let names = [name];
+    let found = once_more(
+        &assert,
+        iterated_sets(alloc, &names),
+        iterated_sets(alloc, &names),
+    );
+    assert_bytes(
+        &assert,
+        found.as_slice(),
+        b"\xfa\x01\0\0\0\x80\0\x08\0\0\x01\0\0\0\0\0\0\0\xfa\x01\0\0\0\0\0\0\x02\0\0\0\0\0\0\0",
+    );
+}
+
+/// The error that is the first item of the requests of these rows, and whether it is the last item; None where the first is none.
+fn first_error(
+    builder: &mut ComStmtBulkExecuteRequestBuilder<'_>,
+    rows: Vec<Vec<Value>>,
+) -> (Option<BulkExecuteRequestBuilderError>, bool) {
+    let mut requests = builder.build_iter(rows);
+    let error = match requests.next() {
+        Some(answer) => answer.err(),
+        None => None,
+    };
+    (error, requests.next().is_none())
+}
+
+/// Asserts that an error is the last item, and that the rows before it stay: whether memory sufficed.
+fn is_ended_by_an_error(assert: &impl Assert, alloc: Global) -> bool {
+    let mut builder = ComStmtBulkExecuteRequestBuilder::new(alloc, 1, 31);
+    let all = [ONE, TWO, TWO_VALUES];
+    let rows = once_more(assert, rows(alloc, &all), rows(alloc, &all));
+    let (error, is_last) = first_error(&mut builder, rows);
+    assert.holds(is_last);
+    if matches!(error, Some(BulkExecuteRequestBuilderError::Memory)) {
+        return false;
+    }
+    let mixed = BulkExecuteRequestBuilderError::Request(BulkExecuteRequestError::MixedArity);
+    assert_equal(assert, error, Some(mixed));
+    assert_builds(assert, alloc, &mut builder, TYPED_1_2);
+    true
+}
+
+#[test]
+fn an_error_is_the_last_item(rt: HostRuntime) {
+    let assert = Asserting(&rt);
+    let first = is_ended_by_an_error(&assert, rt.alloc());
+    assert.holds(first || is_ended_by_an_error(&assert, rt.alloc()));
+}

@@ -1,0 +1,9 @@
+pub mod Contents
+pub mod SentSets
+pub mod Texts
+pub mod Queries
+pub mod Pieces
+pub mod StatementSets
+pub mod BulkCommand
+pub mod BulkRows
+pub mod BulkRequests

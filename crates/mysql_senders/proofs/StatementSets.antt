@@ -1,0 +1,185 @@
+-- The steps of sending sets one after another as executions of a statement.
+use Rattle.std.proofs.Common.{◌≡◌, ℕ, ◌+◌, ◌-◌, ◌≤◌, nat_lt, Bool, false, List, [], ◌∷◌, ◌++◌, length, map, take, drop, Option, Some, None, Ok, refl, sym, ◌∙◌, ap, subst, arith, inl, inr, append_assoc}
+use Rattle.std.specs.List.{AllByRecursion, flat_map}
+use Rattle.std.specs.Option.{option_or}
+use Rattle.std.proofs.lemmas.Bool.{le-ltb}
+use Rattle.std.proofs.lemmas.List.{append-nil, map-append, take-append-drop, take-append-le, take_all, take_at}
+use Rattle.mysql_wire.specs.Framing.{framing}
+use Rattle.mysql_wire.specs.Stream.{framings}
+use Rattle.mysql_wire.specs.Stream.Numbering.{EachFromZero}
+use Rattle.mysql_values.specs.AsSql.{FitsFields}
+use Rattle.mysql_values.specs.declared.params.Params.{Params}
+use Rattle.mysql_values.specs.declared.params.SetError.{SetError}
+use Rattle.mysql_values.specs.Value.{Value}
+use Rattle.mysql_values.specs.Params.{values_over}
+use Rattle.mysql_values.specs.Parsed.{Parsed, names_of}
+use Rattle.mysql_values.specs.Queries.{is_mixed, places_from}
+use Rattle.mysql_streams.specs.declared.refusal.Refusal.{Refusal}
+use Rattle.mysql_streams.specs.declared.refusal.Refusal.TheVariants as refusals
+use Rattle.mysql_streams.specs.declared.road.Road.TheVariants.{Execute}
+use Rattle.mysql_streams.specs.Commands.{prepare_command}
+use Rattle.mysql_streams.specs.Sets.{Given, given_by, given_up_to}
+use Rattle.mysql_streams.specs.Sent.{SentPayload, Statement, as_execution, on_the_way, parsed_of, payloads_of, prepare_of, statement_of}
+use Rattle.mysql_streams.specs.Cause.{Limits, cause_if, first_of_sets, limits_of, max_places, prepare_cause, set_cause}
+use Rattle.mysql_streams.specs.Reading.{SentReadable}
+use Rattle.mysql_streams.specs.Sending.{RefusesGiven}
+use Rattle.mysql_senders.specs.OneSet.{AppendsExecution, AppendsExecutions, IsPreparable, RefusesSet, RefusesSets, behind, execution_payloads, whole_execution}
+use Rattle.mysql_senders.proofs.Contents.{given_is, gives_values}
+use Rattle.mysql_senders.proofs.SentSets.{AllSent, SetsSent, all_sent as all_of, cause_behind, first_of_two, first_refused, front_length, none_of_two, none_sent as none_of, one_more}
+
+-- the values' numbers fit their fields
+abbrev pub Fit : List Value → Type 0
+Fit values = AllByRecursion (λ value. FitsFields value) values
+
+-- ---- sets one after another
+
+-- so many executions were sent
+pub record ExecutionsSent (id : ℕ) (limits : Limits) (names : List (List ℕ)) (sets : List Params) (stop : Option SetError) (old out : List ℕ) (i : ℕ) : Type 0 where
+  pub sent : SetsSent Fit (whole_execution id) (execution_payloads id) limits (given_by names) sets (behind stop) old out i
+  pub kept : take (length old) out ≡ old
+
+-- before the first set none was sent
+pub none_sent : (id : ℕ) (limits : Limits) (names : List (List ℕ)) (sets : List Params) (stop : Option SetError) (old : List ℕ) → ExecutionsSent id limits names sets stop old old 0
+none_sent id limits names sets stop old = record { sent = none_of Fit (whole_execution id) (execution_payloads id) limits (given_by names) sets (behind stop) old; kept = take_all (length old) old (omega arith) }
+
+-- what sets give that are refused
+refused_set : (id : ℕ) (limits : Limits) (names : List (List ℕ)) (sets : List Params) (stop : Option SetError) (refusal : Refusal) →
+    first_of_sets (set_cause (whole_execution id) limits) 0 (map (given_by names) sets ++ behind stop) ≡ Some refusal → RefusesSets (whole_execution id) limits (given_up_to sets stop names) refusal
+refused_set id limits names sets stop refusal this = inr (ap (λ g. first_of_sets (set_cause (whole_execution id) limits) 0 g) (given_is sets stop names) ∙ this)
+
+module _ (id : ℕ) (limits : Limits) (names : List (List ℕ)) (sets : List Params) (stop : Option SetError) (old out : List ℕ) (i : ℕ) (s : ExecutionsSent id limits names sets stop old out i) where
+  -- one more set was sent
+  pub sent_next : (params : Params) → drop i sets ≡ params ∷ drop (i + 1) sets → (new : List ℕ) → AppendsExecution id limits i (given_by names params) out new → ExecutionsSent id limits names sets stop old new (i + 1)
+  sent_next params here new a = record {
+    sent = one_more Fit (whole_execution id) (execution_payloads id) limits (given_by names) sets (behind stop) old out i s.sent params here new a.appends a.fit;
+    kept = ap (λ l. take (length old) l) a.appends.appended ∙ take-append-le (length old) out (framings (execution_payloads id a.appends.values) EachFromZero) (front_length old out s.kept) ∙ s.kept;
+  }
+
+  -- a set is refused
+  pub refused_at : (params : Params) → drop i sets ≡ params ∷ drop (i + 1) sets → (refusal : Refusal) → RefusesSet (whole_execution id) limits i (given_by names params) refusal → RefusesSets (whole_execution id) limits (given_up_to sets stop names) refusal
+  refused_at params here refusal (inl memory) = inl memory
+  refused_at params here refusal (inr this) =
+      refused_set id limits names sets stop refusal (first_refused Fit (whole_execution id) (execution_payloads id) limits (given_by names) sets (behind stop) old out i s.sent params here refusal this)
+
+  -- the first cause behind all sets is that of the set that stops
+  cause_at_end : length sets ≤ i → first_of_sets (set_cause (whole_execution id) limits) 0 (map (given_by names) sets ++ behind stop) ≡ first_of_sets (set_cause (whole_execution id) limits) i (behind stop)
+  cause_at_end passed = cause_behind Fit (whole_execution id) (execution_payloads id) limits (given_by names) sets (behind stop) old out i s.sent passed
+
+  -- the set behind all others gives no values
+  pub refused_behind : i ≡ length sets → (refusal : Refusal) → (error : SetError) × (stop ≡ Some error) × (refusal ≡ refusals.Params (length sets) error) → RefusesSets (whole_execution id) limits (given_up_to sets stop names) refusal
+  refused_behind at refusal why =
+      refused_set id limits names sets stop refusal
+      (cause_at_end (omega (arith, at))
+      ∙ ap (λ o. first_of_sets (set_cause (whole_execution id) limits) i (behind o)) why.1
+      ∙ ap (λ n. Some (refusals.Params n why.0)) at ∙ ap Some (sym why.2))
+
+-- all sets were sent, and no set stands behind them
+pub all_sent : (id : ℕ) (limits : Limits) (names : List (List ℕ)) (sets : List Params) (stop : Option SetError) (old out : List ℕ) (i : ℕ) → ExecutionsSent id limits names sets stop old out i → length sets ≤ i → stop ≡ None
+    → AppendsExecutions id limits (given_up_to sets stop names) old out
+all_sent id limits names sets (Some error) old out i s passed is = cc
+all_sent id limits names sets None old out i s passed is =
+    let all : AllSent Fit (execution_payloads id) (map (given_by names) sets) old [] out = all_of Fit (whole_execution id) (execution_payloads id) limits (given_by names) sets [] old out i s.sent passed in
+    record {
+      values = all.values;
+      gives = all.gives;
+      none = ap (λ g. first_of_sets (set_cause (whole_execution id) limits) 0 g) (given_is sets None names) ∙ cause_at_end id limits names sets None old out i s passed;
+      fit = all.readable;
+      appended = sym (append-nil out) ∙ sym all.bytes;
+    }
+
+-- ---- the prepare, and all sets
+
+-- what stood before a front that is kept is kept
+pub kept_behind : (old piece mid new : List ℕ) → mid ≡ old ++ piece → take (length mid) new ≡ mid → take (length old) new ≡ old
+kept_behind old piece mid new put kept =
+    let whole : new ≡ old ++ (piece ++ drop (length mid) new) =
+    sym (take-append-drop (length mid) new) ∙ ap (λ l. l ++ drop (length mid) new) (kept ∙ put) ∙ append_assoc old piece (drop (length mid) new) in
+    ap (λ l. take (length old) l) whole ∙ take_at old (piece ++ drop (length mid) new) (length old) refl
+
+-- where the prepare is short, nothing speaks against it
+prepare_none : (mixed many long : Bool) → mixed ≡ false → many ≡ false → long ≡ false →
+    option_or (cause_if mixed refusals.Mixed) (option_or (cause_if many refusals.TooManyPlaces) (option_or (cause_if long refusals.PrepareTooLarge) None)) ≡ None
+prepare_none mixed many long one few short = rw (one, few, short) refl
+
+-- payloads that are no set's last
+on_the_way_of : (pieces : List (List ℕ)) → payloads_of (map on_the_way pieces) ≡ pieces
+on_the_way_of [] = refl
+on_the_way_of (piece ∷ pieces) = ap (λ l. piece ∷ l) (on_the_way_of pieces)
+
+-- the payloads of what is sent behind other payloads
+payloads-append : (first second : List SentPayload) → payloads_of (first ++ second) ≡ payloads_of first ++ payloads_of second
+payloads-append first second = map-append (λ s. s.payload) first second
+
+-- the payloads of one set
+payloads_of_one : (statement : Statement) (values : List Value) (pieces : List (List ℕ)) (last : SentPayload) → payloads_of (map on_the_way pieces ++ last ∷ []) ≡ pieces ++ last.payload ∷ []
+payloads_of_one statement values pieces last = payloads-append (map on_the_way pieces) (last ∷ []) ∙ ap (λ l. l ++ last.payload ∷ []) (on_the_way_of pieces)
+
+-- the payloads of all sets
+execution_payloads_of : (statement : Statement) (sets : List (List Value)) → payloads_of (flat_map (as_execution statement) sets) ≡ flat_map (execution_payloads statement.id) sets
+execution_payloads_of statement [] = refl
+execution_payloads_of statement (values ∷ sets) =
+    payloads-append (as_execution statement values) (flat_map (as_execution statement) sets)
+    ∙ ap (λ l. l ++ payloads_of (flat_map (as_execution statement) sets)) (payloads_of_one statement values _ _)
+    ∙ ap (λ l. execution_payloads statement.id values ++ l) (execution_payloads_of statement sets)
+
+module _ (query : List ℕ) (parsed : Parsed) (places : ℕ) (s : IsPreparable query parsed places) (sets : List Params) (stop : Option SetError) (id limit : ℕ) where
+  few : nat_lt max_places (length (places_from query 0 s.tokens)) ≡ false
+  few = le-ltb max_places (length (places_from query 0 s.tokens)) (omega (arith, s.few, s.count))
+
+  -- what was said over the statement's names and count is said over the tokens'
+  over_tokens : (P : Limits → List Given → Type 0) → P (record { places = places; bytes = limit - 4 }) (given_up_to sets stop parsed.names) → P (limits_of (places_from query 0 s.tokens) limit) (given_up_to sets stop (names_of s.tokens))
+  over_tokens P holds =
+      subst (λ (names : List (List ℕ)). P (limits_of (places_from query 0 s.tokens) limit) (given_up_to sets stop names)) s.names_are
+      (subst (λ (n : ℕ). P (record { places = n; bytes = limit - 4 }) (given_up_to sets stop parsed.names)) s.count holds)
+
+  module _ (short : length (prepare_command parsed.query) ≤ limit - 4) where
+    prepared : prepare_cause (places_from query 0 s.tokens) (parsed_of s.tokens) (limit - 4) ≡ None
+    prepared =
+        prepare_none (is_mixed (places_from query 0 s.tokens)) (nat_lt max_places (length (places_from query 0 s.tokens))) (nat_lt (limit - 4) (length (prepare_command (parsed_of s.tokens)))) s.one_kind few
+        (subst (λ (l : List ℕ). nat_lt (limit - 4) (length (prepare_command l)) ≡ false) s.query_is (le-ltb (limit - 4) (length (prepare_command parsed.query)) short))
+
+    -- a set is refused behind the prepare
+    pub refused_sets : (refusal : Refusal) → RefusesSets (whole_execution id) (record { places = places; bytes = limit - 4 }) (given_up_to sets stop parsed.names) refusal → RefusesGiven Execute query (given_up_to sets stop) id limit refusal
+    refused_sets refusal (inl memory) = inl memory
+    refused_sets refusal (inr this) =
+        let cause : first_of_sets (set_cause (whole_execution id) (limits_of (places_from query 0 s.tokens) limit)) 0 (given_up_to sets stop (names_of s.tokens)) ≡ Some refusal =
+        over_tokens (λ limits given. first_of_sets (set_cause (whole_execution id) limits) 0 given ≡ Some refusal) this in
+        inr (record {
+          tokens = s.tokens;
+          has = s.has;
+          first = first_of_two (prepare_cause (places_from query 0 s.tokens) (parsed_of s.tokens) (limit - 4)) _ refusal prepared cause;
+        })
+
+    -- the prepare and all sets were sent
+    pub all_executed : (old mid new : List ℕ) → mid ≡ old ++ framing (prepare_command parsed.query) 0 → AppendsExecutions id (record { places = places; bytes = limit - 4 }) (given_up_to sets stop parsed.names) mid new →
+        SentReadable Execute query (given_up_to sets stop) id limit old new
+    all_executed old mid new put sent =
+        let a : AppendsExecutions id (limits_of (places_from query 0 s.tokens) limit) (given_up_to sets stop (names_of s.tokens)) mid new = over_tokens (λ limits given. AppendsExecutions id limits given mid new) sent in
+        let prepare : mid ≡ old ++ framing (prepare_command (parsed_of s.tokens)) 0 = put ∙ ap (λ l. old ++ framing (prepare_command l) 0) s.query_is in
+        let statement : Statement = statement_of query s.tokens id in
+        record {
+          sends = record {
+            tokens = s.tokens;
+            has = s.has;
+            values = a.values;
+            given = a.gives;
+            none = none_of_two (prepare_cause (places_from query 0 s.tokens) (parsed_of s.tokens) (limit - 4)) _ prepared a.none;
+            sent = prepare_of statement ∷ flat_map (as_execution statement) a.values;
+            are_sent = refl;
+            appended = a.appended ∙ ap (λ l. l ++ framings (flat_map (execution_payloads id) a.values) EachFromZero) prepare
+                ∙ append_assoc old (framing (prepare_command (parsed_of s.tokens)) 0) (framings (flat_map (execution_payloads id) a.values) EachFromZero)
+                ∙ ap (λ l. old ++ (framing (prepare_command (parsed_of s.tokens)) 0 ++ framings l EachFromZero)) (sym (execution_payloads_of statement a.values));
+          };
+          readable = a.fit;
+        }
+
+-- ---- one set
+
+-- what holds of values holds of a set that gives them
+pub over_given : (P : Given → Type 0) (names : List (List ℕ)) (params : Params) (values : List Value) → values_over names params ≡ Ok values → P (Ok values) → P (given_by names params)
+over_given P names params values over holds = subst P (sym (gives_values names params values over)) holds
+
+-- an execution against which nothing speaks
+pub appended_set : (id : ℕ) (limits : Limits) (set : ℕ) (values : List Value) (old new : List ℕ) → ((id : ℕ) → set_cause (whole_execution id) limits set (Ok values) ≡ None) → Fit values →
+    new ≡ old ++ framings (execution_payloads id values) EachFromZero → AppendsExecution id limits set (Ok values) old new
+appended_set id limits set values old new none fit put = record { appends = record { values = values; gives = refl; none = none id; appended = put }; fit = fit }

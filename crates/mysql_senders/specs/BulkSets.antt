@@ -1,0 +1,61 @@
+-- Sets as rows of bulk requests: what the private steps of sending them promise.
+-- MariaDB: Client/Server Protocol, "COM_STMT_BULK_EXECUTE".
+use Rattle.std.specs.Prelude.{◌≡◌, ◌⊎◌, ℕ, Bool, true, false, List, [], ◌++◌, map, Some, None, Ok}
+use Rattle.std.specs.List.{AllByRecursion, flat_map}
+use Rattle.mysql_wire.specs.Stream.{framings}
+use Rattle.mysql_wire.specs.Stream.Numbering.{EachFromZero}
+use Rattle.mysql_values.specs.AsSql.{FitsFields}
+use Rattle.mysql_values.specs.Value.{Value}
+use Rattle.mysql_bulk.specs.Bulk.{param_type_bytes, param_value_bytes, param_value_of, type_of_value}
+use Rattle.mysql_bulk.specs.declared.param_type.StmtBulkExecuteParamType.{StmtBulkExecuteParamType}
+use Rattle.mysql_bulk_builder.specs.Cut.{Row}
+use Rattle.mysql_bulk_builder.specs.TypedCut.{IsTightTyped, Part, placed_from}
+use Rattle.mysql_streams.specs.declared.refusal.Refusal.{Refusal}
+use Rattle.mysql_streams.specs.declared.refusal.Refusal.TheVariants as refusals
+use Rattle.mysql_streams.specs.Commands.{bulk_request}
+use Rattle.mysql_streams.specs.Sets.{Given}
+use Rattle.mysql_streams.specs.Cause.{Limits, bulk_cause, first_of_sets, set_cause}
+
+-- sets share requests: no command carries one by itself
+abbrev pub no_command : List Value → List ℕ
+no_command values = []
+
+-- a set gives a row against which nothing speaks, and its numbers fit their fields
+pub record GivesRow (limits : Limits) (set : ℕ) (given : Given) (row : Row) : Type 0 where
+  pub gives : given ≡ Ok row
+  pub none : set_cause no_command limits set (Ok row) ≡ None
+  pub fit : AllByRecursion (λ value. FitsFields value) row
+
+-- sets give rows, and nothing speaks against any
+pub record GivesRows (limits : Limits) (given : List Given) (rows : List Row) : Type 0 where
+  pub gives : given ≡ map Ok rows
+  pub none : first_of_sets (set_cause no_command limits) 0 given ≡ None
+  pub fit : AllByRecursion (λ row. AllByRecursion (λ value. FitsFields value) row) rows
+
+-- the values of a row as they are sent
+abbrev pub row_bytes : Row → List ℕ
+row_bytes row = flat_map (λ value. param_value_bytes (param_value_of value)) row
+
+-- the types that values are sent by
+abbrev pub types_bytes : List Value → List ℕ
+types_bytes values = flat_map (λ value. param_type_bytes (type_of_value value)) values
+
+-- the types that a request carries, by the first values of its columns
+abbrev pub types_by : Bool → List Value → List StmtBulkExecuteParamType
+types_by true firsts = map (λ value. type_of_value value) firsts
+types_by false firsts = []
+
+-- the requests of the parts of a cut from a row on
+abbrev pub requests_from : ℕ → ℕ → List Row → ℕ → List Part → List (List ℕ)
+requests_from id columns rows start cut = map (λ p. bulk_request id columns rows p.0 p.1) (placed_from start cut)
+
+-- the requests of the tight cut are appended, and nothing speaks against the rows
+pub record AppendsRequests (id columns room : ℕ) (rows : List Row) (old new : List ℕ) : Type 0 where
+  pub none : bulk_cause columns room rows ≡ None
+  pub cut : List Part
+  pub tight : IsTightTyped room columns rows cut
+  pub appended : new ≡ old ++ framings (requests_from id columns rows 0 cut) EachFromZero
+
+-- Memory, or the first cause that speaks against the rows
+abbrev pub RefusesRows : ℕ → ℕ → List Row → Refusal → Type 0
+RefusesRows columns room rows refusal = (refusal ≡ refusals.Memory) ⊎ (bulk_cause columns room rows ≡ Some refusal)

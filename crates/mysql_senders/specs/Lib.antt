@@ -1,0 +1,2 @@
+pub mod OneSet
+pub mod BulkSets

@@ -1,0 +1,100 @@
+//! A bulk request of rows whose values lie apart from each other.
+
+ghost use Rattle.std.specs.Prelude.{◌≡◌, ◌++◌, OnOk};
+ghost use Rattle.byteorder.specs.Endian.{little_bytes};
+ghost use Rattle.mysql_bulk.specs.Bulk.{bulk_command, indicator_of, param_value_bytes, param_value_of};
+ghost use Rattle.mysql_bulk_builder.specs.RowLists.{row_in, rows_in};
+ghost use Rattle.mysql_bulk_builder.specs.TypedRequests.{typing_of};
+ghost use Rattle.mysql_streams.specs.Commands.{request_flags};
+ghost use Rattle.mysql_senders.specs.BulkSets.{row_bytes, types_by, types_bytes};
+ghost use Rattle.std.specs.List.{flat_map};
+ghost use Rattle.mysql_bulk.specs.Bulk.{param_type_bytes};
+
+use mysql_bulk::StmtBulkExecuteParamType;
+use mysql_const::{Command, MariadbBulkIndicator};
+use mysql_raw::{LeU16, LeU32, MySerialize, RawInt};
+use mysql_values::Value;
+use std::alloc::AllocError;
+
+/// What stands before a value.
+fn indicator_of(value: &Value) -> MariadbBulkIndicator
+    ensures { result ≡ indicator_of value.now }
+{
+    match value {
+        Value::NULL => MariadbBulkIndicator::BULK_INDICATOR_NULL,
+        _ => MariadbBulkIndicator::BULK_INDICATOR_NONE,
+    }
+}
+
+/// Appends a value with what stands before it.
+fn put_value(value: &Value, command: &mut Vec<u8>) -> Result<(), AllocError>
+    ensures { OnOk result (command.new.items ≡ command.old.items ++ param_value_bytes (param_value_of value.now)) }
+{
+    command.push(u8::from(indicator_of(value)))?;
+    value.serialize(command)
+}
+
+/// Appends the values of a row.
+fn put_row(row: &[&Value], command: &mut Vec<u8>) -> Result<(), AllocError>
+    ensures { OnOk result (command.new.items ≡ command.old.items ++ row_bytes (row_in row.now)) }
+{
+    for value in row {
+        put_value(*value, command)?;
+    }
+    Ok(())
+}
+
+/// Appends the values of all rows, one row after another.
+fn put_values(rows: &[Vec<&Value>], command: &mut Vec<u8>) -> Result<(), AllocError>
+    ensures { OnOk result (command.new.items ≡ command.old.items ++ flat_map row_bytes (rows_in rows.now)) }
+{
+    for row in rows {
+        put_row(row, command)?;
+    }
+    Ok(())
+}
+
+/// Appends the types that values are sent by.
+fn put_types(values: &[&Value], command: &mut Vec<u8>) -> Result<(), AllocError>
+    ensures { OnOk result (command.new.items ≡ command.old.items ++ types_bytes (row_in values.now)) }
+{
+    for value in values {
+        StmtBulkExecuteParamType::from_value(*value).serialize(command)?;
+    }
+    Ok(())
+}
+
+/// Appends the flags, and the types of the columns' first values where types are sent.
+fn put_flags_and_types(
+    typed: bool,
+    firsts: &[&Value],
+    command: &mut Vec<u8>,
+) -> Result<(), AllocError>
+    ensures { OnOk result (command.new.items ≡ command.old.items ++ (little_bytes 2 (request_flags (typing_of typed)) ++ flat_map param_type_bytes (types_by typed (row_in firsts.now)))) }
+{
+    if typed {
+        let flags: RawInt<LeU16> = RawInt::new(0x80);
+        flags.serialize(command)?;
+        put_types(firsts, command)
+    } else {
+        let flags: RawInt<LeU16> = RawInt::new(0);
+        flags.serialize(command)
+    }
+}
+
+/// Appends the bulk request of these rows, with the types of the columns' first values or without.
+pub(crate) fn put_request(
+    id: u32,
+    typed: bool,
+    firsts: &[&Value],
+    rows: &[Vec<&Value>],
+    command: &mut Vec<u8>,
+) -> Result<(), AllocError>
+    ensures { OnOk result (command.new.items ≡ command.old.items ++ bulk_command id (request_flags (typing_of typed)) (types_by typed (row_in firsts.now)) (rows_in rows.now)) }
+{
+    command.push(Command::COM_STMT_BULK_EXECUTE as u8)?;
+    let id: RawInt<LeU32> = RawInt::new(id);
+    id.serialize(command)?;
+    put_flags_and_types(typed, firsts, command)?;
+    put_values(rows, command)
+}

@@ -1,0 +1,101 @@
+//! The values that a set gives a statement.
+
+ghost use Rattle.std.specs.Prelude.{◌≡◌, ◌⊎◌, Err, IfErr, IfOk, None, Ok, OnOk, Some, is_none, map};
+ghost use Rattle.std.specs.List.{AllByRecursion};
+ghost use Rattle.mysql_values.specs.AsSql.{FitsFields};
+ghost use Rattle.mysql_values.specs.Binding.{first_float as float_at, values_cause};
+ghost use Rattle.mysql_values.specs.Params.{values_over};
+ghost use Rattle.mysql_values.specs.Values.{content_of};
+ghost use Rattle.mysql_values.specs.declared.params.ParamsError.{ParamsError as ParamsErrorOf};
+ghost use Rattle.mysql_values.specs.declared.params.SetError.{SetError as SetErrorOf};
+ghost use Rattle.mysql_streams.specs.declared.refusal.Refusal.TheVariants as refusals;
+ghost use Rattle.mysql_senders.specs.OneSet.{refusal_of};
+
+use crate::statement::Statement;
+use mysql_streams::Refusal;
+use mysql_values::laws::fields_fit;
+use mysql_values::{Params, ParamsError, SetError, Value};
+use std::alloc::Global;
+
+fn is_float(value: &Value) -> bool
+    ensures { result ≡ is_none (content_of value.now) }
+{
+    matches!(value, Value::Float(_) | Value::Double(_))
+}
+
+/// The first value that is a float.
+fn first_float(values: &[&Value]) -> Option<usize>
+    ensures { result ≡ float_at (map (λ value. value.now) values.now) }
+{
+    for (place, value) in values.iter().enumerate() {
+        if is_float(*value) {
+            return Some(place);
+        }
+    }
+    None
+}
+
+/// The refusal of a set that gives no values.
+fn refused(set: usize, error: ParamsError) -> Refusal
+    ensures { result ≡ refusal_of set error }
+{
+    match error {
+        ParamsError::Memory => Refusal::Memory,
+        ParamsError::Missing(name) => {
+            Refusal::Params(set, SetError::Params(ParamsError::Missing(name)))
+        }
+        ParamsError::Confusion(confusion) => {
+            Refusal::Params(set, SetError::Params(ParamsError::Confusion(confusion)))
+        }
+    }
+}
+
+/// The values that a set gives the statement.
+pub(crate) fn values_for<'a>(
+    alloc: Global,
+    statement: &Statement<'_>,
+    set: usize,
+    params: &'a Params,
+) -> Result<Vec<&'a Value>, Refusal>
+    ensures ok { IfOk result (λ values. values_over statement.now.parsed.names params.entry.now ≡ Ok (map (λ value. value.now) values.items)) }
+    ensures err { IfErr result (λ refusal. (refusal ≡ refusals.Memory) ⊎ ((e : ParamsErrorOf) × (values_over statement.now.parsed.names params.entry.now ≡ Err e) × (refusal ≡ refusal_of set e))) }
+{
+    match params.values_for(alloc, &statement.parsed) {
+        Ok(values) => Ok(values),
+        Err(error) => Err(refused(set, error)),
+    }
+}
+
+/// Refuses `WrongCount`, then `Float`.
+pub(crate) fn check_values(values: &[&Value], places: usize, set: usize) -> Result<(), Refusal>
+    ensures ok { OnOk result (values_cause (refusals.WrongCount set) (λ place. refusals.Float set place) places (map (λ value. value.now) values.now) ≡ None) }
+    ensures err { IfErr result (λ refusal. values_cause (refusals.WrongCount set) (λ place. refusals.Float set place) places (map (λ value. value.now) values.now) ≡ Some refusal) }
+{
+    if values.len() != places {
+        return Err(Refusal::WrongCount(set));
+    }
+    match first_float(values) {
+        Some(place) => Err(Refusal::Float(set, place)),
+        None => Ok(()),
+    }
+}
+
+/// Refuses the set behind so many ones that gives no values, where there is one.
+pub(crate) fn check_stop(stop: Option<SetError>, sets: usize) -> Result<(), Refusal>
+    ensures ok { OnOk result (stop ≡ None) }
+    ensures err { IfErr result (λ refusal. (e : SetErrorOf) × (stop ≡ Some e) × (refusal ≡ refusals.Params sets e)) }
+{
+    match stop {
+        Some(error) => Err(Refusal::Params(sets, error)),
+        None => Ok(()),
+    }
+}
+
+/// The numbers of values fit their fields.
+pub(crate) fn values_fit(values: &[&Value])
+    ensures { AllByRecursion (λ value. FitsFields value) (map (λ value. value.now) values.now) }
+{
+    for value in values {
+        fields_fit(*value);
+    }
+}

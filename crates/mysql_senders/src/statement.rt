@@ -1,0 +1,98 @@
+//! A query as a statement, and its prepare.
+
+ghost use Rattle.std.specs.Prelude.{◌≡◌, ◌<◌, ◌≤◌, ◌++◌, ◌⊎◌, ℕ, IfErr, IfOk, List, OnErr, OnOk, false, length, true};
+ghost use Rattle.mysql_values.specs.Parsed.{HasNames};
+ghost use Rattle.mysql_values.specs.Queries.{HasMixed, IsParsed, places_from};
+ghost use Rattle.mysql_values.specs.Tokens.{HasTokens};
+ghost use Rattle.mysql_wire.specs.Framing.{framing};
+ghost use Rattle.mysql_streams.specs.Commands.{prepare_command};
+ghost use Rattle.mysql_streams.specs.declared.refusal.Refusal.TheVariants as refusals;
+ghost use Rattle.mysql_senders.specs.OneSet.{IsPreparable, RefusesStatement};
+
+use mysql_const::Command;
+use mysql_streams::Refusal;
+use mysql_values::laws::tokens_of_a_text;
+use mysql_values::{NamedParamsError, ParsedNamedParams, places};
+use mysql_wire::packet_to_chunks;
+use std::alloc::{AllocError, Global};
+
+/// A statement that is sent: its query, how many placeholders it has, and its id.
+#[derive(Drop)]
+pub(crate) struct Statement<'q> {
+    pub(crate) parsed: ParsedNamedParams<'q>,
+    pub(crate) places: usize,
+    pub(crate) id: u32,
+}
+
+/// The query parsed. Refuses `Mixed`.
+fn parsed<'q>(alloc: Global, query: &'q [u8]) -> Result<ParsedNamedParams<'q>, Refusal>
+    ensures query { IfOk result (λ parsed. IsParsed query.entry.now parsed.query) }
+    ensures names { IfOk result (λ parsed. HasNames query.entry.now parsed.names) }
+    ensures one_kind { OnOk result (HasMixed query.entry.now false) }
+    ensures mixed { IfErr result (λ e. (e ≡ refusals.Memory) ⊎ ((e ≡ refusals.Mixed) × HasMixed query.entry.now true)) }
+{
+    match ParsedNamedParams::parse(alloc, query) {
+        Ok(parsed) => Ok(parsed),
+        Err(NamedParamsError::Mixed(_)) => Err(Refusal::Mixed),
+        Err(NamedParamsError::Memory) => Err(Refusal::Memory),
+    }
+}
+
+/// How many placeholders a query has.
+fn place_count(alloc: Global, query: &[u8]) -> Result<usize, Refusal>
+    ensures ok { IfOk result (λ count. (tokens : List (List ℕ)) × HasTokens query.now tokens × (count ≡ length (places_from query.now 0 tokens))) }
+    ensures err { IfErr result (λ e. e ≡ refusals.Memory) }
+{
+    match places(alloc, query) {
+        Ok(places) => Ok(places.len()),
+        Err(_) => Err(Refusal::Memory),
+    }
+}
+
+/// The query as a statement. Refuses `Mixed`, then `TooManyPlaces`.
+pub(crate) fn statement_of<'q>(
+    alloc: Global,
+    query: &'q [u8],
+    id: u32,
+) -> Result<Statement<'q>, Refusal>
+    ensures ok { IfOk result (λ statement. IsPreparable query.entry.now statement.parsed statement.places × (statement.id ≡ id)) }
+    ensures err { IfErr result (RefusesStatement query.entry.now) }
+{
+    tokens_of_a_text();
+    let places = place_count(alloc, query)?;
+    let parsed = parsed(alloc, query)?;
+    if places > 65535 {
+        return Err(Refusal::TooManyPlaces);
+    }
+    Ok(Statement { parsed, places, id })
+}
+
+/// The command that prepares a query.
+fn prepare_of(alloc: Global, parsed: &[u8]) -> Result<Vec<u8>, AllocError>
+    ensures { IfOk result (λ command. command.items ≡ prepare_command parsed.now) }
+{
+    let mut command = Vec::new(alloc);
+    command.push(Command::COM_STMT_PREPARE as u8)?;
+    command.extend_from_slice(parsed)?;
+    Ok(command)
+}
+
+/// Appends the prepare. Refuses `PrepareTooLarge`.
+pub(crate) fn put_prepare(
+    alloc: Global,
+    statement: &Statement<'_>,
+    room: usize,
+    out: &mut Vec<u8>,
+) -> Result<(), Refusal>
+    ensures ok { OnOk result ((length (prepare_command statement.now.parsed.query) ≤ room)
+        × (out.new.items ≡ out.old.items ++ framing (prepare_command statement.now.parsed.query) 0)) }
+    ensures err { IfErr result (λ refusal. (refusal ≡ refusals.Memory) ⊎ ((refusal ≡ refusals.PrepareTooLarge) × (room < length (prepare_command statement.now.parsed.query)))) }
+    ensures kept { OnErr result (out.new.items ≡ out.old.items) }
+{
+    let command = prepare_of(alloc, statement.parsed.query())?;
+    if command.len() > room {
+        return Err(Refusal::PrepareTooLarge);
+    }
+    packet_to_chunks(0, &command, out)?;
+    Ok(())
+}

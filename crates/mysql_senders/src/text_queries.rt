@@ -1,0 +1,125 @@
+//! Parameter sets as text queries.
+
+ghost use Rattle.std.specs.Prelude.{◌≡◌, ◌⊎◌, ◌≤◌, ℕ, IfErr, IfOk, List, None, OnErr, OnOk, Some, length, take};
+ghost use Rattle.mysql_values.specs.Queries.{HasPlaces, places_from};
+ghost use Rattle.mysql_values.specs.Tokens.{HasTokens};
+ghost use Rattle.mysql_streams.specs.Cause.{places_cause};
+ghost use Rattle.mysql_senders.specs.OneSet.{AppendsQuery, RefusesQuery, refusal_by};
+ghost use Rattle.mysql_streams.specs.Reading.{SentReadable};
+ghost use Rattle.mysql_streams.specs.Sending.{RefusesGiven};
+ghost use Rattle.mysql_streams.specs.Sets.{given_up_to};
+ghost use Rattle.mysql_streams.specs.declared.refusal.Refusal.TheVariants as refusals;
+ghost use Rattle.mysql_streams.specs.declared.road.Road.TheVariants as roads;
+
+use crate::set_values::check_stop;
+use mysql_const::Command;
+use mysql_streams::Refusal;
+use mysql_values::laws::tokens_of_a_text;
+use mysql_values::{
+    BindError, Params, Place, SetError, bind_text_at, first_not_alone, is_mixed, places,
+};
+use mysql_wire::packet_to_chunks;
+use std::alloc::Global;
+
+/// Whether a text query can carry literals in these placeholders.
+fn check_places(places: &[Place]) -> Result<(), Refusal>
+    ensures ok { OnOk result (places_cause places.now ≡ None) }
+    ensures err { IfErr result (λ refusal. places_cause places.now ≡ Some refusal) }
+{
+    if is_mixed(places) {
+        return Err(Refusal::Mixed);
+    }
+    match first_not_alone(places) {
+        Some(place) => Err(Refusal::NotAlone(place)),
+        None => Ok(()),
+    }
+}
+
+/// The placeholders of a query, where a text query can carry literals in them.
+fn checked_places(alloc: Global, query: &[u8]) -> Result<Vec<Place>, Refusal>
+    ensures places { IfOk result (λ places. HasPlaces query.now places.items) }
+    ensures none { OnOk result ((tokens : List (List ℕ)) × HasTokens query.now tokens × (places_cause (places_from query.now 0 tokens) ≡ None)) }
+    ensures err { IfErr result (λ refusal. (refusal ≡ refusals.Memory) ⊎ ((tokens : List (List ℕ)) × HasTokens query.now tokens × (places_cause (places_from query.now 0 tokens) ≡ Some refusal))) }
+{
+    let Ok(places) = places(alloc, query) else {
+        return Err(Refusal::Memory);
+    };
+    check_places(&places)?;
+    Ok(places)
+}
+
+/// The refusal of a set for which no text is bound.
+fn refusal_of(set: usize, error: BindError) -> Refusal
+    ensures { result ≡ refusal_by set error }
+{
+    match error {
+        BindError::Mixed => Refusal::Mixed,
+        BindError::NotAlone(place) => Refusal::NotAlone(place),
+        BindError::Params(error) => Refusal::Params(set, SetError::Params(error)),
+        BindError::WrongCount => Refusal::WrongCount(set),
+        BindError::Float(place) => Refusal::Float(set, place),
+        BindError::Memory => Refusal::Memory,
+    }
+}
+
+/// Appends the text query of one set.
+fn put_query(
+    alloc: Global,
+    query: &[u8],
+    places: &[Place],
+    set: usize,
+    params: &Params,
+    limit: usize,
+    command: &mut Vec<u8>,
+    out: &mut Vec<u8>,
+) -> Result<(), Refusal>
+    requires limit { 4 ≤ limit }
+    requires places { HasPlaces query.now places.now }
+    ensures ok { OnOk result ((tokens : List (List ℕ)) × HasTokens query.now tokens × AppendsQuery query.now tokens params.now set limit out.old.items out.new.items) }
+    ensures err { IfErr result (RefusesQuery query.now params.now set limit) }
+    ensures kept { OnErr result (out.new.items ≡ out.old.items) }
+{
+    command.clear();
+    command.push(Command::COM_QUERY as u8)?;
+    if let Err(error) = bind_text_at(alloc, query, places, params, command) {
+        return Err(refusal_of(set, error));
+    }
+    if command.len() > limit - 4 {
+        return Err(Refusal::PacketTooLarge(set));
+    }
+    packet_to_chunks(0, command, out)?;
+    Ok(())
+}
+
+/// Appends the commands that carry parameter sets of a query to a server as text queries, each framed as packets that are
+/// numbered from 0: a query for each set, its values as literals in the places of the placeholders. Sets and places count from
+/// 0; a payload has at most `limit - 4` bytes, as the limit counts a packet with its header. `stop` says why one more set behind
+/// the given ones gives no values, where there is one. After a refusal what stood before stands in front of `out`.
+///
+/// # Errors
+/// The first cause that holds, in the order of [`Refusal`]: `Mixed`, `NotAlone`; set by set `Params`, `WrongCount`, `Float`,
+/// `PacketTooLarge`; `Params` for the set that stops; `Memory` where a growth was refused.
+///
+/// MySQL: Client/Server Protocol, "COM_QUERY".
+pub fn put_queries(
+    alloc: Global,
+    query: &[u8],
+    sets: &[Params],
+    stop: Option<SetError>,
+    limit: usize,
+    out: &mut Vec<u8>,
+) -> Result<(), Refusal>
+    requires { 4 ≤ limit }
+    // A text query carries no id: this holds of each.
+    ensures ok { OnOk result ((id : ℕ) → SentReadable roads.Text query.now (given_up_to sets.now stop) id limit out.old.items out.new.items) }
+    ensures err { IfErr result (λ refusal. (id : ℕ) → RefusesGiven roads.Text query.now (given_up_to sets.now stop) id limit refusal) }
+    ensures kept { take (length out.old.items) out.new.items ≡ out.old.items }
+{
+    tokens_of_a_text();
+    let places = checked_places(alloc, query)?;
+    let mut command = Vec::new(alloc);
+    'sets: for (set, params) in sets.iter().enumerate() {
+        put_query(alloc, query, &places, set, params, limit, &mut command, out)?;
+    }
+    check_stop(stop, sets.len())
+}

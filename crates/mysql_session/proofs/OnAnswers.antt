@@ -1,0 +1,11 @@
+-- What holds of an answer is taken on.
+use Rattle.std.proofs.Common.{Result, Ok, Err}
+use Rattle.std.specs.Prelude.{IfErr, OnOk}
+
+pub on_ok : {E P Q : Type 0} (answer : Result (Unit {0}) E) → (P → Q) → OnOk answer P → OnOk answer Q
+on_ok (Ok done) step holds = step holds
+on_ok (Err error) step holds = tt
+
+pub on_err : {E : Type 0} {P Q : E → Type 0} (answer : Result (Unit {0}) E) → ((e : E) → P e → Q e) → IfErr answer P → IfErr answer Q
+on_err (Ok done) step holds = tt
+on_err (Err error) step holds = step error holds

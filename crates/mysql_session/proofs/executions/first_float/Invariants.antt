@@ -1,9 +1,0 @@
-use Rattle.std.proofs.Common.{◌≡◌, drop, map}
-use Rattle.std.specs.Prelude.{is_none}
-use Rattle.std.specs.List.{position_from}
-use Rattle.mysql_values.specs.Values.{content_of}
-use Rattle.mysql_values.specs.Binding.{first_float}
-use Rattle.mysql_session.proofs.executions.first_float.Given as goal
-
-abbrev pub invariant-loop-place : goal.invariant-loop-place
-invariant-loop-place l = position_from (λ value. is_none (content_of value)) l.place (map (λ value. value.now) (drop l.place l.values)) ≡ first_float (map (λ value. value.now) l.values)

@@ -1,0 +1,63 @@
+-- What lists of objects give a query: what is sent of them, and what speaks against them, is stated over this.
+-- MySQL Reference Manual, "PREPARE Statement" (parameter markers).
+use Rattle.std.specs.Prelude.{◌≡◌, ℕ, List, [], ◌∷◌, filter, length, map, Option, None, Some, Ok, Err}
+use Rattle.std.specs.List.{filter_map}
+use Rattle.mysql_values.specs.Content.{Content}
+use Rattle.mysql_values.specs.Value.{Value}
+use Rattle.mysql_values.specs.Values.{content_of}
+use Rattle.mysql_values.specs.Parsed.{names_of}
+use Rattle.mysql_values.specs.Queries.{is_place}
+use Rattle.mysql_values.specs.Tokens.{HasTokens}
+use Rattle.mysql_values.specs.declared.params.ParamsError.TheVariants.{Confusion}
+use Rattle.mysql_values.specs.declared.params.ParamsConfusionError.TheVariants.{PositionalParamsForNamedQuery}
+use Rattle.mysql_values.specs.declared.params.SetError.{SetError}
+use Rattle.mysql_values.specs.declared.params.SetError.TheVariants as set_error
+use Rattle.mysql_convert.specs.Sets.{too_long}
+use Rattle.mysql_streams.specs.declared.refusal.Refusal.{Refusal}
+use Rattle.mysql_streams.specs.declared.road.Road.{Road}
+use Rattle.mysql_streams.specs.Reading.{ReadsBackAs, SendsWhole}
+use Rattle.mysql_streams.specs.Sending.{RefusesGiven, SendsGiven}
+use Rattle.mysql_streams.specs.Sets.{Given}
+
+-- what values in order give a query with these names: no values are the empty set, and a query with names takes no others
+abbrev pub given_in_order : List (List ℕ) → List Value → Given
+given_in_order names [] = Ok []
+given_in_order [] (value ∷ values) = Ok (value ∷ values)
+given_in_order (name ∷ names) (value ∷ values) = Err (set_error.Params (Confusion PositionalParamsForNamedQuery))
+
+-- the refusal, where there is one
+abbrev pub unless_refused : Option SetError → Given → Given
+unless_refused None given = given
+unless_refused (Some error) given = Err error
+
+-- what a list of objects with these values gives it; none stands for an object that is too long for a value, and comes before all else
+abbrev pub given_by_objects : List (List ℕ) → List (Option Value) → Given
+given_by_objects names objects = unless_refused (too_long 0 objects) (given_in_order names (filter_map (λ object. object) objects))
+
+-- what each of the lists of objects gives it
+abbrev pub all_given_by_objects : List (List (Option Value)) → List (List ℕ) → List Given
+all_given_by_objects sets names = map (given_by_objects names) sets
+
+-- what a list of objects means over a query: the contents of its values, which are as many as the placeholders and none a float
+pub record IsObjectsMeaning (query : List ℕ) (objects : List (Option Value)) (contents : List Content) : Type 0 where
+  pub tokens : List (List ℕ)
+  pub has : HasTokens query tokens
+  pub values : List Value
+  pub gives : given_by_objects (names_of tokens) objects ≡ Ok values
+  pub count : length values ≡ length (filter is_place tokens)
+  pub each : map content_of values ≡ map Some contents
+
+-- what is appended of lists of objects with these values, and why they are refused
+abbrev pub SendsValues : Road → List ℕ → List (List (Option Value)) → ℕ → ℕ → List ℕ → List ℕ → Type 0
+SendsValues road query sets id limit old new = SendsGiven road query (all_given_by_objects sets) id limit old new
+
+abbrev pub RefusesValues : Road → List ℕ → List (List (Option Value)) → ℕ → ℕ → Refusal → Type 0
+RefusesValues road query sets id limit refusal = RefusesGiven road query (all_given_by_objects sets) id limit refusal
+
+-- what is appended of them is read back as their meanings
+abbrev pub ReadsBackValues : List ℕ → List (List (Option Value)) → ℕ → ℕ → List ℕ → List ℕ → Type 0
+ReadsBackValues query sets id limit old new = ReadsBackAs (IsObjectsMeaning query) query sets id limit old new
+
+-- each front of what is appended reads as the sets that stand whole in it, and by bulk no requests could be fewer
+abbrev pub SendsWholeValues : Road → List ℕ → List (List (Option Value)) → ℕ → ℕ → List ℕ → List ℕ → Type 0
+SendsWholeValues road query sets id limit old new = SendsWhole road query (all_given_by_objects sets) id limit old new

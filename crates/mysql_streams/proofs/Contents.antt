@@ -1,0 +1,153 @@
+-- What sets give, and what it holds where no cause speaks against it.
+use Rattle.std.proofs.Common.{◌≡◌, ℕ, suc, ◌+◌, ◌-◌, ◌≤◌, ◌==◌, Bool, true, false, List, [], ◌∷◌, length, map, filter, Option, Some, None, Result, Ok, Err, refl, sym, ◌∙◌, ap, arith, is_none, nat_lt, cond, unwrap_or, if◌then◌else◌}
+use Rattle.std.specs.List.{AllByRecursion, AllZip, position_from}
+use Rattle.std.specs.Option.{option_map, option_or}
+use Rattle.std.specs.Result.{result_map_both}
+use Rattle.std.proofs.lemmas.Bool.{eqb-true, ltb-false}
+use Rattle.mysql_values.specs.Content.{Content}
+use Rattle.mysql_values.specs.Content.TheVariants.{Null}
+use Rattle.mysql_values.specs.declared.params.Params.{Params}
+use Rattle.mysql_values.specs.declared.params.ParamsError.{ParamsError}
+use Rattle.mysql_values.specs.declared.params.SetError.TheVariants as set_error
+use Rattle.mysql_values.specs.Value.{Value}
+use Rattle.mysql_values.specs.Values.{content_of}
+use Rattle.mysql_values.specs.Binding.{first_float}
+use Rattle.mysql_values.specs.Params.{IsMeaning, values_over}
+use Rattle.mysql_values.specs.Parsed.{names_of}
+use Rattle.mysql_values.specs.Queries.{is_place, place_at, places_from}
+use Rattle.mysql_values.specs.Tokens.{HasTokens}
+use Rattle.mysql_streams.specs.declared.refusal.Refusal.{Refusal}
+use Rattle.mysql_streams.specs.declared.refusal.Refusal.TheVariants as refusals
+use Rattle.mysql_streams.specs.Sets.{Given, given_by}
+use Rattle.mysql_streams.specs.Cause.{Limits, cause_if, first_of_sets, given_cause, set_cause, size_cause}
+use Rattle.mysql_streams.specs.Reading.{held}
+
+-- ---- what sets give
+
+-- values over a query's names are given
+pub gives_values : (names : List (List ℕ)) (params : Params) (values : List Value) → values_over names params ≡ Ok values → given_by names params ≡ Ok values
+gives_values names params values over = ap (λ (o : Result (List Value) ParamsError). result_map_both (λ values. values) (λ error. set_error.Params error) o) over
+
+-- values that are given are those over the query's names
+given_over : (over : Result (List Value) ParamsError) (values : List Value) → result_map_both (λ (v : List Value). v) (λ error. set_error.Params error) over ≡ Ok values → over ≡ Ok values
+given_over (Ok others) values gives =
+    let same : others ≡ values = cc in ap (λ v. Ok v) same
+given_over (Err error) values gives = cc
+
+-- a set gives one list of values
+pub gives_one : (given : Given) (values others : List Value) → given ≡ Ok values → given ≡ Ok others → values ≡ others
+gives_one (Ok those) values others first second =
+    let one : those ≡ values = cc in
+    let other : those ≡ others = cc in
+    sym one ∙ other
+gives_one (Err error) values others first second = cc
+
+-- as many lists of values as sets that give them
+pub as_many_given : (give : Params → Given) (sets : List Params) (values : List (List Value)) → map give sets ≡ map Ok values → length values ≡ length sets
+as_many_given give [] [] gives = refl
+as_many_given give [] (first ∷ values) gives = cc
+as_many_given give (params ∷ sets) [] gives = cc
+as_many_given give (params ∷ sets) (first ∷ values) gives =
+    let others : map give sets ≡ map Ok values = cc in ap (λ n. suc n) (as_many_given give sets values others)
+
+-- ---- causes
+
+-- where neither is a cause, neither is
+pub neither : (first second : Option Refusal) → option_or first second ≡ None → (first ≡ None) × (second ≡ None)
+neither None second none = (refl, none)
+neither (Some cause) second none = cc
+
+-- what no cause says of values
+pub record IsGood (command : List Value → List ℕ) (limits : Limits) (values : List Value) : Type 0 where
+  pub count_is : length values ≡ limits.places
+  pub exact : first_float values ≡ None
+  pub short : length (command values) ≤ limits.bytes
+
+good_by : (same : Bool) (found : Option ℕ) (set : ℕ) → (if same then option_map (λ place. refusals.Float set place) found else Some (refusals.WrongCount set)) ≡ None → (same ≡ true) × (found ≡ None)
+good_by true None set none = (refl, refl)
+good_by true (Some place) set none = cc
+good_by false found set none = cc
+
+short_by : (long : Bool) (set : ℕ) → cause_if long (refusals.PacketTooLarge set) ≡ None → long ≡ false
+short_by true set none = cc
+short_by false set none = refl
+
+pub good : (command : List Value → List ℕ) (limits : Limits) (set : ℕ) (values : List Value) → set_cause command limits set (Ok values) ≡ None → IsGood command limits values
+good command limits set values none =
+    let parts = neither (given_cause limits set (Ok values)) (size_cause command limits set (Ok values)) none in
+    let fit = good_by (length values == limits.places) (first_float values) set parts.0 in
+    record {
+      count_is = eqb-true (length values) limits.places fit.0;
+      exact = fit.1;
+      short = ltb-false limits.bytes (length (command values)) (short_by (nat_lt limits.bytes (length (command values))) set parts.1);
+    }
+
+-- commands that are no cause are within the limits
+pub short_each : (command : List Value → List ℕ) (limits : Limits) (number : ℕ) (sets : List (List Value)) → first_of_sets (set_cause command limits) number (map Ok sets) ≡ None
+    → AllByRecursion (λ payload. length payload ≤ limits.bytes) (map command sets)
+short_each command limits number [] none = tt
+short_each command limits number (values ∷ sets) none =
+    let parts = neither (set_cause command limits number (Ok values)) (first_of_sets (set_cause command limits) (number + 1) (map Ok sets)) none in
+    ((good command limits number values parts.0).short, short_each command limits (number + 1) sets parts.1)
+
+-- ---- contents
+
+-- the contents of values are what they hold
+pub held_contents : (values : List Value) (contents : List Content) → map content_of values ≡ map Some contents → contents ≡ map held values
+held_contents [] [] each = refl
+held_contents [] (content ∷ contents) each = cc
+held_contents (value ∷ values) [] each = cc
+held_contents (value ∷ values) (content ∷ contents) each =
+    let first : content_of value ≡ Some content = cc in
+    let others : map content_of values ≡ map Some contents = cc in
+    ap (λ c. c ∷ contents) (sym (ap (λ o. unwrap_or o Null) first)) ∙ ap (λ l. held value ∷ l) (held_contents values contents others)
+
+no_float : (found : Option Content) (n : ℕ) (rest : Option ℕ) → cond (is_none found) (Some n) rest ≡ None → (found ≡ Some (unwrap_or found Null)) × (rest ≡ None)
+no_float None n rest none = cc
+no_float (Some content) n rest none = (refl, none)
+
+-- values of which none is a float all hold something
+pub all_held : (n : ℕ) (values : List Value) → position_from (λ value. is_none (content_of value)) n values ≡ None → map content_of values ≡ map Some (map held values)
+all_held n [] none = refl
+all_held n (value ∷ values) none =
+    let parts = no_float (content_of value) n (position_from (λ value. is_none (content_of value)) (n + 1) values) none in
+    ap (λ o. o ∷ map content_of values) parts.0 ∙ ap (λ l. Some (held value) ∷ l) (all_held (n + 1) values parts.1)
+
+-- a query has as many placeholders as tokens that are some
+counted : (query : List ℕ) (start : ℕ) (tokens : List (List ℕ)) → length (places_from query start tokens) ≡ length (filter is_place tokens)
+counted query start [] = refl
+counted query start (token ∷ tokens) = by (is_place token) (counted query (start + length token) tokens)
+  where
+    by : (b : Bool) → length (places_from query (start + length token) tokens) ≡ length (filter is_place tokens) →
+        length (cond b (place_at query token start (start + length token) ∷ places_from query (start + length token) tokens) (places_from query (start + length token) tokens)) ≡ length (cond b (token ∷ filter is_place tokens) (filter is_place tokens))
+    by true same = ap (λ n. suc n) same
+    by false same = same
+
+-- sets against which nothing speaks mean what their values hold
+pub meanings : (query : List ℕ) (tokens : List (List ℕ)) → HasTokens query tokens → (command : List Value → List ℕ) (limits : Limits) → limits.places ≡ length (places_from query 0 tokens)
+    → (number : ℕ) (sets : List Params) (values : List (List Value)) → map (given_by (names_of tokens)) sets ≡ map Ok values → first_of_sets (set_cause command limits) number (map Ok values) ≡ None
+    → AllZip (IsMeaning query) sets (map (map held) values)
+meanings query tokens has command limits count number [] [] gives none = tt
+meanings query tokens has command limits count number [] (first ∷ values) gives none = cc
+meanings query tokens has command limits count number (params ∷ sets) [] gives none = cc
+meanings query tokens has command limits count number (params ∷ sets) (first ∷ values) gives none =
+    let here : given_by (names_of tokens) params ≡ Ok first = cc in
+    let others : map (given_by (names_of tokens)) sets ≡ map Ok values = cc in
+    let parts = neither (set_cause command limits number (Ok first)) (first_of_sets (set_cause command limits) (number + 1) (map Ok values)) none in
+    let g : IsGood command limits first = good command limits number first parts.0 in (
+      record {
+        tokens = tokens;
+        has = has;
+        values = first;
+        over = given_over (values_over (names_of tokens) params) first here;
+        count = g.count_is ∙ count ∙ counted query 0 tokens;
+        each = all_held 0 first g.exact;
+      },
+      meanings query tokens has command limits count (number + 1) sets values others parts.1,
+    )
+
+-- payloads that leave room for a header are within the limit
+pub within_limit : (limit : ℕ) (payloads : List (List ℕ)) → AllByRecursion (λ payload. length payload ≤ limit - 4) payloads → AllByRecursion (λ payload. length payload ≤ limit) payloads
+within_limit limit [] short = tt
+within_limit limit (payload ∷ payloads) short =
+    let here : length payload ≤ limit - 4 = short.0 in (omega arith, within_limit limit payloads short.1)

@@ -1,0 +1,74 @@
+-- Streams that were sent one behind the other.
+use Rattle.std.proofs.Common.{◌≡◌, ℕ, suc, ◌+◌, ◌<◌, ◌≤◌, ◌^◌, List, [], ◌∷◌, ◌++◌, length, refl, ◌∙◌, ap, subst, arith, append_assoc, add-one, length-append}
+use Rattle.std.specs.List.{AllZip}
+use Rattle.mysql_wire.specs.Framing.{chunk, chunks, framing, slice}
+use Rattle.mysql_wire.specs.Stream.{Split, framings}
+use Rattle.mysql_wire.specs.Stream.Numbering.{EachFromZero}
+use Rattle.mysql_values.specs.Content.{Content}
+use Rattle.mysql_values.specs.declared.params.Params.{Params}
+use Rattle.mysql_values.specs.Laws.{OneTokens}
+use Rattle.mysql_values.specs.Params.{IsMeaning}
+use Rattle.mysql_commands.specs.Audit.{Audited}
+use Rattle.mysql_commands.specs.declared.audit.End.TheVariants.{Whole}
+use Rattle.mysql_commands.specs.Laws.{WholeStreamsJoin}
+use Rattle.mysql_commands.specs.Layout.{Conversation}
+use Rattle.mysql_streams.specs.Laws.{SentStreamsJoin}
+use Rattle.mysql_streams.specs.Reading.{ReadsAsMeanings}
+use Rattle.mysql_streams.proofs.Conversations.{one_conversation}
+
+-- a chunk has bytes
+chunk_some : (number : ℕ) (bytes rest : List ℕ) → 0 < length (chunk number bytes ++ rest)
+chunk_some number bytes rest = omega arith
+
+chunks_some : (payload : List ℕ) (count n : ℕ) → n ≡ suc count → 0 < length (chunks payload 0 n)
+unfolding chunks
+chunks_some payload count n is = rw is (chunk_some (0 + 0) (slice payload 0) _)
+
+framing_some : (payload : List ℕ) → 0 < length (framing payload 0)
+unfolding framing
+framing_some payload = chunks_some payload _ _ (add-one _)
+
+-- a stream has at least a byte for each payload
+pub as_long : (payloads : List (List ℕ)) → length payloads ≤ length (framings payloads EachFromZero)
+as_long [] = omega arith
+as_long (payload ∷ payloads) = omega (arith, framing_some payload, as_long payloads, length-append (framing payload 0) (framings payloads EachFromZero))
+
+few : (split : Split) (bytes : List ℕ) → bytes ≡ framings split.payloads EachFromZero ++ split.rest_bytes → length split.payloads ≤ length bytes
+few split bytes is = omega (arith, ap length is, as_long split.payloads, length-append (framings split.payloads EachFromZero) split.rest_bytes)
+
+-- the meanings of sets and of others behind them
+meanings_join : (query : List ℕ) (sets others : List Params) (contents later : List (List Content)) → AllZip (IsMeaning query) sets contents → AllZip (IsMeaning query) others later → AllZip (IsMeaning query) (sets ++ others) (contents ++ later)
+meanings_join query [] others [] later first second = second
+meanings_join query [] others (held ∷ contents) later first second = absurd first
+meanings_join query (params ∷ sets) others [] later first second = absurd first
+meanings_join query (params ∷ sets) others (held ∷ contents) later first second = (first.0, meanings_join query sets others contents later first.1 second)
+
+-- two streams of a query and an id that read as meanings, one behind the other, in fewer than 2 ^ 64 bytes
+streams_join : OneTokens → WholeStreamsJoin → (query : List ℕ) (sets others : List Params) (id limit : ℕ) (stream behind : List ℕ) (contents later : List (List Content)) → length stream + length behind < 2 ^ 64
+    → ReadsAsMeanings query sets id limit stream contents → ReadsAsMeanings query others id limit behind later → ReadsAsMeanings query (sets ++ others) id limit (stream ++ behind) (contents ++ later)
+streams_join once join query sets others id limit stream behind contents later short r q =
+    let same : q.audit.0 ≡ r.audit.0 = one_conversation once query id q.audit.0 r.audit.0 q.audit.1 r.audit.1 in
+    let second : Audited r.audit.0 limit behind (record { sets = later; ending = Whole }) =
+    subst (λ (c : Conversation). Audited c limit behind (record { sets = later; ending = Whole })) same q.audit.2 in
+    record {
+      meanings = meanings_join query sets others contents later r.meanings q.meanings;
+      audit = (
+        r.audit.0,
+        r.audit.1,
+        join r.audit.0 limit stream behind r.audit.2.0 second.0 (record { sets = contents; ending = Whole }) (record { sets = later; ending = Whole })
+            r.audit.2.1 second.1 r.audit.2.2 second.2
+            (omega (arith, few r.audit.2.0 stream r.audit.2.1.joined, few second.0 behind second.1.joined)) refl refl,
+      );
+    }
+
+pub joined : OneTokens → WholeStreamsJoin → SentStreamsJoin
+joined once join query sets others id limit old mid new short r q =
+    let appended : new ≡ old ++ (r.stream ++ q.stream) = q.appended ∙ ap (λ l. l ++ q.stream) r.appended ∙ append_assoc old r.stream q.stream in
+    let lengths : length r.stream + length q.stream ≤ length new =
+    omega (arith, ap length appended, length-append old (r.stream ++ q.stream), length-append r.stream q.stream) in
+    record {
+      stream = r.stream ++ q.stream;
+      appended = appended;
+      contents = r.contents ++ q.contents;
+      reads = streams_join once join query sets others id limit r.stream q.stream r.contents q.contents (omega arith) r.reads q.reads;
+    }

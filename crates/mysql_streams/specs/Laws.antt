@@ -1,0 +1,60 @@
+-- The laws of streams that were sent.
+-- MySQL: Client/Server Protocol, "Command Phase".
+use Rattle.std.specs.Prelude.{◌≡◌, ℕ, ◌+◌, ◌<◌, ◌≤◌, ◌^◌, ◌-◌, false, List, ◌++◌, length, map, None, Ok}
+use Rattle.std.specs.List.{AllByRecursion}
+use Rattle.mysql_values.specs.Content.{Content}
+use Rattle.mysql_values.specs.Value.{Value}
+use Rattle.mysql_values.specs.declared.params.Params.{Params}
+use Rattle.mysql_values.specs.Tokens.{HasTokens}
+use Rattle.mysql_commands.specs.Audit.{IsAbout, Read}
+use Rattle.mysql_commands.specs.InForce.{is_waiting, nothing_yet, state_after}
+use Rattle.mysql_commands.specs.Layout.{Conversation}
+use Rattle.mysql_bulk_builder.specs.Cut.{Row, rows_size}
+use Rattle.mysql_bulk_builder.specs.TypedCut.{Part}
+use Rattle.mysql_streams.specs.declared.road.Road.{Road}
+use Rattle.mysql_streams.specs.Commands.{bulk_request, types_size}
+use Rattle.mysql_streams.specs.Sets.{all_given}
+use Rattle.mysql_streams.specs.Sent.{AreSent, SentPayload, payloads_of, statement_of}
+use Rattle.mysql_streams.specs.Cause.{cause_of}
+use Rattle.mysql_streams.specs.Reading.{IsReadable, ReadsAsMeanings, ReadsBack, SendsWhole, SentReadable, contents_of}
+
+-- What is sent reads, payload by payload, as the sets that stand whole with each, and no piece waits behind it.
+pub record ReadsEach (c : Conversation) (limit : ℕ) (sent : List SentPayload) : Type 0 where
+  pub within : AllByRecursion (λ payload. length payload ≤ limit) (payloads_of sent)
+  pub each : length sent < 2 ^ 64 → Read c nothing_yet 0 (payloads_of sent) (contents_of sent)
+  pub ends : is_waiting c (state_after c nothing_yet (payloads_of sent)) ≡ false
+
+-- What is sent of sets without a cause that can be read back reads as these sets, by each road.
+abbrev pub SentPayloadsRead : Road → Type 0
+SentPayloadsRead road =
+    (query : List ℕ) (tokens : List (List ℕ)) (id limit : ℕ) (values : List (List Value)) (sent : List SentPayload) (c : Conversation)
+    → HasTokens query tokens → id < 2 ^ 32 → 4 ≤ limit → IsAbout c query id
+    → cause_of road (statement_of query tokens id) limit (map Ok values) ≡ None → AreSent road (statement_of query tokens id) (limit - 4) values sent
+    → AllByRecursion (IsReadable road query tokens) values → ReadsEach c limit sent
+
+-- Sets that were sent, in fewer than 2 ^ 64 bytes, are read back, each front of their stream reads as the sets that stand whole in it, and by bulk no requests could be fewer.
+pub record IsDelivered (road : Road) (query : List ℕ) (sets : List Params) (id limit : ℕ) (old new : List ℕ) : Type 0 where
+  pub read_back : ReadsBack query sets id limit old new
+  pub whole : SendsWhole road query (all_given sets) id limit old new
+
+abbrev pub SentSetsAreDelivered : Type 0
+SentSetsAreDelivered =
+    (road : Road) (query : List ℕ) (sets : List Params) (id limit : ℕ) (old new : List ℕ) → id < 2 ^ 32 → 4 ≤ limit → length new < 2 ^ 64
+    → SentReadable road query (all_given sets) id limit old new → IsDelivered road query sets id limit old new
+
+-- Sets that are appended behind others, each by whichever road, read as all of them one after another, in fewer than 2 ^ 64 bytes.
+abbrev pub SentStreamsJoin : Type 0
+SentStreamsJoin =
+    (query : List ℕ) (sets others : List Params) (id limit : ℕ) (old mid new : List ℕ) → length new < 2 ^ 64
+    → ReadsBack query sets id limit old mid → ReadsBack query others id limit mid new → ReadsBack query (sets ++ others) id limit old new
+
+-- The same sets read as the same contents, by whichever road, id and limit they are sent.
+abbrev pub RoadsReadEqually : Type 0
+RoadsReadEqually =
+    (query : List ℕ) (sets : List Params) (id limit other_id other_limit : ℕ) (stream other : List ℕ) (contents others : List (List Content))
+    → ReadsAsMeanings query sets id limit stream contents → ReadsAsMeanings query sets other_id other_limit other others → contents ≡ others
+
+-- A bulk request takes seven bytes, the types that it carries, and its rows.
+abbrev pub RequestsHaveTheirSize : Type 0
+RequestsHaveTheirSize =
+    (id columns : ℕ) (rows : List Row) (start : ℕ) (part : Part) → length (bulk_request id columns rows start part) ≡ 7 + types_size part.typing columns + rows_size rows start part.count

@@ -1,0 +1,87 @@
+-- The payloads that are sent for sets of values of a query, by each road.
+-- MySQL: Client/Server Protocol, "COM_QUERY", "COM_STMT_PREPARE", "COM_STMT_SEND_LONG_DATA", "COM_STMT_EXECUTE"; MariaDB: Client/Server Protocol, "COM_STMT_BULK_EXECUTE".
+use Rattle.std.specs.Prelude.{◌≡◌, ℕ, false, List, [], ◌∷◌, ◌++◌, length, map, unwrap_or, if◌then◌else◌}
+use Rattle.std.specs.List.{flat_map, join_with_byte}
+use Rattle.mysql_values.specs.Place.{Place}
+use Rattle.mysql_values.specs.Queries.{interleaved, pieces_of, places_from}
+use Rattle.mysql_values.specs.Tokens.{question}
+use Rattle.mysql_values.specs.Value.{Value}
+use Rattle.mysql_values.specs.Values.{literal_of}
+use Rattle.mysql_stmt.specs.Executions.{execute_command, needs_long_data}
+use Rattle.mysql_bulk_builder.specs.Cut.{rows_of}
+use Rattle.mysql_bulk_builder.specs.TypedCut.{IsTightTyped, Part, placed}
+use Rattle.mysql_streams.specs.declared.road.Road.{Road}
+use Rattle.mysql_streams.specs.declared.road.Road.TheVariants.{Text, Execute, Bulk}
+use Rattle.mysql_streams.specs.Commands.{bulk_request, pieces_from, prepare_command, query_command}
+
+-- a query as it is sent: its tokens, its placeholders, and the id that its statement has at the server
+pub record Statement : Type 0 where
+  pub tokens : List (List ℕ)
+  pub places : List Place
+  pub id : ℕ
+
+-- the statement of a query with these tokens
+abbrev pub statement_of : List ℕ → List (List ℕ) → ℕ → Statement
+statement_of query tokens id = record { tokens = tokens; places = places_from query 0 tokens; id = id }
+
+-- the literal of a value, empty where it has none
+abbrev pub literal_text : Value → List ℕ
+literal_text value = unwrap_or (literal_of value) []
+
+-- the text of a query with values: its pieces with the literals of the values between
+abbrev pub query_text_of : List (List ℕ) → List Value → List ℕ
+query_text_of tokens values = interleaved (pieces_of tokens) (map literal_text values)
+
+-- the query that is prepared: a question mark for each placeholder
+abbrev pub parsed_of : List (List ℕ) → List ℕ
+parsed_of tokens = join_with_byte question (pieces_of tokens)
+
+-- the command that carries all of a set's values, by which the set's size counts; by bulk, where sets share requests, none does
+abbrev pub whole_command : Road → Statement → List Value → List ℕ
+whole_command Text statement values = query_command (query_text_of statement.tokens values)
+whole_command Execute statement values = execute_command statement.id values false
+whole_command Bulk statement values = []
+
+-- a payload that is sent, and the sets of values whose last command it is
+pub record SentPayload : Type 0 where
+  pub payload : List ℕ
+  pub sets : List (List Value)
+
+-- a payload that is no set's last
+abbrev pub on_the_way : List ℕ → SentPayload
+on_the_way payload = record { payload = payload; sets = [] }
+
+-- a payload that is the last of one set
+abbrev pub last_of : List Value → List ℕ → SentPayload
+last_of values payload = record { payload = payload; sets = values ∷ [] }
+
+-- the prepare of a statement
+abbrev pub prepare_of : Statement → SentPayload
+prepare_of statement = on_the_way (prepare_command (parsed_of statement.tokens))
+
+-- a set by text: its query
+abbrev pub as_text : Statement → List Value → List SentPayload
+as_text statement values = last_of values (whole_command Text statement values) ∷ []
+
+-- a set as an execution: before it, where it would exceed one packet's most bytes, its byte strings
+abbrev pub as_execution : Statement → List Value → List SentPayload
+as_execution statement values =
+    map on_the_way (if needs_long_data values then pieces_from statement.id 0 values else [])
+    ++ last_of values (execute_command statement.id values (needs_long_data values)) ∷ []
+
+-- sets as bulk requests, one for each part of a cut
+abbrev pub as_requests : Statement → List (List Value) → List Part → List SentPayload
+as_requests statement sets cut =
+    map (λ p. record { payload = bulk_request statement.id (length statement.places) sets p.0 p.1; sets = rows_of sets p.0 p.1.count }) (placed cut)
+
+-- What is sent of sets with these values, in payloads of at most so many bytes: by text their queries; by execute a prepare and their executions;
+-- by bulk a prepare and the requests of the tight cut.
+abbrev pub AreSent : Road → Statement → ℕ → List (List Value) → List SentPayload → Type 0
+AreSent Text statement room sets sent = sent ≡ flat_map (as_text statement) sets
+AreSent Execute statement room sets sent = sent ≡ prepare_of statement ∷ flat_map (as_execution statement) sets
+AreSent Bulk statement room sets sent =
+    (cut : List Part) × IsTightTyped room (length statement.places) sets cut × (sent ≡ prepare_of statement ∷ as_requests statement sets cut)
+
+-- their payloads, and for each of them the sets that stand whole with it
+abbrev pub payloads_of : List SentPayload → List (List ℕ)
+payloads_of sent = map (λ s. s.payload) sent

@@ -1,0 +1,73 @@
+//! Laws of what is sent. Functions without a result do nothing: their contracts are the laws.
+
+ghost use Rattle.mysql_streams.specs.Laws.{RequestsHaveTheirSize, RoadsReadEqually, SentPayloadsRead, SentSetsAreDelivered, SentStreamsJoin};
+ghost use Rattle.mysql_streams.specs.declared.road.Road.TheVariants as roads;
+
+use mysql_bulk_builder::laws::{tight_typed_has_fewest, types_in_force_serve};
+use mysql_commands::laws::{
+    fronts_read_on, looking_back_goes_on, whole_streams_join, written_cells_are_held,
+};
+use mysql_values::laws::{cells_have_lengths, tokens_of_a_text};
+
+/// Text queries read as the sets whose values they carry.
+pub fn queries_read()
+    ensures { SentPayloadsRead roads.Text }
+{
+    looking_back_goes_on();
+    tokens_of_a_text();
+}
+
+/// A prepare and executions, with long data before those that need it, read as the sets whose values they carry.
+pub fn executions_read()
+    ensures { SentPayloadsRead roads.Execute }
+{
+    looking_back_goes_on();
+    written_cells_are_held();
+    tokens_of_a_text();
+}
+
+/// A bulk request takes as many bytes as are counted for its part.
+pub fn requests_have_their_size()
+    ensures { RequestsHaveTheirSize }
+{
+    cells_have_lengths();
+}
+
+/// A prepare and bulk requests read as the sets whose values they carry.
+pub fn requests_read()
+    ensures { SentPayloadsRead roads.Bulk }
+{
+    looking_back_goes_on();
+    tokens_of_a_text();
+    written_cells_are_held();
+    cells_have_lengths();
+    types_in_force_serve();
+}
+
+/// Sets that were sent are read back, each front of their stream reads as the sets that stand whole in it, and by bulk no
+/// requests could be fewer.
+pub fn sent_sets_are_delivered()
+    ensures { SentSetsAreDelivered }
+{
+    queries_read();
+    executions_read();
+    requests_read();
+    fronts_read_on();
+    tokens_of_a_text();
+    tight_typed_has_fewest();
+}
+
+/// Sets that are appended behind others, each by whichever road, read as all of them one after another.
+pub fn sent_streams_join()
+    ensures { SentStreamsJoin }
+{
+    tokens_of_a_text();
+    whole_streams_join();
+}
+
+/// The same sets read as the same contents, by whichever road they are sent.
+pub fn roads_read_equally()
+    ensures { RoadsReadEqually }
+{
+    tokens_of_a_text();
+}
