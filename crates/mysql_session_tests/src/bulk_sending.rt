@@ -1,7 +1,8 @@
 //! Sets that are sent by bulk requests, and values that are sent as long data.
 
-use crate::audits::{Query, Want, WantedSet, assert_read, assert_read_by_bytes};
+use crate::audits::{Want, WantedSet, assert_read};
 use crate::large::{LIMIT, LONG_DATA, PIECE_LEN, TWO_PLACES, long_data_stream};
+use crate::prefixes::{Standing, assert_prefixes};
 use crate::sending::{
     Cause, Given, RoundTrip, Sending, Set, assert_appended, assert_refusals, assert_round_trips,
     front, named, sent_at_last,
@@ -145,63 +146,6 @@ const BOTH_KINDS: [RoundTrip; 1] = [(
 #[test]
 fn both_kinds_by_execute(rt: HostRuntime) {
     assert_round_trips(&Asserting(&rt), rt.alloc(), &BOTH_KINDS);
-}
-
-/// After how many bytes a packet of a stream ends, and the sets that stand then.
-type Standing = (usize, &'static [WantedSet]);
-
-/// The sets that stand after so many bytes, and how a stream ends there.
-fn what_stands(standings: &[Standing], len: usize) -> (&'static [WantedSet], End) {
-    let mut found: (&'static [WantedSet], End) = (&[], End::UnfinishedPacket);
-    for (whole, sets) in standings {
-        if *whole == len {
-            return (*sets, End::Whole);
-        }
-        if *whole < len {
-            found = (*sets, End::UnfinishedPacket);
-        }
-    }
-    found
-}
-
-/// Asserts what the first bytes of a stream say, one by one.
-fn assert_prefix(
-    assert: &impl Assert,
-    alloc: Global,
-    query: Query<'_>,
-    stream: &[u8],
-    len: usize,
-    standings: &[Standing],
-) {
-    let (sets, end) = what_stands(standings, len);
-    match stream.get(..len) {
-        Some(prefix) => assert_read_by_bytes(assert, alloc, query, prefix, sets, end),
-        None => assert.holds(false),
-    }
-}
-
-/// Asserts what each prefix of the stream of these sets says.
-fn assert_prefixes(
-    assert: &impl Assert,
-    alloc: Global,
-    sending: Sending,
-    len: usize,
-    standings: &[Standing],
-) {
-    let mut out = Vec::new(alloc);
-    assert_appended(assert, alloc, sending, &mut out);
-    assert.holds(out.len() == len);
-    let (_, query, _, limit) = sending;
-    for front in 0..=len {
-        assert_prefix(
-            assert,
-            alloc,
-            (query, limit),
-            out.as_slice(),
-            front,
-            standings,
-        );
-    }
 }
 
 const BY_BULK: Sending = (Road::Bulk, QUERY, &[INT_1, INT_2], 30);

@@ -90,20 +90,23 @@ const ONE_BY_TEXT: Sending = (Road::Text, QUERY, &[Set::A(Given::Int(1))], 1000)
 
 const TWO_BY_EXECUTE: Sending = (Road::Execute, QUERY, &[Set::A(Given::Int(2))], 1000);
 
-/// A set by text, and one by execute behind it.
+const THREE_BY_BULK: Sending = (Road::Bulk, QUERY, &[Set::A(Given::Int(3))], 1000);
+
+/// A set by text, one by execute behind it, and one by bulk behind both.
 #[test]
-fn both_roads(rt: HostRuntime) {
+fn all_roads(rt: HostRuntime) {
     let assert = Asserting(&rt);
     let alloc = rt.alloc();
     let mut out = Vec::new(alloc);
     assert_appended(&assert, alloc, ONE_BY_TEXT, &mut out);
     assert_appended(&assert, alloc, TWO_BY_EXECUTE, &mut out);
+    assert_appended(&assert, alloc, THREE_BY_BULK, &mut out);
     assert_packets(
         &assert,
         alloc,
         QUERY,
         &[out.as_slice()],
-        &[ONE, &[Want::Number(2)]],
+        &[ONE, &[Want::Number(2)], &[Want::Number(3)]],
         End::Whole,
     );
 }

@@ -273,7 +273,49 @@ fn is_read_by_bytes(
     says(assert, &reader.finish(), wanted)
 }
 
-/// Asserts what the bytes of a reply say: in one piece, and byte by byte. They are read once more where memory was refused.
+fn is_read_in_two(
+    assert: &impl Assert,
+    alloc: Global,
+    (kind, capabilities, first_id): Start,
+    pieces: [&[u8]; 2],
+    wanted: Wanted<'_>,
+) -> bool {
+    let reply = read_reply(alloc, kind, capabilities, first_id, 1000, &pieces);
+    says(assert, &reply, wanted)
+}
+
+/// Asserts what the bytes of a reply say, cut in two. They are read once more where memory was refused.
+fn assert_reads_in_two(
+    assert: &impl Assert,
+    alloc: Global,
+    start: Start,
+    pieces: [&[u8]; 2],
+    wanted: Wanted<'_>,
+) {
+    let first = is_read_in_two(assert, alloc, start, pieces, wanted);
+    assert.holds(first || is_read_in_two(assert, alloc, start, pieces, wanted));
+}
+
+/// Asserts what the bytes of a reply say, cut in two at each place.
+fn assert_reads_cut(
+    assert: &impl Assert,
+    alloc: Global,
+    start: Start,
+    stream: &[u8],
+    wanted: Wanted<'_>,
+) {
+    for at in 0..=stream.len() {
+        match (stream.get(..at), stream.get(at..)) {
+            (Some(front), Some(back)) => {
+                assert_reads_in_two(assert, alloc, start, [front, back], wanted);
+            }
+            _ => assert.holds(false),
+        }
+    }
+}
+
+/// Asserts what the bytes of a reply say: in one piece, byte by byte, and where they are few cut in two at each place. They are
+/// read once more where memory was refused.
 pub fn assert_reads(
     assert: &impl Assert,
     alloc: Global,
@@ -285,6 +327,9 @@ pub fn assert_reads(
     assert.holds(first || is_read(assert, alloc, start, stream, wanted));
     let first = is_read_by_bytes(assert, alloc, start, stream, wanted);
     assert.holds(first || is_read_by_bytes(assert, alloc, start, stream, wanted));
+    if stream.len() < 100 {
+        assert_reads_cut(assert, alloc, start, stream, wanted);
+    }
 }
 
 /// Asserts what packets one after another say, as the bytes of a reply.

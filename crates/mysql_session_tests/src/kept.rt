@@ -1,9 +1,10 @@
 //! How many bytes a receiver holds of a packet that isn't whole.
 
+use crate::audits::assert_read;
 use crate::support::Asserting;
-use mysql_session::{Receiver, ReceiverError, StreamFault};
-use std::alloc::Global;
-use tests_support::Assert;
+use mysql_session::{End, Receiver, ReceiverError, StreamFault};
+use std::alloc::{AllocError, Global};
+use tests_support::{Assert, once_more};
 
 /// The text `SELECT 1` as a packet.
 const TEXT: &[u8] = b"\x09\0\0\0\x03SELECT 1";
@@ -47,14 +48,40 @@ fn fronts_of_a_packet(rt: HostRuntime) {
     }
 }
 
+const LARGE: usize = 20_000_000;
+
+/// The header of a full chunk.
+const HEADER: &[u8] = b"\xff\xff\xff\0";
+
 /// The header of a full chunk alone.
 #[test]
 fn a_header_of_a_full_chunk(rt: HostRuntime) {
-    assert_kept(
-        &Asserting(&rt),
+    let assert = Asserting(&rt);
+    let query = (b"SELECT :a".as_slice(), LARGE);
+    assert_kept(&assert, rt.alloc(), LARGE, HEADER, 0);
+    assert_read(
+        &assert,
         rt.alloc(),
-        20_000_000,
-        b"\xff\xff\xff\0",
-        0,
+        query,
+        HEADER,
+        &[],
+        End::UnfinishedPacket,
     );
+}
+
+/// The first chunk of a text query of 16777215 bytes, behind which an empty chunk is due.
+fn put_chunk(alloc: Global) -> Result<Vec<u8>, AllocError> {
+    let mut chunk = Vec::from_slice(alloc, b"\xff\xff\xff\0\x03SELECT '")?;
+    chunk.resize(16777218, b'x')?;
+    chunk.push(b'\'')?;
+    Ok(chunk)
+}
+
+/// All but the header is held, since the command isn't whole.
+#[test]
+fn a_full_chunk(rt: HostRuntime) {
+    let assert = Asserting(&rt);
+    let alloc = rt.alloc();
+    let chunk = once_more(&assert, put_chunk(alloc), put_chunk(alloc));
+    assert_kept(&assert, alloc, LARGE, chunk.as_slice(), 16777215);
 }

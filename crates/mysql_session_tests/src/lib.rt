@@ -22,15 +22,23 @@ mod kept;
 #[cfg(test)]
 mod large;
 #[cfg(test)]
+mod many;
+#[cfg(test)]
 mod objects;
+#[cfg(test)]
+mod prefixes;
 #[cfg(test)]
 mod prepared;
 #[cfg(test)]
 mod program;
 #[cfg(test)]
+mod rebuilt;
+#[cfg(test)]
 mod refusals;
 #[cfg(test)]
 mod replies;
+#[cfg(test)]
+mod reply_prefixes;
 #[cfg(test)]
 mod resets;
 #[cfg(test)]

@@ -183,7 +183,7 @@ const LIST_FOR_NAMES: Cause = Cause::Confusion(
 
 const LONG: Object = Object::TooLong;
 
-const REFUSED: [(Sending, Cause); 9] = [
+const REFUSED: [(Sending, Cause); 12] = [
     (
         (Road::Text, b"SELECT :a", &[&[Object::Int(1)]]),
         LIST_FOR_NAMES,
@@ -229,6 +229,27 @@ const REFUSED: [(Sending, Cause); 9] = [
         Cause::TooLong(0, 1),
     ),
     ((Road::Text, b":a ?", &[&[LONG]]), Cause::Mixed),
+    (
+        (
+            Road::Bulk,
+            b"SELECT ?",
+            &[&[Object::Int(1)], &[Object::UInt(2)]],
+        ),
+        Cause::MixedKinds(1, 0),
+    ),
+    (
+        (Road::Bulk, b"SELECT ?", &[&[Object::Int(1)], &[LONG]]),
+        Cause::TooLong(1, 0),
+    ),
+    // Before the kinds.
+    (
+        (
+            Road::Bulk,
+            b"SELECT ?",
+            &[&[Object::Int(1)], &[Object::UInt(2)], &[LONG]],
+        ),
+        Cause::TooLong(2, 0),
+    ),
 ];
 
 #[test]

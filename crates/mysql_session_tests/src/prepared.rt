@@ -22,7 +22,7 @@ const FIVE: &[u8] = b"\x0a\0\0\x03\0\0\x05\0\0\0\0\0\0\0";
 
 const NO_ROWS: Expected = Expected::NumberRows(1, &[], None);
 
-const BINARY: [Row; 5] = [
+const BINARY: [Row; 7] = [
     (
         &[ONE_COLUMN, FIVE, TERMINATOR],
         &[Expected::NumberRows(1, &[&[Some(5)]], AUTOCOMMIT)],
@@ -43,6 +43,17 @@ const BINARY: [Row; 5] = [
     // A byte behind the last cell.
     (
         &[ONE_COLUMN, b"\x03\0\0\x03\0\x04\0"],
+        &[NO_ROWS],
+        ReplyEnd::Fault(2, ReplyFault::BadRow),
+    ),
+    // A cell that is cut off, and a row without its bitmap.
+    (
+        &[ONE_COLUMN, b"\x03\0\0\x03\0\0\x05"],
+        &[NO_ROWS],
+        ReplyEnd::Fault(2, ReplyFault::BadRow),
+    ),
+    (
+        &[ONE_COLUMN, b"\x01\0\0\x03\0"],
         &[NO_ROWS],
         ReplyEnd::Fault(2, ReplyFault::BadRow),
     ),
@@ -75,7 +86,7 @@ const FIRST: &[u8] = b"\x16\0\0\x02\x03def\0\0\0\0\0\x0c\x3f\0\x01\0\0\0\x08\0\0
 
 const SECOND: &[u8] = b"\x16\0\0\x03\x03def\0\0\0\0\0\x0c\x3f\0\x01\0\0\0\x08\0\0\0\0\0";
 
-const PREPARED: [Row; 4] = [
+const PREPARED: [Row; 6] = [
     (&[BARE], &[Expected::Prepared(1, 0, 0)], ReplyEnd::Whole),
     (
         &[
@@ -99,6 +110,17 @@ const PREPARED: [Row; 4] = [
         &[b"\x01\0\0\x01\x01"],
         &[],
         ReplyEnd::Fault(0, ReplyFault::BadHeader),
+    ),
+    // A statement packet that is cut off.
+    (
+        &[b"\x02\0\0\x01\0\x01"],
+        &[],
+        ReplyEnd::Fault(0, ReplyFault::BadPrepare),
+    ),
+    (
+        &[b"\x17\0\0\x01\xff\x48\x04#HY000No tables used"],
+        &[Expected::Error(1096, Some(*b"HY000"), b"No tables used")],
+        ReplyEnd::Whole,
     ),
 ];
 

@@ -1,6 +1,6 @@
 //! Why sets are not sent.
 
-use crate::sending::{Cause, Given, Sending, Set, assert_refusals};
+use crate::sending::{Cause, Given, RoundTrip, Sending, Set, assert_refusals, assert_round_trips};
 use crate::support::Asserting;
 use mysql_session::Road;
 use mysql_values::ParamsConfusionError;
@@ -23,7 +23,9 @@ const LIST_FOR_NAMES: Cause = Cause::Confusion(
     ParamsConfusionError::PositionalParamsForNamedQuery,
 );
 
-const BY_TEXT: [(Sending, Cause); 12] = [
+const BY_TEXT: [(Sending, Cause); 13] = [
+    // No payload is so short.
+    ((Road::Text, QUERY, &[ONE], 4), Cause::PacketTooLarge(0)),
     ((Road::Text, QUERY, &[ONE], 12), Cause::PacketTooLarge(0)),
     (
         (Road::Text, QUERY, &[ONE, TEN], 12),
@@ -62,7 +64,21 @@ const BY_TEXT: [(Sending, Cause); 12] = [
     ),
 ];
 
-const BY_EXECUTE: [(Sending, Cause); 10] = [
+/// The value of the second place is a float.
+const FLOAT_BEHIND: Set = Set::Both(Given::Int(1), Given::Float(0));
+
+const TWO_PLACES: &[u8] = b"SELECT :a, :b";
+
+const BY_EXECUTE: [(Sending, Cause); 11] = [
+    (
+        (
+            Road::Execute,
+            TWO_PLACES,
+            &[Set::Both(Given::Int(1), Given::Int(2)), FLOAT_BEHIND],
+            1000,
+        ),
+        Cause::Float(1, 1),
+    ),
     ((Road::Execute, QUERY, &[], 4), Cause::PrepareTooLarge),
     (
         (Road::Execute, QUERY, &[ONE, TEN], 12),
@@ -104,4 +120,47 @@ fn by_text(rt: HostRuntime) {
 #[test]
 fn by_execute(rt: HostRuntime) {
     assert_refusals(&Asserting(&rt), rt.alloc(), &BY_EXECUTE);
+}
+
+const UNSIGNED: Set = Set::A(Given::UInt(2));
+
+const BY_BULK: [(Sending, Cause); 4] = [
+    ((Road::Bulk, QUERY, &[ONE], 4), Cause::PrepareTooLarge),
+    (
+        (
+            Road::Bulk,
+            TWO_PLACES,
+            &[Set::Both(Given::Int(1), Given::Int(2)), FLOAT_BEHIND],
+            1000,
+        ),
+        Cause::Float(1, 1),
+    ),
+    // The float before the kinds, though a later set has it.
+    (
+        (Road::Bulk, QUERY, &[ONE, UNSIGNED, FLOAT], 1000),
+        Cause::Float(2, 0),
+    ),
+    // The kinds before the room.
+    (
+        (
+            Road::Bulk,
+            QUERY,
+            &[ONE, UNSIGNED, Set::A(Given::Filled(100))],
+            31,
+        ),
+        Cause::MixedKinds(1, 0),
+    ),
+];
+
+#[test]
+fn by_bulk(rt: HostRuntime) {
+    assert_refusals(&Asserting(&rt), rt.alloc(), &BY_BULK);
+}
+
+/// Without sets no packet is too large.
+const NO_SETS: [RoundTrip; 1] = [((Road::Text, QUERY, &[], 4), b"", &[])];
+
+#[test]
+fn no_sets(rt: HostRuntime) {
+    assert_round_trips(&Asserting(&rt), rt.alloc(), &NO_SETS);
 }

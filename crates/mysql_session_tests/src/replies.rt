@@ -23,7 +23,7 @@ const MORE: &[u8] = b"\x07\0\0\x01\0\0\0\x0a\0\0\0";
 const PROGRESS: &[u8] =
     b"\x14\x00\x00\x01\xff\xff\xff\x01\x01\x0a\xcc\x5b\x00\x0astage name\x07\x00\x00\x02\x00\x01\x00\x02\x00\x00\x00";
 
-const REPLIES: [Row; 7] = [
+const REPLIES: [Row; 8] = [
     (&[&DONE], &[CHANGED_ONE], ReplyEnd::Whole),
     (
         &[b"\x07\0\0\x01\0\x01\0\x02\0\0"],
@@ -53,6 +53,11 @@ const REPLIES: [Row; 7] = [
         &[Expected::File(b"")],
         ReplyEnd::Whole,
     ),
+    (
+        &[b"\x0a\0\0\x01\xfbfile_name"],
+        &[Expected::File(b"file_name")],
+        ReplyEnd::Whole,
+    ),
     // Without the capability a progress report is an error packet.
     (&[PROGRESS], &[], ReplyEnd::Fault(0, ReplyFault::BadError)),
 ];
@@ -60,6 +65,28 @@ const REPLIES: [Row; 7] = [
 #[test]
 fn one_packet(rt: HostRuntime) {
     assert_replies(&Asserting(&rt), rt.alloc(), TEXT, &REPLIES);
+}
+
+/// Changes of the session's state behind an OK packet.
+const TRACKING: CapabilityFlags = CapabilityFlags(0x80_0200);
+
+const TRACKED: [Row; 2] = [
+    (
+        &[b"\x0c\0\0\x01\0\0\0\x02\x40\0\0\0\x03\x02\x011"],
+        &[Expected::Ok(0, StatusFlags(0x4002))],
+        ReplyEnd::Whole,
+    ),
+    // Changes that are cut off.
+    (
+        &[b"\x0c\0\0\x01\0\0\0\x02\x40\0\0\0\x04\x02\x02\x01"],
+        &[],
+        ReplyEnd::Fault(0, ReplyFault::BadOk),
+    ),
+];
+
+#[test]
+fn with_session_states(rt: HostRuntime) {
+    assert_replies(&Asserting(&rt), rt.alloc(), TRACKING, &TRACKED);
 }
 
 /// An error without a state.

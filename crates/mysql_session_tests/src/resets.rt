@@ -21,7 +21,9 @@ const ONE: WantedSet = &[Want::Number(1)];
 
 const TWO: WantedSet = &[Want::Number(2)];
 
-const STREAMS: [Stream; 13] = [
+const WRONG_ID: End = End::Fault(1, StreamFault::WrongId);
+
+const STREAMS: [Stream; 23] = [
     // A reset drops the pieces that wait.
     (&[PREPARE, LONG_DATA, RESET, EXECUTE_1], &[ONE], End::Whole),
     // Without it the piece holds the place, and the cell is left over.
@@ -60,22 +62,41 @@ const STREAMS: [Stream; 13] = [
         &[],
         End::Fault(2, StreamFault::NotPrepared),
     ),
-    // Another statement's id, and a byte behind the id.
+    (&[CLOSE], &[], End::Fault(0, StreamFault::NotPrepared)),
+    (&[PREPARE, RESET, RESET], &[], End::Whole),
     (
-        &[PREPARE, b"\x05\0\0\0\x1a\x02\0\0\0"],
+        &[PREPARE, CLOSE, LONG_DATA],
         &[],
-        End::Fault(1, StreamFault::WrongId),
+        End::Fault(2, StreamFault::NotPrepared),
     ),
     (
-        &[PREPARE, b"\x06\0\0\0\x1a\x01\0\0\0\0"],
+        &[
+            PREPARE,
+            CLOSE,
+            b"\x12\0\0\0\xfa\x01\0\0\0\x80\0\x08\0\0\x01\0\0\0\0\0\0\0",
+        ],
         &[],
-        End::Fault(1, StreamFault::WrongId),
+        End::Fault(2, StreamFault::NotPrepared),
     ),
     (
-        &[PREPARE, b"\x04\0\0\0\x19\x01\0\0"],
+        &[PREPARE, CLOSE, RESET],
         &[],
-        End::Fault(1, StreamFault::WrongId),
+        End::Fault(2, StreamFault::NotPrepared),
     ),
+    // A close drops the pieces too.
+    (
+        &[PREPARE, LONG_DATA, CLOSE, PREPARE, EXECUTE_1],
+        &[ONE],
+        End::Whole,
+    ),
+    // Another statement's id, a byte behind the id, and an id that is cut off.
+    (&[PREPARE, b"\x05\0\0\0\x19\x02\0\0\0"], &[], WRONG_ID),
+    (&[PREPARE, b"\x06\0\0\0\x19\x01\0\0\0\0"], &[], WRONG_ID),
+    (&[PREPARE, b"\x04\0\0\0\x1a\x01\0\0"], &[], WRONG_ID),
+    (&[PREPARE, b"\x01\0\0\0\x1a"], &[], WRONG_ID),
+    (&[PREPARE, b"\x05\0\0\0\x1a\x02\0\0\0"], &[], WRONG_ID),
+    (&[PREPARE, b"\x06\0\0\0\x1a\x01\0\0\0\0"], &[], WRONG_ID),
+    (&[PREPARE, b"\x04\0\0\0\x19\x01\0\0"], &[], WRONG_ID),
 ];
 
 #[test]

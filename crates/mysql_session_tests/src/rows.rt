@@ -25,11 +25,14 @@ const TWO_COLUMNS: &[u8] =
 /// The EOF packet behind one column.
 const END_OF_COLUMNS: &[u8] = b"\x05\0\0\x03\xfe\0\0\x02\0";
 
+/// Autocommit, and another result follows.
+const MORE: Option<StatusFlags> = Some(StatusFlags(0x0a));
+
 const NO_ROWS: Expected = Expected::Rows(1, &[], None);
 
 const NO_ROWS_OF_TWO: Expected = Expected::Rows(2, &[], None);
 
-const WITHOUT_EOF_PACKETS: [Row; 8] = [
+const WITHOUT_EOF_PACKETS: [Row; 11] = [
     (&[ONE_COLUMN], &[NO_ROWS], ReplyEnd::Unfinished),
     (
         &[
@@ -59,6 +62,35 @@ const WITHOUT_EOF_PACKETS: [Row; 8] = [
         ],
         &[Expected::Rows(2, &[&[Some(b"5"), None]], AUTOCOMMIT)],
         ReplyEnd::Whole,
+    ),
+    // The end says that another result follows.
+    (
+        &[
+            ONE_COLUMN,
+            b"\x02\0\0\x03\x015",
+            b"\x07\0\0\x04\xfe\0\0\x0a\0\0\0",
+        ],
+        &[Expected::Rows(1, &[&[Some(b"5")]], MORE)],
+        ReplyEnd::Unfinished,
+    ),
+    (
+        &[
+            ONE_COLUMN,
+            b"\x02\0\0\x03\x015",
+            b"\x07\0\0\x04\xfe\0\0\x0a\0\0\0",
+            b"\x07\0\0\x05\0\x01\0\x02\0\0\0",
+        ],
+        &[
+            Expected::Rows(1, &[&[Some(b"5")]], MORE),
+            Expected::Ok(1, StatusFlags(2)),
+        ],
+        ReplyEnd::Whole,
+    ),
+    // A cell too few.
+    (
+        &[TWO_COLUMNS, b"\x02\0\0\x04\x015"],
+        &[NO_ROWS_OF_TWO],
+        ReplyEnd::Fault(3, ReplyFault::BadRow),
     ),
     // No cell begins with ff.
     (
@@ -92,7 +124,13 @@ fn without_eof_packets(rt: HostRuntime) {
     );
 }
 
-const WITH_EOF_PACKETS: [Row; 6] = [
+const WITH_EOF_PACKETS: [Row; 7] = [
+    // No EOF packet behind the column.
+    (
+        &[ONE_COLUMN, b"\x01\0\0\x03\0"],
+        &[],
+        ReplyEnd::Fault(2, ReplyFault::BadTerminator),
+    ),
     // A row that begins with fe, since it is too long for an EOF packet.
     (
         &[
