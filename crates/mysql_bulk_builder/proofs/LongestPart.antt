@@ -1,11 +1,12 @@
 -- The longest part from a start.
-use Rattle.std.proofs.Common.{◌≡◌, ℕ, zero, suc, ◌+◌, ◌-◌, ◌*◌, ◌<◌, ◌≤◌, ◌⊎◌, inl, inr, Bool, true, false, List, [], ◌∷◌, ◌++◌, length, take, drop, get_or, sym, ◌∙◌, ap, subst, arith, length-take, length-drop, Vec, Bor}
+use Rattle.std.proofs.Common.{◌≡◌, ℕ, zero, suc, ◌+◌, ◌-◌, ◌*◌, ◌<◌, ◌≤◌, inl, inr, Bool, true, false, List, [], ◌∷◌, ◌++◌, length, take, drop, get_or, sym, ◌∙◌, ap, subst, arith, length-take, length-drop, Vec, Bor}
 use Rattle.std.specs.Prelude.{sum_by, count_by, cond, ◌||◌}
 use Rattle.std.specs.List.{AllByRecursion}
 use Rattle.std.specs.declared.alloc.Global.{Global}
 use Rattle.std.proofs.lemmas.Bool.{cases_Bool, cond-true, cond-false, false≢true, or_cases, or_left, or_right}
 use Rattle.std.proofs.lemmas.List.{get_or-take, length-map, drop_more, map-append, drop-map}
 use Rattle.std.proofs.lemmas.List.Sums.{sum_by-cons, sum_by_more, sum_by_push, get_or-le-sum_by}
+use Rattle.std.proofs.lemmas.Bool.{cases_lt}
 use Rattle.mysql_cells.specs.declared.value.Value.{Value}
 use Rattle.mysql_bulk_builder.specs.declared.search.BulkPart.{BulkPart}
 use Rattle.mysql_bulk_builder.specs.Cut.{Row, row_size, rows_of, rows_size}
@@ -152,25 +153,22 @@ module _ (room columns : ℕ) (rows rest : List (Vec (Bor Value) Global)) (start
       } in
       (l, omega (arith, within, lengths), some_typed room columns (rows_in rows) start t (omega (arith, lt, lengths)) each l)
 
-  pub longest_untyped : (seen : List Bool) (w k u : ℕ) → 0 < start → AreSeen columns (rows_in rows) start seen →
+  pub longest_untyped : (seen : List Bool) (w u : ℕ) → 0 < start → AreSeen columns (rows_in rows) start seen →
       sum_by row_size (take w (rows_in rest)) ≤ room - 7 → (w < length rest → room - 7 < sum_by row_size (take (w + 1) (rows_in rest))) →
-      ((j : ℕ) → j < k → IsKnown seen (get_or (rows_in rest) j [])) → (k < length rest → IsUnknown seen (get_or (rows_in rest) k [])) →
-      u ≤ w → u ≤ k → (u ≡ w) ⊎ (u ≡ k) → IsLongestUntyped room columns (rows_in rows) start u
-  longest_untyped seen w k u later s fits_w ends_w known ends_k le_w le_k which = record {
+      ((j : ℕ) → j < u → IsKnown seen (get_or (rows_in rest) j [])) → (u < w → IsUnknown seen (get_or (rows_in rest) u [])) →
+      u ≤ w → IsLongestUntyped room columns (rows_in rows) start u
+  longest_untyped seen w u later s fits_w ends_w known unknown le_w = record {
     fits = (
       later,
       (let less : rows_size (rows_in rows) start u ≤ rows_size (rows_in rows) start w = sum_within row_size (rows_in rows) start w start u (omega arith) (omega (arith, le_w)) in
           omega (arith, less, fits_w, sizes w, room_is)),
-      known_fits room columns (rows_in rows) start seen u s (λ j below. subst (λ (r : List Row). IsKnown seen (get_or r j [])) rest_view (known j (omega (arith, below, le_k)))),
+      known_fits room columns (rows_in rows) start seen u s (λ j below. subst (λ (r : List Row). IsKnown seen (get_or r j [])) rest_view (known j below)),
     );
-    ends = λ more fits. elim which [
-      | inl e ↦
-          let grows : rows_size (rows_in rows) start (w + 1) ≤ rows_size (rows_in rows) start (u + 1) = sum_within row_size (rows_in rows) start (u + 1) start (w + 1) (omega arith) (omega (arith, e)) in
-          omega (arith, fits.1, grows, ends_w (omega (arith, more, e, lengths)), sizes (w + 1), room_is)
-      | inr e ↦
-          let unknown : IsUnknown seen (get_or (drop start (rows_in rows)) u []) =
-          subst (λ n. IsUnknown seen (get_or (drop start (rows_in rows)) n [])) (sym e) (subst (λ (r : List Row). IsUnknown seen (get_or r k [])) rest_view (ends_k (omega (arith, more, e, lengths)))) in
-          unknown_ends room columns (rows_in rows) start seen u s more unknown fits.2
+    ends = λ more fits. elim (cases_lt u w) [
+      | inl few ↦ unknown_ends room columns (rows_in rows) start seen u s more (subst (λ (r : List Row). IsUnknown seen (get_or r u [])) rest_view (unknown few)) fits.2
+      | inr all ↦
+          let grows : rows_size (rows_in rows) start (w + 1) ≤ rows_size (rows_in rows) start (u + 1) = sum_within row_size (rows_in rows) start (u + 1) start (w + 1) (omega arith) (omega (arith, all)) in
+          omega (arith, fits.1, grows, ends_w (omega (arith, more, all, lengths)), sizes (w + 1), room_is)
     ];
   }
 

@@ -78,19 +78,20 @@ fn is_known(row: &[&Value], seen: &[bool]) -> bool
     true
 }
 
-/// How many of the first rows have values in columns that were seen alone.
-fn longest_known(rows: &[Vec<&Value>], seen: &[bool]) -> usize
-    requires { All (λ row. vec_len row ≡ length seen.now) rows.now }
-    ensures within { result ≤ length rows.now }
+/// How many of the first rows, at most `most`, have values in columns that were seen alone.
+fn longest_known(rows: &[Vec<&Value>], seen: &[bool], most: usize) -> usize
+    requires arity { All (λ row. vec_len row ≡ length seen.now) rows.now }
+    requires most { most ≤ length rows.now }
+    ensures within { result ≤ most }
     ensures known { (k : ℕ) → k < result → IsKnown seen.now (slice_index_or (rows_in rows.now) k []) }
-    ensures longest { result < length rows.now → IsUnknown seen.now (slice_index_or (rows_in rows.now) result []) }
+    ensures longest { result < most → IsUnknown seen.now (slice_index_or (rows_in rows.now) result []) }
 {
-    for (i, row) in rows.iter().enumerate() {
-        if !is_known(row, seen) {
+    for i in 0..most {
+        if !is_known(&rows[i], seen) {
             return i;
         }
     }
-    rows.len()
+    most
 }
 
 /// Marks the columns in which the row has a value.
@@ -138,8 +139,7 @@ fn next_part(
     let typed = longest_within(rest, room - 7 - 2 * columns);
     if start > 0 {
         let within = longest_within(rest, room - 7);
-        let known = longest_known(rest, seen);
-        let untyped = if within < known { within } else { known };
+        let untyped = longest_known(rest, seen, within);
         if typed <= untyped {
             return BulkPart {
                 typed: false,
