@@ -1,9 +1,12 @@
 //! Rows filled into bulk requests.
 
+use crate::given::{
+    Cells, Given, NULL, ONE, SHORT, THREE, TWO, TWO_VALUES, TYPED_1, TYPED_1_2, row, rows,
+};
 use crate::support::Asserting;
 use mysql_bulk_builder::{
-    BulkExecuteRequestBuilderError, BulkExecuteRequestError, ComStmtBulkExecuteRequest,
-    ComStmtBulkExecuteRequestBuilder,
+    BulkExecuteRequestBuilderError, BulkExecuteRequestError, BulkRequests,
+    ComStmtBulkExecuteRequest, ComStmtBulkExecuteRequestBuilder,
 };
 use mysql_cells::Value;
 use mysql_raw::MySerialize;
@@ -11,48 +14,6 @@ use mysql_values::{ByteString, MissingNamedParameterError, Params, ParamsError};
 use std::alloc::{AllocError, Global};
 use std::collections::HashMap;
 use tests_support::{Assert, assert_bytes, assert_equal, assert_written, once_more};
-
-/// A value of a row.
-#[derive(Clone, Copy)]
-enum Given {
-    Null,
-    Int(i64),
-    /// So many bytes `x`.
-    Filled(usize),
-}
-
-/// The values of a row.
-type Cells = &'static [Given];
-
-fn filled(alloc: Global, len: usize) -> Result<ByteString, AllocError> {
-    let mut bytes = Vec::new(alloc);
-    bytes.resize(len, b'x')?;
-    Ok(ByteString::from_vec(bytes))
-}
-
-fn value(alloc: Global, given: Given) -> Result<Value, AllocError> {
-    match given {
-        Given::Null => Ok(Value::NULL),
-        Given::Int(number) => Ok(Value::Int(number)),
-        Given::Filled(len) => Ok(Value::Bytes(filled(alloc, len)?)),
-    }
-}
-
-fn row(alloc: Global, cells: Cells) -> Result<Vec<Value>, AllocError> {
-    let mut values = Vec::new(alloc);
-    for given in cells {
-        values.push(value(alloc, *given)?)?;
-    }
-    Ok(values)
-}
-
-fn rows(alloc: Global, all: &[Cells]) -> Result<Vec<Vec<Value>>, AllocError> {
-    let mut rows = Vec::new(alloc);
-    for cells in all {
-        rows.push(row(alloc, *cells)?)?;
-    }
-    Ok(rows)
-}
 
 /// What a builder answers about a row.
 type Answer = Result<Option<Vec<Value>>, BulkExecuteRequestBuilderError>;
@@ -135,18 +96,6 @@ fn assert_builds(
     assert.holds(!builder.has_rows());
 }
 
-const ONE: Cells = &[Given::Int(1)];
-
-const TWO: Cells = &[Given::Int(2)];
-
-const THREE: Cells = &[Given::Int(3)];
-
-const TWO_VALUES: Cells = &[Given::Int(2), Given::Int(3)];
-
-const TYPED_1_2: &[u8] = b"\xfa\x01\0\0\0\x80\0\x08\0\0\x01\0\0\0\0\0\0\0\0\x02\0\0\0\0\0\0\0";
-
-const TYPED_1: &[u8] = b"\xfa\x01\0\0\0\x80\0\x08\0\0\x01\0\0\0\0\0\0\0";
-
 const UNTYPED_2: &[u8] = b"\xfa\x01\0\0\0\0\0\0\x02\0\0\0\0\0\0\0";
 
 #[test]
@@ -194,8 +143,6 @@ fn rows_that_do_not_fit(rt: HostRuntime) {
     assert_adds(&assert, alloc, &mut builder, TWO, Wanted::Taken);
     assert_builds(&assert, alloc, &mut builder, TYPED_1_2);
 }
-
-const SHORT: Cells = &[Given::Filled(1)];
 
 const TYPED_SHORT: &[u8] = b"\xfa\x01\0\0\0\x80\0\xfd\0\0\x01x";
 
@@ -316,79 +263,70 @@ fn sets_by_name(rt: HostRuntime) {
     assert_takes_sets(&assert, alloc, &mut builder);
 }
 
-/// The bytes of the requests of three rows at the limit 29, one after another.
-fn iterated(alloc: Global) -> Result<Vec<u8>, BulkExecuteRequestBuilderError> {
-    let mut builder = ComStmtBulkExecuteRequestBuilder::new(alloc, 1, 29);
+/// The bytes of requests, one after another.
+fn bytes_of(
+    alloc: Global,
+    requests: BulkRequests<'_, '_>,
+) -> Result<Vec<u8>, BulkExecuteRequestBuilderError> {
     let mut bytes = Vec::new(alloc);
-    let rows = rows(alloc, &[ONE, TWO, THREE])?;
-    for request in builder.build_iter(rows) {
+    for request in requests {
         request?.serialize(&mut bytes)?;
     }
     Ok(bytes)
 }
+
+/// The bytes of the requests of three rows at the limit 29.
+fn iterated(alloc: Global) -> Result<Vec<u8>, BulkExecuteRequestBuilderError> {
+    let mut builder = ComStmtBulkExecuteRequestBuilder::new(alloc, 1, 29);
+    let rows = rows(alloc, &[ONE, TWO, THREE])?;
+    bytes_of(alloc, builder.build_iter(rows))
+}
+
+/// Sets that give a name a number each.
+fn sets(alloc: Global, all: &[(&[u8], i64)]) -> Result<Vec<Params>, AllocError> {
+    let mut sets = Vec::new(alloc);
+    for (name, number) in all {
+        sets.push(named(alloc, *name, *number)?)?;
+    }
+    Ok(sets)
+}
+
+/// The bytes of the requests of three sets at the limit 29.
+fn iterated_sets(alloc: Global) -> Result<Vec<u8>, BulkExecuteRequestBuilderError> {
+    let names = [Vec::from_slice(alloc, b"a")?];
+    let builder = ComStmtBulkExecuteRequestBuilder::new(alloc, 1, 29);
+    let mut builder = builder.with_named_params(Some(&names));
+    let sets = sets(alloc, &[(b"a", 1), (b"a", 2), (b"a", 3)])?;
+    bytes_of(alloc, builder.build_params_iter(sets))
+}
+
+const REQUESTS_OF_1_2_3: &[u8] =
+    b"\xfa\x01\0\0\0\x80\0\x08\0\0\x01\0\0\0\0\0\0\0\xfa\x01\0\0\0\0\0\0\x02\0\0\0\0\0\0\0\0\x03\0\0\0\0\0\0\0";
 
 /// Two rows fit a request without types alone.
 #[test]
 fn requests_of_three_rows(rt: HostRuntime) {
     let assert = Asserting(&rt);
     let found = once_more(&assert, iterated(rt.alloc()), iterated(rt.alloc()));
-    assert_bytes(
-        &assert,
-        found.as_slice(),
-        b"\xfa\x01\0\0\0\x80\0\x08\0\0\x01\0\0\0\0\0\0\0\xfa\x01\0\0\0\0\0\0\x02\0\0\0\0\0\0\0\0\x03\0\0\0\0\0\0\0",
-    );
+    assert_bytes(&assert, found.as_slice(), REQUESTS_OF_1_2_3);
 }
 
-fn two_sets(alloc: Global) -> Result<Vec<Params>, AllocError> {
-    let mut sets = Vec::new(alloc);
-    sets.push(named(alloc, b"a", 1)?)?;
-    sets.push(named(alloc, b"a", 2)?)?;
-    Ok(sets)
-}
-
-/// The bytes of the requests of two sets at the limit 30, one after another.
-fn iterated_sets(
-    alloc: Global,
-    names: &[Vec<u8>],
-) -> Result<Vec<u8>, BulkExecuteRequestBuilderError> {
-    let builder = ComStmtBulkExecuteRequestBuilder::new(alloc, 1, 30);
-    let mut builder = builder.with_named_params(Some(names));
-    let mut bytes = Vec::new(alloc);
-    let sets = two_sets(alloc)?;
-    for request in builder.build_params_iter(sets) {
-        request?.serialize(&mut bytes)?;
-    }
-    Ok(bytes)
-}
-
+/// The sets of the same rows give the same requests.
 #[test]
-fn requests_of_two_sets(rt: HostRuntime) {
+fn requests_of_three_sets(rt: HostRuntime) {
     let assert = Asserting(&rt);
-    let alloc = rt.alloc();
-    let name = once_more(
-        &assert,
-        Vec::from_slice(alloc, b"a"),
-        Vec::from_slice(alloc, b"a"),
-    );
-    let names = [name];
     let found = once_more(
         &assert,
-        iterated_sets(alloc, &names),
-        iterated_sets(alloc, &names),
+        iterated_sets(rt.alloc()),
+        iterated_sets(rt.alloc()),
     );
-    assert_bytes(
-        &assert,
-        found.as_slice(),
-        b"\xfa\x01\0\0\0\x80\0\x08\0\0\x01\0\0\0\0\0\0\0\xfa\x01\0\0\0\0\0\0\x02\0\0\0\0\0\0\0",
-    );
+    assert_bytes(&assert, found.as_slice(), REQUESTS_OF_1_2_3);
 }
 
-/// The error that is the first item of the requests of these rows, and whether it is the last item; None where the first is none.
+/// The error that is the first of these requests, and whether it is the last item; None where the first is none.
 fn first_error(
-    builder: &mut ComStmtBulkExecuteRequestBuilder<'_>,
-    rows: Vec<Vec<Value>>,
+    mut requests: BulkRequests<'_, '_>,
 ) -> (Option<BulkExecuteRequestBuilderError>, bool) {
-    let mut requests = builder.build_iter(rows);
     let error = match requests.next() {
         Some(answer) => answer.err(),
         None => None,
@@ -401,7 +339,7 @@ fn is_ended_by_an_error(assert: &impl Assert, alloc: Global) -> bool {
     let mut builder = ComStmtBulkExecuteRequestBuilder::new(alloc, 1, 31);
     let all = [ONE, TWO, TWO_VALUES];
     let rows = once_more(assert, rows(alloc, &all), rows(alloc, &all));
-    let (error, is_last) = first_error(&mut builder, rows);
+    let (error, is_last) = first_error(builder.build_iter(rows));
     assert.holds(is_last);
     if matches!(error, Some(BulkExecuteRequestBuilderError::Memory)) {
         return false;
@@ -417,4 +355,76 @@ fn an_error_is_the_last_item(rt: HostRuntime) {
     let assert = Asserting(&rt);
     let first = is_ended_by_an_error(&assert, rt.alloc());
     assert.holds(first || is_ended_by_an_error(&assert, rt.alloc()));
+}
+
+const WITHOUT_THE_NAME: [(&[u8], i64); 3] = [(b"a", 1), (b"b", 7), (b"a", 3)];
+
+/// Asserts that a set without the name is the last item, and that the row before it stays: whether memory sufficed.
+fn is_ended_by_a_set(assert: &impl Assert, alloc: Global, names: &[Vec<u8>]) -> bool {
+    let builder = ComStmtBulkExecuteRequestBuilder::new(alloc, 1, 31);
+    let mut builder = builder.with_named_params(Some(names));
+    let sets = once_more(
+        assert,
+        sets(alloc, &WITHOUT_THE_NAME),
+        sets(alloc, &WITHOUT_THE_NAME),
+    );
+    let (error, is_last) = first_error(builder.build_params_iter(sets));
+    assert.holds(is_last);
+    if matches!(error, Some(BulkExecuteRequestBuilderError::Memory)) {
+        return false;
+    }
+    let wanted = once_more(assert, missing(alloc, b"a"), missing(alloc, b"a"));
+    assert_equal(assert, error, wanted.err());
+    assert_builds(assert, alloc, &mut builder, TYPED_1);
+    true
+}
+
+#[test]
+fn a_set_without_the_name_is_the_last_item(rt: HostRuntime) {
+    let assert = Asserting(&rt);
+    let alloc = rt.alloc();
+    let name = once_more(
+        &assert,
+        Vec::from_slice(alloc, b"a"),
+        Vec::from_slice(alloc, b"a"),
+    );
+    let names = [name];
+    let first = is_ended_by_a_set(&assert, alloc, &names);
+    assert.holds(first || is_ended_by_a_set(&assert, alloc, &names));
+}
+
+/// A row of another length is refused as such, also where it is too large: behind a row that is held, and behind its request.
+#[test]
+fn another_length_comes_before_too_large(rt: HostRuntime) {
+    let assert = Asserting(&rt);
+    let alloc = rt.alloc();
+    let mut builder = ComStmtBulkExecuteRequestBuilder::new(alloc, 1, 31);
+    assert_adds(&assert, alloc, &mut builder, ONE, Wanted::Taken);
+    assert_adds(
+        &assert,
+        alloc,
+        &mut builder,
+        LONG_AND_NULL,
+        Wanted::MixedArity,
+    );
+    assert_builds(&assert, alloc, &mut builder, TYPED_1);
+    assert_adds(
+        &assert,
+        alloc,
+        &mut builder,
+        LONG_AND_NULL,
+        Wanted::MixedArity,
+    );
+}
+
+/// No row fits a limit that the head of a request exceeds.
+#[test]
+fn no_row_fits_four_bytes(rt: HostRuntime) {
+    let assert = Asserting(&rt);
+    let alloc = rt.alloc();
+    let mut builder = ComStmtBulkExecuteRequestBuilder::new(alloc, 1, 4);
+    assert_adds(&assert, alloc, &mut builder, NULL, Wanted::TooLarge);
+    assert.holds(!builder.has_rows());
+    assert_adds(&assert, alloc, &mut builder, &[], Wanted::TooLarge);
+    assert.holds(!builder.has_rows());
 }

@@ -1,57 +1,269 @@
 //! Bulk requests.
 
+use crate::given::{Cells, Given, NULL, ONE, SHORT, TWO, TWO_VALUES, TYPED_1_2, row, rows};
 use crate::support::Asserting;
 use mysql_buf::ParseBuf;
 use mysql_bulk::{
-    BulkExecuteRequestError, ComStmtBulkExecuteRequest, StmtBulkExecuteParamValue, read_bulk_row,
+    BulkExecuteRequestError, ComStmtBulkExecuteRequest, StmtBulkExecuteParamType,
+    StmtBulkExecuteParamValue, StmtBulkExecuteParamValues, read_bulk_row,
 };
 use mysql_cells::Value;
-use mysql_const::{ColumnFlags, ColumnType, MariadbBulkIndicator, StmtBulkExecuteFlags};
-use mysql_raw::WireError;
+use mysql_const::{
+    ColumnFlags, ColumnType, MariadbBulkIndicator, StmtBulkExecuteFlags, StmtExecuteParamFlags,
+};
+use mysql_raw::{ParseExt, WireError};
 use std::alloc::{AllocError, Global};
-use tests_support::{Assert, assert_equal, assert_written, once_more, whole};
+use tests_support::{
+    Assert, assert_bytes, assert_copied, assert_equal, assert_made, assert_reads_back,
+    assert_refused, assert_written, once_more, whole,
+};
 
 const TYPED: StmtBulkExecuteFlags = StmtBulkExecuteFlags::SEND_TYPES_TO_SERVER;
 
-/// Rows of one number each.
-fn rows_of(alloc: Global, numbers: &[i64]) -> Result<Vec<Vec<Value>>, AllocError> {
-    let mut rows = Vec::new(alloc);
-    for number in numbers {
-        let mut row = Vec::new(alloc);
-        row.push(Value::Int(*number))?;
-        rows.push(row)?;
-    }
-    Ok(rows)
-}
+const UNTYPED: StmtBulkExecuteFlags = StmtBulkExecuteFlags(0);
 
-fn request(
-    alloc: Global,
-    numbers: &[i64],
-) -> Result<ComStmtBulkExecuteRequest, BulkExecuteRequestError> {
-    let rows = rows_of(alloc, numbers)?;
+/// A request, or why there is none.
+type Answer = Result<ComStmtBulkExecuteRequest, BulkExecuteRequestError>;
+
+/// A request by the types of its values.
+fn request(alloc: Global, all: &[Cells]) -> Answer {
+    let rows = rows(alloc, all)?;
     ComStmtBulkExecuteRequest::new(alloc, 1, TYPED, rows)
 }
 
+const OF_UNSIGNED: Cells = &[Given::UInt(2)];
+
+/// Rows, and the bytes of their request: its column has the type of the first value that isn't NULL, without a sign where any
+/// number of that type has none.
+const BY_VALUES: [(&[Cells], &[u8]); 6] = [
+    (&[ONE, TWO], TYPED_1_2),
+    (
+        &[NULL, ONE],
+        b"\xfa\x01\0\0\0\x80\0\x08\0\x01\0\x01\0\0\0\0\0\0\0",
+    ),
+    (&[NULL, NULL], b"\xfa\x01\0\0\0\x80\0\x06\0\x01\x01"),
+    (
+        &[ONE, OF_UNSIGNED],
+        b"\xfa\x01\0\0\0\x80\0\x08\x80\0\x01\0\0\0\0\0\0\0\0\x02\0\0\0\0\0\0\0",
+    ),
+    (
+        &[OF_UNSIGNED, ONE],
+        b"\xfa\x01\0\0\0\x80\0\x08\x80\0\x02\0\0\0\0\0\0\0\0\x01\0\0\0\0\0\0\0",
+    ),
+    (
+        &[ONE, SHORT],
+        b"\xfa\x01\0\0\0\x80\0\x08\0\0\x01\0\0\0\0\0\0\0\0\x01x",
+    ),
+];
+
 #[test]
-fn two_rows(rt: HostRuntime) {
+fn types_of_values(rt: HostRuntime) {
+    let alloc = rt.alloc();
+    for (all, bytes) in &BY_VALUES {
+        assert_made(
+            &Asserting(&rt),
+            alloc,
+            request(alloc, *all),
+            request(alloc, *all),
+            *bytes,
+        );
+    }
+}
+
+/// Types without flags.
+fn types_of(
+    alloc: Global,
+    kinds: &[ColumnType],
+) -> Result<Vec<StmtBulkExecuteParamType>, AllocError> {
+    let mut types = Vec::new(alloc);
+    for kind in kinds {
+        types.push(StmtBulkExecuteParamType::new(*kind, StmtExecuteParamFlags(0)))?;
+    }
+    Ok(types)
+}
+
+/// What a request is asked for by: its flags, the types that are given, and the rows.
+type Asked = (
+    StmtBulkExecuteFlags,
+    &'static [ColumnType],
+    &'static [Cells],
+);
+
+/// A request by types that are given.
+fn request_by_types(alloc: Global, asked: Asked) -> Answer {
+    let types = types_of(alloc, asked.1)?;
+    let rows = rows(alloc, asked.2)?;
+    ComStmtBulkExecuteRequest::with_types(alloc, 1, asked.0, types, rows)
+}
+
+const ONE_LONGLONG: &[ColumnType] = &[ColumnType::MYSQL_TYPE_LONGLONG];
+
+const TWO_LONGLONGS: &[ColumnType] = &[
+    ColumnType::MYSQL_TYPE_LONGLONG,
+    ColumnType::MYSQL_TYPE_LONGLONG,
+];
+
+const ONE_STRING: &[ColumnType] = &[ColumnType::MYSQL_TYPE_VAR_STRING];
+
+/// Requests by types that are given, and their bytes. The type is sent as it is, also where no value has it.
+const BY_TYPES: [(Asked, &[u8]); 2] = [
+    ((TYPED, ONE_LONGLONG, &[ONE, TWO]), TYPED_1_2),
+    (
+        (TYPED, ONE_STRING, &[ONE]),
+        b"\xfa\x01\0\0\0\x80\0\xfd\0\0\x01\0\0\0\0\0\0\0",
+    ),
+];
+
+#[test]
+fn types_that_are_given(rt: HostRuntime) {
+    let alloc = rt.alloc();
+    for (asked, bytes) in &BY_TYPES {
+        assert_made(
+            &Asserting(&rt),
+            alloc,
+            request_by_types(alloc, *asked),
+            request_by_types(alloc, *asked),
+            *bytes,
+        );
+    }
+}
+
+/// Where types aren't sent those that are given are ignored, as many as there are.
+#[test]
+fn types_that_are_not_sent(rt: HostRuntime) {
     let assert = Asserting(&rt);
     let alloc = rt.alloc();
-    let made = once_more(&assert, request(alloc, &[1, 2]), request(alloc, &[1, 2]));
+    let asked: Asked = (UNTYPED, TWO_LONGLONGS, &[ONE]);
+    let made = once_more(
+        &assert,
+        request_by_types(alloc, asked),
+        request_by_types(alloc, asked),
+    );
+    assert.holds(made.types().is_empty());
     assert_written(
         &assert,
         alloc,
         &made,
-        b"\xfa\x01\0\0\0\x80\0\x08\0\0\x01\0\0\0\0\0\0\0\0\x02\0\0\0\0\0\0\0",
+        b"\xfa\x01\0\0\0\0\0\0\x01\0\0\0\0\0\0\0",
     );
+}
+
+/// Why a request, or the same asked for once more, is refused.
+fn cause_of(first: Answer, second: Answer) -> Option<BulkExecuteRequestError> {
+    match first {
+        Err(BulkExecuteRequestError::Memory) => second.err(),
+        answer => answer.err(),
+    }
+}
+
+/// As many types as values are wanted where they are sent, and as many values in each row.
+const MIXED: [Asked; 3] = [
+    (TYPED, &[], &[ONE]),
+    (TYPED, TWO_LONGLONGS, &[ONE]),
+    (UNTYPED, &[], &[ONE, TWO_VALUES]),
+];
+
+#[test]
+fn mixed_numbers_of_values(rt: HostRuntime) {
+    let alloc = rt.alloc();
+    for asked in &MIXED {
+        let found = cause_of(
+            request_by_types(alloc, *asked),
+            request_by_types(alloc, *asked),
+        );
+        Asserting(&rt).holds(matches!(found, Some(BulkExecuteRequestError::MixedArity)));
+    }
+    let found = cause_of(
+        request(alloc, &[ONE, TWO_VALUES]),
+        request(alloc, &[ONE, TWO_VALUES]),
+    );
+    Asserting(&rt).holds(matches!(found, Some(BulkExecuteRequestError::MixedArity)));
 }
 
 #[test]
 fn no_rows(rt: HostRuntime) {
-    let mut found = request(rt.alloc(), &[]).err();
-    if matches!(found, Some(BulkExecuteRequestError::Memory)) {
-        found = request(rt.alloc(), &[]).err();
-    }
+    let alloc = rt.alloc();
+    let found = cause_of(request(alloc, &[]), request(alloc, &[]));
     Asserting(&rt).holds(matches!(found, Some(BulkExecuteRequestError::NoParams)));
+    let asked: Asked = (TYPED, ONE_LONGLONG, &[]);
+    let found = cause_of(
+        request_by_types(alloc, asked),
+        request_by_types(alloc, asked),
+    );
+    Asserting(&rt).holds(matches!(found, Some(BulkExecuteRequestError::NoParams)));
+}
+
+/// A request that is made of values in one list, and whether it took them.
+fn flat_request(alloc: Global) -> Result<(ComStmtBulkExecuteRequest, bool), AllocError> {
+    let mut values = Vec::new(alloc);
+    values.push(StmtBulkExecuteParamValue::new(Value::Int(1)))?;
+    values.push(StmtBulkExecuteParamValue::new(Value::Int(2)))?;
+    let count = values.len();
+    let request = ComStmtBulkExecuteRequest::from_flat(alloc, 1, TYPED, 1, count, &mut values)?;
+    Ok((request, values.is_empty()))
+}
+
+#[test]
+fn values_in_one_list(rt: HostRuntime) {
+    let assert = Asserting(&rt);
+    let alloc = rt.alloc();
+    let (made, taken) = once_more(&assert, flat_request(alloc), flat_request(alloc));
+    assert.holds(taken);
+    assert_written(&assert, alloc, &made, TYPED_1_2);
+}
+
+/// Asserts that a request has one value, this number.
+fn assert_number(assert: &impl Assert, request: &ComStmtBulkExecuteRequest, number: i64) {
+    match request.values().as_slice() {
+        [value] => {
+            let none = MariadbBulkIndicator::BULK_INDICATOR_NONE;
+            assert_equal(assert, value.indicator(), none);
+            assert.holds(matches!(value.value(), Value::Int(found) if *found == number));
+        }
+        _ => assert.holds(false),
+    }
+}
+
+/// Asserts the parts of a request with types.
+fn assert_parts(assert: &impl Assert, request: &ComStmtBulkExecuteRequest) {
+    assert_equal(assert, request.stmt_id(), 1);
+    assert_equal(assert, request.bulk_flags(), TYPED);
+    match request.types() {
+        [sent] => {
+            assert_equal(assert, sent.column_type(), ColumnType::MYSQL_TYPE_LONGLONG);
+            assert_equal(assert, sent.flags(), StmtExecuteParamFlags(0));
+        }
+        _ => assert.holds(false),
+    }
+}
+
+#[test]
+fn parts_of_a_request(rt: HostRuntime) {
+    let assert = Asserting(&rt);
+    let alloc = rt.alloc();
+    let made = once_more(&assert, request(alloc, &[ONE]), request(alloc, &[ONE]));
+    assert_parts(&assert, &made);
+    assert_number(&assert, &made, 1);
+    assert_copied(&assert, &made, made.clone(alloc), made.clone(alloc));
+}
+
+const ONE_AND_NULL: Cells = &[Given::Int(1), Given::Null];
+
+/// The values of a row with their indicators.
+fn param_values(alloc: Global) -> Result<StmtBulkExecuteParamValues, AllocError> {
+    StmtBulkExecuteParamValues::new(alloc, row(alloc, ONE_AND_NULL)?)
+}
+
+#[test]
+fn values_of_a_row(rt: HostRuntime) {
+    let assert = Asserting(&rt);
+    let alloc = rt.alloc();
+    let made = once_more(&assert, param_values(alloc), param_values(alloc));
+    assert_written(&assert, alloc, &made, b"\0\x01\0\0\0\0\0\0\0\x01");
+    assert_copied(&assert, &made, made.clone(alloc), made.clone(alloc));
+    for value in made.as_slice() {
+        assert_copied(&assert, value, value.clone(alloc), value.clone(alloc));
+    }
 }
 
 const LONGLONG: [(ColumnType, ColumnFlags); 1] = [(
@@ -101,5 +313,128 @@ fn assert_null(assert: &impl Assert, alloc: Global, bytes: &[u8], indicator: Mar
 fn indicators_are_kept(rt: HostRuntime) {
     for (bytes, indicator) in &WITHOUT_VALUES {
         assert_null(&Asserting(&rt), rt.alloc(), *bytes, *indicator);
+    }
+}
+
+/// The request that stands first, over one column of long numbers, and how many bytes are left.
+fn first_request(
+    alloc: Global,
+    bytes: &[u8],
+) -> Result<(ComStmtBulkExecuteRequest, usize), WireError> {
+    let columns = Vec::from_slice(alloc, &LONGLONG)?;
+    let mut buf = ParseBuf(bytes);
+    let request = buf.parse::<ComStmtBulkExecuteRequest>(alloc, columns)?;
+    Ok((request, buf.len()))
+}
+
+/// A request is read with its first row; nine bytes are left, which are the second one.
+#[test]
+fn a_request_is_read_with_its_first_row(rt: HostRuntime) {
+    let assert = Asserting(&rt);
+    let alloc = rt.alloc();
+    let (read, left) = once_more(
+        &assert,
+        first_request(alloc, TYPED_1_2),
+        first_request(alloc, TYPED_1_2),
+    );
+    assert_equal(&assert, left, 9);
+    assert_parts(&assert, &read);
+    assert_number(&assert, &read, 1);
+}
+
+/// A request without types is read by those that are known.
+#[test]
+fn a_request_without_types_is_read(rt: HostRuntime) {
+    let assert = Asserting(&rt);
+    let alloc = rt.alloc();
+    let bytes = b"\xfa\x01\0\0\0\0\0\0\x05\0\0\0\0\0\0\0";
+    let (read, left) = once_more(
+        &assert,
+        first_request(alloc, bytes),
+        first_request(alloc, bytes),
+    );
+    assert_equal(&assert, left, 0);
+    assert_equal(&assert, read.bulk_flags(), UNTYPED);
+    assert.holds(read.types().is_empty());
+    assert_number(&assert, &read, 5);
+}
+
+/// Why these bytes are no request, all of which are left; None where they are one.
+fn refusal(assert: &impl Assert, alloc: Global, bytes: &[u8]) -> Option<WireError> {
+    let columns = once_more(
+        assert,
+        Vec::from_slice(alloc, &LONGLONG),
+        Vec::from_slice(alloc, &LONGLONG),
+    );
+    let mut buf = ParseBuf(bytes);
+    let refused = buf.parse::<ComStmtBulkExecuteRequest>(alloc, columns).err();
+    if refused.is_some() {
+        assert_bytes(assert, buf.0, bytes);
+    }
+    refused
+}
+
+/// Bytes that are no request, and why: another first byte, a flag without a name, an indicator without one.
+const NO_REQUESTS: [(&[u8], WireError); 3] = [
+    (
+        b"\xfb\x01\0\0\0\0\0\0\x05\0\0\0\0\0\0\0",
+        WireError::BadConstant,
+    ),
+    (
+        b"\xfa\x01\0\0\0\0\x01\0\x05\0\0\0\0\0\0\0",
+        WireError::UnknownValue,
+    ),
+    (
+        b"\xfa\x01\0\0\0\0\0\x04\x05\0\0\0\0\0\0\0",
+        WireError::UnknownValue,
+    ),
+];
+
+#[test]
+fn no_requests(rt: HostRuntime) {
+    for (bytes, cause) in &NO_REQUESTS {
+        let mut found = refusal(&Asserting(&rt), rt.alloc(), *bytes);
+        if found == Some(WireError::Memory) {
+            found = refusal(&Asserting(&rt), rt.alloc(), *bytes);
+        }
+        assert_equal(&Asserting(&rt), found, Some(*cause));
+    }
+}
+
+#[test]
+fn a_type_is_read(rt: HostRuntime) {
+    let assert = Asserting(&rt);
+    let bytes = b"\x08\x80";
+    let read = whole::<StmtBulkExecuteParamType, ()>(&assert, rt.alloc(), (), bytes);
+    let wanted = StmtBulkExecuteParamType::new(
+        ColumnType::MYSQL_TYPE_LONGLONG,
+        StmtExecuteParamFlags::UNSIGNED,
+    );
+    assert_equal(&assert, read, wanted);
+    assert_equal(
+        &assert,
+        StmtBulkExecuteParamType::from_value(&Value::UInt(2)),
+        wanted,
+    );
+    assert_reads_back::<StmtBulkExecuteParamType, ()>(&assert, rt.alloc(), (), bytes);
+}
+
+/// Bytes that are no type, and why: a number and a flag without names, and no flags.
+const NO_TYPES: [(&[u8], WireError); 3] = [
+    (b"\xf4\0", WireError::UnknownValue),
+    (b"\x08\x40", WireError::UnknownValue),
+    (b"\x08", WireError::UnexpectedEof),
+];
+
+#[test]
+fn no_types(rt: HostRuntime) {
+    for (bytes, cause) in &NO_TYPES {
+        assert_refused::<StmtBulkExecuteParamType, ()>(
+            &Asserting(&rt),
+            rt.alloc(),
+            (),
+            *bytes,
+            *cause,
+        );
     }
 }

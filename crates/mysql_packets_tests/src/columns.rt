@@ -6,8 +6,8 @@ use mysql_packets::Column;
 use mysql_raw::WireError;
 use std::alloc::{AllocError, Global};
 use tests_support::{
-    Assert, assert_bytes, assert_cut_off, assert_equal, assert_made, assert_reads_back,
-    assert_refused, once_more, whole,
+    Assert, assert_bytes, assert_copied, assert_cut_off, assert_equal, assert_made,
+    assert_reads_back, assert_refused, once_more, whole,
 };
 
 const COLUMN: &[u8] =
@@ -42,6 +42,27 @@ fn assert_texts(assert: &impl Assert, alloc: Global, column: &Column) {
         column.name_str(alloc),
         "name",
     );
+    assert_text(
+        assert,
+        column.org_name_str(alloc),
+        column.org_name_str(alloc),
+        "org_name",
+    );
+}
+
+fn assert_texts_of_the_table(assert: &impl Assert, alloc: Global, column: &Column) {
+    assert_text(
+        assert,
+        column.table_str(alloc),
+        column.table_str(alloc),
+        "table",
+    );
+    assert_text(
+        assert,
+        column.org_table_str(alloc),
+        column.org_table_str(alloc),
+        "org_table",
+    );
 }
 
 #[test]
@@ -51,6 +72,15 @@ fn a_column(rt: HostRuntime) {
     assert_names(&assert, &column);
     assert_fields(&assert, &column);
     assert_texts(&assert, rt.alloc(), &column);
+    assert_texts_of_the_table(&assert, rt.alloc(), &column);
+}
+
+#[test]
+fn a_copy(rt: HostRuntime) {
+    let assert = Asserting(&rt);
+    let alloc = rt.alloc();
+    let column = whole::<Column, ()>(&assert, alloc, (), COLUMN);
+    assert_copied(&assert, &column, column.clone(alloc), column.clone(alloc));
 }
 
 #[test]

@@ -10,8 +10,8 @@ use std::alloc::Global;
 use std::borrow::CowSlice;
 use std::fmt::Display;
 use tests_support::{
-    Assert, assert_bytes, assert_cut_off, assert_equal, assert_reads_back, assert_refused,
-    once_more, whole,
+    Assert, assert_bytes, assert_copied, assert_cut_off, assert_equal, assert_reads_back,
+    assert_refused, once_more, whole,
 };
 
 const NONE: CapabilityFlags = CapabilityFlags(0);
@@ -134,6 +134,17 @@ fn errors_print(rt: HostRuntime) {
 }
 
 #[test]
+fn errors_without_a_state_print(rt: HostRuntime) {
+    let error = ServerError::new(1040, None, CowSlice::Borrowed(b"Too many connections"));
+    assert_prints(
+        &Asserting(&rt),
+        rt.alloc(),
+        &error,
+        "ERROR 1040: Too many connections",
+    );
+}
+
+#[test]
 fn reports_print(rt: HostRuntime) {
     let assert = Asserting(&rt);
     let report = ProgressReport::new(1, 10, 23500, CowSlice::Borrowed(b"stage name"));
@@ -176,4 +187,79 @@ fn a_statement(rt: HostRuntime) {
     assert_equal(&assert, packet.warning_count(), 0);
     assert_reads_back::<StmtPacket, ()>(&assert, alloc, (), PREPARED);
     assert_cut_off::<StmtPacket, ()>(&assert, alloc, (), PREPARED, 0, 12);
+}
+
+const NO_TABLES_BODY: &[u8] = b"#HY000No tables used";
+
+/// A server's error by its own reader: what stands behind the code, whether a state is sent, and the message.
+const BODIES: [(&[u8], bool, &[u8]); 3] = [
+    (NO_TABLES_BODY, true, b"No tables used"),
+    (NO_TABLES_BODY, false, NO_TABLES_BODY),
+    (b"", false, b""),
+];
+
+#[test]
+fn bodies_of_errors(rt: HostRuntime) {
+    let assert = Asserting(&rt);
+    for (bytes, has_state, message) in &BODIES {
+        let ctx = (1096, *has_state);
+        let error = whole::<ServerError, (u16, bool)>(&assert, rt.alloc(), ctx, *bytes);
+        assert_equal(&assert, error.error_code(), 1096);
+        assert_equal(&assert, error.sql_state_ref().is_some(), *has_state);
+        assert_bytes(&assert, error.message_ref(), *message);
+        assert_reads_back::<ServerError, (u16, bool)>(&assert, rt.alloc(), ctx, *bytes);
+    }
+}
+
+#[test]
+fn a_message_is_text(rt: HostRuntime) {
+    let assert = Asserting(&rt);
+    let alloc = rt.alloc();
+    let error = whole::<ServerError, (u16, bool)>(&assert, alloc, (1096, true), NO_TABLES_BODY);
+    assert_text(
+        &assert,
+        error.message_str(alloc),
+        error.message_str(alloc),
+        "No tables used",
+    );
+    assert_copied(&assert, &error, error.clone(alloc), error.clone(alloc));
+}
+
+#[test]
+fn a_state_of_its_own(rt: HostRuntime) {
+    let assert = Asserting(&rt);
+    let alloc = rt.alloc();
+    let bytes = b"#HY000";
+    let state = whole::<SqlState, ()>(&assert, alloc, (), bytes);
+    assert_equal(&assert, state, SqlState::new(*b"HY000"));
+    assert_text(&assert, state.as_str(alloc), state.as_str(alloc), "HY000");
+    assert_reads_back::<SqlState, ()>(&assert, alloc, (), bytes);
+    assert_cut_off::<SqlState, ()>(&assert, alloc, (), bytes, 0, 6);
+    assert_refused::<SqlState, ()>(&assert, alloc, (), b"$HY000", WireError::BadConstant);
+}
+
+/// A progress report without the head of its packet.
+const REPORT: &[u8] = b"\x01\x01\x0a\xcc\x5b\0\x0astage name";
+
+#[test]
+fn a_report_of_its_own(rt: HostRuntime) {
+    let assert = Asserting(&rt);
+    let alloc = rt.alloc();
+    let report = whole::<ProgressReport, ()>(&assert, alloc, (), REPORT);
+    let stages = (report.stage(), report.max_stage(), report.progress());
+    assert_equal(&assert, stages, (1, 10, 23500));
+    assert_text(
+        &assert,
+        report.stage_info_str(alloc),
+        report.stage_info_str(alloc),
+        "stage name",
+    );
+    assert_copied(&assert, &report, report.clone(alloc), report.clone(alloc));
+}
+
+#[test]
+fn a_report_is_read_back(rt: HostRuntime) {
+    let assert = Asserting(&rt);
+    assert_reads_back::<ProgressReport, ()>(&assert, rt.alloc(), (), REPORT);
+    assert_cut_off::<ProgressReport, ()>(&assert, rt.alloc(), (), REPORT, 0, REPORT.len());
 }

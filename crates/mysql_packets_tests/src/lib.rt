@@ -11,6 +11,8 @@ mod columns;
 #[cfg(test)]
 mod errors;
 #[cfg(test)]
+mod given;
+#[cfg(test)]
 mod ok_packets;
 #[cfg(test)]
 mod rows;

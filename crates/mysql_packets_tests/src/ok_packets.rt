@@ -1,13 +1,18 @@
 //! OK and EOF packets.
 
-use crate::support::{Asserting, assert_text};
+use crate::session_states::{Told, assert_decoded};
+use crate::support::Asserting;
 use mysql_const::{CapabilityFlags, StatusFlags};
 use mysql_ok_packets::{
-    CommonOkPacket, OkPacket, OkPacketDeserializer, OkPacketKind, OldEofPacket, ResultSetTerminator,
+    CommonOkPacket, NetworkStreamTerminator, OkPacket, OkPacketDeserializer, OkPacketKind,
+    OldEofPacket, ResultSetTerminator,
 };
 use mysql_raw::WireError;
 use std::alloc::Global;
-use tests_support::{Assert, assert_equal, assert_refused, whole};
+use tests_support::{
+    Assert, assert_bytes, assert_copied, assert_equal, assert_refused, assert_same, once_more,
+    whole,
+};
 
 const NONE: CapabilityFlags = CapabilityFlags::CLIENT_PROTOCOL_41;
 
@@ -88,6 +93,14 @@ fn an_eof_packet(rt: HostRuntime) {
     assert_kind::<OldEofPacket>(&Asserting(&rt), rt.alloc(), NONE, bytes, &says);
 }
 
+/// The terminator of a binlog stream is read in the same way.
+#[test]
+fn a_stream_terminator(rt: HostRuntime) {
+    let says: Says = (0, None, AUTOCOMMIT, 0, None, None);
+    let bytes = b"\xfe\x00\x00\x02\x00";
+    assert_kind::<NetworkStreamTerminator>(&Asserting(&rt), rt.alloc(), NONE, bytes, &says);
+}
+
 #[test]
 fn no_terminator(rt: HostRuntime) {
     assert_refused::<OkPacketDeserializer<ResultSetTerminator>, CapabilityFlags>(
@@ -114,5 +127,117 @@ fn cut_off(rt: HostRuntime) {
                 WireError::UnexpectedEof,
             );
         }
+    }
+}
+
+/// The packet that these bytes are, where session states are sent.
+fn tracked<'a>(assert: &impl Assert, alloc: Global, bytes: &'a [u8]) -> OkPacket<'a> {
+    let read = whole::<OkPacketDeserializer<CommonOkPacket>, CapabilityFlags>(
+        assert, alloc, TRACKED, bytes,
+    );
+    read.into_inner()
+}
+
+/// Asserts what the states of a packet are decoded to.
+fn assert_states(assert: &impl Assert, alloc: Global, packet: &OkPacket, told: &[Told]) {
+    let states = once_more(
+        assert,
+        packet.session_state_info(alloc),
+        packet.session_state_info(alloc),
+    );
+    assert_equal(assert, states.len(), told.len());
+    for (state, told) in states.iter().zip(told.iter()) {
+        assert_decoded(assert, alloc, state, told);
+    }
+}
+
+/// Packets, and what their states are decoded to. The last is as a server writes it that leaves the inner length out: the packet
+/// and the state are read, and the state isn't decoded.
+const WITH_STATES: [(&[u8], &[Told]); 6] = [
+    (DONE, &[]),
+    (CHANGED, &[Told::Variable(b"autocommit", b"OFF")]),
+    (
+        b"\x00\x00\x00\x02\x40\x00\x00\x00\x07\x01\x05\x04test",
+        &[Told::Schema(b"test")],
+    ),
+    (
+        b"\x00\x00\x00\x02\x40\x00\x00\x00\x04\x02\x02\x011",
+        &[Told::Tracked(true)],
+    ),
+    (
+        b"\x00\x00\x00\x02\x40\x00\x00\x00\x09\x02\x02\x011\x01\x03\x02db",
+        &[Told::Tracked(true), Told::Schema(b"db")],
+    ),
+    (
+        b"\x00\x00\x00\x02\x40\x00\x00\x00\x03\x02\x011",
+        &[Told::Refused(WireError::UnexpectedEof)],
+    ),
+];
+
+#[test]
+fn states_of_packets(rt: HostRuntime) {
+    let assert = Asserting(&rt);
+    for (bytes, told) in &WITH_STATES {
+        let packet = tracked(&assert, rt.alloc(), *bytes);
+        assert_states(&assert, rt.alloc(), &packet, *told);
+    }
+}
+
+/// Why a packet's states are none; None where they are read.
+fn refusal_of(alloc: Global, packet: &OkPacket) -> Option<WireError> {
+    packet.session_state_info(alloc).err()
+}
+
+/// A state of a type without a name: the packet is read, and its states aren't.
+#[test]
+fn a_type_that_is_yet_to_come(rt: HostRuntime) {
+    let assert = Asserting(&rt);
+    let alloc = rt.alloc();
+    let bytes = b"\x00\x00\x00\x02\x40\x00\x00\x00\x02\x06\x00";
+    let packet = tracked(&assert, alloc, bytes);
+    let mut found = refusal_of(alloc, &packet);
+    if found == Some(WireError::Memory) {
+        found = refusal_of(alloc, &packet);
+    }
+    assert_equal(&assert, found, Some(WireError::UnknownValue));
+}
+
+const WITH_INFO: &[u8] = b"\x00\x01\x00\x02\x00\x00\x00\x02ok";
+
+#[test]
+fn an_info_is_text(rt: HostRuntime) {
+    let assert = Asserting(&rt);
+    let alloc = rt.alloc();
+    let packet = tracked(&assert, alloc, WITH_INFO);
+    match once_more(&assert, packet.info_str(alloc), packet.info_str(alloc)) {
+        Some(text) => assert_bytes(&assert, text.as_str().as_bytes(), b"ok"),
+        None => assert.holds(false),
+    }
+    let packet = tracked(&assert, alloc, DONE);
+    let none = once_more(&assert, packet.info_str(alloc), packet.info_str(alloc));
+    assert.holds(none.is_none());
+}
+
+#[test]
+fn copies(rt: HostRuntime) {
+    let assert = Asserting(&rt);
+    let alloc = rt.alloc();
+    for bytes in [DONE, CHANGED, WITH_INFO] {
+        let packet = tracked(&assert, alloc, bytes);
+        assert_copied(&assert, &packet, packet.clone(alloc), packet.clone(alloc));
+    }
+}
+
+#[test]
+fn owned_packets(rt: HostRuntime) {
+    let assert = Asserting(&rt);
+    let alloc = rt.alloc();
+    for bytes in [DONE, CHANGED, WITH_INFO] {
+        let owned = once_more(
+            &assert,
+            tracked(&assert, alloc, bytes).into_owned(alloc),
+            tracked(&assert, alloc, bytes).into_owned(alloc),
+        );
+        assert_same(&assert, &owned, &tracked(&assert, alloc, bytes));
     }
 }

@@ -8,10 +8,11 @@ use mysql_convert::FromValueError;
 use mysql_null_bitmap::{ClientSide, ServerSide};
 use mysql_packets::Column;
 use mysql_raw::{Binary, MyDeserialize, ParseExt, Readable, Text, WireError};
-use mysql_rows::{Row, RowDeserializer};
+use mysql_rows::{Row, RowDeserializer, new_row, new_row_raw};
+use mysql_values::ByteString;
 use std::alloc::{AllocError, Global};
 use std::rc::RcSlice;
-use tests_support::{Assert, assert_equal, once_more};
+use tests_support::{Assert, assert_copied, assert_equal, assert_same, once_more};
 
 fn column(alloc: Global, name: &[u8], kind: ColumnType) -> Result<Column, AllocError> {
     Column::new(alloc, kind).with_name(name)
@@ -215,4 +216,218 @@ fn shared_columns(rt: HostRuntime) {
     let row = row.into_inner();
     let shared = once_more(&assert, row.columns(), row.columns());
     assert_equal(&assert, shared.as_slice().len(), row.columns_ref().len());
+}
+
+/// The values 7 and the text `x`.
+fn seven_and_x(alloc: Global) -> Result<Vec<Value>, AllocError> {
+    let mut values = Vec::new(alloc);
+    values.push(Value::Int(7))?;
+    values.push(Value::Bytes(ByteString::copy(alloc, b"x")?))?;
+    Ok(values)
+}
+
+/// A row of them.
+fn whole_row(assert: &impl Assert, alloc: Global) -> Result<Row, AllocError> {
+    let columns = two(alloc)?;
+    let values = seven_and_x(alloc)?;
+    assert.holds(values.len() == columns.as_slice().len());
+    new_row(alloc, values, columns)
+}
+
+/// The number in the cell of this name, which is one: `get` wants a cell that converts, or none.
+fn number_named(alloc: Global, row: &Row, name: &str) -> Result<Option<i64>, AllocError> {
+    let found: Option<Result<i64, FromValueError>> = row.get_opt(alloc, name)?;
+    match found {
+        Some(Ok(_)) => row.get(alloc, name),
+        Some(Err(_)) => Ok(None),
+        None => Ok(None),
+    }
+}
+
+#[test]
+fn a_number_by_its_name(rt: HostRuntime) {
+    let assert = Asserting(&rt);
+    let alloc = rt.alloc();
+    let row = once_more(
+        &assert,
+        whole_row(&assert, alloc),
+        whole_row(&assert, alloc),
+    );
+    assert_cells(&assert, &row, Some(7), Some(b"x"));
+    let found = once_more(
+        &assert,
+        number_named(alloc, &row, "id"),
+        number_named(alloc, &row, "id"),
+    );
+    assert_equal(&assert, found, Some(7));
+}
+
+/// Takes the number in the first cell, which is one: `take` wants a cell that converts, or none.
+fn taken_number(alloc: Global, row: &mut Row) -> Result<Option<i64>, AllocError> {
+    let found: Option<Result<i64, FromValueError>> = row.get_opt(alloc, 0)?;
+    match found {
+        Some(Ok(_)) => Ok(row.take(0)),
+        Some(Err(_)) => Ok(None),
+        None => Ok(row.take(0)),
+    }
+}
+
+/// Takes it; once more where memory was refused.
+fn taken_or_again(assert: &impl Assert, alloc: Global, row: &mut Row) -> Option<i64> {
+    match taken_number(alloc, row) {
+        Ok(number) => number,
+        Err(error) => once_more(assert, taken_number(alloc, row), Err(error)),
+    }
+}
+
+#[test]
+fn a_number_is_taken_once(rt: HostRuntime) {
+    let assert = Asserting(&rt);
+    let alloc = rt.alloc();
+    let mut row = once_more(
+        &assert,
+        whole_row(&assert, alloc),
+        whole_row(&assert, alloc),
+    );
+    assert_equal(&assert, taken_or_again(&assert, alloc, &mut row), Some(7));
+    assert_equal(&assert, taken_or_again(&assert, alloc, &mut row), None);
+    let cells = row.unwrap_raw();
+    match cells.as_slice() {
+        [None, Some(Value::Bytes(bytes))] => assert.holds(bytes.as_slice() == b"x".as_slice()),
+        _ => assert.holds(false),
+    }
+}
+
+/// Asserts what stands in a cell by its number.
+fn assert_indexed(assert: &impl Assert, row: &Row) {
+    match row.as_ref(0) {
+        Some(_) => assert_same(assert, &row[0], &Value::Int(7)),
+        None => assert.holds(false),
+    }
+}
+
+#[test]
+fn indexed(rt: HostRuntime) {
+    let assert = Asserting(&rt);
+    let alloc = rt.alloc();
+    let row = once_more(
+        &assert,
+        whole_row(&assert, alloc),
+        whole_row(&assert, alloc),
+    );
+    assert_indexed(&assert, &row);
+}
+
+/// The values of such a row.
+fn unwrapped(assert: &impl Assert, alloc: Global) -> Result<Vec<Value>, AllocError> {
+    let row = whole_row(assert, alloc)?;
+    assert.holds(row.is_whole());
+    row.unwrap(alloc)
+}
+
+#[test]
+fn values_of_a_row(rt: HostRuntime) {
+    let assert = Asserting(&rt);
+    let alloc = rt.alloc();
+    let found = once_more(
+        &assert,
+        unwrapped(&assert, alloc),
+        unwrapped(&assert, alloc),
+    );
+    let wanted = once_more(&assert, seven_and_x(alloc), seven_and_x(alloc));
+    assert_equal(&assert, found, wanted);
+}
+
+#[test]
+fn a_copy(rt: HostRuntime) {
+    let assert = Asserting(&rt);
+    let alloc = rt.alloc();
+    let row = once_more(
+        &assert,
+        whole_row(&assert, alloc),
+        whole_row(&assert, alloc),
+    );
+    assert_copied(&assert, &row, row.clone(alloc), row.clone(alloc));
+}
+
+/// A row of which the first cell was taken.
+fn raw_row(assert: &impl Assert, alloc: Global) -> Result<Row, AllocError> {
+    let columns = two(alloc)?;
+    let mut cells = Vec::new(alloc);
+    cells.push(None)?;
+    cells.push(Some(Value::Bytes(ByteString::copy(alloc, b"x")?)))?;
+    assert.holds(cells.len() == columns.as_slice().len());
+    Ok(new_row_raw(cells, columns))
+}
+
+#[test]
+fn a_row_without_a_cell(rt: HostRuntime) {
+    let assert = Asserting(&rt);
+    let alloc = rt.alloc();
+    let row = once_more(&assert, raw_row(&assert, alloc), raw_row(&assert, alloc));
+    assert.holds(!row.is_whole() & row.as_ref(0).is_none());
+    assert_name(&assert, row.as_ref(1), Some(b"x"));
+    let found = once_more(
+        &assert,
+        copy_of(alloc, &row, "id"),
+        copy_of(alloc, &row, "id"),
+    );
+    assert.holds(found.is_none());
+}
+
+/// A row of 1 and 2 over two columns of one name.
+fn same_names(assert: &impl Assert, alloc: Global) -> Result<Row, AllocError> {
+    let mut columns = Vec::new(alloc);
+    columns.push(column(alloc, b"id", ColumnType::MYSQL_TYPE_LONGLONG)?)?;
+    columns.push(column(alloc, b"id", ColumnType::MYSQL_TYPE_LONGLONG)?)?;
+    let columns = RcSlice::from_vec(columns)?;
+    let mut values = Vec::new(alloc);
+    values.push(Value::Int(1))?;
+    values.push(Value::Int(2))?;
+    assert.holds(values.len() == columns.as_slice().len());
+    new_row(alloc, values, columns)
+}
+
+/// The first column of a name counts.
+#[test]
+fn two_columns_of_one_name(rt: HostRuntime) {
+    let assert = Asserting(&rt);
+    let alloc = rt.alloc();
+    let row = once_more(
+        &assert,
+        same_names(&assert, alloc),
+        same_names(&assert, alloc),
+    );
+    let found = once_more(
+        &assert,
+        copy_of(alloc, &row, "id"),
+        copy_of(alloc, &row, "id"),
+    );
+    assert.holds(matches!(found, Some(Ok(1))));
+}
+
+/// A row without columns.
+fn empty_row(assert: &impl Assert, alloc: Global) -> Result<Row, AllocError> {
+    let columns = RcSlice::from_vec(Vec::new(alloc))?;
+    let values = Vec::new(alloc);
+    assert.holds(values.len() == columns.as_slice().len());
+    new_row(alloc, values, columns)
+}
+
+#[test]
+fn an_empty_row(rt: HostRuntime) {
+    let assert = Asserting(&rt);
+    let alloc = rt.alloc();
+    let row = once_more(
+        &assert,
+        empty_row(&assert, alloc),
+        empty_row(&assert, alloc),
+    );
+    assert.holds(row.is_empty() & row.is_whole());
+    let row = once_more(
+        &assert,
+        whole_row(&assert, alloc),
+        whole_row(&assert, alloc),
+    );
+    assert.holds(!row.is_empty());
 }

@@ -1,20 +1,27 @@
 //! Session states.
 
-use crate::support::Asserting;
+use crate::support::{Asserting, assert_text};
 use mysql_const::SessionStateType;
 use mysql_raw::WireError;
-use mysql_session_states::{SessionStateChange, SessionStateInfo, SystemVariable};
+use mysql_session_states::{
+    Gtids, Schema, SessionStateChange, SessionStateInfo, SystemVariable,
+    TransactionCharacteristics, TransactionState, Unsupported,
+};
 use std::alloc::Global;
+use std::borrow::CowSlice;
 use tests_support::{
-    Assert, assert_bytes, assert_cut_off, assert_equal, assert_reads_back, assert_refused, whole,
+    Assert, assert_bytes, assert_copied, assert_cut_off, assert_equal, assert_reads_back,
+    assert_refused, whole,
 };
 
 /// What a state is decoded to.
-enum Told {
+pub enum Told {
     Tracked(bool),
     Schema(&'static [u8]),
     Variable(&'static [u8], &'static [u8]),
     Gtids(&'static [u8]),
+    Characteristics(&'static [u8]),
+    Transaction(&'static [u8]),
     Refused(WireError),
 }
 
@@ -39,12 +46,18 @@ fn assert_change(assert: &impl Assert, change: &SessionStateChange, told: &Told)
             assert.holds(matches!(told, Told::Gtids(wanted) if *wanted == set.as_bytes()))
         }
         SessionStateChange::SystemVariables(all) => assert_variables(assert, all.as_slice(), told),
-        _ => assert.holds(false),
+        SessionStateChange::TransactionCharacteristics(text) => assert.holds(
+            matches!(told, Told::Characteristics(wanted) if *wanted == text.as_bytes()),
+        ),
+        SessionStateChange::TransactionState(text) => {
+            assert.holds(matches!(told, Told::Transaction(wanted) if *wanted == text.as_bytes()))
+        }
+        SessionStateChange::Unsupported(_) => assert.holds(false),
     }
 }
 
 /// Asserts what a state is decoded to. It is decoded once more where memory was refused.
-fn assert_decoded(assert: &impl Assert, alloc: Global, state: &SessionStateInfo, told: &Told) {
+pub fn assert_decoded(assert: &impl Assert, alloc: Global, state: &SessionStateInfo, told: &Told) {
     let mut found = state.decode(alloc);
     if matches!(found, Err(WireError::Memory)) {
         found = state.decode(alloc);
@@ -56,7 +69,7 @@ fn assert_decoded(assert: &impl Assert, alloc: Global, state: &SessionStateInfo,
 }
 
 /// States, the type of each, and what it is decoded to.
-const STATES: [(&[u8], SessionStateType, Told); 7] = [
+const STATES: [(&[u8], SessionStateType, Told); 9] = [
     (
         b"\x00\x0f\x0aautocommit\x03OFF",
         SessionStateType::SESSION_TRACK_SYSTEM_VARIABLES,
@@ -81,6 +94,16 @@ const STATES: [(&[u8], SessionStateType, Told); 7] = [
         b"\x03\x04\x00a:1",
         SessionStateType::SESSION_TRACK_GTIDS,
         Told::Gtids(b"\x00a:1"),
+    ),
+    (
+        b"\x04\x04\x03abc",
+        SessionStateType::SESSION_TRACK_TRANSACTION_CHARACTERISTICS,
+        Told::Characteristics(b"abc"),
+    ),
+    (
+        b"\x05\x04\x03abc",
+        SessionStateType::SESSION_TRACK_TRANSACTION_STATE,
+        Told::Transaction(b"abc"),
     ),
     // A server that writes no inner length: the state is read, and isn't decoded.
     (
@@ -124,5 +147,78 @@ fn a_type_without_a_name(rt: HostRuntime) {
         (),
         b"\x06\x00",
         WireError::UnknownValue,
+    );
+}
+
+#[test]
+fn copies(rt: HostRuntime) {
+    let assert = Asserting(&rt);
+    let alloc = rt.alloc();
+    for (bytes, _, _) in &STATES {
+        let state = whole::<SessionStateInfo, ()>(&assert, alloc, (), *bytes);
+        assert_copied(&assert, &state, state.clone(alloc), state.clone(alloc));
+    }
+}
+
+/// A change of another kind is text with its length before it.
+#[test]
+fn unsupported(rt: HostRuntime) {
+    let assert = Asserting(&rt);
+    let alloc = rt.alloc();
+    let bytes = b"\x03abc";
+    let read = whole::<Unsupported, ()>(&assert, alloc, (), bytes);
+    assert_bytes(&assert, read.as_bytes(), b"abc");
+    assert_text(&assert, read.as_str(alloc), read.as_str(alloc), "abc");
+    assert_reads_back::<Unsupported, ()>(&assert, alloc, (), bytes);
+    assert_cut_off::<Unsupported, ()>(&assert, alloc, (), bytes, 0, 4);
+}
+
+#[test]
+fn names_are_text(rt: HostRuntime) {
+    let assert = Asserting(&rt);
+    let alloc = rt.alloc();
+    let schema = Schema::new(CowSlice::Borrowed(b"test"));
+    assert_text(&assert, schema.as_str(alloc), schema.as_str(alloc), "test");
+    let gtids = Gtids::new(CowSlice::Borrowed(b"a:1"));
+    assert_text(&assert, gtids.as_str(alloc), gtids.as_str(alloc), "a:1");
+}
+
+#[test]
+fn transactions_are_text(rt: HostRuntime) {
+    let assert = Asserting(&rt);
+    let alloc = rt.alloc();
+    let state = TransactionState::new(CowSlice::Borrowed(b"T_______"));
+    assert_text(
+        &assert,
+        state.as_str(alloc),
+        state.as_str(alloc),
+        "T_______",
+    );
+    let begun = TransactionCharacteristics::new(CowSlice::Borrowed(b"START TRANSACTION;"));
+    assert_text(
+        &assert,
+        begun.as_str(alloc),
+        begun.as_str(alloc),
+        "START TRANSACTION;",
+    );
+}
+
+#[test]
+fn variables_are_text(rt: HostRuntime) {
+    let assert = Asserting(&rt);
+    let alloc = rt.alloc();
+    let name = CowSlice::Borrowed(b"autocommit");
+    let variable = SystemVariable::new(name, CowSlice::Borrowed(b"OFF"));
+    assert_text(
+        &assert,
+        variable.name_str(alloc),
+        variable.name_str(alloc),
+        "autocommit",
+    );
+    assert_text(
+        &assert,
+        variable.value_str(alloc),
+        variable.value_str(alloc),
+        "OFF",
     );
 }

@@ -2,12 +2,17 @@
 
 use crate::support::Asserting;
 use mysql_cells::Value;
+use mysql_const::{CursorType, StmtExecuteParamsFlags};
 use mysql_raw::WireError;
-use mysql_stmt::{ComStmtClose, ComStmtExecuteRequestBuilder, ComStmtReset, ComStmtSendLongData};
-use std::alloc::Global;
+use mysql_stmt::{
+    ComStmtClose, ComStmtExecuteRequest, ComStmtExecuteRequestBuilder, ComStmtReset,
+    ComStmtSendLongData,
+};
+use std::alloc::{AllocError, Global};
 use std::borrow::CowSlice;
 use tests_support::{
-    Assert, assert_cut_off, assert_reads_back, assert_refused, assert_written, once_more,
+    Assert, assert_bytes, assert_copied, assert_cut_off, assert_equal, assert_reads_back,
+    assert_refused, assert_same, assert_written, once_more,
 };
 
 #[test]
@@ -74,5 +79,79 @@ fn executions(rt: HostRuntime) {
         rt.alloc(),
         Value::NULL,
         b"\x17\x01\0\0\0\0\x01\0\0\0\x01\x01\x06\0",
+    );
+}
+
+/// So many values NULL as an execution can have at most.
+fn nulls(alloc: Global) -> Result<Vec<Value>, AllocError> {
+    let mut values = Vec::new(alloc);
+    for _ in 0..65535 {
+        values.push(Value::NULL)?;
+    }
+    Ok(values)
+}
+
+/// The bytes of an execution of them: the bitmap has a bit less than 8192 bytes have.
+fn bytes_of_nulls(alloc: Global) -> Result<Vec<u8>, AllocError> {
+    let mut bytes = Vec::from_slice(alloc, b"\x17\x01\0\0\0\0\x01\0\0\0")?;
+    bytes.resize(8201, 0xff)?;
+    bytes.extend_from_slice(b"\x7f\x01")?;
+    for _ in 0..65535 {
+        bytes.extend_from_slice(b"\x06\0")?;
+    }
+    Ok(bytes)
+}
+
+#[test]
+fn as_many_nulls_as_an_execution_takes(rt: HostRuntime) {
+    let assert = Asserting(&rt);
+    let alloc = rt.alloc();
+    let values = once_more(&assert, nulls(alloc), nulls(alloc));
+    assert.holds(values.len() == 65535);
+    let builder = ComStmtExecuteRequestBuilder::new(1);
+    let (request, as_long_data) = once_more(
+        &assert,
+        builder.build(alloc, &values),
+        builder.build(alloc, &values),
+    );
+    assert.holds(!as_long_data);
+    let bytes = once_more(&assert, bytes_of_nulls(alloc), bytes_of_nulls(alloc));
+    assert_equal(&assert, bytes.len(), 139273);
+    assert_written(&assert, alloc, &request, &bytes);
+}
+
+/// Asserts the parts of an execution of a number and NULL.
+fn assert_parts(assert: &impl Assert, request: &ComStmtExecuteRequest<'_>, values: &[Value]) {
+    assert.holds((request.stmt_id() == 1) & !request.as_long_data());
+    assert_equal(assert, request.flags(), CursorType::CURSOR_TYPE_NO_CURSOR);
+    assert_bytes(assert, request.bitmap(), &[2]);
+    let bound = StmtExecuteParamsFlags::NEW_PARAMS_BOUND;
+    assert_equal(assert, request.params_flags(), bound);
+    match (request.params(), values) {
+        ([first, second], [number, null]) => {
+            assert_same(assert, *first, number);
+            assert_same(assert, *second, null);
+        }
+        _ => assert.holds(false),
+    }
+}
+
+#[test]
+fn parts_of_an_execution(rt: HostRuntime) {
+    let assert = Asserting(&rt);
+    let alloc = rt.alloc();
+    let values = [Value::Int(1), Value::NULL];
+    let builder = ComStmtExecuteRequestBuilder::new(1);
+    let (request, _) = once_more(
+        &assert,
+        builder.build(alloc, &values),
+        builder.build(alloc, &values),
+    );
+    assert_parts(&assert, &request, &values);
+    assert_copied(
+        &assert,
+        &request,
+        request.clone(alloc),
+        request.clone(alloc),
     );
 }
