@@ -7,7 +7,6 @@ use Rattle.std.proofs.lemmas.List.{append-nil, drop_all}
 use Rattle.mysql_wire.specs.Framing.{framing}
 use Rattle.mysql_wire.specs.Stream.{framings}
 use Rattle.mysql_wire.specs.Stream.Numbering.{EachFromZero}
-use Rattle.mysql_values.specs.declared.params.Params.{Params}
 use Rattle.mysql_values.specs.Value.{Value}
 use Rattle.mysql_streams.specs.declared.refusal.Refusal.{Refusal}
 use Rattle.mysql_streams.specs.Sets.{Given}
@@ -31,29 +30,29 @@ pub record AllSent (Readable : List Value → Type 0) (payloads : List Value →
   pub bytes : start ++ framings (flat_map payloads values) EachFromZero ≡ out ++ framings (flat_map payloads later) EachFromZero
 
 -- so many sets were sent, each with no cause: what is left to send goes on from what stands; behind all sets stand others that are not sent
-pub record SetsSent (Readable : List Value → Type 0) (command : List Value → List ℕ) (payloads : List Value → List (List ℕ)) (limits : Limits) (give : Params → Given) (sets : List Params) (others : List Given) (start out : List ℕ) (i : ℕ) : Type 0 where
+pub record SetsSent {S : Type 0} (Readable : List Value → Type 0) (command : List Value → List ℕ) (payloads : List Value → List (List ℕ)) (limits : Limits) (give : S → Given) (sets : List S) (others : List Given) (start out : List ℕ) (i : ℕ) : Type 0 where
   pub causes : first_of_sets (set_cause command limits) i (map give (drop i sets) ++ others) ≡ first_of_sets (set_cause command limits) 0 (map give sets ++ others)
   pub rest : (later : List (List Value)) → map give (drop i sets) ≡ map Ok later → AllByRecursion Readable later → AllSent Readable payloads (map give sets) start later out
 
 -- before the first set none was sent
-pub none_sent : (Readable : List Value → Type 0) (command : List Value → List ℕ) (payloads : List Value → List (List ℕ)) (limits : Limits) (give : Params → Given) (sets : List Params) (others : List Given) (start : List ℕ)
+pub none_sent : {S : Type 0} (Readable : List Value → Type 0) (command : List Value → List ℕ) (payloads : List Value → List (List ℕ)) (limits : Limits) (give : S → Given) (sets : List S) (others : List Given) (start : List ℕ)
     → SetsSent Readable command payloads limits give sets others start start 0
 none_sent Readable command payloads limits give sets others start = record {
   causes = refl;
   rest = λ later gives readable. record { values = later; gives = gives; readable = readable; bytes = refl };
 }
 
-module _ (Readable : List Value → Type 0) (command : List Value → List ℕ) (payloads : List Value → List (List ℕ)) (limits : Limits) (give : Params → Given) (sets : List Params) (others : List Given) (start out : List ℕ) (i : ℕ)
+module _ {S : Type 0} (Readable : List Value → Type 0) (command : List Value → List ℕ) (payloads : List Value → List (List ℕ)) (limits : Limits) (give : S → Given) (sets : List S) (others : List Given) (start out : List ℕ) (i : ℕ)
     (s : SetsSent Readable command payloads limits give sets others start out i) where
-  module _ (params : Params) (here : drop i sets ≡ params ∷ drop (i + 1) sets) where
+  module _ (set : S) (here : drop i sets ≡ set ∷ drop (i + 1) sets) where
     -- the first cause from this set on
-    from_here : first_of_sets (set_cause command limits) 0 (map give sets ++ others) ≡ option_or (set_cause command limits i (give params)) (first_of_sets (set_cause command limits) (i + 1) (map give (drop (i + 1) sets) ++ others))
+    from_here : first_of_sets (set_cause command limits) 0 (map give sets ++ others) ≡ option_or (set_cause command limits i (give set)) (first_of_sets (set_cause command limits) (i + 1) (map give (drop (i + 1) sets) ++ others))
     from_here = sym s.causes ∙ ap (λ l. first_of_sets (set_cause command limits) i (map give l ++ others)) here
 
     -- one more set was sent
-    pub one_more : (new : List ℕ) → (a : AppendsSet command payloads limits i (give params) out new) → Readable a.values → SetsSent Readable command payloads limits give sets others start new (i + 1)
+    pub one_more : (new : List ℕ) → (a : AppendsSet command payloads limits i (give set) out new) → Readable a.values → SetsSent Readable command payloads limits give sets others start new (i + 1)
     one_more new a readable =
-        let none : set_cause command limits i (give params) ≡ None = ap (λ g. set_cause command limits i g) a.gives ∙ a.none in
+        let none : set_cause command limits i (give set) ≡ None = ap (λ g. set_cause command limits i g) a.gives ∙ a.none in
         record {
           causes = sym (from_here ∙ ap (λ c. option_or c (first_of_sets (set_cause command limits) (i + 1) (map give (drop (i + 1) sets) ++ others))) none);
           rest = λ later gives readings. one_rest later gives readings;
@@ -74,7 +73,7 @@ module _ (Readable : List Value → Type 0) (command : List Value → List ℕ) 
             }
 
     -- a set that is refused is the first
-    pub first_refused : (refusal : Refusal) → set_cause command limits i (give params) ≡ Some refusal → first_of_sets (set_cause command limits) 0 (map give sets ++ others) ≡ Some refusal
+    pub first_refused : (refusal : Refusal) → set_cause command limits i (give set) ≡ Some refusal → first_of_sets (set_cause command limits) 0 (map give sets ++ others) ≡ Some refusal
     first_refused refusal this = from_here ∙ ap (λ c. option_or c (first_of_sets (set_cause command limits) (i + 1) (map give (drop (i + 1) sets) ++ others))) this
 
   module _ (passed : length sets ≤ i) where

@@ -1,5 +1,5 @@
 -- The steps of sending sets one after another as executions of a statement.
-use Rattle.std.proofs.Common.{◌≡◌, ℕ, ◌+◌, ◌-◌, ◌≤◌, nat_lt, Bool, false, List, [], ◌∷◌, ◌++◌, length, map, take, drop, Option, Some, None, Ok, refl, sym, ◌∙◌, ap, subst, arith, inl, inr, append_assoc}
+use Rattle.std.proofs.Common.{◌≡◌, ℕ, ◌+◌, ◌-◌, ◌≤◌, nat_lt, Bool, false, List, [], ◌∷◌, ◌++◌, length, map, take, drop, Some, None, Ok, refl, sym, ◌∙◌, ap, subst, arith, inl, inr, append_assoc}
 use Rattle.std.specs.List.{AllByRecursion, flat_map}
 use Rattle.std.specs.Option.{option_or}
 use Rattle.std.proofs.lemmas.Bool.{le-ltb}
@@ -18,13 +18,13 @@ use Rattle.mysql_streams.specs.declared.refusal.Refusal.{Refusal}
 use Rattle.mysql_streams.specs.declared.refusal.Refusal.TheVariants as refusals
 use Rattle.mysql_streams.specs.declared.road.Road.TheVariants.{Execute}
 use Rattle.mysql_streams.specs.Commands.{prepare_command}
-use Rattle.mysql_streams.specs.Sets.{Given, given_by, given_up_to}
+use Rattle.mysql_streams.specs.Sets.{Given, given_by}
 use Rattle.mysql_streams.specs.Sent.{SentPayload, Statement, as_execution, on_the_way, parsed_of, payloads_of, prepare_of, statement_of}
 use Rattle.mysql_streams.specs.Cause.{Limits, cause_if, first_of_sets, limits_of, max_places, prepare_cause, set_cause}
 use Rattle.mysql_streams.specs.Reading.{SentReadable}
 use Rattle.mysql_streams.specs.Sending.{RefusesGiven}
 use Rattle.mysql_senders.specs.OneSet.{AppendsExecution, AppendsExecutions, IsPreparable, RefusesSet, RefusesSets, behind, execution_payloads, whole_execution}
-use Rattle.mysql_senders.proofs.Contents.{given_is, gives_values}
+use Rattle.mysql_senders.proofs.Contents.{gives_values}
 use Rattle.mysql_senders.proofs.SentSets.{AllSent, SetsSent, all_sent as all_of, cause_behind, first_of_two, first_refused, front_length, none_of_two, none_sent as none_of, one_more}
 
 -- the values' numbers fit their fields
@@ -33,59 +33,61 @@ Fit values = AllByRecursion (λ value. FitsFields value) values
 
 -- ---- sets one after another
 
--- so many executions were sent
-pub record ExecutionsSent (id : ℕ) (limits : Limits) (names : List (List ℕ)) (sets : List Params) (stop : Option SetError) (old out : List ℕ) (i : ℕ) : Type 0 where
-  pub sent : SetsSent Fit (whole_execution id) (execution_payloads id) limits (given_by names) sets (behind stop) old out i
+-- so many executions were sent of what is given: by these sets, and by others behind them
+pub record ExecutionsSent {S : Type 0} (id : ℕ) (limits : Limits) (given : List Given) (give : S → Given) (sets : List S) (others : List Given) (old out : List ℕ) (i : ℕ) : Type 0 where
+  pub given_is : given ≡ map give sets ++ others
+  pub sent : SetsSent Fit (whole_execution id) (execution_payloads id) limits give sets others old out i
   pub kept : take (length old) out ≡ old
 
 -- before the first set none was sent
-pub none_sent : (id : ℕ) (limits : Limits) (names : List (List ℕ)) (sets : List Params) (stop : Option SetError) (old : List ℕ) → ExecutionsSent id limits names sets stop old old 0
-none_sent id limits names sets stop old = record { sent = none_of Fit (whole_execution id) (execution_payloads id) limits (given_by names) sets (behind stop) old; kept = take_all (length old) old (omega arith) }
+pub none_sent : {S : Type 0} (id : ℕ) (limits : Limits) (given : List Given) (give : S → Given) (sets : List S) (others : List Given) (old : List ℕ) → given ≡ map give sets ++ others → ExecutionsSent id limits given give sets others old old 0
+none_sent id limits given give sets others old is = record {
+  given_is = is;
+  sent = none_of Fit (whole_execution id) (execution_payloads id) limits give sets others old;
+  kept = take_all (length old) old (omega arith);
+}
 
--- what sets give that are refused
-refused_set : (id : ℕ) (limits : Limits) (names : List (List ℕ)) (sets : List Params) (stop : Option SetError) (refusal : Refusal) →
-    first_of_sets (set_cause (whole_execution id) limits) 0 (map (given_by names) sets ++ behind stop) ≡ Some refusal → RefusesSets (whole_execution id) limits (given_up_to sets stop names) refusal
-refused_set id limits names sets stop refusal this = inr (ap (λ g. first_of_sets (set_cause (whole_execution id) limits) 0 g) (given_is sets stop names) ∙ this)
+module _ {S : Type 0} (id : ℕ) (limits : Limits) (given : List Given) (give : S → Given) (sets : List S) (others : List Given) (old out : List ℕ) (i : ℕ) (s : ExecutionsSent id limits given give sets others old out i) where
+  -- what is given is refused for the first cause of the sets and the others
+  refused : (refusal : Refusal) → first_of_sets (set_cause (whole_execution id) limits) 0 (map give sets ++ others) ≡ Some refusal → RefusesSets (whole_execution id) limits given refusal
+  refused refusal this = inr (ap (λ g. first_of_sets (set_cause (whole_execution id) limits) 0 g) s.given_is ∙ this)
 
-module _ (id : ℕ) (limits : Limits) (names : List (List ℕ)) (sets : List Params) (stop : Option SetError) (old out : List ℕ) (i : ℕ) (s : ExecutionsSent id limits names sets stop old out i) where
   -- one more set was sent
-  pub sent_next : (params : Params) → drop i sets ≡ params ∷ drop (i + 1) sets → (new : List ℕ) → AppendsExecution id limits i (given_by names params) out new → ExecutionsSent id limits names sets stop old new (i + 1)
-  sent_next params here new a = record {
-    sent = one_more Fit (whole_execution id) (execution_payloads id) limits (given_by names) sets (behind stop) old out i s.sent params here new a.appends a.fit;
+  pub sent_next : (set : S) → drop i sets ≡ set ∷ drop (i + 1) sets → (new : List ℕ) → AppendsExecution id limits i (give set) out new → ExecutionsSent id limits given give sets others old new (i + 1)
+  sent_next set here new a = record {
+    given_is = s.given_is;
+    sent = one_more Fit (whole_execution id) (execution_payloads id) limits give sets others old out i s.sent set here new a.appends a.fit;
     kept = ap (λ l. take (length old) l) a.appends.appended ∙ take-append-le (length old) out (framings (execution_payloads id a.appends.values) EachFromZero) (front_length old out s.kept) ∙ s.kept;
   }
 
   -- a set is refused
-  pub refused_at : (params : Params) → drop i sets ≡ params ∷ drop (i + 1) sets → (refusal : Refusal) → RefusesSet (whole_execution id) limits i (given_by names params) refusal → RefusesSets (whole_execution id) limits (given_up_to sets stop names) refusal
-  refused_at params here refusal (inl memory) = inl memory
-  refused_at params here refusal (inr this) =
-      refused_set id limits names sets stop refusal (first_refused Fit (whole_execution id) (execution_payloads id) limits (given_by names) sets (behind stop) old out i s.sent params here refusal this)
+  pub refused_at : (set : S) → drop i sets ≡ set ∷ drop (i + 1) sets → (refusal : Refusal) → RefusesSet (whole_execution id) limits i (give set) refusal → RefusesSets (whole_execution id) limits given refusal
+  refused_at set here refusal (inl memory) = inl memory
+  refused_at set here refusal (inr this) = refused refusal (first_refused Fit (whole_execution id) (execution_payloads id) limits give sets others old out i s.sent set here refusal this)
 
-  -- the first cause behind all sets is that of the set that stops
-  cause_at_end : length sets ≤ i → first_of_sets (set_cause (whole_execution id) limits) 0 (map (given_by names) sets ++ behind stop) ≡ first_of_sets (set_cause (whole_execution id) limits) i (behind stop)
-  cause_at_end passed = cause_behind Fit (whole_execution id) (execution_payloads id) limits (given_by names) sets (behind stop) old out i s.sent passed
+  -- the first cause behind all sets is that of the others
+  cause_at_end : length sets ≤ i → first_of_sets (set_cause (whole_execution id) limits) 0 (map give sets ++ others) ≡ first_of_sets (set_cause (whole_execution id) limits) i others
+  cause_at_end passed = cause_behind Fit (whole_execution id) (execution_payloads id) limits give sets others old out i s.sent passed
 
   -- the set behind all others gives no values
-  pub refused_behind : i ≡ length sets → (refusal : Refusal) → (error : SetError) × (stop ≡ Some error) × (refusal ≡ refusals.Params (length sets) error) → RefusesSets (whole_execution id) limits (given_up_to sets stop names) refusal
+  pub refused_behind : i ≡ length sets → (refusal : Refusal) → (error : SetError) × (others ≡ behind (Some error)) × (refusal ≡ refusals.Params (length sets) error) → RefusesSets (whole_execution id) limits given refusal
   refused_behind at refusal why =
-      refused_set id limits names sets stop refusal
+      refused refusal
       (cause_at_end (omega (arith, at))
-      ∙ ap (λ o. first_of_sets (set_cause (whole_execution id) limits) i (behind o)) why.1
+      ∙ ap (λ l. first_of_sets (set_cause (whole_execution id) limits) i l) why.1
       ∙ ap (λ n. Some (refusals.Params n why.0)) at ∙ ap Some (sym why.2))
 
--- all sets were sent, and no set stands behind them
-pub all_sent : (id : ℕ) (limits : Limits) (names : List (List ℕ)) (sets : List Params) (stop : Option SetError) (old out : List ℕ) (i : ℕ) → ExecutionsSent id limits names sets stop old out i → length sets ≤ i → stop ≡ None
-    → AppendsExecutions id limits (given_up_to sets stop names) old out
-all_sent id limits names sets (Some error) old out i s passed is = cc
-all_sent id limits names sets None old out i s passed is =
-    let all : AllSent Fit (execution_payloads id) (map (given_by names) sets) old [] out = all_of Fit (whole_execution id) (execution_payloads id) limits (given_by names) sets [] old out i s.sent passed in
-    record {
-      values = all.values;
-      gives = all.gives;
-      none = ap (λ g. first_of_sets (set_cause (whole_execution id) limits) 0 g) (given_is sets None names) ∙ cause_at_end id limits names sets None old out i s passed;
-      fit = all.readable;
-      appended = sym (append-nil out) ∙ sym all.bytes;
-    }
+  -- all sets were sent, and no set stands behind them
+  pub all_sent : length sets ≤ i → others ≡ [] → AppendsExecutions id limits given old out
+  all_sent passed none =
+      let all : AllSent Fit (execution_payloads id) (map give sets) old [] out = all_of Fit (whole_execution id) (execution_payloads id) limits give sets others old out i s.sent passed in
+      record {
+        values = all.values;
+        gives = s.given_is ∙ ap (λ l. map give sets ++ l) none ∙ append-nil (map give sets) ∙ all.gives;
+        none = ap (λ g. first_of_sets (set_cause (whole_execution id) limits) 0 g) s.given_is ∙ cause_at_end passed ∙ ap (λ l. first_of_sets (set_cause (whole_execution id) limits) i l) none;
+        fit = all.readable;
+        appended = sym (append-nil out) ∙ sym all.bytes;
+      }
 
 -- ---- the prepare, and all sets
 
@@ -122,15 +124,16 @@ execution_payloads_of statement (values ∷ sets) =
     ∙ ap (λ l. l ++ payloads_of (flat_map (as_execution statement) sets)) (payloads_of_one statement values _ _)
     ∙ ap (λ l. execution_payloads statement.id values ++ l) (execution_payloads_of statement sets)
 
-module _ (query : List ℕ) (parsed : Parsed) (places : ℕ) (s : IsPreparable query parsed places) (sets : List Params) (stop : Option SetError) (id limit : ℕ) where
+module _ (query : List ℕ) (parsed : Parsed) (places : ℕ) (s : IsPreparable query parsed places) (sets : List (List ℕ) → List Given) (number id limit : ℕ) (same : number ≡ id) where
   few : nat_lt max_places (length (places_from query 0 s.tokens)) ≡ false
   few = le-ltb max_places (length (places_from query 0 s.tokens)) (omega (arith, s.few, s.count))
 
-  -- what was said over the statement's names and count is said over the tokens'
-  over_tokens : (P : Limits → List Given → Type 0) → P (record { places = places; bytes = limit - 4 }) (given_up_to sets stop parsed.names) → P (limits_of (places_from query 0 s.tokens) limit) (given_up_to sets stop (names_of s.tokens))
+  -- what was said over the statement's number, count and names is said over the id and the tokens'
+  over_tokens : (P : ℕ → Limits → List Given → Type 0) → P number (record { places = places; bytes = limit - 4 }) (sets parsed.names) → P id (limits_of (places_from query 0 s.tokens) limit) (sets (names_of s.tokens))
   over_tokens P holds =
-      subst (λ (names : List (List ℕ)). P (limits_of (places_from query 0 s.tokens) limit) (given_up_to sets stop names)) s.names_are
-      (subst (λ (n : ℕ). P (record { places = n; bytes = limit - 4 }) (given_up_to sets stop parsed.names)) s.count holds)
+      subst (λ (names : List (List ℕ)). P id (limits_of (places_from query 0 s.tokens) limit) (sets names)) s.names_are
+      (subst (λ (n : ℕ). P id (record { places = n; bytes = limit - 4 }) (sets parsed.names)) s.count
+      (subst (λ (n : ℕ). P n (record { places = places; bytes = limit - 4 }) (sets parsed.names)) same holds))
 
   module _ (short : length (prepare_command parsed.query) ≤ limit - 4) where
     prepared : prepare_cause (places_from query 0 s.tokens) (parsed_of s.tokens) (limit - 4) ≡ None
@@ -139,11 +142,11 @@ module _ (query : List ℕ) (parsed : Parsed) (places : ℕ) (s : IsPreparable q
         (subst (λ (l : List ℕ). nat_lt (limit - 4) (length (prepare_command l)) ≡ false) s.query_is (le-ltb (limit - 4) (length (prepare_command parsed.query)) short))
 
     -- a set is refused behind the prepare
-    pub refused_sets : (refusal : Refusal) → RefusesSets (whole_execution id) (record { places = places; bytes = limit - 4 }) (given_up_to sets stop parsed.names) refusal → RefusesGiven Execute query (given_up_to sets stop) id limit refusal
+    pub refused_sets : (refusal : Refusal) → RefusesSets (whole_execution number) (record { places = places; bytes = limit - 4 }) (sets parsed.names) refusal → RefusesGiven Execute query sets id limit refusal
     refused_sets refusal (inl memory) = inl memory
     refused_sets refusal (inr this) =
-        let cause : first_of_sets (set_cause (whole_execution id) (limits_of (places_from query 0 s.tokens) limit)) 0 (given_up_to sets stop (names_of s.tokens)) ≡ Some refusal =
-        over_tokens (λ limits given. first_of_sets (set_cause (whole_execution id) limits) 0 given ≡ Some refusal) this in
+        let cause : first_of_sets (set_cause (whole_execution id) (limits_of (places_from query 0 s.tokens) limit)) 0 (sets (names_of s.tokens)) ≡ Some refusal =
+        over_tokens (λ n limits given. first_of_sets (set_cause (whole_execution n) limits) 0 given ≡ Some refusal) this in
         inr (record {
           tokens = s.tokens;
           has = s.has;
@@ -151,10 +154,10 @@ module _ (query : List ℕ) (parsed : Parsed) (places : ℕ) (s : IsPreparable q
         })
 
     -- the prepare and all sets were sent
-    pub all_executed : (old mid new : List ℕ) → mid ≡ old ++ framing (prepare_command parsed.query) 0 → AppendsExecutions id (record { places = places; bytes = limit - 4 }) (given_up_to sets stop parsed.names) mid new →
-        SentReadable Execute query (given_up_to sets stop) id limit old new
+    pub all_executed : (old mid new : List ℕ) → mid ≡ old ++ framing (prepare_command parsed.query) 0 → AppendsExecutions number (record { places = places; bytes = limit - 4 }) (sets parsed.names) mid new →
+        SentReadable Execute query sets id limit old new
     all_executed old mid new put sent =
-        let a : AppendsExecutions id (limits_of (places_from query 0 s.tokens) limit) (given_up_to sets stop (names_of s.tokens)) mid new = over_tokens (λ limits given. AppendsExecutions id limits given mid new) sent in
+        let a : AppendsExecutions id (limits_of (places_from query 0 s.tokens) limit) (sets (names_of s.tokens)) mid new = over_tokens (λ n limits given. AppendsExecutions n limits given mid new) sent in
         let prepare : mid ≡ old ++ framing (prepare_command (parsed_of s.tokens)) 0 = put ∙ ap (λ l. old ++ framing (prepare_command l) 0) s.query_is in
         let statement : Statement = statement_of query s.tokens id in
         record {

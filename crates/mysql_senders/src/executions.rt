@@ -1,6 +1,6 @@
 //! Parameter sets as executions of a prepared statement.
 
-ghost use Rattle.std.specs.Prelude.{◌≡◌, ◌++◌, ◌≤◌, ℕ, IfErr, None, Ok, OnErr, OnOk, Some, length, map, nat_lt, take};
+ghost use Rattle.std.specs.Prelude.{◌≡◌, ◌++◌, ◌≤◌, ℕ, IfErr, IfOk, None, Ok, OnErr, OnOk, Some, length, map, nat_lt, take};
 ghost use Rattle.mysql_wire.specs.Framing.{framing};
 ghost use Rattle.mysql_wire.specs.Stream.{framings};
 ghost use Rattle.mysql_wire.specs.Stream.Numbering.{EachFromZero};
@@ -8,7 +8,7 @@ ghost use Rattle.mysql_streams.specs.Cause.{set_cause};
 ghost use Rattle.mysql_streams.specs.Commands.{piece_of, pieces_from};
 ghost use Rattle.mysql_streams.specs.Reading.{SentReadable};
 ghost use Rattle.mysql_streams.specs.Sending.{RefusesGiven};
-ghost use Rattle.mysql_streams.specs.Sets.{given_by, given_up_to};
+ghost use Rattle.mysql_streams.specs.Sets.{all_given_in_places, given_by, given_up_to};
 ghost use Rattle.mysql_streams.specs.declared.refusal.Refusal.TheVariants as refusals;
 ghost use Rattle.mysql_streams.specs.declared.road.Road.TheVariants as roads;
 ghost use Rattle.mysql_senders.specs.OneSet.{AppendsExecution, AppendsExecutions, RefusesSet, RefusesSets, execution_payloads, whole_execution};
@@ -21,7 +21,7 @@ use mysql_stmt::{ComStmtExecuteRequestBuilder, ComStmtSendLongData};
 use mysql_streams::Refusal;
 use mysql_values::{Params, SetError, Value};
 use mysql_wire::packet_to_chunks;
-use std::alloc::Global;
+use std::alloc::{AllocError, Global};
 use std::borrow::CowSlice;
 
 /// Appends a payload, which is made in a buffer of its own.
@@ -186,6 +186,52 @@ fn put_sets(
     check_stop(stop, sets.len())
 }
 
+/// References to values, in their order.
+fn references<'a>(alloc: Global, values: &'a [Value]) -> Result<Vec<&'a Value>, AllocError>
+    ensures { IfOk result (λ references. map (λ value. value.now) references.items ≡ values.entry.now) }
+{
+    values.iter().collect(alloc)
+}
+
+/// Appends the execution with a set's values.
+fn put_list(
+    alloc: Global,
+    statement: &Statement<'_>,
+    set: usize,
+    values: &[Value],
+    room: usize,
+    command: &mut Vec<u8>,
+    out: &mut Vec<u8>,
+) -> Result<(), Refusal>
+    requires { statement.now.places ≤ 65535 }
+    ensures ok { OnOk result (AppendsExecution statement.now.id (record { places = statement.now.places; bytes = room }) set (Ok values.now) out.old.items out.new.items) }
+    ensures err { IfErr result (RefusesSet (whole_execution statement.now.id) (record { places = statement.now.places; bytes = room }) set (Ok values.now)) }
+    ensures kept { take (length out.old.items) out.new.items ≡ out.old.items }
+{
+    let values = references(alloc, values)?;
+    put_values(alloc, statement, set, values, room, command, out)
+}
+
+/// Appends the execution of each set of values.
+fn put_lists(
+    alloc: Global,
+    statement: &Statement<'_>,
+    sets: &[Vec<Value>],
+    room: usize,
+    out: &mut Vec<u8>,
+) -> Result<(), Refusal>
+    requires { statement.now.places ≤ 65535 }
+    ensures ok { OnOk result (AppendsExecutions statement.now.id (record { places = statement.now.places; bytes = room }) (all_given_in_places (map (λ set. set.items) sets.now) statement.now.parsed.names) out.old.items out.new.items) }
+    ensures err { IfErr result (RefusesSets (whole_execution statement.now.id) (record { places = statement.now.places; bytes = room }) (all_given_in_places (map (λ set. set.items) sets.now) statement.now.parsed.names)) }
+    ensures kept { take (length out.old.items) out.new.items ≡ out.old.items }
+{
+    let mut command = Vec::new(alloc);
+    'sets: for (set, values) in sets.iter().enumerate() {
+        put_list(alloc, statement, set, values, room, &mut command, out)?;
+    }
+    Ok(())
+}
+
 /// Appends the commands that carry parameter sets of a query to a server as executions of a prepared statement, each framed as
 /// packets that are numbered from 0: one prepare, also where there are no sets, and an execution of the statement `stmt_id` for
 /// each set. An execution of more than 16777215 bytes is sent without its byte strings, each of which goes before it as long data
@@ -215,4 +261,30 @@ pub fn put_executions(
     let statement = statement_of(alloc, query, stmt_id)?;
     put_prepare(alloc, &statement, limit - 4, out)?;
     put_sets(alloc, &statement, sets, stop, limit - 4, out)
+}
+
+/// The same as [`put_executions`] over sets of values that stand in the order of the query's placeholders.
+///
+/// # Errors
+/// The first cause that holds, in the order of [`Refusal`]: `Mixed`, `TooManyPlaces`, `PrepareTooLarge`; set by set `WrongCount`,
+/// `Float`, `PacketTooLarge`; `Memory` where a growth was refused.
+///
+/// MySQL: Client/Server Protocol, "COM_STMT_PREPARE", "COM_STMT_SEND_LONG_DATA", "COM_STMT_EXECUTE".
+pub fn put_executions_of_values(
+    alloc: Global,
+    query: &[u8],
+    sets: &[Vec<Value>],
+    stmt_id: u32,
+    limit: usize,
+    out: &mut Vec<u8>,
+) -> Result<(), Refusal>
+    requires { 4 ≤ limit }
+    ensures ok { OnOk result (SentReadable roads.Execute query.now (all_given_in_places (map (λ set. set.items) sets.now)) stmt_id limit out.old.items out.new.items) }
+    ensures err { IfErr result (RefusesGiven roads.Execute query.now (all_given_in_places (map (λ set. set.items) sets.now)) stmt_id limit) }
+    ensures kept { take (length out.old.items) out.new.items ≡ out.old.items }
+{
+    let statement = statement_of(alloc, query, stmt_id)?;
+    let room = limit - 4;
+    put_prepare(alloc, &statement, room, out)?;
+    put_lists(alloc, &statement, sets, room, out)
 }

@@ -10,5 +10,5 @@ mod statement;
 mod text_queries;
 
 pub use bulk_requests::put_requests;
-pub use executions::put_executions;
+pub use executions::{put_executions, put_executions_of_values};
 pub use text_queries::put_queries;

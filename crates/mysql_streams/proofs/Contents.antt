@@ -1,5 +1,5 @@
 -- What sets give, and what it holds where no cause speaks against it.
-use Rattle.std.proofs.Common.{◌≡◌, ℕ, suc, ◌+◌, ◌-◌, ◌≤◌, ◌==◌, Bool, true, false, List, [], ◌∷◌, length, map, filter, Option, Some, None, Result, Ok, Err, refl, sym, ◌∙◌, ap, arith, is_none, nat_lt, cond, unwrap_or, if◌then◌else◌}
+use Rattle.std.proofs.Common.{◌≡◌, ℕ, suc, ◌+◌, ◌-◌, ◌≤◌, ◌==◌, Bool, true, false, List, [], ◌∷◌, length, map, filter, Option, Some, None, Result, Ok, Err, refl, ◌∙◌, ap, arith, is_none, nat_lt, cond, unwrap_or, if◌then◌else◌}
 use Rattle.std.specs.List.{AllByRecursion, AllZip, position_from}
 use Rattle.std.specs.Option.{option_map, option_or}
 use Rattle.std.specs.Result.{result_map_both}
@@ -18,37 +18,17 @@ use Rattle.mysql_values.specs.Queries.{is_place, place_at, places_from}
 use Rattle.mysql_values.specs.Tokens.{HasTokens}
 use Rattle.mysql_streams.specs.declared.refusal.Refusal.{Refusal}
 use Rattle.mysql_streams.specs.declared.refusal.Refusal.TheVariants as refusals
-use Rattle.mysql_streams.specs.Sets.{Given, given_by}
+use Rattle.mysql_streams.specs.Sets.{given_by}
 use Rattle.mysql_streams.specs.Cause.{Limits, cause_if, first_of_sets, given_cause, set_cause, size_cause}
 use Rattle.mysql_streams.specs.Reading.{held}
 
 -- ---- what sets give
-
--- values over a query's names are given
-pub gives_values : (names : List (List ℕ)) (params : Params) (values : List Value) → values_over names params ≡ Ok values → given_by names params ≡ Ok values
-gives_values names params values over = ap (λ (o : Result (List Value) ParamsError). result_map_both (λ values. values) (λ error. set_error.Params error) o) over
 
 -- values that are given are those over the query's names
 given_over : (over : Result (List Value) ParamsError) (values : List Value) → result_map_both (λ (v : List Value). v) (λ error. set_error.Params error) over ≡ Ok values → over ≡ Ok values
 given_over (Ok others) values gives =
     let same : others ≡ values = cc in ap (λ v. Ok v) same
 given_over (Err error) values gives = cc
-
--- a set gives one list of values
-pub gives_one : (given : Given) (values others : List Value) → given ≡ Ok values → given ≡ Ok others → values ≡ others
-gives_one (Ok those) values others first second =
-    let one : those ≡ values = cc in
-    let other : those ≡ others = cc in
-    sym one ∙ other
-gives_one (Err error) values others first second = cc
-
--- as many lists of values as sets that give them
-pub as_many_given : (give : Params → Given) (sets : List Params) (values : List (List Value)) → map give sets ≡ map Ok values → length values ≡ length sets
-as_many_given give [] [] gives = refl
-as_many_given give [] (first ∷ values) gives = cc
-as_many_given give (params ∷ sets) [] gives = cc
-as_many_given give (params ∷ sets) (first ∷ values) gives =
-    let others : map give sets ≡ map Ok values = cc in ap (λ n. suc n) (as_many_given give sets values others)
 
 -- ---- causes
 
@@ -91,16 +71,6 @@ short_each command limits number (values ∷ sets) none =
     ((good command limits number values parts.0).short, short_each command limits (number + 1) sets parts.1)
 
 -- ---- contents
-
--- the contents of values are what they hold
-pub held_contents : (values : List Value) (contents : List Content) → map content_of values ≡ map Some contents → contents ≡ map held values
-held_contents [] [] each = refl
-held_contents [] (content ∷ contents) each = cc
-held_contents (value ∷ values) [] each = cc
-held_contents (value ∷ values) (content ∷ contents) each =
-    let first : content_of value ≡ Some content = cc in
-    let others : map content_of values ≡ map Some contents = cc in
-    ap (λ c. c ∷ contents) (sym (ap (λ o. unwrap_or o Null) first)) ∙ ap (λ l. held value ∷ l) (held_contents values contents others)
 
 no_float : (found : Option Content) (n : ℕ) (rest : Option ℕ) → cond (is_none found) (Some n) rest ≡ None → (found ≡ Some (unwrap_or found Null)) × (rest ≡ None)
 no_float None n rest none = cc

@@ -7,6 +7,7 @@ use Rattle.mysql_values.specs.Queries.{pieces_of, places_from}
 use Rattle.mysql_values.specs.Tokens.{HasTokens, question}
 use Rattle.mysql_commands.specs.Audit.{IsAbout}
 use Rattle.mysql_commands.specs.Layout.{Conversation}
+use Rattle.mysql_streams.specs.Laws.{OneConversation}
 use Rattle.mysql_streams.specs.Sent.{parsed_of}
 
 -- a conversation by its parts
@@ -14,7 +15,7 @@ conversation : List ℕ → List ℕ → List Place → ℕ → Conversation
 conversation text parsed places id = record { query = record { text = text; parsed = parsed; places = places }; id = id }
 
 -- a query and an id are those of one conversation
-pub one_conversation : OneTokens → (query : List ℕ) (id : ℕ) (c d : Conversation) → IsAbout c query id → IsAbout d query id → c ≡ d
+pub one_conversation : OneTokens → OneConversation
 unfolding conversation
 one_conversation once query id c d first second =
     let text : c.query.text ≡ d.query.text = first.text ∙ sym second.text in

@@ -6,17 +6,18 @@ use Rattle.mysql_values.specs.Content.{Content}
 use Rattle.mysql_values.specs.Value.{Value}
 use Rattle.mysql_values.specs.declared.params.Params.{Params}
 use Rattle.mysql_values.specs.Tokens.{HasTokens}
-use Rattle.mysql_commands.specs.Audit.{IsAbout, Read}
+use Rattle.mysql_commands.specs.declared.audit.End.TheVariants.{Whole}
+use Rattle.mysql_commands.specs.Audit.{AuditOf, IsAbout, Read}
 use Rattle.mysql_commands.specs.InForce.{is_waiting, nothing_yet, state_after}
 use Rattle.mysql_commands.specs.Layout.{Conversation}
 use Rattle.mysql_bulk_builder.specs.Cut.{Row, rows_size}
 use Rattle.mysql_bulk_builder.specs.TypedCut.{Part}
 use Rattle.mysql_streams.specs.declared.road.Road.{Road}
 use Rattle.mysql_streams.specs.Commands.{bulk_request, types_size}
-use Rattle.mysql_streams.specs.Sets.{all_given}
+use Rattle.mysql_streams.specs.Sets.{Given, all_given}
 use Rattle.mysql_streams.specs.Sent.{AreSent, SentPayload, payloads_of, statement_of}
 use Rattle.mysql_streams.specs.Cause.{cause_of}
-use Rattle.mysql_streams.specs.Reading.{IsReadable, ReadsAsMeanings, ReadsBack, SendsWhole, SentReadable, contents_of}
+use Rattle.mysql_streams.specs.Reading.{IsReadable, ReadsAsMeanings, ReadsBack, SendsWhole, SentReadable, contents_of, held}
 
 -- What is sent reads, payload by payload, as the sets that stand whole with each, and no piece waits behind it.
 pub record ReadsEach (c : Conversation) (limit : ℕ) (sent : List SentPayload) : Type 0 where
@@ -31,6 +32,22 @@ SentPayloadsRead road =
     → HasTokens query tokens → id < 2 ^ 32 → 4 ≤ limit → IsAbout c query id
     → cause_of road (statement_of query tokens id) limit (map Ok values) ≡ None → AreSent road (statement_of query tokens id) (limit - 4) values sent
     → AllByRecursion (IsReadable road query tokens) values → ReadsEach c limit sent
+
+-- what was appended reads, to its end, as what these sets of values hold
+pub record CarriesValues (query : List ℕ) (values : List (List Value)) (id limit : ℕ) (old new : List ℕ) : Type 0 where
+  pub stream : List ℕ
+  pub appended : new ≡ old ++ stream
+  pub audit : AuditOf query id limit stream (record { sets = map (map held) values; ending = Whole })
+
+-- Values that were sent, in fewer than 2 ^ 64 bytes, are carried by what was appended, whichever sets gave them.
+abbrev pub SentValuesAreCarried : Type 0
+SentValuesAreCarried =
+    (road : Road) (query : List ℕ) (sets : List (List ℕ) → List Given) (id limit : ℕ) (old new : List ℕ) → id < 2 ^ 32 → 4 ≤ limit → length new < 2 ^ 64
+    → (sent : SentReadable road query sets id limit old new) → CarriesValues query sent.sends.values id limit old new
+
+-- A query and an id have one conversation.
+abbrev pub OneConversation : Type 0
+OneConversation = (query : List ℕ) (id : ℕ) (c d : Conversation) → IsAbout c query id → IsAbout d query id → c ≡ d
 
 -- Sets that were sent, in fewer than 2 ^ 64 bytes, are read back, each front of their stream reads as the sets that stand whole in it, and by bulk no requests could be fewer.
 pub record IsDelivered (road : Road) (query : List ℕ) (sets : List Params) (id limit : ℕ) (old new : List ℕ) : Type 0 where

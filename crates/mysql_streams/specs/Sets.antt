@@ -1,6 +1,6 @@
 -- What sets give a query: all that is sent of them, and all that speaks against them, is stated over this.
 -- MySQL Reference Manual, "PREPARE Statement" (parameter markers); names as placeholders are a form of client libraries.
-use Rattle.std.specs.Prelude.{ℕ, List, [], ◌∷◌, ◌++◌, map, Option, None, Some, Result, Err}
+use Rattle.std.specs.Prelude.{ℕ, List, [], ◌∷◌, ◌++◌, map, Option, None, Some, Result, Err, Ok}
 use Rattle.std.specs.List.{filter_map}
 use Rattle.std.specs.Result.{result_map_both, result_ok}
 use Rattle.mysql_values.specs.Value.{Value}
@@ -29,3 +29,7 @@ given_up_to sets (Some error) names = all_given sets names ++ Err error ∷ []
 -- the values of the sets that give any
 abbrev pub values_of : List Given → List (List Value)
 values_of given = filter_map (λ set. result_ok set) given
+
+-- what each of the sets of values gives it, whatever its names: they stand in the order of the placeholders
+abbrev pub all_given_in_places : List (List Value) → List (List ℕ) → List Given
+all_given_in_places sets names = map Ok sets

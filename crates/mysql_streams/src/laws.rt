@@ -1,6 +1,6 @@
 //! Laws of what is sent. Functions without a result do nothing: their contracts are the laws.
 
-ghost use Rattle.mysql_streams.specs.Laws.{RequestsHaveTheirSize, RoadsReadEqually, SentPayloadsRead, SentSetsAreDelivered, SentStreamsJoin};
+ghost use Rattle.mysql_streams.specs.Laws.{OneConversation, RequestsHaveTheirSize, RoadsReadEqually, SentPayloadsRead, SentSetsAreDelivered, SentStreamsJoin, SentValuesAreCarried};
 ghost use Rattle.mysql_streams.specs.declared.road.Road.TheVariants as roads;
 
 use mysql_bulk_builder::laws::{tight_typed_has_fewest, types_in_force_serve};
@@ -44,6 +44,22 @@ pub fn requests_read()
     types_in_force_serve();
 }
 
+/// A query and an id have one conversation.
+pub fn conversations_are_one()
+    ensures { OneConversation }
+{
+    tokens_of_a_text();
+}
+
+/// Values that were sent are carried by what was appended, whichever sets gave them.
+pub fn sent_values_are_carried()
+    ensures { SentValuesAreCarried }
+{
+    queries_read();
+    executions_read();
+    requests_read();
+}
+
 /// Sets that were sent are read back, each front of their stream reads as the sets that stand whole in it, and by bulk no
 /// requests could be fewer.
 pub fn sent_sets_are_delivered()
@@ -52,6 +68,7 @@ pub fn sent_sets_are_delivered()
     queries_read();
     executions_read();
     requests_read();
+    sent_values_are_carried();
     fronts_read_on();
     tokens_of_a_text();
     tight_typed_has_fewest();

@@ -3,6 +3,8 @@
 -- "Working with NULL Values".
 use Rattle.std.specs.Prelude.{ℕ, ℤ, pos, negsuc, suc, ◌+◌, ◌/◌, ◌%◌, ◌^◌, Bool, true, false, nat_le, nat_lt, ◌∷◌, Option, Some, None, if◌then◌else◌}
 use Rattle.std.specs.Fmt.{decimal}
+use Rattle.mysql_queries.specs.declared.content.Content.{Content}
+use Rattle.mysql_queries.specs.declared.content.Content.TheVariants as content
 use Rattle.mysql_cells.specs.declared.value.Value.{Value}
 use Rattle.mysql_cells.specs.declared.value.Value.TheVariants.{NULL, Bytes, Int, UInt, Time}
 
@@ -35,3 +37,9 @@ duration_value nanos = time_value (rounded nanos)
 abbrev pub value_or_null : {T : Type 0} → (T → Option Value) → Option T → Option Value
 value_or_null as_value None = Some NULL
 value_or_null as_value (Some x) = as_value x
+
+-- The value that a content is sent as: NULL, a number as Int where it fits, else UInt, or bytes.
+abbrev pub content_value : Content → Value
+content_value content.Null = NULL
+content_value (content.Number number) = integer_value number
+content_value (content.Bytes bytes) = Bytes bytes

@@ -1,6 +1,7 @@
 //! Values of Rust's types, and parameter sets made of lists, pairs, tuples and boxed objects.
 #![tactic(auto)]
 
+mod contents;
 pub mod conversion;
 pub mod errors;
 mod integers;

@@ -5,7 +5,7 @@ use mysql_convert::{
     FromValue, FromValueError, Intermediate, ParseIr, ParseIrOpt, ToValue, ToValueError,
     from_value, from_value_opt, get_intermediate,
 };
-use mysql_values::Value;
+use mysql_values::{ByteString, Content, Value};
 use std::alloc::Global;
 use std::borrow::{CowSlice, CowStr};
 use std::convert::AsSlice;
@@ -535,6 +535,28 @@ fn values_of_owned_texts(rt: HostRuntime) {
     let first = Vec::from_slice(rt.alloc(), b"ab");
     let bytes = once_more(&a, first, Vec::from_slice(rt.alloc(), b"ab"));
     assert_gives(&a, rt.alloc(), bytes, Given::Bytes(b"ab"));
+}
+
+/// Numbers that a command carries, and the values that are sent for them.
+const CARRIED: [(i128, Given); 5] = [
+    (-9223372036854775808, Given::Int(i64::MIN)),
+    (-1, Given::Int(-1)),
+    (9223372036854775807, Given::Int(i64::MAX)),
+    (9223372036854775808, Given::UInt(9223372036854775808)),
+    (18446744073709551615, Given::UInt(u64::MAX)),
+];
+
+#[test]
+fn values_of_contents(rt: HostRuntime) {
+    let a = Asserting(&rt);
+    let alloc = rt.alloc();
+    assert_gives(&a, alloc, Content::Null, Given::Null);
+    for (number, wanted) in CARRIED {
+        assert_gives(&a, alloc, Content::Number(number), wanted);
+    }
+    let first = ByteString::copy(alloc, b"ab");
+    let bytes = once_more(&a, first, ByteString::copy(alloc, b"ab"));
+    assert_gives(&a, alloc, Content::Bytes(bytes), Given::Bytes(b"ab"));
 }
 
 /// Nanoseconds, and the time of that duration.

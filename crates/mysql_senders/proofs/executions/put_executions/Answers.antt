@@ -1,8 +1,5 @@
-use Rattle.std.proofs.Common.{◌-◌, ℕ, subst}
-use Rattle.std.specs.Prelude.{IfErr, OnOk}
 use Rattle.mysql_wire.specs.Framing.{framing}
 use Rattle.mysql_streams.specs.Commands.{prepare_command}
-use Rattle.mysql_senders.specs.OneSet.{AppendsExecutions, RefusesSets, whole_execution}
 use Rattle.mysql_streams.specs.Sets.{given_up_to}
 use Rattle.mysql_senders.proofs.SentSets.{on_err, on_ok}
 use Rattle.mysql_senders.proofs.StatementSets.{all_executed, kept_behind, refused_sets}
@@ -11,17 +8,16 @@ use Rattle.mysql_senders.proofs.executions.put_executions.Goals as goal
 pub returns-clause-ok : goal.returns-clause-ok
 returns-clause-ok c =
     on_ok c.put_sets.result
-    (all_executed c.args.query.now c.in_ok-statement.statement.parsed c.in_ok-statement.statement.places c.in_ok-statement.ensures.ok.0 c.args.sets.now c.args.stop c.args.stmt_id c.args.limit c.in_ok-put_prepare.ensures.ok.0
-    c.args.out.now.items c.put_prepare.new.out.items c.put_sets.new.out.items c.in_ok-put_prepare.ensures.ok.1)
-    (subst (λ (id : ℕ). OnOk c.put_sets.result (AppendsExecutions id (record { places = c.in_ok-statement.statement.places; bytes = c.args.limit - 4 }) (given_up_to c.args.sets.now c.args.stop c.in_ok-statement.statement.parsed.names) c.put_prepare.new.out.items c.put_sets.new.out.items))
-    c.in_ok-statement.ensures.ok.1 c.put_sets.ensures.ok)
+    (all_executed c.args.query.now c.in_ok-statement.statement.parsed c.in_ok-statement.statement.places c.in_ok-statement.ensures.ok.0 (given_up_to c.args.sets.now c.args.stop) c.in_ok-statement.statement.id c.args.stmt_id c.args.limit c.in_ok-statement.ensures.ok.1
+    c.in_ok-put_prepare.ensures.ok.0 c.args.out.now.items c.put_prepare.new.out.items c.put_sets.new.out.items c.in_ok-put_prepare.ensures.ok.1)
+    c.put_sets.ensures.ok
 
 pub returns-clause-err : goal.returns-clause-err
 returns-clause-err c =
     on_err c.put_sets.result
-    (refused_sets c.args.query.now c.in_ok-statement.statement.parsed c.in_ok-statement.statement.places c.in_ok-statement.ensures.ok.0 c.args.sets.now c.args.stop c.args.stmt_id c.args.limit c.in_ok-put_prepare.ensures.ok.0)
-    (subst (λ (id : ℕ). IfErr c.put_sets.result (RefusesSets (whole_execution id) (record { places = c.in_ok-statement.statement.places; bytes = c.args.limit - 4 }) (given_up_to c.args.sets.now c.args.stop c.in_ok-statement.statement.parsed.names)))
-    c.in_ok-statement.ensures.ok.1 c.put_sets.ensures.err)
+    (refused_sets c.args.query.now c.in_ok-statement.statement.parsed c.in_ok-statement.statement.places c.in_ok-statement.ensures.ok.0 (given_up_to c.args.sets.now c.args.stop) c.in_ok-statement.statement.id c.args.stmt_id c.args.limit c.in_ok-statement.ensures.ok.1
+    c.in_ok-put_prepare.ensures.ok.0)
+    c.put_sets.ensures.err
 
 pub returns-clause-kept : goal.returns-clause-kept
 returns-clause-kept c =
