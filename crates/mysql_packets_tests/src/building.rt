@@ -194,7 +194,7 @@ fn with_results(rt: HostRuntime) {
 }
 
 /// A set that gives a name a number.
-fn named(alloc: Global, name: &[u8], number: i64) -> Result<Params, AllocError> {
+pub fn named(alloc: Global, name: &[u8], number: i64) -> Result<Params, AllocError> {
     let name = Vec::from_slice(alloc, name)?;
     let mut values = HashMap::new(alloc);
     match values.insert(name, Value::Int(number)) {

@@ -13,6 +13,8 @@ mod errors;
 #[cfg(test)]
 mod given;
 #[cfg(test)]
+mod memory;
+#[cfg(test)]
 mod ok_packets;
 #[cfg(test)]
 mod rows;

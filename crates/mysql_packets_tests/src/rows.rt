@@ -44,7 +44,7 @@ fn read<'a, T: MyDeserialize<'a> + Readable<Ctx = RcSlice<Column>> + Drop>(
 }
 
 /// The row that these bytes are, with none left. It is read once more where memory was refused.
-fn row_of<'a, T: MyDeserialize<'a> + Readable<Ctx = RcSlice<Column>> + Drop>(
+pub fn row_of<'a, T: MyDeserialize<'a> + Readable<Ctx = RcSlice<Column>> + Drop>(
     assert: &impl Assert,
     alloc: Global,
     bytes: &'a [u8],
@@ -134,7 +134,8 @@ fn taken_once(rt: HostRuntime) {
     assert_placed(&assert, &mut row);
 }
 
-fn copy_of(
+/// The number in the cell of this name, copied.
+pub fn copy_of(
     alloc: Global,
     row: &Row,
     name: &str,

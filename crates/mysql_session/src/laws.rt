@@ -1,6 +1,7 @@
 //! The laws of the crates below.
 
 pub use mysql_commands::laws as commands;
+pub use mysql_recoding::laws as recoding;
 pub use mysql_replies::laws as replies;
 pub use mysql_streams::laws as streams;
 pub use mysql_streams::laws::{roads_read_equally, sent_streams_join};

@@ -3,7 +3,6 @@
 
 pub mod laws;
 mod objects;
-mod program;
 mod sender;
 
 pub use mysql_commands::{Audit, End, Receiver, ReceiverError, StreamFault, receive};
@@ -14,6 +13,7 @@ pub use mysql_convert::{
 pub use mysql_packets::{
     Column, LocalInfilePacket, OkPacket, ProgressReport, ServerError, SqlState, StmtPacket,
 };
+pub use mysql_recoding::{RecodeError, recode, send_contents};
 pub use mysql_replies::{
     Reply, ReplyEnd, ReplyFault, ReplyKind, ReplyReader, ReplyResult, read_reply,
 };
@@ -25,5 +25,4 @@ pub use mysql_values::{
 };
 pub use mysql_wire::{PacketCodecError, PacketReader};
 pub use objects::send_values;
-pub use program::{Status, run};
 pub use sender::send;

@@ -60,7 +60,8 @@ fn is_set(set: &[Content], wanted: &[Want]) -> bool {
     true
 }
 
-fn are_sets(sets: &[Vec<Content>], wanted: &[WantedSet]) -> bool {
+/// Whether sets of contents are these.
+pub fn are_sets(sets: &[Vec<Content>], wanted: &[WantedSet]) -> bool {
     if sets.len() != wanted.len() {
         return false;
     }

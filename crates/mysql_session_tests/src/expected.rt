@@ -220,7 +220,8 @@ fn are_reports(reports: &[ProgressReport], wanted: &[Report]) -> bool {
 /// What a reply has to say: its progress reports, its results, and its end.
 pub type Wanted<'a> = (&'a [Report], &'a [Expected], ReplyEnd);
 
-fn is_wanted(reply: &Reply, (reports, results, end): Wanted<'_>) -> bool {
+/// Whether a reply says what it has to.
+pub fn is_wanted(reply: &Reply, (reports, results, end): Wanted<'_>) -> bool {
     reply.end == end
         && are_reports(reply.progress.as_slice(), reports)
         && are_results(reply.results.as_slice(), results)

@@ -24,15 +24,17 @@ mod large;
 #[cfg(test)]
 mod many;
 #[cfg(test)]
+mod memory;
+#[cfg(test)]
 mod objects;
 #[cfg(test)]
 mod prefixes;
 #[cfg(test)]
 mod prepared;
 #[cfg(test)]
-mod program;
-#[cfg(test)]
 mod rebuilt;
+#[cfg(test)]
+mod recoding;
 #[cfg(test)]
 mod refusals;
 #[cfg(test)]

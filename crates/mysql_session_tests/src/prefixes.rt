@@ -41,7 +41,7 @@ fn assert_prefix(
 }
 
 /// Asserts what each prefix of a stream says.
-fn assert_fronts(
+pub fn assert_fronts(
     assert: &impl Assert,
     alloc: Global,
     query: Query<'_>,
@@ -143,10 +143,10 @@ fn of_what_is_sent(rt: HostRuntime) {
 }
 
 /// A prepare of 16 bytes, and an execution of 36 with two numbers, of which no set gives both for the same name.
-const TWO_NUMBERS: &[u8] =
+pub const TWO_NUMBERS: &[u8] =
     b"\x0c\0\0\0\x16SELECT ?, ?\x20\0\0\0\x17\x01\0\0\0\0\x01\0\0\0\0\x01\x08\0\x08\0\x01\0\0\0\0\0\0\0\x02\0\0\0\0\0\0\0";
 
-const BOTH_NUMBERS: [Standing; 3] = [
+pub const BOTH_NUMBERS: [Standing; 3] = [
     (0, &[]),
     (16, &[]),
     (52, &[&[Want::Number(1), Want::Number(2)]]),

@@ -97,7 +97,8 @@ fn params(alloc: Global, set: Set) -> Result<Params, AllocError> {
     }
 }
 
-fn all_params(alloc: Global, sets: &[Set]) -> Result<Vec<Params>, AllocError> {
+/// Sets that are given.
+pub fn all_params(alloc: Global, sets: &[Set]) -> Result<Vec<Params>, AllocError> {
     let mut all = Vec::new(alloc);
     for set in sets {
         all.push(params(alloc, *set)?)?;

@@ -1,0 +1,20 @@
+//! What the benchmark of `bench/` calls from C. Each call does its work and answers a count that shows that it was done, or 0.
+//!
+//! An `alloc` takes no bytes, so that C passes nothing for it; a slice is a pointer and a length.
+#![tactic(auto)]
+
+mod cells;
+mod commands;
+mod conversions;
+mod frames;
+mod objects;
+mod queries;
+mod replies;
+mod sending;
+mod sets;
+
+/// The limit of packets: payloads of at most 16777215 bytes are sent.
+pub const LIMIT: usize = 16777219;
+
+/// The id of the statement.
+pub const STATEMENT: u32 = 1;

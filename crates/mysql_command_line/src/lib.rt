@@ -1,0 +1,14 @@
+//! The command line: parameter sets encoded, streams of commands audited and recoded.
+#![tactic(auto)]
+
+mod commands;
+mod json_sets;
+mod lines;
+mod process;
+mod program;
+mod reading;
+mod stop;
+mod words;
+
+pub use process::run_process;
+pub use program::{Status, refuse_words, run};

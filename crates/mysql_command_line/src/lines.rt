@@ -1,0 +1,125 @@
+//! What is printed, line by line.
+
+ghost use Rattle.std.specs.Prelude.{◌≤◌, length};
+
+use crate::stop::Stop;
+use mysql_session::{Audit, Content, End};
+use std::alloc::Global;
+use std::io;
+use std::io::{BufWriter, Write};
+
+/// How many bytes wait to be written together.
+const WAITING_LEN: usize = 65536;
+
+/// How many bytes are put into hexadecimal together.
+const RUN_LEN: usize = 4096;
+
+/// Writes the digits of a few bytes.
+fn write_run<W: Write>(output: &mut W, run: &[u8]) -> io::Result<()>
+    requires { length run.now ≤ 4096 }
+{
+    let mut digits = [0; 2 * RUN_LEN];
+    let digits = &mut digits[..2 * run.len()];
+    let Ok(()) = hex::encode_to_slice(run, digits) else {
+        unreachable!()
+    };
+    output.write_all(digits)
+}
+
+/// Writes bytes in hexadecimal behind an `x`.
+fn write_bytes<W: Write>(output: &mut W, bytes: &[u8]) -> io::Result<()> {
+    output.write_all(b" x")?;
+    let mut rest = bytes;
+    while !rest.is_empty() {
+        let (run, behind) = rest.split_at(rest.len().min(RUN_LEN));
+        write_run(output, run)?;
+        rest = behind;
+    }
+    Ok(())
+}
+
+/// Writes a content: `null`, a number, or `x` and bytes in hexadecimal.
+fn write_content<W: Write>(output: &mut W, content: &Content) -> io::Result<()> {
+    match content {
+        Content::Null => output.write_all(b" null"),
+        Content::Number(number) => write!(output, " {number}"),
+        Content::Bytes(bytes) => write_bytes(output, bytes.as_slice()),
+    }
+}
+
+/// Writes the contents of a set, up to the line's end.
+fn write_set<W: Write>(output: &mut W, set: &[Content]) -> io::Result<()> {
+    for content in set {
+        write_content(output, content)?;
+    }
+    output.write_all(b"\n")
+}
+
+/// Writes how a stream ends, as a line.
+fn write_end<W: Write>(output: &mut W, end: End) -> io::Result<()> {
+    match end {
+        End::Fault(packet, fault) => writeln!(output, "end: fault {packet} {fault:?}"),
+        End::WaitingPieces => writeln!(output, "end: waiting pieces"),
+        End::UnfinishedPacket => writeln!(output, "end: unfinished packet"),
+        End::Whole => writeln!(output, "end: whole"),
+    }
+}
+
+/// Writes a line for each set, and one for the end.
+fn write_lines<W: Write>(output: &mut W, audit: &Audit) -> io::Result<()> {
+    for (number, set) in audit.sets.iter().enumerate() {
+        write!(output, "set {number}:")?;
+        write_set(output, set)?;
+    }
+    write_end(output, audit.end)?;
+    output.flush()
+}
+
+/// Prints an audit: a line for each set, and one for the end. After a line that could not be written nothing more is written.
+pub(crate) fn print_audit<W: Write>(
+    alloc: Global,
+    output: &mut W,
+    audit: &Audit,
+) -> Result<(), Stop> {
+    let Ok(mut waiting) = BufWriter::with_capacity(alloc, WAITING_LEN, output) else {
+        return Err(Stop::Memory);
+    };
+    if write_lines(&mut waiting, audit).is_ok() {
+        return Ok(());
+    }
+    let _unwritten = waiting.into_parts();
+    Err(Stop::Writing)
+}
+
+/// Prints a stream as it is.
+pub(crate) fn print_stream<W: Write>(output: &mut W, stream: &[u8]) -> Result<(), Stop> {
+    if output.write_all(stream).is_err() || output.flush().is_err() {
+        return Err(Stop::Writing);
+    }
+    Ok(())
+}
+
+/// Prints a line that begins so and ends so.
+pub(crate) fn print_line<W: Write>(output: &mut W, start: &str, rest: &str) -> Result<(), Stop> {
+    if writeln!(output, "{start}{rest}").is_err() || output.flush().is_err() {
+        return Err(Stop::Writing);
+    }
+    Ok(())
+}
+
+/// Writes a byte's digits, behind a space but at the front.
+fn write_digits<W: Write>(output: &mut W, stream: &[u8]) -> io::Result<()> {
+    for (place, byte) in stream.iter().enumerate() {
+        let space = if place > 0 { " " } else { "" };
+        write!(output, "{space}{byte:02x}")?;
+    }
+    writeln!(output)
+}
+
+/// Prints a short stream in hexadecimal, as a line.
+pub(crate) fn print_digits<W: Write>(output: &mut W, stream: &[u8]) -> Result<(), Stop> {
+    if write_digits(output, stream).is_err() {
+        return Err(Stop::Writing);
+    }
+    Ok(())
+}

@@ -1,0 +1,14 @@
+pub mod ByteLists
+pub mod Carried
+pub mod CarriedCells
+pub mod CarriedCommands
+pub mod CarriedTexts
+pub mod FramedBytes
+pub mod StatesInForce
+pub mod Causes
+pub mod Recodings
+pub mod SentContents
+pub mod CausesAgree
+pub mod SentAgain
+pub mod OneRecoding
+pub mod JoinedRecodings

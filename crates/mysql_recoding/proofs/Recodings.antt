@@ -1,0 +1,161 @@
+-- What is sent of a stream's contents is its recoding, and why nothing is.
+use Rattle.std.proofs.Common.{◌≡◌, ◌⊎◌, inl, inr, ℕ, zero, suc, ◌+◌, ◌<◌, true, List, [], ◌∷◌, ◌++◌, length, map, take, get_or, Option, Some, None, Result, Ok, Err, refl, sym, ◌∙◌, ap, subst}
+use Rattle.std.specs.Prelude.{IfErr}
+use Rattle.std.specs.List.{flat_map}
+use Rattle.std.specs.Result.{IsErrAnd}
+use Rattle.std.proofs.lemmas.List.{append-nil, take_more}
+use Rattle.std.proofs.lemmas.Grind.{flat_map-append}
+use Rattle.std.specs.Option.{option_map}
+use Rattle.mysql_wire.specs.Bytes.{AreBytes}
+use Rattle.mysql_wire.specs.Stream.{framings}
+use Rattle.mysql_wire.specs.Stream.Numbering.{EachFromZero}
+use Rattle.mysql_values.specs.Queries.{HasMixed, is_mixed, places_from}
+use Rattle.mysql_values.specs.Tokens.{HasTokens}
+use Rattle.mysql_values.specs.Value.{Value}
+use Rattle.mysql_commands.specs.Audit.{Audit, AuditOf}
+use Rattle.mysql_commands.specs.Laws.{StreamHasOneAudit}
+use Rattle.mysql_commands.specs.Layout.{Conversation}
+use Rattle.mysql_commands.specs.Query.{IsQuery}
+use Rattle.mysql_commands.specs.declared.audit.End.TheVariants as ends
+use Rattle.mysql_commands.specs.declared.receiver.ReceiverError.{ReceiverError}
+use Rattle.mysql_commands.specs.declared.receiver.ReceiverError.TheVariants as receiver_error
+use Rattle.mysql_streams.specs.declared.refusal.Refusal.{Refusal}
+use Rattle.mysql_streams.specs.declared.refusal.Refusal.TheVariants as refusals
+use Rattle.mysql_streams.specs.declared.road.Road.TheVariants.{Execute}
+use Rattle.mysql_streams.specs.Sending.{RefusesGiven, SendsGiven}
+use Rattle.mysql_streams.specs.Sent.{Statement, as_execution, parsed_of, payloads_of, prepare_of, statement_of}
+use Rattle.mysql_streams.specs.Cause.{cause_of}
+use Rattle.mysql_streams.specs.Sets.{Given, all_given_in_places}
+use Rattle.mysql_recoding.specs.declared.errors.RecodeError.{RecodeError}
+use Rattle.mysql_recoding.specs.declared.errors.RecodeError.TheVariants as errors
+use Rattle.mysql_recoding.specs.Canonical.{values_of_sets}
+use Rattle.mysql_recoding.specs.Causes.{recoding_cause}
+use Rattle.mysql_recoding.specs.Laws.{CarriedSetsFillPlaces}
+use Rattle.mysql_recoding.specs.Recoding.{IsRecodingCause, Recodes, RefusesRecoding}
+use Rattle.mysql_recoding.proofs.Causes.{as_refusal, causes_agree}
+use Rattle.mysql_recoding.proofs.CausesAgree.{counts}
+
+-- the conversation about a query with these tokens
+conversation_of : List ℕ → List (List ℕ) → ℕ → Conversation
+conversation_of query tokens id = record { query = record { text = query; parsed = parsed_of tokens; places = places_from query 0 tokens }; id = id }
+
+-- bytes and bytes behind them are bytes
+bytes_append : (front back : List ℕ) → AreBytes front → AreBytes back → AreBytes (front ++ back)
+bytes_append [] back f b i = b i
+bytes_append (x ∷ front) back f b zero = f zero
+bytes_append (x ∷ front) back f b (suc i) = bytes_append front back (λ j. f (suc j)) b i
+
+-- pieces one after another, and one more behind them, are bytes
+pub one_more_piece : {X : Type 0} (f : X → List ℕ) (pieces : List X) (i : ℕ) (d : X) → i < length pieces → AreBytes (flat_map f (take i pieces)) → AreBytes (f (get_or pieces i d))
+    → AreBytes (flat_map f (take (i + 1) pieces))
+one_more_piece f pieces i d within before next =
+    let more : flat_map f (take (i + 1) pieces) ≡ flat_map f (take i pieces) ++ f (get_or pieces i d) =
+    ap (flat_map f) (take_more pieces i d within) ∙ flat_map-append f (take i pieces) (get_or pieces i d ∷ []) ∙ ap (λ l. flat_map f (take i pieces) ++ l) (append-nil (f (get_or pieces i d))) in
+    subst (λ (l : List ℕ). AreBytes l) (sym more) (bytes_append (flat_map f (take i pieces)) (f (get_or pieces i d)) before next)
+
+-- where both kinds of placeholder occur, that is the cause
+pub mixed_is_cause : StreamHasOneAudit → (query : List ℕ) (id limit : ℕ) (stream : List ℕ) → AreBytes stream → HasMixed query true → IsRecodingCause query id limit stream errors.Mixed
+unfolding conversation_of
+mixed_is_cause one_audit query id limit stream bytes mixed =
+    let tokens : List (List ℕ) = mixed.1.0 in
+    let has : HasTokens query tokens = mixed.1.1 in
+    let is_query : IsQuery ((conversation_of query tokens id).query) = record { parsed = (tokens, has, refl); places = (tokens, has, refl) } in
+    let found = one_audit (conversation_of query tokens id) limit stream is_query bytes in
+    record {
+      tokens = tokens;
+      has = has;
+      audit = found.0;
+      says = (conversation_of query tokens id, record { is_query = is_query; text = refl; id_is = refl }, found.1);
+      first = first found.0 (mixed.2 ∙ ap is_mixed mixed.1.2);
+    }
+  where
+    first : (audit : Audit) → true ≡ is_mixed (places_from query 0 mixed.1.0) → recoding_cause (statement_of query mixed.1.0 id) limit audit ≡ Some errors.Mixed
+    first audit is = rw (sym is)
+
+-- what a receiver that can't be made is answered by
+pub refused_before : StreamHasOneAudit → (query : List ℕ) (id limit : ℕ) (stream : List ℕ) → AreBytes stream → {T : Type 0} (result : Result T RecodeError) (why : ReceiverError)
+    → IsErrAnd result (λ error. ((why ≡ receiver_error.Mixed) × (error ≡ errors.Mixed)) ⊎ ((why ≡ receiver_error.Memory) × (error ≡ errors.Memory)))
+    → (why ≡ receiver_error.Memory) ⊎ ((why ≡ receiver_error.Mixed) × HasMixed query true) → IfErr result (RefusesRecoding query id limit stream)
+refused_before one_audit query id limit stream bytes (Ok found) why from is = tt
+refused_before one_audit query id limit stream bytes (Err error) why (inr from) is = inl from.1
+refused_before one_audit query id limit stream bytes (Err error) why (inl from) (inr is) =
+    inr (subst (λ (e : RecodeError). IsRecodingCause query id limit stream e) (sym from.1) (mixed_is_cause one_audit query id limit stream bytes is.1))
+refused_before one_audit query id limit stream bytes (Err error) why (inl from) (inl memory) =
+    let mixed : why ≡ receiver_error.Mixed = from.0 in
+    absurd (cc)
+
+-- a set that gives these values
+abbrev given : List Value → Given
+given values = Ok values
+
+-- sets that all give values give these alone
+same_values : (sets others : List (List Value)) → map given sets ≡ map given others → sets ≡ others
+same_values [] [] same = refl
+same_values [] (other ∷ others) same = absurd (cc)
+same_values (set ∷ sets) [] same = absurd (cc)
+same_values (set ∷ sets) (other ∷ others) same =
+    let first : set ≡ other = cc in
+    let rest : map given sets ≡ map given others = cc in
+    let later : sets ≡ others = same_values sets others rest in
+    cc
+
+-- the error that a refusal is answered by, where there is one for it
+pub record RefusedAs (refusal : Refusal) (error : RecodeError) : Type 0 where
+  pub mixed : refusal ≡ refusals.Mixed → error ≡ errors.Mixed
+  pub too_many : refusal ≡ refusals.TooManyPlaces → error ≡ errors.TooManyPlaces
+  pub prepare : refusal ≡ refusals.PrepareTooLarge → error ≡ errors.PrepareTooLarge
+  pub packet : (set : ℕ) → refusal ≡ refusals.PacketTooLarge set → error ≡ errors.PacketTooLarge set
+  pub memory : refusal ≡ refusals.Memory → error ≡ errors.Memory
+
+-- the answer to the refusal of a cause is that cause, or Memory
+answer_is : (refusal : Refusal) (error cause : RecodeError) → RefusedAs refusal error → as_refusal cause ≡ refusal → (error ≡ errors.Memory) ⊎ (cause ≡ error)
+answer_is refusal error errors.Mixed answers is = inr (sym (answers.mixed (sym is)))
+answer_is refusal error (errors.Stream payload fault) answers is = inl (answers.memory (sym is))
+answer_is refusal error (errors.Unfinished ending) answers is = inl (answers.memory (sym is))
+answer_is refusal error errors.TooManyPlaces answers is = inr (sym (answers.too_many (sym is)))
+answer_is refusal error errors.PrepareTooLarge answers is = inr (sym (answers.prepare (sym is)))
+answer_is refusal error (errors.PacketTooLarge set) answers is = inr (sym (answers.packet set (sym is)))
+answer_is refusal error errors.Memory answers is = inl (answers.memory (sym is))
+
+module _ (fill : CarriedSetsFillPlaces) (query : List ℕ) (id limit : ℕ) (stream : List ℕ) (bytes : AreBytes stream) (audit : Audit) (says : AuditOf query id limit stream audit) (is_whole : audit.ending ≡ ends.Whole) where
+  -- the cause against sending the sets is the cause against recoding the stream
+  same_cause : (tokens : List (List ℕ)) → HasTokens query tokens
+      → cause_of Execute (statement_of query tokens id) limit (map Ok (values_of_sets audit.sets)) ≡ option_map as_refusal (recoding_cause (statement_of query tokens id) limit audit)
+  same_cause tokens has =
+      causes_agree (statement_of query tokens id) limit audit.sets (counts (places_from query 0 tokens) audit.sets (fill query tokens id limit stream audit has bytes says))
+      ∙ ap (λ ending. option_map as_refusal (recoding_cause (statement_of query tokens id) limit (record { sets = audit.sets; ending = ending }))) (sym is_whole)
+
+  -- no cause on one side is none on the other
+  none_of_none : (cause : Option RecodeError) → option_map as_refusal cause ≡ None → cause ≡ None
+  none_of_none None none = refl
+  none_of_none (Some error) none = absurd (cc)
+
+  -- what was sent of the stream's contents is its recoding
+  pub sent_is_recoded : (old new : List ℕ) → SendsGiven Execute query (all_given_in_places (values_of_sets audit.sets)) id limit old new → Recodes query id limit stream old new
+  sent_is_recoded old new sends = record {
+    tokens = sends.tokens;
+    has = sends.has;
+    audit = audit;
+    says = says;
+    none = none_of_none _ (sym (same_cause sends.tokens sends.has) ∙ sends.none);
+    appended = sends.appended ∙ ap (λ sent. old ++ framings (payloads_of sent) EachFromZero) (sends.are_sent ∙ ap (λ values. prepare_of statement ∷ flat_map (as_execution statement) values) (sym (same_values (values_of_sets audit.sets) sends.values sends.given)));
+  }
+    where
+      statement : Statement
+      statement = statement_of query sends.tokens id
+
+  -- why it was not sent is why the stream is not recoded
+  pub refused_is_cause : (refusal : Refusal) (error : RecodeError) → RefusedAs refusal error
+      → RefusesGiven Execute query (all_given_in_places (values_of_sets audit.sets)) id limit refusal → RefusesRecoding query id limit stream error
+  refused_is_cause refusal error answers (inl memory) = inl (answers.memory memory)
+  refused_is_cause refusal error answers (inr why) = by_cause (recoding_cause (statement_of query why.tokens id) limit audit) refl (sym (same_cause why.tokens why.has) ∙ why.first)
+    where
+      by_answer : (cause : RecodeError) → recoding_cause (statement_of query why.tokens id) limit audit ≡ Some cause → ((error ≡ errors.Memory) ⊎ (cause ≡ error)) → RefusesRecoding query id limit stream error
+      by_answer cause first (inl memory) = inl memory
+      by_answer cause first (inr is) = inr (record { tokens = why.tokens; has = why.has; audit = audit; says = says; first = first ∙ ap (λ e. Some e) is })
+
+      by_cause : (cause : Option RecodeError) → recoding_cause (statement_of query why.tokens id) limit audit ≡ cause → option_map as_refusal cause ≡ Some refusal → RefusesRecoding query id limit stream error
+      by_cause None first is = absurd (cc)
+      by_cause (Some cause) first is =
+          let same : as_refusal cause ≡ refusal = cc in
+          by_answer cause first (answer_is refusal error cause answers same)

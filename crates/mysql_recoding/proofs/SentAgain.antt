@@ -1,0 +1,74 @@
+-- What recoding appends carries the same sets, and recodes to the same bytes.
+use Rattle.std.proofs.Common.{◌≡◌, ℕ, ◌-◌, ◌<◌, ◌^◌, List, [], ◌∷◌, ◌++◌, map, refl, sym, ap, subst, arith}
+use Rattle.std.specs.List.{AllByRecursion, flat_map}
+use Rattle.std.proofs.lemmas.List.{append_cancel_left}
+use Rattle.mysql_values.specs.Queries.{places_from}
+use Rattle.mysql_commands.specs.Audit.{Audit, AuditOf}
+use Rattle.mysql_commands.specs.Reading.{Set}
+use Rattle.mysql_commands.specs.declared.audit.End.TheVariants.{Whole}
+use Rattle.mysql_stmt.specs.Statements.{ExecutionsHaveSizes}
+use Rattle.mysql_streams.specs.Laws.{CarriesValues, SentValuesAreCarried}
+use Rattle.mysql_streams.specs.Reading.{SentReadable, held}
+use Rattle.mysql_streams.specs.Sent.{Statement, as_execution, prepare_of, statement_of}
+use Rattle.mysql_streams.specs.Sets.{all_given_in_places}
+use Rattle.mysql_streams.specs.declared.road.Road.TheVariants.{Execute}
+use Rattle.mysql_recoding.specs.Canonical.{canonical, values_of_sets}
+use Rattle.mysql_recoding.specs.Laws.{CarriedSetsFillPlaces, FillsPlaces, RecodingsCarryTheSame, RecodingsRecodeToThemselves}
+use Rattle.mysql_recoding.specs.Recoding.{Recodes}
+use Rattle.mysql_recoding.proofs.CausesAgree.{IsRecodable, no_cause, no_refusal, recodable, sets_fit}
+use Rattle.mysql_recoding.proofs.SentContents.{sets_held}
+
+-- the canonical form is all that was appended
+pub appended : (query : List ℕ) (id limit : ℕ) (stream old recoded : List ℕ) (is : Recodes query id limit stream old (old ++ recoded)) → recoded ≡ canonical (statement_of query is.tokens id) is.audit.sets
+appended query id limit stream old recoded is = append_cancel_left old recoded (canonical (statement_of query is.tokens id) is.audit.sets) is.appended
+
+-- the sets are sent by execute, and can be read back
+sent_again : ExecutionsHaveSizes → (query : List ℕ) (id limit : ℕ) (stream old recoded : List ℕ) → limit < 2 ^ 64 → (is : Recodes query id limit stream old (old ++ recoded))
+    → AllByRecursion (FillsPlaces (places_from query 0 is.tokens)) is.audit.sets → SentReadable Execute query (all_given_in_places (values_of_sets is.audit.sets)) id limit [] recoded
+sent_again sizes query id limit stream old recoded small is fill =
+    let statement : Statement = statement_of query is.tokens id in
+    let sets : List Set = is.audit.sets in
+    let can : IsRecodable statement limit is.audit = recodable statement limit is.audit is.none in
+    let room : limit - 4 < 2 ^ 64 = omega arith in
+    record {
+      sends = record {
+        tokens = is.tokens;
+        has = is.has;
+        values = values_of_sets sets;
+        given = refl;
+        none = no_refusal statement limit is.audit fill can;
+        sent = prepare_of statement ∷ flat_map (as_execution statement) (values_of_sets sets);
+        are_sent = refl;
+        appended = appended query id limit stream old recoded is;
+      };
+      readable = sets_fit sizes id (limit - 4) 0 statement.places sets room fill can.large;
+    }
+
+pub carry_the_same : CarriedSetsFillPlaces → SentValuesAreCarried → ExecutionsHaveSizes → RecodingsCarryTheSame
+unfolding sent_again
+carry_the_same fill_places are_carried sizes query id limit stream old recoded few room small short bytes is =
+    let sets : List Set = is.audit.sets in
+    let fill = fill_places query is.tokens id limit stream is.audit is.has bytes is.says in
+    let carried : CarriesValues query (values_of_sets sets) id limit [] recoded =
+    are_carried Execute query (all_given_in_places (values_of_sets sets)) id limit [] recoded few room short (sent_again sizes query id limit stream old recoded small is fill) in
+    let audit : AuditOf query id limit recoded (record { sets = map (map held) (values_of_sets sets); ending = Whole }) =
+    subst (λ (bytes : List ℕ). AuditOf query id limit bytes (record { sets = map (map held) (values_of_sets sets); ending = Whole })) (sym carried.appended) carried.audit in
+    subst (λ (l : List Set). AuditOf query id limit recoded (record { sets = l; ending = Whole })) (sets_held (places_from query 0 is.tokens) sets fill) audit
+
+-- the same sets, to the end of a whole stream
+whole : List Set → Audit
+whole sets = record { sets = sets; ending = Whole }
+
+pub recode_to_themselves : RecodingsCarryTheSame → RecodingsRecodeToThemselves
+unfolding whole
+recode_to_themselves same query id limit stream old other recoded few room small short bytes is =
+    let statement : Statement = statement_of query is.tokens id in
+    let can : IsRecodable statement limit is.audit = recodable statement limit is.audit is.none in
+    record {
+      tokens = is.tokens;
+      has = is.has;
+      audit = whole is.audit.sets;
+      says = same query id limit stream old recoded few room small short bytes is;
+      none = no_cause statement limit (whole is.audit.sets) (record { mixed = can.mixed; ending = refl; many = can.many; long = can.long; large = can.large });
+      appended = ap (λ l. other ++ l) (appended query id limit stream old recoded is);
+    }

@@ -1,0 +1,98 @@
+-- The values that contents are sent as hold these contents, and their numbers fit their fields.
+use Rattle.std.proofs.Common.{◌≡◌, ℕ, ℤ, suc, pos, negsuc, ◌<◌, ◌^◌, Bool, true, false, List, [], ◌∷◌, ◌++◌, length, map, Some, refl, ◌∙◌, ap, arith, inl, inr, nat_lt, unwrap_or, length-append}
+use Rattle.std.specs.Prelude.{if◌then◌else◌}
+use Rattle.std.specs.Fmt.{decimal}
+use Rattle.std.specs.List.{AllByRecursion, sum_by}
+use Rattle.std.proofs.lemmas.Bool.{ltb-true, lt-ltb}
+use Rattle.std.proofs.lemmas.List.Sums.{sum_by-cons}
+use Rattle.mysql_cells.specs.AsSql.{FitsFields}
+use Rattle.mysql_cells.specs.Cells.{bin_len}
+use Rattle.mysql_cells.specs.Values.{content_of}
+use Rattle.mysql_cells.specs.declared.value.Value.{Value}
+use Rattle.mysql_cells.specs.declared.value.Value.TheVariants as values
+use Rattle.mysql_values.specs.Content.{Content}
+use Rattle.mysql_values.specs.Content.TheVariants as content
+use Rattle.mysql_values.specs.Place.{Place}
+use Rattle.mysql_commands.specs.Reading.{Set}
+use Rattle.mysql_streams.specs.Reading.{held}
+use Rattle.mysql_to_values.specs.Values.{content_value, integer_value}
+use Rattle.mysql_wire.specs.Writing.{lenenc_int}
+use Rattle.mysql_recoding.specs.Canonical.{values_of_sets}
+use Rattle.mysql_recoding.specs.Laws.{FillsPlaces, IsCarried}
+
+-- ---- numbers
+
+-- a value holds a number, which fits its field
+record Holds (number : ℤ) (value : Value) : Type 0 where
+  pub is_held : content_of value ≡ Some (content.Number number)
+  pub fits : FitsFields value
+
+-- a number from 0 is sent as Int or as UInt
+from_zero : (n : ℕ) (small all : Bool) → (small ≡ true → n < 2 ^ 63) → n < 2 ^ 64 → all ≡ true → Holds (pos n) (if small then values.Int (pos n) else (if all then values.UInt n else values.Bytes (decimal n)))
+from_zero n true all less most is = record { is_held = refl; fits = record { sfits = less refl } }
+from_zero n false true less most is = record { is_held = refl; fits = most }
+from_zero n false false less most is = cc
+
+-- a number below 0 is sent as Int
+below_zero : (n : ℕ) (small : Bool) (digits : List ℕ) → n < 2 ^ 63 → small ≡ true → Holds (negsuc n) (if small then values.Int (negsuc n) else values.Bytes digits)
+below_zero n true digits less is = record { is_held = refl; fits = record { sfits = less } }
+below_zero n false digits less is = cc
+
+-- a carried number is at most 2^64-1
+at_most : (n : ℕ) → IsCarried (content.Number (pos n)) → n < 2 ^ 64
+at_most n (inl fits) = omega (arith, fits.sfits)
+at_most n (inr found) =
+    let same : n ≡ found.0 = cc (found.1) in omega (arith, same, found.2)
+
+-- and at least -2^63
+at_least : (n : ℕ) → IsCarried (content.Number (negsuc n)) → n < 2 ^ 63
+at_least n (inl fits) = fits.sfits
+at_least n (inr found) = cc (found.1)
+
+-- a carried number is held by the value that it is sent as
+number_held : (number : ℤ) → IsCarried (content.Number number) → Holds number (integer_value number)
+number_held (pos n) carried =
+    let most : n < 2 ^ 64 = at_most n carried in
+    from_zero n (nat_lt n (2 ^ 63)) (nat_lt n (2 ^ 64)) (ltb-true n (2 ^ 63)) most (lt-ltb n (2 ^ 64) most)
+number_held (negsuc n) carried =
+    let least : n < 2 ^ 63 = at_least n carried in
+    below_zero n (nat_lt n (2 ^ 63)) (0x2d ∷ decimal (suc n)) least (lt-ltb n (2 ^ 63) least)
+
+-- ---- contents
+
+-- a carried content is what its value holds
+pub content_held : (c : Content) → IsCarried c → content_of (content_value c) ≡ Some c
+content_held content.Null carried = refl
+content_held (content.Number number) carried = (number_held number carried).is_held
+content_held (content.Bytes bytes) carried = refl
+
+-- bytes are fewer than those that are counted for their cell
+bytes_few : (count bytes : List ℕ) → length (count ++ bytes) < 2 ^ 64 → length bytes < 2 ^ 64
+bytes_few count bytes short = omega (arith, short, length-append count bytes)
+
+-- and the numbers of its value fit their fields, where its cell is short
+content_fits : (c : Content) → IsCarried c → bin_len (content_value c) < 2 ^ 64 → FitsFields (content_value c)
+content_fits content.Null carried short = tt
+content_fits (content.Number number) carried short = (number_held number carried).fits
+content_fits (content.Bytes bytes) carried short = (carried, bytes_few (lenenc_int (length bytes)) bytes short)
+
+-- ---- sets
+
+-- so with each content of a set
+pub set_held : (set : Set) → AllByRecursion IsCarried set → map held (map content_value set) ≡ set
+set_held [] each = refl
+set_held (c ∷ set) each =
+    ap (λ o. unwrap_or o content.Null ∷ map held (map content_value set)) (content_held c each.0) ∙ ap (λ l. c ∷ l) (set_held set each.1)
+
+pub set_fits : (set : Set) → AllByRecursion IsCarried set → sum_by bin_len (map content_value set) < 2 ^ 64 → AllByRecursion (λ value. FitsFields value) (map content_value set)
+set_fits [] each short = tt
+set_fits (c ∷ set) each short =
+    let all = sum_by-cons bin_len (content_value c) (map content_value set) in
+    let here : bin_len (content_value c) < 2 ^ 64 = omega (arith, short, all) in
+    let later : sum_by bin_len (map content_value set) < 2 ^ 64 = omega (arith, short, all) in
+    (content_fits c each.0 here, set_fits set each.1 later)
+
+-- and with each of several sets
+pub sets_held : (places : List Place) (sets : List Set) → AllByRecursion (FillsPlaces places) sets → map (map held) (values_of_sets sets) ≡ sets
+sets_held places [] each = refl
+sets_held places (set ∷ sets) each = ap (λ l. l ∷ map (map held) (values_of_sets sets)) (set_held set each.0.each) ∙ ap (λ l. set ∷ l) (sets_held places sets each.1)

@@ -1,0 +1,5 @@
+use Rattle.mysql_recoding.proofs.JoinedRecodings.{joined}
+use Rattle.mysql_recoding.proofs.laws.joined_streams_recode.Goals as goal
+
+pub returns : goal.returns
+returns c = joined c.whole_streams_join.ensures c.conversations_are_one.ensures c.framed_come_first.ensures

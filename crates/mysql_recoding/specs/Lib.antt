@@ -1,0 +1,4 @@
+pub mod Canonical
+pub mod Causes
+pub mod Recoding
+pub mod Laws

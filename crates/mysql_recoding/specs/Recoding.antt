@@ -1,0 +1,31 @@
+-- What recoding a stream appends, and why nothing is.
+-- MySQL: Client/Server Protocol, "Protocol Basics: MySQL Packets", "Command Phase".
+use Rattle.std.specs.Prelude.{◌≡◌, ◌⊎◌, ℕ, List, ◌++◌, None, Some}
+use Rattle.mysql_values.specs.Tokens.{HasTokens}
+use Rattle.mysql_commands.specs.Audit.{Audit, AuditOf}
+use Rattle.mysql_streams.specs.Sent.{statement_of}
+use Rattle.mysql_recoding.specs.declared.errors.RecodeError.{RecodeError}
+use Rattle.mysql_recoding.specs.declared.errors.RecodeError.TheVariants as recode_error
+use Rattle.mysql_recoding.specs.Canonical.{canonical}
+use Rattle.mysql_recoding.specs.Causes.{recoding_cause}
+
+-- no cause speaks against recoding the stream, and the canonical form of the sets that it carries is appended
+pub record Recodes (query : List ℕ) (id limit : ℕ) (stream old new : List ℕ) : Type 0 where
+  pub tokens : List (List ℕ)
+  pub has : HasTokens query tokens
+  pub audit : Audit
+  pub says : AuditOf query id limit stream audit
+  pub none : recoding_cause (statement_of query tokens id) limit audit ≡ None
+  pub appended : new ≡ old ++ canonical (statement_of query tokens id) audit.sets
+
+-- the first cause for which the stream is not recoded
+pub record IsRecodingCause (query : List ℕ) (id limit : ℕ) (stream : List ℕ) (error : RecodeError) : Type 0 where
+  pub tokens : List (List ℕ)
+  pub has : HasTokens query tokens
+  pub audit : Audit
+  pub says : AuditOf query id limit stream audit
+  pub first : recoding_cause (statement_of query tokens id) limit audit ≡ Some error
+
+-- why it is refused: Memory may stand in place of any answer; each other refusal is the first cause
+abbrev pub RefusesRecoding : List ℕ → ℕ → ℕ → List ℕ → RecodeError → Type 0
+RefusesRecoding query id limit stream error = (error ≡ recode_error.Memory) ⊎ IsRecodingCause query id limit stream error

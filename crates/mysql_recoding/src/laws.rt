@@ -1,0 +1,60 @@
+//! Laws of recoding. Functions without a result do nothing: their contracts are the laws.
+
+ghost use Rattle.mysql_recoding.specs.Laws.{CarriedSetsFillPlaces, EqualSetsRecodeEqually, JoinedStreamsRecode, RecodingsAreDecided, RecodingsCarryTheSame, RecodingsRecodeToThemselves};
+
+use mysql_commands::laws::{stream_has_one_audit, whole_streams_join};
+use mysql_stmt::laws::executions_have_sizes;
+use mysql_streams::laws::{conversations_are_one, sent_values_are_carried};
+use mysql_values::laws::tokens_of_a_text;
+use mysql_wire::laws::framed_come_first;
+
+/// Each set that a stream carries has as many contents as the query has placeholders, and its numbers are from -2^63 to 2^64-1.
+pub fn carried_sets_fill_places()
+    ensures { CarriedSetsFillPlaces }
+{
+    tokens_of_a_text();
+}
+
+/// What recoding appends audits whole, with the sets of the stream that was recoded.
+pub fn recodings_carry_the_same()
+    ensures { RecodingsCarryTheSame }
+{
+    carried_sets_fill_places();
+    sent_values_are_carried();
+    executions_have_sizes();
+}
+
+/// What recoding appends recodes to the same bytes, with the same query, id and limit.
+pub fn recodings_recode_to_themselves()
+    ensures { RecodingsRecodeToThemselves }
+{
+    recodings_carry_the_same();
+}
+
+/// Two streams whose recodings with one query, id and limit succeed carry equal sets exactly where the recodings are equal.
+pub fn equal_sets_recode_equally()
+    ensures { EqualSetsRecodeEqually }
+{
+    recodings_carry_the_same();
+    stream_has_one_audit();
+    conversations_are_one();
+    tokens_of_a_text();
+}
+
+/// A stream is recoded in one way, or refused for one cause, and never both.
+pub fn recodings_are_decided()
+    ensures { RecodingsAreDecided }
+{
+    stream_has_one_audit();
+    conversations_are_one();
+    tokens_of_a_text();
+}
+
+/// The recoding of two whole streams one behind the other is the first one's, and behind it the second one's without its prepare.
+pub fn joined_streams_recode()
+    ensures { JoinedStreamsRecode }
+{
+    whole_streams_join();
+    conversations_are_one();
+    framed_come_first();
+}
