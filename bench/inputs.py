@@ -1,0 +1,154 @@
+"""Writes the inputs of all workloads into the folder given, the same for every side."""
+import os
+import struct
+import sys
+
+OUT = sys.argv[1]
+SETS = 10_000
+ROWS = 1_000_000
+CELL_ROWS = 1_000
+BEFORE, BETWEEN, AFTER = b"INSERT INTO people (id, name, note, age) VALUES (", b", ", b")"
+QUERY = BEFORE + BETWEEN.join([b"?"] * 4) + AFTER
+NAMED = BEFORE + BETWEEN.join([b":a", b":b", b":c", b":d"]) + AFTER
+LONG = b"SELECT " + b", ".join(b"column%d" % i for i in range(800)) + b" FROM people WHERE id = ? AND name = ? AND note = ? AND age = ?"
+ESCAPED = [(b"\\", b"\\\\"), (b"\0", b"\\0"), (b"\n", b"\\n"), (b"\r", b"\\r"), (b"\x1a", b"\\Z"), (b"'", b"\\'"), (b'"', b'\\"')]
+
+
+def values(i):
+    note = "note %d: it's a \"test\" of \u00e9scapes\n" % i
+    return [1_000_000 + i * 37, b"user%d" % i, note.encode(), None if i % 4 == 0 else 18 + i % 80]
+
+
+def counted(text):
+    size = len(text)
+    return (bytes([size]) if size < 251 else b"\xfc" + struct.pack("<H", size)) + text
+
+
+def escaped(text):
+    for byte, pair in ESCAPED:
+        text = text.replace(byte, pair)
+    return text
+
+
+def literal(value):
+    return b"NULL" if value is None else b"%d" % value if isinstance(value, int) else b"'" + escaped(value) + b"'"
+
+
+def kind(value):
+    return 6 if value is None else 8 if isinstance(value, int) else 253
+
+
+def cell(value):
+    return b"" if value is None else struct.pack("<q", value) if isinstance(value, int) else counted(value)
+
+
+def packet(number, payload):
+    return struct.pack("<I", len(payload))[:3] + bytes([number & 255]) + payload
+
+
+def text_command(one):
+    return packet(0, b"\3" + BEFORE + BETWEEN.join(map(literal, one)) + AFTER)
+
+
+def null_bits(one, offset):
+    return bytes([sum(1 << (k + offset) for k, value in enumerate(one) if value is None)])
+
+
+def execution(one):
+    types = b"".join(bytes([kind(value), 0]) for value in one)
+    return packet(0, b"\x17" + struct.pack("<IBI", 1, 0, 1) + null_bits(one, 0) + b"\1" + types + b"".join(map(cell, one)))
+
+
+def bulk_request(sets):
+    types = b"\x08\0\xfd\0\xfd\0\x08\0"
+    cells = (b"\1" if value is None else b"\0" + cell(value) for one in sets for value in one)
+    return packet(0, b"\xfa" + struct.pack("<IH", 1, 0x80) + types + b"".join(cells))
+
+
+def column(name, number):
+    texts = [b"def", b"test", b"people", b"people", name, name]
+    return b"".join(map(counted, texts)) + b"\x0c" + struct.pack("<HIBHB", 45, 80, number, 0, 0) + b"\0\0"
+
+
+def row(i):
+    return [1_000_000 + i, b"user%d" % i, b"note %d of a row" % i, None if i % 4 == 0 else 18 + i % 80]
+
+
+def text_row(one):
+    return b"".join(b"\xfb" if value is None else counted(b"%d" % value if isinstance(value, int) else value) for value in one)
+
+
+def binary_row(one):
+    return b"\0" + null_bits(one, 2) + b"".join(map(cell, one))
+
+
+def reply(rows, form):
+    end = b"\xfe\0\0\2\0"
+    yield b"\4"
+    for name, number in (b"id", 8), (b"name", 253), (b"note", 253), (b"age", 8):
+        yield column(name, number)
+    yield end
+    for i in range(rows):
+        yield form(row(i))
+    yield end
+
+
+def write(name, *parts):
+    with open(os.path.join(OUT, name), "wb") as file:
+        for part in parts:
+            file.write(part)
+
+
+def write_sets(name, sets):
+    write(name, *(bytes([kind(value)]) + cell(value) for one in sets for value in one))
+
+
+def write_reply(name, rows, form):
+    write(name, *(packet(1 + i, payload) for i, payload in enumerate(reply(rows, form))))
+
+
+def with_name(name):
+    return [[1_000_000 + i * 37, name(i), b"", None] for i in range(SETS // 10)]
+
+
+def noise(i):
+    return bytes((i * 31 + k * k * 7 + k) & 255 for k in range(1000))
+
+
+os.makedirs(OUT, exist_ok=True)
+every = [values(i) for i in range(SETS)]
+write("query", QUERY)
+write("named", NAMED)
+write("long", LONG)
+write_sets("sets", every)
+write_sets("plain", with_name(lambda i: b"abcdefgh %d " % i * 70))
+write_sets("quotes", with_name(lambda i: b"'\\\"\n" * 250))
+write_sets("binary", with_name(noise))
+write_sets("digits", [[b"%d" % one[0]] for one in every])
+write_sets("numbers", [[one[0]] for one in every])
+# Workloads over sets: the name, the road, the query, the sets, how many there are, and how many times all of them are sent.
+WORKS = """
+send-text text query sets 10000 100
+send-text-apart text query sets 10000 100
+send-text-named text named sets 10000 100
+send-text-long text long sets 10000 1
+send-text-plain text query plain 1000 100
+send-text-quotes text query quotes 1000 100
+send-text-binary text query binary 1000 100
+send-execute execute query sets 10000 100
+send-execute-plain execute query plain 1000 100
+send-bulk bulk query sets 10000 100
+send-bulk-plain bulk query plain 1000 100
+send-values-text text query sets 10000 100
+send-values-execute execute query sets 10000 100
+send-values-bulk bulk query sets 10000 100
+"""
+write("works", WORKS.lstrip().encode())
+write("prepare", packet(0, b"\x16" + QUERY))
+write("texts", *map(text_command, every))
+write("executes", *map(execution, every))
+write("bulks", bulk_request(every))
+write_reply("reply-text", ROWS, text_row)
+write_reply("reply-binary", ROWS, binary_row)
+write_reply("cells-text", CELL_ROWS, text_row)
+write_reply("cells-binary", CELL_ROWS, binary_row)

@@ -1,0 +1,94 @@
+#!/usr/bin/env python3
+"""Runs every side of each workload in turn, some rounds: run.py BUILD [ROUNDS [WORKLOAD..]]
+
+Each round runs each side once, so that a busy machine slows all sides alike. A line of the output is WORKLOAD SIDE MEDIAN LEAST MOST,
+nanoseconds of the processor (user and system) a unit. `table.py` makes a table of it. Sides that weren't built are left out."""
+import os
+import statistics
+import subprocess
+import sys
+
+BUILD, ROUNDS = sys.argv[1], int(sys.argv[2]) if len(sys.argv) > 2 else 5
+HERE = os.path.dirname(os.path.abspath(__file__))
+SIDES = {
+    "library": ["./library"],
+    "c": ["./hand_written"],
+    "rust": ["./hand_written_rust"],
+    "mariadb": ["./libmariadb"],
+    "go": ["./go_side"],
+    "python": ["/usr/bin/python3", os.path.join(HERE, "sides", "pymysql_side.py")],
+}
+HAND = ["library", "c", "rust"]
+CLIENTS = [*HAND, "mariadb", "go"]
+WORKLOADS = {
+    "frame-16M": HAND,
+    "frame-100": HAND,
+    "split-16M": HAND,
+    "split-100": HAND,
+    "places": ["library"],
+    "send-text": [*CLIENTS, "python"],
+    "send-text-apart": HAND,
+    "send-text-named": ["library"],
+    "send-text-long": CLIENTS,
+    "send-text-plain": [*CLIENTS, "python"],
+    "send-text-quotes": [*CLIENTS, "python"],
+    "send-text-binary": CLIENTS,
+    "send-execute": CLIENTS,
+    "send-execute-plain": CLIENTS,
+    "send-bulk": HAND,
+    "send-bulk-plain": HAND,
+    "send-values-text": HAND,
+    "send-values-execute": HAND,
+    "send-values-bulk": HAND,
+    "receive-texts": HAND,
+    "receive-executes": HAND,
+    "receive-bulks": HAND,
+    "receive-texts-bytewise": HAND,
+    "receive-executes-bytewise": HAND,
+    "recode-texts": HAND,
+    "recode-executes": HAND,
+    "recode-bulks": HAND,
+    "reply-text": [*CLIENTS, "python"],
+    "reply-text-bytewise": HAND,
+    "reply-binary": [*HAND, "go"],
+    "cells-text-by-number": HAND,
+    "cells-text-by-name": HAND,
+    "cells-binary-by-number": HAND,
+    "cells-binary-by-name": HAND,
+    "convert-digits": HAND,
+    "convert-numbers": HAND,
+}
+
+
+def is_built(side):
+    return side == "python" or os.path.exists(os.path.join(BUILD, SIDES[side][0]))
+
+
+def once(side, workload):
+    """What a side prints of a workload: of each of its ways the processor's nanoseconds a unit."""
+    words = [*SIDES[side], "inputs", "1", workload]
+    ran = subprocess.run(words, cwd=BUILD, capture_output=True, text=True)
+    if ran.returncode:
+        print(f"# {workload}: {side} failed: {ran.stderr.strip()[-200:]}", flush=True)
+    for line in ran.stdout.splitlines():
+        _, who, _, processor, check = line.split()
+        if check == "0":
+            print(f"# {workload}: {who} did not do the work", flush=True)
+        else:
+            yield who, float(processor)
+
+
+def run(workload):
+    found = {}
+    print(f"# {workload}: load {os.getloadavg()[0]:.1f}", flush=True)
+    for _ in range(ROUNDS):
+        for side in filter(is_built, WORKLOADS[workload]):
+            for who, time in once(side, workload):
+                found.setdefault(who, []).append(time)
+    for who, times in found.items():
+        print(f"{workload} {who} {statistics.median(times):.4g} {min(times):.4g} {max(times):.4g}", flush=True)
+
+
+print(f"# {ROUNDS} rounds, {os.cpu_count()} processors")
+for each in sys.argv[3:] or WORKLOADS:
+    run(each)

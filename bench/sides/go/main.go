@@ -1,0 +1,5 @@
+package main
+
+import "side/mysql"
+
+func main() { mysql.Side() }

@@ -1,0 +1,73 @@
+// Runs the library's workloads: library INPUTS ROUNDS WORKLOAD..
+#include "measure.h"
+
+typedef const unsigned char *Pointer;
+
+size_t mysql_bench_frame(Pointer, size_t, size_t, size_t);
+size_t mysql_bench_split(Pointer, size_t, size_t);
+size_t mysql_bench_places(Pointer, size_t, size_t);
+size_t mysql_bench_send(Pointer, size_t, Pointer, size_t, size_t, size_t, _Bool, uint8_t, size_t, size_t);
+size_t mysql_bench_send_values(Pointer, size_t, Pointer, size_t, size_t, size_t, uint8_t, size_t);
+size_t mysql_bench_receive(Pointer, size_t, Pointer, size_t, size_t);
+size_t mysql_bench_recode(Pointer, size_t, Pointer, size_t);
+size_t mysql_bench_read_reply(Pointer, size_t, size_t, _Bool);
+size_t mysql_bench_cells(Pointer, size_t, _Bool, _Bool, size_t);
+int64_t mysql_bench_convert(Pointer, size_t, size_t, size_t);
+
+static void send_sets(const char *what, Work work, int rounds) {
+    Bytes query = load(work.query), sets = load(work.sets);
+    uint8_t road = strcmp(work.road, "text") == 0 ? 0 : strcmp(work.road, "execute") == 0 ? 1 : 2;
+    double units = (double)work.count * work.times;
+    size_t at_once = IS("send-text-apart") ? 1 : work.count;
+    _Bool by_name = strstr(what, "named") != 0;
+    if (BEGINS("send-values")) {
+        MEASURE("library", units, mysql_bench_send_values(query.at, query.len, sets.at, sets.len, work.count, WIDTH, road, work.times))
+    } else {
+        MEASURE("library", units, mysql_bench_send(query.at, query.len, sets.at, sets.len, work.count, WIDTH, by_name, road, at_once, work.times))
+    }
+}
+
+static void run(const char *what, int rounds) {
+    Work work;
+    _Bool binary = strstr(what, "binary") != 0, bytewise = strstr(what, "bytewise") != 0;
+    size_t copies = bytewise ? BYTEWISE_COPIES : COPIES, piece = bytewise ? 1 : PIECE;
+    if (IS("frame-16M")) {
+        Bytes one = payload(16000000);
+        MEASURE("library", 1024e6, mysql_bench_frame(one.at, one.len, 64, 1))
+    } else if (IS("frame-100")) {
+        Bytes one = payload(100);
+        MEASURE("library", 1e9, mysql_bench_frame(one.at, one.len, 10000000, 65536))
+    } else if (BEGINS("split")) {
+        Bytes stream = IS("split-16M") ? framed(16000000, 64) : framed(100, 2560000);
+        MEASURE("library", (double)stream.len, mysql_bench_split(stream.at, stream.len, PIECE))
+    } else if (IS("places")) {
+        Bytes query = load("query");
+        MEASURE("library", 1e6, mysql_bench_places(query.at, query.len, 1000000))
+    } else if (BEGINS("receive")) {
+        Bytes query = load("query"), stream = commands(what, copies);
+        MEASURE("library", 1e4 * copies, mysql_bench_receive(query.at, query.len, stream.at, stream.len, piece))
+    } else if (BEGINS("recode")) {
+        Bytes query = load("query"), stream = commands(what, copies);
+        MEASURE("library", 1e4 * copies, mysql_bench_recode(query.at, query.len, stream.at, stream.len))
+    } else if (BEGINS("reply")) {
+        Bytes stream = load(binary ? "reply-binary" : "reply-text");
+        MEASURE("library", (double)ROWS, mysql_bench_read_reply(stream.at, stream.len, piece, binary))
+    } else if (BEGINS("cells")) {
+        Bytes stream = load(binary ? "cells-binary" : "cells-text");
+        _Bool by_name = strstr(what, "by-name") != 0;
+        MEASURE("library", (double)CELL_ROWS * CELL_TIMES, mysql_bench_cells(stream.at, stream.len, binary, by_name, CELL_TIMES))
+    } else if (BEGINS("convert")) {
+        Bytes values = load(IS("convert-digits") ? "digits" : "numbers");
+        MEASURE("library", (double)CONVERTED * CONVERT_TIMES, mysql_bench_convert(values.at, values.len, CONVERTED, CONVERT_TIMES))
+    } else if (find_work(what, &work)) {
+        send_sets(what, work, rounds);
+    } else {
+        exit(2);
+    }
+}
+
+int main(int argc, char **argv) {
+    INPUTS = argv[1];
+    for (int i = 3; i < argc; i++) run(argv[i], atoi(argv[2]));
+    return 0;
+}
