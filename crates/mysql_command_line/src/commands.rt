@@ -81,15 +81,6 @@ pub(crate) fn audit<R: Read, W: Write>(
     answer_audit(alloc, output, &audit)
 }
 
-/// Why a stream that ends so is not recoded.
-fn refuse_end(end: End) -> Result<(), RecodeError> {
-    match end {
-        End::Whole => Ok(()),
-        End::Fault(packet, fault) => Err(RecodeError::Stream(packet, fault)),
-        End::WaitingPieces | End::UnfinishedPacket => Err(RecodeError::Unfinished(end)),
-    }
-}
-
 /// Sends what the stream on the input carries as executions.
 pub(crate) fn recode<R: Read, W: Write>(
     alloc: Global,
@@ -98,7 +89,9 @@ pub(crate) fn recode<R: Read, W: Write>(
     output: &mut W,
 ) -> Result<Status, Stop> {
     let Audit { sets, end } = audit_input(alloc, statement, input)?;
-    refuse_end(end)?;
+    if let Some(error) = RecodeError::of_end(end) {
+        return Err(Stop::Recoding(error));
+    }
     let Statement { query, id, limit } = statement;
     let mut stream = Vec::new(alloc);
     send_contents(alloc, query, sets, id, limit, &mut stream)?;

@@ -3,7 +3,7 @@
 use crate::given::{
     Cells, Given, NULL, ONE, SHORT, THREE, TWO, TWO_VALUES, TYPED_1, TYPED_1_2, row, rows,
 };
-use crate::support::Asserting;
+use crate::support::{Asserting, name};
 use mysql_bulk_builder::{
     BulkExecuteRequestBuilderError, BulkExecuteRequestError, BulkRequests,
     ComStmtBulkExecuteRequest, ComStmtBulkExecuteRequestBuilder,
@@ -252,12 +252,7 @@ fn assert_takes_sets(
 fn sets_by_name(rt: HostRuntime) {
     let assert = Asserting(&rt);
     let alloc = rt.alloc();
-    let name = once_more(
-        &assert,
-        Vec::from_slice(alloc, b"a"),
-        Vec::from_slice(alloc, b"a"),
-    );
-    let names = [name];
+    let names = [name(&assert, alloc)];
     let builder = ComStmtBulkExecuteRequestBuilder::new(alloc, 1, 31);
     let mut builder = builder.with_named_params(Some(&names));
     assert_takes_sets(&assert, alloc, &mut builder);
@@ -383,12 +378,7 @@ fn is_ended_by_a_set(assert: &impl Assert, alloc: Global, names: &[Vec<u8>]) -> 
 fn a_set_without_the_name_is_the_last_item(rt: HostRuntime) {
     let assert = Asserting(&rt);
     let alloc = rt.alloc();
-    let name = once_more(
-        &assert,
-        Vec::from_slice(alloc, b"a"),
-        Vec::from_slice(alloc, b"a"),
-    );
-    let names = [name];
+    let names = [name(&assert, alloc)];
     let first = is_ended_by_a_set(&assert, alloc, &names);
     assert.holds(first || is_ended_by_a_set(&assert, alloc, &names));
 }

@@ -3,7 +3,7 @@
 use crate::building::named;
 use crate::given::{Cells, ONE, TWO, TWO_VALUES, TYPED_1, TYPED_1_2, row, rows};
 use crate::rows::{copy_of, row_of};
-use crate::support::Asserting;
+use crate::support::{Asserting, name};
 use mysql_bulk_builder::{
     BulkExecuteRequestBuilderError, BulkExecuteRequestError, ComStmtBulkExecuteRequestBuilder,
 };
@@ -223,12 +223,7 @@ fn has_value(assert: &impl Assert, alloc: Global, names: &[Vec<u8>]) -> bool {
 fn values_of_a_set(rt: HostRuntime) {
     let assert = Asserting(&rt);
     let alloc = rt.alloc();
-    let name = once_more(
-        &assert,
-        Vec::from_slice(alloc, b"a"),
-        Vec::from_slice(alloc, b"a"),
-    );
-    let names = [name];
+    let names = [name(&assert, alloc)];
     let first = has_value(&assert, alloc, &names);
     assert.holds(first || has_value(&assert, alloc, &names));
 }

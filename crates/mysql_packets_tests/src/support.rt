@@ -2,6 +2,7 @@
 
 ghost use Rattle.std.specs.Prelude.{◌≡◌, true};
 
+use std::alloc::Global;
 use std::borrow::CowStr;
 use std::process::Abort;
 use tests_support::{Assert, assert_bytes, once_more};
@@ -27,4 +28,13 @@ pub fn assert_text<E: Drop>(
 ) {
     let text = once_more(assert, first, second);
     assert_bytes(assert, text.as_str().as_bytes(), wanted.as_bytes());
+}
+
+/// The name `a`.
+pub fn name(assert: &impl Assert, alloc: Global) -> Vec<u8> {
+    once_more(
+        assert,
+        Vec::from_slice(alloc, b"a"),
+        Vec::from_slice(alloc, b"a"),
+    )
 }

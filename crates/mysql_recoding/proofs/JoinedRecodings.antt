@@ -19,8 +19,8 @@ use Rattle.mysql_streams.specs.Sent.{SentPayload, Statement, as_execution, paylo
 use Rattle.mysql_to_values.specs.Values.{content_value}
 use Rattle.mysql_recoding.specs.Canonical.{canonical, execution_framings, prepare_framing, values_of_sets}
 use Rattle.mysql_recoding.specs.Causes.{recoding_cause}
-use Rattle.mysql_recoding.specs.Laws.{JoinedStreamsRecode}
-use Rattle.mysql_recoding.proofs.CausesAgree.{IsRecodable, no_cause, not_here, recodable}
+use Rattle.mysql_recoding.specs.Laws.{JoinedStreamsRecode, both}
+use Rattle.mysql_recoding.proofs.Recodable.{IsRecodable, no_cause, not_here, recodable}
 
 -- one split of bytes has no more payloads than another
 as_many : FramedComeFirst → (limit : ℕ) (bytes : List ℕ) (split other : Split) → IsSplit limit EachFromZero bytes split → IsSplit limit EachFromZero bytes other → length split.payloads ≤ length other.payloads
@@ -84,10 +84,6 @@ canonical_joined statement sets others =
 
 -- ---- joined
 
--- the sets of both, to the end of a whole stream
-abbrev both : Audit → Audit → Audit
-both first second = record { sets = first.sets ++ second.sets; ending = Whole }
-
 -- whether the execution of a set's values is larger than so many bytes
 abbrev is_large : ℕ → ℕ → List Value → Bool
 is_large id room values = nat_lt room (length (execute_command id values false))
@@ -135,8 +131,6 @@ joined join one come_first query tokens id limit stream behind front back first 
     let payloads : length here.0.payloads + length there.0.payloads < 2 ^ 64 =
     omega (arith, few, as_many come_first limit stream here.0 front here.1 front_split, as_many come_first limit behind there.0 back there.1 back_split) in
     record {
-      joined = both first second;
-      carries = refl;
       says = (c, first_says.1, join c limit stream behind here.0 there.0 first second here.1 there.1 here.2 there.2 payloads first_whole second_whole);
       from_each = none_from_each statement limit first second;
       to_first = none_to_first statement limit first second first_whole;

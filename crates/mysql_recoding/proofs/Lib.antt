@@ -8,7 +8,7 @@ pub mod StatesInForce
 pub mod Causes
 pub mod Recodings
 pub mod SentContents
-pub mod CausesAgree
+pub mod Recodable
 pub mod SentAgain
 pub mod OneRecoding
 pub mod JoinedRecodings

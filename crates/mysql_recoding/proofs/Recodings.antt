@@ -33,7 +33,7 @@ use Rattle.mysql_recoding.specs.Causes.{recoding_cause}
 use Rattle.mysql_recoding.specs.Laws.{CarriedSetsFillPlaces}
 use Rattle.mysql_recoding.specs.Recoding.{IsRecodingCause, Recodes, RefusesRecoding}
 use Rattle.mysql_recoding.proofs.Causes.{as_refusal, causes_agree}
-use Rattle.mysql_recoding.proofs.CausesAgree.{counts}
+use Rattle.mysql_recoding.proofs.Recodable.{counts}
 
 -- the conversation about a query with these tokens
 conversation_of : List ℕ → List (List ℕ) → ℕ → Conversation

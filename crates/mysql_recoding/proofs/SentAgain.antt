@@ -15,7 +15,7 @@ use Rattle.mysql_streams.specs.declared.road.Road.TheVariants.{Execute}
 use Rattle.mysql_recoding.specs.Canonical.{canonical, values_of_sets}
 use Rattle.mysql_recoding.specs.Laws.{CarriedSetsFillPlaces, FillsPlaces, RecodingsCarryTheSame, RecodingsRecodeToThemselves}
 use Rattle.mysql_recoding.specs.Recoding.{Recodes}
-use Rattle.mysql_recoding.proofs.CausesAgree.{IsRecodable, no_cause, no_refusal, recodable, sets_fit}
+use Rattle.mysql_recoding.proofs.Recodable.{IsRecodable, no_cause, no_refusal, recodable, sets_fit}
 use Rattle.mysql_recoding.proofs.SentContents.{sets_held}
 
 -- the canonical form is all that was appended

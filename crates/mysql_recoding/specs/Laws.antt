@@ -69,16 +69,18 @@ pub record IsDecided (query : List ℕ) (id limit : ℕ) (stream old : List ℕ)
 abbrev pub RecodingsAreDecided : Type 0
 RecodingsAreDecided = (query : List ℕ) (id limit : ℕ) (stream old : List ℕ) → AreBytes stream → IsDecided query id limit stream old
 
+-- the sets of two whole streams one behind the other
+abbrev pub both : Audit → Audit → Audit
+both first second = record { sets = first.sets ++ second.sets; ending = Whole }
+
 -- Two whole streams one behind the other carry the sets of both; they can be recoded exactly where each of them can, and then what stands behind
 -- the prepare of the second one's recoding stands behind the first one's.
 pub record RecodesJoined (query : List ℕ) (id limit : ℕ) (statement : Statement) (stream behind : List ℕ) (first second : Audit) : Type 0 where
-  pub joined : Audit
-  pub carries : joined ≡ (record { sets = first.sets ++ second.sets; ending = Whole })
-  pub says : AuditOf query id limit (stream ++ behind) joined
-  pub from_each : recoding_cause statement limit first ≡ None → recoding_cause statement limit second ≡ None → recoding_cause statement limit joined ≡ None
-  pub to_first : recoding_cause statement limit joined ≡ None → recoding_cause statement limit first ≡ None
-  pub to_second : recoding_cause statement limit joined ≡ None → recoding_cause statement limit second ≡ None
-  pub recoded : canonical statement joined.sets ≡ canonical statement first.sets ++ execution_framings statement second.sets
+  pub says : AuditOf query id limit (stream ++ behind) (both first second)
+  pub from_each : recoding_cause statement limit first ≡ None → recoding_cause statement limit second ≡ None → recoding_cause statement limit (both first second) ≡ None
+  pub to_first : recoding_cause statement limit (both first second) ≡ None → recoding_cause statement limit first ≡ None
+  pub to_second : recoding_cause statement limit (both first second) ≡ None → recoding_cause statement limit second ≡ None
+  pub recoded : canonical statement (both first second).sets ≡ canonical statement first.sets ++ execution_framings statement second.sets
 
 abbrev pub JoinedStreamsRecode : Type 0
 JoinedStreamsRecode =

@@ -1,6 +1,9 @@
 //! Why a stream is not recoded.
 
-ghost use Rattle.std.specs.Prelude.{◌≡◌, ◌⊎◌};
+ghost use Rattle.std.specs.Prelude.{◌≡◌, ◌⊎◌, IfNone, IfSome, Some};
+ghost use Rattle.mysql_commands.specs.declared.audit.End.TheVariants as ends;
+ghost use Rattle.mysql_commands.specs.Receiving.{IsMemory};
+ghost use Rattle.mysql_recoding.specs.Causes.{ending_cause};
 ghost use Rattle.mysql_commands.specs.declared.receiver.ReceiverError.TheVariants as receiver_error;
 ghost use Rattle.mysql_recoding.specs.declared.errors.RecodeError.TheVariants as recode_error;
 
@@ -31,6 +34,22 @@ pub enum RecodeError {
     PacketTooLarge(usize),
     #[error("out of memory")]
     Memory,
+}
+
+impl RecodeError {
+    /// Why a stream that ends so is not recoded; None where it is whole. For who reads a stream by a `Receiver`, before its contents
+    /// are sent by [`send_contents`](crate::send_contents).
+    pub fn of_end(end: End) -> Option<RecodeError>
+        ensures none { IfNone result (end ≡ ends.Whole) }
+        ensures some { IfSome result (λ error. ((error ≡ recode_error.Memory) × IsMemory end) ⊎ ((ending_cause end ≡ Some error) × (IsMemory end → ⊥))) }
+    {
+        match end {
+            End::Fault(_, StreamFault::Memory) => Some(RecodeError::Memory),
+            End::Fault(payload, fault) => Some(RecodeError::Stream(payload, fault)),
+            End::WaitingPieces | End::UnfinishedPacket => Some(RecodeError::Unfinished(end)),
+            End::Whole => None,
+        }
+    }
 }
 
 impl From<AllocError> for RecodeError {

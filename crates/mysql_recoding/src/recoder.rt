@@ -5,21 +5,21 @@ ghost use Rattle.mysql_wire.specs.Bytes.{AreBytes};
 ghost use Rattle.mysql_to_values.specs.Values.{content_value};
 ghost use Rattle.mysql_commands.specs.declared.audit.End.TheVariants as ends;
 ghost use Rattle.mysql_commands.specs.Audit.{AuditOf};
-ghost use Rattle.mysql_commands.specs.Receiving.{IsMemory, audit_of};
+ghost use Rattle.mysql_commands.specs.Receiving.{audit_of};
 ghost use Rattle.mysql_streams.specs.declared.refusal.Refusal.TheVariants as refusals;
-ghost use Rattle.mysql_streams.specs.Sending.{RefusesGiven, SendsGiven};
+ghost use Rattle.mysql_streams.specs.Reading.{SentReadable};
+ghost use Rattle.mysql_streams.specs.Sending.{RefusesGiven};
 ghost use Rattle.mysql_streams.specs.Sets.{all_given_in_places};
 ghost use Rattle.mysql_streams.specs.declared.road.Road.TheVariants as roads;
 ghost use Rattle.mysql_commands.specs.Views.{sets_of};
 ghost use Rattle.mysql_recoding.specs.Canonical.{values_of_sets};
-ghost use Rattle.mysql_recoding.specs.Causes.{ending_cause};
 ghost use Rattle.mysql_recoding.specs.Recoding.{Recodes, RefusesRecoding};
 ghost use Rattle.mysql_recoding.specs.declared.errors.RecodeError.TheVariants as recode_error;
 
 use crate::errors::RecodeError;
 use crate::laws::carried_sets_fill_places;
 use mysql_commands::laws::stream_has_one_audit;
-use mysql_commands::{Audit, Content, End, StreamFault, receive};
+use mysql_commands::{Audit, Content, receive};
 use mysql_senders::put_executions_of_values;
 use mysql_streams::Refusal;
 use mysql_to_values::ToValue;
@@ -84,7 +84,7 @@ pub fn send_contents(
     out: &mut Vec<u8>,
 ) -> Result<(), Refusal>
     requires { 4 ≤ limit }
-    ensures sent { OnOk result (SendsGiven roads.Execute query.now (all_given_in_places (values_of_sets (sets_of sets.items))) stmt_id limit out.old.items out.new.items) }
+    ensures sent { OnOk result (SentReadable roads.Execute query.now (all_given_in_places (values_of_sets (sets_of sets.items))) stmt_id limit out.old.items out.new.items) }
     ensures refused { IfErr result (RefusesGiven roads.Execute query.now (all_given_in_places (values_of_sets (sets_of sets.items))) stmt_id limit) }
     ensures kept { OnErr result (out.new.items ≡ out.old.items) }
 {
@@ -115,19 +115,6 @@ fn all_are_bytes(pieces: &[&[u8]])
     }
 }
 
-/// What speaks against how a stream ends.
-fn check_end(end: End) -> Result<(), RecodeError>
-    ensures ok { OnOk result (end ≡ ends.Whole) }
-    ensures err { IfErr result (λ error. ((error ≡ recode_error.Memory) × IsMemory end) ⊎ ((ending_cause end ≡ Some error) × (IsMemory end → ⊥))) }
-{
-    match end {
-        End::Fault(_, StreamFault::Memory) => Err(RecodeError::Memory),
-        End::Fault(payload, fault) => Err(RecodeError::Stream(payload, fault)),
-        End::WaitingPieces | End::UnfinishedPacket => Err(RecodeError::Unfinished(end)),
-        End::Whole => Ok(()),
-    }
-}
-
 /// What a stream says, where it is whole.
 fn whole_audit(
     alloc: Global,
@@ -144,8 +131,10 @@ fn whole_audit(
     stream_has_one_audit();
     all_are_bytes(pieces);
     let audit = receive(alloc, query, stmt_id, limit, pieces)?;
-    check_end(audit.end)?;
-    Ok(audit)
+    match RecodeError::of_end(audit.end) {
+        Some(error) => Err(error),
+        None => Ok(audit),
+    }
 }
 
 /// What a refusal of contents that a stream carries makes of the recoding. They are as many as the placeholders and no floats, so

@@ -194,7 +194,7 @@ fn references<'a>(alloc: Global, values: &'a [Value]) -> Result<Vec<&'a Value>, 
 }
 
 /// Appends the execution with a set's values.
-fn put_list(
+fn put_value_set(
     alloc: Global,
     statement: &Statement<'_>,
     set: usize,
@@ -213,7 +213,7 @@ fn put_list(
 }
 
 /// Appends the execution of each set of values.
-fn put_lists(
+fn put_value_sets(
     alloc: Global,
     statement: &Statement<'_>,
     sets: &[Vec<Value>],
@@ -227,7 +227,7 @@ fn put_lists(
 {
     let mut command = Vec::new(alloc);
     'sets: for (set, values) in sets.iter().enumerate() {
-        put_list(alloc, statement, set, values, room, &mut command, out)?;
+        put_value_set(alloc, statement, set, values, room, &mut command, out)?;
     }
     Ok(())
 }
@@ -286,5 +286,5 @@ pub fn put_executions_of_values(
     let statement = statement_of(alloc, query, stmt_id)?;
     let room = limit - 4;
     put_prepare(alloc, &statement, room, out)?;
-    put_lists(alloc, &statement, sets, room, out)
+    put_value_sets(alloc, &statement, sets, room, out)
 }

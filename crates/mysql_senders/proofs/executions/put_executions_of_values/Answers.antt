@@ -8,18 +8,18 @@ use Rattle.mysql_senders.proofs.executions.put_executions_of_values.Goals as goa
 
 pub returns-clause-ok : goal.returns-clause-ok
 returns-clause-ok c =
-    on_ok c.put_lists.result
+    on_ok c.put_value_sets.result
     (all_executed c.args.query.now c.in_ok-statement.statement.parsed c.in_ok-statement.statement.places c.in_ok-statement.ensures.ok.0 (all_given_in_places (map (λ set. set.items) c.args.sets.now)) c.in_ok-statement.statement.id c.args.stmt_id c.args.limit c.in_ok-statement.ensures.ok.1
-    c.in_ok-put_prepare.ensures.ok.0 c.args.out.now.items c.put_prepare.new.out.items c.put_lists.new.out.items c.in_ok-put_prepare.ensures.ok.1)
-    c.put_lists.ensures.ok
+    c.in_ok-put_prepare.ensures.ok.0 c.args.out.now.items c.put_prepare.new.out.items c.put_value_sets.new.out.items c.in_ok-put_prepare.ensures.ok.1)
+    c.put_value_sets.ensures.ok
 
 pub returns-clause-err : goal.returns-clause-err
 returns-clause-err c =
-    on_err c.put_lists.result
+    on_err c.put_value_sets.result
     (refused_sets c.args.query.now c.in_ok-statement.statement.parsed c.in_ok-statement.statement.places c.in_ok-statement.ensures.ok.0 (all_given_in_places (map (λ set. set.items) c.args.sets.now)) c.in_ok-statement.statement.id c.args.stmt_id c.args.limit c.in_ok-statement.ensures.ok.1
     c.in_ok-put_prepare.ensures.ok.0)
-    c.put_lists.ensures.err
+    c.put_value_sets.ensures.err
 
 pub returns-clause-kept : goal.returns-clause-kept
 returns-clause-kept c =
-    kept_behind c.args.out.now.items (framing (prepare_command c.in_ok-statement.statement.parsed.query) 0) c.put_prepare.new.out.items c.put_lists.new.out.items c.in_ok-put_prepare.ensures.ok.1 c.put_lists.ensures.kept
+    kept_behind c.args.out.now.items (framing (prepare_command c.in_ok-statement.statement.parsed.query) 0) c.put_prepare.new.out.items c.put_value_sets.new.out.items c.in_ok-put_prepare.ensures.ok.1 c.put_value_sets.ensures.kept

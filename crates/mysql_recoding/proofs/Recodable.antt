@@ -1,4 +1,4 @@
--- Where nothing speaks against recoding a stream, nothing speaks against sending its sets by execute.
+-- What it says that no cause speaks against recoding a stream: none speaks against sending its sets by execute, and their values fit their fields.
 use Rattle.std.proofs.Common.{◌≡◌, ℕ, ◌+◌, ◌-◌, ◌<◌, ◌≤◌, ◌^◌, Bool, true, false, List, [], ◌∷◌, length, map, Option, Some, None, Ok, refl, ◌∙◌, ap, arith, nat_lt}
 use Rattle.std.specs.Prelude.{if◌then◌else◌}
 use Rattle.std.specs.List.{AllByRecursion, position_from, sum_by}

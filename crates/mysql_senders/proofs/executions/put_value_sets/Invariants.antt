@@ -2,7 +2,7 @@ use Rattle.std.proofs.Common.{[], map}
 use Rattle.mysql_streams.specs.Sets.{all_given_in_places}
 use Rattle.mysql_senders.proofs.Contents.{given_whole}
 use Rattle.mysql_senders.proofs.StatementSets.{ExecutionsSent}
-use Rattle.mysql_senders.proofs.executions.put_lists.Given as goal
+use Rattle.mysql_senders.proofs.executions.put_value_sets.Given as goal
 
 abbrev pub invariant-sets : goal.invariant-sets
 invariant-sets l =
