@@ -6,7 +6,7 @@ use Rattle.std.proofs.lemmas.Bool.{cases_lt, ne_eqb}
 use Rattle.mysql_wire.specs.Framing.{chunks, framing, number_after}
 use Rattle.mysql_wire.specs.Stream.{Rest, IsRest}
 use Rattle.mysql_wire.specs.Stream.Rest.{Empty, TooLarge, OutOfSync}
-use Rattle.mysql_wire.specs.Codec.{Begun, Codec, codec_at, IsOfPacket, HandsOut, Waits, IsDue, RefusesBy, held, begun_bytes, packet_number, whole_chunks, error_of}
+use Rattle.mysql_wire.specs.Codec.{Begun, Codec, codec_at, IsOfPacket, HandsOut, Waits, IsDue, RefusesBy, held, begun_bytes, packet_number, whole_chunks}
 use Rattle.mysql_wire.specs.Incoming.{Incoming, ReadsOn, bytes_kept, codec_by, incoming_at}
 use Rattle.mysql_wire.specs.Reader.{HasRead, IsAnswer}
 use Rattle.mysql_wire.specs.Stream.Numbering.{OnFrom}
@@ -62,9 +62,9 @@ cut_piece codec header dst piece src number bytes new left payload n joined s h 
     (few, subst (λ l. HandsOut codec (header ++ piece) dst new l payload) (sym whole) here, subst (λ l. length l < length piece) (sym whole) u.0)
 
 -- a codec that answered otherwise had refused nothing
-pub not_refused : (o : Option Refusal) (r : Result Bool PacketCodecError) (whole : Bool) (Q : Refusal → Type 0) → ((x : Refusal) → Q x → r ≡ Err (error_of x)) → IfSome o Q → r ≡ Ok whole → o ≡ None
+pub not_refused : (o : Option Refusal) (r : Result Bool Refusal) (whole : Bool) (Q : Refusal → Type 0) → ((x : Refusal) → Q x → r ≡ Err x) → IfSome o Q → r ≡ Ok whole → o ≡ None
 not_refused None r whole Q is h e = refl
-not_refused (Some x) r whole Q is h e = absurd (let never : Err (error_of x) ≡ Ok whole = sym (is x h) ∙ e in cc)
+not_refused (Some x) r whole Q is h e = absurd (let never : Err x ≡ Ok whole = sym (is x h) ∙ e in cc)
 
 -- where nothing is held, no byte of a packet is
 held_nothing : (codec : Codec) (src dst : List ℕ) → IsOfPacket codec.limit codec.begun dst → held codec src dst ≡ [] → dst ≡ []
@@ -239,6 +239,26 @@ kept_reset r new k empty e = by r.begun (not_begun r.begun _ k.begun empty) k.st
       refused = subst (λ (d : Codec). IfSome d.refused (λ _. (false ≡ false) × (r.packet.items ≡ []))) (sym e) k;
     }
 
+-- or goes on, where nothing is held
+pub kept_at : (r : Inside) (new : Codec) (n : ℕ) → IsKept r → bytes_of r.begun r.codec r.header r.packet.items ≡ [] → r.codec.refused ≡ None → n < 256 → new ≡ record r.codec { number = n } →
+    (r.begun ≡ false) × Stands new r.header [] n []
+kept_at r new n k empty fine byte e =
+    let off = not_begun r.begun _ k.begun empty in
+    let s : Stands r.codec r.header [] r.number [] =
+    subst (λ b. Stands r.codec r.header (unfinished b r.packet.items) r.number (bytes_of b r.codec r.header r.packet.items)) off (k.stands fine) in (
+      off,
+      subst (λ (d : Codec). Stands d r.header [] n []) (sym e)
+          (record {
+            moved = s.moved;
+            goes_on = s.goes_on;
+            number_is = omega arith;
+            held_is = held_renumbered r.codec r.header n ∙ s.held_is;
+            rest = Empty;
+            no_fault = λ f. f;
+            is_rest = empty_rest r.codec.limit n;
+          }),
+    )
+
 pub no_refusal : (o : Option Refusal) (begun : Bool) (packet : List ℕ) → o ≡ None → IfSome o (λ _. (begun ≡ false) × (packet ≡ []))
 no_refusal None begun packet e = tt
 no_refusal (Some x) begun packet e = absurd cc
@@ -302,6 +322,32 @@ module _ (r : Inside) (v : Incoming) (view : incoming_of r ≡ v) (kept : IsKept
         ∙ ap (λ p. I r.codec.limit (bytes ++ piece) p new.refused) waited_on.no_payload
         ∙ ap (λ o. I r.codec.limit (bytes ++ piece) [] o) refused
         ∙ ap (λ (x : Incoming). record x { bytes = x.bytes ++ piece; payload = [] }) view
+
+-- after a piece was taken that ends within the chunk begun
+pub record Within (r : Inside) (v : Incoming) (piece : List ℕ) (new : Codec) (left packet' : List ℕ) (begun : Bool) : Type 0 where
+  pub fine : new.refused ≡ None
+  pub stands : Stands new r.header (unfinished begun packet') r.number (bytes_of begun new r.header packet')
+  pub begun_is : (length (bytes_of begun new r.header packet') == 0) ≡ not begun
+  pub waits : Waits (codec_by v) (v.bytes ++ piece) [] (at new r.number) (bytes_of begun new r.header packet' ++ left) (handed_out begun packet')
+  pub view : record { limit = new.limit; number = r.number; bytes = bytes_of begun new r.header packet'; payload = handed_out begun packet'; refused = new.refused } ≡ record v { bytes = v.bytes ++ piece; payload = [] }
+
+pub within_view : (r : Inside) (v : Incoming) → incoming_of r ≡ v → IsKept r → (piece : List ℕ) (new : Codec) (left packet' : List ℕ) → r.begun ≡ true → left ≡ [] →
+    r.codec.refused ≡ None → r.codec.begun ≢ None → Waits r.codec piece r.packet.items new [] packet' → Within r v piece new left packet' r.begun
+within_view r v view kept piece new left packet' is used fine chunk w =
+    let none : r.header ≡ [] = (kept.stands fine).moved chunk in
+    let same : r.packet.items ≡ unfinished r.begun r.packet.items = ap (λ b. unfinished b r.packet.items) (sym is) in
+    let waits : Waits r.codec (r.header ++ piece) r.packet.items new (r.header ++ left) packet' =
+    subst (λ h. Waits r.codec (h ++ piece) r.packet.items new (h ++ left) packet') (sym none) (subst (λ l. Waits r.codec piece r.packet.items new l packet') (sym used) w) in
+    let on = waited_on r v view kept r.packet.items piece same fine new r.header left packet' used (λ _. none) waits in
+    let stays : (r.begun || not (length piece == 0)) ≡ r.begun = ap (λ b. b || not (length piece == 0)) is ∙ sym is in
+    subst (Within r v piece new left packet') stays
+    (record {
+      fine = w.refused;
+      stands = on.stands;
+      begun_is = on.begun_is;
+      waits = waits_view r v view kept r.packet.items piece same fine new r.header left packet' used (λ _. none) waits;
+      view = same_view r v view kept r.packet.items piece same fine new r.header left packet' used (λ _. none) waits;
+    })
 
 -- a reader to which nothing came has read nothing
 pub reader_begins : (r : Incoming) (codec : Codec) (number limit : ℕ) → r ≡ incoming_at number limit → number ≡ codec.number → limit ≡ codec.limit → number < 256 →

@@ -10,6 +10,7 @@ pub mod Writing
 pub mod Packet
 pub mod Steps
 pub mod Incoming
+pub mod InPlace
 mod Decides
 mod Rests
 mod Fronts

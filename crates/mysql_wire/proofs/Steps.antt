@@ -1,14 +1,18 @@
 -- The steps of the loop, as its calls and tests tell of them.
-use Rattle.std.proofs.Common.{◌≡◌, ◌≢◌, ◌⊎◌, inl, inr, ℕ, min, ◌+◌, ◌-◌, ◌%◌, ◌<◌, ◌≤◌, List, [], ◌++◌, length, take, drop, refl, ap, sym, ◌∙◌, subst, arith}
+use Rattle.std.proofs.Common.{◌≡◌, ◌≢◌, ◌⊎◌, inl, inr, ℕ, min, ◌+◌, ◌-◌, ◌%◌, ◌<◌, ◌≤◌, List, [], ◌++◌, length, take, drop, refl, ap, sym, ◌∙◌, subst, arith, length-append, length-take}
 use Rattle.std.specs.Prelude.{Option, Some, None, Ok, Err}
 use Rattle.std.proofs.lemmas.List.{take_all, drop_all}
 use Rattle.mysql_wire.specs.Stream.{IsRest}
 use Rattle.mysql_wire.specs.Stream.Rest.{OutOfSync}
-use Rattle.mysql_wire.specs.Codec.{held, packet_number, Waits, HandsOut, IsDue}
-use Rattle.mysql_wire.specs.Moving.{codec_of, NextChunk}
+use Rattle.mysql_wire.specs.Codec.{Codec, IsOfPacket, held, packet_number, Waits, HandsOut, IsDue}
+use Rattle.mysql_wire.specs.Moving.{begun_of, codec_of, NextChunk, EndsWithin}
 use Rattle.mysql_wire.specs.declared.codec.packet.BegunChunk.{BegunChunk}
 use Rattle.mysql_wire.specs.declared.codec.Refusal.{Refusal}
 use Rattle.mysql_wire.proofs.Packet.{Reading, waits_for_header, too_large_at, opens, waits_for_bytes, out_of_sync_at, handed_out_at, next_at}
+
+-- so many bytes are of the packet once a part of the chunk was moved
+pub more_filled : (src dst dst' : List ℕ) (awaited count filled : ℕ) → filled ≡ length dst → count ≡ min awaited (length src) → dst' ≡ dst ++ take count src → filled + count ≡ length dst'
+more_filled src dst dst' awaited count filled same least put = omega (arith, same, ap length put, length-append dst (take count src), length-take count src)
 
 module _ (limit n0 : ℕ) (b0 : Option BegunChunk) (src0 dst0 : List ℕ) (number : ℕ) where
   pub next_none : (begun : Option BegunChunk) (src dst src' : List ℕ) (filled : ℕ) → Reading limit n0 b0 src0 dst0 number begun src dst → NextChunk begun src filled limit (Ok None) src' →
@@ -62,3 +66,16 @@ module _ (limit n0 : ℕ) (b0 : Option BegunChunk) (src0 dst0 : List ℕ) (numbe
 
     pub moved_middle : chunk.number ≡ number → (count ≢ 0) → length dst' % 16777215 ≡ 0 → Reading limit n0 b0 src0 dst0 ((number + 1) % 256) None src' dst'
     moved_middle nth some full = next_at limit n0 b0 src0 dst0 number src dst src' dst' chunk byte byte' start enough left_all put_all nth (omega (arith, some, all)) full
+
+-- bytes that end within the chunk begun: the codec waits
+pub waits_within : (codec new : Codec) (number limit : ℕ) (begun left : Option BegunChunk) (dst piece dst' : List ℕ) → codec_of number limit begun ≡ codec → codec_of number limit left ≡ new →
+    IsOfPacket codec.limit codec.begun dst → EndsWithin begun piece left → dst' ≡ dst ++ piece → (codec.begun ≢ None) × Waits codec piece dst new [] dst'
+waits_within codec new number limit None left dst piece dst' old is fits within put = absurd within
+waits_within codec new number limit (Some chunk) None dst piece dst' old is fits within put = absurd within
+waits_within codec new number limit (Some chunk) (Some left) dst piece dst' old is fits within put =
+    let fine : IsOfPacket limit (begun_of (Some chunk)) dst = subst (λ (k : Codec). IsOfPacket k.limit k.begun dst) (sym old) fits in
+    let start : Reading limit number (Some chunk) piece dst number (Some chunk) piece dst = record { fits = fine; stands = refl; first = refl } in
+    let waits = waits_for_bytes limit number (Some chunk) piece dst number piece dst [] dst' chunk left start within.0 refl put (ap (λ k. k.number) within.1) (ap (λ k. k.awaited) within.1) in (
+      subst (λ (k : Codec). k.begun ≢ None) old (λ never. cc),
+      subst (λ (k : Codec). Waits k piece dst new [] dst') old (subst (λ (k : Codec). Waits (codec_of number limit (Some chunk)) piece dst k [] dst') is waits),
+    )

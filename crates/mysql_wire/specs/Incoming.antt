@@ -1,9 +1,9 @@
 -- What a reader of packets holds of a stream that comes in pieces, and what its calls do to it.
 -- (MySQL: Client/Server Protocol, "Protocol Basics: MySQL Packets" and "Sequence ID".)
-use Rattle.std.specs.Prelude.{◌≡◌, ℕ, ◌+◌, ◌-◌, ◌*◌, ◌/◌, Bool, true, false, List, [], ◌++◌, length, ◌<◌, Option, Some, None, Result, Ok, Err}
+use Rattle.std.specs.Prelude.{◌≡◌, ℕ, ◌+◌, ◌-◌, ◌*◌, ◌/◌, Bool, true, false, List, [], ◌++◌, length, ◌<◌, ◌≤◌, Option, Some, None, Result, Ok, Err}
 use Rattle.std.specs.Borrow.{Bor}
 use Rattle.mysql_wire.specs.Codec.{Codec, Decodes, RefusesBy}
-use Rattle.mysql_wire.specs.Framing.{max_payload_len}
+use Rattle.mysql_wire.specs.Framing.{announced, max_payload_len, number_at}
 use Rattle.mysql_wire.specs.declared.codec.PacketCodecError.{PacketCodecError}
 use Rattle.mysql_wire.specs.declared.codec.Refusal.{Refusal}
 
@@ -45,3 +45,15 @@ abbrev pub Reads : Incoming → List ℕ → Result (Option (Bor (List ℕ))) Pa
 Reads old piece (Ok (Some payload)) new rest = ReadsOn old piece true new rest × (new.bytes ≡ []) × (new.payload ≡ payload.now) × (length rest < length piece)
 Reads old piece (Ok None) new rest = ReadsOn old piece false new rest × (rest ≡ []) × (new ≡ record old { bytes = old.bytes ++ piece; payload = [] })
 Reads old piece (Err error) new rest = RefusesOn old piece new error × (rest ≡ piece) × (new ≡ record old { bytes = []; payload = []; refused = new.refused })
+
+-- the chunk at the front of the bytes stands whole, carries so many bytes, fewer than a full one and within the limit, and has this number
+pub record IsFrontChunk (limit number : ℕ) (bytes : List ℕ) (count : ℕ) : Type 0 where
+  pub count_is : count ≡ announced bytes
+  pub whole : 4 + count ≤ length bytes
+  pub short : count < max_payload_len
+  pub within : count ≤ limit
+  pub due : number_at bytes ≡ number
+
+-- no such chunk stands there
+abbrev pub LacksFrontChunk : ℕ → ℕ → List ℕ → Type 0
+LacksFrontChunk limit number bytes = (count : ℕ) → ¬ IsFrontChunk limit number bytes count

@@ -2,12 +2,13 @@
 
 ghost use Rattle.std.specs.Prelude.{◌≡◌, ◌≢◌, ◌++◌, ◌<◌, ◌≤◌, [], None, Err, IfErr, IfOk, IfSome, Ok, OnErr, OnOk, false, length};
 ghost use Rattle.mysql_wire.specs.Chunk.{IsTooLargeOrMemory};
-ghost use Rattle.mysql_wire.specs.Codec.{CanGoOn, Decodes, RefusesBy, codec_at, error_of};
+ghost use Rattle.mysql_wire.specs.Codec.{CanGoOn, Decodes, RefusesBy, Waits, codec_at, error_of};
+ghost use Rattle.std.specs.Bool.{OnFalse, OnTrue};
 ghost use Rattle.mysql_wire.specs.Framing.{framing, number_after};
 
 use bytes::{Buf, BufMut, BytesMut};
 use mysql_const::DEFAULT_MAX_ALLOWED_PACKET;
-use packet::{BegunChunk, take_packet};
+use packet::{BegunChunk, move_within, take_packet};
 use std::io;
 use std::marker::Model;
 use thiserror::Error;
@@ -117,6 +118,28 @@ impl PacketCodec {
         self.number
     }
 
+    // Whether it has refused nothing.
+    fn is_open(&self) -> bool
+        ensures open { OnTrue result (self.now.refused ≡ None) }
+        ensures refused { OnFalse result (self.now.refused ≢ None) }
+    {
+        self.refused.is_none()
+    }
+
+    // The most payload bytes of one packet.
+    fn limit(&self) -> usize
+        ensures { result ≡ self.now.limit }
+    {
+        self.max_allowed_packet
+    }
+
+    // The next chunk has this number.
+    fn set_seq_id(&mut self, number: u8)
+        ensures { self.new ≡ record self.old { number = number } }
+    {
+        self.number = number;
+    }
+
     /// The next chunk has the number 0, as the first one of each command.
     /// (MySQL: Client/Server Protocol, "Sequence ID".)
     pub fn reset_seq_id(&mut self)
@@ -184,8 +207,42 @@ impl PacketCodec {
         ensures moved { result ≡ Ok false → length (B.unread src.new) < 4 }
         ensures used { result ≡ Ok false → self.new.begun ≢ None → B.unread src.new ≡ [] }
     {
+        let filled = dst.len();
+        match self.decode_onto(src, dst, filled) {
+            Ok(whole) => Ok(whole),
+            Err(refusal) => Err(refusal.error()),
+        }
+    }
+
+    // `decode` of a piece that ends within the chunk that was begun. Answers whether it is one; else nothing changes.
+    fn decode_within(&mut self, piece: &[u8], packet: &mut Vec<u8>) -> bool
+        requires { CanGoOn self.old packet.old.items }
+        ensures waits { OnTrue result ((self.old.refused ≡ None) × (self.old.begun ≢ None)
+            × Waits self.old piece.now packet.old.items self.new [] packet.new.items) }
+        ensures kept { OnFalse result ((self.new ≡ self.old) × (packet.new.items ≡ packet.old.items)) }
+    {
+        self.refused.is_none() && move_within(&mut self.begun, piece, packet)
+    }
+
+    // `decode` onto any buffer, which has `filled` bytes.
+    fn decode_onto<B: Buf, D: BufMut>(
+        &mut self,
+        src: &mut B,
+        dst: &mut D,
+        filled: usize,
+    ) -> Result<bool, Refusal>
+        requires goes_on { CanGoOn self.old (D.written dst.old) }
+        requires filled { filled ≡ length (D.written dst.old) }
+        ensures ok { IfOk result (λ whole. Decodes self.old (B.unread src.old) (D.written dst.old) whole
+            self.new (B.unread src.new) (D.written dst.new)) }
+        ensures refused { IfErr result (λ refusal. RefusesBy self.old (B.unread src.old) (D.written dst.old) self.new (error_of refusal)) }
+        ensures stays { IfSome self.old.refused (λ refusal. (result ≡ Err refusal)
+            × (self.new ≡ self.old) × (src.new ≡ src.old) × (dst.new ≡ dst.old)) }
+        ensures moved { result ≡ Ok false → length (B.unread src.new) < 4 }
+        ensures used { result ≡ Ok false → self.new.begun ≢ None → B.unread src.new ≡ [] }
+    {
         if let Some(refusal) = self.refused {
-            return Err(refusal.error());
+            return Err(refusal);
         }
         let mut number = self.number;
         match take_packet(
@@ -193,6 +250,7 @@ impl PacketCodec {
             &mut self.begun,
             src,
             dst,
+            filled,
             self.max_allowed_packet,
         ) {
             Ok(whole) => {
@@ -201,7 +259,7 @@ impl PacketCodec {
             }
             Err(refusal) => {
                 self.refused = Some(refusal);
-                Err(refusal.error())
+                Err(refusal)
             }
         }
     }

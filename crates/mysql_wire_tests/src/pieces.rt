@@ -136,3 +136,34 @@ fn a_payload_is_taken_once(rt: HostRuntime) {
     assert_bytes(&assert, payload.as_slice(), &PINGS[4..5]);
     assert.holds(is_gone);
 }
+
+#[test]
+fn whole_packets_are_read_in_place(rt: HostRuntime) {
+    let assert = Asserting(&rt);
+    let mut reader = PacketReader::new(rt.alloc(), 0, 9);
+    let mut rest: &[u8] = &STREAM[..20];
+    assert.holds(reader.read_in_place(&mut rest) == Some(&SELECT_1[4..]));
+    assert.holds(reader.read_in_place(&mut rest) == Some(&[]));
+    assert.holds(reader.payload().is_empty());
+    // three bytes of a header don't stand whole
+    assert.holds(reader.read_in_place(&mut rest).is_none());
+    assert_equal(&assert, rest.len(), 3);
+}
+
+#[test]
+fn other_packets_are_left_to_advance(rt: HostRuntime) {
+    let assert = Asserting(&rt);
+    let mut reader = PacketReader::new(rt.alloc(), 0, 8);
+    let mut first: &[u8] = &PINGS[..2];
+    assert.holds(matches!(reader.advance(&mut first), Ok(false)));
+    // a packet that was begun, one with another number, one past the limit
+    let mut rest: &[u8] = &PINGS[2..];
+    assert.holds(reader.read_in_place(&mut rest).is_none());
+    let mut fresh = PacketReader::new(rt.alloc(), 1, 8);
+    rest = &PINGS;
+    assert.holds(fresh.read_in_place(&mut rest).is_none());
+    fresh.reset_seq_id();
+    rest = &SELECT_1;
+    assert.holds(fresh.read_in_place(&mut rest).is_none());
+    assert_equal(&assert, rest.len(), SELECT_1.len());
+}

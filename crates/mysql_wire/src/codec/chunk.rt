@@ -1,8 +1,9 @@
 //! Single chunks: their headers, and the decoder that takes one at a time.
 
-ghost use Rattle.std.specs.Prelude.{◌≡◌, ◌≤◌, IfErr, IfOk, MatchOption, None, Ok, OnErr, length};
+ghost use Rattle.std.specs.Prelude.{◌≡◌, ◌≤◌, IfErr, IfOk, IfSome, MatchOption, None, Ok, OnErr, length};
 ghost use Rattle.mysql_wire.specs.Chunk.{IsTooLargeOrMemory, LacksChunk, PassesLimit, StillAwaits, TakesChunk, info_number, is_last};
 ghost use Rattle.mysql_wire.specs.Framing.{announced, max_payload_len, number_at};
+ghost use Rattle.mysql_wire.specs.Incoming.{LacksFrontChunk, IsFrontChunk};
 ghost use Rattle.mysql_buf.specs.Bytes.{AreBytes};
 
 use super::PacketCodecError;
@@ -47,6 +48,21 @@ pub(super) fn header_of(bytes: &[u8]) -> (usize, u8)
     ensures bytes { AreBytes bytes.now }
 {
     (LittleEndian::read_u24(bytes) as usize, bytes[3])
+}
+
+/// How many bytes the chunk at the front carries, where it stands whole, has this number, and its packet ends with it.
+pub(super) fn whole_chunk(bytes: &[u8], number: u8, limit: usize) -> Option<usize>
+    ensures found { IfSome result (λ count. IsFrontChunk limit number bytes.now count × AreBytes bytes.now) }
+    ensures none { result ≡ None → LacksFrontChunk limit number bytes.now }
+{
+    if bytes.len() < 4 {
+        return None;
+    }
+    let (count, own) = header_of(bytes);
+    if own != number || count == MAX_PAYLOAD_LEN || count > limit || bytes.len() - 4 < count {
+        return None;
+    }
+    Some(count)
 }
 
 /// Takes one chunk at a time from the front of a buffer that keeps a chunk until it stands whole.

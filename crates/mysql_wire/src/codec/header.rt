@@ -1,6 +1,6 @@
 //! The front of a header that a reader keeps from one piece of a stream to the next.
 
-ghost use Rattle.std.specs.Prelude.{◌≡◌, ◌<◌, [], ◌++◌, length};
+ghost use Rattle.std.specs.Prelude.{◌≡◌, ◌<◌, ◌==◌, [], ◌++◌, length};
 
 use bytes::Buf;
 use bytes::buf::Chain;
@@ -47,6 +47,13 @@ impl PartialHeader {
         let mut bytes = [0; 3];
         src.copy_to_slice(&mut bytes[..len]);
         PartialHeader { bytes, len }
+    }
+
+    // Whether no byte came.
+    pub(super) fn is_empty(&self) -> bool
+        ensures { result ≡ (length self.now == 0) }
+    {
+        self.len == 0
     }
 
     /// The bytes that came.

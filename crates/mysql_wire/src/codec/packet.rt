@@ -4,11 +4,11 @@ ghost use Rattle.std.specs.Bool.{OnFalse, OnTrue};
 ghost use Rattle.std.specs.Prelude.{◌≡◌, ◌≢◌, ◌⊎◌, ◌%◌, ◌^◌, [], None, false, ◌<◌, ◌≤◌, ◌++◌, IfErr, IfOk, Ok, OnErr, OnOk, drop, length, take};
 ghost use Rattle.mysql_wire.specs.Codec.{Decodes, IsDue, IsOfPacket};
 ghost use Rattle.mysql_wire.specs.Framing.{max_payload_len};
-ghost use Rattle.mysql_wire.specs.Moving.{NextChunk, begun_of, codec_of};
+ghost use Rattle.mysql_wire.specs.Moving.{EndsWithin, NextChunk, begun_of, codec_of};
 
 use super::Refusal;
 use super::chunk::header_of;
-use bytes::{Buf, BytesMut};
+use bytes::{Buf, BufMut};
 use mysql_const::MAX_PAYLOAD_LEN;
 use std::alloc::AllocError;
 
@@ -26,7 +26,7 @@ fn next_chunk<B: Buf>(
     filled: usize,
     limit: usize,
 ) -> Result<Option<BegunChunk>, Refusal>
-    requires { filled < 2 ^ 63 }
+    requires { filled ≤ limit }
     ensures { NextChunk begun (B.unread src.old) filled limit result (B.unread src.new) }
 {
     if begun.is_some() {
@@ -38,25 +38,23 @@ fn next_chunk<B: Buf>(
     let mut header = [0; 4];
     src.copy_to_slice(&mut header);
     let (awaited, number) = header_of(&header);
-    if filled + awaited > limit {
+    if awaited > limit - filled {
         return Err(Refusal::TooLarge);
     }
     Ok(Some(BegunChunk { number, awaited }))
 }
 
-// Moves the first bytes of a buffer to the end of another: all of them, or none.
-fn move_bytes<B: Buf>(src: &mut B, count: usize, dst: &mut BytesMut) -> Result<(), AllocError>
+// Moves the first bytes of a buffer to the end of another, which grows as they come.
+fn move_bytes<B: Buf, D: BufMut>(src: &mut B, count: usize, dst: &mut D) -> Result<(), AllocError>
     requires { count ≤ length (B.unread src.old) }
-    ensures ok { OnOk result (dst.new.items ≡ dst.old.items ++ take count (B.unread src.old)) }
+    ensures ok { OnOk result (D.written dst.new ≡ D.written dst.old ++ take count (B.unread src.old)) }
     ensures rest { OnOk result (B.unread src.new ≡ drop count (B.unread src.old)) }
-    ensures err { OnErr result (dst.new.items ≡ dst.old.items) }
 {
-    dst.reserve(count)?;
     let mut moved = 0;
     'parts: while moved < count {
         let part = src.chunk();
         let len = part.len().min(count - moved);
-        dst.extend_reserved(&part[..len]);
+        dst.put_slice(&part[..len])?;
         src.advance(len);
         moved += len;
     }
@@ -72,23 +70,50 @@ fn is_last_chunk(count: usize, filled: usize) -> bool
     count == 0 || filled % MAX_PAYLOAD_LEN != 0
 }
 
-/// Moves the bytes of one packet from `src` to `dst`, as far as they came, and answers whether it is whole.
-pub(super) fn take_packet<B: Buf>(
+/// Moves a piece to the end of a packet where it ends within the chunk that was begun, and answers whether it did. Else, or
+/// where no room was to be had, nothing changes.
+pub(super) fn move_within(
+    begun: &mut Option<BegunChunk>,
+    piece: &[u8],
+    packet: &mut Vec<u8>,
+) -> bool
+    ensures moved { OnTrue result (EndsWithin begun.old piece.now begun.new × (packet.new.items ≡ packet.old.items ++ piece.now)) }
+    ensures kept { OnFalse result ((begun.new ≡ begun.old) × (packet.new.items ≡ packet.old.items)) }
+{
+    let Some(chunk) = *begun else {
+        return false;
+    };
+    if piece.len() >= chunk.awaited || packet.extend_from_slice(piece).is_err() {
+        return false;
+    }
+    *begun = Some(BegunChunk {
+        number: chunk.number,
+        awaited: chunk.awaited - piece.len(),
+    });
+    true
+}
+
+/// Moves the bytes of one packet from `src` to the end of `dst`, which has `filled` of them, as far as they came, and answers
+/// whether it is whole.
+pub(super) fn take_packet<B: Buf, D: BufMut>(
     number: &mut u8,
     begun: &mut Option<BegunChunk>,
     src: &mut B,
-    dst: &mut BytesMut,
+    dst: &mut D,
+    filled: usize,
     limit: usize,
 ) -> Result<bool, Refusal>
-    requires { IsOfPacket limit (begun_of begun.old) dst.old.items }
-    ensures ok { IfOk result (λ whole. Decodes (codec_of number.old limit begun.old) (B.unread src.old) dst.old.items whole
-        (codec_of number.new limit begun.new) (B.unread src.new) dst.new.items) }
-    ensures err { IfErr result (IsDue (codec_of number.old limit begun.old) (B.unread src.old) dst.old.items) }
+    requires goes_on { IsOfPacket limit (begun_of begun.old) (D.written dst.old) }
+    requires filled { filled ≡ length (D.written dst.old) }
+    ensures ok { IfOk result (λ whole. Decodes (codec_of number.old limit begun.old) (B.unread src.old) (D.written dst.old) whole
+        (codec_of number.new limit begun.new) (B.unread src.new) (D.written dst.new)) }
+    ensures err { IfErr result (IsDue (codec_of number.old limit begun.old) (B.unread src.old) (D.written dst.old)) }
     ensures moved { result ≡ Ok false → length (B.unread src.new) < 4 }
     ensures used { result ≡ Ok false → begun.new ≢ None → B.unread src.new ≡ [] }
 {
+    let mut filled = filled;
     'chunks: loop {
-        let chunk = match next_chunk(*begun, src, dst.len(), limit) {
+        let chunk = match next_chunk(*begun, src, filled, limit) {
             Ok(Some(chunk)) => chunk,
             Ok(None) => return Ok(false),
             Err(refusal) => return Err(refusal),
@@ -97,6 +122,7 @@ pub(super) fn take_packet<B: Buf>(
         if move_bytes(src, count, dst).is_err() {
             return Err(Refusal::Memory);
         }
+        filled += count;
         if count < chunk.awaited {
             *begun = Some(BegunChunk {
                 number: chunk.number,
@@ -109,7 +135,7 @@ pub(super) fn take_packet<B: Buf>(
             return Err(Refusal::OutOfSync);
         }
         *number = number.wrapping_add(1);
-        if is_last_chunk(count, dst.len()) {
+        if is_last_chunk(count, filled) {
             return Ok(true);
         }
     }

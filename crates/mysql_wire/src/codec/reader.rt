@@ -1,15 +1,17 @@
 //! A reader of the packets of a stream that comes in pieces.
 
-ghost use Rattle.std.specs.Prelude.{◌≡◌, ◌≢◌, ◌==◌, ◌<◌, ◌++◌, not, [], None, Err, IfErr, IfOk, IfSome, MatchOption, Ok, OnErr, OnOk, false, length, true};
+ghost use Rattle.std.specs.Prelude.{◌≡◌, ◌≢◌, ◌+◌, ◌%◌, ◌==◌, ◌<◌, ◌++◌, not, [], None, Err, IfErr, IfOk, IfSome, MatchOption, Ok, OnErr, OnOk, false, length, true};
+ghost use Rattle.std.specs.Bool.{OnFalse, OnTrue};
 ghost use Rattle.mysql_wire.specs.Codec.{Decodes, RefusesBy, error_of, held, packet_number};
-ghost use Rattle.mysql_wire.specs.Incoming.{Reads, ReadsOn, RefusesOn, bytes_kept, incoming_at};
+ghost use Rattle.mysql_wire.specs.Incoming.{LacksFrontChunk, Reads, ReadsOn, RefusesOn, bytes_kept, incoming_at};
 ghost use Rattle.std.specs.Borrow.{sem};
 ghost use Rattle.std.specs.Io.BufRead.{Rests};
 ghost use Rattle.mysql_wire.specs.Kept.{Stands, unfinished};
 
+use super::chunk::whole_chunk;
 use super::header::PartialHeader;
-use super::{PacketCodec, PacketCodecError};
-use bytes::{Buf, BytesMut};
+use super::{PacketCodec, PacketCodecError, Refusal};
+use bytes::Buf;
 use std::alloc::{AllocError, Global};
 use std::marker::Model;
 use std::mem;
@@ -30,7 +32,7 @@ use std::mem;
 pub struct PacketReader {
     codec: PacketCodec,
     header: PartialHeader,
-    packet: BytesMut,
+    packet: Vec<u8>,
     // The number of the first chunk of the packet that comes next, or is begun.
     number: u8,
     // Whether bytes of a packet came that isn't whole; else `packet` is the payload that was handed out.
@@ -49,26 +51,56 @@ impl Model for PacketReader {
     ghost invariant = { IsKept };
 }
 
-// Hands out the next payload of the header's bytes followed by the piece, and leaves what follows it in the piece; where none
-// stands whole, the piece is used up.
-fn decode_piece(
+// Hands out the next payload of the piece, where no byte of a header is kept, and leaves what follows it in the piece; where
+// none stands whole, the piece is used up.
+fn decode_straight(
     codec: &mut PacketCodec,
     header: &mut PartialHeader,
-    packet: &mut BytesMut,
+    packet: &mut Vec<u8>,
     piece: &mut &[u8],
-) -> Result<bool, PacketCodecError>
+) -> Result<bool, Refusal>
+    requires none { header.old ≡ [] }
+    requires stands { codec.old.refused ≡ None → Stands codec.old header.old packet.old.items (packet_number codec.old packet.old.items) (held codec.old header.old packet.old.items) }
+    ensures ok { IfOk result (λ whole. Decodes codec.old (header.old ++ piece.old.now) packet.old.items whole codec.new (header.new ++ piece.new.now) packet.new.items) }
+    ensures whole { result ≡ Ok true → (header.new ≡ []) × (length piece.new.now < length piece.old.now) }
+    ensures used { result ≡ Ok false → piece.new.now ≡ [] }
+    ensures moved { result ≡ Ok false → codec.new.begun ≢ None → header.new ≡ [] }
+    ensures refused { IfErr result (λ refusal. RefusesBy codec.old (header.old ++ piece.old.now) packet.old.items codec.new (error_of refusal)) }
+    ensures stays { IfSome codec.old.refused (λ refusal. (result ≡ Err refusal) × (codec.new ≡ codec.old)) }
+    ensures err { OnErr result (piece.new ≡ piece.old) }
+{
+    let all = *piece;
+    let filled = packet.len();
+    let mut src = all;
+    if codec.decode_onto(&mut src, packet, filled)? {
+        *piece = src;
+        return Ok(true);
+    }
+    *header = PartialHeader::rest_of(&mut src);
+    *piece = &all[all.len()..];
+    Ok(false)
+}
+
+// The same behind the bytes of a header that are kept.
+fn decode_behind(
+    codec: &mut PacketCodec,
+    header: &mut PartialHeader,
+    packet: &mut Vec<u8>,
+    piece: &mut &[u8],
+) -> Result<bool, Refusal>
     requires { codec.old.refused ≡ None → Stands codec.old header.old packet.old.items (packet_number codec.old packet.old.items) (held codec.old header.old packet.old.items) }
     ensures ok { IfOk result (λ whole. Decodes codec.old (header.old ++ piece.old.now) packet.old.items whole codec.new (header.new ++ piece.new.now) packet.new.items) }
     ensures whole { result ≡ Ok true → (header.new ≡ []) × (length piece.new.now < length piece.old.now) }
     ensures used { result ≡ Ok false → piece.new.now ≡ [] }
     ensures moved { result ≡ Ok false → codec.new.begun ≢ None → header.new ≡ [] }
-    ensures refused { IfErr result (RefusesBy codec.old (header.old ++ piece.old.now) packet.old.items codec.new) }
-    ensures stays { IfSome codec.old.refused (λ refusal. (result ≡ Err (error_of refusal)) × (codec.new ≡ codec.old)) }
+    ensures refused { IfErr result (λ refusal. RefusesBy codec.old (header.old ++ piece.old.now) packet.old.items codec.new (error_of refusal)) }
+    ensures stays { IfSome codec.old.refused (λ refusal. (result ≡ Err refusal) × (codec.new ≡ codec.old)) }
     ensures err { OnErr result (piece.new ≡ piece.old) }
 {
     let all = *piece;
+    let filled = packet.len();
     let mut src = header.followed_by(all);
-    if codec.decode(&mut src, packet)? {
+    if codec.decode_onto(&mut src, packet, filled)? {
         *piece = &all[all.len() - src.remaining()..];
         *header = PartialHeader::new();
         return Ok(true);
@@ -78,8 +110,32 @@ fn decode_piece(
     Ok(false)
 }
 
+// Hands out the next payload of the header's bytes followed by the piece, and leaves what follows it in the piece; where none
+// stands whole, the piece is used up.
+fn decode_piece(
+    codec: &mut PacketCodec,
+    header: &mut PartialHeader,
+    packet: &mut Vec<u8>,
+    piece: &mut &[u8],
+) -> Result<bool, Refusal>
+    requires { codec.old.refused ≡ None → Stands codec.old header.old packet.old.items (packet_number codec.old packet.old.items) (held codec.old header.old packet.old.items) }
+    ensures ok { IfOk result (λ whole. Decodes codec.old (header.old ++ piece.old.now) packet.old.items whole codec.new (header.new ++ piece.new.now) packet.new.items) }
+    ensures whole { result ≡ Ok true → (header.new ≡ []) × (length piece.new.now < length piece.old.now) }
+    ensures used { result ≡ Ok false → piece.new.now ≡ [] }
+    ensures moved { result ≡ Ok false → codec.new.begun ≢ None → header.new ≡ [] }
+    ensures refused { IfErr result (λ refusal. RefusesBy codec.old (header.old ++ piece.old.now) packet.old.items codec.new (error_of refusal)) }
+    ensures stays { IfSome codec.old.refused (λ refusal. (result ≡ Err refusal) × (codec.new ≡ codec.old)) }
+    ensures err { OnErr result (piece.new ≡ piece.old) }
+{
+    if header.is_empty() {
+        decode_straight(codec, header, packet, piece)
+    } else {
+        decode_behind(codec, header, packet, piece)
+    }
+}
+
 // Empties the packet where it was handed out.
-fn keep_unfinished(begun: bool, packet: &mut BytesMut)
+fn keep_unfinished(begun: bool, packet: &mut Vec<u8>)
     ensures { packet.new.items ≡ unfinished begun packet.old.items }
 {
     if !begun {
@@ -98,21 +154,29 @@ impl PacketReader {
         PacketReader {
             codec: PacketCodec::at(number, max_allowed_packet),
             header: PartialHeader::new(),
-            packet: BytesMut::new(alloc),
+            packet: Vec::new(alloc),
             number,
             begun: false,
         }
     }
 
-    /// Reads on to the end of the next packet, and answers whether its payload stands whole; the bytes that were used are
-    /// taken from the front of `piece`. After `true` [`PacketReader::payload`] has it until more is read, and the number goes
-    /// on. After `false` the piece is used up, and no payload stands whole in the bytes that came.
-    ///
-    /// Errors, in this order: `PacketTooLarge` once a chunk's header stands with which the packet would pass the limit;
-    /// `Memory` where a growth was refused; `PacketsOutOfSync` once a chunk stands whole that hasn't the number due. The piece
-    /// is as it was. Each further call answers the same and changes nothing.
-    /// (MySQL: Client/Server Protocol, "Protocol Basics: MySQL Packets", "Sending More Than 16Mb" and "Sequence ID".)
-    pub fn advance(&mut self, piece: &mut &[u8]) -> Result<bool, PacketCodecError>
+    // Takes a piece that ends within the chunk that was begun, and answers whether it is one; else nothing changes.
+    fn take_within(&mut self, piece: &mut &[u8]) -> bool
+        ensures waits { OnTrue result (ReadsOn self.old piece.old.now false self.new piece.new.now) }
+        ensures used { OnTrue result ((piece.new.now ≡ []) × (self.new ≡ record self.old { bytes = self.old.bytes ++ piece.old.now; payload = [] })) }
+        ensures fine { OnTrue result (self.old.refused ≡ None) }
+        ensures kept { OnFalse result ((self.new ≡ self.old) × (piece.new ≡ piece.old)) }
+    {
+        if !self.begun || !self.codec.decode_within(piece, &mut self.packet) {
+            return false;
+        }
+        *piece = &piece[piece.len()..];
+        true
+    }
+
+    // `advance`, whatever the piece.
+    #[inline(never)]
+    fn read_on(&mut self, piece: &mut &[u8]) -> Result<bool, PacketCodecError>
         ensures ok { IfOk result (λ whole. ReadsOn self.old piece.old.now whole self.new piece.new.now) }
         ensures whole { result ≡ Ok true → (self.new.bytes ≡ []) × (length piece.new.now < length piece.old.now) }
         ensures waits { result ≡ Ok false → (piece.new.now ≡ [])
@@ -134,12 +198,73 @@ impl PacketReader {
                 self.begun |= came;
                 Ok(false)
             }
-            Err(error) => {
+            Err(refusal) => {
                 self.packet.clear();
                 self.begun = false;
-                Err(error)
+                Err(refusal.error())
             }
         }
+    }
+
+    /// Reads on to the end of the next packet, and answers whether its payload stands whole; the bytes that were used are
+    /// taken from the front of `piece`. After `true` [`PacketReader::payload`] has it until more is read, and the number goes
+    /// on. After `false` the piece is used up, and no payload stands whole in the bytes that came.
+    ///
+    /// Errors, in this order: `PacketTooLarge` once a chunk's header stands with which the packet would pass the limit;
+    /// `Memory` where a growth was refused; `PacketsOutOfSync` once a chunk stands whole that hasn't the number due. The piece
+    /// is as it was. Each further call answers the same and changes nothing.
+    /// (MySQL: Client/Server Protocol, "Protocol Basics: MySQL Packets", "Sending More Than 16Mb" and "Sequence ID".)
+    pub fn advance(&mut self, piece: &mut &[u8]) -> Result<bool, PacketCodecError>
+        ensures ok { IfOk result (λ whole. ReadsOn self.old piece.old.now whole self.new piece.new.now) }
+        ensures whole { result ≡ Ok true → (self.new.bytes ≡ []) × (length piece.new.now < length piece.old.now) }
+        ensures waits { result ≡ Ok false → (piece.new.now ≡ [])
+            × (self.new ≡ record self.old { bytes = self.old.bytes ++ piece.old.now; payload = [] }) }
+        ensures refused { IfErr result (RefusesOn self.old piece.old.now self.new) }
+        ensures err { OnErr result ((self.new ≡ record self.old { bytes = []; payload = []; refused = self.new.refused })
+            × (piece.new ≡ piece.old)) }
+        ensures stays { IfSome self.old.refused (λ refusal. (result ≡ Err (error_of refusal)) × (self.new ≡ self.old)) }
+    {
+        if self.take_within(piece) {
+            return Ok(false);
+        }
+        self.read_on(piece)
+    }
+
+    // A packet of one chunk was read that came behind no other bytes: the number goes on.
+    fn pass_one(&mut self)
+        requires between { self.old.bytes ≡ [] }
+        requires open { self.old.refused ≡ None }
+        ensures { self.new ≡ record self.old { number = (self.old.number + 1) % 256; payload = [] } }
+    {
+        self.packet.clear();
+        self.number = self.number.wrapping_add(1);
+        self.codec.set_seq_id(self.number);
+    }
+
+    /// The payload of the next packet, read in place, where the packet is one chunk that stands whole at the front of the piece
+    /// and of which nothing came before. Its bytes are taken from the front of `piece`, and the number goes on; no payload is
+    /// kept. Else the answer is `None`, nothing changes, and [`PacketReader::advance`] reads on.
+    ///
+    ///     while let Some(payload) = reader.read_in_place(&mut rest) { .. }
+    ///
+    /// (MySQL: Client/Server Protocol, "Protocol Basics: MySQL Packets" and "Sequence ID".)
+    pub fn read_in_place<'a>(&mut self, piece: &mut &'a [u8]) -> Option<&'a [u8]>
+        ensures found { IfSome result (λ payload. ReadsOn self.old piece.old.now true (record self.new { payload = payload.now }) piece.new.now) }
+        ensures between { IfSome result (λ _. (self.new.bytes ≡ []) × (self.new.payload ≡ []) × (length piece.new.now < length piece.old.now)) }
+        ensures waits { result ≡ None → (self.new ≡ self.old) × (piece.new ≡ piece.old) }
+        // It is left to `advance` only where it has to be.
+        ensures lacks { result ≡ None → self.old.refused ≡ None → self.old.bytes ≡ [] → LacksFrontChunk self.old.limit self.old.number piece.old.now }
+    {
+        if self.begun || !self.codec.is_open() {
+            return None;
+        }
+        let all = *piece;
+        let Some(count) = whole_chunk(all, self.number, self.codec.limit()) else {
+            return None;
+        };
+        self.pass_one();
+        *piece = &all[4 + count..];
+        Some(&all[4..4 + count])
     }
 
     /// The payload of the next packet that stands whole, as [`PacketReader::advance`] finds it, or `None` where the piece is
@@ -190,13 +315,7 @@ impl PacketReader {
         if self.begun {
             return Ok(Vec::new(alloc));
         }
-        match mem::replace(&mut self.packet, BytesMut::new(alloc)).into_vec() {
-            Ok(payload) => Ok(payload),
-            Err(failed) => {
-                self.packet = failed.value;
-                Err(AllocError)
-            }
-        }
+        Ok(mem::replace(&mut self.packet, Vec::new(alloc)))
     }
 
     /// Whether bytes of a packet that isn't whole came.

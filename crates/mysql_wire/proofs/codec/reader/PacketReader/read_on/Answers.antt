@@ -1,8 +1,8 @@
 use Rattle.std.proofs.Common.{rules, ◌≡◌, ◌≢◌, [], refl, arith}
 use Rattle.std.specs.Prelude.{None}
-use Rattle.mysql_wire.specs.Codec.{packet_number}
+use Rattle.mysql_wire.specs.Codec.{error_of, packet_number}
 use Rattle.mysql_wire.proofs.Incoming.{stands_between, no_refusal, not_refused, hands_view, refuses_view, waited_on, waits_view, same_view}
-use Rattle.mysql_wire.proofs.codec.reader.PacketReader.advance.Goals as goal
+use Rattle.mysql_wire.proofs.codec.reader.PacketReader.read_on.Goals as goal
 
 pub invariant_of-self : goal.invariant_of-self
 invariant_of-self c =
@@ -58,5 +58,6 @@ returns-in-Ok-false-clause-waits c =
 
 pub returns-in-Err-clause-refused : goal.returns-in-Err-clause-refused
 returns-in-Err-clause-refused c =
-    refuses_view c.self.inside c.args.self.now c.self.view_is c.self.invariant c.keep_unfinished.new.packet.items c.args.piece.now.now c.keep_unfinished.ensures
-    c.decode_piece.new.codec c.in-Err.error c.in-Err.ensures.refused
+    rw c.error.ensures
+    (refuses_view c.self.inside c.args.self.now c.self.view_is c.self.invariant c.keep_unfinished.new.packet.items c.args.piece.now.now c.keep_unfinished.ensures
+    c.decode_piece.new.codec (error_of c.in-Err.refusal) c.in-Err.ensures.refused)
