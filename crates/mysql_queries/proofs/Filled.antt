@@ -49,7 +49,7 @@ name_alone (c ∷ name) r e h =
     let t : Tells colon (c ∷ (name ++ r)) Name = subst (Tells colon (c ∷ (name ++ r))) e (kind_tells colon (c ∷ (name ++ r))) in
     ap (λ k. is_name_kind k || is_mark_kind k) (name_kind c name t.1)
 
-name_is_place : (t r : List ℕ) → kind_of (t ++ r) ≡ Name → IsName t r → is_place t ≡ true
+pub name_is_place : (t r : List ℕ) → kind_of (t ++ r) ≡ Name → IsName t r → is_place t ≡ true
 name_is_place t r e n = subst (λ y. is_place y ≡ true) (sym n.spelled) (name_alone n.name r (subst (λ y. kind_of (y ++ r) ≡ Name) n.spelled e) n.ends)
 
 no_name_kind : (t r : List ℕ) (k : Kind) → kind_of (t ++ r) ≡ k → HasShape k t r → is_place t ≡ false → IsNoName k

@@ -27,3 +27,5 @@ pub mod OneRead
 pub mod Writing
 pub mod AllAlone
 pub mod FirstTokens
+pub mod AloneKinds
+pub mod ByteTables

@@ -74,7 +74,7 @@ pieces_at before q (t ∷ ts) e i =
       | inr p ↦ (rw p (ap (before_first t) k ∙ first_slice q t (length before) m (places_from q m ts) here refl o))
     ]
 
-no_name_token : (t : List ℕ) → is_place t ≡ false → is_name t ≡ false
+pub no_name_token : (t : List ℕ) → is_place t ≡ false → is_name t ≡ false
 no_name_token t h = elim (bool_tells (is_name t)) [ inl p ↦ (let f : is_place t ≡ true = rw p refl in let g : true ≡ false = sym f ∙ h in cc) | inr p ↦ p ]
 
 pub take_all_front : (t y : List ℕ) → take (length t) (t ++ y) ≡ t

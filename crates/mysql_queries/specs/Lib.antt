@@ -8,4 +8,5 @@ pub mod TokenKinds
 pub mod LiteralRuns
 pub mod LiteralViews
 pub mod Parsed
+pub mod PlaceKinds
 pub use Rattle.mysql_error.specs.declared.error.WireError

@@ -1,8 +1,8 @@
 -- What stands at a place of a text.
 -- MySQL Reference Manual, "String Literals".
-use Rattle.std.specs.Prelude.{◌≡◌, ◌≢◌, ℕ, ◌+◌, ◌≤◌, List, [], ◌∷◌, ◌++◌, length, drop, slice_index}
+use Rattle.std.specs.Prelude.{◌≡◌, ◌≢◌, ℕ, ◌+◌, ◌≤◌, Bool, not, ◌||◌, ◌==◌, List, [], ◌∷◌, ◌++◌, length, drop, slice_index}
 use Rattle.std.specs.List.{AllByRecursion}
-use Rattle.mysql_queries.specs.Tokens.{Inside, Byte, Escape, Doubled, backslash, inside_bytes, IsInside, Closes, single_quote}
+use Rattle.mysql_queries.specs.Tokens.{Inside, Byte, Escape, Doubled, backslash, inside_bytes, IsInside, Closes, single_quote, is_quote, hash, dash, slash, colon, question}
 use Rattle.mysql_queries.specs.declared.strings.Part.{Part}
 use Rattle.mysql_queries.specs.declared.strings.Part.TheVariants as parts
 
@@ -29,3 +29,7 @@ IsPartAt text at part =
 -- bytes between single quotes that stand for themselves: neither the quote nor a backslash
 abbrev pub IsRun : List ℕ → Type 0
 IsRun bytes = AllByRecursion (λ b. (b ≢ single_quote) × (b ≢ backslash)) bytes
+
+-- a byte that is a token by itself whatever follows it: it begins no string, quoted identifier, comment or name, and is no question mark
+abbrev pub is_plain : ℕ → Bool
+is_plain b = not (is_quote b || (b == hash) || (b == dash) || (b == slash) || (b == colon) || (b == question))

@@ -75,14 +75,32 @@ impl<'a> ParsedNamedParams<'a> {
         ensures mixed { IfErr result (λ e. (e ≡ named_params_error.Memory) ⊎ ((e ≡ named_params_error.Mixed (record {})) × HasMixed query.entry.now true)) }
     {
         let places = places(alloc, query)?;
-        if is_mixed(&places) {
+        ParsedNamedParams::parse_at(alloc, query, &places)
+    }
+
+    /// Parses a query whose placeholders were found before.
+    ///
+    /// # Errors
+    /// `Mixed` where both names and question marks occur, `Memory`.
+    pub fn parse_at(
+        alloc: Global,
+        query: &'a [u8],
+        places: &[Place],
+    ) -> Result<ParsedNamedParams<'a>, NamedParamsError>
+        requires { HasPlaces query.now places.now }
+        ensures query { IfOk result (λ parsed. IsParsed query.entry.now parsed.query) }
+        ensures names { IfOk result (λ parsed. HasNames query.entry.now parsed.names) }
+        ensures one_kind { OnOk result (HasMixed query.entry.now false) }
+        ensures mixed { IfErr result (λ e. (e ≡ named_params_error.Memory) ⊎ ((e ≡ named_params_error.Mixed (record {})) × HasMixed query.entry.now true)) }
+    {
+        if is_mixed(places) {
             return Err(NamedParamsError::Mixed(MixedParamsError));
         }
-        let params = names_among(alloc, query, &places)?;
+        let params = names_among(alloc, query, places)?;
         let parsed = if params.is_empty() {
             CowSlice::Borrowed(query)
         } else {
-            CowSlice::Owned(with_marks(alloc, query, &places)?)
+            CowSlice::Owned(with_marks(alloc, query, places)?)
         };
         Ok(ParsedNamedParams {
             query: parsed,

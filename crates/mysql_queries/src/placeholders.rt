@@ -1,10 +1,12 @@
 //! The placeholders of a query.
 
-ghost use Rattle.mysql_queries.specs.Queries.{HasPlaces, first_not_alone as first_apart, is_joining, is_mixed as has_both_kinds, is_name, is_place, place_at, stands_alone};
+ghost use Rattle.mysql_queries.specs.PlaceKinds.{is_place_kind, place_of_kind};
+ghost use Rattle.mysql_queries.specs.Queries.{HasPlaces, first_not_alone as first_apart, is_joining, is_mixed as has_both_kinds, is_name_kind, stands_alone};
+ghost use Rattle.mysql_queries.specs.TokenKinds.{kind_view};
 ghost use Rattle.std.specs.List.{AllByRecursion, list_any};
-ghost use Rattle.std.specs.Prelude.{◌+◌, ◌<◌, ◌≡◌, ◌≤◌, IfNone, IfOk, IfSome, drop, false, length, not, take, true};
+ghost use Rattle.std.specs.Prelude.{◌≡◌, ◌≤◌, IfNone, IfOk, IfSome, false, length, not, true};
 
-use crate::tokens::{TokenKind, kind_at, token_end};
+use crate::tokens::{TokenKind, kind_at, plain_end, token_end};
 use std::alloc::{AllocError, Global};
 
 /// A placeholder of a query, from `start` up to `end`: a name such as `:a`, or a question mark.
@@ -18,23 +20,21 @@ pub struct Place {
     pub alone: bool,
 }
 
+// A `1` at each byte that could run together with a literal.
+static JOINING: [u8; 256] = *b"\
+    00000000000000000000000000000000\
+    00101001000000101111111111100001\
+    11111111111111111111111111101001\
+    11111111111111111111111111100000\
+    11111111111111111111111111111111\
+    11111111111111111111111111111111\
+    11111111111111111111111111111111\
+    11111111111111111111111111111111";
+
 fn joining(b: u8) -> bool
     ensures { result ≡ is_joining b }
 {
-    (b'0' <= b && b <= b'9')
-        || (b'A' <= b && b <= b'Z')
-        || (b'a' <= b && b <= b'z')
-        || b == b'_'
-        || b == b'$'
-        || b == b'.'
-        || b == b'@'
-        || b == b':'
-        || b == b'?'
-        || b == b'\\'
-        || b == b'\''
-        || b == b'"'
-        || b == b'`'
-        || 0x80 <= b
+    JOINING[usize::from(b)] == b'1'
 }
 
 fn alone_at(query: &[u8], start: usize, end: usize) -> bool
@@ -47,13 +47,12 @@ fn alone_at(query: &[u8], start: usize, end: usize) -> bool
     before && after
 }
 
-/// Whether a placeholder is a name; None of another token.
-fn placeholder_name(token: &[u8]) -> Option<bool>
-    requires { 0 < length token.now }
-    ensures found { IfSome result (λ name. (is_place token.now ≡ true) × (name ≡ is_name token.now)) }
-    ensures none { IfNone result (is_place token.now ≡ false) }
+/// Whether a placeholder of this kind is a name; None of another token.
+fn is_name_of(kind: TokenKind) -> Option<bool>
+    ensures found { IfSome result (λ name. (is_place_kind (kind_view kind) ≡ true) × (name ≡ is_name_kind (kind_view kind))) }
+    ensures none { IfNone result (is_place_kind (kind_view kind) ≡ false) }
 {
-    match kind_at(token) {
+    match kind {
         TokenKind::Name => Some(true),
         TokenKind::Mark => Some(false),
         TokenKind::Quoted(_) => None,
@@ -63,16 +62,14 @@ fn placeholder_name(token: &[u8]) -> Option<bool>
     }
 }
 
-/// The placeholder that a token of the query is, if it is one.
-fn place_of(query: &[u8], start: usize, len: usize) -> Option<Place>
-    requires some { 0 < len }
-    requires in_range { start + len ≤ length query.now }
-    ensures found { IfSome result (λ p. let token = take len (drop start query.now) in
-        (is_place token ≡ true) × (p ≡ place_at query.now token start (start + len))) }
-    ensures none { IfNone result (is_place (take len (drop start query.now)) ≡ false) }
+/// The placeholder that a token of this kind is in the query, if it is one.
+fn place_of(query: &[u8], kind: TokenKind, start: usize, end: usize) -> Option<Place>
+    requires order { start ≤ end }
+    requires in_range { end ≤ length query.now }
+    ensures found { IfSome result (λ p. (is_place_kind (kind_view kind) ≡ true) × (p ≡ place_of_kind query.now (kind_view kind) start end)) }
+    ensures none { IfNone result (is_place_kind (kind_view kind) ≡ false) }
 {
-    let end = start + len;
-    let name = placeholder_name(&query[start..end])?;
+    let name = is_name_of(kind)?;
     Some(Place {
         start,
         end,
@@ -88,13 +85,15 @@ pub fn places(alloc: Global, query: &[u8]) -> Result<Vec<Place>, AllocError>
     ensures { IfOk result (λ v. HasPlaces query.now v.items) }
 {
     let mut found = Vec::new(alloc);
-    let mut at = 0;
+    let mut at = plain_end(query, 0);
     while at < query.len() {
-        let len = token_end(&query[at..]);
-        if let Some(place) = place_of(query, at, len) {
+        let rest = &query[at..];
+        let kind = kind_at(rest);
+        let end = at + token_end(rest, kind);
+        if let Some(place) = place_of(query, kind, at, end) {
             found.push(place)?;
         }
-        at += len;
+        at = plain_end(query, end);
     }
     Ok(found)
 }

@@ -1,6 +1,6 @@
 //! The tokens of a SQL text.
 
-ghost use Rattle.mysql_queries.specs.Scanning.{ClosesAt, PartAt};
+ghost use Rattle.mysql_queries.specs.Scanning.{ClosesAt, PartAt, is_plain as is_plain_byte};
 ghost use Rattle.mysql_queries.specs.Tokens.{
   AtLineEnd,
   IsBlockComment,
@@ -31,6 +31,8 @@ ghost use Rattle.std.specs.Prelude.{
   IfNone,
   IfSome,
   IsTrue,
+  true,
+  ℕ,
   drop,
   length,
   slice_index,
@@ -193,14 +195,15 @@ pub fn kind_at(text: &[u8]) -> TokenKind
     }
 }
 
-/// Where the first token of a text ends.
-pub fn token_end(text: &[u8]) -> usize
-    requires { 0 < length text.now }
+/// Where the first token of a text ends, which is of this kind.
+pub fn token_end(text: &[u8], kind: TokenKind) -> usize
+    requires some { 0 < length text.now }
+    requires kind { kind_view kind ≡ kind_of text.now }
     ensures some { 0 < result }
     ensures in_range { result ≤ length text.now }
     ensures token { IsToken (take result text.now) (drop result text.now) }
 {
-    match kind_at(text) {
+    match kind {
         TokenKind::Quoted(quote) => quoted_end(text, quote),
         TokenKind::LineComment => line_end(text),
         TokenKind::BlockComment => block_end(text),
@@ -208,4 +211,36 @@ pub fn token_end(text: &[u8]) -> usize
         TokenKind::Mark => 1,
         TokenKind::Plain => 1,
     }
+}
+
+// A `1` at each byte that is a token by itself. Comparisons in its place would branch on the kind of each byte, which is hard to predict.
+static PLAIN: [u8; 256] = *b"\
+    11111111111111111111111111111111\
+    11001110111110101111111111011110\
+    11111111111111111111111111111111\
+    01111111111111111111111111111111\
+    11111111111111111111111111111111\
+    11111111111111111111111111111111\
+    11111111111111111111111111111111\
+    11111111111111111111111111111111";
+
+/// Whether a byte is a token by itself, whatever follows it.
+fn is_plain(b: u8) -> bool
+    ensures { result ≡ is_plain_byte b }
+{
+    PLAIN[usize::from(b)] == b'1'
+}
+
+/// Where the bytes from a place on end that are tokens by themselves, whatever follows them.
+pub fn plain_end(text: &[u8], start: usize) -> usize
+    requires { start ≤ length text.now }
+    ensures from { start ≤ result }
+    ensures in_range { result ≤ length text.now }
+    ensures run { (k : ℕ) → start ≤ k → k < result → is_plain_byte (slice_index text.now k) ≡ true }
+{
+    let mut at = start;
+    while at < text.len() && is_plain(text[at]) {
+        at += 1;
+    }
+    at
 }

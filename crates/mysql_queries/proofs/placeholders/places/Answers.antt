@@ -1,34 +1,40 @@
 use Rattle.std.proofs.Common.{◌≡◌, ◌≤◌, ◌+◌, ◌++◌, [], ◌∷◌, length, take, drop, arith, subst, sym, ap, ◌∙◌, length-drop}
-use Rattle.mysql_queries.specs.Tokens.{IsToken}
-use Rattle.mysql_queries.proofs.PlaceLists.{Found, found_more, found_same, found_all, token_there, to_end}
+use Rattle.mysql_queries.specs.Tokens.{IsToken, kind_of}
+use Rattle.mysql_queries.specs.TokenKinds.{kind_view}
+use Rattle.mysql_queries.proofs.PlaceLists.{Found, found_first, found_place, found_none, found_up_to, found_all, kind_of_end, token_there, to_end}
 use Rattle.mysql_queries.proofs.placeholders.places.Goals as goal
 use Rattle.mysql_queries.proofs.placeholders.places.Goals.{in-Some+in_ok-push, in_default}
 
-in_range : (c : goal.Joined-place_of) → c.loop-at.at + c.token_end-len.result ≤ length c.args.query.now
-in_range c =
-    let e : c.token_end-len.result ≤ length (drop c.loop-at.at c.args.query.now) = subst (λ y. c.token_end-len.result ≤ length y) (to_end c.args.query.now c.loop-at.at) c.token_end-len.ensures.in_range in
-    omega (arith, length-drop c.loop-at.at c.args.query.now, c.loop-at-test.true)
-
-is_token : (c : goal.Joined-place_of) → IsToken (take c.token_end-len.result (drop c.loop-at.at c.args.query.now)) (drop c.token_end-len.result (drop c.loop-at.at c.args.query.now))
-is_token c = token_there c.args.query.now c.loop-at.at c.token_end-len.result c.token_end-len.ensures.token
+pub loop-at-init : goal.loop-at-init
+loop-at-init c = record {
+  in_range = c.plain_end-at.ensures.in_range;
+  found = subst (Found c.args.query.now c.plain_end-at.result) (sym c.new-found.ensures.items)
+      (found_up_to c.args.query.now 0 c.plain_end-at.result [] c.plain_end-at.ensures.from c.plain_end-at.ensures.in_range c.plain_end-at.ensures.run (found_first c.args.query.now));
+}
 
 pub loop-at-preserved : goal.loop-at-preserved
 loop-at-preserved c =
-    elim c.match-place_of.branch [
-      | in-Some+in_ok-push w ↦ record {
-        in_range = in_range c;
-        found =
-            let e : c.match-place_of.found.items ≡ c.loop-at.found.items ++ w.in-Some.place ∷ [] = ap (λ v. v.items) w.found-is ∙ w.in_ok-push.ensures.items in
-            subst (Found c.args.query.now (c.loop-at.at + c.token_end-len.result)) (sym (e ∙ ap (λ p. c.loop-at.found.items ++ p ∷ []) w.in-Some.ensures.found.1))
-            (found_more c.args.query.now c.loop-at.at c.token_end-len.result c.loop-at.found.items (in_range c) c.loop-at.invariant.found (is_token c) w.in-Some.ensures.found.0);
-      }
-      | in_default w ↦ record {
-        in_range = in_range c;
-        found =
-            subst (Found c.args.query.now (c.loop-at.at + c.token_end-len.result)) (sym (ap (λ v. v.items) w.found-is))
-            (found_same c.args.query.now c.loop-at.at c.token_end-len.result c.loop-at.found.items (in_range c) c.loop-at.invariant.found (is_token c) w.in_default.ensures.none);
-      }
-    ]
+    let query = c.args.query.now in
+    let at = c.loop-at.at in
+    let len = c.token_end.result in
+    let found = c.loop-at.found.items in
+    let kind = kind_view c.kind_at-kind.result in
+    let short : len ≤ length (drop at query) = subst (λ y. len ≤ length y) (to_end query at) c.token_end.ensures.in_range in
+    let in_range : at + len ≤ length query = omega (arith, length-drop at query, c.loop-at-test.true) in
+    let is_token : IsToken (take len (drop at query)) (drop len (drop at query)) = token_there query at len c.token_end.ensures.token in
+    let of_kind : kind ≡ kind_of (drop at query) = c.kind_at-kind.ensures ∙ kind_of_end query at in
+    let with_token : Found query (at + len) c.match-place_of.found.items = elim c.match-place_of.branch [
+      | in-Some+in_ok-push w ↦ (let e : c.match-place_of.found.items ≡ found ++ w.in-Some.place ∷ [] = ap (λ v. v.items) w.found-is ∙ w.in_ok-push.ensures.items in
+          subst (Found query (at + len)) (sym (e ∙ ap (λ p. found ++ p ∷ []) w.in-Some.ensures.found.1))
+          (found_place query at len found kind in_range c.loop-at.invariant.found is_token of_kind w.in-Some.ensures.found.0))
+      | in_default w ↦ subst (Found query (at + len)) (sym (ap (λ v. v.items) w.found-is))
+          (found_none query at len found kind in_range c.loop-at.invariant.found is_token of_kind w.in_default.ensures.none)
+    ] in
+    record {
+      in_range = c.plain_end-at-in-loop-at.ensures.in_range;
+      found = found_up_to query (at + len) c.plain_end-at-in-loop-at.result c.match-place_of.found.items
+          c.plain_end-at-in-loop-at.ensures.from c.plain_end-at-in-loop-at.ensures.in_range c.plain_end-at-in-loop-at.ensures.run with_token;
+    }
 
 pub returns : goal.returns
 returns c = found_all c.args.query.now c.loop-at.at c.loop-at.found.items c.loop-at-test.false c.loop-at.invariant.found

@@ -1,42 +1,10 @@
-use Rattle.std.proofs.Common.{◌≡◌, List, [], map, refl, sym, ap, ◌∙◌, subst, length, arith, ◌∷◌, inl, inr}
-use Rattle.std.specs.Cow.{cow_slice_items}
+use Rattle.std.proofs.Common.{refl, sym, subst, inl}
 use Rattle.std.proofs.lemmas.Result.{err_from_is_err_and}
-use Rattle.mysql_queries.specs.Queries.{IsParsed, is_mixed}
-use Rattle.mysql_queries.specs.Parsed.{names_at}
-use Rattle.mysql_queries.proofs.FirstBytes.{same_number}
-use Rattle.mysql_queries.proofs.QueryWritten.{parsed_marked, parsed_as_it_is, has_names, marked}
+use Rattle.mysql_queries.specs.Queries.{HasPlaces}
 use Rattle.mysql_queries.proofs.named_params.ParsedNamedParams.parse.Goals as goal
-use Rattle.mysql_queries.proofs.named_params.ParsedNamedParams.parse.Goals.{then-is_empty, else-is_empty+in_ok-with_marks}
-
-none_left : {A : Type 0} → (xs : List A) → length xs ≡ 0 → xs ≡ []
-none_left [] h = refl
-none_left (x ∷ xs) h = absurd (omega (arith, h))
-
-pub returns-clause-names : goal.returns-clause-names
-returns-clause-names c = has_names c.args.query.now (map cow_slice_items c.in_ok-params.params.items) c.in_ok-places.places.items c.in_ok-places.ensures
-    (c.in_ok-params.ensures ∙ ap (names_at c.args.query.now) c.deref-2.ensures.value)
-
-pub returns-clause-query : goal.returns-clause-query
-returns-clause-query c = elim c.if-is_empty.branch [
-  | then-is_empty w ↦ (let empty = none_left c.in_ok-params.params.items (sym c.in_ok-params.params.ok.0 ∙ same_number _ 0 (sym w.if-is_empty.ensures)) in
-      subst (IsParsed c.args.query.now) (sym (ap cow_slice_items w.parsed-is))
-      (parsed_as_it_is c.args.query.now c.in_ok-places.places.items c.in_ok-places.ensures
-      (sym (c.in_ok-params.ensures ∙ ap (names_at c.args.query.now) c.deref-2.ensures.value) ∙ ap (map cow_slice_items) empty)))
-  | else-is_empty+in_ok-with_marks w ↦ parsed_marked c.args.query.now (cow_slice_items c.if-is_empty.parsed) c.in_ok-places.places.items c.in_ok-places.ensures
-      (ap cow_slice_items w.parsed-is ∙ w.in_ok-with_marks.ensures ∙ ap (marked c.args.query.now 0) w.deref-else-is_empty.ensures.value)
-]
 
 pub returns-in_err-places-clause-mixed : goal.returns-in_err-places-clause-mixed
 returns-in_err-places-clause-mixed c = let p = err_from_is_err_and c.from_residual.result c.from_residual.ensures.1 in rw (p.1, p.2) (inl refl)
 
-pub returns-in_err-params-clause-mixed : goal.returns-in_err-params-clause-mixed
-returns-in_err-params-clause-mixed c = let p = err_from_is_err_and c.from_residual-in_err-params.result c.from_residual-in_err-params.ensures.1 in rw (p.1, p.2) (inl refl)
-
-pub returns-in_err-with_marks-clause-mixed : goal.returns-in_err-with_marks-clause-mixed
-returns-in_err-with_marks-clause-mixed c = let p = err_from_is_err_and c.from_residual-in_err-with_marks.result c.from_residual-in_err-with_marks.ensures.1 in rw (p.1, p.2) (inl refl)
-
-pub returns-then-is_mixed-clause-mixed : goal.returns-then-is_mixed-clause-mixed
-returns-then-is_mixed-clause-mixed c = inr (refl, (c.in_ok-places.places.items, c.in_ok-places.ensures, c.if-is_mixed.ensures ∙ ap is_mixed c.deref.ensures.value))
-
-pub returns-clause-one_kind : goal.returns-clause-one_kind
-returns-clause-one_kind c = (c.in_ok-places.places.items, c.in_ok-places.ensures, c.if-is_mixed.ensures ∙ ap is_mixed c.deref.ensures.value)
+pub parse_at-requires : goal.parse_at-requires
+parse_at-requires c = subst (HasPlaces c.args.query.now) (sym c.deref.ensures.value) c.in_ok-places.ensures
