@@ -6,46 +6,97 @@ ghost use Rattle.mysql_cells.specs.Values.{bytes_sql, in_quotes};
 ghost use Rattle.mysql_queries.specs.Written.{hex_digit, in_hexadecimal};
 ghost use Rattle.std.specs.List.{flat_map};
 ghost use Rattle.std.specs.Str.{is_utf8};
-ghost use Rattle.std.specs.Prelude.{◌<◌, ◌≡◌, ◌∷◌, [], IfNone, IfSome};
+ghost use Rattle.std.specs.Prelude.{◌<◌, ◌≡◌, ◌∷◌, [], Bool, IfNone, IfSome, false, true};
 
 use std::alloc::AllocError;
+use std::mem::replace;
 use std::str::from_utf8;
 
+/// How many bytes are tested at a time for bytes that are escaped.
+const BLOCK: usize = 32;
+
 /// The two bytes that stand for a byte between quotes; None where it stands for itself.
-fn escape(no_backslash_escape: bool, byte: u8) -> Option<[u8; 2]>
-    ensures some { IfSome result (λ pair. byte_in_quotes no_backslash_escape byte ≡ pair) }
+fn escape(no_backslash_escape: bool, byte: u8) -> Option<(u8, u8)>
+    ensures some { IfSome result (λ pair. byte_in_quotes no_backslash_escape byte ≡ pair.0 ∷ pair.1 ∷ []) }
     ensures none { IfNone result (byte_in_quotes no_backslash_escape byte ≡ byte ∷ []) }
 {
     if no_backslash_escape {
         return if byte == b'\'' {
-            Some([b'\'', b'\''])
+            Some((b'\'', b'\''))
         } else {
             None
         };
     }
     match byte {
-        0 => Some([b'\\', b'0']),
-        b'\n' => Some([b'\\', b'n']),
-        b'\r' => Some([b'\\', b'r']),
-        0x1a => Some([b'\\', b'Z']),
-        b'\\' | b'\'' | b'"' => Some([b'\\', byte]),
+        0 => Some((b'\\', b'0')),
+        b'\n' => Some((b'\\', b'n')),
+        b'\r' => Some((b'\\', b'r')),
+        0x1a => Some((b'\\', b'Z')),
+        b'\\' | b'\'' | b'"' => Some((b'\\', byte)),
         _ => None,
     }
 }
 
-/// Appends bytes as they stand between quotes: the runs between special bytes as they are.
+/// Whether a byte is one of those that are escaped in either mode.
+fn is_special(byte: u8) -> bool
+    ensures { result ≡ false → (mode : Bool) → byte_in_quotes mode byte ≡ byte ∷ [] }
+{
+    matches!(byte, 0 | b'\n' | b'\r' | 0x1a | b'\\' | b'\'' | b'"')
+}
+
+/// Whether each byte stands for itself in each mode. There is no way out of the loop, so that many bytes are compared at a time.
+fn is_plain(bytes: &[u8]) -> bool
+    ensures { result ≡ true → (mode : Bool) → flat_map (byte_in_quotes mode) bytes.now ≡ bytes.now }
+{
+    let mut special = false;
+    for byte in bytes {
+        special |= is_special(*byte);
+    }
+    !special
+}
+
+/// Appends bytes as they stand between quotes, one by one, into room that is made for all.
+fn put_each(out: &mut Vec<u8>, bytes: &[u8], no_backslash_escape: bool) -> Result<(), AllocError>
+    ensures { Puts (flat_map (byte_in_quotes no_backslash_escape) bytes.now) out.old.items out.new.items result }
+{
+    out.reserve(2 * bytes.len())?;
+    // The length of what no reference leads to isn't written back for each byte.
+    let mut text = replace(out, Vec::new(*out.allocator()));
+    for byte in bytes {
+        if let Some(pair) = escape(no_backslash_escape, *byte) {
+            text.push_reserved(pair.0);
+            text.push_reserved(pair.1);
+        } else {
+            text.push_reserved(*byte);
+        }
+    }
+    *out = text;
+    Ok(())
+}
+
+/// Appends bytes as they stand between quotes, all at once where none is escaped; the test isn't worth its time for a few.
+fn put_block(out: &mut Vec<u8>, bytes: &[u8], no_backslash_escape: bool) -> Result<(), AllocError>
+    ensures { Puts (flat_map (byte_in_quotes no_backslash_escape) bytes.now) out.old.items out.new.items result }
+{
+    if bytes.len() >= BLOCK / 2 && is_plain(bytes) {
+        out.extend_from_slice(bytes)
+    } else {
+        put_each(out, bytes, no_backslash_escape)
+    }
+}
+
+/// Appends bytes as they stand between quotes.
+// In a function of their own the loops over the bytes are compiled better than within the long ones that call it.
+#[inline(never)]
 fn put_escaped(out: &mut Vec<u8>, bytes: &[u8], no_backslash_escape: bool) -> Result<(), AllocError>
     ensures { Puts (flat_map (byte_in_quotes no_backslash_escape) bytes.now) out.old.items out.new.items result }
 {
-    let mut start = 0;
-    for (i, byte) in bytes.iter().enumerate() {
-        if let Some(pair) = escape(no_backslash_escape, *byte) {
-            out.extend_from_slice(&bytes[start..i])?;
-            out.extend_from_slice(&pair)?;
-            start = i + 1;
-        }
+    let mut rest = bytes;
+    while !rest.is_empty() {
+        let (block, others) = rest.split_at(rest.len().min(BLOCK));
+        put_block(out, block, no_backslash_escape)?;
+        rest = others;
     }
-    out.extend_from_slice(&bytes[start..])?;
     Ok(())
 }
 
@@ -69,17 +120,21 @@ fn digit(n: u8) -> u8
 }
 
 /// Appends `0x` and two digits for each byte.
+#[inline(never)]
 fn put_hexadecimal(out: &mut Vec<u8>, bytes: &[u8]) -> Result<(), AllocError>
     ensures { Puts (in_hexadecimal bytes.now) out.old.items out.new.items result }
 {
     out.extend_from_slice(b"0x")?;
     out.reserve(2 * bytes.len())?;
+    // So many digits are made at a time, as above.
+    let mut text = replace(out, Vec::new(*out.allocator()));
     for byte in bytes {
-        out.extend_from_slice(&[digit(*byte / 16), digit(*byte % 16)])?;
+        text.push_reserved(digit(*byte / 16));
+        text.push_reserved(digit(*byte % 16));
     }
+    *out = text;
     Ok(())
 }
-
 /// Whether the bytes are UTF-8.
 fn is_text(bytes: &[u8]) -> bool
     ensures { result ≡ is_utf8 bytes.now }

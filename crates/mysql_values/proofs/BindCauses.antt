@@ -1,6 +1,6 @@
 -- What binding a text gives, and why it is refused.
-use Rattle.std.proofs.Common.{◌≡◌, ℕ, ◌+◌, true, false, ◌==◌, if◌then◌else◌, List, [], ◌∷◌, ◌++◌, length, filter, refl, sym, ap, ◌∙◌, inl, inr, arith, subst, Option, Some, None, Result, Ok, IsSomeAnd}
-use Rattle.std.specs.List.{AllByRecursion}
+use Rattle.std.proofs.Common.{◌≡◌, ℕ, ◌+◌, true, false, not, ◌==◌, if◌then◌else◌, List, [], ◌∷◌, ◌++◌, length, filter, refl, sym, ap, ◌∙◌, inl, inr, arith, subst, Option, Some, None, Result, Ok, IsSomeAnd}
+use Rattle.std.specs.List.{AllByRecursion, position_from}
 use Rattle.std.specs.Option.{option_map}
 use Rattle.std.proofs.lemmas.Bool.{cases_Bool}
 use Rattle.std.proofs.lemmas.Bool.Decides.{nat_tests}
@@ -43,6 +43,13 @@ same_numbers a b h = grind (arith, nat_tests)
 abbrev float_error : Option ℕ → Option BindError
 float_error found = option_map (λ place. bind_error.Float place) found
 
+each_alone : (i : ℕ) (places : List Place) → position_from (λ place. not place.alone) i places ≡ None → AllByRecursion (λ place. place.alone ≡ true) places
+each_alone i [] h = tt
+each_alone i (p ∷ places) h = elim (cases_Bool p.alone) [
+  | inl a ↦ (let k : position_from (λ place. not place.alone) (i + 1) places ≡ None = rw a at h in (a, each_alone (i + 1) places k))
+  | inr a ↦ (let k : Some i ≡ None = rw a at h in cc)
+]
+
 counted_cause : (count : ℕ) (values : List Value) → length values ≡ count → given_cause count (Ok values) ≡ float_error (first_float values)
 counted_cause count values n = ap (λ b. if b then float_error (first_float values) else Some bind_error.WrongCount) (same_numbers (length values) count n)
 
@@ -62,13 +69,13 @@ pieces_here law query places h = ap (slices_between query 0) h.2 ∙ sym (law qu
 
 -- what is appended where nothing speaks against it
 pub bind_ok : NamesAreSlices → PiecesAreSlices → FilledIsRead → (query : List ℕ) (params : Params) (places : List Place) (values : List Value) (before after : List ℕ) → HasPlaces query places → is_mixed places ≡ false → first_not_alone places ≡ None
-    → AllByRecursion (λ place. place.alone ≡ true) places → values_over (names_at query places) params ≡ Ok values → length values ≡ length places → (text : List ℕ) → after ≡ before ++ text → IsFilled query places values text
+    → values_over (names_at query places) params ≡ Ok values → length values ≡ length places → (text : List ℕ) → after ≡ before ++ text → IsFilled query places values text
     → (bound : List ℕ) × (contents : List Content) × (after ≡ before ++ bound) × IsBound query params bound × IsMeaning query params contents × Slices query bound contents × Lexes query bound contents
-bind_ok names pieces read query params places values before after h m a each o n text e f =
+bind_ok names pieces read query params places values before after h m a o n text e f =
     let c : Contents values f.literals = contents_of values f.literals f.each f.have in
     let over : values_over (names_of h.0) params ≡ Ok values = ap (λ ns. values_over ns params) (sym (names_are names query places h)) ∙ o in
     let none : bind_cause places (Ok values) ≡ None = cause_later places (Ok values) m a ∙ counted_cause (length places) values n ∙ ap float_error (no_floats values f.literals 0 f.each) in
-    let r : Slices query text c.contents × Lexes query text c.contents = subst (λ y. Slices query y c.contents × Lexes query y c.contents) (sym f.spelled) (read query places f.literals c.contents h each (c.count ∙ n) c.are) in (
+    let r : Slices query text c.contents × Lexes query text c.contents = subst (λ y. Slices query y c.contents × Lexes query y c.contents) (sym f.spelled) (read query places f.literals c.contents h (each_alone 0 places a) (c.count ∙ n) c.are) in (
       text,
       c.contents,
       e,

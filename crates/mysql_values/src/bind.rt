@@ -9,7 +9,7 @@ ghost use Rattle.mysql_cells.specs.Values.{literal_of};
 ghost use Rattle.mysql_queries.specs.declared.content.Content.{Content};
 ghost use Rattle.mysql_values.specs.declared.params.ParamsError.{ParamsError as ParamsErrorOf};
 ghost use Rattle.mysql_cells.specs.declared.value.Value.{Value as ValueOf};
-ghost use Rattle.std.specs.List.{AllByRecursion};
+ghost use Rattle.std.specs.Cow.{cow_slice_items};
 ghost use Rattle.std.specs.Prelude.{
   ◌++◌,
   ◌≡◌,
@@ -34,13 +34,14 @@ ghost use Rattle.std.specs.Prelude.{
 };
 ghost use Rattle.mysql_values.specs.declared.bind.BindError.TheVariants as bind_error;
 
-use crate::params::{Params, ParamsError, values_over_names};
+use crate::params::{Params, ParamsError, list_values_over_names};
 use mysql_cells::Value;
 use mysql_cells::as_sql::{AsSqlError, push_literal};
 use mysql_queries::laws::{filled_text_is_read, pieces_of_a_query};
-use mysql_queries::named_params::names_among;
+pub use mysql_queries::named_params::names_among;
 use mysql_queries::{Place, first_not_alone, is_mixed, places};
 use std::alloc::{AllocError, AllocFailed, Global};
+use std::borrow::CowSlice;
 use thiserror::Error;
 
 /// Why no text is bound, in the order in which the causes are looked for.
@@ -99,7 +100,6 @@ impl From<ParamsError> for BindError {
 fn check_places(places: &[Place]) -> Result<(), BindError>
     ensures one_kind { OnOk result (has_both_kinds places.now ≡ false) }
     ensures alone { OnOk result (first_apart places.now ≡ None) }
-    ensures each { OnOk result (AllByRecursion (λ place. place.alone ≡ true) places.now) }
     ensures err { IfErr result (λ e. (over : Result (List ValueOf) ParamsErrorOf) → bind_cause places.now over ≡ Some e) }
 {
     if is_mixed(places) {
@@ -111,22 +111,20 @@ fn check_places(places: &[Place]) -> Result<(), BindError>
     }
 }
 
-/// The values for the placeholders. Refuses `Params`, then `WrongCount`.
-fn values_to_bind<'a>(
-    alloc: Global,
-    query: &[u8],
-    places: &[Place],
+/// Lists the values for so many placeholders, in place of what the list holds. Refuses `Params`, then `WrongCount`.
+fn list_values<'a>(
+    count: usize,
+    names: &[CowSlice<'_, u8>],
     params: &'a Params,
-) -> Result<Vec<&'a Value>, BindError>
-    requires { HasPlaces query.now places.now }
-    ensures over { IfOk result (λ values. values_over (names_at query.now places.now) params.entry.now ≡ Ok (map (λ value. value.now) values.items)) }
-    ensures count { IfOk result (λ values. length values.items ≡ length places.now) }
-    ensures err { IfErr result (λ e. (e ≡ bind_error.Memory) ⊎ (given_cause (length places.now) (values_over (names_at query.now places.now) params.entry.now) ≡ Some e)) }
+    values: &mut Vec<&'a Value>,
+) -> Result<(), BindError>
+    ensures over { OnOk result (values_over (map cow_slice_items names.now) params.entry.now ≡ Ok (map (λ value. value.now) values.new.items)) }
+    ensures count { OnOk result (length values.new.items ≡ count) }
+    ensures err { IfErr result (λ e. (e ≡ bind_error.Memory) ⊎ (given_cause count (values_over (map cow_slice_items names.now) params.entry.now) ≡ Some e)) }
 {
-    let names = names_among(alloc, query, places)?;
-    let values = values_over_names(alloc, params, &names)?;
-    if values.len() == places.len() {
-        Ok(values)
+    list_values_over_names(params, names, values)?;
+    if values.len() == count {
+        Ok(())
     } else {
         Err(BindError::WrongCount)
     }
@@ -171,6 +169,43 @@ fn put_text(
     Ok(())
 }
 
+/// [`bind_text_at`] for one of many sets of a query: what doesn't depend on the set is found once. The placeholders are of one
+/// kind and stand alone, and `names` are those among them, as [`names_among`] lists them. `values` keeps its room from set to
+/// set; what it held leaves it, and what it then holds isn't said.
+///
+/// # Errors
+/// `Params`, `WrongCount`, `Float` with the first such placeholder, `Memory`; nothing is appended then.
+pub fn bind_text_over<'a>(
+    query: &[u8],
+    places: &[Place],
+    names: &[CowSlice<'_, u8>],
+    params: &'a Params,
+    values: &mut Vec<&'a Value>,
+    out: &mut Vec<u8>,
+) -> Result<(), BindError>
+    requires places { HasPlaces query.now places.now }
+    requires one_kind { has_both_kinds places.now ≡ false }
+    requires alone { first_apart places.now ≡ None }
+    requires names { map cow_slice_items names.now ≡ names_at query.now places.now }
+    // What is appended is the text of the set over the query, and reads as the set's meaning in both ways.
+    ensures ok { OnOk result ((text : List ℕ) × (contents : List Content) × (out.new.items ≡ out.old.items ++ text) × IsBound query.now params.entry.now text
+        × IsMeaning query.now params.entry.now contents × Slices query.now text contents × Lexes query.now text contents) }
+    ensures err { IfErr result (λ e. (e ≡ bind_error.Memory) ⊎ IsBindCause query.now params.entry.now e) }
+    ensures kept { OnErr result (out.new.items ≡ out.old.items) }
+{
+    pieces_of_a_query();
+    filled_text_is_read();
+    list_values(places.len(), names, params, values)?;
+    let start = out.len();
+    match put_text(out, query, places, values) {
+        Ok(()) => Ok(()),
+        Err(e) => {
+            out.truncate(start);
+            Err(e)
+        }
+    }
+}
+
 /// [`bind_text`] over the placeholders of the query, as [`places`] lists them, so that many sets need them found once.
 ///
 /// # Errors
@@ -190,17 +225,10 @@ pub fn bind_text_at(
     ensures kept { OnErr result (out.new.items ≡ out.old.items) }
 {
     pieces_of_a_query();
-    filled_text_is_read();
     check_places(places)?;
-    let values = values_to_bind(alloc, query, places, params)?;
-    let start = out.len();
-    match put_text(out, query, places, &values) {
-        Ok(()) => Ok(()),
-        Err(e) => {
-            out.truncate(start);
-            Err(e)
-        }
-    }
+    let names = names_among(alloc, query, places)?;
+    let mut values = Vec::new(alloc);
+    bind_text_over(query, places, &names, params, &mut values, out)
 }
 
 /// Appends the text of a query with the literals of a set's values in the places of its placeholders.

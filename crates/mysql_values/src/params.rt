@@ -1,7 +1,7 @@
 //! Parameter sets of a query.
 
 ghost use Rattle.mysql_values.specs.Params.{IsMissing, IsPositional, names_given, value_named, values_named, values_over};
-ghost use Rattle.std.specs.Prelude.{◌≡◌, ◌⊎◌, Err, IfErr, IfOk, List, Ok, map, option_copied, ℕ};
+ghost use Rattle.std.specs.Prelude.{◌≡◌, ◌⊎◌, Err, IfErr, IfOk, List, Ok, OnOk, map, option_copied, ℕ};
 ghost use Rattle.mysql_values.specs.declared.params.ParamsError.TheVariants as params_error;
 ghost use Rattle.mysql_values.specs.declared.params.SetError.TheVariants as set_error;
 
@@ -126,26 +126,70 @@ fn find<'a>(entries: &'a HashMap<Vec<u8>, Value>, name: &[u8]) -> Option<&'a Val
     entries.get(name)
 }
 
-/// The value of each name, in order.
+/// Lists the value of each name, in order, in place of what the list holds.
 ///
 /// Refuses `Missing` with the first name that has none, `Memory`.
 fn look_up<'a, N: AsSlice<u8>>(
-    alloc: Global,
     entries: &'a HashMap<Vec<u8>, Value>,
     names: &[N],
-) -> Result<Vec<&'a Value>, ParamsError>
-    ensures ok { IfOk result (λ values. values_named entries.entry.now.entries (map N.items names.now) ≡ Ok (map (λ value. value.now) values.items)) }
+    values: &mut Vec<&'a Value>,
+) -> Result<(), ParamsError>
+    ensures ok { OnOk result (values_named entries.entry.now.entries (map N.items names.now) ≡ Ok (map (λ value. value.now) values.new.items)) }
     ensures err { IfErr result (λ e. (e ≡ params_error.Memory) ⊎ (values_named entries.entry.now.entries (map N.items names.now) ≡ Err e)) }
 {
-    let mut values = Vec::new(alloc);
+    values.clear();
+    values.reserve(names.len())?;
     for name in names {
         let Some(value) = find(entries, name.as_slice()) else {
-            let name = ByteString::copy(alloc, name.as_slice())?;
+            let name = ByteString::copy(*values.allocator(), name.as_slice())?;
             return Err(ParamsError::Missing(MissingNamedParameterError(name)));
         };
         values.push(value)?;
     }
-    Ok(values)
+    Ok(())
+}
+
+/// Lists the values themselves, in place of what the list holds.
+fn lend<'a>(values: &'a [Value], lent: &mut Vec<&'a Value>) -> Result<(), AllocError>
+    ensures { OnOk result (map (λ value. value.now) lent.new.items ≡ values.entry.now) }
+{
+    lent.clear();
+    lent.reserve(values.len())?;
+    for value in values {
+        lent.push_reserved(value);
+    }
+    Ok(())
+}
+
+/// Lists the values that a set gives a query with these names, in place of what the list holds.
+pub(crate) fn list_values_over_names<'a, N: AsSlice<u8>>(
+    params: &'a Params,
+    names: &[N],
+    values: &mut Vec<&'a Value>,
+) -> Result<(), ParamsError>
+    ensures ok { OnOk result (values_over (map N.items names.now) params.entry.now ≡ Ok (map (λ value. value.now) values.new.items)) }
+    ensures err { IfErr result (λ e. (e ≡ params_error.Memory) ⊎ (values_over (map N.items names.now) params.entry.now ≡ Err e)) }
+{
+    match params {
+        Params::Empty => {
+            values.clear();
+            Ok(())
+        }
+        Params::Positional(given) => {
+            if names.is_empty() {
+                Ok(lend(given, values)?)
+            } else {
+                Err(ParamsError::Confusion(ParamsConfusionError::PositionalParamsForNamedQuery))
+            }
+        }
+        Params::Named(entries) => {
+            if names.is_empty() {
+                Err(ParamsError::Confusion(ParamsConfusionError::NamedParamsForPositionalQuery))
+            } else {
+                look_up(entries, names, values)
+            }
+        }
+    }
 }
 
 /// The values that a set gives a query with these names.
@@ -157,23 +201,9 @@ pub(crate) fn values_over_names<'a, N: AsSlice<u8>>(
     ensures ok { IfOk result (λ values. values_over (map N.items names.now) params.entry.now ≡ Ok (map (λ value. value.now) values.items)) }
     ensures err { IfErr result (λ e. (e ≡ params_error.Memory) ⊎ (values_over (map N.items names.now) params.entry.now ≡ Err e)) }
 {
-    match params {
-        Params::Empty => Ok(Vec::new(alloc)),
-        Params::Positional(values) => {
-            if names.is_empty() {
-                Ok(lent(alloc, values)?)
-            } else {
-                Err(ParamsError::Confusion(ParamsConfusionError::PositionalParamsForNamedQuery))
-            }
-        }
-        Params::Named(entries) => {
-            if names.is_empty() {
-                Err(ParamsError::Confusion(ParamsConfusionError::NamedParamsForPositionalQuery))
-            } else {
-                look_up(alloc, entries, names)
-            }
-        }
-    }
+    let mut values = Vec::new(alloc);
+    list_values_over_names(params, names, &mut values)?;
+    Ok(values)
 }
 
 /// Copies of the values.
@@ -199,19 +229,9 @@ fn copies_of(
     ensures ok { IfOk result (λ values. values_named entries.now.entries (map (λ name. name.items) names.now) ≡ Ok values.items) }
     ensures err { IfErr result (λ e. (e ≡ params_error.Memory) ⊎ (values_named entries.now.entries (map (λ name. name.items) names.now) ≡ Err e)) }
 {
-    let values = look_up(alloc, entries, names)?;
+    let mut values = Vec::new(alloc);
+    look_up(entries, names, &mut values)?;
     Ok(copies(alloc, &values)?)
-}
-
-/// The values themselves, lent.
-fn lent<'a>(alloc: Global, values: &'a [Value]) -> Result<Vec<&'a Value>, AllocError>
-    ensures { IfOk result (λ lent. map (λ value. value.now) lent.items ≡ values.entry.now) }
-{
-    let mut lent = Vec::with_capacity(alloc, values.len())?;
-    for value in values {
-        lent.push(value)?;
-    }
-    Ok(lent)
 }
 
 impl Params {
@@ -242,7 +262,24 @@ impl Params {
         ensures ok { IfOk result (λ values. values_over query.now.names self.entry.now ≡ Ok (map (λ value. value.now) values.items)) }
         ensures err { IfErr result (λ e. (e ≡ params_error.Memory) ⊎ (values_over query.now.names self.entry.now ≡ Err e)) }
     {
-        values_over_names(alloc, self, query.params())
+        let mut values = Vec::new(alloc);
+        self.list_values_for(query, &mut values)?;
+        Ok(values)
+    }
+
+    /// The values of [`Params::values_for`], listed in `values`, whose room is kept from set to set; what it held leaves it.
+    ///
+    /// # Errors
+    /// Those of [`Params::values_for`]. What the list then holds isn't said.
+    pub fn list_values_for<'a>(
+        &'a self,
+        query: &ParsedNamedParams<'_>,
+        values: &mut Vec<&'a Value>,
+    ) -> Result<(), ParamsError>
+        ensures ok { OnOk result (values_over query.now.names self.entry.now ≡ Ok (map (λ value. value.now) values.new.items)) }
+        ensures err { IfErr result (λ e. (e ≡ params_error.Memory) ⊎ (values_over query.now.names self.entry.now ≡ Err e)) }
+    {
+        list_values_over_names(self, query.params(), values)
     }
 
     /// The values that the set gives a query with these names, in the order of its placeholders. An empty list of names counts as none.

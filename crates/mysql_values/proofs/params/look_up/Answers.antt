@@ -5,7 +5,7 @@ use Rattle.mysql_values.proofs.Looked.{behind, behind_none, from_place, looked_m
 use Rattle.mysql_values.proofs.params.look_up.Goals as goal
 
 pub loop-name-init : goal.loop-name-init
-loop-name-init g c = sym (ap (λ y. behind (map (λ value. value.now) y) (values_named c.args.entries.now.entries (map g.N.AsSlice.items c.args.names.now))) c.new-values.ensures.items
+loop-name-init g c = sym (ap (λ y. behind (map (λ value. value.now) y) (values_named c.args.entries.now.entries (map g.N.AsSlice.items c.args.names.now))) (c.reserve.ensures.items ∙ c.clear.ensures.items)
     ∙ behind_none (values_named c.args.entries.now.entries (map g.N.AsSlice.items c.args.names.now)))
 
 pub returns-in_default-clause-err : goal.returns-in_default-clause-err
