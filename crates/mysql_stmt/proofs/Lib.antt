@@ -2,4 +2,5 @@ pub mod Back
 pub mod Bitmaps
 pub mod Lists
 pub mod LongData
+pub mod Put
 pub mod Sizes

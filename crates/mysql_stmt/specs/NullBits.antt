@@ -82,11 +82,12 @@ some_bit : (b : Bool) → one_if b ≤ 1
 some_bit true = omega arith
 some_bit false = omega arith
 
-below : (count : ℕ) (values : List Value) → null_bits count values < 2 ^ count
+-- so many bits are below the power of two
+pub null_bits_below : (count : ℕ) (values : List Value) → null_bits count values < 2 ^ count
 unfolding null_bits
-below zero values = omega arith
-below (suc count) [] = omega (arith, pow_pos (suc count))
-below (suc count) (value ∷ values) = omega (arith, below count values, some_bit (is_null value), pow-succ' 2 count)
+null_bits_below zero values = omega arith
+null_bits_below (suc count) [] = omega (arith, pow_pos (suc count))
+null_bits_below (suc count) (value ∷ values) = omega (arith, null_bits_below count values, some_bit (is_null value), pow-succ' 2 count)
 
 one_of : (bit : ℕ) (b : Bool) → bit < 2 → (bit == 1) ≡ b → bit ≡ one_if b
 one_of zero true few is = absurd cc
@@ -98,7 +99,7 @@ one_of (suc (suc bit)) b few is = absurd (omega arith)
 -- the byte whose bits say which of eight values are NULL
 pub byte_of : (bytes : List ℕ) (byte : ℕ) (values : List Value) → byte < 256 → byte ≡ slice_index bytes 0 → ((j : ℕ) → j < 8 → has_bit bytes j ≡ has_null j values) → byte ≡ null_bits 8 values
 byte_of bytes byte values small is bits =
-    same_from_bits_below 8 byte (null_bits 8 values) small (below 8 values)
+    same_from_bits_below 8 byte (null_bits 8 values) small (null_bits_below 8 values)
     (λ j few.
     let here : has_bit bytes j ≡ (bit_at byte j == 1) = ap (λ (n : ℕ). bit_at (slice_index bytes n) (j % 8) == 1) (omega arith) ∙ ap (λ (n : ℕ). bit_at (slice_index bytes 0) n == 1) (omega arith) ∙ ap (λ (n : ℕ). bit_at n j == 1) (sym is) in
     one_of (bit_at byte j) (has_null j values) (bit_at-lt byte j) (sym here ∙ bits j few) ∙ sym (each_bit j 8 values few))

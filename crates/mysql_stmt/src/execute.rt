@@ -1,12 +1,13 @@
 //! Executions of prepared statements.
 
-ghost use Rattle.std.specs.Prelude.{◌≡◌, ◌≤◌, IfOk, flat_map, length, map, nat_lt};
+ghost use Rattle.std.specs.Prelude.{◌≡◌, ◌++◌, ◌∷◌, ◌≤◌, IfOk, OnOk, SomeIff, flat_map, length, map, nat_lt, take};
+ghost use Rattle.byteorder.specs.Endian.{little_bytes};
 ghost use Rattle.mysql_raw.specs.Wire.{Appends};
-ghost use Rattle.mysql_stmt.specs.Executions.{execution, execution_of, needs_long_data as has_to_be_apart, parameters, sent_cell, type_bytes, whole_size};
+ghost use Rattle.mysql_stmt.specs.Executions.{execute_command, execution, execution_of, needs_long_data as has_to_be_apart, null_bitmap, parameters, sent_cell, type_bytes, whole_size};
 ghost use Rattle.mysql_stmt.specs.Views.{execution_view};
 
 use crate::headers::{ComStmtExecuteHeader, IterationCount};
-use crate::null_bits::null_bitmap_of;
+use crate::null_bits::{null_bitmap_of, put_null_bitmap};
 use mysql_cells::Value;
 use mysql_const::{CursorType, MAX_PAYLOAD_LEN, StmtExecuteParamsFlags};
 use mysql_raw::{LeU32, MySerialize, RawInt, in_order};
@@ -85,11 +86,27 @@ impl ComStmtExecuteRequestBuilder {
 fn lent<'a>(alloc: Global, values: &'a [Value]) -> Result<Vec<&'a Value>, AllocError>
     ensures { IfOk result (λ lent. map (λ value. value.now) lent.items ≡ values.entry.now) }
 {
-    let mut lent = Vec::new(alloc);
+    let mut lent = Vec::with_capacity(alloc, values.len())?;
     for value in values {
         lent.push(value)?;
     }
     Ok(lent)
+}
+
+/// The bytes of an execution with these values, at most 65535, that holds the cells of all of them, where it has at most so many.
+/// An execution without values has 10 bytes, and counts as one of 11 here.
+///
+/// MySQL: Client/Server Protocol, "COM_STMT_EXECUTE".
+pub fn size_within(values: &[&Value], most: usize) -> Option<usize>
+    requires { length values.now ≤ 65535 }
+    ensures { SomeIff result (whole_size (map (λ value. value.now) values.now) ≤ most) (whole_size (map (λ value. value.now) values.now)) }
+{
+    let head = 10 + (values.len() + 7) / 8 + 1 + 2 * values.len();
+    let mut room = most.checked_sub(head)? as u64;
+    for value in values {
+        room = room.checked_sub(value.bin_len())?;
+    }
+    Some(most - room as usize)
 }
 
 // Whether an execution that holds all cells exceeds so many bytes.
@@ -97,18 +114,7 @@ fn is_longer(values: &[&Value], most: usize) -> bool
     requires { length values.now ≤ 65535 }
     ensures { result ≡ nat_lt most (whole_size (map (λ value. value.now) values.now)) }
 {
-    let head = 10 + (values.len() + 7) / 8 + 1 + 2 * values.len();
-    if most < head {
-        return true;
-    }
-    let mut room = (most - head) as u64;
-    for value in values {
-        match room.checked_sub(value.bin_len()) {
-            Some(left) => room = left,
-            None => return true,
-        }
-    }
-    false
+    size_within(values, most).is_none()
 }
 
 // Whether it exceeds the most bytes of one chunk.
@@ -271,6 +277,60 @@ impl<'a> MySerialize for Cells<'a> {
     fn serialize(&self, buf: &mut Vec<u8>) -> Result<(), AllocError> {
         put_cells(self.values, self.apart, buf)
     }
+}
+
+// What stands before what an execution carries of its values.
+fn head(id: u32) -> [u8; 10]
+    ensures { result ≡ 23 ∷ (little_bytes 4 id ++ 0 ∷ little_bytes 4 1) }
+{
+    let [a, b, c, d] = id.to_le_bytes();
+    [23, a, b, c, d, 0, 1, 0, 0, 0]
+}
+
+// Appends what an execution of values carries of them. After a refusal what stood before stands in front.
+fn put_parameters(values: &[&Value], apart: bool, out: &mut Vec<u8>) -> Result<(), AllocError>
+    requires { length values.now ≤ 65535 }
+    ensures ok { OnOk result (out.new.items ≡ out.old.items ++ parameters (null_bitmap (map (λ value. value.now) values.now)) (map (λ value. value.now) values.now) apart) }
+    ensures kept { take (length out.old.items) out.new.items ≡ out.old.items }
+{
+    if values.is_empty() {
+        return Ok(());
+    }
+    put_null_bitmap(values, out)?;
+    out.push(1)?;
+    put_types(values, out)?;
+    put_cells(values, apart, out)
+}
+
+// Appends an execution. After a refusal what stood before stands in front.
+fn put_parts(id: u32, values: &[&Value], apart: bool, out: &mut Vec<u8>) -> Result<(), AllocError>
+    requires { length values.now ≤ 65535 }
+    ensures ok { OnOk result (out.new.items ≡ out.old.items ++ execute_command id (map (λ value. value.now) values.now) apart) }
+    ensures kept { take (length out.old.items) out.new.items ≡ out.old.items }
+{
+    out.extend_from_slice(&head(id))?;
+    put_parameters(values, apart, out)
+}
+
+/// Appends the execution with these values, at most 65535, of the statement with this id: without the cells of byte strings where
+/// these are sent `apart`, as long data before it. Refused for want of memory.
+///
+/// MySQL: Client/Server Protocol, "COM_STMT_EXECUTE".
+pub fn put_execution(
+    id: u32,
+    values: &[&Value],
+    apart: bool,
+    out: &mut Vec<u8>,
+) -> Result<(), AllocError>
+    requires { length values.now ≤ 65535 }
+    ensures { Appends result out.old.items out.new.items (execute_command id (map (λ value. value.now) values.now) apart) }
+{
+    let len = out.len();
+    let put = put_parts(id, values, apart, out);
+    if put.is_err() {
+        out.truncate(len);
+    }
+    put
 }
 
 // What an execution carries of its values: nothing where there are none.

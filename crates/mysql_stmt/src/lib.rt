@@ -10,7 +10,9 @@ mod null_bits;
 pub mod reset;
 
 pub use close::ComStmtClose;
-pub use execute::{ComStmtExecuteRequest, ComStmtExecuteRequestBuilder};
+pub use execute::{
+    ComStmtExecuteRequest, ComStmtExecuteRequestBuilder, put_execution, size_within,
+};
 pub use headers::{
     ComStmtCloseHeader, ComStmtExecuteHeader, ComStmtResetHeader, ComStmtSendLongDataHeader,
     InvalidComStmtCloseHeader, InvalidComStmtExecuteHeader, InvalidComStmtResetHeader,

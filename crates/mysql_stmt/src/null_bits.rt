@@ -1,12 +1,10 @@
 //! The bitmap of an execution.
 
-ghost use Rattle.std.specs.Prelude.{◌≡◌, ◌≤◌, IfOk, length, map};
+ghost use Rattle.std.specs.Prelude.{◌≡◌, ◌++◌, ◌≤◌, IfOk, OnOk, length, map, take};
 ghost use Rattle.mysql_cells.specs.Values.{is_null as is_no_value};
 ghost use Rattle.mysql_stmt.specs.Executions.{null_bitmap, null_bits};
-ghost use Rattle.mysql_stmt.specs.NullBits.{has_null};
 
 use mysql_cells::Value;
-use mysql_null_bitmap::{ClientSide, NullBitmap};
 use std::alloc::{AllocError, Global};
 
 fn is_null(value: &Value) -> bool
@@ -15,27 +13,31 @@ fn is_null(value: &Value) -> bool
     matches!(value, Value::NULL)
 }
 
-// Whether the value at this place stands and is NULL.
-fn is_null_at(values: &[&Value], place: usize) -> bool
-    ensures { result ≡ has_null place (map (λ value. value.now) values.now) }
+// The byte of the first eight values.
+fn null_byte(values: &[&Value]) -> u8
+    ensures { result ≡ null_bits 8 (map (λ value. value.now) values.now) }
 {
-    if place >= values.len() {
-        return false;
+    let mut byte: u16 = 0;
+    let mut bit: u16 = 1;
+    for place in 0..values.len().min(8) {
+        if is_null(values[place]) {
+            byte += bit;
+        }
+        bit *= 2;
     }
-    is_null(values[place])
+    byte as u8
 }
 
-// The byte of the first eight values, by a bitmap of one byte.
-fn null_byte(values: &[&Value], bitmap: &mut NullBitmap<ClientSide>) -> u8
-    requires { length bitmap.old.0.items ≡ 1 }
-    ensures kept { length bitmap.new.0.items ≡ 1 }
-    ensures bits { result ≡ null_bits 8 (map (λ value. value.now) values.now) }
+// Appends a bit for each value, eight to a byte. After a refusal what stood before stands in front.
+pub(crate) fn put_null_bitmap(values: &[&Value], out: &mut Vec<u8>) -> Result<(), AllocError>
+    requires { length values.now ≤ 65535 }
+    ensures ok { OnOk result (out.new.items ≡ out.old.items ++ null_bitmap (map (λ value. value.now) values.now)) }
+    ensures kept { take (length out.old.items) out.new.items ≡ out.old.items }
 {
-    for place in 0..8usize {
-        bitmap.set(place, is_null_at(values, place));
+    for k in 0..(values.len() + 7) / 8 {
+        out.push(null_byte(&values[8 * k..]))?;
     }
-    let bytes = bitmap.as_slice();
-    bytes[0]
+    Ok(())
 }
 
 // A bit for each value, eight to a byte.
@@ -43,10 +45,7 @@ pub(crate) fn null_bitmap_of(alloc: Global, values: &[&Value]) -> Result<Vec<u8>
     requires { length values.now ≤ 65535 }
     ensures { IfOk result (λ bytes. bytes.items ≡ null_bitmap (map (λ value. value.now) values.now)) }
 {
-    let mut eight = NullBitmap::<ClientSide>::new(alloc, 8)?;
-    let mut bytes = Vec::new(alloc);
-    for k in 0..(values.len() + 7) / 8 {
-        bytes.push(null_byte(&values[8 * k..], &mut eight))?;
-    }
+    let mut bytes = Vec::with_capacity(alloc, (values.len() + 7) / 8)?;
+    put_null_bitmap(values, &mut bytes)?;
     Ok(bytes)
 }

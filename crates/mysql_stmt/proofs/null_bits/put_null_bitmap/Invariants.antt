@@ -1,0 +1,6 @@
+use Rattle.std.proofs.Common.{◌≡◌, ◌++◌, map}
+use Rattle.mysql_stmt.proofs.Bitmaps.{first_bytes}
+use Rattle.mysql_stmt.proofs.null_bits.put_null_bitmap.Given as goal
+
+abbrev pub invariant-loop-k : goal.invariant-loop-k
+invariant-loop-k l = l.out.items ≡ l.fn.out.items ++ first_bytes (map (λ value. value.now) l.values) l.k
