@@ -1,8 +1,8 @@
 -- The first value of each column, row by row.
-use Rattle.std.proofs.Common.{◌≡◌, ◌≢◌, ℕ, ◌+◌, ◌<◌, ◌≤◌, inl, inr, Bool, true, false, not, cond, List, [], ◌∷◌, ◌++◌, length, get_or, Option, Some, None, refl, sym, ◌∙◌, ap, arith, Bor, below_more, set}
+use Rattle.std.proofs.Common.{◌≡◌, ◌≢◌, ℕ, ◌+◌, ◌<◌, ◌≤◌, inl, inr, Bool, true, false, not, cond, List, [], ◌∷◌, ◌++◌, length, drop, get_or, Option, Some, None, refl, sym, ◌∙◌, ap, arith, Bor, below_more, set}
 use Rattle.std.specs.Prelude.{◌||◌, MatchOption}
 use Rattle.std.proofs.lemmas.Bool.{cases_Bool, cond-true, cond-false}
-use Rattle.std.proofs.lemmas.List.{length-map, map-append, map-set, get_or-set_same, get_or-set_other, same_lists, get_or_default}
+use Rattle.std.proofs.lemmas.List.{drop_more, length-map, map-append, map-set, get_or-set_same, get_or-set_other, same_lists, get_or_default}
 use Rattle.std.proofs.lemmas.List.FromFn.{get_or-map-range_with_len, length-map-range_with_len, map-range_with_len_more}
 use Rattle.mysql_cells.specs.declared.value.Value.{Value}
 use Rattle.mysql_cells.specs.declared.value.Value.TheVariants.{NULL, Bytes, Int, UInt, Float, Double, Date, Time}
@@ -82,24 +82,61 @@ filled_one_more was now new row i f at others = record {
 }
 
 -- a NULL gives way
-pub filled_here : (was now new row : List (Bor Value)) (i : ℕ) (first value : Bor Value) → Filled was now (row_in row) i → i < length row → length row ≡ length now → first ≡ get_or now i first → value ≡ get_or row i value →
-    is_null first.now ≡ true → new ≡ set now i value → Filled was new (row_in row) (i + 1)
-filled_here was now new row i first value f lt len first_is value_is null is =
-    let lt' : i < length now = omega (arith, lt, len) in
-    let inside : i < length (row_in now) = omega (arith, lt', length-map now (λ (v : Bor Value). v.now)) in
+pub filled_here : (was now new : List (Bor Value)) (row : Row) (i : ℕ) (first value : Bor Value) → Filled was now row i → i < length now → first ≡ get_or now i first → get_or row i NULL ≡ value.now →
+    is_null first.now ≡ true → new ≡ set now i value → Filled was new row (i + 1)
+filled_here was now new row i first value f lt first_is value_is null is =
+    let inside : i < length (row_in now) = omega (arith, lt, length-map now (λ (v : Bor Value). v.now)) in
     let seen : row_in new ≡ set (row_in now) i value.now = ap (λ l. row_in l) is ∙ map-set (λ (v : Bor Value). v.now) now i value in
     let at : get_or (row_in new) i NULL ≡ value.now = ap (λ (r : Row). get_or r i NULL) seen ∙ get_or-set_same (row_in now) i value.now NULL inside in
-    let test : is_null (get_or (row_in now) i NULL) ≡ true = ap is_null (value_at now i first NULL lt' first_is) ∙ null in
-    let put : get_or (row_in new) i NULL ≡ filled (get_or (row_in now) i NULL) (get_or (row_in row) i NULL) =
-    at ∙ sym (value_at row i value NULL lt value_is) ∙ sym (cond-true (is_null (get_or (row_in now) i NULL)) (get_or (row_in row) i NULL) (get_or (row_in now) i NULL) test) in
-    filled_one_more was now new (row_in row) i f put (λ column ne. ap (λ (r : Row). get_or r column NULL) seen ∙ get_or-set_other (row_in now) i column value.now NULL ne)
+    let test : is_null (get_or (row_in now) i NULL) ≡ true = ap is_null (value_at now i first NULL lt first_is) ∙ null in
+    let put : get_or (row_in new) i NULL ≡ filled (get_or (row_in now) i NULL) (get_or row i NULL) =
+    at ∙ sym value_is ∙ sym (cond-true (is_null (get_or (row_in now) i NULL)) (get_or row i NULL) (get_or (row_in now) i NULL) test) in
+    filled_one_more was now new row i f put (λ column ne. ap (λ (r : Row). get_or r column NULL) seen ∙ get_or-set_other (row_in now) i column value.now NULL ne)
 
 -- a value stays
-pub filled_before : (was now row : List (Bor Value)) (i : ℕ) (first : Bor Value) → Filled was now (row_in row) i → i < length row → length row ≡ length now → first ≡ get_or now i first →
-    is_null first.now ≡ false → Filled was now (row_in row) (i + 1)
-filled_before was now row i first f lt len first_is some =
-    let test : is_null (get_or (row_in now) i NULL) ≡ false = ap is_null (value_at now i first NULL (omega (arith, lt, len)) first_is) ∙ some in
-    filled_one_more was now now (row_in row) i f (sym (cond-false (is_null (get_or (row_in now) i NULL)) (get_or (row_in row) i NULL) (get_or (row_in now) i NULL) test)) (λ column ne. refl)
+pub filled_before : (was now : List (Bor Value)) (row : Row) (i : ℕ) (first : Bor Value) → Filled was now row i → i < length now → first ≡ get_or now i first →
+    is_null first.now ≡ false → Filled was now row (i + 1)
+filled_before was now row i first f lt first_is some =
+    let test : is_null (get_or (row_in now) i NULL) ≡ false = ap is_null (value_at now i first NULL lt first_is) ∙ some in
+    filled_one_more was now now row i f (sym (cond-false (is_null (get_or (row_in now) i NULL)) (get_or row i NULL) (get_or (row_in now) i NULL) test)) (λ column ne. refl)
+
+-- the first value of rows and more rows
+first_with_rows : (column : ℕ) (before rows : List Row) → first_value column (before ++ rows) ≡ filled (first_value column before) (first_value column rows)
+first_with_rows column before rows = elim (cases_Bool (is_null (first_value column before))) [
+  | inl null ↦ first_of_rest column before rows null ∙ sym (cond-true (is_null (first_value column before)) (first_value column rows) (first_value column before) null)
+  | inr some ↦ first_of_append column before rows some ∙ sym (cond-false (is_null (first_value column before)) (first_value column rows) (first_value column before) some)
+]
+
+-- the first values of rows stand for the rows
+pub first_values_of_rows : (columns : ℕ) (before rows : List Row) → first_values columns (before ++ first_values columns rows ∷ []) ≡ first_values columns (before ++ rows)
+first_values_of_rows columns before rows =
+    let one = before ++ first_values columns rows ∷ [] in
+    same_lists (first_values columns one) (first_values columns (before ++ rows)) (length_first columns one ∙ sym (length_first columns (before ++ rows))) (λ k d inside.
+    let lt : k < columns = omega (arith, inside, length_first columns one) in
+    first_here columns one k d lt ∙ first_with k before (first_values columns rows) ∙ ap (λ v. filled (first_value k before) v) (first_here columns rows k NULL lt)
+    ∙ sym (first_with_rows k before rows) ∙ sym (first_here columns (before ++ rows) k d lt))
+
+-- a row without a value in the column is passed
+pub first_passes : (column : ℕ) (rows : List Row) (i : ℕ) (row : Row) → i < length rows → get_or rows i [] ≡ row → is_null (get_or row column NULL) ≡ true → first_value column (drop i rows) ≡ first_value column (drop (i + 1) rows)
+first_passes column rows i row lt at null =
+    ap (first_value column) (drop_more rows i [] lt)
+    ∙ cond-true (is_null (get_or (get_or rows i []) column NULL)) (first_value column (drop (i + 1) rows)) (get_or (get_or rows i []) column NULL) (ap (λ (r : Row). is_null (get_or r column NULL)) at ∙ null)
+
+-- one with a value has the first
+pub first_found : (column : ℕ) (rows : List Row) (i : ℕ) (row : Row) → i < length rows → get_or rows i [] ≡ row → is_null (get_or row column NULL) ≡ false → first_value column (drop i rows) ≡ get_or row column NULL
+first_found column rows i row lt at some =
+    ap (first_value column) (drop_more rows i [] lt)
+    ∙ cond-false (is_null (get_or (get_or rows i []) column NULL)) (first_value column (drop (i + 1) rows)) (get_or (get_or rows i []) column NULL) (ap (λ (r : Row). is_null (get_or r column NULL)) at ∙ some)
+    ∙ ap (λ (r : Row). get_or r column NULL) at
+
+-- no value is of another kind than NULL
+pub null_has_no_other : (first value : Value) → is_null first ≡ true → is_other first value ≡ false
+null_has_no_other first value null = by (is_null value) (is_null first) (same_kind first value) null
+  where
+    by : (a b c : Bool) → b ≡ true → not (a || b || c) ≡ false
+    by true b c e = refl
+    by false true c e = refl
+    by false false c e = absurd cc
 
 -- the first place where a test holds
 place_is : (test : ℕ → Value → Bool) (row : Row) (o : Option ℕ) →
@@ -111,11 +148,11 @@ place_is test row (Some k) found =
     sym (first_at_some (λ place value. cond (test place value) (Some place) None) row NULL k k found.0 (cond-true (test k (get_or row k NULL)) (Some k) None found.1)
     (λ j less. cond-false (test j (get_or row j NULL)) (Some j) None (found.2 j less)))
 
--- the test at one place
-pub other_here : (firsts row : List (Bor Value)) (i : ℕ) (first value : Bor Value) → i < length row → length row ≡ length firsts → first ≡ get_or firsts i first → value ≡ get_or row i value →
-    is_other (get_or (row_in firsts) i NULL) (get_or (row_in row) i NULL) ≡ is_other first.now value.now
-other_here firsts row i first value lt len first_is value_is =
-    ap (λ v. is_other v (get_or (row_in row) i NULL)) (value_at firsts i first NULL (omega (arith, lt, len)) first_is) ∙ ap (λ v. is_other first.now v) (value_at row i value NULL lt value_is)
+-- the test at one place, by the first values that stand there
+pub other_here : (was now row : List (Bor Value)) (i : ℕ) (first value : Bor Value) → Filled was now (row_in row) i → i < length row → i < length now → first ≡ get_or now i first → value ≡ get_or row i value →
+    is_other (get_or (row_in was) i NULL) (get_or (row_in row) i NULL) ≡ is_other first.now value.now
+other_here was now row i first value f lt inside first_is value_is =
+    ap (λ v. is_other v (get_or (row_in row) i NULL)) (sym (f.rest i (omega arith)) ∙ value_at now i first NULL inside first_is) ∙ ap (λ v. is_other first.now v) (value_at row i value NULL lt value_is)
 
 module _ (firsts values : List (Bor Value)) (length_is : length values ≡ length firsts) (before : List Row) (is : row_in firsts ≡ first_values (length firsts) before) where
   -- the row of the values

@@ -1,11 +1,10 @@
 -- The longest part from a start.
-use Rattle.std.proofs.Common.{◌≡◌, ℕ, zero, suc, ◌+◌, ◌-◌, ◌*◌, ◌<◌, ◌≤◌, inl, inr, Bool, true, false, List, [], ◌∷◌, ◌++◌, length, take, drop, get_or, sym, ◌∙◌, ap, subst, arith, length-take, length-drop, Vec, Bor}
-use Rattle.std.specs.Prelude.{sum_by, count_by, cond, ◌||◌}
+use Rattle.std.proofs.Common.{◌≡◌, ℕ, zero, suc, ◌+◌, ◌-◌, ◌*◌, ◌<◌, ◌≤◌, inl, inr, Bool, true, false, List, [], ◌∷◌, ◌++◌, length, map, take, drop, get_or, sym, ◌∙◌, ap, subst, arith, length-take, length-drop, Bor}
+use Rattle.std.specs.Prelude.{sum, sum_by, count_by, cond, ◌||◌}
 use Rattle.std.specs.List.{AllByRecursion}
-use Rattle.std.specs.declared.alloc.Global.{Global}
 use Rattle.std.proofs.lemmas.Bool.{cases_Bool, cond-true, cond-false, false≢true, or_cases, or_left, or_right}
-use Rattle.std.proofs.lemmas.List.{get_or-take, length-map, drop_more, map-append, drop-map}
-use Rattle.std.proofs.lemmas.List.Sums.{sum_by-cons, sum_by_more, sum_by_push, get_or-le-sum_by}
+use Rattle.std.proofs.lemmas.List.{get_or-take, length-map, drop_more, map-append, drop-map, take-map}
+use Rattle.std.proofs.lemmas.List.Sums.{sum-map, sum_by-cons, sum_by_more, sum_by_push, get_or-le-sum_by}
 use Rattle.std.proofs.lemmas.Bool.{cases_lt}
 use Rattle.mysql_cells.specs.declared.value.Value.{Value}
 use Rattle.mysql_bulk_builder.specs.declared.search.BulkPart.{BulkPart}
@@ -131,44 +130,50 @@ one_row rows k lt =
     let e : rows_size rows k 1 ≡ sum_by row_size (get_or rows k [] ∷ []) = ap (λ (r : List Row). sum_by row_size (take 1 r)) (drop_more rows k [] lt) in
     omega (arith, e)
 
-module _ (room columns : ℕ) (rows rest : List (Vec (Bor Value) Global)) (start : ℕ) (is_rest : rest ≡ drop start rows) (lt : start < length rows) (each : EachRowFitsTyped room columns (rows_in rows)) where
-  rest_view : rows_in rest ≡ drop start (rows_in rows)
-  rest_view = ap rows_in is_rest ∙ sym (drop-map (λ (r : Vec (Bor Value) Global). row_in r.items) start rows)
+module _ (room columns : ℕ) (rows : List (Bor (List (Bor Value)))) (all sizes : List ℕ) (start : ℕ) (all_is : all ≡ map row_size (rows_in rows)) (is_rest : sizes ≡ drop start all) (lt : start < length rows)
+    (each : EachRowFitsTyped room columns (rows_in rows)) where
+  -- the sizes from the start on are those of the rows from there on
+  sizes_are : (n : ℕ) → sum (take n sizes) ≡ rows_size (rows_in rows) start n
+  sizes_are n =
+      ap (λ (l : List ℕ). sum (take n l)) (is_rest ∙ ap (λ (l : List ℕ). drop start l) all_is ∙ drop-map row_size start (rows_in rows))
+      ∙ ap (λ (l : List ℕ). sum l) (take-map row_size n (drop start (rows_in rows))) ∙ sum-map row_size (take n (drop start (rows_in rows)))
 
-  sizes : (n : ℕ) → sum_by row_size (take n (rows_in rest)) ≡ rows_size (rows_in rows) start n
-  sizes n = ap (λ (r : List Row). sum_by row_size (take n r)) rest_view
-
-  lengths : (length rest + start ≡ length rows) × (length (rows_in rows) ≡ length rows)
-  lengths = (omega (arith, ap length is_rest, length-drop start rows, lt), length-map rows (λ (r : Vec (Bor Value) Global). row_in r.items))
+  lengths : (length sizes + start ≡ length rows) × (length (rows_in rows) ≡ length rows)
+  lengths =
+      let rows_len = length-map rows (λ (r : Bor (List (Bor Value))). row_in r.now) in
+      (omega (arith, ap length is_rest, length-drop start all, ap length all_is, length-map (rows_in rows) row_size, rows_len, lt), rows_len)
 
   room_is : 7 + 2 * columns ≤ room
   room_is = let f : 7 + 2 * columns + rows_size (rows_in rows) start 1 ≤ room = each start (omega (arith, lt, lengths)) in omega (arith, f)
 
-  pub longest_typed : (t : ℕ) → t ≤ length rest → sum_by row_size (take t (rows_in rest)) ≤ room - 7 - 2 * columns → (t < length rest → room - 7 - 2 * columns < sum_by row_size (take (t + 1) (rows_in rest))) →
+  pub longest_typed : (t : ℕ) → t ≤ length sizes → sum (take t sizes) ≤ room - 7 - 2 * columns → (t < length sizes → room - 7 - 2 * columns < sum (take (t + 1) sizes)) →
       IsLongestTyped room columns (rows_in rows) start t × (start + t ≤ length (rows_in rows)) × (0 < t)
   longest_typed t within fits ends =
       let l : IsLongestTyped room columns (rows_in rows) start t = record {
-        fits = omega (arith, fits, sizes t, room_is);
-        ends = λ more. let e = ends (omega (arith, more, lengths)) in omega (arith, e, sizes (t + 1), room_is);
+        fits = omega (arith, fits, sizes_are t, room_is);
+        ends = λ more. let e = ends (omega (arith, more, lengths)) in omega (arith, e, sizes_are (t + 1), room_is);
       } in
       (l, omega (arith, within, lengths), some_typed room columns (rows_in rows) start t (omega (arith, lt, lengths)) each l)
 
-  pub longest_untyped : (seen : List Bool) (w u : ℕ) → 0 < start → AreSeen columns (rows_in rows) start seen →
-      sum_by row_size (take w (rows_in rest)) ≤ room - 7 → (w < length rest → room - 7 < sum_by row_size (take (w + 1) (rows_in rest))) →
+  view : (rest : List (Bor (List (Bor Value)))) → rest ≡ drop start rows → rows_in rest ≡ drop start (rows_in rows)
+  view rest rest_is = ap rows_in rest_is ∙ sym (drop-map (λ (r : Bor (List (Bor Value))). row_in r.now) start rows)
+
+  pub longest_untyped : (rest : List (Bor (List (Bor Value)))) → rest ≡ drop start rows → (seen : List Bool) (w u : ℕ) → 0 < start → AreSeen columns (rows_in rows) start seen →
+      sum (take w sizes) ≤ room - 7 → (w < length sizes → room - 7 < sum (take (w + 1) sizes)) →
       ((j : ℕ) → j < u → IsKnown seen (get_or (rows_in rest) j [])) → (u < w → IsUnknown seen (get_or (rows_in rest) u [])) →
       u ≤ w → IsLongestUntyped room columns (rows_in rows) start u
-  longest_untyped seen w u later s fits_w ends_w known unknown le_w = record {
+  longest_untyped rest rest_is seen w u later s fits_w ends_w known unknown le_w = record {
     fits = (
       later,
       (let less : rows_size (rows_in rows) start u ≤ rows_size (rows_in rows) start w = sum_within row_size (rows_in rows) start w start u (omega arith) (omega (arith, le_w)) in
-          omega (arith, less, fits_w, sizes w, room_is)),
-      known_fits room columns (rows_in rows) start seen u s (λ j below. subst (λ (r : List Row). IsKnown seen (get_or r j [])) rest_view (known j below)),
+          omega (arith, less, fits_w, sizes_are w, room_is)),
+      known_fits room columns (rows_in rows) start seen u s (λ j below. subst (λ (r : List Row). IsKnown seen (get_or r j [])) (view rest rest_is) (known j below)),
     );
     ends = λ more fits. elim (cases_lt u w) [
-      | inl few ↦ unknown_ends room columns (rows_in rows) start seen u s more (subst (λ (r : List Row). IsUnknown seen (get_or r u [])) rest_view (unknown few)) fits.2
-      | inr all ↦
-          let grows : rows_size (rows_in rows) start (w + 1) ≤ rows_size (rows_in rows) start (u + 1) = sum_within row_size (rows_in rows) start (u + 1) start (w + 1) (omega arith) (omega (arith, all)) in
-          omega (arith, fits.1, grows, ends_w (omega (arith, more, all, lengths)), sizes (w + 1), room_is)
+      | inl few ↦ unknown_ends room columns (rows_in rows) start seen u s more (subst (λ (r : List Row). IsUnknown seen (get_or r u [])) (view rest rest_is) (unknown few)) fits.2
+      | inr past ↦
+          let grows : rows_size (rows_in rows) start (w + 1) ≤ rows_size (rows_in rows) start (u + 1) = sum_within row_size (rows_in rows) start (u + 1) start (w + 1) (omega arith) (omega (arith, past)) in
+          omega (arith, fits.1, grows, ends_w (omega (arith, more, past, lengths)), sizes_are (w + 1), room_is)
     ];
   }
 

@@ -1,8 +1,7 @@
 -- The first value of another kind, row by row.
-use Rattle.std.proofs.Common.{◌≡◌, ℕ, ◌+◌, ◌<◌, List, [], ◌∷◌, ◌++◌, length, take, get_or, Some, None, sym, ◌∙◌, ap, Bor, Vec}
-use Rattle.std.specs.Prelude.{All, vec_len}
+use Rattle.std.proofs.Common.{◌≡◌, ℕ, ◌+◌, ◌<◌, List, [], ◌∷◌, ◌++◌, length, take, get_or, Some, None, sym, ◌∙◌, ap, Bor}
+use Rattle.std.specs.Prelude.{All}
 use Rattle.std.specs.Option.{option_map}
-use Rattle.std.specs.declared.alloc.Global.{Global}
 use Rattle.std.proofs.lemmas.List.{length-map, take_more}
 use Rattle.std.proofs.lemmas.List.Elements.{All-get_or}
 use Rattle.mysql_cells.specs.declared.value.Value.{Value}
@@ -18,8 +17,8 @@ pub width_is : (firsts : List (Bor Value)) (columns : ℕ) (rows : List Row) →
 width_is firsts columns rows is = sym (length-map firsts (λ (v : Bor Value). v.now)) ∙ ap length is ∙ length_first columns rows
 
 -- how many values a row has
-pub row_width : (rows : List (Vec (Bor Value) Global)) (columns i : ℕ) (x : Vec (Bor Value) Global) → All (λ row. vec_len row ≡ columns) rows → i < length rows → x ≡ get_or rows i x → vec_len x ≡ columns
-row_width rows columns i x all lt is = ap (λ (row : Vec (Bor Value) Global). vec_len row) is ∙ All-get_or (λ (row : Vec (Bor Value) Global). vec_len row ≡ columns) rows i x lt all
+pub row_width : (rows : List (Bor (List (Bor Value)))) (columns i : ℕ) (x : Bor (List (Bor Value))) → All (λ row. length row.now ≡ columns) rows → i < length rows → x ≡ get_or rows i x → length x.now ≡ columns
+row_width rows columns i x all lt is = ap (λ (row : Bor (List (Bor Value))). length row.now) is ∙ All-get_or (λ (row : Bor (List (Bor Value))). length row.now ≡ columns) rows i x lt all
 
 -- none in the rows before
 abbrev pub NoneBefore : List Row → ℕ → Type 0

@@ -1,6 +1,5 @@
 -- The size of a row, by its values as they lie in memory.
-use Rattle.std.proofs.Common.{◌≡◌, ℕ, ◌+◌, ◌<◌, ◌≤◌, List, [], length, take, get_or, refl, sym, ◌∙◌, ap, arith, Vec, Bor}
-use Rattle.std.specs.declared.alloc.Global.{Global}
+use Rattle.std.proofs.Common.{◌≡◌, ℕ, ◌+◌, ◌<◌, ◌≤◌, List, [], length, take, get_or, refl, sym, ◌∙◌, ap, arith, Bor}
 use Rattle.std.proofs.lemmas.List.{get_or-map, length-map}
 use Rattle.std.specs.Prelude.{sum_by}
 use Rattle.std.proofs.lemmas.List.Sums.{sum_by-cons, sum_by_more, sum_by_more_le}
@@ -25,8 +24,8 @@ past_room values i room left x lt is so_far past =
 pub value_at : (values : List (Bor Value)) (i : ℕ) (x : Bor Value) (d : Value) → i < length values → x ≡ get_or values i x → get_or (row_in values) i d ≡ x.now
 value_at values i x d lt is = get_or-map (λ (v : Bor Value). v.now) values i x d lt ∙ ap (λ (v : Bor Value). v.now) (sym is)
 
-pub row_at : (rows : List (Vec (Bor Value) Global)) (i : ℕ) (x : Vec (Bor Value) Global) (d : Row) → i < length rows → x ≡ get_or rows i x → get_or (rows_in rows) i d ≡ row_in x.items
-row_at rows i x d lt is = get_or-map (λ (r : Vec (Bor Value) Global). row_in r.items) rows i x d lt ∙ ap (λ (r : Vec (Bor Value) Global). row_in r.items) (sym is)
+pub row_at : (rows : List (Bor (List (Bor Value)))) (i : ℕ) (x : Bor (List (Bor Value))) (d : Row) → i < length rows → x ≡ get_or rows i x → get_or (rows_in rows) i d ≡ row_in x.now
+row_at rows i x d lt is = get_or-map (λ (r : Bor (List (Bor Value))). row_in r.now) rows i x d lt ∙ ap (λ (r : Bor (List (Bor Value))). row_in r.now) (sym is)
 
 -- one value more
 pub size_more : (values : List (Bor Value)) (i : ℕ) (x : Bor Value) → i < length values → x ≡ get_or values i x →
@@ -35,11 +34,3 @@ size_more values i x lt is =
     let lt' : i < length (row_in values) = omega (arith, lt, length-map values (λ (v : Bor Value). v.now)) in
     let more = sum_by_more (λ v. 1 + bin_len v) (row_in values) i x.now lt' in
     omega (arith, more, ap bin_len (value_at values i x x.now lt is), row_size-is (take i (row_in values)), row_size-is (take (i + 1) (row_in values)))
-
--- the rows so far and one more
-pub sum_more : (rows : List (Vec (Bor Value) Global)) (i : ℕ) (x : Vec (Bor Value) Global) → i < length rows → x ≡ get_or rows i x →
-    sum_by row_size (take (i + 1) (rows_in rows)) ≡ sum_by row_size (take i (rows_in rows)) + row_size (row_in x.items)
-sum_more rows i x lt is =
-    let lt' : i < length (rows_in rows) = omega (arith, lt, length-map rows (λ (r : Vec (Bor Value) Global). row_in r.items)) in
-    let more = sum_by_more row_size (rows_in rows) i [] lt' in
-    omega (arith, more, ap row_size (row_at rows i x [] lt is))

@@ -7,6 +7,7 @@ pub mod ValueTypes
 pub mod Causes
 pub mod Seen
 pub mod TypedRequests
+pub mod RowSizes
 pub mod KindLaws
 pub mod InForce
 pub mod FlatRows

@@ -1,7 +1,6 @@
 -- Rows, without where they lie in memory.
 use Rattle.std.specs.Borrow.{Bor}
-use Rattle.std.specs.Prelude.{List, map, Vec}
-use Rattle.std.specs.declared.alloc.Global.{Global}
+use Rattle.std.specs.Prelude.{List, map}
 use Rattle.mysql_cells.specs.declared.value.Value.{Value}
 use Rattle.mysql_bulk_builder.specs.Cut.{Row}
 
@@ -10,5 +9,5 @@ abbrev pub row_in : List (Bor Value) → Row
 row_in values = map (λ value. value.now) values
 
 -- the values of each row
-abbrev pub rows_in : List (Vec (Bor Value) Global) → List Row
-rows_in rows = map (λ row. row_in row.items) rows
+abbrev pub rows_in : List (Bor (List (Bor Value))) → List Row
+rows_in rows = map (λ row. row_in row.now) rows

@@ -1,12 +1,12 @@
 //! Values of different kinds in one column.
 
-ghost use Rattle.std.specs.Prelude.{◌≡◌, ◌||◌, All, IfOk, List, length, not, vec_len};
+ghost use Rattle.std.specs.Prelude.{◌≡◌, ◌||◌, ◌++◌, All, IfOk, List, None, [], ◌∷◌, length, not};
 ghost use Rattle.mysql_bulk_builder.specs.Causes.{is_of_other_kind, mixed_kinds, place_where};
 ghost use Rattle.mysql_bulk_builder.specs.Cut.{Row};
 ghost use Rattle.mysql_bulk_builder.specs.RowLists.{row_in, rows_in};
 ghost use Rattle.mysql_bulk_builder.specs.ValueTypes.{first_values, is_null, same_kind, sent_type};
 
-use crate::first_values::{no_first_values, put_first_values};
+use crate::first_values::no_first_values;
 use crate::row_size::is_null;
 use mysql_cells::Value;
 use std::alloc::{AllocError, Global};
@@ -29,16 +29,24 @@ fn same_kind(a: &Value, b: &Value) -> bool
 fn is_other(first: &Value, value: &Value) -> bool
     ensures { result ≡ not (is_null value.now || is_null first.now || same_kind first.now value.now) }
 {
-    !(is_null(value) || is_null(first) || same_kind(first, value))
+    match (first, value) {
+        // the kinds that most columns have
+        (Value::Int(_), Value::Int(_)) | (Value::Bytes(_), Value::Bytes(_)) => false,
+        _ => !(is_null(value) || is_null(first) || same_kind(first, value)),
+    }
 }
 
-/// The least place of a value of another kind than the first one of its column.
-fn place_of_other(firsts: &[&Value], row: &[&Value]) -> Option<usize>
-    requires { length row.now ≡ length firsts.now }
-    ensures { (before : List Row) → row_in firsts.now ≡ first_values (length firsts.now) before → result ≡ place_where (is_of_other_kind before) (row_in row.now) }
+/// The least place of a value of another kind than the first one of its column. Where there is none, each NULL among the first
+/// values has given way to the row's value.
+fn place_of_other<'a>(firsts: &mut [&'a Value], row: &[&'a Value]) -> Option<usize>
+    requires { length row.now ≡ length firsts.old }
+    ensures place { (before : List Row) → row_in firsts.old ≡ first_values (length firsts.old) before → result ≡ place_where (is_of_other_kind before) (row_in row.now) }
+    ensures firsts { result ≡ None → (before : List Row) → row_in firsts.old ≡ first_values (length firsts.old) before → row_in firsts.new ≡ first_values (length firsts.old) (before ++ row_in row.now ∷ []) }
 {
     for (i, value) in row.iter().enumerate() {
-        if is_other(firsts[i], *value) {
+        if is_null(firsts[i]) {
+            firsts[i] = *value;
+        } else if is_other(firsts[i], *value) {
             return Some(i);
         }
     }
@@ -48,19 +56,18 @@ fn place_of_other(firsts: &[&Value], row: &[&Value]) -> Option<usize>
 /// The least row, and in it the least place, with a value of another kind than the earlier ones of its column.
 pub fn mixed_kinds(
     alloc: Global,
-    rows: &[Vec<&Value>],
+    rows: &[&[&Value]],
     columns: usize,
 ) -> Result<Option<(usize, usize)>, AllocError>
-    requires { All (λ row. vec_len row ≡ columns) rows.now }
+    requires { All (λ row. length row.now ≡ columns) rows.now }
     ensures { IfOk result (λ found. found ≡ mixed_kinds (rows_in rows.now)) }
 {
     let null = Value::NULL;
     let mut firsts = no_first_values(alloc, &null, columns)?;
     for (set, row) in rows.iter().enumerate() {
-        if let Some(place) = place_of_other(&firsts, row) {
+        if let Some(place) = place_of_other(&mut firsts, *row) {
             return Ok(Some((set, place)));
         }
-        put_first_values(&mut firsts, row);
     }
     Ok(None)
 }

@@ -1,8 +1,7 @@
 -- What the bytes of a bulk request are made of.
-use Rattle.std.proofs.Common.{◌≡◌, ℕ, ◌≤◌, Bool, true, false, List, [], ◌∷◌, ◌++◌, length, map, take, Result, Ok, Err, refl, sym, ◌∙◌, ap, append_assoc, Bor, Vec}
+use Rattle.std.proofs.Common.{◌≡◌, ℕ, ◌≤◌, Bool, true, false, List, [], ◌∷◌, ◌++◌, length, map, take, Result, Ok, Err, refl, sym, ◌∙◌, ap, append_assoc, Bor}
 use Rattle.std.specs.Prelude.{OnOk}
 use Rattle.std.specs.List.{flat_map}
-use Rattle.std.specs.declared.alloc.Global.{Global}
 use Rattle.std.proofs.lemmas.List.{append-nil, map-append, take_all}
 use Rattle.std.proofs.lemmas.List.Folds.{flat_map-map}
 use Rattle.std.proofs.lemmas.Grind.{flat_map-append}
@@ -24,8 +23,8 @@ pub over_refs : (f : Value → List ℕ) (values : List (Bor Value)) (old new : 
 over_refs f values old new put = put ∙ ap (λ l. old ++ l) (sym (flat_map-map f (λ (value : Bor Value). value.now) values))
 
 -- the same of rows
-pub over_rows : (f : Row → List ℕ) (rows : List (Vec (Bor Value) Global)) (old new : List ℕ) → new ≡ old ++ flat_map (λ row. f (row_in row.items)) rows → new ≡ old ++ flat_map f (rows_in rows)
-over_rows f rows old new put = put ∙ ap (λ l. old ++ l) (sym (flat_map-map f (λ (row : Vec (Bor Value) Global). row_in row.items) rows))
+pub over_rows : (f : Row → List ℕ) (rows : List (Bor (List (Bor Value)))) (old new : List ℕ) → new ≡ old ++ flat_map (λ row. f (row_in row.now)) rows → new ≡ old ++ flat_map f (rows_in rows)
+over_rows f rows old new put = put ∙ ap (λ l. old ++ l) (sym (flat_map-map f (λ (row : Bor (List (Bor Value))). row_in row.now) rows))
 
 -- the bytes of rows one after another
 all_bytes : (rows : List Row) → flat_map param_value_bytes (map param_value_of (all_values rows)) ≡ flat_map row_bytes rows

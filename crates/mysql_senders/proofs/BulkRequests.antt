@@ -1,11 +1,10 @@
 -- The requests of sets by bulk, part by part, and behind their prepare.
-use Rattle.std.proofs.Common.{◌≡◌, ◌≢◌, ℕ, ◌+◌, ◌-◌, ◌≤◌, ◌==◌, inl, inr, Bool, true, false, List, [], ◌∷◌, ◌++◌, length, map, take, drop, Option, Some, None, Ok, refl, sym, ◌∙◌, ap, subst, arith, append_assoc, Bor, Vec}
+use Rattle.std.proofs.Common.{◌≡◌, ◌≢◌, ℕ, ◌+◌, ◌-◌, ◌≤◌, ◌==◌, inl, inr, Bool, true, false, List, [], ◌∷◌, ◌++◌, length, map, take, drop, Option, Some, None, Ok, refl, sym, ◌∙◌, ap, subst, arith, append_assoc, Bor}
 use Rattle.std.specs.Prelude.{nat_lt, sum_by}
 use Rattle.std.specs.List.{range_with_len}
 use Rattle.std.specs.Option.{option_or}
-use Rattle.std.specs.declared.alloc.Global.{Global}
 use Rattle.std.proofs.lemmas.Bool.{le-ltb, ne_eqb}
-use Rattle.std.proofs.lemmas.List.{drop-map, take-append-le, take-map}
+use Rattle.std.proofs.lemmas.List.{drop-map, drop-take, take-append-drop, take-append-le, take-map, take-take}
 use Rattle.std.proofs.lemmas.List.Sums.{sum_by-cons}
 use Rattle.std.proofs.lemmas.Simd.{map-map}
 use Rattle.mysql_wire.specs.Framing.{framing}
@@ -43,13 +42,20 @@ types_are true columns rows = map-map (λ value. type_of_value value) (λ column
 types_are false columns rows = refl
 
 -- the rows of a part
-rows_are : (rows : List (Vec (Bor Value) Global)) (start count n : ℕ) → n ≡ count → rows_in (take n (drop start rows)) ≡ rows_of (rows_in rows) start count
+rows_are : (rows : List (Bor (List (Bor Value)))) (start count n : ℕ) → n ≡ count → rows_in (take n (drop start rows)) ≡ rows_of (rows_in rows) start count
 rows_are rows start count n is =
-    ap (λ k. rows_in (take k (drop start rows))) is ∙ sym (take-map (λ (row : Vec (Bor Value) Global). row_in row.items) count (drop start rows))
-    ∙ ap (λ l. take count l) (sym (drop-map (λ (row : Vec (Bor Value) Global). row_in row.items) start rows))
+    ap (λ k. rows_in (take k (drop start rows))) is ∙ sym (take-map (λ (row : Bor (List (Bor Value))). row_in row.now) count (drop start rows))
+    ∙ ap (λ l. take count l) (sym (drop-map (λ (row : Bor (List (Bor Value))). row_in row.now) start rows))
+
+-- the rows before a part and those of the part
+pub rows_up_to : (rows : List (Bor (List (Bor Value)))) (start count n : ℕ) → n ≡ count → take start (rows_in rows) ++ rows_in (take n (drop start rows)) ≡ take (start + count) (rows_in rows)
+rows_up_to rows start count n is =
+    let all = take (start + count) (rows_in rows) in
+    ap (λ (l : List Row). take start (rows_in rows) ++ l) (rows_are rows start count n is ∙ sym (drop-take start count (rows_in rows)))
+    ∙ ap (λ (l : List Row). l ++ drop start all) (sym (take-take start (start + count) (rows_in rows) (omega arith))) ∙ take-append-drop start all
 
 -- the request that was written is that of the part
-part_request : (id columns : ℕ) (rows : List (Vec (Bor Value) Global)) (start n : ℕ) (part : BulkPart) (firsts : List (Bor Value)) → row_in firsts ≡ first_values columns (take (start + part.count) (rows_in rows)) → n ≡ part.count →
+part_request : (id columns : ℕ) (rows : List (Bor (List (Bor Value)))) (start n : ℕ) (part : BulkPart) (firsts : List (Bor Value)) → row_in firsts ≡ first_values columns (take (start + part.count) (rows_in rows)) → n ≡ part.count →
     bulk_command id (request_flags (typing_of part.typed)) (types_by part.typed (row_in firsts)) (rows_in (take n (drop start rows))) ≡ bulk_request id columns (rows_in rows) start (view_part part)
 part_request id columns rows start n part firsts are is =
     ap (λ l. bulk_command id (request_flags (typing_of part.typed)) (types_by part.typed l) (rows_in (take n (drop start rows)))) are
@@ -57,7 +63,7 @@ part_request id columns rows start n part firsts are is =
     ∙ ap (λ l. bulk_command id (request_flags (typing_of part.typed)) (request_types (typing_of part.typed) columns (take (start + part.count) (rows_in rows))) l) (rows_are rows start part.count n is)
 
 -- and so is the command that was written, in a buffer that had been cleared
-pub part_command : (id columns : ℕ) (rows : List (Vec (Bor Value) Global)) (start n : ℕ) (part : BulkPart) (firsts : List (Bor Value)) (cleared command : List ℕ) → row_in firsts ≡ first_values columns (take (start + part.count) (rows_in rows)) → n ≡ part.count →
+pub part_command : (id columns : ℕ) (rows : List (Bor (List (Bor Value)))) (start n : ℕ) (part : BulkPart) (firsts : List (Bor Value)) (cleared command : List ℕ) → row_in firsts ≡ first_values columns (take (start + part.count) (rows_in rows)) → n ≡ part.count →
     cleared ≡ [] → command ≡ cleared ++ bulk_command id (request_flags (typing_of part.typed)) (types_by part.typed (row_in firsts)) (rows_in (take n (drop start rows))) → command ≡ bulk_request id columns (rows_in rows) start (view_part part)
 part_command id columns rows start n part firsts cleared command are is none put =
     put ∙ ap (λ l. l ++ bulk_command id (request_flags (typing_of part.typed)) (types_by part.typed (row_in firsts)) (rows_in (take n (drop start rows)))) none ∙ part_request id columns rows start n part firsts are is

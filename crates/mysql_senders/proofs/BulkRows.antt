@@ -1,11 +1,14 @@
 -- Sets as rows, one after another.
-use Rattle.std.proofs.Common.{◌≡◌, ℕ, ◌+◌, ◌≤◌, ◌==◌, ◌⊎◌, inl, inr, Bool, true, false, List, [], ◌∷◌, ◌++◌, length, map, drop, Option, Some, None, Result, Ok, Err, refl, sym, ◌∙◌, ap, arith, append_assoc}
+use Rattle.std.proofs.Common.{◌≡◌, ℕ, ◌+◌, ◌-◌, ◌<◌, ◌≤◌, take, subst, Bor, ◌==◌, ◌⊎◌, inl, inr, Bool, true, false, List, [], ◌∷◌, ◌++◌, length, map, drop, Option, Some, None, Result, Ok, Err, refl, sym, ◌∙◌, ap, arith, append_assoc}
 use Rattle.std.specs.Prelude.{if◌then◌else◌, nat_lt}
 use Rattle.std.specs.List.{AllByRecursion}
 use Rattle.std.specs.Result.{result_map_both}
 use Rattle.std.specs.Option.{option_or, option_map}
 use Rattle.std.proofs.lemmas.Bool.{eqb-true, le-ltb}
-use Rattle.std.proofs.lemmas.List.{append-nil, drop_all, map-append}
+use Rattle.std.proofs.lemmas.List.{append-nil, drop-drop, drop-map, drop_all, drop_at, length-append, length-drop, length-map, map-append, take-map, take_at}
+use Rattle.std.proofs.lemmas.Grind.{flat_map-append}
+use Rattle.mysql_bulk.specs.Bulk.{all_values}
+use Rattle.mysql_bulk_builder.specs.RowLists.{row_in, rows_in}
 use Rattle.mysql_values.specs.AsSql.{FitsFields}
 use Rattle.mysql_values.specs.Binding.{first_float, values_cause}
 use Rattle.mysql_values.specs.declared.params.Params.{Params}
@@ -21,7 +24,7 @@ use Rattle.mysql_streams.specs.declared.refusal.Refusal.TheVariants as refusals
 use Rattle.mysql_streams.specs.Sets.{Given, given_by, given_up_to}
 use Rattle.mysql_streams.specs.Cause.{Limits, cause_if, first_of_sets, set_cause}
 use Rattle.mysql_senders.specs.OneSet.{RefusesSet, RefusesSets, behind, refusal_of}
-use Rattle.mysql_senders.specs.BulkSets.{GivesRow, GivesRows, no_command}
+use Rattle.mysql_senders.specs.BulkSets.{AreRows, GivesRow, GivesRows, no_command}
 use Rattle.mysql_senders.proofs.Contents.{gives_values, given_is}
 
 -- the numbers of the values fit their fields
@@ -142,3 +145,46 @@ module _ (names : List (List ℕ)) (limits : Limits) (sets : List Params) (rows 
     pub stopped_behind : (stop : Option SetError) (e : SetError) (refusal : Refusal) (n : ℕ) → stop ≡ Some e → n ≡ i → refusal ≡ refusals.Params n e → RefusesSets no_command limits (given_up_to sets stop names) refusal
     stopped_behind stop e refusal n stops same is =
         inr (ap (λ o. first_of_sets (set_cause no_command limits) 0 (given_up_to sets o names)) stops ∙ cause_behind (Err e ∷ []) ∙ ap (λ k. Some (refusals.Params k e)) (sym same) ∙ ap (λ r. Some r) (sym is))
+
+-- ---- values as rows
+
+-- the values of a row behind those of others
+pub row_behind : (columns : ℕ) (values new : List Value) (rows : List Row) (row : Row) → AreRows columns values rows → length row ≡ columns → new ≡ values ++ row → AreRows columns new (rows ++ row ∷ [])
+row_behind columns values new rows row are wide put = record {
+  values_are = put ∙ ap (λ l. l ++ row) are.values_are ∙ ap (λ l. all_values rows ++ l) (sym (append-nil row)) ∙ sym (flat_map-append (λ (r : Row). r) rows (row ∷ []));
+  wide = all_push (λ (r : Row). length r ≡ columns) rows row are.wide wide;
+}
+
+-- values that are too few for a row are those of no rows
+pub none_behind : (columns : ℕ) (values : List Value) (left : List Row) → length values < columns → AreRows columns values left → left ≡ []
+none_behind columns values [] few are = refl
+none_behind columns values (row ∷ later) few are =
+    absurd (omega (arith, few, ap length are.values_are, length-append row (all_values later), are.wide.0))
+
+-- the first of the rows that are left
+next_row : (columns : ℕ) (values : List Value) (left : List Row) → 0 < columns → columns ≤ length values → AreRows columns values left → (later : List Row) × (left ≡ take columns values ∷ later) × AreRows columns (drop columns values) later
+next_row columns values [] some enough are = absurd (omega (arith, some, enough, ap length are.values_are))
+next_row columns values (row ∷ later) some enough are = (
+  later,
+  ap (λ r. r ∷ later) (sym (ap (λ l. take columns l) are.values_are ∙ take_at row (all_values later) columns are.wide.0)),
+  record {
+    values_are = ap (λ l. drop columns l) are.values_are ∙ drop_at row (all_values later) columns are.wide.0;
+    wide = are.wide.1;
+  },
+)
+
+-- one more row is lent
+pub lent_more : (columns start n : ℕ) (values : List (Bor Value)) (lent new : List (Bor (List (Bor Value)))) (row : Bor (List (Bor Value))) (rows left : List Row) → 0 < columns → columns ≤ length values - start → n ≡ columns →
+    new ≡ lent ++ row ∷ [] → row.now ≡ take n (drop start values) → rows_in lent ++ left ≡ rows → AreRows columns (row_in (drop start values)) left →
+    (later : List Row) × (rows_in new ++ later ≡ rows) × AreRows columns (row_in (drop (start + columns) values)) later
+lent_more columns start n values lent new row rows left some enough cut put is before are =
+    let long : columns ≤ length (row_in (drop start values)) = omega (arith, enough, length-map (drop start values) (λ (value : Bor Value). value.now), length-drop start values) in
+    let next = next_row columns (row_in (drop start values)) left some long are in
+    let this : row_in row.now ≡ take columns (row_in (drop start values)) = ap (λ l. row_in l) is ∙ ap (λ k. row_in (take k (drop start values))) cut ∙ sym (take-map (λ (value : Bor Value). value.now) columns (drop start values)) in
+    let behind : drop columns (row_in (drop start values)) ≡ row_in (drop (start + columns) values) =
+    drop-map (λ (value : Bor Value). value.now) columns (drop start values) ∙ ap (λ l. row_in l) (drop-drop columns start values) in (
+      next.0,
+      ap (λ l. rows_in l ++ next.0) put ∙ ap (λ l. l ++ next.0) (map-append (λ (r : Bor (List (Bor Value))). row_in r.now) lent (row ∷ []))
+          ∙ append_assoc (rows_in lent) (row_in row.now ∷ []) next.0 ∙ ap (λ r. rows_in lent ++ r ∷ next.0) this ∙ ap (λ l. rows_in lent ++ l) (sym next.1) ∙ before,
+      subst (λ l. AreRows columns l next.0) behind next.2,
+    )

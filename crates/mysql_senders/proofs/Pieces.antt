@@ -1,12 +1,14 @@
 -- The byte strings of a set as long data, and the size by which it is refused.
-use Rattle.std.proofs.Common.{◌≡◌, ℕ, ◌+◌, ◌<◌, ◌≤◌, ◌==◌, nat_lt, Bool, true, false, List, [], ◌∷◌, ◌++◌, length, map, take, drop, get_or, refl, sym, ◌∙◌, ap, arith, append_assoc, Bor, if◌then◌else◌}
-use Rattle.std.proofs.lemmas.Bool.{eqb-false}
+use Rattle.std.proofs.Common.{◌≡◌, ℕ, ◌+◌, ◌/◌, ◌<◌, ◌≤◌, ◌==◌, nat_lt, Bool, true, false, List, [], ◌∷◌, ◌++◌, length, map, take, drop, get_or, Option, Some, None, refl, sym, ◌∙◌, ap, inl, inr, arith, append_assoc, Bor, if◌then◌else◌}
+use Rattle.std.specs.Prelude.{IfSome, SomeIff, is_none}
+use Rattle.std.proofs.lemmas.Bool.{cases_lt, eqb-false, le-ltb, lt-ltb}
 use Rattle.std.proofs.lemmas.List.{append-nil, drop_all, take-append-le, take-take, take_all}
-use Rattle.mysql_wire.specs.Framing.{framing}
+use Rattle.byteorder.specs.Endian.{little_bytes}
+use Rattle.mysql_wire.specs.Framing.{chunk, chunks, framing}
 use Rattle.mysql_wire.specs.Stream.{framings}
 use Rattle.mysql_wire.specs.Stream.Numbering.{EachFromZero}
 use Rattle.mysql_values.specs.Value.{Value}
-use Rattle.mysql_stmt.specs.Executions.{Execution, execute_command, execution, execution_of, needs_long_data, whole_size}
+use Rattle.mysql_stmt.specs.Executions.{execute_command, needs_long_data, whole_size}
 use Rattle.mysql_stmt.specs.Statements.{ExecutionsHaveSizes}
 use Rattle.mysql_streams.specs.Commands.{piece_of, pieces_from}
 use Rattle.mysql_senders.specs.OneSet.{execution_payloads, whole_execution}
@@ -78,21 +80,49 @@ pub kept_on : (old mid new : List ℕ) → take (length old) mid ≡ old → tak
 kept_on old mid new first second =
     sym (take-take (length old) (length mid) new (front_length old mid first)) ∙ ap (λ l. take (length old) l) second ∙ first
 
--- the size of an execution without values
-pub size_of_none : ExecutionsHaveSizes → (values : List (Bor Value)) (room : ℕ) → length values ≡ 0 → (id : ℕ) → nat_lt room (length (whole_execution id (referred values))) ≡ nat_lt room 10
-size_of_none sizes [] room none id = ap (λ n. nat_lt room n) (sizes.0 id)
-size_of_none sizes (value ∷ values) room none id = absurd (omega (arith, none))
-
--- the size of one that has values
-pub size_of_some : ExecutionsHaveSizes → (values : List (Bor Value)) (room : ℕ) → 0 < length values → (id : ℕ) → nat_lt room (length (whole_execution id (referred values))) ≡ nat_lt room (whole_size (referred values))
-size_of_some sizes [] room some id = absurd (omega (arith, some))
-size_of_some sizes (value ∷ values) room some id = ap (λ n. nat_lt room n) (sizes.1 id value.now (referred values))
-
 -- values that are not empty are some
 pub not_empty : (values : List (Bor Value)) (empty : Bool) → empty ≡ (length values == 0) → empty ≡ false → 0 < length values
 not_empty [] empty is some = absurd (eqb-false 0 0 (sym is ∙ some) refl)
 not_empty (value ∷ values) empty is some = omega arith
 
--- the execution that was built for these values, of the statement with this id
-pub built : (view : Execution) (id stmt_id : ℕ) (values : List Value) → stmt_id ≡ id → view ≡ execution_of stmt_id values (needs_long_data values) → execution view ≡ execute_command id values (needs_long_data values)
-built view id stmt_id values same is = ap (λ e. execution e) is ∙ ap (λ n. execute_command n values (needs_long_data values)) same
+-- by its size an execution is sent whole or apart
+pub long_by_size : ExecutionsHaveSizes → (id size : ℕ) (values : List (Bor Value)) → length (whole_execution id (referred values)) ≡ size → needs_long_data (referred values) ≡ nat_lt 16777215 size
+long_by_size sizes id size [] is = ap (λ n. nat_lt 16777215 n) (sym (sizes.0 id) ∙ is)
+long_by_size sizes id size (value ∷ values) is = ap (λ n. nat_lt 16777215 n) (sym (sizes.1 id value.now (referred values)) ∙ is)
+
+-- a payload that one chunk holds
+short_framing : (payload : List ℕ) → length payload < 16777215 → little_bytes 3 (length payload) ++ (0 ∷ payload) ≡ framing payload 0
+unfolding framing chunks
+short_framing payload short =
+    let none : length payload / 16777215 ≡ 0 = omega (arith, short) in
+    let whole : take 16777215 payload ≡ payload = take_all 16777215 payload (omega (arith, short)) in
+    sym (ap (λ n. chunks payload 0 (n + 1)) none ∙ append-nil (chunk 0 (take 16777215 payload)) ∙ ap (λ l. chunk 0 l) whole)
+
+-- an execution that one packet holds, behind its header
+pub sent_short : ExecutionsHaveSizes → (id size : ℕ) (values : List (Bor Value)) (old mid new header : List ℕ) → length (whole_execution id (referred values)) ≡ size → size < 16777215
+    → header ≡ little_bytes 3 size ++ 0 ∷ [] → mid ≡ old ++ header → new ≡ mid ++ whole_execution id (referred values) → new ≡ old ++ framings (execution_payloads id (referred values)) EachFromZero
+sent_short sizes id size values old mid new header is short made put behind =
+    let whole : List ℕ = whole_execution id (referred values) in
+    let none : needs_long_data (referred values) ≡ false = long_by_size sizes id size values is ∙ le-ltb 16777215 size (omega (arith, short)) in
+    sent_whole id (referred values) old old new (sym none) refl
+    (behind ∙ ap (λ l. l ++ whole) (put ∙ ap (λ l. old ++ l) (made ∙ ap (λ n. little_bytes 3 n ++ 0 ∷ []) (sym is)))
+    ∙ append_assoc old (little_bytes 3 (length whole) ++ 0 ∷ []) whole
+    ∙ ap (λ l. old ++ l) (short_framing whole (omega (arith, is, short)))
+    ∙ ap (λ b. old ++ framing (execute_command id (referred values) b) 0) (sym none))
+
+-- the size of an execution that has values, where it is within the room
+pub size_of_some : ExecutionsHaveSizes → (values : List (Bor Value)) (room : ℕ) → 0 < length values → (within : Option ℕ) → SomeIff within (whole_size (referred values) ≤ room) (whole_size (referred values))
+    → IfSome within (λ size. (id : ℕ) → length (whole_execution id (referred values)) ≡ size)
+size_of_some sizes [] room some within is = absurd (omega (arith, some))
+size_of_some sizes (value ∷ values) room some None is = tt
+size_of_some sizes (value ∷ values) room some (Some size) is = λ id. sizes.1 id value.now (referred values) ∙ sym is.1
+
+-- whether it is too long
+exceeds : (size room : ℕ) (within : Option ℕ) → SomeIff within (size ≤ room) size → nat_lt room size ≡ is_none within
+exceeds size room None is = elim (cases_lt room size) [ inl more ↦ lt-ltb room size more | inr fits ↦ absurd (is fits) ]
+exceeds size room (Some found) is = le-ltb room size is.0
+
+pub too_long : ExecutionsHaveSizes → (values : List (Bor Value)) (room : ℕ) → 0 < length values → (within : Option ℕ) → SomeIff within (whole_size (referred values) ≤ room) (whole_size (referred values))
+    → (id : ℕ) → nat_lt room (length (whole_execution id (referred values))) ≡ is_none within
+too_long sizes [] room some within is id = absurd (omega (arith, some))
+too_long sizes (value ∷ values) room some within is id = ap (λ n. nat_lt room n) (sizes.1 id value.now (referred values)) ∙ exceeds (whole_size (referred (value ∷ values))) room within is

@@ -1,12 +1,12 @@
 -- Sets as rows of bulk requests: what the private steps of sending them promise.
 -- MariaDB: Client/Server Protocol, "COM_STMT_BULK_EXECUTE".
-use Rattle.std.specs.Prelude.{◌≡◌, ◌⊎◌, ℕ, Bool, true, false, List, [], ◌++◌, map, Some, None, Ok}
+use Rattle.std.specs.Prelude.{◌≡◌, ◌⊎◌, ℕ, Bool, true, false, List, [], ◌++◌, map, Some, None, Ok, length}
 use Rattle.std.specs.List.{AllByRecursion, flat_map}
 use Rattle.mysql_wire.specs.Stream.{framings}
 use Rattle.mysql_wire.specs.Stream.Numbering.{EachFromZero}
 use Rattle.mysql_values.specs.AsSql.{FitsFields}
 use Rattle.mysql_values.specs.Value.{Value}
-use Rattle.mysql_bulk.specs.Bulk.{param_type_bytes, param_value_bytes, param_value_of, type_of_value}
+use Rattle.mysql_bulk.specs.Bulk.{all_values, param_type_bytes, param_value_bytes, param_value_of, type_of_value}
 use Rattle.mysql_bulk.specs.declared.param_type.StmtBulkExecuteParamType.{StmtBulkExecuteParamType}
 use Rattle.mysql_bulk_builder.specs.Cut.{Row}
 use Rattle.mysql_bulk_builder.specs.TypedCut.{IsTightTyped, Part, placed_from}
@@ -15,6 +15,11 @@ use Rattle.mysql_streams.specs.declared.refusal.Refusal.TheVariants as refusals
 use Rattle.mysql_streams.specs.Commands.{bulk_request}
 use Rattle.mysql_streams.specs.Sets.{Given}
 use Rattle.mysql_streams.specs.Cause.{Limits, bulk_cause, first_of_sets, set_cause}
+
+-- values are those of rows of so many columns, one row after another
+pub record AreRows (columns : ℕ) (values : List Value) (rows : List Row) : Type 0 where
+  pub values_are : values ≡ all_values rows
+  pub wide : AllByRecursion (λ row. length row ≡ columns) rows
 
 -- sets share requests: no command carries one by itself
 abbrev pub no_command : List Value → List ℕ

@@ -45,11 +45,11 @@ fn put_row(row: &[&Value], command: &mut Vec<u8>) -> Result<(), AllocError>
 }
 
 /// Appends the values of all rows, one row after another.
-fn put_values(rows: &[Vec<&Value>], command: &mut Vec<u8>) -> Result<(), AllocError>
+fn put_values(rows: &[&[&Value]], command: &mut Vec<u8>) -> Result<(), AllocError>
     ensures { OnOk result (command.new.items ≡ command.old.items ++ flat_map row_bytes (rows_in rows.now)) }
 {
     for row in rows {
-        put_row(row, command)?;
+        put_row(*row, command)?;
     }
     Ok(())
 }
@@ -87,7 +87,7 @@ pub(crate) fn put_request(
     id: u32,
     typed: bool,
     firsts: &[&Value],
-    rows: &[Vec<&Value>],
+    rows: &[&[&Value]],
     command: &mut Vec<u8>,
 ) -> Result<(), AllocError>
     ensures { OnOk result (command.new.items ≡ command.old.items ++ bulk_command id (request_flags (typing_of typed)) (types_by typed (row_in firsts.now)) (rows_in rows.now)) }

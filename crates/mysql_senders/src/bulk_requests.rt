@@ -1,6 +1,6 @@
 //! Parameter sets as bulk requests.
 
-ghost use Rattle.std.specs.Prelude.{◌≡◌, ◌⊎◌, ◌+◌, ◌≤◌, ◌++◌, ℕ, All, IfErr, IfOk, None, OnErr, OnOk, Some, length, sum_by, take, vec_len};
+ghost use Rattle.std.specs.Prelude.{◌≡◌, ◌⊎◌, ◌+◌, ◌≤◌, ◌++◌, ℕ, All, IfErr, IfOk, None, OnErr, OnOk, Some, length, sum_by, take};
 ghost use Rattle.mysql_wire.specs.Framing.{framing};
 ghost use Rattle.mysql_wire.specs.Stream.{framings};
 ghost use Rattle.mysql_wire.specs.Stream.Numbering.{EachFromZero};
@@ -18,7 +18,7 @@ ghost use Rattle.mysql_streams.specs.declared.road.Road.TheVariants as roads;
 ghost use Rattle.mysql_senders.specs.BulkSets.{AppendsRequests, RefusesRows, requests_from};
 
 use crate::bulk_command::put_request;
-use crate::bulk_rows::rows_of_sets;
+use crate::bulk_rows::{lent_rows, values_of_sets};
 use crate::statement::{Statement, put_prepare, statement_of};
 use mysql_bulk_builder::{
     BulkCutError, BulkPart, bulk_cut, mixed_kinds, no_first_values, put_first_values,
@@ -29,8 +29,8 @@ use mysql_wire::packet_to_chunks;
 use std::alloc::{AllocError, Global};
 
 /// Refuses `MixedKinds`.
-fn check_kinds(alloc: Global, rows: &[Vec<&Value>], columns: usize) -> Result<(), Refusal>
-    requires { All (λ row. vec_len row ≡ columns) rows.now }
+fn check_kinds(alloc: Global, rows: &[&[&Value]], columns: usize) -> Result<(), Refusal>
+    requires { All (λ row. length row.now ≡ columns) rows.now }
     ensures ok { OnOk result (mixed_at (rows_in rows.now) ≡ None) }
     ensures err { IfErr result (λ refusal. (refusal ≡ refusals.Memory) ⊎ ((at : ℕ × ℕ) × (mixed_at (rows_in rows.now) ≡ Some at) × (refusal ≡ refusals.MixedKinds at.0 at.1))) }
 {
@@ -43,11 +43,11 @@ fn check_kinds(alloc: Global, rows: &[Vec<&Value>], columns: usize) -> Result<()
 /// The tight cut of the rows. Refuses `RowTooLarge`.
 fn cut_of(
     alloc: Global,
-    rows: &[Vec<&Value>],
+    rows: &[&[&Value]],
     columns: usize,
     room: usize,
 ) -> Result<Vec<BulkPart>, Refusal>
-    requires { All (λ row. vec_len row ≡ columns) rows.now }
+    requires { All (λ row. length row.now ≡ columns) rows.now }
     ensures tight { IfOk result (λ cut. IsTightTyped room columns (rows_in rows.now) (view_parts cut.items)) }
     ensures none { IfOk result (λ _. row_too_large room columns (rows_in rows.now) ≡ None) }
     ensures err { IfErr result (λ refusal. (refusal ≡ refusals.Memory) ⊎ ((set : ℕ) × (row_too_large room columns (rows_in rows.now) ≡ Some set) × (refusal ≡ refusals.RowTooLarge set))) }
@@ -59,29 +59,11 @@ fn cut_of(
     }
 }
 
-/// The columns' first values in the rows before `to`, of those in the rows before `from`.
-fn put_first_values_to<'a, 'b: 'a>(
-    firsts: &mut [&'a Value],
-    rows: &[Vec<&'b Value>],
-    from: usize,
-    to: usize,
-)
-    requires order { from ≤ to }
-    requires within { to ≤ length rows.now }
-    requires arity { All (λ row. vec_len row ≡ length firsts.old) rows.now }
-    requires firsts { row_in firsts.old ≡ first_values (length firsts.old) (take from (rows_in rows.now)) }
-    ensures { row_in firsts.new ≡ first_values (length firsts.old) (take to (rows_in rows.now)) }
-{
-    for k in from..to {
-        put_first_values(firsts, &rows[k]);
-    }
-}
-
 /// Appends the request of a part of the rows, framed. `firsts` are the columns' first values in the rows before the part, and
 /// then in those up to its end.
 fn put_part<'a, 'b: 'a>(
     id: u32,
-    rows: &[Vec<&'b Value>],
+    rows: &[&[&'b Value]],
     start: usize,
     part: BulkPart,
     firsts: &mut [&'a Value],
@@ -89,14 +71,14 @@ fn put_part<'a, 'b: 'a>(
     out: &mut Vec<u8>,
 ) -> Result<(), AllocError>
     requires within { start + part.count ≤ length rows.now }
-    requires arity { All (λ row. vec_len row ≡ length firsts.old) rows.now }
+    requires arity { All (λ row. length row.now ≡ length firsts.old) rows.now }
     requires firsts { row_in firsts.old ≡ first_values (length firsts.old) (take start (rows_in rows.now)) }
     ensures firsts { row_in firsts.new ≡ first_values (length firsts.old) (take (start + part.count) (rows_in rows.now)) }
     ensures ok { OnOk result (out.new.items ≡ out.old.items ++ framing (bulk_request id (length firsts.old) (rows_in rows.now) start (view_part part)) 0) }
     ensures kept { OnErr result (out.new.items ≡ out.old.items) }
 {
     let end = start + part.count;
-    put_first_values_to(firsts, rows, start, end);
+    put_first_values(firsts, &rows[start..end]);
     command.clear();
     put_request(id, part.typed, firsts, &rows[start..end], command)?;
     packet_to_chunks(0, command, out)?;
@@ -108,11 +90,11 @@ fn put_parts(
     alloc: Global,
     id: u32,
     columns: usize,
-    rows: &[Vec<&Value>],
+    rows: &[&[&Value]],
     cut: &[BulkPart],
     out: &mut Vec<u8>,
 ) -> Result<(), AllocError>
-    requires arity { All (λ row. vec_len row ≡ columns) rows.now }
+    requires arity { All (λ row. length row.now ≡ columns) rows.now }
     requires whole { sum_by (λ part. part.count) (view_parts cut.now) ≡ length rows.now }
     ensures ok { OnOk result (out.new.items ≡ out.old.items ++ framings (requests_from id columns (rows_in rows.now) 0 (view_parts cut.now)) EachFromZero) }
     ensures kept { take (length out.old.items) out.new.items ≡ out.old.items }
@@ -133,11 +115,11 @@ fn put_rows(
     alloc: Global,
     id: u32,
     columns: usize,
-    rows: &[Vec<&Value>],
+    rows: &[&[&Value]],
     room: usize,
     out: &mut Vec<u8>,
 ) -> Result<(), Refusal>
-    requires { All (λ row. vec_len row ≡ columns) rows.now }
+    requires { All (λ row. length row.now ≡ columns) rows.now }
     ensures ok { OnOk result (AppendsRequests id columns room (rows_in rows.now) out.old.items out.new.items) }
     ensures err { IfErr result (RefusesRows columns room (rows_in rows.now)) }
     ensures kept { take (length out.old.items) out.new.items ≡ out.old.items }
@@ -179,6 +161,7 @@ pub fn put_requests(
     if statement.places == 0 {
         return Err(Refusal::NoPlaces);
     }
-    let rows = rows_of_sets(alloc, &statement, sets, stop, limit - 4)?;
+    let values = values_of_sets(alloc, &statement, sets, stop, limit - 4)?;
+    let rows = lent_rows(alloc, &values, statement.places)?;
     put_rows(alloc, statement.id, statement.places, &rows, limit - 4, out)
 }

@@ -1,6 +1,8 @@
 //! Parameter sets as executions of a prepared statement.
 
-ghost use Rattle.std.specs.Prelude.{◌≡◌, ◌++◌, ◌≤◌, ℕ, IfErr, IfOk, None, Ok, OnErr, OnOk, Some, length, map, nat_lt, take};
+ghost use Rattle.std.specs.Prelude.{◌≡◌, ◌++◌, ◌∷◌, ◌<◌, ◌≤◌, ℕ, [], IfErr, IfOk, IfSome, None, Ok, OnErr, OnOk, Some, is_none, length, map, nat_lt, take};
+ghost use Rattle.byteorder.specs.Endian.{little_bytes};
+ghost use Rattle.mysql_stmt.specs.Executions.{execute_command};
 ghost use Rattle.mysql_wire.specs.Framing.{framing};
 ghost use Rattle.mysql_wire.specs.Stream.{framings};
 ghost use Rattle.mysql_wire.specs.Stream.Numbering.{EachFromZero};
@@ -13,11 +15,12 @@ ghost use Rattle.mysql_streams.specs.declared.refusal.Refusal.TheVariants as ref
 ghost use Rattle.mysql_streams.specs.declared.road.Road.TheVariants as roads;
 ghost use Rattle.mysql_senders.specs.OneSet.{AppendsExecution, AppendsExecutions, RefusesSet, RefusesSets, execution_payloads, whole_execution};
 
-use crate::set_values::{check_stop, check_values, values_fit, values_for};
+use crate::set_values::{check_stop, check_values, list_values_for, values_fit};
 use crate::statement::{Statement, put_prepare, statement_of};
+use mysql_const::MAX_PAYLOAD_LEN;
 use mysql_raw::MySerialize;
 use mysql_stmt::laws::executions_have_sizes;
-use mysql_stmt::{ComStmtExecuteRequestBuilder, ComStmtSendLongData};
+use mysql_stmt::{ComStmtSendLongData, put_execution, size_within};
 use mysql_streams::Refusal;
 use mysql_values::{Params, SetError, Value};
 use mysql_wire::packet_to_chunks;
@@ -79,90 +82,156 @@ fn put_pieces(
     Ok(())
 }
 
-/// Appends the execution of values, and before it, where it would be too long for one packet, their byte strings.
-fn put_execution(
-    alloc: Global,
+/// Appends an execution, which is made in a buffer of its own.
+fn put_buffered(
     id: u32,
-    values: Vec<&Value>,
+    values: &[&Value],
+    apart: bool,
     command: &mut Vec<u8>,
     out: &mut Vec<u8>,
 ) -> Result<(), Refusal>
-    requires { length values.items ≤ 65535 }
-    ensures ok { OnOk result (out.new.items ≡ out.old.items ++ framings (execution_payloads id (map (λ value. value.now) values.entry.items)) EachFromZero) }
+    requires { length values.now ≤ 65535 }
+    ensures ok { OnOk result (out.new.items ≡ out.old.items ++ framing (execute_command id (map (λ value. value.now) values.now) apart) 0) }
+    ensures err { IfErr result (λ refusal. refusal ≡ refusals.Memory) }
+    ensures kept { OnErr result (out.new.items ≡ out.old.items) }
+{
+    command.clear();
+    put_execution(id, values, apart, command)?;
+    packet_to_chunks(0, command, out)?;
+    Ok(())
+}
+
+/// Appends an execution of so many bytes, and before it, where it would be too long for one packet, its byte strings.
+fn put_long(
+    id: u32,
+    values: &[&Value],
+    size: usize,
+    command: &mut Vec<u8>,
+    out: &mut Vec<u8>,
+) -> Result<(), Refusal>
+    requires count { length values.now ≤ 65535 }
+    requires size { length (whole_execution id (map (λ value. value.now) values.now)) ≡ size }
+    ensures ok { OnOk result (out.new.items ≡ out.old.items ++ framings (execution_payloads id (map (λ value. value.now) values.now)) EachFromZero) }
     ensures err { IfErr result (λ refusal. refusal ≡ refusals.Memory) }
     ensures kept { take (length out.old.items) out.new.items ≡ out.old.items }
 {
-    let builder = ComStmtExecuteRequestBuilder::new(id);
-    let (request, apart) = builder.build_from_refs(alloc, values)?;
+    executions_have_sizes();
+    let apart = size > MAX_PAYLOAD_LEN;
     if apart {
-        put_pieces(id, request.params(), command, out)?;
+        put_pieces(id, values, command, out)?;
     }
-    put_payload(&request, command, out)
+    put_buffered(id, values, apart, command, out)
 }
 
-/// Whether an execution that holds all cells is longer than so many bytes.
-fn is_too_long(values: &[&Value], room: usize) -> bool
+/// The header of the only packet of a payload of so many bytes.
+fn packet_header(size: u32) -> [u8; 4]
+    requires { size < 16777216 }
+    ensures { result ≡ little_bytes 3 size ++ 0 ∷ [] }
+{
+    let [a, b, c, _] = size.to_le_bytes();
+    [a, b, c, 0]
+}
+
+/// Appends an execution of so many bytes that one packet holds it.
+fn put_short(id: u32, values: &[&Value], size: usize, out: &mut Vec<u8>) -> Result<(), Refusal>
+    requires count { length values.now ≤ 65535 }
+    requires size { length (whole_execution id (map (λ value. value.now) values.now)) ≡ size }
+    requires short { size < 16777215 }
+    ensures ok { OnOk result (out.new.items ≡ out.old.items ++ framings (execution_payloads id (map (λ value. value.now) values.now)) EachFromZero) }
+    ensures err { IfErr result (λ refusal. refusal ≡ refusals.Memory) }
+    ensures kept { take (length out.old.items) out.new.items ≡ out.old.items }
+{
+    executions_have_sizes();
+    out.extend_from_slice(&packet_header(size as u32))?;
+    put_execution(id, values, false, out)?;
+    Ok(())
+}
+
+/// Appends what is sent of an execution of so many bytes.
+fn put_sized(
+    id: u32,
+    values: &[&Value],
+    size: usize,
+    command: &mut Vec<u8>,
+    out: &mut Vec<u8>,
+) -> Result<(), Refusal>
+    requires count { length values.now ≤ 65535 }
+    requires size { length (whole_execution id (map (λ value. value.now) values.now)) ≡ size }
+    ensures ok { OnOk result (out.new.items ≡ out.old.items ++ framings (execution_payloads id (map (λ value. value.now) values.now)) EachFromZero) }
+    ensures err { IfErr result (λ refusal. refusal ≡ refusals.Memory) }
+    ensures kept { take (length out.old.items) out.new.items ≡ out.old.items }
+{
+    if size < MAX_PAYLOAD_LEN {
+        put_short(id, values, size, out)
+    } else {
+        put_long(id, values, size, command, out)
+    }
+}
+
+/// The bytes of an execution that holds all cells, where they are at most so many.
+fn size_in(values: &[&Value], room: usize) -> Option<usize>
     requires { length values.now ≤ 65535 }
-    ensures { (id : ℕ) → nat_lt room (length (whole_execution id (map (λ value. value.now) values.now))) ≡ result }
+    ensures some { IfSome result (λ size. (id : ℕ) → length (whole_execution id (map (λ value. value.now) values.now)) ≡ size) }
+    ensures none { (id : ℕ) → nat_lt room (length (whole_execution id (map (λ value. value.now) values.now))) ≡ is_none result }
 {
     executions_have_sizes();
     if values.is_empty() {
-        return room < 10;
+        return if room < 10 { None } else { Some(10) };
     }
-    ComStmtExecuteRequestBuilder::exceeds(values, room)
+    size_within(values, room)
 }
 
-/// Refuses `WrongCount`, then `Float`, then `PacketTooLarge`.
-fn check_set(values: &[&Value], places: usize, room: usize, set: usize) -> Result<(), Refusal>
+/// The bytes of a set's execution. Refuses `WrongCount`, then `Float`, then `PacketTooLarge`.
+fn checked_size(values: &[&Value], places: usize, room: usize, set: usize) -> Result<usize, Refusal>
     requires { places ≤ 65535 }
     ensures count { OnOk result (length values.now ≤ 65535) }
+    ensures size { IfOk result (λ size. (id : ℕ) → length (whole_execution id (map (λ value. value.now) values.now)) ≡ size) }
     ensures ok { OnOk result ((id : ℕ) → set_cause (whole_execution id) (record { places = places; bytes = room }) set (Ok (map (λ value. value.now) values.now)) ≡ None) }
     ensures err { IfErr result (λ refusal. (id : ℕ) → set_cause (whole_execution id) (record { places = places; bytes = room }) set (Ok (map (λ value. value.now) values.now)) ≡ Some refusal) }
 {
     check_values(values, places, set)?;
-    if is_too_long(values, room) {
-        return Err(Refusal::PacketTooLarge(set));
+    match size_in(values, room) {
+        Some(size) => Ok(size),
+        None => Err(Refusal::PacketTooLarge(set)),
     }
-    Ok(())
 }
 
 /// Appends the execution with these values.
 fn put_values(
-    alloc: Global,
     statement: &Statement<'_>,
     set: usize,
-    values: Vec<&Value>,
+    values: &[&Value],
     room: usize,
     command: &mut Vec<u8>,
     out: &mut Vec<u8>,
 ) -> Result<(), Refusal>
     requires { statement.now.places ≤ 65535 }
-    ensures ok { OnOk result (AppendsExecution statement.now.id (record { places = statement.now.places; bytes = room }) set (Ok (map (λ value. value.now) values.entry.items)) out.old.items out.new.items) }
-    ensures err { IfErr result (RefusesSet (whole_execution statement.now.id) (record { places = statement.now.places; bytes = room }) set (Ok (map (λ value. value.now) values.entry.items))) }
+    ensures ok { OnOk result (AppendsExecution statement.now.id (record { places = statement.now.places; bytes = room }) set (Ok (map (λ value. value.now) values.now)) out.old.items out.new.items) }
+    ensures err { IfErr result (RefusesSet (whole_execution statement.now.id) (record { places = statement.now.places; bytes = room }) set (Ok (map (λ value. value.now) values.now))) }
     ensures kept { take (length out.old.items) out.new.items ≡ out.old.items }
 {
-    check_set(&values, statement.places, room, set)?;
-    values_fit(&values);
-    put_execution(alloc, statement.id, values, command, out)
+    let size = checked_size(values, statement.places, room, set)?;
+    values_fit(values);
+    put_sized(statement.id, values, size, command, out)
 }
 
-/// Appends the execution of one set.
-fn put_set(
-    alloc: Global,
+/// Appends the execution of one set, whose values are listed in place of what the list holds.
+fn put_set<'a>(
     statement: &Statement<'_>,
     set: usize,
-    params: &Params,
+    params: &'a Params,
     room: usize,
+    values: &mut Vec<&'a Value>,
     command: &mut Vec<u8>,
     out: &mut Vec<u8>,
 ) -> Result<(), Refusal>
     requires { statement.now.places ≤ 65535 }
-    ensures ok { OnOk result (AppendsExecution statement.now.id (record { places = statement.now.places; bytes = room }) set (given_by statement.now.parsed.names params.now) out.old.items out.new.items) }
-    ensures err { IfErr result (RefusesSet (whole_execution statement.now.id) (record { places = statement.now.places; bytes = room }) set (given_by statement.now.parsed.names params.now)) }
+    ensures ok { OnOk result (AppendsExecution statement.now.id (record { places = statement.now.places; bytes = room }) set (given_by statement.now.parsed.names params.entry.now) out.old.items out.new.items) }
+    ensures err { IfErr result (RefusesSet (whole_execution statement.now.id) (record { places = statement.now.places; bytes = room }) set (given_by statement.now.parsed.names params.entry.now)) }
     ensures kept { take (length out.old.items) out.new.items ≡ out.old.items }
 {
-    let values = values_for(alloc, statement, set, params)?;
-    put_values(alloc, statement, set, values, room, command, out)
+    list_values_for(statement, set, params, values)?;
+    put_values(statement, set, values, room, command, out)
 }
 
 /// Appends the execution of each set, and refuses one behind them that gives no values.
@@ -179,37 +248,46 @@ fn put_sets(
     ensures err { IfErr result (RefusesSets (whole_execution statement.now.id) (record { places = statement.now.places; bytes = room }) (given_up_to sets.now stop statement.now.parsed.names)) }
     ensures kept { take (length out.old.items) out.new.items ≡ out.old.items }
 {
+    let mut values = Vec::new(alloc);
     let mut command = Vec::new(alloc);
     'sets: for (set, params) in sets.iter().enumerate() {
-        put_set(alloc, statement, set, params, room, &mut command, out)?;
+        put_set(statement, set, params, room, &mut values, &mut command, out)?;
     }
     check_stop(stop, sets.len())
 }
 
-/// References to values, in their order.
-fn references<'a>(alloc: Global, values: &'a [Value]) -> Result<Vec<&'a Value>, AllocError>
-    ensures { IfOk result (λ references. map (λ value. value.now) references.items ≡ values.entry.now) }
+/// Lists references to values, in their order, in place of what the list holds.
+fn list_references<'a>(
+    values: &'a [Value],
+    references: &mut Vec<&'a Value>,
+) -> Result<(), AllocError>
+    ensures { OnOk result (map (λ value. value.now) references.new.items ≡ values.entry.now) }
 {
-    values.iter().collect(alloc)
+    references.clear();
+    references.reserve(values.len())?;
+    for value in values {
+        references.push_reserved(value);
+    }
+    Ok(())
 }
 
-/// Appends the execution with a set's values.
-fn put_value_set(
-    alloc: Global,
+/// Appends the execution with a set's values, which are listed in place of what the list holds.
+fn put_value_set<'a>(
     statement: &Statement<'_>,
     set: usize,
-    values: &[Value],
+    values: &'a [Value],
     room: usize,
+    references: &mut Vec<&'a Value>,
     command: &mut Vec<u8>,
     out: &mut Vec<u8>,
 ) -> Result<(), Refusal>
     requires { statement.now.places ≤ 65535 }
-    ensures ok { OnOk result (AppendsExecution statement.now.id (record { places = statement.now.places; bytes = room }) set (Ok values.now) out.old.items out.new.items) }
-    ensures err { IfErr result (RefusesSet (whole_execution statement.now.id) (record { places = statement.now.places; bytes = room }) set (Ok values.now)) }
+    ensures ok { OnOk result (AppendsExecution statement.now.id (record { places = statement.now.places; bytes = room }) set (Ok values.entry.now) out.old.items out.new.items) }
+    ensures err { IfErr result (RefusesSet (whole_execution statement.now.id) (record { places = statement.now.places; bytes = room }) set (Ok values.entry.now)) }
     ensures kept { take (length out.old.items) out.new.items ≡ out.old.items }
 {
-    let values = references(alloc, values)?;
-    put_values(alloc, statement, set, values, room, command, out)
+    list_references(values, references)?;
+    put_values(statement, set, references, room, command, out)
 }
 
 /// Appends the execution of each set of values.
@@ -225,9 +303,18 @@ fn put_value_sets(
     ensures err { IfErr result (RefusesSets (whole_execution statement.now.id) (record { places = statement.now.places; bytes = room }) (all_given_in_places (map (λ set. set.items) sets.now) statement.now.parsed.names)) }
     ensures kept { take (length out.old.items) out.new.items ≡ out.old.items }
 {
+    let mut references = Vec::new(alloc);
     let mut command = Vec::new(alloc);
     'sets: for (set, values) in sets.iter().enumerate() {
-        put_value_set(alloc, statement, set, values, room, &mut command, out)?;
+        put_value_set(
+            statement,
+            set,
+            values,
+            room,
+            &mut references,
+            &mut command,
+            out,
+        )?;
     }
     Ok(())
 }

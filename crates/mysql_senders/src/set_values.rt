@@ -50,6 +50,22 @@ fn refused(set: usize, error: ParamsError) -> Refusal
     }
 }
 
+/// Lists the values that a set gives the statement, in place of what the list holds.
+pub(crate) fn list_values_for<'a>(
+    statement: &Statement<'_>,
+    set: usize,
+    params: &'a Params,
+    values: &mut Vec<&'a Value>,
+) -> Result<(), Refusal>
+    ensures ok { OnOk result (values_over statement.now.parsed.names params.entry.now ≡ Ok (map (λ value. value.now) values.new.items)) }
+    ensures err { IfErr result (λ refusal. (refusal ≡ refusals.Memory) ⊎ ((e : ParamsErrorOf) × (values_over statement.now.parsed.names params.entry.now ≡ Err e) × (refusal ≡ refusal_of set e))) }
+{
+    match params.list_values_for(&statement.parsed, values) {
+        Ok(()) => Ok(()),
+        Err(error) => Err(refused(set, error)),
+    }
+}
+
 /// The values that a set gives the statement.
 pub(crate) fn values_for<'a>(
     alloc: Global,
@@ -60,10 +76,9 @@ pub(crate) fn values_for<'a>(
     ensures ok { IfOk result (λ values. values_over statement.now.parsed.names params.entry.now ≡ Ok (map (λ value. value.now) values.items)) }
     ensures err { IfErr result (λ refusal. (refusal ≡ refusals.Memory) ⊎ ((e : ParamsErrorOf) × (values_over statement.now.parsed.names params.entry.now ≡ Err e) × (refusal ≡ refusal_of set e))) }
 {
-    match params.values_for(alloc, &statement.parsed) {
-        Ok(values) => Ok(values),
-        Err(error) => Err(refused(set, error)),
-    }
+    let mut values = Vec::new(alloc);
+    list_values_for(statement, set, params, &mut values)?;
+    Ok(values)
 }
 
 /// Refuses `WrongCount`, then `Float`.

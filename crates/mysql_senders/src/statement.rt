@@ -2,8 +2,7 @@
 
 ghost use Rattle.std.specs.Prelude.{◌≡◌, ◌<◌, ◌≤◌, ◌++◌, ◌⊎◌, ℕ, IfErr, IfOk, List, OnErr, OnOk, false, length, true};
 ghost use Rattle.mysql_values.specs.Parsed.{HasNames};
-ghost use Rattle.mysql_values.specs.Queries.{HasMixed, IsParsed, places_from};
-ghost use Rattle.mysql_values.specs.Tokens.{HasTokens};
+ghost use Rattle.mysql_values.specs.Queries.{HasMixed, HasPlaces, IsParsed};
 ghost use Rattle.mysql_wire.specs.Framing.{framing};
 ghost use Rattle.mysql_streams.specs.Commands.{prepare_command};
 ghost use Rattle.mysql_streams.specs.declared.refusal.Refusal.TheVariants as refusals;
@@ -12,7 +11,7 @@ ghost use Rattle.mysql_senders.specs.OneSet.{IsPreparable, RefusesStatement};
 use mysql_const::Command;
 use mysql_streams::Refusal;
 use mysql_values::laws::tokens_of_a_text;
-use mysql_values::{NamedParamsError, ParsedNamedParams, places};
+use mysql_values::{NamedParamsError, ParsedNamedParams, Place, places};
 use mysql_wire::packet_to_chunks;
 use std::alloc::{AllocError, Global};
 
@@ -24,28 +23,33 @@ pub(crate) struct Statement<'q> {
     pub(crate) id: u32,
 }
 
-/// The query parsed. Refuses `Mixed`.
-fn parsed<'q>(alloc: Global, query: &'q [u8]) -> Result<ParsedNamedParams<'q>, Refusal>
+/// The placeholders of a query.
+fn found_places(alloc: Global, query: &[u8]) -> Result<Vec<Place>, Refusal>
+    ensures ok { IfOk result (λ places. HasPlaces query.now places.items) }
+    ensures err { IfErr result (λ e. e ≡ refusals.Memory) }
+{
+    match places(alloc, query) {
+        Ok(places) => Ok(places),
+        Err(_) => Err(Refusal::Memory),
+    }
+}
+
+/// The query with these placeholders parsed. Refuses `Mixed`.
+fn parsed<'q>(
+    alloc: Global,
+    query: &'q [u8],
+    places: &[Place],
+) -> Result<ParsedNamedParams<'q>, Refusal>
+    requires { HasPlaces query.now places.now }
     ensures query { IfOk result (λ parsed. IsParsed query.entry.now parsed.query) }
     ensures names { IfOk result (λ parsed. HasNames query.entry.now parsed.names) }
     ensures one_kind { OnOk result (HasMixed query.entry.now false) }
     ensures mixed { IfErr result (λ e. (e ≡ refusals.Memory) ⊎ ((e ≡ refusals.Mixed) × HasMixed query.entry.now true)) }
 {
-    match ParsedNamedParams::parse(alloc, query) {
+    match ParsedNamedParams::parse_at(alloc, query, places) {
         Ok(parsed) => Ok(parsed),
         Err(NamedParamsError::Mixed(_)) => Err(Refusal::Mixed),
         Err(NamedParamsError::Memory) => Err(Refusal::Memory),
-    }
-}
-
-/// How many placeholders a query has.
-fn place_count(alloc: Global, query: &[u8]) -> Result<usize, Refusal>
-    ensures ok { IfOk result (λ count. (tokens : List (List ℕ)) × HasTokens query.now tokens × (count ≡ length (places_from query.now 0 tokens))) }
-    ensures err { IfErr result (λ e. e ≡ refusals.Memory) }
-{
-    match places(alloc, query) {
-        Ok(places) => Ok(places.len()),
-        Err(_) => Err(Refusal::Memory),
     }
 }
 
@@ -59,8 +63,9 @@ pub(crate) fn statement_of<'q>(
     ensures err { IfErr result (RefusesStatement query.entry.now) }
 {
     tokens_of_a_text();
-    let places = place_count(alloc, query)?;
-    let parsed = parsed(alloc, query)?;
+    let found = found_places(alloc, query)?;
+    let parsed = parsed(alloc, query, &found)?;
+    let places = found.len();
     if places > 65535 {
         return Err(Refusal::TooManyPlaces);
     }

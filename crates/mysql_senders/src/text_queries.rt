@@ -1,7 +1,9 @@
 //! Parameter sets as text queries.
 
-ghost use Rattle.std.specs.Prelude.{◌≡◌, ◌⊎◌, ◌≤◌, ℕ, IfErr, IfOk, List, None, OnErr, OnOk, Some, length, take};
-ghost use Rattle.mysql_values.specs.Queries.{HasPlaces, places_from};
+ghost use Rattle.std.specs.Cow.{cow_slice_items};
+ghost use Rattle.std.specs.Prelude.{◌≡◌, ◌⊎◌, ◌≤◌, ℕ, IfErr, IfOk, List, None, OnErr, OnOk, Some, false, length, map, take};
+ghost use Rattle.mysql_values.specs.Parsed.{names_at};
+ghost use Rattle.mysql_values.specs.Queries.{HasPlaces, first_not_alone as first_apart, is_mixed as has_both_kinds, places_from};
 ghost use Rattle.mysql_values.specs.Tokens.{HasTokens};
 ghost use Rattle.mysql_streams.specs.Cause.{places_cause};
 ghost use Rattle.mysql_senders.specs.OneSet.{AppendsQuery, RefusesQuery, refusal_by};
@@ -14,16 +16,18 @@ ghost use Rattle.mysql_streams.specs.declared.road.Road.TheVariants as roads;
 use crate::set_values::check_stop;
 use mysql_const::Command;
 use mysql_streams::Refusal;
+use mysql_values::bind::{bind_text_over, names_among};
 use mysql_values::laws::tokens_of_a_text;
-use mysql_values::{
-    BindError, Params, Place, SetError, bind_text_at, first_not_alone, is_mixed, places,
-};
+use mysql_values::{BindError, Params, Place, SetError, Value, first_not_alone, is_mixed, places};
 use mysql_wire::packet_to_chunks;
 use std::alloc::Global;
+use std::borrow::CowSlice;
 
 /// Whether a text query can carry literals in these placeholders.
 fn check_places(places: &[Place]) -> Result<(), Refusal>
     ensures ok { OnOk result (places_cause places.now ≡ None) }
+    ensures one_kind { OnOk result (has_both_kinds places.now ≡ false) }
+    ensures alone { OnOk result (first_apart places.now ≡ None) }
     ensures err { IfErr result (λ refusal. places_cause places.now ≡ Some refusal) }
 {
     if is_mixed(places) {
@@ -38,6 +42,8 @@ fn check_places(places: &[Place]) -> Result<(), Refusal>
 /// The placeholders of a query, where a text query can carry literals in them.
 fn checked_places(alloc: Global, query: &[u8]) -> Result<Vec<Place>, Refusal>
     ensures places { IfOk result (λ places. HasPlaces query.now places.items) }
+    ensures one_kind { IfOk result (λ places. has_both_kinds places.items ≡ false) }
+    ensures alone { IfOk result (λ places. first_apart places.items ≡ None) }
     ensures none { OnOk result ((tokens : List (List ℕ)) × HasTokens query.now tokens × (places_cause (places_from query.now 0 tokens) ≡ None)) }
     ensures err { IfErr result (λ refusal. (refusal ≡ refusals.Memory) ⊎ ((tokens : List (List ℕ)) × HasTokens query.now tokens × (places_cause (places_from query.now 0 tokens) ≡ Some refusal))) }
 {
@@ -62,26 +68,31 @@ fn refusal_of(set: usize, error: BindError) -> Refusal
     }
 }
 
-/// Appends the text query of one set.
-fn put_query(
-    alloc: Global,
+/// Appends the text query of one set, over what is found of the query once: its placeholders and the names among them. The lists
+/// `values` and `command` keep their room from set to set.
+fn put_query<'a>(
     query: &[u8],
     places: &[Place],
+    names: &[CowSlice<'_, u8>],
     set: usize,
-    params: &Params,
+    params: &'a Params,
     limit: usize,
+    values: &mut Vec<&'a Value>,
     command: &mut Vec<u8>,
     out: &mut Vec<u8>,
 ) -> Result<(), Refusal>
     requires limit { 4 ≤ limit }
     requires places { HasPlaces query.now places.now }
-    ensures ok { OnOk result ((tokens : List (List ℕ)) × HasTokens query.now tokens × AppendsQuery query.now tokens params.now set limit out.old.items out.new.items) }
-    ensures err { IfErr result (RefusesQuery query.now params.now set limit) }
+    requires one_kind { has_both_kinds places.now ≡ false }
+    requires alone { first_apart places.now ≡ None }
+    requires names { map cow_slice_items names.now ≡ names_at query.now places.now }
+    ensures ok { OnOk result ((tokens : List (List ℕ)) × HasTokens query.now tokens × AppendsQuery query.now tokens params.entry.now set limit out.old.items out.new.items) }
+    ensures err { IfErr result (RefusesQuery query.now params.entry.now set limit) }
     ensures kept { OnErr result (out.new.items ≡ out.old.items) }
 {
     command.clear();
     command.push(Command::COM_QUERY as u8)?;
-    if let Err(error) = bind_text_at(alloc, query, places, params, command) {
+    if let Err(error) = bind_text_over(query, places, names, params, values, command) {
         return Err(refusal_of(set, error));
     }
     if command.len() > limit - 4 {
@@ -117,9 +128,21 @@ pub fn put_queries(
 {
     tokens_of_a_text();
     let places = checked_places(alloc, query)?;
+    let names = names_among(alloc, query, &places)?;
+    let mut values = Vec::new(alloc);
     let mut command = Vec::new(alloc);
     'sets: for (set, params) in sets.iter().enumerate() {
-        put_query(alloc, query, &places, set, params, limit, &mut command, out)?;
+        put_query(
+            query,
+            &places,
+            &names,
+            set,
+            params,
+            limit,
+            &mut values,
+            &mut command,
+            out,
+        )?;
     }
     check_stop(stop, sets.len())
 }
