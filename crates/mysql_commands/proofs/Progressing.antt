@@ -94,6 +94,13 @@ module _ (wire : ReaderLaws) (c : Conversation) (limit : ℕ) (old : Progress) (
       subst (λ (x : Incoming). Behind c limit old bytes (codec_by x) (x.bytes ++ rest) [] now) (sym e)
       (behind_more (codec_by r) (r.bytes ++ piece) [] (codec_by new) (new.bytes ++ rest) new.payload mid now b h one)
 
+  -- the same of a payload that was read in place, and isn't held
+  pub placed_next : (r new next : Incoming) (piece rest payload : List ℕ) (mid now : Progress) → Behind c limit old bytes (codec_by r) (r.bytes ++ piece) [] mid → ReadsOn r piece true (record new { payload = payload }) rest
+      → next ≡ record new { number = 0 } → ReadOne c mid payload now → Behind c limit old bytes (codec_by next) (next.bytes ++ rest) [] now
+  placed_next r new next piece rest payload mid now b h e one =
+      subst (λ (x : Incoming). Behind c limit old bytes (codec_by x) (x.bytes ++ rest) [] now) (sym e)
+      (behind_more (codec_by r) (r.bytes ++ piece) [] (codec_by new) (new.bytes ++ rest) payload mid now b h one)
+
   -- the split where what is held is a rest
   here : (codec : Codec) (src packet : List ℕ) (mid : Progress) (b : Behind c limit old bytes codec src packet mid) (rest : Rest) → IsRest codec.limit (packet_number codec packet) (held codec src packet) rest
       → IsSplit limit EachFromZero bytes (record { payloads = b.payloads; rest_bytes = held codec src packet; rest = rest })

@@ -1,18 +1,23 @@
 -- Words of the receiver's own body: what its values stand for, and what its functions answer. Public clauses have `sets_of` alone.
 -- MySQL: Client/Server Protocol, "Command Phase".
 use Rattle.std.specs.Global.{Vec}
-use Rattle.std.specs.Prelude.{◌≡◌, ℕ, List, map, Option, Result, Ok, Err, slice_get}
+use Rattle.std.specs.Prelude.{◌≡◌, ℕ, List, [], ◌∷◌, map, Option, Some, None, Result, Ok, Err, slice_get}
 use Rattle.std.specs.Option.{option_map, option_and_then}
 use Rattle.mysql_values.specs.Content.{Content}
 use Rattle.mysql_commands.specs.declared.fault.StreamFault.{StreamFault}
 use Rattle.mysql_commands.specs.declared.refusal.Refusal.{Refusal}
 use Rattle.mysql_commands.specs.declared.refusal.Refusal.TheVariants as refusal
+use Rattle.mysql_commands.specs.declared.carried.Carried.{Carried}
+use Rattle.mysql_commands.specs.declared.carried.Carried.TheVariants as carried
 use Rattle.mysql_commands.specs.declared.param_type.ParamType.{ParamType}
+use Rattle.mysql_commands.specs.declared.param_type.OwnTypes.{OwnTypes}
+use Rattle.mysql_commands.specs.declared.param_type.OwnTypes.TheVariants as own_types
 use Rattle.mysql_commands.specs.declared.statement.Conversation.{Conversation as CodeConversation}
 use Rattle.mysql_commands.specs.declared.statement.StatementState.{StatementState as CodeState}
 use Rattle.mysql_commands.specs.declared.layout.ExecuteHead.{ExecuteHead as CodeExecuteHead}
 use Rattle.mysql_commands.specs.declared.layout.BulkHead.{BulkHead as CodeBulkHead}
 use Rattle.mysql_commands.specs.declared.layout.Piece.{Piece as CodePiece}
+use Rattle.mysql_wire.specs.Wire.{◌>>=◌}
 use Rattle.mysql_commands.specs.Layout.{Conversation, Command, Types, ExecuteHead, BulkHead, Piece}
 use Rattle.mysql_commands.specs.InForce.{StatementState}
 use Rattle.mysql_commands.specs.Reading.{Set, CommandReadsAs, CommandFaulty, PayloadReadsAs, PayloadFaulty}
@@ -20,14 +25,30 @@ use Rattle.mysql_commands.specs.Reading.{Set, CommandReadsAs, CommandFaulty, Pay
 abbrev pub sets_of : List (Vec Content) → List Set
 sets_of xs = map (λ set. set.items) xs
 
+-- the sets that a command carries
+abbrev pub sets_carried : Carried → List Set
+sets_carried carried.Nothing = []
+sets_carried (carried.One set) = set.items ∷ []
+sets_carried (carried.Many sets) = sets_of sets.items
+
 abbrev pub types_kept : Option (Vec ParamType) → Option Types
 types_kept types = option_map (λ types. types.items) types
 
-abbrev pub execute_head_of : CodeExecuteHead → ExecuteHead
-execute_head_of h = record { nulls = h.nulls.now; own = types_kept h.own; cells = h.cells.now }
+-- the types that a command carries, where these are in force
+abbrev pub types_carried : Option Types → OwnTypes → Option Types
+types_carried kept own_types.Without = None
+types_carried kept own_types.Kept = kept
+types_carried kept (own_types.Anew types) = Some types.items
 
-abbrev pub bulk_head_of : CodeBulkHead → BulkHead
-bulk_head_of h = record { own = types_kept h.own; rows = h.rows.now }
+-- what was read of types
+abbrev pub some_types : Result (Types × List ℕ) StreamFault → Result (Option Types × List ℕ) StreamFault
+some_types read = read >>= λ x. Ok (Some x.0, x.1)
+
+abbrev pub execute_head_of : Option Types → CodeExecuteHead → ExecuteHead
+execute_head_of kept h = record { nulls = h.nulls.now; own = types_carried kept h.own; cells = h.cells.now }
+
+abbrev pub bulk_head_of : Option Types → CodeBulkHead → BulkHead
+bulk_head_of kept h = record { own = types_carried kept h.own; rows = h.rows.now }
 
 abbrev pub piece_of : CodePiece → Piece
 piece_of p = record { place = p.place; bytes = p.bytes.now }
@@ -57,8 +78,8 @@ Finds view (Err refusal.Memory) Reads IsFaulty = Unit {0}
 Finds view (Err (refusal.Fault f)) Reads IsFaulty = IsFaulty f
 
 -- what a command was found to be: the sets that it reads as, or its fault
-abbrev pub Judged : Conversation → StatementState → Command → List ℕ → Result (Vec (Vec Content)) Refusal → Type 0
-Judged c s command body result = Finds (λ sets. sets_of sets.items) result (CommandReadsAs c s command body) (CommandFaulty c s command body)
+abbrev pub Judged : Conversation → StatementState → Command → List ℕ → Result Carried Refusal → Type 0
+Judged c s command body result = Finds sets_carried result (CommandReadsAs c s command body) (CommandFaulty c s command body)
 
-abbrev pub PayloadJudged : Conversation → StatementState → List ℕ → Result (Vec (Vec Content)) Refusal → Type 0
-PayloadJudged c s payload result = Finds (λ sets. sets_of sets.items) result (PayloadReadsAs c s payload) (PayloadFaulty c s payload)
+abbrev pub PayloadJudged : Conversation → StatementState → List ℕ → Result Carried Refusal → Type 0
+PayloadJudged c s payload result = Finds sets_carried result (PayloadReadsAs c s payload) (PayloadFaulty c s payload)

@@ -44,6 +44,11 @@ pub fn read_piece(
     reader_laws();
     let mut rest = piece;
     'packets: loop {
+        if let Some(payload) = packets.read_in_place(&mut rest) {
+            progress.read_one(alloc, conversation, payload)?;
+            packets.reset_seq_id();
+            continue 'packets;
+        }
         match packets.advance(&mut rest) {
             Ok(false) => return Ok(()),
             Ok(true) => {

@@ -1,14 +1,14 @@
 //! What commands say by their own bytes.
 
-ghost use Rattle.std.specs.Prelude.{◌≡◌, ℕ, ◌+◌, ◌/◌, ◌<◌, ◌^◌, Option, Some, None, IfOk, OnOk, map, length};
+ghost use Rattle.std.specs.Prelude.{◌≡◌, ℕ, ◌+◌, ◌/◌, ◌<◌, ◌^◌, Option, Some, None, IfOk, IfSome, Ok, OnOk, map, length};
 ghost use Rattle.std.specs.Option.{option_map};
 ghost use Rattle.mysql_commands.specs.Layout.{type_at, types_at, id_at, piece_at, binding_at, execute_head, bulk_head};
 ghost use Rattle.mysql_commands.specs.Query.{place_count};
-ghost use Rattle.mysql_commands.specs.Views.{Gives, conversation_of, execute_head_of, bulk_head_of, piece_of};
+ghost use Rattle.mysql_commands.specs.Views.{Gives, conversation_of, execute_head_of, bulk_head_of, piece_of, types_carried, types_kept, some_types};
 
 use crate::fault::StreamFault;
 use crate::fields::{front, is_type_number, number1, number2, number4};
-use crate::param_type::ParamType;
+use crate::param_type::{OwnTypes, ParamType};
 use crate::refusal::Refusal;
 use crate::statement::Conversation;
 use std::alloc::Global;
@@ -17,14 +17,14 @@ use std::alloc::Global;
 #[derive(Drop)]
 pub struct ExecuteHead<'a> {
     pub nulls: &'a [u8],
-    pub own: Option<Vec<ParamType>>,
+    pub own: OwnTypes,
     pub cells: &'a [u8],
 }
 
 /// What stands before a bulk's rows.
 #[derive(Drop)]
 pub struct BulkHead<'a> {
-    pub own: Option<Vec<ParamType>>,
+    pub own: OwnTypes,
     pub rows: &'a [u8],
 }
 
@@ -71,6 +71,44 @@ pub fn types(
     Ok((types, rest))
 }
 
+/// What follows the pairs of the types in force, where the bytes begin with them.
+fn behind_kept<'a>(short: StreamFault, kept: &[ParamType], bytes: &'a [u8]) -> Option<&'a [u8]>
+    ensures { IfSome result (λ rest. types_at short (length kept.now) bytes.now ≡ Ok (kept.now, rest.now)) }
+{
+    let mut rest = bytes;
+    for kind in kept {
+        let Ok((next, after)) = type_pair(short, rest) else {
+            return None;
+        };
+        if next != *kind {
+            return None;
+        }
+        rest = after;
+    }
+    Some(rest)
+}
+
+/// Pairs of a type and a flag, of which no list is made where they are those in force.
+fn own_types<'a>(
+    alloc: Global,
+    short: StreamFault,
+    count: usize,
+    kept: &Option<Vec<ParamType>>,
+    bytes: &'a [u8],
+) -> Result<(OwnTypes, &'a [u8]), Refusal>
+    ensures { Gives (λ x. (types_carried (types_kept kept.now) x.0, x.1.now)) result (some_types (types_at short count bytes.now)) }
+{
+    if let Some(kept) = kept {
+        if kept.len() == count {
+            if let Some(rest) = behind_kept(short, kept, bytes) {
+                return Ok((OwnTypes::Kept, rest));
+            }
+        }
+    }
+    let (anew, rest) = types(alloc, short, count, bytes)?;
+    Ok((OwnTypes::Anew(anew), rest))
+}
+
 /// The conversation's id.
 pub fn id<'a>(conversation: &Conversation, bytes: &'a [u8]) -> Result<&'a [u8], Refusal>
     ensures { Gives (λ x. x.now) result (id_at (conversation_of conversation.now) bytes.now) }
@@ -104,8 +142,13 @@ fn bitmap_len(places: usize) -> usize
 }
 
 #[tactic(auto, unfolding(crate::specs::Layout::binding_at))]
-fn binding(alloc: Global, places: usize, bytes: &[u8]) -> Result<ExecuteHead<'_>, Refusal>
-    ensures { Gives execute_head_of result (binding_at places bytes.now) }
+fn binding<'a>(
+    alloc: Global,
+    places: usize,
+    kept: &Option<Vec<ParamType>>,
+    bytes: &'a [u8],
+) -> Result<ExecuteHead<'a>, Refusal>
+    ensures { Gives (execute_head_of (types_kept kept.now)) result (binding_at places bytes.now) }
 {
     let (nulls, rest) = front(StreamFault::BadExecute, bitmap_len(places), bytes)?;
     let (bound, rest) = number1(StreamFault::BadExecute, rest)?;
@@ -115,16 +158,12 @@ fn binding(alloc: Global, places: usize, bytes: &[u8]) -> Result<ExecuteHead<'_>
     if bound == 0 {
         return Ok(ExecuteHead {
             nulls,
-            own: None,
+            own: OwnTypes::Without,
             cells: rest,
         });
     }
-    let (own, cells) = types(alloc, StreamFault::BadExecute, places, rest)?;
-    Ok(ExecuteHead {
-        nulls,
-        own: Some(own),
-        cells,
-    })
+    let (own, cells) = own_types(alloc, StreamFault::BadExecute, places, kept, rest)?;
+    Ok(ExecuteHead { nulls, own, cells })
 }
 
 /// What stands before an execute's cells.
@@ -132,9 +171,10 @@ fn binding(alloc: Global, places: usize, bytes: &[u8]) -> Result<ExecuteHead<'_>
 pub fn execute_front<'a>(
     alloc: Global,
     conversation: &Conversation,
+    kept: &Option<Vec<ParamType>>,
     body: &'a [u8],
 ) -> Result<ExecuteHead<'a>, Refusal>
-    ensures { Gives execute_head_of result (execute_head (conversation_of conversation.now) body.now) }
+    ensures { Gives (execute_head_of (types_kept kept.now)) result (execute_head (conversation_of conversation.now) body.now) }
 {
     let rest = id(conversation, body)?;
     let (cursor, rest) = number1(StreamFault::BadExecute, rest)?;
@@ -149,11 +189,11 @@ pub fn execute_front<'a>(
     if places == 0 {
         return Ok(ExecuteHead {
             nulls: &[],
-            own: None,
+            own: OwnTypes::Without,
             cells: rest,
         });
     }
-    binding(alloc, places, rest)
+    binding(alloc, places, kept, rest)
 }
 
 /// What stands before a bulk's rows.
@@ -161,9 +201,10 @@ pub fn execute_front<'a>(
 pub fn bulk_front<'a>(
     alloc: Global,
     conversation: &Conversation,
+    kept: &Option<Vec<ParamType>>,
     body: &'a [u8],
 ) -> Result<BulkHead<'a>, Refusal>
-    ensures { Gives bulk_head_of result (bulk_head (conversation_of conversation.now) body.now) }
+    ensures { Gives (bulk_head_of (types_kept kept.now)) result (bulk_head (conversation_of conversation.now) body.now) }
 {
     let rest = id(conversation, body)?;
     let (flags, rest) = number2(StreamFault::BadBulk, rest)?;
@@ -172,13 +213,16 @@ pub fn bulk_front<'a>(
     }
     if flags < 128 {
         return Ok(BulkHead {
-            own: None,
+            own: OwnTypes::Without,
             rows: rest,
         });
     }
-    let (own, rows) = types(alloc, StreamFault::BadBulk, conversation.places.len(), rest)?;
-    Ok(BulkHead {
-        own: Some(own),
-        rows,
-    })
+    let (own, rows) = own_types(
+        alloc,
+        StreamFault::BadBulk,
+        conversation.places.len(),
+        kept,
+        rest,
+    )?;
+    Ok(BulkHead { own, rows })
 }

@@ -2,6 +2,7 @@
 #![tactic(auto)]
 
 mod audit;
+mod carried;
 mod cells;
 mod fault;
 mod fields;

@@ -4,3 +4,12 @@ pub struct ParamType {
     pub number: u8,
     pub unsigned: bool,
 }
+
+/// The types that a command carries by itself.
+#[derive(Drop)]
+pub enum OwnTypes {
+    Without,
+    /// Those in force: no list of them is made.
+    Kept,
+    Anew(Vec<ParamType>),
+}

@@ -37,8 +37,8 @@ impl Progress {
         if self.count == u64::MAX {
             return Err(Refusal::Fault(StreamFault::TooLarge));
         }
-        let mut more = step(alloc, conversation, &mut self.statement, payload)?;
-        self.sets.append(&mut more)?;
+        let more = step(alloc, conversation, &mut self.statement, payload)?;
+        more.append_to(&mut self.sets)?;
         self.count += 1;
         Ok(())
     }

@@ -6,13 +6,13 @@ ghost use Rattle.mysql_null_bitmap.specs.NullBits.{bits_left};
 ghost use Rattle.mysql_commands.specs.Query.{place_count};
 ghost use Rattle.mysql_commands.specs.InForce.{is_waiting, execute_types, bulk_types};
 ghost use Rattle.mysql_commands.specs.Reading.{types_in_force, parameter_at, set_at, execute_at, column_at, columns_at, row_at, RowsAt, FaultyRow, BulkReadsAs, BulkFaulty};
-ghost use Rattle.mysql_commands.specs.Views.{Gives, Finds, sets_of, types_kept, piece_kept, conversation_of, state_of};
+ghost use Rattle.mysql_commands.specs.Views.{Gives, Finds, sets_of, types_carried, types_kept, piece_kept, conversation_of, state_of};
 
 use crate::cells::cell_content;
 use crate::fault::StreamFault;
 use crate::fields::number1;
 use crate::layout::{BulkHead, ExecuteHead, bulk_front, execute_front};
-use crate::param_type::ParamType;
+use crate::param_type::{OwnTypes, ParamType};
 use crate::refusal::Refusal;
 use crate::statement::{Conversation, StatementState};
 use mysql_null_bitmap::{ClientSide, NullBitmap, NullBits};
@@ -23,16 +23,16 @@ use std::alloc::Global;
 fn counting<'a>(
     conversation: &Conversation,
     statement: &'a StatementState,
-    own: &'a Option<Vec<ParamType>>,
+    own: &'a OwnTypes,
 ) -> Result<&'a [ParamType], Refusal>
-    ensures { Gives (λ x. x.now) result (types_in_force (conversation_of conversation.now) (state_of statement.now) (types_kept own.now)) }
+    ensures { Gives (λ x. x.now) result (types_in_force (conversation_of conversation.now) (state_of statement.now) (types_carried (types_kept statement.now.types) own.now)) }
 {
     if conversation.places.len() == 0 {
         return Ok(&[]);
     }
     match own {
-        Some(types) => Ok(types.as_slice()),
-        None => match &statement.types {
+        OwnTypes::Anew(types) => Ok(types.as_slice()),
+        OwnTypes::Kept | OwnTypes::Without => match &statement.types {
             Some(types) => Ok(types.as_slice()),
             None => Err(Refusal::Fault(StreamFault::NoTypes)),
         },
@@ -87,14 +87,14 @@ fn whole_set(
 ) -> Result<Vec<Content>, Refusal>
     ensures { Gives (λ x. x.items) result (set_at (piece_kept statement.now.pieces.items) nulls.now 0 types.now cells.now) }
 {
-    let mut set = Vec::new(alloc);
+    let mut set = Vec::with_capacity(alloc, types.len())?;
     let mut rest = cells;
     let bitmap = NullBitmap::<ClientSide, &[u8]>::from_bytes(nulls);
     let mut bits = bitmap.iter(bit_count(nulls, types.len()));
     for (place, kind) in types.iter().enumerate() {
         let is_null = next_bit(&mut bits);
         let (next, after) = parameter(alloc, statement, place, is_null, *kind, rest)?;
-        set.push(next)?;
+        set.push_reserved(next);
         rest = after;
     }
     if !rest.is_empty() {
@@ -111,11 +111,11 @@ fn columns<'a>(
 ) -> Result<(Vec<Content>, &'a [u8]), Refusal>
     ensures { Gives (λ x. (x.0.items, x.1.now)) result (columns_at types.now bytes.now) }
 {
-    let mut set = Vec::new(alloc);
+    let mut set = Vec::with_capacity(alloc, types.len())?;
     let mut rest = bytes;
     for kind in types {
         let (next, after) = column(alloc, *kind, rest)?;
-        set.push(next)?;
+        set.push_reserved(next);
         rest = after;
     }
     Ok((set, rest))
@@ -172,14 +172,14 @@ pub fn execute(
     conversation: &Conversation,
     statement: &StatementState,
     body: &[u8],
-) -> Result<(Vec<Content>, Option<Vec<ParamType>>), Refusal>
+) -> Result<(Vec<Content>, OwnTypes), Refusal>
     ensures set { Gives (λ x. x.0.items) result (execute_at (conversation_of conversation.now) (state_of statement.now) body.now) }
-    ensures own { IfOk result (λ x. types_kept x.1 ≡ execute_types (conversation_of conversation.now) body.now) }
+    ensures own { IfOk result (λ x. types_carried (types_kept statement.now.types) x.1 ≡ execute_types (conversation_of conversation.now) body.now) }
 {
     if !statement.prepared {
         return Err(Refusal::Fault(StreamFault::NotPrepared));
     }
-    let head = execute_front(alloc, conversation, body)?;
+    let head = execute_front(alloc, conversation, &statement.types, body)?;
     let types = counting(conversation, statement, &head.own)?;
     let set = whole_set(alloc, statement, head.nulls, types, head.cells)?;
     let ExecuteHead {
@@ -197,10 +197,10 @@ pub fn bulk(
     conversation: &Conversation,
     statement: &StatementState,
     body: &[u8],
-) -> Result<(Vec<Vec<Content>>, Option<Vec<ParamType>>), Refusal>
+) -> Result<(Vec<Vec<Content>>, OwnTypes), Refusal>
     ensures sets { Finds (λ x. sets_of x.0.items) result (BulkReadsAs (conversation_of conversation.now) (state_of statement.now) body.now)
         (BulkFaulty (conversation_of conversation.now) (state_of statement.now) body.now) }
-    ensures own { IfOk result (λ x. types_kept x.1 ≡ bulk_types (conversation_of conversation.now) body.now) }
+    ensures own { IfOk result (λ x. types_carried (types_kept statement.now.types) x.1 ≡ bulk_types (conversation_of conversation.now) body.now) }
 {
     if !statement.prepared {
         return Err(Refusal::Fault(StreamFault::NotPrepared));
@@ -211,7 +211,7 @@ pub fn bulk(
     if conversation.places.len() == 0 {
         return Err(Refusal::Fault(StreamFault::BadBulk));
     }
-    let head = bulk_front(alloc, conversation, body)?;
+    let head = bulk_front(alloc, conversation, &statement.types, body)?;
     let types = counting(conversation, statement, &head.own)?;
     if head.rows.is_empty() {
         return Err(Refusal::Fault(StreamFault::NoRows));

@@ -3,7 +3,7 @@
 ghost use Rattle.std.specs.Prelude.{◌≡◌, ◌≢◌, ◌≤◌, ◌⊎◌, [], true, false, None, Err, IfErr, IfOk, IfSome, OnOk, length};
 ghost use Rattle.mysql_wire.specs.Bytes.{AreBytes};
 ghost use Rattle.mysql_wire.specs.Incoming.{bytes_kept};
-ghost use Rattle.mysql_values.specs.Queries.{HasMixed, IsParsed};
+ghost use Rattle.mysql_values.specs.Queries.{HasMixed, HasPlaces, IsParsed};
 ghost use Rattle.mysql_commands.specs.declared.fault.StreamFault.TheVariants.{Memory};
 ghost use Rattle.mysql_commands.specs.declared.receiver.ReceiverError.TheVariants as receiver_error;
 ghost use Rattle.mysql_commands.specs.Query.{IsQuery};
@@ -21,7 +21,7 @@ use crate::progress::Progress;
 use crate::reading::waits;
 use crate::refusal::Refusal;
 use crate::statement::{Conversation, StatementState};
-use mysql_values::{NamedParamsError, ParsedNamedParams, places};
+use mysql_values::{NamedParamsError, ParsedNamedParams, Place, places};
 use mysql_wire::laws::reader_laws;
 use mysql_wire::{PacketReader, WireError};
 use std::alloc::{AllocError, Global};
@@ -56,13 +56,18 @@ impl From<WireError> for ReceiverError {
     }
 }
 
-/// The query's parsed text.
-fn parsed<'a>(alloc: Global, query: &'a [u8]) -> Result<ParsedNamedParams<'a>, ReceiverError>
+/// The parsed text of a query with these placeholders.
+fn parsed<'a>(
+    alloc: Global,
+    query: &'a [u8],
+    places: &[Place],
+) -> Result<ParsedNamedParams<'a>, ReceiverError>
+    requires { HasPlaces query.now places.now }
     ensures query { IfOk result (λ parsed. IsParsed query.entry.now parsed.query) }
     ensures one_kind { OnOk result (HasMixed query.entry.now false) }
     ensures mixed { IfErr result (λ e. (e ≡ receiver_error.Memory) ⊎ ((e ≡ receiver_error.Mixed) × HasMixed query.entry.now true)) }
 {
-    match ParsedNamedParams::parse(alloc, query) {
+    match ParsedNamedParams::parse_at(alloc, query, places) {
         Ok(parsed) => Ok(parsed),
         Err(NamedParamsError::Mixed(_)) => Err(ReceiverError::Mixed),
         Err(NamedParamsError::Memory) => Err(ReceiverError::Memory),
@@ -75,11 +80,12 @@ fn conversation(alloc: Global, query: &[u8], stmt_id: u32) -> Result<Conversatio
     ensures one_kind { OnOk result (HasMixed query.now false) }
     ensures mixed { IfErr result (λ e. (e ≡ receiver_error.Memory) ⊎ ((e ≡ receiver_error.Mixed) × HasMixed query.now true)) }
 {
-    let parsed = parsed(alloc, query)?;
+    let places = places(alloc, query)?;
+    let parsed = parsed(alloc, query, &places)?;
     Ok(Conversation {
         query: Vec::from_slice(alloc, query)?,
         parsed: Vec::from_slice(alloc, parsed.query())?,
-        places: places(alloc, query)?,
+        places,
         id: stmt_id,
     })
 }

@@ -6,16 +6,17 @@ ghost use Rattle.mysql_commands.specs.Layout.{Prepare, Text, Execute, Bulk, Long
 ghost use Rattle.mysql_commands.specs.InForce.{StatementState as InForce, state_after, execute_types, bulk_types};
 ghost use Rattle.mysql_commands.specs.Steps.{prepared_anew, after_execute, after_bulk, after_piece, after_reset, closed, with_piece};
 ghost use Rattle.mysql_commands.specs.Reading.{prepared_piece, statement_alone_at};
-ghost use Rattle.mysql_commands.specs.Views.{Gives, piece_of, Judged, PayloadJudged, sets_of, types_kept, conversation_of, state_of, piece_kept};
+ghost use Rattle.mysql_commands.specs.Views.{Gives, piece_of, Judged, PayloadJudged, types_carried, types_kept, conversation_of, state_of, piece_kept};
 
+use crate::carried::Carried;
 use crate::fault::StreamFault;
 use crate::layout::{Piece, id, long_data};
-use crate::param_type::ParamType;
+use crate::param_type::OwnTypes;
 use crate::reading::{bulk, execute};
 use crate::refusal::Refusal;
 use crate::statement::{Conversation, StatementState};
 use mysql_const::Command;
-use mysql_values::{Content, read_text};
+use mysql_values::read_text;
 use std::alloc::{AllocError, Global};
 
 impl StatementState {
@@ -28,12 +29,12 @@ impl StatementState {
         self.pieces.clear();
     }
 
-    /// Behind an execute that carries these types, or none.
-    pub fn execute(&mut self, own: Option<Vec<ParamType>>)
-        ensures { state_of self.new ≡ after_execute (state_of self.old) (types_kept own) }
+    /// Behind an execute that carries these types, those in force, or none.
+    pub fn execute(&mut self, own: OwnTypes)
+        ensures { state_of self.new ≡ after_execute (state_of self.old) (types_carried (types_kept self.old.types) own) }
     {
-        if own.is_some() {
-            self.types = own;
+        if let OwnTypes::Anew(types) = own {
+            self.types = Some(types);
         }
         self.pieces.clear();
     }
@@ -53,12 +54,12 @@ impl StatementState {
         self.prepared = false;
     }
 
-    /// Behind a bulk that carries these types, or none.
-    pub fn bulk(&mut self, own: Option<Vec<ParamType>>)
-        ensures { state_of self.new ≡ after_bulk (state_of self.old) (types_kept own) }
+    /// Behind a bulk that carries these types, those in force, or none.
+    pub fn bulk(&mut self, own: OwnTypes)
+        ensures { state_of self.new ≡ after_bulk (state_of self.old) (types_carried (types_kept self.old.types) own) }
     {
-        if own.is_some() {
-            self.types = own;
+        if let OwnTypes::Anew(types) = own {
+            self.types = Some(types);
         }
     }
 }
@@ -70,21 +71,8 @@ fn all_alone(conversation: &Conversation) -> bool
     conversation.places.iter().all(|place| place.alone)
 }
 
-/// One set.
-fn one(alloc: Global, set: Vec<Content>) -> Result<Vec<Vec<Content>>, AllocError>
-    ensures { IfOk result (λ sets. sets_of sets.items ≡ set.items ∷ []) }
-{
-    let mut sets = Vec::new(alloc);
-    sets.push(set)?;
-    Ok(sets)
-}
-
 /// A text.
-fn text(
-    alloc: Global,
-    conversation: &Conversation,
-    body: &[u8],
-) -> Result<Vec<Vec<Content>>, Refusal>
+fn text(alloc: Global, conversation: &Conversation, body: &[u8]) -> Result<Carried, Refusal>
     requires { IsQuery (conversation_of conversation.now).query }
     ensures { (s : InForce) → Judged (conversation_of conversation.now) s Text body.now result }
 {
@@ -92,17 +80,13 @@ fn text(
         return Err(Refusal::Fault(StreamFault::NotAlone));
     }
     match read_text(alloc, &conversation.query, &conversation.places, body)? {
-        Some(set) => Ok(one(alloc, set)?),
+        Some(set) => Ok(Carried::One(set)),
         None => Err(Refusal::Fault(StreamFault::TextMismatch)),
     }
 }
 
 /// A prepare.
-fn prepare(
-    alloc: Global,
-    conversation: &Conversation,
-    body: &[u8],
-) -> Result<Vec<Vec<Content>>, Refusal>
+fn prepare(conversation: &Conversation, body: &[u8]) -> Result<Carried, Refusal>
     ensures { (s : InForce) → Judged (conversation_of conversation.now) s Prepare body.now result }
 {
     if body != conversation.parsed.as_slice() {
@@ -111,7 +95,7 @@ fn prepare(
     if conversation.places.len() > 65535 {
         return Err(Refusal::Fault(StreamFault::TooManyPlaces));
     }
-    Ok(Vec::new(alloc))
+    Ok(Carried::Nothing)
 }
 
 impl StatementState {
@@ -161,16 +145,15 @@ fn append(
 
 /// Reads a prepare. A refusal changes nothing, here and below.
 fn on_prepare(
-    alloc: Global,
     conversation: &Conversation,
     statement: &mut StatementState,
     body: &[u8],
-) -> Result<Vec<Vec<Content>>, Refusal>
+) -> Result<Carried, Refusal>
     ensures judged { Judged (conversation_of conversation.now) (state_of statement.old) Prepare body.now result }
     ensures ok { OnOk result (state_of statement.new ≡ state_after (conversation_of conversation.now) (state_of statement.old) ((22 ∷ body.now) ∷ [])) }
     ensures err { OnErr result (state_of statement.new ≡ state_of statement.old) }
 {
-    let sets = prepare(alloc, conversation, body)?;
+    let sets = prepare(conversation, body)?;
     statement.prepare();
     Ok(sets)
 }
@@ -181,15 +164,14 @@ fn on_execute(
     conversation: &Conversation,
     statement: &mut StatementState,
     body: &[u8],
-) -> Result<Vec<Vec<Content>>, Refusal>
+) -> Result<Carried, Refusal>
     ensures judged { Judged (conversation_of conversation.now) (state_of statement.old) Execute body.now result }
     ensures ok { OnOk result (state_of statement.new ≡ after_execute (state_of statement.old) (execute_types (conversation_of conversation.now) body.now)) }
     ensures err { OnErr result (state_of statement.new ≡ state_of statement.old) }
 {
     let (set, own) = execute(alloc, conversation, statement, body)?;
-    let sets = one(alloc, set)?;
     statement.execute(own);
-    Ok(sets)
+    Ok(Carried::One(set))
 }
 
 /// Reads a bulk.
@@ -198,14 +180,14 @@ fn on_bulk(
     conversation: &Conversation,
     statement: &mut StatementState,
     body: &[u8],
-) -> Result<Vec<Vec<Content>>, Refusal>
+) -> Result<Carried, Refusal>
     ensures judged { Judged (conversation_of conversation.now) (state_of statement.old) Bulk body.now result }
     ensures ok { OnOk result (state_of statement.new ≡ after_bulk (state_of statement.old) (bulk_types (conversation_of conversation.now) body.now)) }
     ensures err { OnErr result (state_of statement.new ≡ state_of statement.old) }
 {
     let (sets, own) = bulk(alloc, conversation, statement, body)?;
     statement.bulk(own);
-    Ok(sets)
+    Ok(Carried::Many(sets))
 }
 
 /// Reads the body of a long data command.
@@ -230,14 +212,14 @@ fn on_long_data(
     conversation: &Conversation,
     statement: &mut StatementState,
     body: &[u8],
-) -> Result<Vec<Vec<Content>>, Refusal>
+) -> Result<Carried, Refusal>
     ensures judged { Judged (conversation_of conversation.now) (state_of statement.old) LongData body.now result }
     ensures ok { OnOk result (state_of statement.new ≡ state_after (conversation_of conversation.now) (state_of statement.old) ((24 ∷ body.now) ∷ [])) }
     ensures err { OnErr result (state_of statement.new ≡ state_of statement.old) }
 {
     let Piece { place, bytes } = expected_piece(conversation, statement, body)?;
     statement.add_piece(alloc, place as usize, bytes)?;
-    Ok(Vec::new(alloc))
+    Ok(Carried::Nothing)
 }
 
 /// Reads the body of a reset or a close.
@@ -261,34 +243,32 @@ fn statement_alone(
 
 /// Reads a reset.
 fn on_reset(
-    alloc: Global,
     conversation: &Conversation,
     statement: &mut StatementState,
     body: &[u8],
-) -> Result<Vec<Vec<Content>>, Refusal>
+) -> Result<Carried, Refusal>
     ensures judged { Judged (conversation_of conversation.now) (state_of statement.old) Reset body.now result }
     ensures ok { OnOk result (state_of statement.new ≡ state_after (conversation_of conversation.now) (state_of statement.old) ((26 ∷ body.now) ∷ [])) }
     ensures err { OnErr result (state_of statement.new ≡ state_of statement.old) }
 {
     statement_alone(conversation, statement, body)?;
     statement.reset();
-    Ok(Vec::new(alloc))
+    Ok(Carried::Nothing)
 }
 
 /// Reads a close.
 fn on_close(
-    alloc: Global,
     conversation: &Conversation,
     statement: &mut StatementState,
     body: &[u8],
-) -> Result<Vec<Vec<Content>>, Refusal>
+) -> Result<Carried, Refusal>
     ensures judged { Judged (conversation_of conversation.now) (state_of statement.old) Close body.now result }
     ensures ok { OnOk result (state_of statement.new ≡ state_after (conversation_of conversation.now) (state_of statement.old) ((25 ∷ body.now) ∷ [])) }
     ensures err { OnErr result (state_of statement.new ≡ state_of statement.old) }
 {
     statement_alone(conversation, statement, body)?;
     statement.close();
-    Ok(Vec::new(alloc))
+    Ok(Carried::Nothing)
 }
 
 /// The first bytes of the commands that are read.
@@ -313,7 +293,7 @@ fn on_command(
     statement: &mut StatementState,
     command: u8,
     body: &[u8],
-) -> Result<Vec<Vec<Content>>, Refusal>
+) -> Result<Carried, Refusal>
     requires { IsQuery (conversation_of conversation.now).query }
     ensures judged { Judged (conversation_of conversation.now) (state_of statement.old) (command_of command) body.now result }
     ensures ok { OnOk result (state_of statement.new ≡ state_after (conversation_of conversation.now) (state_of statement.old) ((command ∷ body.now) ∷ [])) }
@@ -321,12 +301,12 @@ fn on_command(
 {
     match command {
         COM_QUERY => text(alloc, conversation, body),
-        COM_STMT_PREPARE => on_prepare(alloc, conversation, statement, body),
+        COM_STMT_PREPARE => on_prepare(conversation, statement, body),
         COM_STMT_EXECUTE => on_execute(alloc, conversation, statement, body),
         COM_STMT_SEND_LONG_DATA => on_long_data(alloc, conversation, statement, body),
         COM_STMT_BULK_EXECUTE => on_bulk(alloc, conversation, statement, body),
-        COM_STMT_RESET => on_reset(alloc, conversation, statement, body),
-        COM_STMT_CLOSE => on_close(alloc, conversation, statement, body),
+        COM_STMT_RESET => on_reset(conversation, statement, body),
+        COM_STMT_CLOSE => on_close(conversation, statement, body),
         _ => Err(Refusal::Fault(StreamFault::OtherCommand)),
     }
 }
@@ -337,7 +317,7 @@ pub fn step(
     conversation: &Conversation,
     statement: &mut StatementState,
     payload: &[u8],
-) -> Result<Vec<Vec<Content>>, Refusal>
+) -> Result<Carried, Refusal>
     requires { IsQuery (conversation_of conversation.now).query }
     ensures judged { PayloadJudged (conversation_of conversation.now) (state_of statement.old) payload.now result }
     ensures ok { OnOk result (state_of statement.new ≡ state_after (conversation_of conversation.now) (state_of statement.old) (payload.now ∷ [])) }

@@ -1,4 +1,4 @@
-use Rattle.std.proofs.Common.{◌≡◌, drop, length}
+use Rattle.std.proofs.Common.{◌≡◌, ◌≤◌, drop, length, vec_capacity, vec_len}
 use Rattle.mysql_commands.specs.Reading.{set_at}
 use Rattle.mysql_commands.specs.Views.{piece_kept}
 use Rattle.mysql_commands.proofs.Loops.{behind}
@@ -11,3 +11,5 @@ invariant-loop-place l =
     (behind (l.set.items) (set_at (piece_kept l.statement.pieces.items) l.nulls l.place (drop l.place l.types) l.rest)
     ≡ set_at (piece_kept l.statement.pieces.items) l.nulls 0 l.types l.cells)
     × SayNulls (bits_left l.bits) l.nulls l.place (length l.types)
+    × (length l.types ≤ vec_capacity l.set)
+    × (vec_len l.set ≡ l.place)

@@ -1,7 +1,6 @@
-use Rattle.std.proofs.Common.{ap, ◌∙◌, refl, arith}
+use Rattle.std.proofs.Common.{refl, arith}
 use Rattle.std.proofs.lemmas.Result.{err_from_is_err_and}
-use Rattle.std.proofs.lemmas.List.{map-append}
-use Rattle.mysql_commands.specs.Views.{state_of, sets_of, conversation_of}
+use Rattle.mysql_commands.specs.Views.{state_of, sets_carried, conversation_of}
 use Rattle.mysql_commands.proofs.Progressing.{reads_first, fails_first}
 use Rattle.mysql_commands.proofs.progress.Progress.read_one.Goals as goal
 
@@ -13,9 +12,9 @@ returns-in_err-more-clause-by c =
 pub returns-clause-by : goal.returns-clause-by
 returns-clause-by c =
     record {
-      sets = sets_of c.in_ok-more.more.items;
-      reads = reads_first (conversation_of c.args.conversation.now) (state_of c.args.self.now.statement) c.args.self.now.count c.args.payload.now (sets_of c.in_ok-more.more.items) (omega (arith, c.if-self.false)) c.in_ok-more.ensures.judged;
-      more = ap sets_of c.in_ok-append.ensures.items ∙ map-append (λ set. set.items) c.args.self.now.sets.items c.in_ok-more.more.items;
+      sets = sets_carried c.in_ok-more.more;
+      reads = reads_first (conversation_of c.args.conversation.now) (state_of c.args.self.now.statement) c.args.self.now.count c.args.payload.now (sets_carried c.in_ok-more.more) (omega (arith, c.if-self.false)) c.in_ok-more.ensures.judged;
+      more = c.in_ok-append_to.ensures.ok;
       count = refl;
       statement = c.in_ok-more.ensures.ok;
     }
