@@ -1,4 +1,5 @@
 -- What a payload that is no progress report leads to, by what stands in its place.
+use Rattle.std.specs.Prelude.{nat_lt, ◌&&◌}
 use Rattle.std.proofs.Common.{◌≡◌, ℕ, zero, suc, ◌<◌, ◌-◌, List, [], ◌∷◌, ◌++◌, length, Bool, true, false, Result, Ok, Err, refl, ap, sym, subst, arith, if◌then◌else◌, ◌∙◌, ◌⊎◌, inl, inr}
 use Rattle.std.proofs.lemmas.List.{append-nil}
 use Rattle.mysql_rows.specs.Rows.{Row}
@@ -12,10 +13,12 @@ use Rattle.mysql_replies.specs.declared.awaited.Awaited as code
 use Rattle.mysql_replies.specs.declared.awaited.Listed.TheVariants as listed
 use Rattle.mysql_replies.specs.declared.awaited.Stepped.{Stepped}
 use Rattle.mysql_replies.specs.declared.awaited.Stepped.TheVariants.{Moved, Failed}
-use Rattle.mysql_replies.specs.Grammar.{Payload, Outcome, Part, Stands, Unexpected, ◌>>=◌, Stretch, Ending, Wrong, Results, last, more, unexpected, Line, RowLine, Opening, has_report_form, as_part, next_payload, column, eof, columns, columns_end, column_group, line, after_rows, rows, result_set, prepared, prepared_columns, opening, after_opening, one_result}
-use Rattle.mysql_replies.specs.Reply.{Awaited, First, Nothing, rest_of}
+use Rattle.mysql_replies.specs.Grammar.{Payload, Outcome, Part, Stands, Unexpected, ◌>>=◌, Stretch, Ending, Wrong, Results, last, more, unexpected, Line, RowLine, TerminatorLine, ErrorLine, Opening, begins_with, terminator_limit, terminator, or_fault, map_ok, row, has_report_form, as_part, next_payload, column, eof, columns, columns_end, column_group, line, after_rows, rows, result_set, prepared, prepared_columns, opening, after_opening, one_result}
+use Rattle.mysql_packets.specs.Packets.{error_at}
+use Rattle.mysql_replies.specs.declared.fault.ReplyFault.TheVariants.{BadError}
+use Rattle.mysql_replies.specs.Reply.{Awaited, First, Rows, Nothing, rest_of}
 use Rattle.mysql_replies.specs.Views.{Refuses, awaited_view}
-use Rattle.mysql_replies.specs.Steps.{Moves, Leads, Group, OfResultSet, OfParameters, OfPrepared, group_awaited, after_group, IsGroupSettled, IsSettled, listed_of, listed_views, IsMove, IsStep}
+use Rattle.mysql_replies.specs.Steps.{Moves, Leads, Group, OfResultSet, OfParameters, OfPrepared, group_awaited, after_group, IsGroupSettled, IsSettled, listed_of, listed_views, reads_as_row, IsMove, IsStep}
 
 -- A payload not in the form of a progress report is read.
 pub next_is : {A : Type 0} (c : Context) (read : Payload → Result A ReplyFault) (payload : Payload) (z : List Payload) → has_report_form c payload ≡ false → next_payload c read (payload ∷ z) ≡ as_part (read payload) payload z
@@ -173,6 +176,34 @@ rows_are c columns these payload r form h z = rw form (ap (λ x. after_rows colu
 
 pub row_leads : (c : Context) (columns : List ColumnDefinition) (these those : List Row) (payload : Payload) (found : Row) → has_report_form c payload ≡ false → line c columns payload ≡ Ok (RowLine found) → those ≡ these ++ found ∷ [] → (z : List Payload) → rows c columns these (payload ∷ z) ≡ rows c columns those z
 row_leads c columns these those payload found form h pushed z = rows_are c columns these payload (Ok (RowLine found)) form h z ∙ ap (λ r. rows c columns r z) (sym pushed)
+
+third_of : {A : Type 0} (x y z : A) (a b : Bool) → (if a then false else if b then false else true) ≡ true → (if a then x else if b then y else z) ≡ z
+third_of x y z true b h = let k : false ≡ true = h in cc
+third_of x y z false true h = let k : false ≡ true = h in cc
+third_of x y z false false h = refl
+
+-- What is read as a row is a row or nothing.
+row_line : (c : Context) (columns : List ColumnDefinition) (payload : Payload) → reads_as_row c payload ≡ true → line c columns payload ≡ map_ok RowLine (row c columns payload)
+row_line c columns payload h =
+    third_of (map_ok ErrorLine (or_fault BadError (error_at c.capabilities.0 payload))) (map_ok TerminatorLine (terminator c payload)) (map_ok RowLine (row c columns payload))
+    (begins_with 255 payload) (begins_with 254 payload && nat_lt (length payload) (terminator_limit c)) h
+
+-- A row is added to those before it.
+pub row_went : (c : Context) (columns : List ColumnDefinition) (these those : List Row) (payload : Payload) (found : Row) → has_report_form c payload ≡ false → reads_as_row c payload ≡ true → row c columns payload ≡ Ok found → those ≡ these ++ found ∷ [] → Leads c (λ z. rows c columns these (payload ∷ z)) payload (Moves [] (Rows columns those))
+row_went c columns these those payload found form like h pushed =
+    step_awaits c payload (λ z. rows c columns these (payload ∷ z)) (Rows columns those)
+    (row_leads c columns these those payload found form (row_line c columns payload like ∙ ap (map_ok RowLine) h) pushed)
+
+refuses_line : (fault : ReplyFault) (read : Result Row ReplyFault) → Refuses fault read → Refuses fault (map_ok RowLine read)
+refuses_line Memory read h = tt
+refuses_line fault read h = ap (map_ok RowLine) h
+
+-- A row has no place.
+pub row_failed : (c : Context) (columns : List ColumnDefinition) (these : List Row) (payload : Payload) (awaited : code.Awaited) (fault : ReplyFault) → has_report_form c payload ≡ false → reads_as_row c payload ≡ true → awaited_view awaited ≡ Rows columns these → Refuses fault (row c columns payload) → IsStep c (Rows columns these) payload (Failed awaited fault)
+row_failed c columns these payload awaited fault form like is h =
+    step_fails c (Rows columns these) payload awaited fault tt (line c columns payload) is
+    (λ f e z. rows_are c columns these payload (Err f) form e z)
+    (subst (Refuses fault) (sym (row_line c columns payload like)) (refuses_line fault (row c columns payload) h))
 
 -- A step that failed leaves nothing more due.
 pub failed_settled : (c : Context) (a : Awaited) (payload : Payload) (awaited : code.Awaited) (fault : ReplyFault) → IsSettled c a → IsStep c a payload (Failed awaited fault) → IsSettled c (awaited_view awaited)

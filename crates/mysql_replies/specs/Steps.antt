@@ -1,10 +1,15 @@
 -- Words of the reader's own body, which no public call's clause has: what one more payload leads to.
 -- MySQL: Client/Server Protocol, "COM_QUERY Response" and "Text Resultset".
-use Rattle.std.specs.Prelude.{◌≡◌, ℕ, zero, suc, List, [], ◌∷◌, ◌++◌, false, None}
+use Rattle.std.specs.Prelude.{◌≡◌, ℕ, zero, suc, Bool, List, [], ◌∷◌, ◌++◌, length, true, false, nat_lt, ◌&&◌, if◌then◌else◌, None, Result, Ok, Err, Vec}
+use Rattle.std.specs.declared.alloc.Global.{Global}
+use Rattle.std.specs.declared.rc.RcSlice.{RcSlice}
+use Rattle.mysql_columns.specs.declared.column.Column.{Column}
+use Rattle.mysql_rows.specs.declared.row.Row.{Row}
 use Rattle.mysql_columns.specs.Columns.{ColumnDefinition}
 use Rattle.mysql_packets.specs.Packets.{PrepareOk}
 use Rattle.mysql_packets.specs.Views.{prepare_ok_view}
-use Rattle.mysql_replies.specs.Grammar.{deprecate_eof}
+use Rattle.mysql_replies.specs.Grammar.{begins_with, deprecate_eof, terminator_limit}
+use Rattle.mysql_replies.specs.declared.awaited.Awaited.TheVariants as awaiting
 use Rattle.mysql_replies.specs.declared.context.Context.{Context}
 use Rattle.mysql_replies.specs.declared.fault.ReplyFault.{ReplyFault}
 use Rattle.mysql_replies.specs.declared.fault.ReplyFault.TheVariants.{Memory}
@@ -60,6 +65,13 @@ after_group c OfResultSet columns payloads = rows c columns [] payloads
 after_group c (OfParameters statement) columns payloads = prepared_columns c statement columns statement.num_columns [] payloads
 after_group c (OfPrepared statement parameters) columns payloads = Stands (record { results = PreparedResult statement parameters columns ∷ []; more = false }) payloads
 
+-- A payload in a row's place is read as a row: it begins no error and is no terminator.
+abbrev pub reads_as_row : Context → Payload → Bool
+reads_as_row c payload =
+    if begins_with 255 payload then false
+    else if begins_with 254 payload && nat_lt (length payload) (terminator_limit c) then false
+    else true
+
 -- Another payload is needed before the group of columns stands.
 abbrev pub IsGroupSettled : Context → ℕ → List ColumnDefinition → Type 0
 IsGroupSettled c zero [] = ⊥
@@ -105,3 +117,8 @@ IsStep c a payload (Moved listed awaited) =
     Leads c (λ z. rest_of c a (payload ∷ z)) payload (Moves (listed_views listed) (awaited_view awaited)) × IsSettled c (awaited_view awaited)
 IsStep c a payload (Failed awaited Memory) = LosesNone c a (awaited_view awaited)
 IsStep c a payload (Failed awaited fault) = (awaited_view awaited ≡ a) × Leads c (λ z. rest_of c a (payload ∷ z)) payload (Fails (listed_of a) fault)
+
+-- The step that a row made under these columns, of which these are the rows now: it was added to them, or it has no place.
+abbrev pub row_stepped : RcSlice Column Global → Vec Row Global → Result (Unit {0}) ReplyFault → Stepped
+row_stepped columns rows (Ok _) = Moved listed.None (awaiting.Rows columns rows)
+row_stepped columns rows (Err fault) = Failed (awaiting.Rows columns rows) fault

@@ -8,6 +8,7 @@ ghost use Rattle.mysql_wire.specs.Wire.{TellsPart};
 ghost use Rattle.mysql_columns.specs.Views.{column_view};
 ghost use Rattle.mysql_replies.specs.Grammar.{deprecate_eof};
 ghost use Rattle.mysql_replies.specs.Grammar.{column, eof, terminator, terminator_limit, line};
+ghost use Rattle.mysql_replies.specs.Steps.{reads_as_row};
 ghost use Rattle.mysql_replies.specs.Views.{Gives, Tells, line_view};
 
 use crate::context::Context;
@@ -109,6 +110,19 @@ fn limit_of_terminators(context: Context) -> usize
         MAX_PAYLOAD_LEN
     } else {
         9
+    }
+}
+
+/// A payload in a row's place is read as a row.
+pub fn is_row(context: Context, payload: &[u8]) -> bool
+    ensures { result ≡ reads_as_row context payload.now }
+{
+    if starts_with(payload, 255) {
+        false
+    } else if starts_with(payload, 254) && payload.len() < limit_of_terminators(context) {
+        false
+    } else {
+        true
     }
 }
 

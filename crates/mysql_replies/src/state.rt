@@ -10,15 +10,16 @@ ghost use Rattle.mysql_replies.specs.Grammar.{or_fault, has_report_form};
 ghost use Rattle.mysql_replies.specs.Reply.{fresh};
 ghost use Rattle.mysql_replies.specs.Reply as reply;
 ghost use Rattle.mysql_replies.specs.Views.{Gives, awaited_view, outcome_views, end_view, answer_view};
-ghost use Rattle.mysql_replies.specs.Steps.{IsSettled, IsAwaiting, listed_views, listed_of};
+ghost use Rattle.mysql_replies.specs.Steps.{IsSettled, IsAwaiting, listed_views, listed_of, reads_as_row};
 ghost use Rattle.mysql_replies.specs.Standings.{standing_of, UnlessMemory, OnMemory, IsReading, IsShortOf, StateGoesOn, NumberedStateGoesOn, HasRoom, end_at, answer_of};
 
 use crate::awaited::{Awaited, Listed, Stepped};
 use crate::context::Context;
 use crate::fault::ReplyFault;
+use crate::lines::is_row;
 use crate::opening::refused_of;
 use crate::results::{Reply, ReplyEnd, ReplyResult};
-use crate::steps::step;
+use crate::steps::{row_step, step};
 use bitflags::Flags;
 use mysql_const::CapabilityFlags;
 use mysql_packets::ProgressReport;
@@ -200,6 +201,35 @@ impl ReplyState {
         }
     }
 
+    /// Reads a payload in the form of a row: where rows are awaited it is added to them in place.
+    fn take_row(&mut self, alloc: Global, payload: &[u8]) -> Result<(), ReplyFault>
+        requires reading { IsReading self.old }
+        requires going { self.old.fault ≡ None }
+        requires awaiting { IsAwaiting (awaited_view self.old.awaited) }
+        requires report { has_report_form self.old.context payload.now ≡ false }
+        requires row { reads_as_row self.old.context payload.now ≡ true }
+        requires room { self.old.count + 1 < 2 ^ 64 }
+        ensures reading { IsReading self.new }
+        ensures ok { OnOk result ((self.new.fault ≡ None) × (self.new.count ≡ self.old.count + 1)) }
+        ensures fault { IfErr result (λ fault. self.new.fault ≡ Some fault) }
+        ensures goes_on { UnlessMemory result (StateGoesOn self.old payload.now self.new) }
+        ensures short { OnMemory result (IsShortOf self.old self.new) }
+    {
+        let context = self.context;
+        match &mut self.awaited {
+            Awaited::Rows { columns, rows } => {
+                match row_step(alloc, context, columns, rows, payload) {
+                    Ok(()) => {
+                        self.count += 1;
+                        Ok(())
+                    }
+                    Err(fault) => Err(self.fail(fault)),
+                }
+            }
+            _ => self.take_other(alloc, payload),
+        }
+    }
+
     /// Reads the next payload.
     pub fn take(&mut self, alloc: Global, payload: &[u8]) -> Result<(), ReplyFault>
         requires reading { IsReading self.old }
@@ -216,6 +246,8 @@ impl ReplyState {
         }
         if is_report_like(self.context, payload) {
             self.take_report(alloc, payload)
+        } else if is_row(self.context, payload) {
+            self.take_row(alloc, payload)
         } else {
             self.take_other(alloc, payload)
         }

@@ -1,6 +1,6 @@
 //! What one more payload leads to.
 
-ghost use Rattle.std.specs.Prelude.{◌≡◌, ℕ, ◌<◌, List, map, length, Ok, Err, false, [], ◌∷◌, ◌++◌, if◌then◌else◌, ◌==◌, ◌||◌, ◌&&◌};
+ghost use Rattle.std.specs.Prelude.{◌≡◌, ℕ, ◌<◌, List, map, length, Ok, Err, true, false, [], ◌∷◌, ◌++◌, if◌then◌else◌, ◌==◌, ◌||◌, ◌&&◌};
 ghost use Rattle.mysql_replies.specs.Grammar.{deprecate_eof};
 ghost use Rattle.mysql_ok_packets.specs.OkPackets.{more_results_exist};
 ghost use Rattle.mysql_packets.specs.Views.{prepare_ok_view};
@@ -8,7 +8,7 @@ ghost use Rattle.mysql_replies.specs.Grammar.{has_report_form, one_result, rows}
 ghost use Rattle.mysql_replies.specs.Reply as reply;
 ghost use Rattle.mysql_replies.specs.Views.{awaited_view, column_views, row_views};
 ghost use Rattle.mysql_rows.specs.Views.{shared_columns};
-ghost use Rattle.mysql_replies.specs.Steps.{IsStep, IsMove, IsSettled, IsGroupSettled, IsAwaiting, Leads, Moves, OfParameters, group_view, group_awaited, after_group};
+ghost use Rattle.mysql_replies.specs.Steps.{IsStep, IsMove, IsSettled, IsGroupSettled, IsAwaiting, Leads, Moves, OfParameters, reads_as_row, row_stepped, group_view, group_awaited, after_group};
 
 use crate::awaited::{Awaited, ColumnGroup, Listed, Stepped};
 use crate::context::Context;
@@ -16,6 +16,7 @@ use crate::fault::ReplyFault;
 use crate::lines::{Line, column_packet, deprecates_eof, eof_packet, line_of};
 use crate::opening::{Opening, opening_of};
 use crate::results::ReplyResult;
+use crate::row_packets::row_packet;
 use mysql_columns::Column;
 use mysql_const::StatusFlags;
 use mysql_ok_packets::ok_packet::has_more_results;
@@ -268,6 +269,29 @@ fn rows_step(
             )
         }
         Err(fault) => Stepped::Failed(Awaited::Rows { columns, rows }, fault),
+    }
+}
+
+/// A row is added to those before it, where they are: a step is made for each of them.
+pub fn row_step(
+    alloc: Global,
+    context: Context,
+    columns: &RcSlice<Column>,
+    rows: &mut Vec<Row>,
+    payload: &[u8],
+) -> Result<(), ReplyFault>
+    requires no_report { has_report_form context payload.now ≡ false }
+    requires row { reads_as_row context payload.now ≡ true }
+    ensures { IsStep context (reply.Rows (shared_columns columns.now) (row_views rows.old.items)) payload.now (row_stepped columns.now rows.new result) }
+{
+    match row_packet(alloc, context.kind, columns, payload) {
+        Ok(row) => {
+            if rows.push(row).is_err() {
+                return Err(ReplyFault::Memory);
+            }
+            Ok(())
+        }
+        Err(fault) => Err(fault),
     }
 }
 

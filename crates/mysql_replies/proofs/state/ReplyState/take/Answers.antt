@@ -13,7 +13,12 @@ returns-then-is_report_like-clause-goes_on c =
     let room : c.args.self.now.count + 1 < 2 ^ 64 = omega arith in
     numbered_unless c.args.self.now c.take_report.new.self c.args.payload.now c.take_report.result c.requires.going room c.take_report.ensures.ok c.take_report.ensures.fault c.take_report.ensures.goes_on
 
-pub returns-else-is_report_like-clause-goes_on : goal.returns-else-is_report_like-clause-goes_on
-returns-else-is_report_like-clause-goes_on c =
+pub returns-then-is_row-clause-goes_on : goal.returns-then-is_row-clause-goes_on
+returns-then-is_row-clause-goes_on c =
+    let room : c.args.self.now.count + 1 < 2 ^ 64 = omega arith in
+    numbered_unless c.args.self.now c.take_row.new.self c.args.payload.now c.take_row.result c.requires.going room c.take_row.ensures.ok c.take_row.ensures.fault c.take_row.ensures.goes_on
+
+pub returns-else-is_row-clause-goes_on : goal.returns-else-is_row-clause-goes_on
+returns-else-is_row-clause-goes_on c =
     let room : c.args.self.now.count + 1 < 2 ^ 64 = omega arith in
     numbered_unless c.args.self.now c.take_other.new.self c.args.payload.now c.take_other.result c.requires.going room c.take_other.ensures.ok c.take_other.ensures.fault c.take_other.ensures.goes_on
