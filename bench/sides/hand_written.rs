@@ -296,6 +296,52 @@ fn send_bulk(query: &[u8], sets: &[Vec<Value>], times: usize) -> usize {
     out.len()
 }
 
+/// What has a value: a copy is made of it, as an object behind a trait gives it.
+trait ToValue {
+    fn to_value(&self) -> Value;
+}
+
+impl ToValue for Value {
+    fn to_value(&self) -> Value {
+        self.clone()
+    }
+}
+
+type Objects = Vec<Box<dyn ToValue>>;
+
+fn values_of(objects: &Objects) -> Vec<Value> {
+    objects.iter().map(|object| object.to_value()).collect()
+}
+
+/// A bulk request wants all values before its first byte; the other roads make those of one set at a time.
+fn send_values(query: &[u8], lists: &[Objects], times: usize, road: &str) -> usize {
+    let (mut out, mut command) = (Vec::new(), Vec::new());
+    let marks = marks(query);
+    for _ in 0..times {
+        out.clear();
+        if road != "text" {
+            put_prepare(query, &mut command, &mut out);
+        }
+        if road == "bulk" {
+            let sets: Vec<_> = lists.iter().map(values_of).collect();
+            put_request(&sets, &mut command, &mut out);
+            continue;
+        }
+        for objects in lists {
+            let set = values_of(objects);
+            if road == "execute" {
+                put_execution(&set, &mut command, &mut out);
+                continue;
+            }
+            command.clear();
+            command.push(3);
+            bind(query, &marks, &set, &mut command);
+            packet_to_chunks(0, &command, &mut out);
+        }
+    }
+    out.len()
+}
+
 fn literal(text: &[u8]) -> Option<(Content, &[u8])> {
     if text.len() >= 4 && text[..4].eq_ignore_ascii_case(b"null") {
         return Some((Content::Null, &text[4..]));
@@ -578,6 +624,11 @@ fn send_sets(what: &str, rounds: usize) {
     let words: Vec<_> = line.split(' ').collect();
     let (count, times): (usize, usize) = (words[4].parse().unwrap(), words[5].parse().unwrap());
     let (query, sets) = (load(words[2]), load_sets(words[3], count, WIDTH));
+    if what.starts_with("send-values") {
+        let boxed = |set: Vec<Value>| set.into_iter().map(|value| Box::new(value) as Box<dyn ToValue>).collect();
+        let lists: Vec<Objects> = sets.into_iter().map(boxed).collect();
+        return measure(what, count * times, rounds, || Some(send_values(&query, &lists, times, words[1])));
+    }
     measure(what, count * times, rounds, || {
         Some(match words[1] {
             "text" => send_text(&query, &sets, times, what == "send-text-apart"),

@@ -1,4 +1,5 @@
-// The most memory that a call holds at a time, over the input's bytes: peak INPUTS
+// The most memory that a call holds at a time, over the input's bytes and over what it holds when it has taken its last block, which
+// is what is kept and the reader's own: peak INPUTS
 // Linked with --wrap, so that it counts each block with what malloc adds.
 #include "measure.h"
 #include <malloc.h>
@@ -9,7 +10,7 @@ size_t mysql_bench_receive(Pointer, size_t, Pointer, size_t, size_t);
 size_t mysql_bench_read_reply(Pointer, size_t, size_t, _Bool);
 size_t mysql_bench_split(Pointer, size_t, size_t);
 
-static size_t held, most, calls;
+static size_t held, most, last, calls;
 
 void *__real_malloc(size_t);
 void *__real_realloc(void *, size_t);
@@ -18,6 +19,7 @@ void __real_free(void *);
 static void took(void *p) {
     held += p ? malloc_usable_size(p) + 8 : 0, calls++;
     if (held > most) most = held;
+    last = held;
 }
 
 void *__wrap_malloc(size_t n) { void *p = __real_malloc(n); took(p); return p; }
@@ -26,17 +28,17 @@ void *__wrap_realloc(void *p, size_t n) {
     size_t old = p ? malloc_usable_size(p) + 8 : 0;
     // The worst case: both blocks stand while the bytes are copied.
     void *q = __real_realloc(p, n);
-    if (q) { took(q); held -= old; }
+    if (q) { took(q); held -= old; last = held; }
     return q;
 }
 
 #define PEAK(what, len, expression)                                                               \
     do {                                                                                          \
         size_t before_ = held;                                                                    \
-        most = held, calls = 0;                                                                   \
+        most = last = held, calls = 0;                                                                   \
         size_t answer_ = (expression);                                                            \
-        printf("%-44s %10zu bytes, peak %11zu, %6.2f a byte, %9zu calls, answer %zu\n", what,     \
-               (size_t)(len), most - before_, (double)(most - before_) / (len), calls, answer_);  \
+        printf("%-44s %10zu bytes, peak %11zu, %6.2f a byte, %5.2f over the last, %9zu calls, answer %zu\n", what, \
+               (size_t)(len), most - before_, (double)(most - before_) / (len), (double)(most - before_) / (last - before_), calls, answer_); \
     } while (0)
 
 static Bytes packet(unsigned number, Bytes payload) {
