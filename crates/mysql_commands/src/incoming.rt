@@ -26,8 +26,9 @@ fn refusal_of(error: PacketCodecError) -> Refusal
     }
 }
 
-/// Reads each payload that the piece makes whole.
-pub fn read_piece(
+// Reads each payload that the piece makes whole.
+#[inline(never)]
+fn read_payloads(
     packets: &mut PacketReader,
     alloc: Global,
     conversation: &Conversation,
@@ -58,4 +59,27 @@ pub fn read_piece(
             Err(error) => return Err(refusal_of(error)),
         }
     }
+}
+
+/// Reads each payload that the piece makes whole. One that ends within a packet that was begun is taken at once.
+#[inline(always)]
+pub fn read_piece(
+    packets: &mut PacketReader,
+    alloc: Global,
+    conversation: &Conversation,
+    progress: &mut Progress,
+    piece: &[u8],
+) -> Result<(), Refusal>
+    requires query { IsQuery (conversation_of conversation.now).query }
+    requires open { IsOpen packets.old }
+    ensures fed { Fed (conversation_of conversation.now) packets.old.limit (state_of_parts progress.old packets.old.bytes None) piece.now
+        (state_of_parts progress.new packets.new.bytes (fault_by result)) }
+    ensures open { OnOk result (IsOpen packets.new) }
+    ensures limit { packets.new.limit ≡ packets.old.limit }
+{
+    reader_laws();
+    if packets.take_within(piece) {
+        return Ok(());
+    }
+    read_payloads(packets, alloc, conversation, progress, piece)
 }

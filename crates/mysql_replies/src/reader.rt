@@ -1,12 +1,14 @@
 //! A reply, read from the bytes of a connection as they come.
 
-ghost use Rattle.std.specs.Prelude.{◌≡◌, ◌≢◌, ◌⊎◌, ◌∷◌, ◌++◌, [], None, Some, Ok, Err, OnOk, IfErr, IfSome, flat_map, length, ◌<◌, ℕ, List};
-ghost use Rattle.mysql_wire.specs.Incoming.{codec_by};
+ghost use Rattle.std.specs.Prelude.{◌≡◌, ◌≢◌, ◌⊎◌, ◌∷◌, ◌++◌, [], None, Some, Ok, Err, OnOk, IfErr, IfSome, false, flat_map, length, ◌<◌, ℕ, List};
+ghost use Rattle.std.specs.Bool.{OnFalse, OnTrue};
+ghost use Rattle.mysql_wire.specs.Incoming.{ReadsOn, codec_by};
+ghost use Rattle.mysql_replies.specs.Steps.{IsAwaiting};
 ghost use Rattle.mysql_replies.specs.declared.fault.ReplyFault.TheVariants.{Memory};
 ghost use Rattle.mysql_replies.specs.Bytes.{IsReplyOf, IsShortReplyOf};
 ghost use Rattle.mysql_replies.specs.Holding.{fresh_reader, fault_of, ReaderDecides, ReaderGoesOn, TakesAll, StandsShort};
 ghost use Rattle.mysql_replies.specs.Standings.{reader_state, fault_named, IsReading, IsPaused, UnlessMemory, OnMemory};
-ghost use Rattle.mysql_replies.specs.Views.{answer_view};
+ghost use Rattle.mysql_replies.specs.Views.{answer_view, awaited_view};
 ghost use Rattle.mysql_replies.specs.Standings as states;
 
 use crate::context::{Context, ReplyKind};
@@ -32,7 +34,8 @@ fn fault_from(error: PacketCodecError) -> ReplyFault
 }
 
 // Takes each payload that the piece makes whole.
-fn take_packets(
+#[inline(never)]
+fn take_payloads(
     alloc: Global,
     state: &mut ReplyState,
     packets: &mut PacketReader,
@@ -57,6 +60,13 @@ fn take_packets(
             }
             return Err(state.fail(ReplyFault::AfterEnd));
         }
+        if let Some(payload) = packets.read_in_place(&mut rest) {
+            let placed = state.take(alloc, payload);
+            if placed.is_err() {
+                return placed;
+            }
+            continue 'packets;
+        }
         match packets.advance(&mut rest) {
             Ok(false) => return Ok(()),
             Ok(true) => {
@@ -68,6 +78,45 @@ fn take_packets(
             Err(error) => return Err(state.fail(fault_from(error))),
         }
     }
+}
+
+// Takes a piece that ends within a header or a chunk of a packet that is awaited, and answers whether it did.
+#[inline(always)]
+fn took_within(state: &ReplyState, packets: &mut PacketReader, piece: &[u8]) -> bool
+    ensures awaiting { OnTrue result (IsAwaiting (awaited_view state.now.awaited)) }
+    ensures waits { OnTrue result (ReadsOn packets.old piece.now false packets.new []) }
+    ensures used { OnTrue result (packets.new ≡ record packets.old { bytes = packets.old.bytes ++ piece.now; payload = [] }) }
+    ensures kept { OnFalse result (packets.new ≡ packets.old) }
+{
+    if state.is_over() {
+        return false;
+    }
+    packets.take_within(piece)
+}
+
+// Takes each payload that the piece makes whole. A piece that ends within a packet is taken at once.
+#[inline(always)]
+fn take_packets(
+    alloc: Global,
+    state: &mut ReplyState,
+    packets: &mut PacketReader,
+    piece: &[u8],
+) -> Result<(), ReplyFault>
+    requires reading { IsReading state.old }
+    requires going { state.old.fault ≡ None }
+    requires paused { IsPaused state.old (codec_by packets.old) packets.old.bytes [] }
+    ensures reading { IsReading state.new }
+    ensures paused { OnOk result ((state.new.fault ≡ None) × IsPaused state.new (codec_by packets.new) packets.new.bytes []) }
+    ensures fault { IfErr result (λ fault. state.new.fault ≡ Some fault) }
+    ensures took { OnOk result (TakesAll (reader_state state.old packets.old) ((reader_state state.old packets.old).bytes ++ piece.now) (reader_state state.new packets.new)) }
+    ensures goes_on { UnlessMemory result (ReaderGoesOn (reader_state state.old packets.old) piece.now (reader_state state.new packets.new)) }
+    ensures short { OnMemory result (StandsShort (reader_state state.old packets.old) ((reader_state state.old packets.old).bytes ++ piece.now) (reader_state state.new packets.new)) }
+{
+    framing_laws();
+    if took_within(state, packets, piece) {
+        return Ok(());
+    }
+    take_payloads(alloc, state, packets, piece)
 }
 
 /// Reads a server's reply from the bytes of a connection, in whatever pieces they come. What it holds, beside the

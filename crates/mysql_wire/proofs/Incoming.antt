@@ -18,6 +18,7 @@ use Rattle.mysql_wire.specs.declared.codec.Refusal.TheVariants as refusals
 use Rattle.mysql_wire.proofs.Chunks.{chunks-zero, chunks_first, length-chunk}
 use Rattle.mysql_wire.proofs.Unique.{framing_no_rest}
 use Rattle.mysql_wire.proofs.GoingOn.{empty_rest}
+use Rattle.mysql_wire.proofs.Steps.{waits_before_header}
 use Rattle.mysql_wire.proofs.Reading.{held_more, held_between, between_goes_on, starts, takes, waits as waits_at}
 
 -- what follows in one of two ways to cut a list
@@ -348,6 +349,22 @@ within_view r v view kept piece new left packet' is used fine chunk w =
       waits = waits_view r v view kept r.packet.items piece same fine new r.header left packet' used (λ _. none) waits;
       view = same_view r v view kept r.packet.items piece same fine new r.header left packet' used (λ _. none) waits;
     })
+
+-- where a packet was begun nothing was refused
+pub begun_open : (r : Inside) → IsKept r → r.begun ≡ true → r.codec.refused ≡ None
+begun_open r kept is = by r.codec.refused kept.refused
+  where
+    by : (o : Option Refusal) → IfSome o (λ _. (r.begun ≡ false) × (r.packet.items ≡ [])) → o ≡ None
+    by None k = refl
+    by (Some x) k = absurd (let never : true ≡ false = sym is ∙ k.0 in cc)
+
+-- after a piece was taken that ends within a header
+pub header_waits : (r : Inside) → IsKept r → (dst piece header' : List ℕ) → dst ≡ unfinished r.begun r.packet.items → r.codec.begun ≡ None → r.codec.refused ≡ None →
+    header' ≡ r.header ++ piece → length header' < 4 → Waits r.codec (r.header ++ piece) dst r.codec (header' ++ []) dst
+header_waits r kept dst piece header' same between fine joined short =
+    waits_before_header r.codec (r.header ++ piece) dst (header' ++ []) between fine
+    (subst (λ d. IsOfPacket r.codec.limit r.codec.begun d) (sym same) ((kept.stands fine).goes_on fine))
+    (omega (arith, ap length joined, short)) (append-nil header' ∙ joined)
 
 -- a reader to which nothing came has read nothing
 pub reader_begins : (r : Incoming) (codec : Codec) (number limit : ℕ) → r ≡ incoming_at number limit → number ≡ codec.number → limit ≡ codec.limit → number < 256 →

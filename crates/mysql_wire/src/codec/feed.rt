@@ -1,6 +1,7 @@
 //! All packets of a stream that is handed over in pieces.
 
-ghost use Rattle.std.specs.Prelude.{◌++◌, [], List, flat_map, ℕ};
+ghost use Rattle.std.specs.Prelude.{◌≡◌, ◌++◌, ◌∷◌, [], IfErr, List, OnOk, flat_map, ℕ};
+ghost use Rattle.mysql_wire.specs.declared.codec.PacketCodecError.TheVariants.{Memory};
 ghost use Rattle.mysql_wire.specs.Codec.{IsBetween};
 ghost use Rattle.mysql_wire.specs.Incoming.{codec_by};
 ghost use Rattle.mysql_wire.specs.Reader.{HasRead, IsAnswer, IsDrained, payloads_of};
@@ -19,6 +20,35 @@ pub struct Packets {
     pub fault: Option<PacketCodecError>,
 }
 
+// Adds a payload that stands whole in a piece: it is copied once, to its size.
+fn add_copy(payload: &[u8], packets: &mut Vec<Vec<u8>>) -> Result<(), PacketCodecError>
+    ensures ok { OnOk result (payloads_of packets.new.items ≡ payloads_of packets.old.items ++ payload.now ∷ []) }
+    ensures err { IfErr result (λ error. (error ≡ Memory) × (packets.new.items ≡ packets.old.items)) }
+{
+    let Ok(packet) = Vec::from_slice(*packets.allocator(), payload) else {
+        return Err(PacketCodecError::Memory);
+    };
+    if packets.push(packet).is_err() {
+        return Err(PacketCodecError::Memory);
+    }
+    Ok(())
+}
+
+// Adds the payload that was handed out.
+fn add_taken(reader: &mut PacketReader, packets: &mut Vec<Vec<u8>>) -> Result<(), PacketCodecError>
+    ensures ok { OnOk result ((payloads_of packets.new.items ≡ payloads_of packets.old.items ++ reader.old.payload ∷ [])
+        × (reader.new ≡ record reader.old { payload = [] })) }
+    ensures err { IfErr result (λ error. (error ≡ Memory) × (packets.new.items ≡ packets.old.items)) }
+{
+    let Ok(packet) = reader.take_payload() else {
+        return Err(PacketCodecError::Memory);
+    };
+    if packets.push(packet).is_err() {
+        return Err(PacketCodecError::Memory);
+    }
+    Ok(())
+}
+
 // Takes each payload that the piece makes whole.
 fn drain(
     reader: &mut PacketReader,
@@ -30,16 +60,18 @@ fn drain(
 {
     let mut rest = piece;
     'packets: loop {
+        if let Some(payload) = reader.read_in_place(&mut rest) {
+            match add_copy(payload, packets) {
+                Ok(()) => continue 'packets,
+                Err(error) => return Err(error),
+            }
+        }
         match reader.advance(&mut rest) {
             Ok(false) => return Ok(()),
-            Ok(true) => {
-                let Ok(packet) = reader.take_payload() else {
-                    return Err(PacketCodecError::Memory);
-                };
-                if packets.push(packet).is_err() {
-                    return Err(PacketCodecError::Memory);
-                }
-            }
+            Ok(true) => match add_taken(reader, packets) {
+                Ok(()) => {}
+                Err(error) => return Err(error),
+            },
             Err(error) => return Err(error),
         }
     }

@@ -1,5 +1,6 @@
 //! The front of a header that a reader keeps from one piece of a stream to the next.
 
+ghost use Rattle.std.specs.Bool.{OnFalse, OnTrue};
 ghost use Rattle.std.specs.Prelude.{◌≡◌, ◌<◌, ◌==◌, [], ◌++◌, length};
 
 use bytes::Buf;
@@ -47,6 +48,21 @@ impl PartialHeader {
         let mut bytes = [0; 3];
         src.copy_to_slice(&mut bytes[..len]);
         PartialHeader { bytes, len }
+    }
+
+    // Takes a piece behind the bytes that came, where they are fewer than four with it, and answers whether they are. Else
+    // nothing changes.
+    pub(super) fn append(&mut self, piece: &[u8]) -> bool
+        ensures taken { OnTrue result ((self.new ≡ self.old ++ piece.now) × (length self.new < 4)) }
+        ensures kept { OnFalse result (self.new ≡ self.old) }
+    {
+        let len = self.len;
+        if piece.len() > 3 - len {
+            return false;
+        }
+        self.bytes[len..len + piece.len()].copy_from_slice(piece);
+        self.len = len + piece.len();
+        true
     }
 
     // Whether no byte came.

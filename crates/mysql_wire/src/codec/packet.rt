@@ -70,8 +70,21 @@ fn is_last_chunk(count: usize, filled: usize) -> bool
     count == 0 || filled % MAX_PAYLOAD_LEN != 0
 }
 
+// Appends a piece, and answers whether there was room for it. A single byte is no call of a copy.
+#[inline(always)]
+fn append(piece: &[u8], packet: &mut Vec<u8>) -> bool
+    ensures taken { OnTrue result (packet.new.items ≡ packet.old.items ++ piece.now) }
+    ensures kept { OnFalse result (packet.new.items ≡ packet.old.items) }
+{
+    if let [byte] = piece {
+        return packet.push(*byte).is_ok();
+    }
+    packet.extend_from_slice(piece).is_ok()
+}
+
 /// Moves a piece to the end of a packet where it ends within the chunk that was begun, and answers whether it did. Else, or
 /// where no room was to be had, nothing changes.
+#[inline(always)]
 pub(super) fn move_within(
     begun: &mut Option<BegunChunk>,
     piece: &[u8],
@@ -80,16 +93,13 @@ pub(super) fn move_within(
     ensures moved { OnTrue result (EndsWithin begun.old piece.now begun.new × (packet.new.items ≡ packet.old.items ++ piece.now)) }
     ensures kept { OnFalse result ((begun.new ≡ begun.old) × (packet.new.items ≡ packet.old.items)) }
 {
-    let Some(chunk) = *begun else {
+    let Some(chunk) = begun else {
         return false;
     };
-    if piece.len() >= chunk.awaited || packet.extend_from_slice(piece).is_err() {
+    if piece.len() >= chunk.awaited || !append(piece, packet) {
         return false;
     }
-    *begun = Some(BegunChunk {
-        number: chunk.number,
-        awaited: chunk.awaited - piece.len(),
-    });
+    chunk.awaited -= piece.len();
     true
 }
 

@@ -161,17 +161,51 @@ impl PacketReader {
     }
 
     // Takes a piece that ends within the chunk that was begun, and answers whether it is one; else nothing changes.
-    fn take_within(&mut self, piece: &mut &[u8]) -> bool
-        ensures waits { OnTrue result (ReadsOn self.old piece.old.now false self.new piece.new.now) }
-        ensures used { OnTrue result ((piece.new.now ≡ []) × (self.new ≡ record self.old { bytes = self.old.bytes ++ piece.old.now; payload = [] })) }
+    #[inline(always)]
+    fn take_bytes(&mut self, piece: &[u8]) -> bool
+        ensures waits { OnTrue result (ReadsOn self.old piece.now false self.new []) }
+        ensures used { OnTrue result (self.new ≡ record self.old { bytes = self.old.bytes ++ piece.now; payload = [] }) }
         ensures fine { OnTrue result (self.old.refused ≡ None) }
-        ensures kept { OnFalse result ((self.new ≡ self.old) × (piece.new ≡ piece.old)) }
+        ensures kept { OnFalse result (self.new ≡ self.old) }
     {
         if !self.begun || !self.codec.decode_within(piece, &mut self.packet) {
             return false;
         }
-        *piece = &piece[piece.len()..];
         true
+    }
+
+    // The same of a piece that ends within a header.
+    #[inline(never)]
+    fn take_header(&mut self, piece: &[u8]) -> bool
+        ensures waits { OnTrue result (ReadsOn self.old piece.now false self.new []) }
+        ensures used { OnTrue result (self.new ≡ record self.old { bytes = self.old.bytes ++ piece.now; payload = [] }) }
+        ensures fine { OnTrue result (self.old.refused ≡ None) }
+        ensures kept { OnFalse result (self.new ≡ self.old) }
+    {
+        if !self.codec.awaits_header() || !self.header.append(piece) {
+            return false;
+        }
+        keep_unfinished(self.begun, &mut self.packet);
+        self.begun |= !piece.is_empty();
+        true
+    }
+
+    /// Takes a piece that ends within a chunk's header or within the chunk, and answers whether it did. After `true` the piece
+    /// is used up, and no payload stands whole in the bytes that came; after `false` nothing changed, and
+    /// [`PacketReader::advance`] reads on, which does the same with any piece. It is the quick way where few bytes come at a time.
+    ///
+    /// (MySQL: Client/Server Protocol, "Protocol Basics: MySQL Packets".)
+    #[inline(always)]
+    pub fn take_within(&mut self, piece: &[u8]) -> bool
+        ensures waits { OnTrue result (ReadsOn self.old piece.now false self.new []) }
+        ensures used { OnTrue result (self.new ≡ record self.old { bytes = self.old.bytes ++ piece.now; payload = [] }) }
+        ensures fine { OnTrue result (self.old.refused ≡ None) }
+        ensures kept { OnFalse result (self.new ≡ self.old) }
+    {
+        if self.take_bytes(piece) {
+            return true;
+        }
+        piece.len() < 4 && self.take_header(piece)
     }
 
     // `advance`, whatever the piece.
@@ -224,7 +258,9 @@ impl PacketReader {
             × (piece.new ≡ piece.old)) }
         ensures stays { IfSome self.old.refused (λ refusal. (result ≡ Err (error_of refusal)) × (self.new ≡ self.old)) }
     {
-        if self.take_within(piece) {
+        let all = *piece;
+        if self.take_bytes(all) {
+            *piece = &all[all.len()..];
             return Ok(false);
         }
         self.read_on(piece)

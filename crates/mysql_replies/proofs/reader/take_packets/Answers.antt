@@ -1,162 +1,26 @@
-use Rattle.std.proofs.Common.{rules, arith, ◌≡◌, ◌<◌, ◌++◌, [], length, Some, Err, refl, ap, sym, subst, ◌∙◌, true, false}
-use Rattle.std.specs.Prelude.{is_err}
-use Rattle.std.proofs.lemmas.List.{nil_from_length}
-use Rattle.mysql_wire.specs.Incoming.{codec_by}
-use Rattle.mysql_replies.specs.declared.fault.ReplyFault.TheVariants as faults
-use Rattle.mysql_replies.specs.declared.state.ReplyState.{ReplyState}
+use Rattle.std.proofs.Common.{arith, ◌++◌, [], refl, ap, subst}
+use Rattle.mysql_wire.specs.Incoming.{Incoming, codec_by}
 use Rattle.mysql_replies.specs.Holding.{ReaderGoesOn}
-use Rattle.mysql_replies.specs.Standings.{reader_state_of, reader_state, NumberedStateGoesOn, UnlessMemory, fault_named}
-use Rattle.mysql_replies.specs.Views.{awaited_view}
-use Rattle.mysql_replies.proofs.Receiving.{taking_starts, paused_empty, not_empty, elsewhere, piece_bytes, piece_goes_on, piece_runs_short, goes_on_over, taken_goes_on, taken_short, taking_next, taken_ok, taken_unless, refused_goes_on, failed_short, over_taken, waits_taken}
+use Rattle.mysql_replies.specs.Standings.{reader_state, UnlessMemory}
+use Rattle.mysql_replies.proofs.Receiving.{taking_starts, piece_bytes, waits_taken}
 use Rattle.mysql_replies.proofs.reader.take_packets.Goals as goal
 
-pub packets-init : goal.packets-init
-packets-init c =
+pub returns-then-took_within : goal.returns-then-took_within
+returns-then-took_within c =
     let laws = c.framing_laws.ensures in
     let start = c.args.state.now in
     let old = c.args.packets.now in
     let piece = c.args.piece.now in
     let fed = old.bytes ++ piece in
-    record {
-      taking = taking_starts start (codec_by old) fed [] c.requires.reading c.requires.going c.requires.paused.refused c.requires.paused.can_go_on
-          (piece_bytes laws (codec_by old) old.bytes fed [] piece refl c.requires.paused.bytes (λ i. omega (arith, c.type_inv.piece i))) c.requires.paused.nothing_begun;
-      over = paused_empty laws start (codec_by old) old.bytes [] c.requires.paused;
-    }
+    let t =
+    taking_starts start (codec_by old) fed [] c.requires.reading c.requires.going c.requires.paused.refused c.requires.paused.can_go_on
+    (piece_bytes laws (codec_by old) old.bytes fed [] piece refl c.requires.paused.bytes (λ i. omega (arith, c.type_inv.piece i))) c.requires.paused.nothing_begun in
+    let taken =
+    waits_taken laws start start old old c.took_within.new.packets piece piece [] t c.requires.going c.if-took_within.ensures.awaiting c.if-took_within.ensures.waits refl
+    (ap (λ (x : Incoming). x.payload) c.if-took_within.ensures.used) in
+    record { reading = c.requires.reading; paused = (c.requires.going, taken.0); fault = tt; took = taken.1; goes_on = taken.2; short = tt }
 
-pub packets-smaller : goal.packets-smaller
-packets-smaller c =
-    let less : length c.advance.new.piece.now < length c.packets.rest.now = search rules in
-    less
-
-pub packets-preserved : goal.packets-preserved
-packets-preserved c =
-    let laws = c.framing_laws.ensures in
-    let start = c.args.state.now in
-    let old = c.args.packets.now in
-    let piece = c.args.piece.now in
-    let fed = old.bytes ++ piece in
-    let s = c.packets.state in
-    let now = c.packets.packets in
-    let src = now.bytes ++ c.packets.rest.now in
-    let t = c.packets.invariant.taking in
-    let new = c.advance.new.self in
-    let h = rw c.in-Ok-true.field-0-test at c.in-Ok-true.ensures.ok in
-    let goes = subst (λ p. UnlessMemory c.take-taken.result (NumberedStateGoesOn s p c.take-taken.new.self)) c.payload.ensures c.take-taken.ensures.goes_on in
-    let passed : is_err c.take-taken.result ≡ false = sym c.is_err.ensures.value ∙ c.if-is_err.false in
-    let ok = taken_ok c.take-taken.result passed c.take-taken.ensures.ok in
-    let none : new.bytes ≡ [] = search rules in
-    record {
-      taking = taking_next laws start s c.take-taken.new.self (codec_by old) (codec_by now) (codec_by new) fed [] src [] (new.bytes ++ c.advance.new.piece.now) [] new.payload t h refl c.take-taken.ensures.reading ok.0 ok.1
-          (taken_unless c.take-taken.result passed goes);
-      over = λ _. none;
-    }
-
-pub returns-then-is_empty : goal.returns-then-is_empty
-returns-then-is_empty c =
-    let t = c.packets.invariant.taking in
-    let over = c.is_over.ensures.over c.if-is_over.true in
-    let used : c.packets.rest.now ≡ [] = nil_from_length c.packets.rest.now (search rules) in
-    let taken = over_taken c.framing_laws.ensures c.args.state.now c.packets.state c.args.packets.now c.packets.packets c.args.piece.now c.packets.rest.now t c.requires.going over (c.packets.invariant.over (ap awaited_view over)) used in
-    record { reading = t.reading; paused = (t.going, taken.0); fault = tt; took = taken.1; goes_on = taken.2; short = tt }
-
-pub returns-then-is_over-clause-goes_on : goal.returns-then-is_over-clause-goes_on
-returns-then-is_over-clause-goes_on c =
-    let laws = c.framing_laws.ensures in
-    let start = c.args.state.now in
-    let old = c.args.packets.now in
-    let piece = c.args.piece.now in
-    let fed = old.bytes ++ piece in
-    let s = c.packets.state in
-    let now = c.packets.packets in
-    let src = now.bytes ++ c.packets.rest.now in
-    let t = c.packets.invariant.taking in
-    let over = c.is_over.ensures.over c.if-is_over.true in
-    let begun = t.nothing_begun (ap awaited_view over) in
-    let kept = c.packets.invariant.over (ap awaited_view over) in
-    let some : src ≡ [] → ⊥ = λ none. not_empty c.packets.rest.now c.is_empty.result c.is_empty.ensures c.if-is_empty.false (ap (λ l. l ++ c.packets.rest.now) (sym kept) ∙ none) in
-    let after = c.fail.new.self in
-    subst (λ f. UnlessMemory {X = Unit {0}} (Err f) (ReaderGoesOn (reader_state start old) piece (reader_state after now))) (sym c.fail.ensures.same)
-    (piece_goes_on laws start (codec_by old) old.bytes fed [] piece (reader_state after now) (Err faults.AfterEnd) c.requires.going refl
-    (elsewhere (reader_state_of start (codec_by old) fed []) after (reader_state_of after (codec_by now) src []) (reader_state after now) (Err faults.AfterEnd) refl (ap (λ (s : ReplyState). s.fault) c.fail.ensures.state) refl refl
-    (goes_on_over laws start s after (codec_by old) (codec_by now) fed [] src [] t.payloads t.received c.requires.going t.going c.fail.ensures.state (ap awaited_view over) begun.0 begun.1 begun.2 t.bytes some)))
-
-pub returns-then-is_err-clause-goes_on : goal.returns-then-is_err-clause-goes_on
-returns-then-is_err-clause-goes_on c =
-    let laws = c.framing_laws.ensures in
-    let start = c.args.state.now in
-    let old = c.args.packets.now in
-    let piece = c.args.piece.now in
-    let fed = old.bytes ++ piece in
-    let s = c.packets.state in
-    let now = c.packets.packets in
-    let src = now.bytes ++ c.packets.rest.now in
-    let t = c.packets.invariant.taking in
-    let new = c.advance.new.self in
-    let h = rw c.in-Ok-true.field-0-test at c.in-Ok-true.ensures.ok in
-    let goes = subst (λ p. UnlessMemory c.take-taken.result (NumberedStateGoesOn s p c.take-taken.new.self)) c.payload.ensures c.take-taken.ensures.goes_on in
-    let failed : is_err c.take-taken.result ≡ true = sym c.is_err.ensures.value ∙ c.if-is_err.true in
-    let next = c.take-taken.new.self in
-    piece_goes_on laws start (codec_by old) old.bytes fed [] piece (reader_state next new) c.take-taken.result c.requires.going refl
-    (elsewhere (reader_state_of start (codec_by old) fed []) next (reader_state_of next (codec_by new) (new.bytes ++ c.advance.new.piece.now) []) (reader_state next new) c.take-taken.result failed c.take-taken.ensures.fault refl refl
-    (taken_goes_on laws start s next (codec_by old) (codec_by now) (codec_by new) fed [] src [] (new.bytes ++ c.advance.new.piece.now) [] new.payload c.take-taken.result failed t c.requires.going h refl c.take-taken.ensures.fault goes))
-
-pub returns-then-is_err-clause-short : goal.returns-then-is_err-clause-short
-returns-then-is_err-clause-short c =
-    let laws = c.framing_laws.ensures in
-    let start = c.args.state.now in
-    let old = c.args.packets.now in
-    let piece = c.args.piece.now in
-    let fed = old.bytes ++ piece in
-    let s = c.packets.state in
-    let now = c.packets.packets in
-    let src = now.bytes ++ c.packets.rest.now in
-    let t = c.packets.invariant.taking in
-    let new = c.advance.new.self in
-    piece_runs_short laws start (codec_by old) old.bytes [] piece c.take-taken.result (reader_state c.take-taken.new.self new)
-    (taken_short start s c.take-taken.new.self (codec_by old) (codec_by now) (codec_by new) fed [] src [] new.bytes [] c.take-taken.result t c.requires.going (c.is_over.ensures.awaiting c.if-is_over.false) c.take-taken.ensures.short)
-
-pub returns-in-Ok-false : goal.returns-in-Ok-false
-returns-in-Ok-false c =
-    let t = c.packets.invariant.taking in
-    let new = c.advance.new.self in
-    let w = rw c.in-Ok-false.field-0-test at c.in-Ok-false.ensures.ok in
-    let used : c.advance.new.piece.now ≡ [] = search rules in
-    let none : new.payload ≡ [] = search rules in
-    let taken = waits_taken c.framing_laws.ensures c.args.state.now c.packets.state c.args.packets.now c.packets.packets new c.args.piece.now c.packets.rest.now c.advance.new.piece.now t c.requires.going (c.is_over.ensures.awaiting c.if-is_over.false) w used none in
-    record { reading = t.reading; paused = (t.going, taken.0); fault = tt; took = taken.1; goes_on = taken.2; short = tt }
-
-pub returns-in-Err-clause-goes_on : goal.returns-in-Err-clause-goes_on
-returns-in-Err-clause-goes_on c =
-    let laws = c.framing_laws.ensures in
-    let start = c.args.state.now in
-    let old = c.args.packets.now in
-    let piece = c.args.piece.now in
-    let fed = old.bytes ++ piece in
-    let s = c.packets.state in
-    let now = c.packets.packets in
-    let src = now.bytes ++ c.packets.rest.now in
-    let t = c.packets.invariant.taking in
-    let new = c.advance.new.self in
-    let w = c.in-Err.ensures.refused in
-    let named = c.fail-in-Err.ensures.same ∙ c.fault_from.ensures ∙ ap fault_named w.answered in
-    let is = c.fail-in-Err.ensures.state ∙ ap (λ f. record s { fault = Some f }) (sym c.fail-in-Err.ensures.same) in
-    let after = c.fail-in-Err.new.self in
-    piece_goes_on laws start (codec_by old) old.bytes fed [] piece (reader_state after new) (Err c.fail-in-Err.result) c.requires.going refl
-    (refused_goes_on laws start s after (codec_by old) (codec_by now) (codec_by new) fed [] src [] new.bytes [] w.refusal c.fail-in-Err.result t c.requires.going (c.is_over.ensures.awaiting c.if-is_over.false) named is (w.due t.received.read.refused))
-
-pub returns-in-Err-clause-short : goal.returns-in-Err-clause-short
-returns-in-Err-clause-short c =
-    let laws = c.framing_laws.ensures in
-    let start = c.args.state.now in
-    let old = c.args.packets.now in
-    let piece = c.args.piece.now in
-    let fed = old.bytes ++ piece in
-    let s = c.packets.state in
-    let now = c.packets.packets in
-    let src = now.bytes ++ c.packets.rest.now in
-    let t = c.packets.invariant.taking in
-    let new = c.advance.new.self in
-    let is = c.fail-in-Err.ensures.state ∙ ap (λ f. record s { fault = Some f }) (sym c.fail-in-Err.ensures.same) in
-    let after = c.fail-in-Err.new.self in
-    piece_runs_short laws start (codec_by old) old.bytes [] piece (Err c.fail-in-Err.result) (reader_state after new)
-    (failed_short start s after (codec_by old) (codec_by now) (codec_by new) fed [] src [] new.bytes [] c.fail-in-Err.result t c.requires.going (c.is_over.ensures.awaiting c.if-is_over.false) is)
+pub returns-clause-goes_on : goal.returns-clause-goes_on
+returns-clause-goes_on c =
+    subst (λ (p : Incoming). UnlessMemory c.take_payloads.result (ReaderGoesOn (reader_state c.args.state.now p) c.args.piece.now (reader_state c.take_payloads.new.state c.take_payloads.new.packets)))
+    c.if-took_within.ensures.kept c.take_payloads.ensures.goes_on

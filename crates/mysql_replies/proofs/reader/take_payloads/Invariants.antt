@@ -3,7 +3,7 @@ use Rattle.mysql_wire.specs.Incoming.{codec_by}
 use Rattle.mysql_replies.specs.Reply as reply
 use Rattle.mysql_replies.specs.Views.{awaited_view}
 use Rattle.mysql_replies.proofs.Receiving.{Taking}
-use Rattle.mysql_replies.proofs.reader.take_packets.Given as goal
+use Rattle.mysql_replies.proofs.reader.take_payloads.Given as goal
 
 abbrev pub invariant-packets : goal.invariant-packets
 invariant-packets l = record {

@@ -2,7 +2,7 @@ use Rattle.std.proofs.Common.{◌≡◌, ◌++◌, [], length}
 use Rattle.mysql_wire.specs.Incoming.{codec_by}
 use Rattle.mysql_commands.specs.Views.{conversation_of}
 use Rattle.mysql_commands.proofs.Progressing.{Behind}
-use Rattle.mysql_commands.proofs.incoming.read_piece.Given as goal
+use Rattle.mysql_commands.proofs.incoming.read_payloads.Given as goal
 
 -- the payloads that were handed out of what was held and the piece were read
 abbrev pub invariant-packets : goal.invariant-packets
