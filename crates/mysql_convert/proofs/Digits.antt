@@ -1,5 +1,7 @@
 -- Rows of digits, one byte after the other.
-use Rattle.std.proofs.Common.{◌≡◌, ℕ, ◌+◌, ◌-◌, ◌*◌, ◌≤◌, ◌<◌, true, false, List, [], ◌∷◌, length, drop, get_or, refl, sym, ap, ◌∙◌, arith, le_trans, Bool, Option, Some, None, IfSome, drop-cons, add-one, if◌then◌else◌}
+use Rattle.std.proofs.Common.{◌≡◌, ℕ, ◌+◌, ◌-◌, ◌*◌, ◌≤◌, ◌<◌, true, false, List, [], ◌∷◌, length, drop, get_or, refl, sym, ap, ◌∙◌, arith, le_trans, Bool, Option, Some, None, IfSome, ◌^◌, suc, drop-cons, add-one, if◌then◌else◌}
+use Rattle.std.proofs.Math.Nat.{pow-le-pow_right, pow-suc}
+use Rattle.std.proofs.lemmas.Bool.Decides.{nat_tests}
 use Rattle.std.proofs.lemmas.List.{drop_all}
 use Rattle.mysql_queries.specs.Literals.{is_digit}
 use Rattle.mysql_convert.specs.Numbers.{digits_number}
@@ -35,3 +37,14 @@ large n k xs i h d e l =
 -- all bytes are read
 pub ended : (n : ℕ) (xs : List ℕ) (i : ℕ) → length xs ≤ i → 0 < length xs → digits_after n (drop i xs) ≡ digits_after 0 xs → digits_number xs ≡ Some n
 ended n xs i l h e = begun xs h ∙ sym e ∙ ap (digits_after n) (drop_all i xs l)
+
+-- one digit more: the number stays below the next power of ten
+pub stays_below : (n i d : ℕ) → n < 10 ^ i → is_digit d ≡ true → n * 10 + (d - 0x30) < 10 ^ (i + 1)
+stays_below n i d l h =
+    let p : 10 ^ suc i ≡ 10 ^ i * 10 = pow-suc 10 i in
+    let q : d - 0x30 ≤ 9 = grind (arith, nat_tests, h) in
+    rw (add-one, p) (omega (arith, l, q))
+
+-- a number of at most eighteen digits
+pub eighteen : (n i : ℕ) → n < 10 ^ i → i ≤ 18 → n < 10 ^ 18
+eighteen n i l h = omega (arith, l, pow-le-pow_right {n = 10} (omega arith) h)

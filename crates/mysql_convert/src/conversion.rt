@@ -8,7 +8,7 @@ ghost use Rattle.mysql_to_values.specs.declared.errors.ToValueError.TheVariants 
 use crate::errors::FromValueError;
 use mysql_cells::Value;
 use mysql_to_values::ToValueError;
-use std::alloc::Global;
+use std::alloc::{AllocError, Global};
 
 /// A conversion from a value to `T` that can still be undone.
 pub trait Intermediate<T>: Sized {
@@ -39,7 +39,7 @@ pub trait Intermediate<T>: Sized {
 /// a text from `Bytes` that are UTF-8, a list of bytes from `Bytes`, an array from `Bytes` of its length; a `Duration` from a `Time` that isn't
 /// negative and from texts such as `838:59:59.5`; an `Option` is None of `NULL`; and a [`Value`] is any value.
 ///
-/// No conversion asks for memory. An impl says by `converted` what each value converts to.
+/// No conversion of a value that is handed over asks for memory; a copy of a borrowed one does. An impl says by `converted` what each value converts to.
 pub trait FromValue: Sized {
     /// A conversion to this type that can still be undone.
     type Intermediate: Intermediate<Self>;
@@ -60,6 +60,23 @@ pub trait FromValue: Sized {
         ensures ok { IfOk result (λ step. converted value ≡ Some (shown (Self.Intermediate.committed step))) }
         ensures again { IfOk result (λ step. ReadsAgain converted value (Self.Intermediate.rolled_back step)) }
         ensures err { IfErr result (λ e. (converted value ≡ None) × (e.0 ≡ value)) };
+
+    /// Converts a copy of a value, as `from_value_opt` does; an impl may spare the copy where it keeps nothing of it.
+    ///
+    /// # Errors
+    /// `AllocError`, outermost, for want of memory alone; `FromValueError` with a copy of the value, where it doesn't convert.
+    fn from_value_ref_opt(
+        alloc: Global,
+        value: &Value,
+    ) -> Result<Result<Self, FromValueError>, AllocError>
+        ensures ok { IfOk result (λ answer. IfOk answer (λ x. converted value.now ≡ Some (shown x))) }
+        ensures err { IfOk result (λ answer. IfErr answer (λ e. (converted value.now ≡ None) × (e.0 ≡ value.now))) }
+    {
+        match Self::get_intermediate(value.clone(alloc)?) {
+            Ok(step) => Ok(Ok(step.commit())),
+            Err(e) => Ok(Err(e)),
+        }
+    }
 
     /// Converts a value.
     ///

@@ -8,10 +8,11 @@ ghost use Rattle.mysql_convert.specs.DurationReading.{clock_nanos as nanos_of_cl
 ghost use Rattle.mysql_convert.specs.Durations.{duration_of};
 
 use crate::conversion::FromValue;
-use crate::errors::FromValueError;
+use crate::errors::{FromValueError, read_or_refused};
 use crate::intermediates::ParseIrOpt;
 use crate::numbers::{digits_number, is_digit};
 use mysql_cells::Value;
+use std::alloc::{AllocError, Global};
 use std::time::Duration;
 
 /// Whether two bytes are digits from 00 to 59.
@@ -114,5 +115,13 @@ impl FromValue for Duration {
             Some(duration) => Ok(ParseIrOpt::Parsed(duration, value)),
             None => Err(FromValueError(value)),
         }
+    }
+
+    #[inline(always)]
+    fn from_value_ref_opt(
+        alloc: Global,
+        value: &Value,
+    ) -> Result<Result<Duration, FromValueError>, AllocError> {
+        read_or_refused(alloc, value, duration_in(value))
     }
 }

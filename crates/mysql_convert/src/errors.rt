@@ -1,9 +1,37 @@
 //! Why a value doesn't convert.
 
+ghost use Rattle.std.specs.Prelude.{◌≡◌, IfErr, IfOk, None, Some};
+
 use mysql_cells::Value;
+use std::alloc::{AllocError, Global};
 use thiserror::Error;
 
 /// A value that doesn't convert to the type that was asked for. It holds the value itself.
 #[derive(Debug, PartialEq, Eq, Drop, Error)]
 #[error("the value doesn't convert to this type")]
 pub struct FromValueError(pub Value);
+
+/// The error of a borrowed value that doesn't convert: it holds a copy of the value.
+#[cold]
+#[inline(never)]
+fn refused(alloc: Global, value: &Value) -> Result<FromValueError, AllocError>
+    ensures { IfOk result (λ e. e.0 ≡ value.now) }
+{
+    Ok(FromValueError(value.clone(alloc)?))
+}
+
+/// What was read of a borrowed value, or the error with a copy of the value where nothing was.
+#[inline(always)]
+pub(crate) fn read_or_refused<T>(
+    alloc: Global,
+    value: &Value,
+    read: Option<T>,
+) -> Result<Result<T, FromValueError>, AllocError>
+    ensures ok { IfOk result (λ answer. IfOk answer (λ x. read ≡ Some x)) }
+    ensures err { IfOk result (λ answer. IfErr answer (λ e. (read ≡ None) × (e.0 ≡ value.now))) }
+{
+    match read {
+        Some(x) => Ok(Ok(x)),
+        None => Ok(Err(refused(alloc, value)?)),
+    }
+}

@@ -12,7 +12,7 @@ use crate::conversion::{FromValue, Intermediate};
 use crate::errors::FromValueError;
 use mysql_cells::Value;
 use mysql_to_values::{ToValue, ToValueError};
-use std::alloc::Global;
+use std::alloc::{AllocError, Global};
 
 /// What was parsed from a value, and that value.
 ///
@@ -63,6 +63,14 @@ impl FromValue for Value {
 
     fn get_intermediate(value: Value) -> Result<ValueIr, FromValueError> {
         Ok(ValueIr(value))
+    }
+
+    #[inline(always)]
+    fn from_value_ref_opt(
+        alloc: Global,
+        value: &Value,
+    ) -> Result<Result<Value, FromValueError>, AllocError> {
+        Ok(Ok(value.clone(alloc)?))
     }
 }
 
@@ -134,5 +142,19 @@ impl<T: FromValue> FromValue for Option<T> {
             return Ok(OptionIr2::None);
         }
         Ok(OptionIr2::Some(T::get_intermediate(value)?))
+    }
+
+    #[inline(always)]
+    fn from_value_ref_opt(
+        alloc: Global,
+        value: &Value,
+    ) -> Result<Result<Option<T>, FromValueError>, AllocError> {
+        if let Value::NULL = value {
+            return Ok(Ok(None));
+        }
+        match T::from_value_ref_opt(alloc, value)? {
+            Ok(x) => Ok(Ok(Some(x))),
+            Err(e) => Ok(Err(e)),
+        }
     }
 }

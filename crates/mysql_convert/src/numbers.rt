@@ -1,16 +1,18 @@
 //! Whole numbers that values hold.
 
-ghost use Rattle.std.specs.Prelude.{◌≡◌, ◌^◌, ◌≤◌, IfErr, IfNone, IfOk, IfSome, IsSomeAnd, Option, Some, None, unsigned_abs, ℕ, ℤ};
+ghost use Rattle.std.specs.Prelude.{◌≡◌, ◌^◌, ◌≤◌, IfErr, IfNone, IfOk, IfSome, IsSomeAnd, Option, Some, None, length, pos, unsigned_abs, ℕ, ℤ};
+ghost use Rattle.std.specs.Option.{option_and_then};
 ghost use Rattle.mysql_queries.specs.Literals.{is_digit as is_digit_byte};
 ghost use Rattle.mysql_convert.specs.Conversions.{ReadsAgain};
 ghost use Rattle.mysql_convert.specs.Numbers.{HoldsNumber, digits_number as number_of_digits, integer_of, number_of, signed, signed_in, text_number as number_of_text, unsigned_in};
 ghost use Rattle.mysql_convert.specs.Intermediates.{committed_of, rolled_back_of};
 
 use crate::conversion::FromValue;
-use crate::errors::FromValueError;
+use crate::errors::{FromValueError, read_or_refused};
 use crate::intermediates::ParseIrOpt;
 use mysql_cells::Value;
 use mysql_to_values::ToValue;
+use std::alloc::{AllocError, Global};
 
 /// A whole number by its sign and its magnitude.
 #[derive(Clone, Copy)]
@@ -20,6 +22,26 @@ pub struct Number {
 }
 
 impl Number {
+    /// A number with a sign.
+    fn of_signed(number: i64) -> Number
+        ensures { signed result.negative result.magnitude ≡ number }
+    {
+        Number {
+            negative: number < 0,
+            magnitude: u128::from(number.unsigned_abs()),
+        }
+    }
+
+    /// A number without a sign.
+    fn of_unsigned(number: u64) -> Number
+        ensures { signed result.negative result.magnitude ≡ pos number }
+    {
+        Number {
+            negative: false,
+            magnitude: u128::from(number),
+        }
+    }
+
     /// The number as an `i128`, if it fits.
     pub(crate) fn to_i128(self) -> Option<i128>
         ensures { result ≡ signed_in 128 (signed self.negative self.magnitude) }
@@ -75,6 +97,14 @@ impl<T: Integer> FromValue for T {
     fn get_intermediate(value: Value) -> Result<ParseIrOpt<T>, FromValueError> {
         read_integer(value)
     }
+
+    #[inline(always)]
+    fn from_value_ref_opt(
+        alloc: Global,
+        value: &Value,
+    ) -> Result<Result<T, FromValueError>, AllocError> {
+        read_or_refused(alloc, value, integer_in(value))
+    }
 }
 
 pub(crate) fn is_digit(byte: u8) -> bool
@@ -83,8 +113,26 @@ pub(crate) fn is_digit(byte: u8) -> bool
     b'0' <= byte && byte <= b'9'
 }
 
-/// The number of a text of digits; None also where it has more than 128 bits.
-pub(crate) fn digits_number(digits: &[u8]) -> Option<u128>
+/// The number of a text of at most 19 digits, which 64 bits hold.
+fn few_digits_number(digits: &[u8]) -> Option<u64>
+    requires { length digits.now ≤ 19 }
+    ensures { result ≡ number_of_digits digits.now }
+{
+    if digits.is_empty() {
+        return None;
+    }
+    let mut n: u64 = 0;
+    for byte in digits {
+        if !is_digit(*byte) {
+            return None;
+        }
+        n = n * 10 + u64::from(*byte - b'0');
+    }
+    Some(n)
+}
+
+/// The number of a text of any number of digits; None also where it has more than 128 bits.
+fn many_digits_number(digits: &[u8]) -> Option<u128>
     ensures some { IfSome result (λ n. number_of_digits digits.now ≡ Some n) }
     ensures none { IfNone result (IfSome (number_of_digits digits.now) (λ n. 2 ^ 128 ≤ n)) }
 {
@@ -105,6 +153,21 @@ pub(crate) fn digits_number(digits: &[u8]) -> Option<u128>
         n = next;
     }
     Some(n)
+}
+
+/// The number of a text of digits; None also where it has more than 128 bits.
+pub(crate) fn digits_number(digits: &[u8]) -> Option<u128>
+    ensures some { IfSome result (λ n. number_of_digits digits.now ≡ Some n) }
+    ensures none { IfNone result (IfSome (number_of_digits digits.now) (λ n. 2 ^ 128 ≤ n)) }
+{
+    if digits.len() <= 19 {
+        match few_digits_number(digits) {
+            Some(n) => Some(u128::from(n)),
+            None => None,
+        }
+    } else {
+        many_digits_number(digits)
+    }
 }
 
 /// The number of a text of an optional sign and digits; None also where it has more than 128 bits.
@@ -130,15 +193,30 @@ fn value_number(value: &Value) -> Option<Number>
     ensures none { IfNone result (IfSome (number_of value.now) (λ z. 2 ^ 128 ≤ unsigned_abs z)) }
 {
     match value {
-        Value::Int(number) => Some(Number {
-            negative: *number < 0,
-            magnitude: u128::from(number.unsigned_abs()),
-        }),
-        Value::UInt(number) => Some(Number {
-            negative: false,
-            magnitude: u128::from(*number),
-        }),
+        Value::Int(number) => Some(Number::of_signed(*number)),
+        Value::UInt(number) => Some(Number::of_unsigned(*number)),
         Value::Bytes(bytes) => text_number(bytes.as_slice()),
+        _ => None,
+    }
+}
+
+/// The number of an integer type that a text holds.
+#[inline(never)]
+fn text_integer<T: Integer>(text: &[u8]) -> Option<T>
+    ensures { result ≡ option_and_then T.narrowed (number_of_text text.now) }
+{
+    T::narrow(text_number(text)?)
+}
+
+/// The number of an integer type that a value holds.
+#[inline(always)]
+fn integer_in<T: Integer>(value: &Value) -> Option<T>
+    ensures { result ≡ integer_of T.narrowed value.now }
+{
+    match value {
+        Value::Int(number) => T::narrow(Number::of_signed(*number)),
+        Value::UInt(number) => T::narrow(Number::of_unsigned(*number)),
+        Value::Bytes(text) => text_integer(text.as_slice()),
         _ => None,
     }
 }

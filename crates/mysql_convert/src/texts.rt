@@ -1,18 +1,20 @@
 //! Conversions of bytes and texts.
 
 ghost use Rattle.std.specs.Prelude.{◌≡◌, IfErr, IfOk, List, None, Option, Some, ℕ};
+ghost use Rattle.std.specs.Option.{option_copied, option_map};
 ghost use Rattle.std.specs.String.{string_bytes};
 ghost use Rattle.std.specs.Cow.{cow_slice_items, cow_str_bytes};
 ghost use Rattle.mysql_cells.specs.declared.value.Value.TheVariants.{Bytes};
 ghost use Rattle.mysql_convert.specs.Texts.{array_of, bytes_of, text_of as text_of_value};
 
 use crate::conversion::{FromValue, Intermediate};
-use crate::errors::FromValueError;
+use crate::errors::{FromValueError, read_or_refused};
 use mysql_cells::Value;
 use mysql_queries::ByteString;
 use mysql_to_values::{ToValue, ToValueError};
-use std::alloc::Global;
+use std::alloc::{AllocError, Global};
 use std::borrow::{CowSlice, CowStr};
+use std::str::from_utf8;
 
 /// The bytes that a value holds, moved, or the value.
 fn bytes_in(value: Value) -> Result<Vec<u8>, FromValueError>
@@ -22,6 +24,49 @@ fn bytes_in(value: Value) -> Result<Vec<u8>, FromValueError>
     match value {
         Value::Bytes(bytes) => Ok(bytes.into_vec()),
         value => Err(FromValueError(value)),
+    }
+}
+
+/// The bytes that a value holds.
+fn lent_bytes(value: &Value) -> Option<&[u8]>
+    ensures { option_copied result ≡ bytes_of value.now }
+{
+    match value {
+        Value::Bytes(bytes) => Some(bytes.as_slice()),
+        _ => None,
+    }
+}
+
+/// A copy of the bytes that a value holds.
+fn copied_bytes(alloc: Global, value: &Value) -> Result<Option<Vec<u8>>, AllocError>
+    ensures { IfOk result (λ copy. option_map (λ bytes. bytes.items) copy ≡ bytes_of value.now) }
+{
+    match lent_bytes(value) {
+        Some(bytes) => Ok(Some(Vec::from_slice(alloc, bytes)?)),
+        None => Ok(None),
+    }
+}
+
+/// A copy of the text that a value holds.
+fn copied_text(alloc: Global, value: &Value) -> Result<Option<String>, AllocError>
+    ensures { IfOk result (λ copy. option_map string_bytes copy ≡ text_of_value value.now) }
+{
+    let Some(bytes) = lent_bytes(value) else {
+        return Ok(None);
+    };
+    match from_utf8(bytes) {
+        Ok(text) => Ok(Some(String::from_str(alloc, text)?)),
+        Err(_) => Ok(None),
+    }
+}
+
+/// The array of this length that a value holds.
+fn array_in<const N: usize>(value: &Value) -> Option<[u8; N]>
+    ensures { result ≡ array_of N value.now }
+{
+    match <[u8; N]>::try_from(lent_bytes(value)?) {
+        Ok(array) => Some(array),
+        Err(_) => None,
     }
 }
 
@@ -47,6 +92,14 @@ impl FromValue for Vec<u8> {
 
     fn get_intermediate(value: Value) -> Result<Vec<u8>, FromValueError> {
         bytes_in(value)
+    }
+
+    #[inline(always)]
+    fn from_value_ref_opt(
+        alloc: Global,
+        value: &Value,
+    ) -> Result<Result<Vec<u8>, FromValueError>, AllocError> {
+        read_or_refused(alloc, value, copied_bytes(alloc, value)?)
     }
 }
 
@@ -75,6 +128,15 @@ impl FromValue for CowSlice<'static, u8, Global> {
 
     fn get_intermediate(value: Value) -> Result<CowSlice<'static, u8, Global>, FromValueError> {
         Ok(CowSlice::Owned(bytes_in(value)?))
+    }
+
+    #[inline(always)]
+    fn from_value_ref_opt(
+        alloc: Global,
+        value: &Value,
+    ) -> Result<Result<CowSlice<'static, u8, Global>, FromValueError>, AllocError> {
+        let read = copied_bytes(alloc, value)?.map(|bytes| CowSlice::Owned(bytes));
+        read_or_refused(alloc, value, read)
     }
 }
 
@@ -111,6 +173,14 @@ impl<const N: usize> FromValue for [u8; N] {
             Err(_) => Err(FromValueError(Value::Bytes(ByteString::from_vec(bytes)))),
         }
     }
+
+    #[inline(always)]
+    fn from_value_ref_opt(
+        alloc: Global,
+        value: &Value,
+    ) -> Result<Result<[u8; N], FromValueError>, AllocError> {
+        read_or_refused(alloc, value, array_in(value))
+    }
 }
 
 impl<const N: usize> Intermediate<[u8; N]> for [u8; N] {
@@ -139,6 +209,14 @@ impl FromValue for String {
     fn get_intermediate(value: Value) -> Result<String, FromValueError> {
         text_in(value)
     }
+
+    #[inline(always)]
+    fn from_value_ref_opt(
+        alloc: Global,
+        value: &Value,
+    ) -> Result<Result<String, FromValueError>, AllocError> {
+        read_or_refused(alloc, value, copied_text(alloc, value)?)
+    }
 }
 
 impl Intermediate<String> for String {
@@ -166,6 +244,15 @@ impl FromValue for CowStr<'static, Global> {
 
     fn get_intermediate(value: Value) -> Result<CowStr<'static, Global>, FromValueError> {
         Ok(CowStr::Owned(text_in(value)?))
+    }
+
+    #[inline(always)]
+    fn from_value_ref_opt(
+        alloc: Global,
+        value: &Value,
+    ) -> Result<Result<CowStr<'static, Global>, FromValueError>, AllocError> {
+        let read = copied_text(alloc, value)?.map(|text| CowStr::Owned(text));
+        read_or_refused(alloc, value, read)
     }
 }
 

@@ -78,6 +78,7 @@ impl Row {
     }
 
     /// The value of the cell of this number; None where there is no such cell, or its value was taken.
+    #[inline(always)]
     pub fn as_ref(&self, index: usize) -> Option<&Value>
         ensures { option_copied result ≡ cell_at (row_view self.now) (Some index) }
     {
@@ -88,6 +89,7 @@ impl Row {
     }
 
     // The same by what names the column.
+    #[inline(always)]
     fn value_at<I: ColumnIndex>(&self, index: &I) -> Option<&Value>
         ensures { option_copied result ≡ cell_at (row_view self.now) (I.place index.now (row_view self.now).columns) }
     {
@@ -112,6 +114,7 @@ impl Row {
 
     /// A copy of the value in a cell, converted to `T`; None where there is no such column, or its value was taken. Where
     /// the value doesn't convert the error holds it. Refused for want of memory alone.
+    #[inline(always)]
     pub fn get_opt<T: FromValue, I: ColumnIndex>(
         &self,
         alloc: Global,
@@ -120,13 +123,14 @@ impl Row {
         ensures { IfOk result (λ answer. option_map (answer_view T.shown) answer ≡ option_map (converted_or_value T.converted) (cell_at (row_view self.now) (I.place index (row_view self.now).columns))) }
     {
         match self.value_at(&index) {
-            Some(value) => Ok(Some(T::from_value_opt(value.clone(alloc)?))),
+            Some(value) => Ok(Some(T::from_value_ref_opt(alloc, value)?)),
             None => Ok(None),
         }
     }
 
     /// A copy of the value in a cell, converted to `T`, where it converts, as [`get_opt`](Self::get_opt) tells; None where there
     /// is no such column, or its value was taken. Refused for want of memory alone.
+    #[inline(always)]
     pub fn get<T: FromValue, I: ColumnIndex>(
         &self,
         alloc: Global,
@@ -136,7 +140,10 @@ impl Row {
         ensures { IfOk result (λ answer. option_map T.shown answer ≡ option_and_then T.converted (cell_at (row_view self.now) (I.place index (row_view self.now).columns))) }
     {
         match self.value_at(&index) {
-            Some(value) => Ok(Some(T::from_value(value.clone(alloc)?))),
+            Some(value) => match T::from_value_ref_opt(alloc, value)? {
+                Ok(x) => Ok(Some(x)),
+                Err(_) => unreachable!(),
+            },
             None => Ok(None),
         }
     }

@@ -21,6 +21,7 @@ pub trait ColumnIndex: Drop {
 impl ColumnIndex for usize {
     ghost place = { column_numbered };
 
+    #[inline(always)]
     fn idx(&self, columns: &[Column]) -> Option<usize> {
         if *self < columns.len() {
             Some(*self)
@@ -34,6 +35,7 @@ impl ColumnIndex for usize {
 impl ColumnIndex for &str {
     ghost place = { λ name. column_named name.now };
 
+    #[inline(always)]
     fn idx(&self, columns: &[Column]) -> Option<usize> {
         first_named(columns, self.as_bytes())
     }

@@ -65,7 +65,7 @@ fn text_cells(
     let mut cells = Vec::with_capacity(alloc, count)?;
     for _ in 0..count {
         let value = read_text_cell(alloc, rest)?;
-        cells.push(Some(value))?;
+        cells.push_reserved(Some(value));
     }
     Ok(cells)
 }
@@ -114,7 +114,7 @@ fn binary_cells<S: SerializationSide>(
     for column in columns {
         let is_null = next_is_null(&mut nulls);
         let value = binary_cell(alloc, is_null, column, rest)?;
-        cells.push(Some(value))?;
+        cells.push_reserved(Some(value));
     }
     Ok(cells)
 }

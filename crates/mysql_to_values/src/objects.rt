@@ -37,9 +37,10 @@ pub(crate) fn values_of_list<T: ToValue>(alloc: Global, list: &[T]) -> Result<Ve
     ensures ok { IfOk result (λ values. map T.as_value list.now ≡ map Some values.items) }
     ensures err { IfErr result (λ e. (e ≡ set_error.Memory) ⊎ (too_long 0 (map T.as_value list.now) ≡ Some e)) }
 {
-    let mut values = Vec::new(alloc);
+    let mut values = Vec::with_capacity(alloc, list.len())?;
     for (place, x) in list.iter().enumerate() {
-        values.push(value_at(alloc, place, x)?)?;
+        let value = value_at(alloc, place, x)?;
+        values.push_reserved(value);
     }
     Ok(values)
 }

@@ -1,5 +1,8 @@
 //! What values convert to, what converts to them, and what a conversion that is undone gives.
 
+ghost use Rattle.std.specs.Prelude.{Bool, Some};
+ghost use Rattle.mysql_values.specs.Values.{is_null};
+
 use crate::support::{Asserting, Given, assert_value, made};
 use mysql_convert::{
     FromValue, FromValueError, Intermediate, ParseIr, ParseIrOpt, ToValue, ToValueError,
@@ -57,7 +60,20 @@ fn undone<T: FromValue>(assert: &impl Assert, alloc: Global, given: Given) -> Va
     once_more(assert, first, second)
 }
 
-/// Asserts what a value converts to, in both ways, and that it is read again once the conversion is undone.
+/// What a copy of a value converts to that is lent.
+fn converted_copy<T: FromValue + Drop>(
+    assert: &impl Assert,
+    alloc: Global,
+    given: Given,
+) -> Result<T, FromValueError> {
+    let value = made(assert, alloc, given);
+    let first = T::from_value_ref_opt(alloc, &value);
+    let second = T::from_value_ref_opt(alloc, &value);
+    drop(value);
+    once_more(assert, first, second)
+}
+
+/// Asserts what a value converts to, in each way, and that it is read again once the conversion is undone.
 fn assert_converts<T: FromValue + PartialEq + Copy + Drop>(
     assert: &impl Assert,
     alloc: Global,
@@ -68,10 +84,42 @@ fn assert_converts<T: FromValue + PartialEq + Copy + Drop>(
     assert_answer_is(assert, alloc, found, given, wanted);
     let found = committed::<T>(made(assert, alloc, given));
     assert_answer_is(assert, alloc, found, given, wanted);
+    let found = converted_copy::<T>(assert, alloc, given);
+    assert_answer_is(assert, alloc, found, given, wanted);
     if wanted.is_some() {
         let found = from_value_opt::<T>(undone::<T>(assert, alloc, given));
         assert_answer_is(assert, alloc, found, given, wanted);
     }
+}
+
+/// A type of a caller: whether a value is `NULL`.
+#[derive(Clone, Copy, PartialEq)]
+struct IsNull(bool);
+
+impl FromValue for IsNull {
+    type Intermediate = ParseIr<IsNull>;
+
+    ghost Shown = { Bool };
+
+    ghost shown = { λ x. x.0 };
+
+    ghost converted = { λ value. Some (is_null value) };
+
+    fn get_intermediate(value: Value) -> Result<ParseIr<IsNull>, FromValueError> {
+        match value {
+            Value::NULL => Ok(ParseIr(IsNull(true), Value::NULL)),
+            value => Ok(ParseIr(IsNull(false), value)),
+        }
+    }
+}
+
+#[test]
+fn a_type_of_a_caller(rt: HostRuntime) {
+    let a = Asserting(&rt);
+    let alloc = rt.alloc();
+    assert_converts(&a, alloc, Given::Null, Some(IsNull(true)));
+    assert_converts(&a, alloc, Given::Bytes(b"5"), Some(IsNull(false)));
+    assert_converts(&a, alloc, Given::Int(5), Some(Some(IsNull(false))));
 }
 
 /// Values that hold no number.
@@ -419,6 +467,34 @@ fn assert_holds_text(assert: &impl Assert, alloc: Global, given: Given, wanted: 
     }
 }
 
+/// Asserts the bytes that a copy of a value holds.
+fn assert_copy_holds<T: FromValue + AsSlice<u8> + Drop>(
+    assert: &impl Assert,
+    alloc: Global,
+    given: Given,
+    wanted: Option<&[u8]>,
+) {
+    match converted_copy::<T>(assert, alloc, given) {
+        Ok(bytes) => {
+            assert.holds(Some(bytes.as_slice()) == wanted);
+            drop(bytes);
+        }
+        Err(error) => {
+            assert.holds(wanted.is_none());
+            assert_handed_back(assert, alloc, error, given);
+        }
+    }
+}
+
+#[test]
+fn texts_that_copies_hold(rt: HostRuntime) {
+    let assert = Asserting(&rt);
+    for (given, bytes, text) in TEXTS {
+        assert_copy_holds::<Vec<u8>>(&assert, rt.alloc(), given, bytes);
+        assert_copy_holds::<String>(&assert, rt.alloc(), given, text);
+    }
+}
+
 #[test]
 fn texts_that_values_hold(rt: HostRuntime) {
     let assert = Asserting(&rt);
@@ -441,6 +517,21 @@ fn values_that_values_hold(rt: HostRuntime) {
         let again = undone::<Value>(&assert, rt.alloc(), given);
         assert_value(&assert, rt.alloc(), &again, given);
         drop(again);
+        assert_copied(&assert, rt.alloc(), given);
+    }
+}
+
+/// Asserts that a copy of a value is that value.
+fn assert_copied(assert: &impl Assert, alloc: Global, given: Given) {
+    match converted_copy::<Value>(assert, alloc, given) {
+        Ok(copy) => {
+            assert_value(assert, alloc, &copy, given);
+            drop(copy);
+        }
+        Err(error) => {
+            assert.holds(false);
+            assert_handed_back(assert, alloc, error, given);
+        }
     }
 }
 

@@ -1,4 +1,4 @@
-use Rattle.std.proofs.Common.{◌∙◌, length, Some}
+use Rattle.std.proofs.Common.{◌∙◌, arith, length, Some}
 use Rattle.std.proofs.lemmas.Result.{err_from_is_err_and}
 use Rattle.mysql_null_bitmap.specs.NullBitmap.{is_null_at}
 use Rattle.mysql_rows.specs.Rows.{binary_cells_at, some_cells}
@@ -26,9 +26,10 @@ loop-column-preserved g c =
     let bit = c.next_is_null-is_null.ensures _ _ (c.loop-column.invariant.bits ∙ next_bit (is_null_at offset bitmap) (length columns) i c.loop-column-test.true) in
     record {
       bits = bit.1;
-      cells = rw c.in_ok-push.ensures.items (binary_goes_on offset bitmap columns c.loop-column.cells.items i c.loop-column.rest.0.now (some_cells (binary_cells_at offset bitmap 0 (column_views columns) c.args.rest.now.0.now))
+      cells = rw c.push_reserved.ensures.items (binary_goes_on offset bitmap columns c.loop-column.cells.items i c.loop-column.rest.0.now (some_cells (binary_cells_at offset bitmap 0 (column_views columns) c.args.rest.now.0.now))
           c.next_is_null-is_null.result c.column-item.result c.in_ok-value.value c.binary_cell.new.rest.0.now (next_column columns i c.column-item.result c.loop-column-test.true c.column-item.is) bit.0 c.in_ok-value.ensures c.loop-column.invariant.cells);
-      len = rw c.in_ok-push.ensures.items (one_more c.loop-column.cells.items (Some c.in_ok-value.value) i c.loop-column.invariant.len);
+      len = rw c.push_reserved.ensures.items (one_more c.loop-column.cells.items (Some c.in_ok-value.value) i c.loop-column.invariant.len);
+      room = omega (arith, c.push_reserved.ensures.capacity, c.loop-column.invariant.room);
     }
 
 pub returns-clause-cells : goal.returns-clause-cells

@@ -1,4 +1,4 @@
-use Rattle.std.proofs.Common.{◌≡◌, ◌-◌, length, map}
+use Rattle.std.proofs.Common.{◌≡◌, ◌≤◌, ◌-◌, length, map, vec_capacity}
 use Rattle.std.specs.List.{range_with_len}
 use Rattle.mysql_raw_lists.specs.ElementLaws.{with_front}
 use Rattle.mysql_null_bitmap.specs.NullBitmap.{is_null_at}
@@ -15,4 +15,5 @@ invariant-loop-column g l =
       bits : bits_left l.nulls ≡ map (is_null_at offset l.fn.bitmap) (range_with_len l.column-index (length l.columns - l.column-index));
       cells : with_front l.cells.items (cells_from offset l.fn.bitmap l.columns l.column-index l.rest.0.now) ≡ some_cells (binary_cells_at offset l.fn.bitmap 0 (column_views l.columns) l.initial.rest.0.now);
       len : length l.cells.items ≡ l.column-index;
+      room : length l.columns ≤ vec_capacity l.cells;
     }

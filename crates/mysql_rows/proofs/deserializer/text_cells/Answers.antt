@@ -1,4 +1,4 @@
-use Rattle.std.proofs.Common.{Some}
+use Rattle.std.proofs.Common.{Some, arith}
 use Rattle.std.proofs.lemmas.Result.{err_from_is_err_and}
 use Rattle.mysql_wire.specs.Lists.{elements_at}
 use Rattle.mysql_cells.specs.Cells.{text_cell_at}
@@ -15,9 +15,10 @@ returns-in_err-value-clause-cells c =
 pub loop-preserved : goal.loop-preserved
 loop-preserved c =
     record {
-      cells = rw c.in_ok-push.ensures.items (goes_on text_cell_at c.loop.cells.items c.args.count c.loop.counter c.loop.rest.0.now
+      cells = rw c.push_reserved.ensures.items (goes_on text_cell_at c.loop.cells.items c.args.count c.loop.counter c.loop.rest.0.now
           (some_cells (elements_at text_cell_at c.args.count c.args.rest.now.0.now)) c.in_ok-value.value c.read_text_cell.new.buf.0.now c.loop-test.true c.in_ok-value.ensures c.loop.invariant.cells);
-      len = rw c.in_ok-push.ensures.items (one_more c.loop.cells.items (Some c.in_ok-value.value) c.loop.counter c.loop.invariant.len);
+      len = rw c.push_reserved.ensures.items (one_more c.loop.cells.items (Some c.in_ok-value.value) c.loop.counter c.loop.invariant.len);
+      room = omega (arith, c.push_reserved.ensures.capacity, c.loop.invariant.room);
     }
 
 pub returns-clause-cells : goal.returns-clause-cells
