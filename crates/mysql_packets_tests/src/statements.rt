@@ -6,7 +6,7 @@ use mysql_const::{CursorType, StmtExecuteParamsFlags};
 use mysql_raw::WireError;
 use mysql_stmt::{
     ComStmtClose, ComStmtExecuteRequest, ComStmtExecuteRequestBuilder, ComStmtReset,
-    ComStmtSendLongData,
+    ComStmtSendLongData, put_execution, size_within,
 };
 use std::alloc::{AllocError, Global};
 use std::borrow::CowSlice;
@@ -46,8 +46,25 @@ fn long_data(rt: HostRuntime) {
     assert_written(&Asserting(&rt), rt.alloc(), &packet, b"\x18\x01\0\0\0\0\0x");
 }
 
+/// Asserts that the bytes of an execution of one value are appended, and are as many as was said before.
+fn assert_put(assert: &impl Assert, alloc: Global, value: &Value, bytes: &[u8]) {
+    let values = [value];
+    let front = Vec::from_slice(alloc, b"> ");
+    let mut out = once_more(assert, front, Vec::from_slice(alloc, b"> "));
+    let put = match put_execution(1, &values, false, &mut out) {
+        Ok(()) => true,
+        Err(_) => put_execution(1, &values, false, &mut out).is_ok(),
+    };
+    assert.holds(put);
+    assert_equal(assert, out.as_slice().strip_prefix(b"> "), Some(bytes));
+    assert_equal(assert, size_within(&values, bytes.len()), Some(bytes.len()));
+    let fewer = bytes.len().saturating_sub(1);
+    assert_equal(assert, size_within(&values, fewer), None);
+}
+
 /// Asserts the bytes of an execution of one value.
 fn assert_executed(assert: &impl Assert, alloc: Global, value: Value, bytes: &[u8]) {
+    assert_put(assert, alloc, &value, bytes);
     let values = [value];
     let builder = ComStmtExecuteRequestBuilder::new(1);
     let (request, as_long_data) = once_more(

@@ -1,15 +1,13 @@
 -- The bits of the bitmap of an execution are those of its values.
 use Rattle.std.proofs.Common.{◌≡◌, ℕ, zero, suc, ◌+◌, ◌*◌, ◌/◌, ◌%◌, ◌^◌, ◌<◌, ◌≤◌, ◌==◌, Bool, true, false, List, [], ◌∷◌, length, get_or, drop, refl, sym, ◌∙◌, ap, arith}
 use Rattle.std.specs.Prelude.{if◌then◌else◌, slice_index}
-use Rattle.std.specs.Int.{bit_at}
 use Rattle.std.proofs.lemmas.Nat.{pow_pos}
-use Rattle.std.proofs.lemmas.Nat.Bits.{bit_at-lt, bit_at-zero, same_from_bits_below}
 use Rattle.std.proofs.Math.Nat.{div-div-eq-div-mul, pow-succ'}
 use Rattle.std.proofs.lemmas.List.{get_or-drop, length-drop}
 use Rattle.std.proofs.lemmas.List.FromFn.{get_or-map-range_with_len, length-map-range_with_len}
 use Rattle.mysql_cells.specs.declared.value.Value.{Value}
 use Rattle.mysql_cells.specs.declared.value.Value.TheVariants.{NULL}
-use Rattle.mysql_null_bitmap.specs.NullBitmap.{has_bit, is_null_at}
+use Rattle.mysql_null_bitmap.specs.NullBitmap.{is_null_at}
 use Rattle.mysql_cells.specs.Values.{is_null}
 use Rattle.mysql_stmt.specs.Executions.{null_bits, null_bitmap}
 
@@ -62,22 +60,6 @@ pub bitmap_length : (values : List Value) → length (null_bitmap values) ≡ (l
 unfolding null_bitmap
 bitmap_length values = length-map-range_with_len (λ k. null_bits 8 (drop (8 * k) values)) 0 ((length values + 7) / 8)
 
--- whether the value at this place stands and is NULL
-abbrev pub has_null : ℕ → List Value → Bool
-has_null place [] = false
-has_null zero (value ∷ values) = is_null value
-has_null (suc place) (value ∷ values) = has_null place values
-
-none_at : (j : ℕ) → 0 / 2 ^ j % 2 ≡ 0
-none_at j = bit_at-zero j
-
-pub each_bit : (j count : ℕ) (values : List Value) → j < count → null_bits count values / 2 ^ j % 2 ≡ one_if (has_null j values)
-unfolding null_bits
-each_bit j zero values few = absurd (omega arith)
-each_bit j (suc count) [] few = none_at j
-each_bit zero (suc count) (value ∷ values) few = lowest (is_null value) (null_bits count values)
-each_bit (suc j) (suc count) (value ∷ values) few = higher (is_null value) (null_bits count values) j ∙ each_bit j count values (omega arith)
-
 some_bit : (b : Bool) → one_if b ≤ 1
 some_bit true = omega arith
 some_bit false = omega arith
@@ -88,18 +70,3 @@ unfolding null_bits
 null_bits_below zero values = omega arith
 null_bits_below (suc count) [] = omega (arith, pow_pos (suc count))
 null_bits_below (suc count) (value ∷ values) = omega (arith, null_bits_below count values, some_bit (is_null value), pow-succ' 2 count)
-
-one_of : (bit : ℕ) (b : Bool) → bit < 2 → (bit == 1) ≡ b → bit ≡ one_if b
-one_of zero true few is = absurd cc
-one_of zero false few is = refl
-one_of (suc zero) true few is = refl
-one_of (suc zero) false few is = absurd cc
-one_of (suc (suc bit)) b few is = absurd (omega arith)
-
--- the byte whose bits say which of eight values are NULL
-pub byte_of : (bytes : List ℕ) (byte : ℕ) (values : List Value) → byte < 256 → byte ≡ slice_index bytes 0 → ((j : ℕ) → j < 8 → has_bit bytes j ≡ has_null j values) → byte ≡ null_bits 8 values
-byte_of bytes byte values small is bits =
-    same_from_bits_below 8 byte (null_bits 8 values) small (null_bits_below 8 values)
-    (λ j few.
-    let here : has_bit bytes j ≡ (bit_at byte j == 1) = ap (λ (n : ℕ). bit_at (slice_index bytes n) (j % 8) == 1) (omega arith) ∙ ap (λ (n : ℕ). bit_at (slice_index bytes 0) n == 1) (omega arith) ∙ ap (λ (n : ℕ). bit_at n j == 1) (sym is) in
-    one_of (bit_at byte j) (has_null j values) (bit_at-lt byte j) (sym here ∙ bits j few) ∙ sym (each_bit j 8 values few))

@@ -1,17 +1,22 @@
 //! Executions of prepared statements.
 
-ghost use Rattle.std.specs.Prelude.{◌≡◌, ◌++◌, ◌∷◌, ◌≤◌, IfOk, OnOk, SomeIff, flat_map, length, map, nat_lt, take};
+ghost use Rattle.std.specs.Prelude.{◌≡◌, ◌++◌, ◌∷◌, ◌≤◌, IfOk, None, OnOk, Some, SomeIff, flat_map, if◌then◌else◌, is_none, length, map, nat_lt, take};
 ghost use Rattle.byteorder.specs.Endian.{little_bytes};
+ghost use Rattle.mysql_buf.specs.Writing.{lenenc_str};
+ghost use Rattle.mysql_cells.specs.Cells.{bin_len};
+ghost use Rattle.mysql_cells.specs.Values.{content_of};
 ghost use Rattle.mysql_raw.specs.Wire.{Appends};
-ghost use Rattle.mysql_stmt.specs.Executions.{execute_command, execution, execution_of, needs_long_data as has_to_be_apart, null_bitmap, parameters, sent_cell, type_bytes, whole_size};
+ghost use Rattle.mysql_stmt.specs.Executions.{execute_command, execution, execution_of, first_float, needs_long_data as has_to_be_apart, null_bitmap, parameters, sent_cell, type_bytes, whole_size};
 ghost use Rattle.mysql_stmt.specs.Views.{execution_view};
 
 use crate::headers::{ComStmtExecuteHeader, IterationCount};
 use crate::null_bits::{null_bitmap_of, put_null_bitmap};
+use mysql_buf::{BufMutExt, lenenc_str_len};
 use mysql_cells::Value;
-use mysql_const::{CursorType, MAX_PAYLOAD_LEN, StmtExecuteParamsFlags};
-use mysql_raw::{LeU32, MySerialize, RawInt, in_order};
+use mysql_const::{ColumnType, CursorType, MAX_PAYLOAD_LEN, StmtExecuteParamsFlags};
+use mysql_raw::{IntRepr, LeI64, LeU32, MySerialize, RawInt, in_order};
 use std::alloc::{AllocError, Global};
+use std::mem::replace;
 
 /// Makes executions of a prepared statement.
 ///
@@ -105,6 +110,35 @@ pub fn size_within(values: &[&Value], most: usize) -> Option<usize>
     let mut room = most.checked_sub(head)? as u64;
     for value in values {
         room = room.checked_sub(value.bin_len())?;
+    }
+    Some(most - room as usize)
+}
+
+// The bytes of a value's cell; none for a float.
+#[inline(always)]
+fn exact_cell_size(value: &Value) -> Option<u64>
+    ensures { result ≡ (if is_none (content_of value.now) then None else Some (bin_len value.now)) }
+{
+    match value {
+        Value::NULL => Some(0),
+        Value::Bytes(bytes) => Some(lenenc_str_len(bytes.as_slice())),
+        Value::Int(_) | Value::UInt(_) => Some(8),
+        Value::Float(_) | Value::Double(_) => None,
+        Value::Date(..) | Value::Time(..) => Some(value.bin_len()),
+    }
+}
+
+/// The same as [`size_within`], for senders that refuse floats: `None` also where a value is one. Both are found in one pass over the values.
+///
+/// MySQL: Client/Server Protocol, "COM_STMT_EXECUTE".
+pub fn size_without_floats(values: &[&Value], most: usize) -> Option<usize>
+    requires { length values.now ≤ 65535 }
+    ensures { SomeIff result ((first_float (map (λ value. value.now) values.now) ≡ None) × (whole_size (map (λ value. value.now) values.now) ≤ most)) (whole_size (map (λ value. value.now) values.now)) }
+{
+    let head = 10 + (values.len() + 7) / 8 + 1 + 2 * values.len();
+    let mut room = most.checked_sub(head)? as u64;
+    for value in values {
+        room = room.checked_sub(exact_cell_size(*value)?)?;
     }
     Some(most - room as usize)
 }
@@ -209,24 +243,35 @@ impl<'a> MySerialize for Plain<'a> {
 }
 
 // The type of one value.
-fn put_type(value: &Value, buf: &mut Vec<u8>) -> Result<(), AllocError>
-    ensures { Appends result buf.old.items buf.new.items (type_bytes value.now) }
+#[inline(always)]
+fn type_of(value: &Value) -> [u8; 2]
+    ensures { result ≡ type_bytes value.now }
 {
-    let flags = if value.is_unsigned() { 0x80 } else { 0 };
-    buf.extend_from_slice(&[u8::from(value.column_type()), flags])
+    match value {
+        Value::NULL => [u8::from(ColumnType::MYSQL_TYPE_NULL), 0],
+        Value::Bytes(_) => [u8::from(ColumnType::MYSQL_TYPE_VAR_STRING), 0],
+        Value::Int(_) => [u8::from(ColumnType::MYSQL_TYPE_LONGLONG), 0],
+        Value::UInt(_) => [u8::from(ColumnType::MYSQL_TYPE_LONGLONG), 0x80],
+        Value::Float(_) => [u8::from(ColumnType::MYSQL_TYPE_FLOAT), 0],
+        Value::Double(_) => [u8::from(ColumnType::MYSQL_TYPE_DOUBLE), 0],
+        Value::Date(..) => [u8::from(ColumnType::MYSQL_TYPE_DATETIME), 0],
+        Value::Time(..) => [u8::from(ColumnType::MYSQL_TYPE_TIME), 0],
+    }
 }
 
-// The types of values.
+// The types of values, into room that is made for all.
 fn put_types(values: &[&Value], buf: &mut Vec<u8>) -> Result<(), AllocError>
     ensures { Appends result buf.old.items buf.new.items (flat_map (λ value. type_bytes value.now) values.now) }
 {
-    let len = buf.len();
+    buf.reserve(2 * values.len())?;
+    // The length of what no reference leads to isn't written back for each byte.
+    let mut types = replace(buf, Vec::new(*buf.allocator()));
     for value in values {
-        if let Err(e) = put_type(*value, buf) {
-            buf.truncate(len);
-            return Err(e);
-        }
+        let [number, flags] = type_of(*value);
+        types.push_reserved(number);
+        types.push_reserved(flags);
     }
+    *buf = types;
     Ok(())
 }
 
@@ -241,12 +286,29 @@ impl<'a> MySerialize for Types<'a> {
     }
 }
 
-// The cell of one value, where it has one.
+// Appends a byte string after its length.
+#[inline(always)]
+fn put_text(text: &[u8], buf: &mut Vec<u8>) -> Result<(), AllocError>
+    ensures { Appends result buf.old.items buf.new.items (lenenc_str text.now) }
+{
+    if text.len() > 250 {
+        return buf.put_lenenc_str(text);
+    }
+    buf.reserve(text.len() + 1)?;
+    buf.push_reserved(text.len() as u8);
+    buf.extend_from_slice(text)
+}
+
+// The cell of one value, where it has one. The kinds that most values have come first.
+#[inline(always)]
 fn put_cell(value: &Value, apart: bool, buf: &mut Vec<u8>) -> Result<(), AllocError>
     ensures { Appends result buf.old.items buf.new.items (sent_cell apart value.now) }
 {
     match value {
+        Value::NULL => Ok(()),
         Value::Bytes(_) if apart => Ok(()),
+        Value::Bytes(bytes) => put_text(bytes.as_slice(), buf),
+        Value::Int(number) => LeI64::serialize(*number, buf),
         _ => value.serialize(buf),
     }
 }

@@ -12,6 +12,7 @@ pub mod reset;
 pub use close::ComStmtClose;
 pub use execute::{
     ComStmtExecuteRequest, ComStmtExecuteRequestBuilder, put_execution, size_within,
+    size_without_floats,
 };
 pub use headers::{
     ComStmtCloseHeader, ComStmtExecuteHeader, ComStmtResetHeader, ComStmtSendLongDataHeader,

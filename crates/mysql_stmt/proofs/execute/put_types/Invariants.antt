@@ -1,7 +1,11 @@
-use Rattle.std.proofs.Common.{◌≡◌, ◌++◌, take}
+use Rattle.std.proofs.Common.{◌≡◌, ◌+◌, ◌-◌, ◌*◌, ◌≤◌, ◌++◌, take, length}
+use Rattle.std.specs.Prelude.{vec_len, vec_capacity}
 use Rattle.std.specs.List.{flat_map}
 use Rattle.mysql_stmt.specs.Executions.{type_bytes}
 use Rattle.mysql_stmt.proofs.execute.put_types.Given as goal
 
 abbrev pub invariant-loop-value : goal.invariant-loop-value
-invariant-loop-value l = l.buf.items ≡ l.initial.buf.items ++ flat_map (λ value. type_bytes value.now) (take l.value-index l.values)
+invariant-loop-value l = record {
+  written : l.types.items ≡ l.initial.types.items ++ flat_map (λ value. type_bytes value.now) (take l.value-index l.values);
+  room : vec_len l.types + 2 * (length l.values - l.value-index) ≤ vec_capacity l.types;
+}

@@ -1,0 +1,14 @@
+use Rattle.std.proofs.Common.{◌≡◌, ◌+◌, ◌≤◌, drop, map}
+use Rattle.std.specs.Prelude.{is_none}
+use Rattle.std.specs.List.{position_from}
+use Rattle.mysql_cells.specs.Values.{content_of}
+use Rattle.mysql_stmt.specs.Executions.{first_float, whole_size}
+use Rattle.mysql_stmt.proofs.LongData.{left}
+use Rattle.mysql_stmt.proofs.execute.size_without_floats.Given as goal
+
+abbrev pub invariant-loop-value : goal.invariant-loop-value
+invariant-loop-value l = record {
+  sum : whole_size (map (λ value. value.now) l.values) + l.room ≡ l.most + left l.values l.value-index;
+  small : l.room ≤ l.most;
+  floats : position_from (λ value. is_none (content_of value)) l.value-index (map (λ value. value.now) (drop l.value-index l.values)) ≡ first_float (map (λ value. value.now) l.values);
+}
