@@ -12,7 +12,7 @@ use Rattle.mysql_bulk_builder.specs.Cut.{Row}
 use Rattle.mysql_bulk_builder.specs.RowLists.{row_in, rows_in}
 use Rattle.mysql_bulk_builder.specs.TypedRequests.{typing_of}
 use Rattle.mysql_streams.specs.Commands.{request_flags}
-use Rattle.mysql_senders.specs.BulkSets.{row_bytes, types_by, types_bytes}
+use Rattle.mysql_senders.specs.BulkSets.{front_bytes, row_bytes, types_by, types_bytes}
 
 -- all elements are passed
 pub passed : {X : Type 0} (f : X → List ℕ) (xs : List X) (i : ℕ) (old new : List ℕ) → length xs ≤ i → new ≡ old ++ flat_map f (take i xs) → new ≡ old ++ flat_map f xs
@@ -46,20 +46,32 @@ command_parts id false firsts rows = refl
 pub types_of_values : (values : List Value) → types_bytes values ≡ flat_map param_type_bytes (types_by true values)
 types_of_values values = sym (flat_map-map param_type_bytes (λ value. type_of_value value) values)
 
--- a request whose parts were appended one after another
-pub put_whole : {E : Type 0} (answer : Result (Unit {0}) E) (id : ℕ) (typed : Bool) (firsts : List Value) (rows : List Row) (old one two three new : List ℕ) →
-    one ≡ old ++ 250 ∷ [] → two ≡ one ++ little_bytes 4 id → three ≡ two ++ (little_bytes 2 (request_flags (typing_of typed)) ++ flat_map param_type_bytes (types_by typed firsts)) →
-    OnOk answer (new ≡ three ++ flat_map row_bytes rows) → OnOk answer (new ≡ old ++ bulk_command id (request_flags (typing_of typed)) (types_by typed firsts) rows)
-put_whole (Err e) id typed firsts rows old one two three new is_one is_two is_three put = tt
-put_whole (Ok done) id typed firsts rows old one two three new is_one is_two is_three put =
+-- the rows behind what stands before them
+pub command_is : (id : ℕ) (typed : Bool) (firsts : List Value) (rows : List Row) → front_bytes id typed firsts ++ flat_map row_bytes rows ≡ bulk_command id (request_flags (typing_of typed)) (types_by typed firsts) rows
+command_is id typed firsts rows =
     let flags = little_bytes 2 (request_flags (typing_of typed)) in
     let types = flat_map param_type_bytes (types_by typed firsts) in
     let values = flat_map row_bytes rows in
-    put ∙ ap (λ l. l ++ values) is_three ∙ append_assoc two (flags ++ types) values
-    ∙ ap (λ l. l ++ ((flags ++ types) ++ values)) is_two ∙ append_assoc one (little_bytes 4 id) ((flags ++ types) ++ values)
-    ∙ ap (λ l. l ++ (little_bytes 4 id ++ ((flags ++ types) ++ values))) is_one ∙ append_assoc old (250 ∷ []) (little_bytes 4 id ++ ((flags ++ types) ++ values))
-    ∙ ap (λ l. old ++ ((250 ∷ []) ++ (little_bytes 4 id ++ l))) (append_assoc flags types values ∙ ap (λ l. flags ++ (types ++ l)) (sym (all_bytes rows) ∙ sym (append-nil (flat_map param_value_bytes (map param_value_of (all_values rows))))))
-    ∙ ap (λ l. old ++ l) (sym (command_parts id typed firsts rows))
+    append_assoc (250 ∷ []) (little_bytes 4 id ++ (flags ++ types)) values
+    ∙ ap (λ l. (250 ∷ []) ++ l) (append_assoc (little_bytes 4 id) (flags ++ types) values
+    ∙ ap (λ l. little_bytes 4 id ++ l) (append_assoc flags types values ∙ ap (λ l. flags ++ (types ++ l)) (sym (all_bytes rows) ∙ sym (append-nil (flat_map param_value_bytes (map param_value_of (all_values rows)))))))
+    ∙ sym (command_parts id typed firsts rows)
+
+-- what stands before the rows was appended part by part
+pub put_before : {E : Type 0} (answer : Result (Unit {0}) E) (id : ℕ) (typed : Bool) (firsts : List Value) (old one two new : List ℕ) →
+    one ≡ old ++ 250 ∷ [] → two ≡ one ++ little_bytes 4 id → OnOk answer (new ≡ two ++ (little_bytes 2 (request_flags (typing_of typed)) ++ flat_map param_type_bytes (types_by typed firsts))) →
+    OnOk answer (new ≡ old ++ front_bytes id typed firsts)
+put_before (Err e) id typed firsts old one two new is_one is_two put = tt
+put_before (Ok done) id typed firsts old one two new is_one is_two put =
+    let rest = little_bytes 2 (request_flags (typing_of typed)) ++ flat_map param_type_bytes (types_by typed firsts) in
+    put ∙ ap (λ l. l ++ rest) is_two ∙ append_assoc one (little_bytes 4 id) rest ∙ ap (λ l. l ++ (little_bytes 4 id ++ rest)) is_one ∙ append_assoc old (250 ∷ []) (little_bytes 4 id ++ rest)
+
+-- a request whose rows were appended behind what stands before them
+pub put_whole : {E : Type 0} (answer : Result (Unit {0}) E) (id : ℕ) (typed : Bool) (firsts : List Value) (rows : List Row) (old front new : List ℕ) →
+    front ≡ old ++ front_bytes id typed firsts → OnOk answer (new ≡ front ++ flat_map row_bytes rows) → OnOk answer (new ≡ old ++ bulk_command id (request_flags (typing_of typed)) (types_by typed firsts) rows)
+put_whole (Err e) id typed firsts rows old front new is_front put = tt
+put_whole (Ok done) id typed firsts rows old front new is_front put =
+    put ∙ ap (λ l. l ++ flat_map row_bytes rows) is_front ∙ append_assoc old (front_bytes id typed firsts) (flat_map row_bytes rows) ∙ ap (λ l. old ++ l) (command_is id typed firsts rows)
 
 -- the flags of a typed request, and its types behind them
 pub flags_and_types : {E : Type 0} (answer : Result (Unit {0}) E) (typed : Bool) (firsts : List Value) (old one new : List ℕ) → typed ≡ true → one ≡ old ++ little_bytes 2 128 → OnOk answer (new ≡ one ++ types_bytes firsts) →

@@ -32,12 +32,12 @@ use Rattle.mysql_streams.specs.Cause.{bulk_cause, cause_if, first_of_sets, limit
 use Rattle.mysql_streams.specs.Sending.{RefusesGiven}
 use Rattle.mysql_streams.specs.Reading.{SentReadable}
 use Rattle.mysql_senders.specs.OneSet.{IsPreparable, RefusesSets}
-use Rattle.mysql_senders.specs.BulkSets.{AppendsRequests, GivesRows, RefusesRows, no_command, requests_from, types_by}
+use Rattle.mysql_senders.specs.BulkSets.{AppendsRequests, GivesRows, RefusesAll, RefusesRows, no_command, requests_from, types_by}
 
 -- ---- one part
 
 -- the types by the first values of columns
-types_are : (typed : Bool) (columns : ℕ) (rows : List Row) → types_by typed (first_values columns rows) ≡ request_types (typing_of typed) columns rows
+pub types_are : (typed : Bool) (columns : ℕ) (rows : List Row) → types_by typed (first_values columns rows) ≡ request_types (typing_of typed) columns rows
 types_are true columns rows = map-map (λ value. type_of_value value) (λ column. first_value column rows) (range_with_len 0 columns)
 types_are false columns rows = refl
 
@@ -191,3 +191,8 @@ module _ (query : List ℕ) (parsed : Parsed) (places : ℕ) (s : IsPreparable q
           };
           readable = given.fit;
         }
+
+  -- the sets or their rows are refused
+  pub refused_all : (refusal : Refusal) → RefusesAll (record { places = places; bytes = limit - 4 }) (given_up_to sets stop parsed.names) refusal → RefusesGiven Bulk query (given_up_to sets stop) id limit refusal
+  refused_all refusal (inl this) = refused_sets refusal this
+  refused_all refusal (inr this) = refused_rows this.0 this.1 refusal this.2

@@ -3,7 +3,10 @@ pub mod SentSets
 pub mod Texts
 pub mod Queries
 pub mod Pieces
+pub mod PlainSizes
 pub mod StatementSets
+pub mod MadeSets
 pub mod BulkCommand
 pub mod BulkRows
 pub mod BulkRequests
+pub mod BulkAtOnce

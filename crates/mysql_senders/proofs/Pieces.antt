@@ -91,7 +91,7 @@ long_by_size sizes id size [] is = ap (λ n. nat_lt 16777215 n) (sym (sizes.0 id
 long_by_size sizes id size (value ∷ values) is = ap (λ n. nat_lt 16777215 n) (sym (sizes.1 id value.now (referred values)) ∙ is)
 
 -- a payload that one chunk holds
-short_framing : (payload : List ℕ) → length payload < 16777215 → little_bytes 3 (length payload) ++ (0 ∷ payload) ≡ framing payload 0
+pub short_framing : (payload : List ℕ) → length payload < 16777215 → little_bytes 3 (length payload) ++ (0 ∷ payload) ≡ framing payload 0
 unfolding framing chunks
 short_framing payload short =
     let none : length payload / 16777215 ≡ 0 = omega (arith, short) in

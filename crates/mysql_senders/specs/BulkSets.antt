@@ -1,19 +1,24 @@
 -- Sets as rows of bulk requests: what the private steps of sending them promise.
 -- MariaDB: Client/Server Protocol, "COM_STMT_BULK_EXECUTE".
-use Rattle.std.specs.Prelude.{◌≡◌, ◌⊎◌, ℕ, Bool, true, false, List, [], ◌++◌, map, Some, None, Ok, length}
+use Rattle.std.specs.Prelude.{◌≡◌, ◌⊎◌, ℕ, Bool, true, false, List, [], ◌∷◌, ◌++◌, map, Some, None, Ok, length}
 use Rattle.std.specs.List.{AllByRecursion, flat_map}
+use Rattle.byteorder.specs.Endian.{little_bytes}
 use Rattle.mysql_wire.specs.Stream.{framings}
 use Rattle.mysql_wire.specs.Stream.Numbering.{EachFromZero}
 use Rattle.mysql_values.specs.AsSql.{FitsFields}
 use Rattle.mysql_values.specs.Value.{Value}
 use Rattle.mysql_bulk.specs.Bulk.{all_values, param_type_bytes, param_value_bytes, param_value_of, type_of_value}
 use Rattle.mysql_bulk.specs.declared.param_type.StmtBulkExecuteParamType.{StmtBulkExecuteParamType}
+use Rattle.mysql_bulk_builder.specs.Causes.{is_of_other_kind, mixed_kinds, place_where}
 use Rattle.mysql_bulk_builder.specs.Cut.{Row}
 use Rattle.mysql_bulk_builder.specs.TypedCut.{IsTightTyped, Part, placed_from}
+use Rattle.mysql_bulk_builder.specs.TypedRequests.{typing_of}
+use Rattle.mysql_bulk_builder.specs.ValueTypes.{first_values}
 use Rattle.mysql_streams.specs.declared.refusal.Refusal.{Refusal}
 use Rattle.mysql_streams.specs.declared.refusal.Refusal.TheVariants as refusals
-use Rattle.mysql_streams.specs.Commands.{bulk_request}
+use Rattle.mysql_streams.specs.Commands.{bulk_request, request_flags}
 use Rattle.mysql_streams.specs.Sets.{Given}
+use Rattle.mysql_senders.specs.OneSet.{RefusesSets}
 use Rattle.mysql_streams.specs.Cause.{Limits, bulk_cause, first_of_sets, set_cause}
 
 -- values are those of rows of so many columns, one row after another
@@ -50,6 +55,10 @@ abbrev pub types_by : Bool → List Value → List StmtBulkExecuteParamType
 types_by true firsts = map (λ value. type_of_value value) firsts
 types_by false firsts = []
 
+-- the bytes of a request up to its rows
+abbrev pub front_bytes : ℕ → Bool → List Value → List ℕ
+front_bytes id typed firsts = (250 ∷ []) ++ (little_bytes 4 id ++ (little_bytes 2 (request_flags (typing_of typed)) ++ flat_map param_type_bytes (types_by typed firsts)))
+
 -- the requests of the parts of a cut from a row on
 abbrev pub requests_from : ℕ → ℕ → List Row → ℕ → List Part → List (List ℕ)
 requests_from id columns rows start cut = map (λ p. bulk_request id columns rows p.0 p.1) (placed_from start cut)
@@ -64,3 +73,29 @@ pub record AppendsRequests (id columns room : ℕ) (rows : List Row) (old new : 
 -- Memory, or the first cause that speaks against the rows
 abbrev pub RefusesRows : ℕ → ℕ → List Row → Refusal → Type 0
 RefusesRows columns room rows refusal = (refusal ≡ refusals.Memory) ⊎ (bulk_cause columns room rows ≡ Some refusal)
+
+-- a set's row is appended: nothing speaks against it, and each value is of the kind of its column's first value in the rows before; the first values are then those with this row
+pub record AppendsRow (limits : Limits) (set : ℕ) (given : Given) (firsts new_firsts : Row) (old new : List ℕ) : Type 0 where
+  pub row : Row
+  pub gives : GivesRow limits set given row
+  pub one_kind : (before : List Row) → firsts ≡ first_values limits.places before → place_where (is_of_other_kind before) row ≡ None
+  pub firsts_are : (before : List Row) → firsts ≡ first_values limits.places before → new_firsts ≡ first_values limits.places (before ++ row ∷ [])
+  pub appended : new ≡ old ++ row_bytes row
+
+-- the rows of sets are appended: nothing speaks against any, and no column mixes kinds
+pub record AppendsRows (limits : Limits) (given : List Given) (firsts : Row) (old new : List ℕ) : Type 0 where
+  pub rows : List Row
+  pub gives : GivesRows limits given rows
+  pub one_kind : mixed_kinds rows ≡ None
+  pub firsts_are : firsts ≡ first_values limits.places rows
+  pub appended : new ≡ old ++ flat_map row_bytes rows
+
+-- all sets are sent by one request: they give rows, and it is appended
+pub record AppendsAll (id : ℕ) (limits : Limits) (given : List Given) (old new : List ℕ) : Type 0 where
+  pub rows : List Row
+  pub gives : GivesRows limits given rows
+  pub sent : AppendsRequests id limits.places limits.bytes rows old new
+
+-- Memory, or the first cause that speaks against the sets: against one of them, or against the rows that they give
+abbrev pub RefusesAll : Limits → List Given → Refusal → Type 0
+RefusesAll limits given refusal = RefusesSets no_command limits given refusal ⊎ ((rows : List Row) × GivesRows limits given rows × RefusesRows limits.places limits.bytes rows refusal)

@@ -1,2 +1,3 @@
 pub mod OneSet
 pub mod BulkSets
+pub mod MadeSets

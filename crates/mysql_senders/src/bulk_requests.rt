@@ -1,6 +1,6 @@
 //! Parameter sets as bulk requests.
 
-ghost use Rattle.std.specs.Prelude.{◌≡◌, ◌⊎◌, ◌+◌, ◌≤◌, ◌++◌, ℕ, All, IfErr, IfOk, None, OnErr, OnOk, Some, length, sum_by, take};
+ghost use Rattle.std.specs.Prelude.{◌≡◌, ◌⊎◌, ◌+◌, ◌<◌, ◌≤◌, ◌++◌, ℕ, All, IfErr, IfOk, None, OnErr, OnOk, Some, length, sum_by, take};
 ghost use Rattle.mysql_wire.specs.Framing.{framing};
 ghost use Rattle.mysql_wire.specs.Stream.{framings};
 ghost use Rattle.mysql_wire.specs.Stream.Numbering.{EachFromZero};
@@ -15,8 +15,9 @@ ghost use Rattle.mysql_streams.specs.Sending.{RefusesGiven};
 ghost use Rattle.mysql_streams.specs.Sets.{given_up_to};
 ghost use Rattle.mysql_streams.specs.declared.refusal.Refusal.TheVariants as refusals;
 ghost use Rattle.mysql_streams.specs.declared.road.Road.TheVariants as roads;
-ghost use Rattle.mysql_senders.specs.BulkSets.{AppendsRequests, RefusesRows, requests_from};
+ghost use Rattle.mysql_senders.specs.BulkSets.{AppendsAll, AppendsRequests, RefusesAll, RefusesRows, requests_from};
 
+use crate::bulk_at_once::put_at_once;
 use crate::bulk_command::put_request;
 use crate::bulk_rows::{lent_rows, values_of_sets};
 use crate::statement::{Statement, put_prepare, statement_of};
@@ -130,6 +131,48 @@ fn put_rows(
     Ok(())
 }
 
+/// Appends the requests of the sets, whose rows are looked at one kind of cause after another before they are written. After a
+/// refusal what stood before stands in front.
+fn put_checked_sets(
+    alloc: Global,
+    statement: &Statement<'_>,
+    sets: &[Params],
+    stop: Option<SetError>,
+    room: usize,
+    out: &mut Vec<u8>,
+) -> Result<(), Refusal>
+    requires { 0 < statement.now.places }
+    ensures ok { OnOk result (AppendsAll statement.now.id (record { places = statement.now.places; bytes = room }) (given_up_to sets.now stop statement.now.parsed.names) out.old.items out.new.items) }
+    ensures err { IfErr result (RefusesAll (record { places = statement.now.places; bytes = room }) (given_up_to sets.now stop statement.now.parsed.names)) }
+    ensures kept { take (length out.old.items) out.new.items ≡ out.old.items }
+{
+    let values = values_of_sets(alloc, statement, sets, stop, room)?;
+    let rows = lent_rows(alloc, &values, statement.places)?;
+    put_rows(alloc, statement.id, statement.places, &rows, room, out)
+}
+
+/// Appends the requests of the sets: one where it holds all of them and nothing speaks against any, else as few as there can be.
+/// After a refusal what stood before stands in front.
+fn put_sets(
+    alloc: Global,
+    statement: &Statement<'_>,
+    sets: &[Params],
+    stop: Option<SetError>,
+    room: usize,
+    out: &mut Vec<u8>,
+) -> Result<(), Refusal>
+    requires { 0 < statement.now.places }
+    ensures ok { OnOk result (AppendsAll statement.now.id (record { places = statement.now.places; bytes = room }) (given_up_to sets.now stop statement.now.parsed.names) out.old.items out.new.items) }
+    ensures err { IfErr result (RefusesAll (record { places = statement.now.places; bytes = room }) (given_up_to sets.now stop statement.now.parsed.names)) }
+    ensures kept { take (length out.old.items) out.new.items ≡ out.old.items }
+{
+    let whole = put_at_once(alloc, statement, sets, &stop, room, out)?;
+    if whole {
+        return Ok(());
+    }
+    put_checked_sets(alloc, statement, sets, stop, room, out)
+}
+
 /// Appends the commands that carry parameter sets of a query to a server as bulk requests, each framed as packets that are
 /// numbered from 0: one prepare, and as few requests as there can be, each of as many sets as it has room for, with types
 /// where it has to bring them. Sets and places count from 0; a payload has at most `limit - 4` bytes, as the limit counts a
@@ -161,7 +204,5 @@ pub fn put_requests(
     if statement.places == 0 {
         return Err(Refusal::NoPlaces);
     }
-    let values = values_of_sets(alloc, &statement, sets, stop, limit - 4)?;
-    let rows = lent_rows(alloc, &values, statement.places)?;
-    put_rows(alloc, statement.id, statement.places, &rows, limit - 4, out)
+    put_sets(alloc, &statement, sets, stop, limit - 4, out)
 }

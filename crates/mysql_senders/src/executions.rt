@@ -1,8 +1,8 @@
 //! Parameter sets as executions of a prepared statement.
 
-ghost use Rattle.std.specs.Prelude.{◌≡◌, ◌++◌, ◌∷◌, ◌<◌, ◌≤◌, ℕ, [], IfErr, IfOk, IfSome, None, Ok, OnErr, OnOk, Some, is_none, length, map, nat_lt, take};
+ghost use Rattle.std.specs.Prelude.{◌≡◌, ◌++◌, ◌∷◌, ◌<◌, ◌≤◌, ℕ, [], IfErr, IfOk, IfSome, None, Ok, OnErr, OnOk, OnSome, Some, false, is_none, length, map, nat_lt, take};
 ghost use Rattle.byteorder.specs.Endian.{little_bytes};
-ghost use Rattle.mysql_stmt.specs.Executions.{execute_command};
+ghost use Rattle.mysql_stmt.specs.Executions.{execute_command, first_float};
 ghost use Rattle.mysql_wire.specs.Framing.{framing};
 ghost use Rattle.mysql_wire.specs.Stream.{framings};
 ghost use Rattle.mysql_wire.specs.Stream.Numbering.{EachFromZero};
@@ -20,7 +20,7 @@ use crate::statement::{Statement, put_prepare, statement_of};
 use mysql_const::MAX_PAYLOAD_LEN;
 use mysql_raw::MySerialize;
 use mysql_stmt::laws::executions_have_sizes;
-use mysql_stmt::{ComStmtSendLongData, put_execution, size_within};
+use mysql_stmt::{ComStmtSendLongData, put_execution, size_within, size_without_floats};
 use mysql_streams::Refusal;
 use mysql_values::{Params, SetError, Value};
 use mysql_wire::packet_to_chunks;
@@ -124,7 +124,7 @@ fn put_long(
 }
 
 /// The header of the only packet of a payload of so many bytes.
-fn packet_header(size: u32) -> [u8; 4]
+pub(crate) fn packet_header(size: u32) -> [u8; 4]
     requires { size < 16777216 }
     ensures { result ≡ little_bytes 3 size ++ 0 ∷ [] }
 {
@@ -142,6 +142,7 @@ fn put_short(id: u32, values: &[&Value], size: usize, out: &mut Vec<u8>) -> Resu
     ensures kept { take (length out.old.items) out.new.items ≡ out.old.items }
 {
     executions_have_sizes();
+    out.reserve(size + 4)?;
     out.extend_from_slice(&packet_header(size as u32))?;
     put_execution(id, values, false, out)?;
     Ok(())
@@ -181,8 +182,32 @@ fn size_in(values: &[&Value], room: usize) -> Option<usize>
     size_within(values, room)
 }
 
-/// The bytes of a set's execution. Refuses `WrongCount`, then `Float`, then `PacketTooLarge`.
-fn checked_size(values: &[&Value], places: usize, room: usize, set: usize) -> Result<usize, Refusal>
+/// The bytes of a set's execution, found in one pass over values that nothing speaks against.
+fn size_of_plain(values: &[&Value], places: usize, room: usize) -> Option<usize>
+    requires { places ≤ 65535 }
+    ensures count { OnSome result (length values.now ≡ places) }
+    ensures exact { OnSome result (first_float (map (λ value. value.now) values.now) ≡ None) }
+    ensures size { IfSome result (λ size. (id : ℕ) → length (whole_execution id (map (λ value. value.now) values.now)) ≡ size) }
+    ensures fits { OnSome result ((id : ℕ) → nat_lt room (length (whole_execution id (map (λ value. value.now) values.now))) ≡ false) }
+{
+    executions_have_sizes();
+    if values.len() != places {
+        return None;
+    }
+    if values.is_empty() {
+        return None;
+    }
+    size_without_floats(values, room)
+}
+
+/// The bytes of a set's execution, checked for one cause after another.
+#[inline(never)]
+fn size_or_cause(
+    values: &[&Value],
+    places: usize,
+    room: usize,
+    set: usize,
+) -> Result<usize, Refusal>
     requires { places ≤ 65535 }
     ensures count { OnOk result (length values.now ≤ 65535) }
     ensures size { IfOk result (λ size. (id : ℕ) → length (whole_execution id (map (λ value. value.now) values.now)) ≡ size) }
@@ -193,6 +218,20 @@ fn checked_size(values: &[&Value], places: usize, room: usize, set: usize) -> Re
     match size_in(values, room) {
         Some(size) => Ok(size),
         None => Err(Refusal::PacketTooLarge(set)),
+    }
+}
+
+/// The bytes of a set's execution. Refuses `WrongCount`, then `Float`, then `PacketTooLarge`.
+fn checked_size(values: &[&Value], places: usize, room: usize, set: usize) -> Result<usize, Refusal>
+    requires { places ≤ 65535 }
+    ensures count { OnOk result (length values.now ≤ 65535) }
+    ensures size { IfOk result (λ size. (id : ℕ) → length (whole_execution id (map (λ value. value.now) values.now)) ≡ size) }
+    ensures ok { OnOk result ((id : ℕ) → set_cause (whole_execution id) (record { places = places; bytes = room }) set (Ok (map (λ value. value.now) values.now)) ≡ None) }
+    ensures err { IfErr result (λ refusal. (id : ℕ) → set_cause (whole_execution id) (record { places = places; bytes = room }) set (Ok (map (λ value. value.now) values.now)) ≡ Some refusal) }
+{
+    match size_of_plain(values, places, room) {
+        Some(size) => Ok(size),
+        None => size_or_cause(values, places, room, set),
     }
 }
 
@@ -216,7 +255,7 @@ fn put_values(
 }
 
 /// Appends the execution of one set, whose values are listed in place of what the list holds.
-fn put_set<'a>(
+pub(crate) fn put_set<'a>(
     statement: &Statement<'_>,
     set: usize,
     params: &'a Params,

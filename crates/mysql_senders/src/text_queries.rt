@@ -40,7 +40,7 @@ fn check_places(places: &[Place]) -> Result<(), Refusal>
 }
 
 /// The placeholders of a query, where a text query can carry literals in them.
-fn checked_places(alloc: Global, query: &[u8]) -> Result<Vec<Place>, Refusal>
+pub(crate) fn checked_places(alloc: Global, query: &[u8]) -> Result<Vec<Place>, Refusal>
     ensures places { IfOk result (λ places. HasPlaces query.now places.items) }
     ensures one_kind { IfOk result (λ places. has_both_kinds places.items ≡ false) }
     ensures alone { IfOk result (λ places. first_apart places.items ≡ None) }
@@ -70,7 +70,7 @@ fn refusal_of(set: usize, error: BindError) -> Refusal
 
 /// Appends the text query of one set, over what is found of the query once: its placeholders and the names among them. The lists
 /// `values` and `command` keep their room from set to set.
-fn put_query<'a>(
+pub(crate) fn put_query<'a>(
     query: &[u8],
     places: &[Place],
     names: &[CowSlice<'_, u8>],

@@ -1,9 +1,11 @@
 -- Lists of objects, and the parameter sets that are made of them.
-use Rattle.std.proofs.Common.{◌≡◌, ◌≢◌, inl, inr, ℕ, suc, ◌+◌, ◌-◌, ◌^◌, ◌<◌, ◌≤◌, List, [], ◌∷◌, ◌++◌, length, map, take, drop, get_or, Option, Some, None, Result, Ok, Err, refl, sym, ◌∙◌, ap, subst, add-one, drop-cons, is_none}
+use Rattle.std.proofs.Common.{◌≡◌, ◌≢◌, inl, inr, ℕ, suc, ◌+◌, ◌-◌, ◌^◌, ◌<◌, ◌≤◌, List, [], ◌∷◌, ◌++◌, length, map, take, drop, get_or, Option, Some, None, Result, Ok, Err, refl, sym, ◌∙◌, ap, add-one, drop-cons, is_none}
 use Rattle.std.specs.List.{AllZip, filter_map, position_from}
 use Rattle.std.specs.Option.{option_map, option_or}
 use Rattle.std.specs.Result.{result_map_both}
-use Rattle.std.proofs.lemmas.List.{append-nil, drop_all, map-append, take-append-drop, take_more}
+use Rattle.std.proofs.lemmas.List.{append-nil, drop_all, length-map, map-append, take-append-drop, take_more}
+use Rattle.std.proofs.lemmas.Option.{slice_get-map, slice_get_read}
+use Rattle.std.specs.Prelude.{MatchResult}
 use Rattle.mysql_values.specs.Content.{Content}
 use Rattle.mysql_values.specs.Value.{Value}
 use Rattle.mysql_values.specs.declared.params.Params.{Params}
@@ -27,6 +29,7 @@ use Rattle.mysql_streams.specs.Cause.{cause_of, first_of_sets, limits_of, query_
 use Rattle.mysql_streams.specs.Reading.{SentReadable}
 use Rattle.mysql_streams.specs.Sending.{RefusesGiven, SendsGiven}
 use Rattle.mysql_streams.specs.Laws.{IsDelivered, SentSetsAreDelivered}
+use Rattle.mysql_senders.specs.MadeSets.{AllMade, IsSetAt, given_by_made}
 use Rattle.mysql_session.specs.Made.{AreLeft, AreMade, AreMadeUpTo}
 
 -- ---- one list
@@ -66,13 +69,13 @@ made_gives names objects (Named entries) made = absurd made
 gives_values : (names : List (List ℕ)) (params : Params) (values : List Value) → values_over names params ≡ Ok values → given_by names params ≡ Ok values
 gives_values names params values over = ap (λ (o : Result (List Value) ParamsError). result_map_both (λ values. values) (λ error. set_error.Params error) o) over
 
--- and means what they mean
-made_means : (query : List ℕ) (objects : List (Option Value)) (params : Params) (contents : List Content) → IsMadeOf (InOrder objects) params → IsMeaning query params contents → IsObjectsMeaning query objects contents
-made_means query objects params contents made m = record {
+-- a set that gives what objects give means what they mean
+gives_means : (query : List ℕ) (objects : List (Option Value)) (params : Params) (contents : List Content) → ((names : List (List ℕ)) → given_by names params ≡ given_by_objects names objects) → IsMeaning query params contents → IsObjectsMeaning query objects contents
+gives_means query objects params contents same m = record {
   tokens = m.tokens;
   has = m.has;
   values = m.values;
-  gives = sym (made_gives (names_of m.tokens) objects params made) ∙ gives_values (names_of m.tokens) params m.values m.over;
+  gives = sym (same (names_of m.tokens)) ∙ gives_values (names_of m.tokens) params m.values m.over;
   count = m.count;
   each = m.each;
 }
@@ -90,14 +93,18 @@ all_made_give names (objects ∷ lists) [] made = absurd made
 all_made_give names (objects ∷ lists) (params ∷ sets) made =
     ap (λ g. g ∷ map (given_by names) sets) (made_gives names objects params made.0) ∙ ap (λ l. given_by_objects names objects ∷ l) (all_made_give names lists sets made.1)
 
-all_made_mean : (query : List ℕ) (lists : List (List (Option Value))) (sets : List Params) (contents : List (List Content)) → AreMade lists sets → AllZip (IsMeaning query) sets contents → AllZip (IsObjectsMeaning query) lists contents
-all_made_mean query [] [] [] made means = tt
-all_made_mean query [] [] (held ∷ contents) made means = absurd means
-all_made_mean query [] (params ∷ sets) contents made means = absurd made
-all_made_mean query (objects ∷ lists) [] contents made means = absurd made
-all_made_mean query (objects ∷ lists) (params ∷ sets) [] made means = absurd means
-all_made_mean query (objects ∷ lists) (params ∷ sets) (held ∷ contents) made means =
-    (made_means query objects params held made.0 means.0, all_made_mean query lists sets contents made.1 means.1)
+-- sets that give what lists of objects give mean what they mean
+all_mean : (query : List ℕ) (lists : List (List (Option Value))) (sets : List Params) (contents : List (List Content)) → ((names : List (List ℕ)) → all_given sets names ≡ all_given_by_objects lists names)
+    → AllZip (IsMeaning query) sets contents → AllZip (IsObjectsMeaning query) lists contents
+all_mean query [] [] [] same means = tt
+all_mean query [] [] (held ∷ contents) same means = absurd means
+all_mean query [] (params ∷ sets) contents same means = let none : all_given (params ∷ sets) [] ≡ all_given_by_objects [] [] = same [] in cc
+all_mean query (objects ∷ lists) [] contents same means = let none : all_given [] [] ≡ all_given_by_objects (objects ∷ lists) [] = same [] in cc
+all_mean query (objects ∷ lists) (params ∷ sets) [] same means = absurd means
+all_mean query (objects ∷ lists) (params ∷ sets) (held ∷ contents) same means = (
+  gives_means query objects params held (λ names. let both : all_given (params ∷ sets) names ≡ all_given_by_objects (objects ∷ lists) names = same names in cc) means.0,
+  all_mean query lists sets contents (λ names. let both : all_given (params ∷ sets) names ≡ all_given_by_objects (objects ∷ lists) names = same names in cc) means.1,
+)
 
 -- ---- making them
 
@@ -137,6 +144,26 @@ made_all f xs i sets passed made = record {
   rest = refl;
 }
 
+-- ---- one at a time
+
+-- what is made of a list gives what its objects give
+made_or_refused : (names : List (List ℕ)) (objects : List (Option Value)) (made : Result Params SetError) → MatchResult made (λ params. IsMadeOf (InOrder objects) params) (λ error. too_long 0 objects ≡ Some error)
+    → given_by_objects names objects ≡ given_by_made names made
+made_or_refused names objects (Ok params) made = sym (made_gives names objects params made)
+made_or_refused names objects (Err error) long = refused_give names objects error long
+
+-- lists of objects give as much as they are
+pub as_many : {L : Type 0} (f : L → List (Option Value)) (lists : List L) (names : List (List ℕ)) → length (all_given_by_objects (map f lists) names) ≡ length lists
+as_many f lists names = length-map (map f lists) (given_by_objects names) ∙ length-map lists f
+
+-- the set that is made of the list of this number
+pub set_at : {L : Type 0} (f : L → List (Option Value)) (lists : List L) (number : ℕ) (list : L) (made : Result Params SetError) → number < length lists → list ≡ get_or lists number list
+    → MatchResult made (λ params. IsMadeOf (InOrder (f list)) params) (λ error. too_long 0 (f list) ≡ Some error) → IsSetAt (all_given_by_objects (map f lists)) number made
+set_at f lists number list made inside is this = λ names.
+    slice_get-map (given_by_objects names) (map f lists) number
+    ∙ ap (option_map (given_by_objects names)) (slice_get-map f lists number ∙ ap (option_map f) (slice_get_read lists (length lists) number list refl inside is))
+    ∙ ap Some (made_or_refused names (f list) made this)
+
 -- ---- causes
 
 -- the first cause of sets of which one gives nothing is found before those behind it
@@ -165,6 +192,24 @@ none_stopped (given ∷ others) error (first ∷ values) all =
     let behind : others ++ Err error ∷ [] ≡ map Ok values = cc in none_stopped others error values behind
 
 -- ---- sending them
+
+-- what is sent of sets is sent of others that give the same
+abbrev same_sends : (road : Road) (query : List ℕ) (id limit : ℕ) (old new : List ℕ) (given others : List (List ℕ) → List Given) → ((names : List (List ℕ)) → given names ≡ others names)
+    → SendsGiven road query given id limit old new → SendsGiven road query others id limit old new
+same_sends road query id limit old new given others same s = record {
+  tokens = s.tokens;
+  has = s.has;
+  values = s.values;
+  given = sym (same (names_of s.tokens)) ∙ s.given;
+  none = ap (λ l. cause_of road (statement_of query s.tokens id) limit l) (sym (same (names_of s.tokens))) ∙ s.none;
+  sent = s.sent;
+  are_sent = s.are_sent;
+  appended = s.appended;
+}
+
+same_sent : (road : Road) (query : List ℕ) (id limit : ℕ) (old new : List ℕ) (given others : List (List ℕ) → List Given) → ((names : List (List ℕ)) → given names ≡ others names)
+    → SentReadable road query given id limit old new → SentReadable road query others id limit old new
+same_sent road query id limit old new given others same s = record { sends = same_sends road query id limit old new given others same s.sends; readable = s.readable }
 
 module _ (road : Road) (query : List ℕ) (lists : List (List (Option Value))) (sets : List Params) (id limit : ℕ) where
   -- what the lists give, by those of which sets were made
@@ -205,40 +250,31 @@ module _ (road : Road) (query : List ℕ) (lists : List (List (Option Value))) (
     first = sym (same_cause stop m (statement_of query c.tokens id) (names_of c.tokens)) ∙ c.first;
   }
 
-  module _ (law : SentSetsAreDelivered) (small : id < 2 ^ 32) (four : 4 ≤ limit) (old new : List ℕ) (short : length new < 2 ^ 64) where
-    -- what was sent of the made sets was sent of all lists, and is delivered
-    delivered : (m : AreMadeUpTo lists sets None) → SentReadable road query (all_given sets) id limit old new
-        → SendsValues road query lists id limit old new × ReadsBackValues query lists id limit old new × SendsWholeValues road query lists id limit old new
-    delivered m s =
-        let d : IsDelivered road query sets id limit old new = law road query sets id limit old new small four short s in
-        let front : lists ≡ m.front = m.parts ∙ ap (λ l. m.front ++ l) m.rest ∙ append-nil m.front in
-        let over : SendsGiven road query (all_given sets) id limit old new → SendsValues road query lists id limit old new = over_lists m in (
-          over s.sends,
-          record {
-            stream = d.read_back.stream;
-            appended = d.read_back.appended;
-            contents = d.read_back.contents;
-            reads = record {
-              meanings = subst (λ (l : List (List (Option Value))). AllZip (IsObjectsMeaning query) l d.read_back.contents) (sym front) (all_made_mean query m.front sets d.read_back.contents m.made d.read_back.reads.meanings);
-              audit = d.read_back.reads.audit;
-            };
-          },
-          record { sends = over d.whole.sends; fronts = d.whole.fronts; fewest = d.whole.fewest },
-        )
-      where
-        over_lists : AreMadeUpTo lists sets None → SendsGiven road query (all_given sets) id limit old new → SendsValues road query lists id limit old new
-        over_lists m s = record {
-          tokens = s.tokens;
-          has = s.has;
-          values = s.values;
-          given = sym (same_given m (names_of s.tokens)) ∙ s.given;
-          none = ap (λ l. cause_of road (statement_of query s.tokens id) limit l) (sym (same_given m (names_of s.tokens))) ∙ s.none;
-          sent = s.sent;
-          are_sent = s.are_sent;
-          appended = s.appended;
-        }
+  -- all lists made sets, and what was sent of these was sent of the lists
+  pub sent : (stop : Option SetError) (old new : List ℕ) → AreMadeUpTo lists sets stop → SentReadable road query (given_up_to sets stop) id limit old new
+      → SentReadable road query (all_given_by_objects lists) id limit old new × AllMade (all_given_by_objects lists)
+  sent None old new m s = (
+    same_sent road query id limit old new (all_given sets) (all_given_by_objects lists) (same_given m) s,
+    record { sets = sets; give = same_given m },
+  )
+  sent (Some error) old new m s = absurd (none_stopped (all_given sets (names_of s.sends.tokens)) error s.sends.values s.sends.given)
 
-    pub all_delivered : (stop : Option SetError) → AreMadeUpTo lists sets stop → SentReadable road query (given_up_to sets stop) id limit old new
-        → SendsValues road query lists id limit old new × ReadsBackValues query lists id limit old new × SendsWholeValues road query lists id limit old new
-    all_delivered None m s = delivered m s
-    all_delivered (Some error) m s = absurd (none_stopped (all_given sets (names_of s.sends.tokens)) error s.sends.values s.sends.given)
+-- what is sent of lists of objects that all make sets is delivered
+pub delivered : SentSetsAreDelivered → (road : Road) (query : List ℕ) (lists : List (List (Option Value))) (id limit : ℕ) (old new : List ℕ) → id < 2 ^ 32 → 4 ≤ limit → length new < 2 ^ 64
+    → AllMade (all_given_by_objects lists) → SentReadable road query (all_given_by_objects lists) id limit old new
+    → SendsValues road query lists id limit old new × ReadsBackValues query lists id limit old new × SendsWholeValues road query lists id limit old new
+delivered law road query lists id limit old new small four short m s =
+    let d : IsDelivered road query m.sets id limit old new =
+    law road query m.sets id limit old new small four short (same_sent road query id limit old new (all_given_by_objects lists) (all_given m.sets) (λ names. sym (m.give names)) s) in (
+      s.sends,
+      record {
+        stream = d.read_back.stream;
+        appended = d.read_back.appended;
+        contents = d.read_back.contents;
+        reads = record {
+          meanings = all_mean query lists m.sets d.read_back.contents m.give d.read_back.reads.meanings;
+          audit = d.read_back.reads.audit;
+        };
+      },
+      record { sends = same_sends road query id limit old new (all_given m.sets) (all_given_by_objects lists) m.give d.whole.sends; fronts = d.whole.fronts; fewest = d.whole.fewest },
+    )

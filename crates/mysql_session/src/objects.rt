@@ -1,13 +1,16 @@
 //! Lists of objects as commands.
 
-ghost use Rattle.std.specs.Prelude.{◌≡◌, ◌≤◌, IfErr, IfOk, MatchResult, OnErr, OnOk, Some, map};
+ghost use Rattle.std.specs.Prelude.{◌≡◌, ◌≤◌, IfErr, IfOk, MatchResult, OnErr, OnOk, Some, length, map, take};
 ghost use Rattle.mysql_convert.specs.Sets.{IsMadeOf, too_long};
 ghost use Rattle.mysql_convert.specs.Sets.Parts.{InOrder};
+ghost use Rattle.mysql_senders.specs.MadeSets.{AllMade};
 ghost use Rattle.mysql_session.specs.Made.{AreMadeUpTo};
-ghost use Rattle.mysql_session.specs.Objects.{ReadsBackValues, RefusesValues, SendsValues, SendsWholeValues};
+ghost use Rattle.mysql_session.specs.Objects.{ReadsBackValues, RefusesValues, SendsValues, SendsWholeValues, all_given_by_objects};
+ghost use Rattle.mysql_streams.specs.Reading.{SentReadable};
+ghost use Rattle.mysql_streams.specs.declared.road.Road.TheVariants as roads;
 
-use crate::sender::send_sets;
 use mysql_convert::{IntoParams, ToValue};
+use mysql_senders::{SetMaker, put_made_executions, put_made_queries, put_requests};
 use mysql_streams::laws::sent_sets_are_delivered;
 use mysql_streams::{Refusal, Road};
 use mysql_values::{Params, SetError};
@@ -21,11 +24,11 @@ struct MadeSets {
 }
 
 /// A set of the objects' values, or why they make none.
-fn set_or_refusal(
+fn set_or_refusal<T: ToValue>(
     alloc: Global,
-    objects: &[Box<dyn ToValue + Drop>],
+    objects: &[T],
 ) -> Result<Result<Params, SetError>, AllocError>
-    ensures { IfOk result (λ made. MatchResult made (λ set. IsMadeOf (InOrder (map (λ object. as_value object) objects.now)) set) (λ error. too_long 0 (map (λ object. as_value object) objects.now) ≡ Some error)) }
+    ensures { IfOk result (λ made. MatchResult made (λ set. IsMadeOf (InOrder (map T.as_value objects.now)) set) (λ error. too_long 0 (map T.as_value objects.now) ≡ Some error)) }
 {
     match objects.to_params(alloc) {
         Ok(params) => Ok(Ok(params)),
@@ -36,6 +39,24 @@ fn set_or_refusal(
     }
 }
 
+/// Lists of objects, each of which makes a set when it is asked for.
+#[derive(Drop)]
+struct Lists<'a, T> {
+    lists: &'a [Vec<T>],
+}
+
+impl<T: ToValue> SetMaker for Lists<'_, T> {
+    ghost given = { λ it. all_given_by_objects (map (λ list. map T.as_value list.items) it.lists.now) };
+
+    fn len(&self) -> usize {
+        self.lists.len()
+    }
+
+    fn set(&self, alloc: Global, number: usize) -> Result<Result<Params, SetError>, AllocError> {
+        set_or_refusal(alloc, &self.lists[number])
+    }
+}
+
 /// The sets of the objects' values, up to the first list that makes none.
 fn sets_of_objects(
     alloc: Global,
@@ -43,10 +64,10 @@ fn sets_of_objects(
 ) -> Result<MadeSets, AllocError>
     ensures { IfOk result (λ made. AreMadeUpTo (map (λ list. map (λ object. as_value object) list.items) lists.now) made.sets.items made.refusal) }
 {
-    let mut sets = Vec::new(alloc);
+    let mut sets = Vec::with_capacity(alloc, lists.len())?;
     for list in lists {
         match set_or_refusal(alloc, list)? {
-            Ok(params) => sets.push(params)?,
+            Ok(params) => sets.push_reserved(params),
             Err(error) => {
                 return Ok(MadeSets {
                     sets,
@@ -59,6 +80,54 @@ fn sets_of_objects(
         sets,
         refusal: None,
     })
+}
+
+/// Appends bulk requests with the sets of all lists. All are made first, since the requests are cut over all of them.
+fn put_held_sets(
+    alloc: Global,
+    query: &[u8],
+    lists: &[Vec<Box<dyn ToValue + Drop>>],
+    stmt_id: u32,
+    limit: usize,
+    out: &mut Vec<u8>,
+) -> Result<(), Refusal>
+    requires { 4 ≤ limit }
+    ensures ok { OnOk result (SentReadable roads.Bulk query.now (all_given_by_objects (map (λ list. map (λ object. as_value object) list.items) lists.now)) stmt_id limit out.old.items out.new.items) }
+    ensures made { OnOk result (AllMade (all_given_by_objects (map (λ list. map (λ object. as_value object) list.items) lists.now))) }
+    ensures err { IfErr result (RefusesValues roads.Bulk query.now (map (λ list. map (λ object. as_value object) list.items) lists.now) stmt_id limit) }
+    ensures kept { take (length out.old.items) out.new.items ≡ out.old.items }
+{
+    let MadeSets { sets, refusal } = sets_of_objects(alloc, lists)?;
+    put_requests(alloc, query, &sets, refusal, stmt_id, limit, out)
+}
+
+/// Sends the sets of lists of objects: but by bulk each is made when its turn comes.
+fn send_lists(
+    alloc: Global,
+    query: &[u8],
+    lists: &[Vec<Box<dyn ToValue + Drop>>],
+    road: Road,
+    stmt_id: u32,
+    limit: usize,
+    out: &mut Vec<u8>,
+) -> Result<(), Refusal>
+    requires { 4 ≤ limit }
+    ensures refused { IfErr result (RefusesValues road query.now (map (λ list. map (λ object. as_value object) list.items) lists.now) stmt_id limit) }
+    ensures kept { OnErr result (out.new.items ≡ out.old.items) }
+    ensures sent { OnOk result (SentReadable road query.now (all_given_by_objects (map (λ list. map (λ object. as_value object) list.items) lists.now)) stmt_id limit out.old.items out.new.items) }
+    ensures made { OnOk result (AllMade (all_given_by_objects (map (λ list. map (λ object. as_value object) list.items) lists.now))) }
+{
+    let start = out.len();
+    let sets = Lists { lists };
+    let sent = match road {
+        Road::Text => put_made_queries(alloc, query, &sets, limit, out),
+        Road::Execute => put_made_executions(alloc, query, &sets, stmt_id, limit, out),
+        Road::Bulk => put_held_sets(alloc, query, lists, stmt_id, limit, out),
+    };
+    if sent.is_err() {
+        out.truncate(start);
+    }
+    sent
 }
 
 /// Appends to `out` the commands that carry lists of objects to a server: what [`send`](crate::send) appends of parameter sets
@@ -93,11 +162,7 @@ pub fn send_values(
     ensures whole { OnOk result (SendsWholeValues road query.now (map (λ set. map (λ object. as_value object) set.items) sets.now) stmt_id limit out.old.items out.new.items) }
 {
     sent_sets_are_delivered();
-    let MadeSets {
-        sets: made,
-        refusal,
-    } = sets_of_objects(alloc, sets)?;
-    let sent = send_sets(alloc, query, &made, refusal, road, stmt_id, limit, out);
+    let sent = send_lists(alloc, query, sets, road, stmt_id, limit, out);
     let _len = out.len();
     sent
 }

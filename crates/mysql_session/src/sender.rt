@@ -12,7 +12,7 @@ use mysql_values::{Params, SetError};
 use std::alloc::Global;
 
 /// Sends sets, behind which one more gives no values for this reason, where there is one.
-pub(crate) fn send_sets(
+fn send_sets(
     alloc: Global,
     query: &[u8],
     sets: &[Params],
