@@ -9,6 +9,7 @@ pub mod FirstValues
 pub mod MixedKinds
 pub mod LongestPart
 pub mod OneKindLemmas
+pub mod OneRequest
 pub mod InForceLemmas
 pub mod TypedTight
 pub mod Kept

@@ -40,6 +40,10 @@ map_none : {X Y : Type 0} (f : X → Y) (o : Option X) → option_map f o ≡ No
 map_none f None e = refl
 map_none f (Some x) e = absurd (cc)
 
+-- rows that mix no kinds: no row has a value of another kind than the first ones before
+pub none_before : (rows : List Row) → mixed_kinds rows ≡ None → (k : ℕ) → k < length rows → place_where (is_of_other_kind (take k rows)) (get_or rows k []) ≡ None
+none_before rows none k lt = map_none (λ place. (k, place)) _ (none_at (λ set row. option_map (λ place. (set, place)) (place_where (is_of_other_kind (take set rows)) row)) rows [] none k lt)
+
 -- no place of the row passes the test
 no_place : (test : ℕ → Value → Bool) (row : Row) → place_where test row ≡ None → (column : ℕ) → column < length row → test column (get_or row column NULL) ≡ false
 no_place test row none column lt = fails (test column (get_or row column NULL)) column (none_at (λ place value. cond (test place value) (Some place) None) row NULL none column lt)
@@ -86,7 +90,7 @@ module _ (rows : List Row) (one : mixed_kinds rows ≡ None) (k column : ℕ) (h
   kind_before e =
       let row = get_or rows k [] in
       let first = first_value column (take k rows) in
-      let none = map_none (λ place. (k, place)) _ (none_at (λ set row. option_map (λ place. (set, place)) (place_where (is_of_other_kind (take set rows)) row)) rows [] one k h.0) in
+      let none = none_before rows one k h.0 in
       let test : not (is_null (value_in rows k column) || is_null first || same_kind first (value_in rows k column)) ≡ false = no_place (is_of_other_kind (take k rows)) row none column h.1 in
       same_type first (value_in rows k column) (third (is_null (value_in rows k column)) (is_null first) (same_kind first (value_in rows k column)) h.2 e (not-false _ test))
     where

@@ -1,13 +1,13 @@
 -- Why the types that a request carries serve the rows that are sent by them.
-use Rattle.std.specs.Prelude.{◌≡◌, ℕ, ◌+◌, ◌<◌, false, List, [], length, take, slice_index_or, sum_by, None}
+use Rattle.std.specs.Prelude.{◌≡◌, ℕ, ◌+◌, ◌<◌, false, List, [], ◌∷◌, ◌++◌, length, take, slice_index_or, sum_by, None}
 use Rattle.std.specs.List.{AllByRecursion}
 use Rattle.mysql_cells.specs.declared.value.Value.{Value}
 use Rattle.mysql_cells.specs.declared.value.Value.TheVariants.{NULL}
 use Rattle.mysql_bulk_builder.specs.Cut.{Row}
-use Rattle.mysql_bulk_builder.specs.TypedCut.{Part, Untyped, PartFits, HasValue, placed_from}
+use Rattle.mysql_bulk_builder.specs.TypedCut.{Part, Typed, Untyped, PartFits, HasValue, placed_from}
 use Rattle.mysql_bulk_builder.specs.ValueTypes.{is_null, sent_type, first_value}
 use Rattle.mysql_bulk_builder.specs.TypedCutLaws.{EachRowFitsTyped}
-use Rattle.mysql_bulk_builder.specs.Causes.{mixed_kinds, row_too_large}
+use Rattle.mysql_bulk_builder.specs.Causes.{is_of_other_kind, mixed_kinds, place_where, row_too_large}
 
 -- the value of a row in a column
 abbrev pub value_in : List Row → ℕ → ℕ → Value
@@ -36,3 +36,11 @@ FirstValueIsThere = (rows : List Row) (column : ℕ) → HasValue column rows �
 -- Where no row is too large, each fits a typed request of its own.
 abbrev pub NoneTooLarge : Type 0
 NoneTooLarge = (room columns : ℕ) (rows : List Row) → row_too_large room columns rows ≡ None → EachRowFitsTyped room columns rows
+
+-- Where a typed request holds all rows, no row is too large.
+abbrev pub WholeHasNoneTooLarge : Type 0
+WholeHasNoneTooLarge = (room columns : ℕ) (rows : List Row) → PartFits room columns rows 0 Typed (length rows) → row_too_large room columns rows ≡ None
+
+-- Rows that mix no kinds mix none with one more row, none of whose values is of another kind than its column's first one.
+abbrev pub OneMoreMixesNone : Type 0
+OneMoreMixesNone = (rows : List Row) (row : Row) → mixed_kinds rows ≡ None → place_where (is_of_other_kind rows) row ≡ None → mixed_kinds (rows ++ row ∷ []) ≡ None

@@ -1,5 +1,5 @@
 -- What holds of cuts into typed and untyped requests.
-use Rattle.std.specs.Prelude.{◌≡◌, ℕ, ◌+◌, ◌<◌, ◌≤◌, ◌↔◌, List, length}
+use Rattle.std.specs.Prelude.{◌≡◌, ℕ, ◌+◌, ◌<◌, ◌≤◌, ◌↔◌, List, [], ◌∷◌, length}
 use Rattle.mysql_bulk_builder.specs.Cut.{Row}
 use Rattle.mysql_bulk_builder.specs.TypedCut.{Typing, Typed, Part, PartFits, IsTypedCut, TypedCutFits, IsTightTyped}
 
@@ -42,3 +42,8 @@ abbrev pub TightTypedHasFewest : Type 0
 TightTypedHasFewest = (room columns : ℕ) (rows : List Row) (cut other : List Part) →
     IsTightTyped room columns rows cut → IsTypedCut rows other → TypedCutFits room columns rows other →
     length cut ≤ length other
+
+-- Where a typed request holds all rows, it alone is the tight cut.
+abbrev pub WholeIsTight : Type 0
+WholeIsTight = (room columns : ℕ) (rows : List Row) → 0 < length rows → PartFits room columns rows 0 Typed (length rows) →
+    IsTightTyped room columns rows (record { typing = Typed; count = length rows } ∷ [])

@@ -30,15 +30,22 @@ fn is_other(first: &Value, value: &Value) -> bool
     ensures { result ≡ not (is_null value.now || is_null first.now || same_kind first.now value.now) }
 {
     match (first, value) {
-        // the kinds that most columns have
-        (Value::Int(_), Value::Int(_)) | (Value::Bytes(_), Value::Bytes(_)) => false,
+        // without a look at their types
+        (_, Value::NULL)
+        | (Value::Int(_), Value::Int(_))
+        | (Value::Bytes(_), Value::Bytes(_))
+        | (Value::UInt(_), Value::UInt(_))
+        | (Value::Date(..), Value::Date(..))
+        | (Value::Time(..), Value::Time(..)) => false,
         _ => !(is_null(value) || is_null(first) || same_kind(first, value)),
     }
 }
 
-/// The least place of a value of another kind than the first one of its column. Where there is none, each NULL among the first
-/// values has given way to the row's value.
-fn place_of_other<'a>(firsts: &mut [&'a Value], row: &[&'a Value]) -> Option<usize>
+/// The least place of a value of another kind than the first one of its column in the rows before. Where there is none, each
+/// NULL among these first values has given way to the row's value.
+///
+/// MariaDB: Client/Server Protocol, "COM_STMT_BULK_EXECUTE" (parameter types).
+pub fn place_of_other<'a>(firsts: &mut [&'a Value], row: &[&'a Value]) -> Option<usize>
     requires { length row.now ≡ length firsts.old }
     ensures place { (before : List Row) → row_in firsts.old ≡ first_values (length firsts.old) before → result ≡ place_where (is_of_other_kind before) (row_in row.now) }
     ensures firsts { result ≡ None → (before : List Row) → row_in firsts.old ≡ first_values (length firsts.old) before → row_in firsts.new ≡ first_values (length firsts.old) (before ++ row_in row.now ∷ []) }

@@ -1,7 +1,7 @@
 //! Laws about the definitions that contracts cite. Nothing here runs.
 ghost use Rattle.mysql_bulk_builder.specs.CutLaws.{TightExists, TightIsUnique, TightFits, TightHasFewest, TightTakesFewestBytes, TightPartsComeFirst};
-ghost use Rattle.mysql_bulk_builder.specs.TypedCutLaws.{PartFitsLater, TightTypedExists, TightTypedExistsWhere, FittingCutWhere, TightTypedIsUnique, TightTypedHasFewest};
-ghost use Rattle.mysql_bulk_builder.specs.KindLaws.{OneKind, UntypedRunAddsNoColumn, FirstValueIsThere, NoneTooLarge};
+ghost use Rattle.mysql_bulk_builder.specs.TypedCutLaws.{PartFitsLater, TightTypedExists, TightTypedExistsWhere, FittingCutWhere, TightTypedIsUnique, TightTypedHasFewest, WholeIsTight};
+ghost use Rattle.mysql_bulk_builder.specs.KindLaws.{OneKind, UntypedRunAddsNoColumn, FirstValueIsThere, NoneTooLarge, OneMoreMixesNone, WholeHasNoneTooLarge};
 ghost use Rattle.mysql_bulk_builder.specs.InForce.{TypesInForceServe};
 ghost use Rattle.mysql_bulk_builder.specs.IterationLaws.{GivesFirst};
 
@@ -51,6 +51,17 @@ pub fn types_serve()
 /// Where no row is too large, each fits a typed request of its own.
 pub fn none_too_large()
     ensures { NoneTooLarge }
+{}
+
+/// Where one typed request holds all rows, it alone is the tight cut, and no row is too large.
+pub fn whole_is_tight()
+    ensures tight { WholeIsTight }
+    ensures none { WholeHasNoneTooLarge }
+{}
+
+/// Rows that mix no kinds mix none with one more row, none of whose values is of another kind than its column's first one.
+pub fn one_more_mixes_none()
+    ensures { OneMoreMixesNone }
 {}
 
 /// Where each request may carry types, those in force serve each part.

@@ -15,7 +15,7 @@ pub mod search;
 pub use builder::ComStmtBulkExecuteRequestBuilder;
 pub use error::BulkExecuteRequestBuilderError;
 pub use first_values::{no_first_values, put_first_values};
-pub use kinds::mixed_kinds;
+pub use kinds::{mixed_kinds, place_of_other};
 pub use mysql_bulk::{BulkExecuteRequestError, ComStmtBulkExecuteRequest};
 pub use requests::BulkRequests;
 pub use search::{BulkCutError, BulkPart, bulk_cut};

@@ -1,8 +1,9 @@
 -- The text of a value in a query, and what it means.
 -- MySQL Reference Manual, "Literal Values": "String Literals", "Numeric Literals", "Date and Time Literals", "Hexadecimal Literals", "NULL Values";
 -- of the SQL mode NO_BACKSLASH_ESCAPES: "Server SQL Modes".
-use Rattle.std.specs.Prelude.{ℕ, pos, ◌+◌, ◌*◌, ◌-◌, ◌==◌, ◌&&◌, Bool, true, false, not, if◌then◌else◌, List, [], ◌∷◌, ◌++◌, length, replicate, flat_map, codes, Option, Some, None}
+use Rattle.std.specs.Prelude.{ℕ, pos, ◌+◌, ◌*◌, ◌-◌, ◌==◌, ◌&&◌, Bool, true, false, not, if◌then◌else◌, List, [], ◌∷◌, ◌++◌, length, replicate, flat_map, codes, is_none, Option, Some, None}
 use Rattle.std.specs.Fmt.{decimal, signed_decimal, sign_text}
+use Rattle.std.specs.List.{position_from}
 use Rattle.std.specs.Str.{is_utf8}
 use Rattle.mysql_queries.specs.Tokens.{single_quote}
 use Rattle.mysql_queries.specs.Written.{quoted, in_hexadecimal}
@@ -71,6 +72,10 @@ plain_content (Time negative days hours minutes seconds micros) = Some (content.
 -- What a value means: nothing, its number, its bytes, or the text of its date or time, an all-zero time taken as positive. A float has no content.
 abbrev pub content_of : Value → Option Content
 content_of value = plain_content (without_zero_sign value)
+
+-- the first value that is a float
+abbrev pub first_float : List Value → Option ℕ
+first_float values = position_from (λ value. is_none (content_of value)) 0 values
 
 -- a text between single quotes as it is
 abbrev pub in_quotes : List ℕ → List ℕ

@@ -9,9 +9,9 @@ use Rattle.mysql_cells.specs.declared.value.Value.TheVariants as values
 use Rattle.mysql_values.specs.Content.{Content}
 use Rattle.mysql_values.specs.Content.TheVariants as content
 use Rattle.mysql_values.specs.Value.{Value}
-use Rattle.mysql_values.specs.Values.{content_of}
+use Rattle.mysql_values.specs.Values.{content_of, first_float}
 use Rattle.mysql_values.specs.Queries.{is_mixed}
-use Rattle.mysql_values.specs.Binding.{first_float, values_cause}
+use Rattle.mysql_values.specs.Binding.{values_cause}
 use Rattle.mysql_stmt.specs.Executions.{execute_command}
 use Rattle.mysql_to_values.specs.Values.{content_value, integer_value}
 use Rattle.mysql_bulk_builder.specs.Causes.{first_some}

@@ -6,7 +6,3 @@ pub mod Pieces
 pub mod PlainSizes
 pub mod StatementSets
 pub mod MadeSets
-pub mod BulkCommand
-pub mod BulkRows
-pub mod BulkRequests
-pub mod BulkAtOnce

@@ -5,7 +5,8 @@ use Rattle.std.specs.Option.{option_or, option_map}
 use Rattle.std.proofs.lemmas.Bool.{le-ltb}
 use Rattle.std.proofs.lemmas.List.{length-map}
 use Rattle.mysql_values.specs.Value.{Value}
-use Rattle.mysql_stmt.specs.Executions.{first_float, whole_size}
+use Rattle.mysql_stmt.specs.Executions.{whole_size}
+use Rattle.mysql_cells.specs.Values.{first_float}
 use Rattle.mysql_stmt.specs.Statements.{ExecutionsHaveSizes}
 use Rattle.mysql_streams.specs.declared.refusal.Refusal.{Refusal}
 use Rattle.mysql_streams.specs.declared.refusal.Refusal.TheVariants as refusals

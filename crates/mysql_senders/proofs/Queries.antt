@@ -8,7 +8,6 @@ use Rattle.mysql_wire.specs.Stream.Numbering.{EachFromZero}
 use Rattle.mysql_values.specs.Content.{Content}
 use Rattle.mysql_values.specs.Value.{Value}
 use Rattle.mysql_values.specs.declared.params.Params.{Params}
-use Rattle.mysql_values.specs.declared.params.SetError.{SetError}
 use Rattle.mysql_values.specs.Laws.{OneTokens}
 use Rattle.mysql_values.specs.Params.{IsMeaning, values_over}
 use Rattle.mysql_values.specs.Parsed.{names_of}
@@ -23,7 +22,7 @@ use Rattle.mysql_streams.specs.Sent.{Statement, as_text, payloads_of, query_text
 use Rattle.mysql_streams.specs.Cause.{first_of_sets, limits_of, places_cause, set_cause}
 use Rattle.mysql_streams.specs.Reading.{IsReadable, SentReadable, held}
 use Rattle.mysql_streams.specs.Sending.{RefusesGiven}
-use Rattle.mysql_senders.specs.OneSet.{AppendsQuery, AppendsSet, RefusesQuery, behind, query_and_set_cause, text_command, text_payloads}
+use Rattle.mysql_senders.specs.OneSet.{AppendsQuery, AppendsSet, RefusesQuery, query_and_set_cause, text_command, text_payloads}
 use Rattle.mysql_senders.proofs.Contents.{gives_one, gives_values, held_contents}
 use Rattle.mysql_senders.proofs.SentSets.{AllSent, SetsSent, all_sent as all_of, cause_behind, first_is, first_of_two, first_refused, front_length, none_of_two, none_sent as none_of, one_more}
 
@@ -134,14 +133,6 @@ module _ {S : Type 0} (query : List ℕ) (given : List (List ℕ) → List Given
           };
           readable = all.readable;
         }
-
-  -- the set behind all others gives no values
-  pub refused_behind : i ≡ length (sets (names_of s.tokens)) → (refusal : Refusal) → (error : SetError) × (others ≡ behind (Some error)) × (refusal ≡ refusals.Params (length (sets (names_of s.tokens))) error) → (id : ℕ) → RefusesGiven Text query given id limit refusal
-  refused_behind at refusal why id =
-      refused_set refusal
-      (cause_at_end (omega (arith, at))
-      ∙ ap (λ l. first_of_sets (set_cause (text_command s.tokens) (limits_of (places_from query 0 s.tokens) limit)) i l) why.1
-      ∙ ap (λ n. Some (refusals.Params n why.0)) at ∙ ap Some (sym why.2)) id
 
 -- placeholders that are a cause are the first one
 pub refused_places : (query : List ℕ) (given : List (List ℕ) → List Given) (limit : ℕ) (refusal : Refusal) → (refusal ≡ refusals.Memory) ⊎ ((tokens : List (List ℕ)) × HasTokens query tokens × (places_cause (places_from query 0 tokens) ≡ Some refusal))

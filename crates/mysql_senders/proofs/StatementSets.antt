@@ -9,7 +9,6 @@ use Rattle.mysql_wire.specs.Stream.{framings}
 use Rattle.mysql_wire.specs.Stream.Numbering.{EachFromZero}
 use Rattle.mysql_values.specs.AsSql.{FitsFields}
 use Rattle.mysql_values.specs.declared.params.Params.{Params}
-use Rattle.mysql_values.specs.declared.params.SetError.{SetError}
 use Rattle.mysql_values.specs.Value.{Value}
 use Rattle.mysql_values.specs.Params.{values_over}
 use Rattle.mysql_values.specs.Parsed.{Parsed, names_of}
@@ -23,7 +22,7 @@ use Rattle.mysql_streams.specs.Sent.{SentPayload, Statement, as_execution, on_th
 use Rattle.mysql_streams.specs.Cause.{Limits, cause_if, first_of_sets, limits_of, max_places, prepare_cause, set_cause}
 use Rattle.mysql_streams.specs.Reading.{SentReadable}
 use Rattle.mysql_streams.specs.Sending.{RefusesGiven}
-use Rattle.mysql_senders.specs.OneSet.{AppendsExecution, AppendsExecutions, IsPreparable, RefusesSet, RefusesSets, behind, execution_payloads, whole_execution}
+use Rattle.mysql_senders.specs.OneSet.{AppendsExecution, AppendsExecutions, IsPreparable, RefusesSet, RefusesSets, execution_payloads, whole_execution}
 use Rattle.mysql_senders.proofs.Contents.{gives_values}
 use Rattle.mysql_senders.proofs.SentSets.{AllSent, SetsSent, all_sent as all_of, cause_behind, first_of_two, first_refused, front_length, none_of_two, none_sent as none_of, one_more}
 
@@ -68,14 +67,6 @@ module _ {S : Type 0} (id : ℕ) (limits : Limits) (given : List Given) (give : 
   -- the first cause behind all sets is that of the others
   cause_at_end : length sets ≤ i → first_of_sets (set_cause (whole_execution id) limits) 0 (map give sets ++ others) ≡ first_of_sets (set_cause (whole_execution id) limits) i others
   cause_at_end passed = cause_behind Fit (whole_execution id) (execution_payloads id) limits give sets others old out i s.sent passed
-
-  -- the set behind all others gives no values
-  pub refused_behind : i ≡ length sets → (refusal : Refusal) → (error : SetError) × (others ≡ behind (Some error)) × (refusal ≡ refusals.Params (length sets) error) → RefusesSets (whole_execution id) limits given refusal
-  refused_behind at refusal why =
-      refused refusal
-      (cause_at_end (omega (arith, at))
-      ∙ ap (λ l. first_of_sets (set_cause (whole_execution id) limits) i l) why.1
-      ∙ ap (λ n. Some (refusals.Params n why.0)) at ∙ ap Some (sym why.2))
 
   -- all sets were sent, and no set stands behind them
   pub all_sent : length sets ≤ i → others ≡ [] → AppendsExecutions id limits given old out

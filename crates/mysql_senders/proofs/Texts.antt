@@ -6,7 +6,7 @@ use Rattle.std.specs.Result.{result_map_both}
 use Rattle.mysql_wire.specs.Framing.{framing}
 use Rattle.mysql_values.specs.Content.{Content}
 use Rattle.mysql_values.specs.Value.{Value}
-use Rattle.mysql_values.specs.Values.{literal_of}
+use Rattle.mysql_values.specs.Values.{first_float, literal_of}
 use Rattle.mysql_values.specs.declared.params.Params.{Params}
 use Rattle.mysql_values.specs.declared.params.ParamsError.{ParamsError}
 use Rattle.mysql_values.specs.declared.params.SetError.TheVariants as set_error
@@ -16,7 +16,7 @@ use Rattle.mysql_values.specs.Tokens.{HasTokens}
 use Rattle.mysql_values.specs.Queries.{Lexes, Slices, first_not_alone, interleaved, is_mixed, pieces_of, places_from}
 use Rattle.mysql_values.specs.Params.{IsMeaning, values_over}
 use Rattle.mysql_values.specs.Parsed.{names_of}
-use Rattle.mysql_values.specs.Binding.{IsBound, IsBindCause, alone_cause, first_float, given_cause as bound_cause, values_cause}
+use Rattle.mysql_values.specs.Binding.{IsBound, IsBindCause, alone_cause, given_cause as bound_cause, values_cause}
 use Rattle.mysql_commands.specs.Reading.{TextReadsAs}
 use Rattle.mysql_streams.specs.declared.refusal.Refusal.{Refusal}
 use Rattle.mysql_streams.specs.declared.refusal.Refusal.TheVariants as refusals

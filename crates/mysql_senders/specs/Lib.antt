@@ -1,3 +1,2 @@
 pub mod OneSet
-pub mod BulkSets
 pub mod MadeSets

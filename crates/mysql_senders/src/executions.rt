@@ -2,7 +2,8 @@
 
 ghost use Rattle.std.specs.Prelude.{◌≡◌, ◌++◌, ◌∷◌, ◌<◌, ◌≤◌, ℕ, [], IfErr, IfOk, IfSome, None, Ok, OnErr, OnOk, OnSome, Some, false, is_none, length, map, nat_lt, take};
 ghost use Rattle.byteorder.specs.Endian.{little_bytes};
-ghost use Rattle.mysql_stmt.specs.Executions.{execute_command, first_float};
+ghost use Rattle.mysql_stmt.specs.Executions.{execute_command};
+ghost use Rattle.mysql_cells.specs.Values.{first_float};
 ghost use Rattle.mysql_wire.specs.Framing.{framing};
 ghost use Rattle.mysql_wire.specs.Stream.{framings};
 ghost use Rattle.mysql_wire.specs.Stream.Numbering.{EachFromZero};
@@ -10,19 +11,19 @@ ghost use Rattle.mysql_streams.specs.Cause.{set_cause};
 ghost use Rattle.mysql_streams.specs.Commands.{piece_of, pieces_from};
 ghost use Rattle.mysql_streams.specs.Reading.{SentReadable};
 ghost use Rattle.mysql_streams.specs.Sending.{RefusesGiven};
-ghost use Rattle.mysql_streams.specs.Sets.{all_given_in_places, given_by, given_up_to};
+ghost use Rattle.mysql_streams.specs.Sets.{all_given, all_given_in_places, given_by};
 ghost use Rattle.mysql_streams.specs.declared.refusal.Refusal.TheVariants as refusals;
 ghost use Rattle.mysql_streams.specs.declared.road.Road.TheVariants as roads;
 ghost use Rattle.mysql_senders.specs.OneSet.{AppendsExecution, AppendsExecutions, RefusesSet, RefusesSets, execution_payloads, whole_execution};
 
-use crate::set_values::{check_stop, check_values, list_values_for, values_fit};
+use crate::set_values::{check_values, list_values_for, values_fit};
 use crate::statement::{Statement, put_prepare, statement_of};
 use mysql_const::MAX_PAYLOAD_LEN;
 use mysql_raw::MySerialize;
 use mysql_stmt::laws::executions_have_sizes;
 use mysql_stmt::{ComStmtSendLongData, put_execution, size_within, size_without_floats};
 use mysql_streams::Refusal;
-use mysql_values::{Params, SetError, Value};
+use mysql_values::{Params, Value};
 use mysql_wire::packet_to_chunks;
 use std::alloc::{AllocError, Global};
 use std::borrow::CowSlice;
@@ -123,8 +124,10 @@ fn put_long(
     put_buffered(id, values, apart, command, out)
 }
 
-/// The header of the only packet of a payload of so many bytes.
-pub(crate) fn packet_header(size: u32) -> [u8; 4]
+/// The header of the only packet of a payload of so many bytes, numbered 0.
+///
+/// MySQL: Client/Server Protocol, "MySQL Packets".
+pub fn packet_header(size: u32) -> [u8; 4]
     requires { size < 16777216 }
     ensures { result ≡ little_bytes 3 size ++ 0 ∷ [] }
 {
@@ -273,18 +276,17 @@ pub(crate) fn put_set<'a>(
     put_values(statement, set, values, room, command, out)
 }
 
-/// Appends the execution of each set, and refuses one behind them that gives no values.
+/// Appends the execution of each set.
 fn put_sets(
     alloc: Global,
     statement: &Statement<'_>,
     sets: &[Params],
-    stop: Option<SetError>,
     room: usize,
     out: &mut Vec<u8>,
 ) -> Result<(), Refusal>
     requires { statement.now.places ≤ 65535 }
-    ensures ok { OnOk result (AppendsExecutions statement.now.id (record { places = statement.now.places; bytes = room }) (given_up_to sets.now stop statement.now.parsed.names) out.old.items out.new.items) }
-    ensures err { IfErr result (RefusesSets (whole_execution statement.now.id) (record { places = statement.now.places; bytes = room }) (given_up_to sets.now stop statement.now.parsed.names)) }
+    ensures ok { OnOk result (AppendsExecutions statement.now.id (record { places = statement.now.places; bytes = room }) (all_given sets.now statement.now.parsed.names) out.old.items out.new.items) }
+    ensures err { IfErr result (RefusesSets (whole_execution statement.now.id) (record { places = statement.now.places; bytes = room }) (all_given sets.now statement.now.parsed.names)) }
     ensures kept { take (length out.old.items) out.new.items ≡ out.old.items }
 {
     let mut values = Vec::new(alloc);
@@ -292,7 +294,7 @@ fn put_sets(
     'sets: for (set, params) in sets.iter().enumerate() {
         put_set(statement, set, params, room, &mut values, &mut command, out)?;
     }
-    check_stop(stop, sets.len())
+    Ok(())
 }
 
 /// Lists references to values, in their order, in place of what the list holds.
@@ -362,31 +364,30 @@ fn put_value_sets(
 /// packets that are numbered from 0: one prepare, also where there are no sets, and an execution of the statement `stmt_id` for
 /// each set. An execution of more than 16777215 bytes is sent without its byte strings, each of which goes before it as long data
 /// in one piece. Sets and places count from 0; a payload has at most `limit - 4` bytes, as the limit counts a packet with its
-/// header, and so has an execution with all its values, also where they are sent apart. `stop` says why one more set behind the
-/// given ones gives no values, where there is one. After a refusal what stood before stands in front of `out`.
+/// header, and so has an execution with all its values, also where they are sent apart. After a refusal what stood before
+/// stands in front of `out`.
 ///
 /// # Errors
 /// The first cause that holds, in the order of [`Refusal`]: `Mixed`, `TooManyPlaces`, `PrepareTooLarge`; set by set `Params`,
-/// `WrongCount`, `Float`, `PacketTooLarge`; `Params` for the set that stops; `Memory` where a growth was refused.
+/// `WrongCount`, `Float`, `PacketTooLarge`; `Memory` where a growth was refused.
 ///
 /// MySQL: Client/Server Protocol, "COM_STMT_PREPARE", "COM_STMT_SEND_LONG_DATA", "COM_STMT_EXECUTE".
 pub fn put_executions(
     alloc: Global,
     query: &[u8],
     sets: &[Params],
-    stop: Option<SetError>,
     stmt_id: u32,
     limit: usize,
     out: &mut Vec<u8>,
 ) -> Result<(), Refusal>
     requires { 4 ≤ limit }
-    ensures ok { OnOk result (SentReadable roads.Execute query.now (given_up_to sets.now stop) stmt_id limit out.old.items out.new.items) }
-    ensures err { IfErr result (RefusesGiven roads.Execute query.now (given_up_to sets.now stop) stmt_id limit) }
+    ensures ok { OnOk result (SentReadable roads.Execute query.now (all_given sets.now) stmt_id limit out.old.items out.new.items) }
+    ensures err { IfErr result (RefusesGiven roads.Execute query.now (all_given sets.now) stmt_id limit) }
     ensures kept { take (length out.old.items) out.new.items ≡ out.old.items }
 {
     let statement = statement_of(alloc, query, stmt_id)?;
     put_prepare(alloc, &statement, limit - 4, out)?;
-    put_sets(alloc, &statement, sets, stop, limit - 4, out)
+    put_sets(alloc, &statement, sets, limit - 4, out)
 }
 
 /// The same as [`put_executions`] over sets of values that stand in the order of the query's placeholders.

@@ -3,11 +3,10 @@
 ghost use Rattle.std.specs.Prelude.{◌≡◌, ◌⊎◌, Err, IfErr, IfOk, None, Ok, OnOk, Some, is_none, map};
 ghost use Rattle.std.specs.List.{AllByRecursion};
 ghost use Rattle.mysql_values.specs.AsSql.{FitsFields};
-ghost use Rattle.mysql_values.specs.Binding.{first_float as float_at, values_cause};
+ghost use Rattle.mysql_values.specs.Binding.{values_cause};
 ghost use Rattle.mysql_values.specs.Params.{values_over};
-ghost use Rattle.mysql_values.specs.Values.{content_of};
+ghost use Rattle.mysql_values.specs.Values.{content_of, first_float as float_at};
 ghost use Rattle.mysql_values.specs.declared.params.ParamsError.{ParamsError as ParamsErrorOf};
-ghost use Rattle.mysql_values.specs.declared.params.SetError.{SetError as SetErrorOf};
 ghost use Rattle.mysql_streams.specs.declared.refusal.Refusal.TheVariants as refusals;
 ghost use Rattle.mysql_senders.specs.OneSet.{refusal_of};
 
@@ -50,8 +49,11 @@ fn refused(set: usize, error: ParamsError) -> Refusal
     }
 }
 
-/// Lists the values that a set gives the statement, in place of what the list holds.
-pub(crate) fn list_values_for<'a>(
+/// Lists the values that a set gives the statement, in the order of its placeholders, in place of what the list holds.
+///
+/// # Errors
+/// `Params` with why the set gives none; `Memory` where a growth was refused.
+pub fn list_values_for<'a>(
     statement: &Statement<'_>,
     set: usize,
     params: &'a Params,
@@ -66,8 +68,8 @@ pub(crate) fn list_values_for<'a>(
     }
 }
 
-/// The values that a set gives the statement.
-pub(crate) fn values_for<'a>(
+/// The values that a set gives the statement, in the order of its placeholders. Refuses as [`list_values_for`].
+pub fn values_for<'a>(
     alloc: Global,
     statement: &Statement<'_>,
     set: usize,
@@ -81,8 +83,11 @@ pub(crate) fn values_for<'a>(
     Ok(values)
 }
 
-/// Refuses `WrongCount`, then `Float`.
-pub(crate) fn check_values(values: &[&Value], places: usize, set: usize) -> Result<(), Refusal>
+/// Checks that the values of the set of this number are as many as the placeholders, and none is a float.
+///
+/// # Errors
+/// `WrongCount`, then `Float` with the least place.
+pub fn check_values(values: &[&Value], places: usize, set: usize) -> Result<(), Refusal>
     ensures ok { OnOk result (values_cause (refusals.WrongCount set) (λ place. refusals.Float set place) places (map (λ value. value.now) values.now) ≡ None) }
     ensures err { IfErr result (λ refusal. values_cause (refusals.WrongCount set) (λ place. refusals.Float set place) places (map (λ value. value.now) values.now) ≡ Some refusal) }
 {
@@ -95,19 +100,8 @@ pub(crate) fn check_values(values: &[&Value], places: usize, set: usize) -> Resu
     }
 }
 
-/// Refuses the set behind so many ones that gives no values, where there is one.
-pub(crate) fn check_stop(stop: Option<SetError>, sets: usize) -> Result<(), Refusal>
-    ensures ok { OnOk result (stop ≡ None) }
-    ensures err { IfErr result (λ refusal. (e : SetErrorOf) × (stop ≡ Some e) × (refusal ≡ refusals.Params sets e)) }
-{
-    match stop {
-        Some(error) => Err(Refusal::Params(sets, error)),
-        None => Ok(()),
-    }
-}
-
 /// The numbers of values fit their fields.
-pub(crate) fn values_fit(values: &[&Value])
+pub fn values_fit(values: &[&Value])
     ensures { AllByRecursion (λ value. FitsFields value) (map (λ value. value.now) values.now) }
 {
     for value in values {

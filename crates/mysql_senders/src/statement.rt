@@ -15,12 +15,15 @@ use mysql_values::{NamedParamsError, ParsedNamedParams, Place, places};
 use mysql_wire::packet_to_chunks;
 use std::alloc::{AllocError, Global};
 
-/// A statement that is sent: its query, how many placeholders it has, and its id.
+/// A statement that is sent.
 #[derive(Drop)]
-pub(crate) struct Statement<'q> {
-    pub(crate) parsed: ParsedNamedParams<'q>,
-    pub(crate) places: usize,
-    pub(crate) id: u32,
+pub struct Statement<'q> {
+    /// Its query, with question marks, and the names of its placeholders.
+    pub parsed: ParsedNamedParams<'q>,
+    /// How many placeholders it has.
+    pub places: usize,
+    /// The number that the server gives it.
+    pub id: u32,
 }
 
 /// The placeholders of a query.
@@ -53,12 +56,13 @@ fn parsed<'q>(
     }
 }
 
-/// The query as a statement. Refuses `Mixed`, then `TooManyPlaces`.
-pub(crate) fn statement_of<'q>(
-    alloc: Global,
-    query: &'q [u8],
-    id: u32,
-) -> Result<Statement<'q>, Refusal>
+/// The query as a statement.
+///
+/// # Errors
+/// `Mixed`, then `TooManyPlaces` for more than 65535 placeholders; `Memory` where a growth was refused.
+///
+/// MySQL: Client/Server Protocol, "COM_STMT_PREPARE" (the number of parameters has two bytes).
+pub fn statement_of<'q>(alloc: Global, query: &'q [u8], id: u32) -> Result<Statement<'q>, Refusal>
     ensures ok { IfOk result (λ statement. IsPreparable query.entry.now statement.parsed statement.places × (statement.id ≡ id)) }
     ensures err { IfErr result (RefusesStatement query.entry.now) }
 {
@@ -82,8 +86,13 @@ fn prepare_of(alloc: Global, parsed: &[u8]) -> Result<Vec<u8>, AllocError>
     Ok(command)
 }
 
-/// Appends the prepare. Refuses `PrepareTooLarge`.
-pub(crate) fn put_prepare(
+/// Appends the statement's prepare, framed and numbered from 0, of at most `room` bytes.
+///
+/// # Errors
+/// `PrepareTooLarge`; `Memory` where a growth was refused. `out` is then as it was.
+///
+/// MySQL: Client/Server Protocol, "COM_STMT_PREPARE".
+pub fn put_prepare(
     alloc: Global,
     statement: &Statement<'_>,
     room: usize,

@@ -9,11 +9,10 @@ ghost use Rattle.mysql_streams.specs.Cause.{places_cause};
 ghost use Rattle.mysql_senders.specs.OneSet.{AppendsQuery, RefusesQuery, refusal_by};
 ghost use Rattle.mysql_streams.specs.Reading.{SentReadable};
 ghost use Rattle.mysql_streams.specs.Sending.{RefusesGiven};
-ghost use Rattle.mysql_streams.specs.Sets.{given_up_to};
+ghost use Rattle.mysql_streams.specs.Sets.{all_given};
 ghost use Rattle.mysql_streams.specs.declared.refusal.Refusal.TheVariants as refusals;
 ghost use Rattle.mysql_streams.specs.declared.road.Road.TheVariants as roads;
 
-use crate::set_values::check_stop;
 use mysql_const::Command;
 use mysql_streams::Refusal;
 use mysql_values::bind::{bind_text_over, names_among};
@@ -104,26 +103,25 @@ pub(crate) fn put_query<'a>(
 
 /// Appends the commands that carry parameter sets of a query to a server as text queries, each framed as packets that are
 /// numbered from 0: a query for each set, its values as literals in the places of the placeholders. Sets and places count from
-/// 0; a payload has at most `limit - 4` bytes, as the limit counts a packet with its header. `stop` says why one more set behind
-/// the given ones gives no values, where there is one. After a refusal what stood before stands in front of `out`.
+/// 0; a payload has at most `limit - 4` bytes, as the limit counts a packet with its header. After a refusal what stood before
+/// stands in front of `out`.
 ///
 /// # Errors
 /// The first cause that holds, in the order of [`Refusal`]: `Mixed`, `NotAlone`; set by set `Params`, `WrongCount`, `Float`,
-/// `PacketTooLarge`; `Params` for the set that stops; `Memory` where a growth was refused.
+/// `PacketTooLarge`; `Memory` where a growth was refused.
 ///
 /// MySQL: Client/Server Protocol, "COM_QUERY".
 pub fn put_queries(
     alloc: Global,
     query: &[u8],
     sets: &[Params],
-    stop: Option<SetError>,
     limit: usize,
     out: &mut Vec<u8>,
 ) -> Result<(), Refusal>
     requires { 4 ≤ limit }
     // A text query carries no id: this holds of each.
-    ensures ok { OnOk result ((id : ℕ) → SentReadable roads.Text query.now (given_up_to sets.now stop) id limit out.old.items out.new.items) }
-    ensures err { IfErr result (λ refusal. (id : ℕ) → RefusesGiven roads.Text query.now (given_up_to sets.now stop) id limit refusal) }
+    ensures ok { OnOk result ((id : ℕ) → SentReadable roads.Text query.now (all_given sets.now) id limit out.old.items out.new.items) }
+    ensures err { IfErr result (λ refusal. (id : ℕ) → RefusesGiven roads.Text query.now (all_given sets.now) id limit refusal) }
     ensures kept { take (length out.old.items) out.new.items ≡ out.old.items }
 {
     tokens_of_a_text();
@@ -144,5 +142,5 @@ pub fn put_queries(
             out,
         )?;
     }
-    check_stop(stop, sets.len())
+    Ok(())
 }

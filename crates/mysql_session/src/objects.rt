@@ -9,8 +9,9 @@ ghost use Rattle.mysql_session.specs.Objects.{ReadsBackValues, RefusesValues, Se
 ghost use Rattle.mysql_streams.specs.Reading.{SentReadable};
 ghost use Rattle.mysql_streams.specs.declared.road.Road.TheVariants as roads;
 
+use mysql_bulk_sender::put_requests;
 use mysql_convert::{IntoParams, ToValue};
-use mysql_senders::{SetMaker, put_made_executions, put_made_queries, put_requests};
+use mysql_senders::{SetMaker, put_made_executions, put_made_queries};
 use mysql_streams::laws::sent_sets_are_delivered;
 use mysql_streams::{Refusal, Road};
 use mysql_values::{Params, SetError};

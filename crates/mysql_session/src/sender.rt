@@ -3,35 +3,35 @@
 ghost use Rattle.std.specs.Prelude.{◌≡◌, ◌≤◌, IfErr, OnErr, OnOk};
 ghost use Rattle.mysql_streams.specs.Reading.{ReadsBack, SendsWhole, SentReadable};
 ghost use Rattle.mysql_streams.specs.Sending.{Refuses, RefusesGiven, Sends};
-ghost use Rattle.mysql_streams.specs.Sets.{all_given, given_up_to};
+ghost use Rattle.mysql_streams.specs.Sets.{all_given};
 
-use mysql_senders::{put_executions, put_queries, put_requests};
+use mysql_bulk_sender::put_requests;
+use mysql_senders::{put_executions, put_queries};
 use mysql_streams::laws::sent_sets_are_delivered;
 use mysql_streams::{Refusal, Road};
-use mysql_values::{Params, SetError};
+use mysql_values::Params;
 use std::alloc::Global;
 
-/// Sends sets, behind which one more gives no values for this reason, where there is one.
+/// Sends sets.
 fn send_sets(
     alloc: Global,
     query: &[u8],
     sets: &[Params],
-    stop: Option<SetError>,
     road: Road,
     stmt_id: u32,
     limit: usize,
     out: &mut Vec<u8>,
 ) -> Result<(), Refusal>
     requires { 4 ≤ limit }
-    ensures refused { IfErr result (RefusesGiven road query.now (given_up_to sets.now stop) stmt_id limit) }
+    ensures refused { IfErr result (RefusesGiven road query.now (all_given sets.now) stmt_id limit) }
     ensures kept { OnErr result (out.new.items ≡ out.old.items) }
-    ensures sent { OnOk result (SentReadable road query.now (given_up_to sets.now stop) stmt_id limit out.old.items out.new.items) }
+    ensures sent { OnOk result (SentReadable road query.now (all_given sets.now) stmt_id limit out.old.items out.new.items) }
 {
     let start = out.len();
     let sent = match road {
-        Road::Text => put_queries(alloc, query, sets, stop, limit, out),
-        Road::Execute => put_executions(alloc, query, sets, stop, stmt_id, limit, out),
-        Road::Bulk => put_requests(alloc, query, sets, stop, stmt_id, limit, out),
+        Road::Text => put_queries(alloc, query, sets, limit, out),
+        Road::Execute => put_executions(alloc, query, sets, stmt_id, limit, out),
+        Road::Bulk => put_requests(alloc, query, sets, None, stmt_id, limit, out),
     };
     if sent.is_err() {
         out.truncate(start);
@@ -80,7 +80,7 @@ pub fn send(
     ensures whole { OnOk result (SendsWhole road query.now (all_given sets.now) stmt_id limit out.old.items out.new.items) }
 {
     sent_sets_are_delivered();
-    let sent = send_sets(alloc, query, sets, None, road, stmt_id, limit, out);
+    let sent = send_sets(alloc, query, sets, road, stmt_id, limit, out);
     let _len = out.len();
     sent
 }

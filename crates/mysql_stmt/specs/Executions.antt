@@ -1,13 +1,13 @@
 -- The payload of an execution of a prepared statement.
 -- MySQL: Client/Server Protocol, "COM_STMT_EXECUTE", "Null-Bitmap".
-use Rattle.std.specs.Prelude.{ℕ, zero, suc, ◌+◌, ◌*◌, ◌/◌, Bool, true, if◌then◌else◌, List, [], ◌∷◌, ◌++◌, length, drop, map, nat_lt, Option, is_none}
-use Rattle.std.specs.List.{flat_map, position_from, range_with_len, sum_by}
+use Rattle.std.specs.Prelude.{ℕ, zero, suc, ◌+◌, ◌*◌, ◌/◌, Bool, true, if◌then◌else◌, List, [], ◌∷◌, ◌++◌, length, drop, map, nat_lt}
+use Rattle.std.specs.List.{flat_map, range_with_len, sum_by}
 use Rattle.byteorder.specs.Endian.{little_bytes}
 use Rattle.mysql_const.specs.Commands.{command_number}
 use Rattle.mysql_const.specs.declared.command.Command.TheVariants.{COM_STMT_EXECUTE}
 use Rattle.mysql_cells.specs.declared.value.Value.{Value}
 use Rattle.mysql_cells.specs.declared.value.Value.TheVariants.{Bytes}
-use Rattle.mysql_cells.specs.Values.{content_of, is_null}
+use Rattle.mysql_cells.specs.Values.{is_null}
 use Rattle.mysql_cells.specs.Cells.{bin_len, cell, is_unsigned, type_number}
 
 -- a bit for each of the first so many values, the first one the lowest: 1 for NULL
@@ -61,7 +61,3 @@ whole_size values = 10 + (length values + 7) / 8 + 1 + 2 * length values + sum_b
 -- whether byte strings have to be sent as long data: where that payload exceeds one packet's most
 abbrev pub needs_long_data : List Value → Bool
 needs_long_data values = nat_lt 16777215 (whole_size values)
-
--- the first value that is a float, and so has no content
-abbrev pub first_float : List Value → Option ℕ
-first_float values = position_from (λ value. is_none (content_of value)) 0 values

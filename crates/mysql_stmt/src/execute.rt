@@ -4,9 +4,9 @@ ghost use Rattle.std.specs.Prelude.{◌≡◌, ◌++◌, ◌∷◌, ◌≤◌, I
 ghost use Rattle.byteorder.specs.Endian.{little_bytes};
 ghost use Rattle.mysql_buf.specs.Writing.{lenenc_str};
 ghost use Rattle.mysql_cells.specs.Cells.{bin_len};
-ghost use Rattle.mysql_cells.specs.Values.{content_of};
+ghost use Rattle.mysql_cells.specs.Values.{content_of, first_float};
 ghost use Rattle.mysql_raw.specs.Wire.{Appends};
-ghost use Rattle.mysql_stmt.specs.Executions.{execute_command, execution, execution_of, first_float, needs_long_data as has_to_be_apart, null_bitmap, parameters, sent_cell, type_bytes, whole_size};
+ghost use Rattle.mysql_stmt.specs.Executions.{execute_command, execution, execution_of, needs_long_data as has_to_be_apart, null_bitmap, parameters, sent_cell, type_bytes, whole_size};
 ghost use Rattle.mysql_stmt.specs.Views.{execution_view};
 
 use crate::headers::{ComStmtExecuteHeader, IterationCount};

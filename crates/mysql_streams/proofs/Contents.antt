@@ -10,8 +10,7 @@ use Rattle.mysql_values.specs.declared.params.Params.{Params}
 use Rattle.mysql_values.specs.declared.params.ParamsError.{ParamsError}
 use Rattle.mysql_values.specs.declared.params.SetError.TheVariants as set_error
 use Rattle.mysql_values.specs.Value.{Value}
-use Rattle.mysql_values.specs.Values.{content_of}
-use Rattle.mysql_values.specs.Binding.{first_float}
+use Rattle.mysql_values.specs.Values.{content_of, first_float}
 use Rattle.mysql_values.specs.Params.{IsMeaning, values_over}
 use Rattle.mysql_values.specs.Parsed.{names_of}
 use Rattle.mysql_values.specs.Queries.{is_place, place_at, places_from}

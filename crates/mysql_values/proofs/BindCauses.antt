@@ -8,7 +8,8 @@ use Rattle.mysql_queries.specs.Queries.{HasPlaces, Slices, Lexes, first_not_alon
 use Rattle.mysql_queries.specs.Laws.{FilledIsRead, NamesAreSlices, PiecesAreSlices}
 use Rattle.mysql_queries.specs.Parsed.{names_at, names_of}
 use Rattle.mysql_values.specs.Params.{IsMeaning, values_over}
-use Rattle.mysql_values.specs.Binding.{IsBindCause, IsBound, IsFilled, bind_cause, given_cause, alone_cause, first_float}
+use Rattle.mysql_values.specs.Binding.{IsBindCause, IsBound, IsFilled, bind_cause, given_cause, alone_cause}
+use Rattle.mysql_cells.specs.Values.{first_float}
 use Rattle.mysql_queries.specs.declared.content.Content.{Content}
 use Rattle.mysql_cells.specs.declared.value.Value.{Value}
 use Rattle.mysql_values.specs.declared.params.Params.{Params}

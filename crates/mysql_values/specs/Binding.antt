@@ -1,12 +1,12 @@
 -- The text that a query and a parameter set make, and why there is none.
 -- MySQL Reference Manual, "Literal Values" and "PREPARE Statement" (parameter markers).
-use Rattle.std.specs.Prelude.{◌≡◌, ℕ, ◌==◌, List, map, length, is_none, Option, Some, None, Result, Ok, Err, if◌then◌else◌}
-use Rattle.std.specs.List.{position_from, AllByRecursion}
+use Rattle.std.specs.Prelude.{◌≡◌, ℕ, ◌==◌, List, map, length, Option, Some, None, Result, Ok, Err, if◌then◌else◌}
+use Rattle.std.specs.List.{AllByRecursion}
 use Rattle.std.specs.Option.{option_map}
 use Rattle.mysql_queries.specs.Tokens.{HasTokens}
 use Rattle.mysql_queries.specs.Queries.{first_not_alone, interleaved, is_mixed, pieces_of, places_from, slices_between}
 use Rattle.mysql_queries.specs.Parsed.{names_of}
-use Rattle.mysql_cells.specs.Values.{content_of, literal_of}
+use Rattle.mysql_cells.specs.Values.{first_float, literal_of}
 use Rattle.mysql_cells.specs.AsSql.{HasLiteral}
 use Rattle.mysql_values.specs.Params.{values_over}
 use Rattle.mysql_cells.specs.declared.value.Value.{Value}
@@ -22,10 +22,6 @@ abbrev pub bind_error_of : ParamsError → BindError
 bind_error_of (Missing name) = bind_error.Params (Missing name)
 bind_error_of (Confusion confusion) = bind_error.Params (Confusion confusion)
 bind_error_of Memory = bind_error.Memory
-
--- the first value that is a float
-abbrev pub first_float : List Value → Option ℕ
-first_float values = position_from (λ value. is_none (content_of value)) 0 values
 
 -- what is wrong with values for so many placeholders, by the errors that are handed in: they are not as many, or else the first float.
 abbrev pub values_cause : {E : Type 0} → E → (ℕ → E) → ℕ → List Value → Option E

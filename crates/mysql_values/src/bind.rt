@@ -1,11 +1,11 @@
 //! A query's text with literals in the places of its placeholders.
 
 ghost use Rattle.mysql_cells.specs.AsSql.{HasLiteral};
-ghost use Rattle.mysql_values.specs.Binding.{IsBindCause, IsBound, IsFilled, bind_cause, bind_error_of, first_float, given_cause};
+ghost use Rattle.mysql_values.specs.Binding.{IsBindCause, IsBound, IsFilled, bind_cause, bind_error_of, given_cause};
 ghost use Rattle.mysql_values.specs.Params.{IsMeaning, values_over};
 ghost use Rattle.mysql_queries.specs.Parsed.{names_at};
 ghost use Rattle.mysql_queries.specs.Queries.{HasPlaces, Lexes, Slices, first_not_alone as first_apart, is_mixed as has_both_kinds};
-ghost use Rattle.mysql_cells.specs.Values.{literal_of};
+ghost use Rattle.mysql_cells.specs.Values.{first_float, literal_of};
 ghost use Rattle.mysql_queries.specs.declared.content.Content.{Content};
 ghost use Rattle.mysql_values.specs.declared.params.ParamsError.{ParamsError as ParamsErrorOf};
 ghost use Rattle.mysql_cells.specs.declared.value.Value.{Value as ValueOf};

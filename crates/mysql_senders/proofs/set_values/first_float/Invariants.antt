@@ -1,8 +1,7 @@
 use Rattle.std.proofs.Common.{◌≡◌, drop, map}
 use Rattle.std.specs.Prelude.{is_none}
 use Rattle.std.specs.List.{position_from}
-use Rattle.mysql_values.specs.Values.{content_of}
-use Rattle.mysql_values.specs.Binding.{first_float}
+use Rattle.mysql_values.specs.Values.{content_of, first_float}
 use Rattle.mysql_senders.proofs.set_values.first_float.Given as goal
 
 abbrev pub invariant-loop-place : goal.invariant-loop-place

@@ -1,8 +1,8 @@
 use Rattle.std.proofs.Common.{◌≡◌, ◌+◌, ◌≤◌, drop, map}
 use Rattle.std.specs.Prelude.{is_none}
 use Rattle.std.specs.List.{position_from}
-use Rattle.mysql_cells.specs.Values.{content_of}
-use Rattle.mysql_stmt.specs.Executions.{first_float, whole_size}
+use Rattle.mysql_cells.specs.Values.{content_of, first_float}
+use Rattle.mysql_stmt.specs.Executions.{whole_size}
 use Rattle.mysql_stmt.proofs.LongData.{left}
 use Rattle.mysql_stmt.proofs.execute.size_without_floats.Given as goal
 

@@ -1,7 +1,8 @@
 use Rattle.std.proofs.Common.{length, map, sym, ap, ◌∙◌, inl, inr, subst}
 use Rattle.std.proofs.lemmas.List.{length-map}
 use Rattle.std.proofs.lemmas.Result.{err_from_is_err_and}
-use Rattle.mysql_values.specs.Binding.{IsFilled, first_float, given_cause, IsBindCause}
+use Rattle.mysql_values.specs.Binding.{IsFilled, given_cause, IsBindCause}
+use Rattle.mysql_cells.specs.Values.{first_float}
 use Rattle.mysql_values.specs.Params.{values_over}
 use Rattle.mysql_values.proofs.BindCauses.{bind_ok, values_are_cause, float_is_cause}
 use Rattle.mysql_values.proofs.bind.bind_text_over.Goals as goal

@@ -1,0 +1,4 @@
+pub mod RequestBytes
+pub mod SetRows
+pub mod SentRequests
+pub mod AtOnce

@@ -1,0 +1,9 @@
+//! Parameter sets of a query as bulk requests, framed.
+#![tactic(auto)]
+
+mod at_once;
+mod command;
+mod requests;
+mod rows;
+
+pub use requests::put_requests;

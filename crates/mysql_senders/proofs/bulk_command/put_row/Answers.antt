@@ -1,8 +1,0 @@
-use Rattle.mysql_bulk.specs.Bulk.{param_value_bytes, param_value_of}
-use Rattle.mysql_senders.proofs.BulkCommand.{over_refs, passed}
-use Rattle.mysql_senders.proofs.bulk_command.put_row.Goals as goal
-
-pub returns : goal.returns
-returns c =
-    over_refs (λ value. param_value_bytes (param_value_of value)) c.args.row.now c.args.command.now.items c.loop-value.command.items
-    (passed (λ value. param_value_bytes (param_value_of value.now)) c.args.row.now c.loop-value.value-index c.args.command.now.items c.loop-value.command.items c.loop-value-test.false c.loop-value.invariant)
