@@ -41,8 +41,18 @@ fn read(assert: &impl Assert, alloc: Global) -> ConnectAttributes<'static> {
     whole::<ConnectAttributes, ()>(assert, alloc, (), ATTRIBUTE)
 }
 
+// The first total ends within a value, the second past the bytes, the third is the largest.
+const OTHER_TOTALS: [(&[u8], WireError); 3] = [
+    (b"\x03\x01a\x011", WireError::UnexpectedEof),
+    (b"\x05\x01a\x011", WireError::UnexpectedEof),
+    (
+        b"\xfe\xff\xff\xff\xff\xff\xff\xff\xff\x01a\x011",
+        WireError::UnexpectedEof,
+    ),
+];
+
 #[test]
-fn written_after_their_total(rt: HostRuntime) {
+fn after_their_total(rt: HostRuntime) {
     let assert = Asserting(&rt);
     let alloc = rt.alloc();
     assert_made(
@@ -53,6 +63,7 @@ fn written_after_their_total(rt: HostRuntime) {
         ATTRIBUTE,
     );
     assert_reads_back::<ConnectAttributes, ()>(&assert, alloc, (), ATTRIBUTE);
+    assert_each_refused::<ConnectAttributes>(&assert, alloc, &OTHER_TOTALS);
 }
 
 #[test]
@@ -67,19 +78,4 @@ fn copies(rt: HostRuntime) {
         read(&assert, alloc).into_owned(alloc),
         read(&assert, alloc),
     );
-}
-
-// The first total ends within a value, the second past the bytes, the third is the largest.
-const OTHER_TOTALS: [(&[u8], WireError); 3] = [
-    (b"\x03\x01a\x011", WireError::UnexpectedEof),
-    (b"\x05\x01a\x011", WireError::UnexpectedEof),
-    (
-        b"\xfe\xff\xff\xff\xff\xff\xff\xff\xff\x01a\x011",
-        WireError::UnexpectedEof,
-    ),
-];
-
-#[test]
-fn a_total_that_does_not_match(rt: HostRuntime) {
-    assert_each_refused::<ConnectAttributes>(&Asserting(&rt), rt.alloc(), &OTHER_TOTALS);
 }

@@ -1,44 +1,31 @@
 //! Packets of an exchange that authenticates.
 
 use crate::support::{
-    Asserting, assert_each_refused, assert_makes, assert_packet, assert_read_back, assert_text,
-    assert_writes,
+    Asserting, assert_each_refused, assert_makes, assert_packet, assert_text, assert_writes,
+    copy_of,
 };
 use mysql_login::{
     AuthMoreData, AuthPlugin, AuthSwitchRequest, OldAuthSwitchRequest, PublicKeyRequest,
     PublicKeyResponse,
 };
 use mysql_raw::WireError;
-use std::alloc::{AllocError, Global};
+use std::alloc::AllocError;
 use std::borrow::CowSlice;
-use tests_support::{
-    Assert, assert_bytes, assert_cut_off, assert_equal, assert_same, once_more, whole,
-};
+use tests_support::{assert_bytes, assert_cut_off, assert_equal, assert_same, whole};
 
 /// A server's request for native passwords.
 const SWITCH: &[u8] = b"\xfemysql_native_password\x00zQg4i6oNy6=rHN/>-b)A\x00";
-
-// Asserts that a request is for this plugin, with this data.
-fn assert_switch(
-    assert: &impl Assert,
-    packet: &AuthSwitchRequest<'_>,
-    plugin: AuthPlugin<'_>,
-    plugin_data: &[u8],
-) {
-    assert_equal(assert, packet.auth_plugin(), plugin);
-    assert_bytes(assert, packet.plugin_data(), plugin_data);
-}
 
 #[test]
 fn a_switch(rt: HostRuntime) {
     let assert = Asserting(&rt);
     let packet = whole::<AuthSwitchRequest, ()>(&assert, rt.alloc(), (), SWITCH);
-    assert_switch(
+    assert_equal(
         &assert,
-        &packet,
+        packet.auth_plugin(),
         AuthPlugin::MysqlNativePassword,
-        b"zQg4i6oNy6=rHN/>-b)A",
     );
+    assert_bytes(&assert, packet.plugin_data(), b"zQg4i6oNy6=rHN/>-b)A");
     assert_writes(&assert, rt.alloc(), packet, SWITCH);
 }
 
@@ -62,22 +49,6 @@ fn switch_to_ed25519() -> AuthSwitchRequest<'static> {
     )
 }
 
-// A copy of a request, which has the data of the one above.
-fn copy_of_a_switch<'a>(
-    assert: &impl Assert,
-    alloc: Global,
-    packet: AuthSwitchRequest<'a>,
-) -> AuthSwitchRequest<'static> {
-    assert_bytes(
-        assert,
-        packet.plugin_data(),
-        b"0123456789abcdef0123456789abcdef",
-    );
-    let copy = once_more(assert, packet.clone(alloc), packet.clone(alloc));
-    drop(packet);
-    copy
-}
-
 #[test]
 fn a_switch_made(rt: HostRuntime) {
     let assert = Asserting(&rt);
@@ -89,7 +60,13 @@ fn a_switch_made(rt: HostRuntime) {
         switch_to_ed25519(),
     );
     // A copy that owns its bytes gives them on without memory.
-    let copy = copy_of_a_switch(&assert, alloc, switch_to_ed25519());
+    let packet = switch_to_ed25519();
+    assert_bytes(
+        &assert,
+        packet.plugin_data(),
+        b"0123456789abcdef0123456789abcdef",
+    );
+    let copy = copy_of(&assert, packet.clone(alloc), packet.clone(alloc), packet);
     assert_makes(
         &assert,
         copy.into_owned(alloc),
@@ -127,17 +104,6 @@ fn more_data(rt: HostRuntime) {
     assert_each_refused::<AuthMoreData>(&assert, rt.alloc(), &NO_MORE_DATA);
 }
 
-// A copy of a packet.
-fn copy_of_more_data<'a>(
-    assert: &impl Assert,
-    alloc: Global,
-    packet: AuthMoreData<'a>,
-) -> AuthMoreData<'static> {
-    let copy = once_more(assert, packet.clone(alloc), packet.clone(alloc));
-    drop(packet);
-    copy
-}
-
 #[test]
 fn more_data_owned(rt: HostRuntime) {
     let assert = Asserting(&rt);
@@ -149,37 +115,24 @@ fn more_data_owned(rt: HostRuntime) {
         more(),
     );
     // A copy that owns its bytes gives them on without memory.
-    let copy = copy_of_more_data(&assert, alloc, more());
+    let packet = more();
+    let copy = copy_of(&assert, packet.clone(alloc), packet.clone(alloc), packet);
     assert_makes(&assert, copy.into_owned(alloc), Err(AllocError), more());
 }
 
 // Bytes, and why they are refused.
 const NO_KEY: [(&[u8], WireError); 1] = [(b"\x02test", WireError::BadConstant)];
 
-fn key() -> PublicKeyResponse<'static> {
-    PublicKeyResponse::new(CowSlice::Borrowed(b"test"))
-}
-
 #[test]
 fn a_key(rt: HostRuntime) {
     let assert = Asserting(&rt);
-    assert_packet(&assert, rt.alloc(), key(), b"\x01test", 1);
-    assert_read_back(&assert, rt.alloc(), key(), b"\x01test");
-    assert_each_refused::<PublicKeyResponse>(&assert, rt.alloc(), &NO_KEY);
-}
-
-#[test]
-fn a_key_owned(rt: HostRuntime) {
-    let assert = Asserting(&rt);
     let alloc = rt.alloc();
-    let packet = key();
-    assert_text(
-        &assert,
-        packet.rsa_key(alloc),
-        packet.rsa_key(alloc),
-        "test",
-    );
-    assert_makes(&assert, packet.clone(alloc), packet.clone(alloc), packet);
+    let packet = PublicKeyResponse::new(CowSlice::Borrowed(b"test"));
+    assert_packet(&assert, alloc, packet, b"\x01test", 1);
+    let read = whole::<PublicKeyResponse, ()>(&assert, alloc, (), b"\x01test");
+    assert_text(&assert, read.rsa_key(alloc), read.rsa_key(alloc), "test");
+    assert_makes(&assert, read.clone(alloc), read.clone(alloc), read);
+    assert_each_refused::<PublicKeyResponse>(&assert, alloc, &NO_KEY);
 }
 
 // Bytes, and why they are refused.

@@ -41,29 +41,19 @@ fn read_more(assert: &impl Assert, alloc: Global) -> ComChangeUserMoreData<'stat
 }
 
 #[test]
-fn a_command_is_written(rt: HostRuntime) {
+fn a_command(rt: HostRuntime) {
+    let assert = Asserting(&rt);
     let alloc = rt.alloc();
-    assert_made(
-        &Asserting(&rt),
-        alloc,
-        command(alloc),
-        command(alloc),
-        COMMAND,
-    );
+    assert_made(&assert, alloc, command(alloc), command(alloc), COMMAND);
+    assert_reads_back::<ComChangeUser, CapabilityFlags>(&assert, alloc, FLAGS, COMMAND);
 }
 
 #[test]
-fn a_command_is_copied(rt: HostRuntime) {
+fn copies_of_a_command(rt: HostRuntime) {
     let assert = Asserting(&rt);
     let alloc = rt.alloc();
     let command = read(&assert, alloc);
     assert_makes(&assert, command.clone(alloc), command.clone(alloc), command);
-}
-
-#[test]
-fn a_command_is_owned(rt: HostRuntime) {
-    let assert = Asserting(&rt);
-    let alloc = rt.alloc();
     assert_makes(
         &assert,
         read(&assert, alloc).into_owned(alloc),
@@ -73,18 +63,12 @@ fn a_command_is_owned(rt: HostRuntime) {
 }
 
 #[test]
-fn more_data_is_copied(rt: HostRuntime) {
+fn copies_of_more_data(rt: HostRuntime) {
     let assert = Asserting(&rt);
     let alloc = rt.alloc();
     let more = read_more(&assert, alloc);
     assert_written(&assert, alloc, &more, MORE);
     assert_makes(&assert, more.clone(alloc), more.clone(alloc), more);
-}
-
-#[test]
-fn more_data_is_owned(rt: HostRuntime) {
-    let assert = Asserting(&rt);
-    let alloc = rt.alloc();
     assert_makes(
         &assert,
         read_more(&assert, alloc).into_owned(alloc),
@@ -98,43 +82,22 @@ fn commands_without_parts_are_written(rt: HostRuntime) {
     let assert = Asserting(&rt);
     let bare: ComChangeUser = Default::default();
     assert_writes(&assert, rt.alloc(), bare, b"\x11\0\0\0");
-    assert_writes(
-        &assert,
-        rt.alloc(),
-        without_attributes(),
-        b"\x11\0\0\0\x21\0\0",
-    );
-}
-
-// A command with a character set alone.
-fn without_attributes() -> ComChangeUser<'static> {
-    ComChangeUser::new().with_more_data(Some(ComChangeUserMoreData::new(33)))
+    // A character set alone.
+    let more = ComChangeUserMoreData::new(33);
+    let command = ComChangeUser::new().with_more_data(Some(more));
+    assert_writes(&assert, rt.alloc(), command, b"\x11\0\0\0\x21\0\0");
 }
 
 #[test]
-fn a_command_is_read(rt: HostRuntime) {
-    let assert = Asserting(&rt);
-    assert_reads_back::<ComChangeUser, CapabilityFlags>(&assert, rt.alloc(), FLAGS, COMMAND);
-    // The command may end behind the database.
-    drop(whole::<ComChangeUser, CapabilityFlags>(&assert, rt.alloc(), FLAGS, &COMMAND[..12]));
-}
-
-#[test]
-fn another_command(rt: HostRuntime) {
-    assert_refused::<ComChangeUser, CapabilityFlags>(
-        &Asserting(&rt),
-        rt.alloc(),
-        FLAGS,
-        b"\x12\0\0\0",
-        WireError::BadConstant,
-    );
-}
-
-#[test]
-fn a_command_that_is_cut_off(rt: HostRuntime) {
+fn no_command(rt: HostRuntime) {
     let assert = Asserting(&rt);
     let alloc = rt.alloc();
+    let other = b"\x12\0\0\0";
+    let cause = WireError::BadConstant;
+    assert_refused::<ComChangeUser, CapabilityFlags>(&assert, alloc, FLAGS, other, cause);
     assert_cut_off::<ComChangeUser, CapabilityFlags>(&assert, alloc, FLAGS, COMMAND, 0, 12);
+    // The command may end behind the database.
+    drop(whole::<ComChangeUser, CapabilityFlags>(&assert, alloc, FLAGS, &COMMAND[..12]));
     assert_cut_off::<ComChangeUser, CapabilityFlags>(
         &assert,
         alloc,

@@ -108,16 +108,3 @@ fn assert_block(assert: &impl Assert, alloc: Global, sids: &[Sid<'_>], bytes: &[
     assert_equal(assert, block.byte_len() as usize, bytes.len());
     assert_written(assert, alloc, &block, bytes);
 }
-
-// A block of one set without a tag.
-const UNTAGGED_BLOCK: &[u8] =
-    b"\x01\x00\x00\x00\x00\x00\x00\x00bbbbbbbbbbbbbbbb\x01\x00\x00\x00\x00\x00\x00\x00\x01\x00\x00\x00\x00\x00\x00\x00\x32\x00\x00\x00\x00\x00\x00\x00";
-
-#[test]
-fn blocks_without_a_tag(rt: HostRuntime) {
-    let assert = Asserting(&rt);
-    assert_block(&assert, rt.alloc(), &[], b"\0\0\0\0\0\0\0\0");
-    let sids = [untagged_set(&assert, rt.alloc())];
-    assert_block(&assert, rt.alloc(), &sids, UNTAGGED_BLOCK);
-    drop(sids);
-}

@@ -1,14 +1,14 @@
 //! Requests for the binary log without the transactions that are known.
 
 use crate::support::{
-    Asserting, assert_each_refused, assert_makes, assert_packet, assert_text, tagged_set,
+    Asserting, assert_each_refused, assert_makes, assert_text, assert_writes, tagged_set,
     untagged_set,
 };
 use mysql_login::{BinlogDumpFlags, ComBinlogDumpGtid};
 use mysql_raw::WireError;
 use std::alloc::Global;
 use std::borrow::CowSlice;
-use tests_support::{Assert, assert_equal, once_more, whole};
+use tests_support::{Assert, assert_cut_off, assert_equal, assert_reads_back, once_more, whole};
 
 // A set of the tag `app` with the transactions 1 to 99, and one without a tag with 1 to 49. The block has 93 bytes.
 const TAGGED: &[u8] =
@@ -43,32 +43,23 @@ fn with_both(assert: &impl Assert, alloc: Global) -> ComBinlogDumpGtid<'static> 
     )
 }
 
-// The request with the set that has no tag.
-fn with_untagged(assert: &impl Assert, alloc: Global) -> ComBinlogDumpGtid<'static> {
-    once_more(
-        assert,
-        request().with_sid(alloc, untagged_set(assert, alloc)),
-        request().with_sid(alloc, untagged_set(assert, alloc)),
-    )
-}
-
 #[test]
-fn a_tagged_block(rt: HostRuntime) {
+fn blocks(rt: HostRuntime) {
     let assert = Asserting(&rt);
     let packet = with_both(&assert, rt.alloc());
     assert_equal(&assert, packet.flags().0, 4);
-    assert_packet(&assert, rt.alloc(), packet, TAGGED, TAGGED.len());
-}
-
-#[test]
-fn an_untagged_block(rt: HostRuntime) {
-    let assert = Asserting(&rt);
-    let packet = with_untagged(&assert, rt.alloc());
-    assert_packet(&assert, rt.alloc(), packet, UNTAGGED, UNTAGGED.len());
+    assert_writes(&assert, rt.alloc(), packet, TAGGED);
+    for bytes in [TAGGED, UNTAGGED] {
+        assert_reads_back::<ComBinlogDumpGtid, ()>(&assert, rt.alloc(), (), bytes);
+        assert_cut_off::<ComBinlogDumpGtid, ()>(&assert, rt.alloc(), (), bytes, 0, bytes.len());
+    }
 }
 
 // Bytes, and why they are refused.
-const NO_BLOCKS: [(&[u8], WireError); 5] = [
+const NO_REQUESTS: [(&[u8], WireError); 8] = [
+    (b"\x1f\x08\x00\x07\x00\x00\x00", WireError::BadConstant),
+    (b"\x1e\x08\x00\x07\x00\x00\x00", WireError::UnknownValue),
+    (b"\x1e\x08\x00\x07\x00\x00", WireError::UnexpectedEof),
     // More sets than there are bytes, in a block of 8 bytes, one that is cut off, and one past the end.
     (
         b"\x1e\x04\x00\x07\x00\x00\x00\x01\x00\x00\x00f\x04\x00\x00\x00\x00\x00\x00\x00\x08\x00\x00\x00\xff\xff\xff\xff\xff\xff\xff\x00",
@@ -94,20 +85,8 @@ const NO_BLOCKS: [(&[u8], WireError); 5] = [
 ];
 
 #[test]
-fn refused_blocks(rt: HostRuntime) {
-    assert_each_refused::<ComBinlogDumpGtid>(&Asserting(&rt), rt.alloc(), &NO_BLOCKS);
-}
-
-// Bytes, and why they are refused.
-const NO_FRONTS: [(&[u8], WireError); 3] = [
-    (b"\x1f\x08\x00\x07\x00\x00\x00", WireError::BadConstant),
-    (b"\x1e\x08\x00\x07\x00\x00\x00", WireError::UnknownValue),
-    (b"\x1e\x08\x00\x07\x00\x00", WireError::UnexpectedEof),
-];
-
-#[test]
-fn refused_fronts(rt: HostRuntime) {
-    assert_each_refused::<ComBinlogDumpGtid>(&Asserting(&rt), rt.alloc(), &NO_FRONTS);
+fn refused_requests(rt: HostRuntime) {
+    assert_each_refused::<ComBinlogDumpGtid>(&Asserting(&rt), rt.alloc(), &NO_REQUESTS);
 }
 
 // A block may say no sets and have more bytes.
@@ -144,22 +123,10 @@ fn flags_say_whether_there_are_sets(rt: HostRuntime) {
 }
 
 #[test]
-fn fields_of_a_request(rt: HostRuntime) {
-    let assert = Asserting(&rt);
-    let packet = request();
-    assert_text(
-        &assert,
-        packet.filename(rt.alloc()),
-        packet.filename(rt.alloc()),
-        "f",
-    );
-    drop(packet);
-}
-
-#[test]
-fn a_request_is_copied(rt: HostRuntime) {
+fn a_request_with_sets(rt: HostRuntime) {
     let assert = Asserting(&rt);
     let alloc = rt.alloc();
     let packet = with_both(&assert, alloc);
+    assert_text(&assert, packet.filename(alloc), packet.filename(alloc), "f");
     assert_makes(&assert, packet.clone(alloc), packet.clone(alloc), packet);
 }

@@ -1,6 +1,8 @@
 //! Initial handshake packets.
 
-use crate::support::{Asserting, assert_each_refused, assert_makes, assert_text, assert_writes};
+use crate::support::{
+    Asserting, assert_each_refused, assert_makes, assert_text, assert_writes, copy_of,
+};
 use bitflags::Flags;
 use mysql_const::{CapabilityFlags, MariadbCapabilities, StatusFlags};
 use mysql_login::{AuthPlugin, HandshakePacket};
@@ -8,8 +10,7 @@ use mysql_raw::WireError;
 use std::alloc::{AllocError, Global};
 use std::borrow::{CowSlice, CowStr};
 use tests_support::{
-    Assert, assert_bytes, assert_cut_off, assert_equal, assert_same, assert_written, once_more,
-    whole,
+    Assert, assert_bytes, assert_cut_off, assert_equal, assert_same, once_more, whole,
 };
 
 /// The handshake of a MariaDB server.
@@ -83,7 +84,7 @@ fn assert_numbers(assert: &impl Assert, packet: &HandshakePacket<'_>) {
 }
 
 // Asserts that a packet has the bytes of the handshake of a MySQL server.
-fn assert_texts(assert: &impl Assert, packet: &HandshakePacket<'_>) {
+fn assert_bytes_held(assert: &impl Assert, packet: &HandshakePacket<'_>) {
     assert_bytes(assert, packet.server_version_ref(), b"5.6.4-m7-log");
     assert_bytes(assert, packet.scramble_1_ref(), b"RB3vz&Gr");
     assert_same(
@@ -98,37 +99,33 @@ fn assert_texts(assert: &impl Assert, packet: &HandshakePacket<'_>) {
     );
 }
 
-#[test]
-fn fields(rt: HostRuntime) {
-    let assert = Asserting(&rt);
-    let packet = read(&assert, rt.alloc(), MYSQL);
-    assert_numbers(&assert, &packet);
-    assert_texts(&assert, &packet);
-    drop(packet);
-}
-
-// Asserts that the name of a packet's plugin is this text.
-fn assert_name(assert: &impl Assert, alloc: Global, packet: &HandshakePacket<'_>, wanted: &str) {
+// Asserts that a packet has the texts of the handshake of a MySQL server.
+fn assert_texts(assert: &impl Assert, alloc: Global, packet: &HandshakePacket<'_>) {
+    assert_text(
+        assert,
+        packet.server_version_str(alloc),
+        packet.server_version_str(alloc),
+        "5.6.4-m7-log",
+    );
     let name = once_more(
         assert,
         packet.auth_plugin_name_str(alloc),
         packet.auth_plugin_name_str(alloc),
     );
-    assert_equal(assert, name, Some(CowStr::Borrowed(wanted)));
+    assert_equal(
+        assert,
+        name,
+        Some(CowStr::Borrowed("mysql_native_password")),
+    );
 }
 
 #[test]
-fn texts(rt: HostRuntime) {
+fn fields(rt: HostRuntime) {
     let assert = Asserting(&rt);
-    let alloc = rt.alloc();
-    let packet = read(&assert, alloc, MYSQL);
-    assert_text(
-        &assert,
-        packet.server_version_str(alloc),
-        packet.server_version_str(alloc),
-        "5.6.4-m7-log",
-    );
-    assert_name(&assert, alloc, &packet, "mysql_native_password");
+    let packet = read(&assert, rt.alloc(), MYSQL);
+    assert_numbers(&assert, &packet);
+    assert_bytes_held(&assert, &packet);
+    assert_texts(&assert, rt.alloc(), &packet);
     drop(packet);
 }
 
@@ -185,16 +182,6 @@ fn second_scrambles(rt: HostRuntime) {
     }
 }
 
-#[test]
-fn cut_off(rt: HostRuntime) {
-    let assert = Asserting(&rt);
-    let alloc = rt.alloc();
-    assert_cut_off::<HandshakePacket, ()>(&assert, alloc, (), MARIADB, 0, MARIADB.len());
-    // The name of a plugin may end anywhere, so those bytes are read.
-    assert_cut_off::<HandshakePacket, ()>(&assert, alloc, (), MYSQL, 0, 58);
-    drop(read(&assert, alloc, &MYSQL[..58]));
-}
-
 // Bytes, and why they are refused.
 const UNKNOWN_STATUS: [(&[u8], WireError); 1] = [(
     b"\x0a5.5.5-10.0.17-MariaDB-log\x00\x0b\x00\x00\x00dvH@I-CJ\x00\xff\xf7\x08\x04\x00\x00\x00\x00\x00\x00\x00\x00\x00\x00\x00\x00\x00\x00*4d|cZwk4^]:\x00",
@@ -202,8 +189,14 @@ const UNKNOWN_STATUS: [(&[u8], WireError); 1] = [(
 )];
 
 #[test]
-fn an_unknown_status(rt: HostRuntime) {
-    assert_each_refused::<HandshakePacket>(&Asserting(&rt), rt.alloc(), &UNKNOWN_STATUS);
+fn no_handshake(rt: HostRuntime) {
+    let assert = Asserting(&rt);
+    let alloc = rt.alloc();
+    assert_cut_off::<HandshakePacket, ()>(&assert, alloc, (), MARIADB, 0, MARIADB.len());
+    // The name of a plugin may end anywhere, so those bytes are read.
+    assert_cut_off::<HandshakePacket, ()>(&assert, alloc, (), MYSQL, 0, 58);
+    drop(read(&assert, alloc, &MYSQL[..58]));
+    assert_each_refused::<HandshakePacket>(&assert, alloc, &UNKNOWN_STATUS);
 }
 
 // A handshake with a name and an extended capability.
@@ -243,19 +236,9 @@ fn a_packet_owned(rt: HostRuntime) {
         made(),
     );
     // A copy that owns its bytes gives them on without memory.
-    let copy = copy(&assert, alloc, made());
+    let packet = made();
+    let copy = copy_of(&assert, packet.clone(alloc), packet.clone(alloc), packet);
     assert_makes(&assert, copy.into_owned(alloc), Err(AllocError), made());
-}
-
-// A copy of a packet.
-fn copy<'a>(
-    assert: &impl Assert,
-    alloc: Global,
-    packet: HandshakePacket<'a>,
-) -> HandshakePacket<'static> {
-    let copy = once_more(assert, packet.clone(alloc), packet.clone(alloc));
-    drop(packet);
-    copy
 }
 
 // A handshake with this version and no second scramble.

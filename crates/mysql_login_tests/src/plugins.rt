@@ -1,13 +1,11 @@
 //! Plugins and what they send.
 
-use crate::support::{Asserting, assert_makes};
+use crate::support::{Asserting, assert_makes, copy_of};
 use mysql_auth::without_zero;
 use mysql_login::{AuthPlugin, AuthPluginData, parse_parsec_salt};
 use std::alloc::{AllocError, Global};
 use std::borrow::CowSlice;
-use tests_support::{
-    Assert, assert_bytes, assert_equal, assert_same, assert_written, once_more, whole,
-};
+use tests_support::{Assert, assert_bytes, assert_equal, assert_same, assert_written, whole};
 
 /// A packet of PARSEC's salt, with a factor of 3.
 const SALT: &[u8] = b"P\x03abcdefghijklmnopqr";
@@ -98,24 +96,22 @@ fn parsec() -> AuthPlugin<'static> {
     AuthPlugin::from_bytes(b"parsec")
 }
 
-// PARSEC with what the packet above says.
-fn told() -> AuthPlugin<'static> {
-    AuthPlugin::MariadbParsec {
-        iterations: 8192,
-        ext_salt: *b"abcdefghijklmnopqr",
-    }
-}
-
-fn native() -> AuthPlugin<'static> {
-    AuthPlugin::MysqlNativePassword
-}
-
 #[test]
 fn data_of_a_packet(rt: HostRuntime) {
     let assert = Asserting(&rt);
     assert_data(&assert, parsec(), b"P", false, parsec());
-    assert_data(&assert, parsec(), SALT, true, told());
-    assert_data(&assert, native(), SALT, false, native());
+    let told = AuthPlugin::MariadbParsec {
+        iterations: 8192,
+        ext_salt: *b"abcdefghijklmnopqr",
+    };
+    assert_data(&assert, parsec(), SALT, true, told);
+    assert_data(
+        &assert,
+        AuthPlugin::MysqlNativePassword,
+        SALT,
+        false,
+        AuthPlugin::MysqlNativePassword,
+    );
 }
 
 #[test]
@@ -171,17 +167,7 @@ fn data_owned(rt: HostRuntime) {
         clear(),
     );
     // A copy that owns its bytes gives them on without memory.
-    let copy = copy(&assert, alloc, clear());
+    let sent = clear();
+    let copy = copy_of(&assert, sent.clone(alloc), sent.clone(alloc), sent);
     assert_makes(&assert, copy.into_owned(alloc), Err(AllocError), clear());
-}
-
-// A copy of what is sent.
-fn copy<'a>(
-    assert: &impl Assert,
-    alloc: Global,
-    sent: AuthPluginData<'a>,
-) -> AuthPluginData<'static> {
-    let copy = once_more(assert, sent.clone(alloc), sent.clone(alloc));
-    drop(sent);
-    copy
 }

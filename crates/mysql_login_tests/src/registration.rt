@@ -60,15 +60,6 @@ fn with_names(
         .with_password(CowSlice::Borrowed(password))
 }
 
-#[test]
-fn a_replica(rt: HostRuntime) {
-    let packet = with_names(ComRegisterSlave::new(0x102), b"host", b"u", b"")
-        .with_port(3306)
-        .with_replication_rank(3)
-        .with_master_id(4);
-    assert_packet(&Asserting(&rt), rt.alloc(), packet, REPLICA, REPLICA.len());
-}
-
 // Bytes, and why they are refused.
 const NO_REPLICAS: [(&[u8], WireError); 2] = [
     (b"\x14\x01\x00\x00\x00", WireError::BadConstant),
@@ -76,8 +67,14 @@ const NO_REPLICAS: [(&[u8], WireError); 2] = [
 ];
 
 #[test]
-fn no_replica(rt: HostRuntime) {
-    assert_each_refused::<ComRegisterSlave>(&Asserting(&rt), rt.alloc(), &NO_REPLICAS);
+fn a_replica(rt: HostRuntime) {
+    let assert = Asserting(&rt);
+    let packet = with_names(ComRegisterSlave::new(0x102), b"host", b"u", b"")
+        .with_port(3306)
+        .with_replication_rank(3)
+        .with_master_id(4);
+    assert_packet(&assert, rt.alloc(), packet, REPLICA, REPLICA.len());
+    assert_each_refused::<ComRegisterSlave>(&assert, rt.alloc(), &NO_REPLICAS);
 }
 
 // Asserts that a replica has these names.
@@ -96,26 +93,6 @@ fn names_of_a_replica(rt: HostRuntime) {
     assert_makes(&assert, packet.clone(alloc), packet.clone(alloc), packet);
 }
 
-fn acknowledgement() -> SemiSyncAckPacket<'static> {
-    SemiSyncAckPacket::new(0, CowSlice::Borrowed(b""))
-        .with_position(0x201)
-        .with_filename(CowSlice::Borrowed(b"binlog.1"))
-}
-
-#[test]
-fn an_acknowledgement(rt: HostRuntime) {
-    let assert = Asserting(&rt);
-    assert_packet(&assert, rt.alloc(), acknowledgement(), ACKNOWLEDGED, 9);
-    let packet = acknowledgement();
-    assert_text(
-        &assert,
-        packet.filename(rt.alloc()),
-        packet.filename(rt.alloc()),
-        "binlog.1",
-    );
-    drop(packet);
-}
-
 // Bytes, and why they are refused.
 const NO_ACKNOWLEDGEMENTS: [(&[u8], WireError); 2] = [
     (
@@ -129,6 +106,17 @@ const NO_ACKNOWLEDGEMENTS: [(&[u8], WireError); 2] = [
 ];
 
 #[test]
-fn no_acknowledgement(rt: HostRuntime) {
-    assert_each_refused::<SemiSyncAckPacket>(&Asserting(&rt), rt.alloc(), &NO_ACKNOWLEDGEMENTS);
+fn an_acknowledgement(rt: HostRuntime) {
+    let assert = Asserting(&rt);
+    let packet = SemiSyncAckPacket::new(0, CowSlice::Borrowed(b""))
+        .with_position(0x201)
+        .with_filename(CowSlice::Borrowed(b"binlog.1"));
+    assert_text(
+        &assert,
+        packet.filename(rt.alloc()),
+        packet.filename(rt.alloc()),
+        "binlog.1",
+    );
+    assert_packet(&assert, rt.alloc(), packet, ACKNOWLEDGED, 9);
+    assert_each_refused::<SemiSyncAckPacket>(&assert, rt.alloc(), &NO_ACKNOWLEDGEMENTS);
 }

@@ -12,40 +12,41 @@ fn sids(alloc: Global, sid: Sid<'static>) -> Result<Vec<Sid<'static>>, AllocErro
     Ok(sids)
 }
 
-fn request(assert: &impl Assert, alloc: Global) -> BinlogRequest<'static> {
-    let sids = once_more(
+// The set without a tag.
+fn one_set(assert: &impl Assert, alloc: Global) -> Vec<Sid<'static>> {
+    once_more(
         assert,
         sids(alloc, untagged_set(assert, alloc)),
         sids(alloc, untagged_set(assert, alloc)),
-    );
+    )
+}
+
+fn request(assert: &impl Assert, alloc: Global) -> BinlogRequest<'static> {
     BinlogRequest::new(alloc, 0)
         .with_server_id(7)
         .with_flags(BinlogDumpFlags(3))
         .with_filename(CowSlice::Borrowed(b"f"))
         .with_pos(0x1_0000_0005)
-        .with_sids(sids)
+        .with_sids(one_set(assert, alloc))
 }
 
-// Asserts that the packet which carries a request is written as these bytes.
-fn assert_carried(assert: &impl Assert, alloc: Global, request: BinlogRequest<'_>, bytes: &[u8]) {
-    assert_writes(assert, alloc, request.as_cmd(), bytes);
-    drop(request);
-}
-
-#[test]
-fn from_a_place(rt: HostRuntime) {
-    let assert = Asserting(&rt);
-    let bytes: &[u8] = b"\x12\x05\x00\x00\x00\x01\x00\x07\x00\x00\x00f";
-    assert_carried(&assert, rt.alloc(), request(&assert, rt.alloc()), bytes);
-}
+// Whether a request is by transactions or from a place, and the packet that carries it.
+const CARRIED: [(bool, &[u8]); 2] = [
+    (false, b"\x12\x05\x00\x00\x00\x01\x00\x07\x00\x00\x00f"),
+    (
+        true,
+        b"\x1e\x07\x00\x07\x00\x00\x00\x01\x00\x00\x00f\x05\x00\x00\x00\x01\x00\x00\x00\x30\x00\x00\x00\x01\x00\x00\x00\x00\x00\x00\x00bbbbbbbbbbbbbbbb\x01\x00\x00\x00\x00\x00\x00\x00\x01\x00\x00\x00\x00\x00\x00\x00\x32\x00\x00\x00\x00\x00\x00\x00",
+    ),
+];
 
 #[test]
-fn by_transactions(rt: HostRuntime) {
+fn packets(rt: HostRuntime) {
     let assert = Asserting(&rt);
-    let bytes: &[u8] =
-        b"\x1e\x07\x00\x07\x00\x00\x00\x01\x00\x00\x00f\x05\x00\x00\x00\x01\x00\x00\x00\x30\x00\x00\x00\x01\x00\x00\x00\x00\x00\x00\x00bbbbbbbbbbbbbbbb\x01\x00\x00\x00\x00\x00\x00\x00\x01\x00\x00\x00\x00\x00\x00\x00\x32\x00\x00\x00\x00\x00\x00\x00";
-    let request = request(&assert, rt.alloc()).with_use_gtid(true);
-    assert_carried(&assert, rt.alloc(), request, bytes);
+    for (use_gtid, bytes) in CARRIED {
+        let request = request(&assert, rt.alloc()).with_use_gtid(use_gtid);
+        assert_writes(&assert, rt.alloc(), request.as_cmd(), bytes);
+        drop(request);
+    }
 }
 
 // Asserts that a request has these fields.
@@ -64,15 +65,9 @@ fn assert_fields(assert: &impl Assert, alloc: Global, request: &BinlogRequest<'_
 fn fields_of_a_request(rt: HostRuntime) {
     let assert = Asserting(&rt);
     let alloc = rt.alloc();
-    let request = BinlogRequest::new(alloc, 7).with_filename(CowSlice::Borrowed(b"f"));
+    let request = BinlogRequest::new(alloc, 7)
+        .with_filename(CowSlice::Borrowed(b"f"))
+        .with_sids(one_set(&assert, alloc));
     assert_fields(&assert, alloc, &request);
-    assert_makes(&assert, request.clone(alloc), request.clone(alloc), request);
-}
-
-#[test]
-fn a_request_with_sets_is_copied(rt: HostRuntime) {
-    let assert = Asserting(&rt);
-    let alloc = rt.alloc();
-    let request = request(&assert, alloc);
     assert_makes(&assert, request.clone(alloc), request.clone(alloc), request);
 }

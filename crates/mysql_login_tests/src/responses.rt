@@ -1,7 +1,6 @@
 //! Answers to the handshake.
 
 use crate::support::{Asserting, assert_makes, assert_texts, one_text};
-use indexmap::IndexMap;
 use mysql_const::CapabilityFlags;
 use mysql_login::{AuthPlugin, HandshakeResponse};
 use std::alloc::{AllocError, Global};
@@ -19,18 +18,22 @@ const WITH_DATABASE: &[u8] =
 const WITH_ATTRIBUTES: &[u8] =
     b"\x0d\xa2\xbe\x81\0\0\0\x01\x2d\0\0\0\0\0\0\0\0\0\0\0\0\0\0\0\0\0\0\0\0\0\0\0root\0\0mydb\0mysql_native_password\0\x04\x01a\x011";
 
-// The answer of root, with this database and these attributes.
+// The answer of root, with this database and this attribute.
 fn response_of_root(
     alloc: Global,
-    database: Option<CowSlice<'static, u8>>,
-    attributes: Option<IndexMap<String, String>>,
+    database: Option<&'static [u8]>,
+    attribute: Option<(&str, &str)>,
 ) -> Result<HandshakeResponse<'static>, AllocError> {
+    let attributes = match attribute {
+        Some((key, value)) => Some(one_text(alloc, key, value)?),
+        None => None,
+    };
     HandshakeResponse::new(
         alloc,
         Some(CowSlice::Borrowed(&[])),
         (5, 5, 5),
         Some(CowSlice::Borrowed(b"root")),
-        database,
+        database.map(|name| CowSlice::Borrowed(name)),
         Some(AuthPlugin::MysqlNativePassword),
         CapabilityFlags(0x81aea205),
         attributes,
@@ -38,60 +41,26 @@ fn response_of_root(
     )
 }
 
-fn database() -> Option<CowSlice<'static, u8>> {
-    Some(CowSlice::Borrowed(b"mydb"))
-}
-
-// The answer of root, with a database and an attribute.
-fn with_attributes(alloc: Global) -> Result<HandshakeResponse<'static>, AllocError> {
-    let texts = one_text(alloc, "a", "1")?;
-    response_of_root(alloc, database(), Some(texts))
-}
+// Databases, attributes, and the answers of root with them.
+const ANSWERS: [(Option<&[u8]>, Option<(&str, &str)>, &[u8]); 3] = [
+    (None, None, OF_ROOT),
+    (Some(b"mydb"), None, WITH_DATABASE),
+    (Some(b"mydb"), Some(("a", "1")), WITH_ATTRIBUTES),
+];
 
 #[test]
-fn the_answer_of_root(rt: HostRuntime) {
+fn answers_of_root(rt: HostRuntime) {
     let assert = Asserting(&rt);
     let alloc = rt.alloc();
-    assert_made(
-        &assert,
-        alloc,
-        response_of_root(alloc, None, None),
-        response_of_root(alloc, None, None),
-        OF_ROOT,
-    );
-    assert_made(
-        &assert,
-        alloc,
-        response_of_root(alloc, database(), None),
-        response_of_root(alloc, database(), None),
-        WITH_DATABASE,
-    );
-}
-
-#[test]
-fn an_answer_with_attributes(rt: HostRuntime) {
-    let assert = Asserting(&rt);
-    let alloc = rt.alloc();
-    assert_made(
-        &assert,
-        alloc,
-        with_attributes(alloc),
-        with_attributes(alloc),
-        WITH_ATTRIBUTES,
-    );
-}
-
-#[test]
-fn an_answer_is_copied(rt: HostRuntime) {
-    let assert = Asserting(&rt);
-    let alloc = rt.alloc();
-    let response = whole::<HandshakeResponse, ()>(&assert, alloc, (), WITH_ATTRIBUTES);
-    assert_makes(
-        &assert,
-        response.clone(alloc),
-        response.clone(alloc),
-        response,
-    );
+    for (database, attribute, bytes) in ANSWERS {
+        assert_made(
+            &assert,
+            alloc,
+            response_of_root(alloc, database, attribute),
+            response_of_root(alloc, database, attribute),
+            bytes,
+        );
+    }
 }
 
 // Asserts that an answer has the fields of the one with attributes.
@@ -107,21 +76,18 @@ fn assert_fields(assert: &impl Assert, response: &HandshakeResponse<'_>) {
     );
 }
 
-#[test]
-fn an_answer_is_read(rt: HostRuntime) {
-    let assert = Asserting(&rt);
-    let response = whole::<HandshakeResponse, ()>(&assert, rt.alloc(), (), WITH_ATTRIBUTES);
-    assert_fields(&assert, &response);
-    drop(response);
-}
-
-// Asserts that there are texts, and that they are these.
+// Asserts that an answer has attributes, whose texts one after another are these bytes.
 fn assert_attributes(
     assert: &impl Assert,
     alloc: Global,
-    texts: Option<IndexMap<String, String>>,
+    response: &HandshakeResponse<'_>,
     wanted: &[u8],
 ) {
+    let texts = once_more(
+        assert,
+        response.connect_attributes(alloc),
+        response.connect_attributes(alloc),
+    );
     match texts {
         Some(texts) => assert_texts(assert, alloc, texts, wanted),
         None => assert.holds(false),
@@ -129,17 +95,18 @@ fn assert_attributes(
 }
 
 #[test]
-fn attributes_of_an_answer(rt: HostRuntime) {
+fn an_answer_is_read(rt: HostRuntime) {
     let assert = Asserting(&rt);
     let alloc = rt.alloc();
     let response = whole::<HandshakeResponse, ()>(&assert, alloc, (), WITH_ATTRIBUTES);
-    let texts = once_more(
+    assert_fields(&assert, &response);
+    assert_attributes(&assert, alloc, &response, b"a1");
+    assert_makes(
         &assert,
-        response.connect_attributes(alloc),
-        response.connect_attributes(alloc),
+        response.clone(alloc),
+        response.clone(alloc),
+        response,
     );
-    drop(response);
-    assert_attributes(&assert, alloc, texts, b"a1");
 }
 
 #[test]

@@ -25,7 +25,7 @@ fn assert_printed(assert: &impl Assert, alloc: Global, text: &str, wanted: &str)
 #[test]
 fn printed_sets(rt: HostRuntime) {
     let assert = Asserting(&rt);
-    // The source is printed in lower case, and each interval in its shortest form.
+    // The source is printed in lower case, and each interval in its shortest form. The last three are printed as they are.
     let rows = [
         (
             "3E11FA47-71CA-11E1-9E33-C80AA9429562:1-5:10-15",
@@ -43,29 +43,22 @@ fn printed_sets(rt: HostRuntime) {
             "3E11FA47-71CA-11E1-9E33-C80AA9429562:4-4:007",
             "3e11fa47-71ca-11e1-9e33-c80aa9429562:4:7",
         ),
+        (
+            "3e11fa47-71ca-11e1-9e33-c80aa9429562:domain_a:1-5:10-20",
+            "3e11fa47-71ca-11e1-9e33-c80aa9429562:domain_a:1-5:10-20",
+        ),
+        (
+            "3e11fa47-71ca-11e1-9e33-c80aa9429562:42",
+            "3e11fa47-71ca-11e1-9e33-c80aa9429562:42",
+        ),
+        (
+            "3e11fa47-71ca-11e1-9e33-c80aa9429562:app:7",
+            "3e11fa47-71ca-11e1-9e33-c80aa9429562:app:7",
+        ),
     ];
     for (text, wanted) in rows {
         assert_printed(&assert, rt.alloc(), text, wanted);
     }
-}
-
-#[test]
-fn texts_that_are_printed_as_they_are(rt: HostRuntime) {
-    let assert = Asserting(&rt);
-    let rows = [
-        "3e11fa47-71ca-11e1-9e33-c80aa9429562:domain_a:1-5:10-20",
-        "3e11fa47-71ca-11e1-9e33-c80aa9429562:42",
-        "3e11fa47-71ca-11e1-9e33-c80aa9429562:app:7",
-    ];
-    for text in rows {
-        assert_printed(&assert, rt.alloc(), text, text);
-    }
-}
-
-// Asserts that a set has no tag and these intervals.
-fn assert_intervals(assert: &impl Assert, sid: &Sid<'_>, wanted: &[GnoInterval]) {
-    assert.holds(sid.tag().is_none());
-    assert_same(assert, &sid.intervals(), &wanted);
 }
 
 #[test]
@@ -74,7 +67,8 @@ fn intervals_of_a_text(rt: HostRuntime) {
     let text = "3E11FA47-71CA-11E1-9E33-C80AA9429562:1-5:10-15";
     let wanted = [GnoInterval::new(1, 6), GnoInterval::new(10, 16)];
     let sid = parsed(&assert, rt.alloc(), text);
-    assert_intervals(&assert, &sid, &wanted);
+    assert.holds(sid.tag().is_none());
+    assert_same(&assert, &sid.intervals(), &wanted.as_slice());
     drop(sid);
 }
 

@@ -1,10 +1,10 @@
 //! Requests for a secure connection.
 
-use crate::support::{Asserting, assert_packet, assert_read_back};
+use crate::support::{Asserting, assert_packet};
 use mysql_buf::ParseBuf;
 use mysql_const::{CapabilityFlags, MariadbCapabilities};
 use mysql_login::SslRequest;
-use tests_support::{Assert, assert_same, first_of};
+use tests_support::{Assert, assert_same, first_of, whole};
 
 const REQUEST: &[u8] =
     b"\x05\xa2\xae\x81\x00\x00\x00\x01\x2d\0\0\0\0\0\0\0\0\0\0\0\0\0\0\0\0\0\0\0\x04\0\0\0";
@@ -19,7 +19,8 @@ fn request() -> SslRequest {
 fn a_request_is_read_back(rt: HostRuntime) {
     let assert = Asserting(&rt);
     assert_packet(&assert, rt.alloc(), request(), REQUEST, REQUEST.len());
-    assert_read_back(&assert, rt.alloc(), request(), REQUEST);
+    let read = whole::<SslRequest, ()>(&assert, rt.alloc(), (), REQUEST);
+    assert_same(&assert, &read, &request());
 }
 
 // Asserts that a request says no more than a character set and one of MariaDB's capabilities.

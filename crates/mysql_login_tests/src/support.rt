@@ -14,7 +14,7 @@ use std::fmt::Debug;
 use std::process::Abort;
 use tests_support::{
     Assert, assert_bytes, assert_cut_off, assert_reads_back, assert_refused, assert_same,
-    assert_written, once_more, whole,
+    assert_written, once_more,
 };
 
 /// Ends a test by an assertion.
@@ -51,6 +51,18 @@ pub fn assert_makes<T: PartialEq + Debug + Drop, E: Drop>(
     assert_same(assert, &made, &value);
 }
 
+/// A copy, or the same copy made once more, in place of the value that was copied.
+pub fn copy_of<T: Drop>(
+    assert: &impl Assert,
+    first: Result<T, AllocError>,
+    second: Result<T, AllocError>,
+    value: T,
+) -> T {
+    let copy = once_more(assert, first, second);
+    drop(value);
+    copy
+}
+
 /// Asserts that a value is written as these bytes.
 pub fn assert_writes<T: MySerialize + Drop>(
     assert: &impl Assert,
@@ -59,15 +71,6 @@ pub fn assert_writes<T: MySerialize + Drop>(
     bytes: &[u8],
 ) {
     assert_written(assert, alloc, &value, bytes);
-}
-
-/// Asserts that a value is written as these bytes, and that they are read as the same value.
-pub fn assert_read_back<
-    'a,
-    T: MySerialize + MyDeserialize<'a> + Readable<Ctx = ()> + PartialEq + Debug + Drop,
->(assert: &impl Assert, alloc: Global, value: T, bytes: &'a [u8]) {
-    assert_written(assert, alloc, &value, bytes);
-    assert_same(assert, &whole::<T, ()>(assert, alloc, (), bytes), &value);
 }
 
 /// Asserts that a packet is written as these bytes, that they are read as a packet which is written as the same bytes, and

@@ -96,86 +96,126 @@ fn assert_builds(
     assert.holds(!builder.has_rows());
 }
 
-const UNTYPED_2: &[u8] = b"\xfa\x01\0\0\0\0\0\0\x02\0\0\0\0\0\0\0";
-
-#[test]
-fn both_rows_fit(rt: HostRuntime) {
-    let assert = Asserting(&rt);
-    let alloc = rt.alloc();
-    let mut builder = ComStmtBulkExecuteRequestBuilder::new(alloc, 1, 31);
-    assert_adds(&assert, alloc, &mut builder, ONE, Wanted::Taken);
-    assert_adds(&assert, alloc, &mut builder, TWO, Wanted::Taken);
-    assert_builds(&assert, alloc, &mut builder, TYPED_1_2);
+/// Asserts that no rows are held, and that they make no request.
+fn assert_holds_none(assert: &impl Assert, builder: &mut ComStmtBulkExecuteRequestBuilder<'_>) {
+    assert.holds(!builder.has_rows());
+    let found = built(builder).err();
+    assert.holds(matches!(found, Some(BulkExecuteRequestError::NoParams)));
 }
 
-/// A byte less: the second row comes back, and fits a request of its own, which carries no types.
-#[test]
-fn as_many_rows_as_fit(rt: HostRuntime) {
-    let assert = Asserting(&rt);
-    let alloc = rt.alloc();
-    let mut builder = ComStmtBulkExecuteRequestBuilder::new(alloc, 1, 30);
-    assert_adds(&assert, alloc, &mut builder, ONE, Wanted::Taken);
-    assert_adds(&assert, alloc, &mut builder, TWO, Wanted::Back);
-    assert_builds(&assert, alloc, &mut builder, TYPED_1);
-    assert_adds(&assert, alloc, &mut builder, TWO, Wanted::Taken);
-    assert_builds(&assert, alloc, &mut builder, UNTYPED_2);
+/// What is done with a builder, and what is wanted of it.
+enum Step {
+    Adds(Cells, Wanted),
+    Builds(&'static [u8]),
+    HoldsNone,
+}
+
+/// Asserts what a builder answers, step by step.
+fn assert_steps(
+    assert: &impl Assert,
+    alloc: Global,
+    builder: &mut ComStmtBulkExecuteRequestBuilder<'_>,
+    steps: &[Step],
+) {
+    for step in steps {
+        match step {
+            Step::Adds(cells, wanted) => assert_adds(assert, alloc, builder, *cells, *wanted),
+            Step::Builds(bytes) => assert_builds(assert, alloc, builder, *bytes),
+            Step::HoldsNone => assert_holds_none(assert, builder),
+        }
+    }
 }
 
 const LONG: Cells = &[Given::Filled(100)];
 
 const LONG_AND_NULL: Cells = &[Given::Filled(100), Given::Null];
 
-/// Rows that fit no request leave the builder unchanged, also in how many values its rows have.
+/// The most bytes of a packet, and what is done with a builder of such requests.
+const BUILDERS: [(usize, &[Step]); 8] = [
+    (31, &[Step::HoldsNone]),
+    // Both rows fit.
+    (
+        31,
+        &[
+            Step::Adds(ONE, Wanted::Taken),
+            Step::Adds(TWO, Wanted::Taken),
+            Step::Builds(TYPED_1_2),
+        ],
+    ),
+    // A byte less: the second row comes back, and fits a request of its own, which carries no types.
+    (
+        30,
+        &[
+            Step::Adds(ONE, Wanted::Taken),
+            Step::Adds(TWO, Wanted::Back),
+            Step::Builds(TYPED_1),
+            Step::Adds(TWO, Wanted::Taken),
+            Step::Builds(b"\xfa\x01\0\0\0\0\0\0\x02\0\0\0\0\0\0\0"),
+        ],
+    ),
+    // Rows that fit no request leave the builder unchanged, also in how many values its rows have.
+    (
+        31,
+        &[
+            Step::Adds(LONG, Wanted::TooLarge),
+            Step::Adds(LONG_AND_NULL, Wanted::TooLarge),
+            Step::Adds(ONE, Wanted::Taken),
+            Step::Adds(TWO, Wanted::Taken),
+            Step::Builds(TYPED_1_2),
+        ],
+    ),
+    // While a row is held a long one only comes back; behind its request it is refused.
+    (
+        31,
+        &[
+            Step::Adds(SHORT, Wanted::Taken),
+            Step::Adds(LONG, Wanted::Back),
+            Step::Builds(b"\xfa\x01\0\0\0\x80\0\xfd\0\0\x01x"),
+            Step::Adds(LONG, Wanted::TooLarge),
+        ],
+    ),
+    // The first row taken sets how many values each row has, over builds too.
+    (
+        31,
+        &[
+            Step::Adds(ONE, Wanted::Taken),
+            Step::Adds(TWO_VALUES, Wanted::MixedArity),
+            Step::Adds(TWO, Wanted::Taken),
+            Step::Builds(TYPED_1_2),
+            Step::Adds(TWO_VALUES, Wanted::MixedArity),
+        ],
+    ),
+    // A row of another length is refused as such, also where it is too large: behind a row that is held, and behind its request.
+    (
+        31,
+        &[
+            Step::Adds(ONE, Wanted::Taken),
+            Step::Adds(LONG_AND_NULL, Wanted::MixedArity),
+            Step::Builds(TYPED_1),
+            Step::Adds(LONG_AND_NULL, Wanted::MixedArity),
+        ],
+    ),
+    // No row fits a limit that the head of a request exceeds.
+    (
+        4,
+        &[
+            Step::Adds(NULL, Wanted::TooLarge),
+            Step::HoldsNone,
+            Step::Adds(&[], Wanted::TooLarge),
+            Step::HoldsNone,
+        ],
+    ),
+];
+
 #[test]
-fn rows_that_do_not_fit(rt: HostRuntime) {
+fn rows_and_their_requests(rt: HostRuntime) {
     let assert = Asserting(&rt);
     let alloc = rt.alloc();
-    let mut builder = ComStmtBulkExecuteRequestBuilder::new(alloc, 1, 31);
-    assert_adds(&assert, alloc, &mut builder, LONG, Wanted::TooLarge);
-    assert_adds(
-        &assert,
-        alloc,
-        &mut builder,
-        LONG_AND_NULL,
-        Wanted::TooLarge,
-    );
-    assert_adds(&assert, alloc, &mut builder, ONE, Wanted::Taken);
-    assert_adds(&assert, alloc, &mut builder, TWO, Wanted::Taken);
-    assert_builds(&assert, alloc, &mut builder, TYPED_1_2);
-}
-
-const TYPED_SHORT: &[u8] = b"\xfa\x01\0\0\0\x80\0\xfd\0\0\x01x";
-
-/// While a row is held the same row only comes back; behind its request it is refused.
-#[test]
-fn a_long_row_behind_a_short_one(rt: HostRuntime) {
-    let assert = Asserting(&rt);
-    let alloc = rt.alloc();
-    let mut builder = ComStmtBulkExecuteRequestBuilder::new(alloc, 1, 31);
-    assert_adds(&assert, alloc, &mut builder, SHORT, Wanted::Taken);
-    assert_adds(&assert, alloc, &mut builder, LONG, Wanted::Back);
-    assert_builds(&assert, alloc, &mut builder, TYPED_SHORT);
-    assert_adds(&assert, alloc, &mut builder, LONG, Wanted::TooLarge);
-}
-
-/// The first row taken sets how many values each row has, over builds too.
-#[test]
-fn rows_of_another_length(rt: HostRuntime) {
-    let assert = Asserting(&rt);
-    let alloc = rt.alloc();
-    let mut builder = ComStmtBulkExecuteRequestBuilder::new(alloc, 1, 31);
-    assert_adds(&assert, alloc, &mut builder, ONE, Wanted::Taken);
-    assert_adds(&assert, alloc, &mut builder, TWO_VALUES, Wanted::MixedArity);
-    assert_adds(&assert, alloc, &mut builder, TWO, Wanted::Taken);
-    assert_builds(&assert, alloc, &mut builder, TYPED_1_2);
-    assert_adds(&assert, alloc, &mut builder, TWO_VALUES, Wanted::MixedArity);
-}
-
-#[test]
-fn no_rows(rt: HostRuntime) {
-    let mut builder = ComStmtBulkExecuteRequestBuilder::new(rt.alloc(), 1, 31);
-    let found = built(&mut builder).err();
-    Asserting(&rt).holds(matches!(found, Some(BulkExecuteRequestError::NoParams)));
+    for (limit, steps) in &BUILDERS {
+        assert.holds(*limit >= 4);
+        let mut builder = ComStmtBulkExecuteRequestBuilder::new(alloc, 1, *limit);
+        assert_steps(&assert, alloc, &mut builder, *steps);
+    }
 }
 
 /// A request that asks for the result of each row.
@@ -381,40 +421,4 @@ fn a_set_without_the_name_is_the_last_item(rt: HostRuntime) {
     let names = [name(&assert, alloc)];
     let first = is_ended_by_a_set(&assert, alloc, &names);
     assert.holds(first || is_ended_by_a_set(&assert, alloc, &names));
-}
-
-/// A row of another length is refused as such, also where it is too large: behind a row that is held, and behind its request.
-#[test]
-fn another_length_comes_before_too_large(rt: HostRuntime) {
-    let assert = Asserting(&rt);
-    let alloc = rt.alloc();
-    let mut builder = ComStmtBulkExecuteRequestBuilder::new(alloc, 1, 31);
-    assert_adds(&assert, alloc, &mut builder, ONE, Wanted::Taken);
-    assert_adds(
-        &assert,
-        alloc,
-        &mut builder,
-        LONG_AND_NULL,
-        Wanted::MixedArity,
-    );
-    assert_builds(&assert, alloc, &mut builder, TYPED_1);
-    assert_adds(
-        &assert,
-        alloc,
-        &mut builder,
-        LONG_AND_NULL,
-        Wanted::MixedArity,
-    );
-}
-
-/// No row fits a limit that the head of a request exceeds.
-#[test]
-fn no_row_fits_four_bytes(rt: HostRuntime) {
-    let assert = Asserting(&rt);
-    let alloc = rt.alloc();
-    let mut builder = ComStmtBulkExecuteRequestBuilder::new(alloc, 1, 4);
-    assert_adds(&assert, alloc, &mut builder, NULL, Wanted::TooLarge);
-    assert.holds(!builder.has_rows());
-    assert_adds(&assert, alloc, &mut builder, &[], Wanted::TooLarge);
-    assert.holds(!builder.has_rows());
 }

@@ -1,11 +1,13 @@
 //! Bulk requests.
 
-use crate::given::{Cells, Given, NULL, ONE, SHORT, TWO, TWO_VALUES, TYPED_1_2, row, rows};
+use crate::given::{
+    Cells, Given, NULL, ONE, SHORT, TWO, TWO_VALUES, TYPED, TYPED_1_2, param_values, request, rows,
+};
 use crate::support::Asserting;
 use mysql_buf::ParseBuf;
 use mysql_bulk::{
     BulkExecuteRequestError, ComStmtBulkExecuteRequest, StmtBulkExecuteParamType,
-    StmtBulkExecuteParamValue, StmtBulkExecuteParamValues, read_bulk_row,
+    StmtBulkExecuteParamValue, read_bulk_row,
 };
 use mysql_cells::Value;
 use mysql_const::{
@@ -15,21 +17,13 @@ use mysql_raw::{ParseExt, WireError};
 use std::alloc::{AllocError, Global};
 use tests_support::{
     Assert, assert_bytes, assert_copied, assert_equal, assert_made, assert_reads_back,
-    assert_refused, assert_written, once_more, whole,
+    assert_written, first_of, once_more, whole,
 };
-
-const TYPED: StmtBulkExecuteFlags = StmtBulkExecuteFlags::SEND_TYPES_TO_SERVER;
 
 const UNTYPED: StmtBulkExecuteFlags = StmtBulkExecuteFlags(0);
 
 /// A request, or why there is none.
 type Answer = Result<ComStmtBulkExecuteRequest, BulkExecuteRequestError>;
-
-/// A request by the types of its values.
-fn request(alloc: Global, all: &[Cells]) -> Answer {
-    let rows = rows(alloc, all)?;
-    ComStmtBulkExecuteRequest::new(alloc, 1, TYPED, rows)
-}
 
 const OF_UNSIGNED: Cells = &[Given::UInt(2)];
 
@@ -105,47 +99,36 @@ const TWO_LONGLONGS: &[ColumnType] = &[
 
 const ONE_STRING: &[ColumnType] = &[ColumnType::MYSQL_TYPE_VAR_STRING];
 
-/// Requests by types that are given, and their bytes. The type is sent as it is, also where no value has it.
-const BY_TYPES: [(Asked, &[u8]); 2] = [
-    ((TYPED, ONE_LONGLONG, &[ONE, TWO]), TYPED_1_2),
+/// Requests by types that are given, how many types they carry, and their bytes. A type is sent as it is, also where no value
+/// has it.
+const BY_TYPES: [(Asked, usize, &[u8]); 3] = [
+    ((TYPED, ONE_LONGLONG, &[ONE, TWO]), 1, TYPED_1_2),
     (
         (TYPED, ONE_STRING, &[ONE]),
+        1,
         b"\xfa\x01\0\0\0\x80\0\xfd\0\0\x01\0\0\0\0\0\0\0",
+    ),
+    // Where types aren't sent those that are given are ignored, as many as there are.
+    (
+        (UNTYPED, TWO_LONGLONGS, &[ONE]),
+        0,
+        b"\xfa\x01\0\0\0\0\0\0\x01\0\0\0\0\0\0\0",
     ),
 ];
 
 #[test]
 fn types_that_are_given(rt: HostRuntime) {
-    let alloc = rt.alloc();
-    for (asked, bytes) in &BY_TYPES {
-        assert_made(
-            &Asserting(&rt),
-            alloc,
-            request_by_types(alloc, *asked),
-            request_by_types(alloc, *asked),
-            *bytes,
-        );
-    }
-}
-
-/// Where types aren't sent those that are given are ignored, as many as there are.
-#[test]
-fn types_that_are_not_sent(rt: HostRuntime) {
     let assert = Asserting(&rt);
     let alloc = rt.alloc();
-    let asked: Asked = (UNTYPED, TWO_LONGLONGS, &[ONE]);
-    let made = once_more(
-        &assert,
-        request_by_types(alloc, asked),
-        request_by_types(alloc, asked),
-    );
-    assert.holds(made.types().is_empty());
-    assert_written(
-        &assert,
-        alloc,
-        &made,
-        b"\xfa\x01\0\0\0\0\0\0\x01\0\0\0\0\0\0\0",
-    );
+    for (asked, sent, bytes) in &BY_TYPES {
+        let made = once_more(
+            &assert,
+            request_by_types(alloc, *asked),
+            request_by_types(alloc, *asked),
+        );
+        assert_equal(&assert, made.types().len(), *sent);
+        assert_written(&assert, alloc, &made, *bytes);
+    }
 }
 
 /// Why a request, or the same asked for once more, is refused.
@@ -224,12 +207,18 @@ fn assert_number(assert: &impl Assert, request: &ComStmtBulkExecuteRequest, numb
     }
 }
 
-/// Asserts the parts of a request with types.
-fn assert_parts(assert: &impl Assert, request: &ComStmtBulkExecuteRequest) {
+/// Asserts the parts of a request with these flags.
+fn assert_parts(
+    assert: &impl Assert,
+    request: &ComStmtBulkExecuteRequest,
+    flags: StmtBulkExecuteFlags,
+) {
     assert_equal(assert, request.stmt_id(), 1);
-    assert_equal(assert, request.bulk_flags(), TYPED);
+    assert_equal(assert, request.bulk_flags(), flags);
     match request.types() {
+        [] => assert_equal(assert, flags, UNTYPED),
         [sent] => {
+            assert_equal(assert, flags, TYPED);
             assert_equal(assert, sent.column_type(), ColumnType::MYSQL_TYPE_LONGLONG);
             assert_equal(assert, sent.flags(), StmtExecuteParamFlags(0));
         }
@@ -237,28 +226,17 @@ fn assert_parts(assert: &impl Assert, request: &ComStmtBulkExecuteRequest) {
     }
 }
 
-#[test]
-fn parts_of_a_request(rt: HostRuntime) {
-    let assert = Asserting(&rt);
-    let alloc = rt.alloc();
-    let made = once_more(&assert, request(alloc, &[ONE]), request(alloc, &[ONE]));
-    assert_parts(&assert, &made);
-    assert_number(&assert, &made, 1);
-    assert_copied(&assert, &made, made.clone(alloc), made.clone(alloc));
-}
-
 const ONE_AND_NULL: Cells = &[Given::Int(1), Given::Null];
-
-/// The values of a row with their indicators.
-fn param_values(alloc: Global) -> Result<StmtBulkExecuteParamValues, AllocError> {
-    StmtBulkExecuteParamValues::new(alloc, row(alloc, ONE_AND_NULL)?)
-}
 
 #[test]
 fn values_of_a_row(rt: HostRuntime) {
     let assert = Asserting(&rt);
     let alloc = rt.alloc();
-    let made = once_more(&assert, param_values(alloc), param_values(alloc));
+    let made = once_more(
+        &assert,
+        param_values(alloc, ONE_AND_NULL),
+        param_values(alloc, ONE_AND_NULL),
+    );
     assert_written(&assert, alloc, &made, b"\0\x01\0\0\0\0\0\0\0\x01");
     assert_copied(&assert, &made, made.clone(alloc), made.clone(alloc));
     for value in made.as_slice() {
@@ -278,41 +256,37 @@ fn is_null(alloc: Global, bytes: &[u8]) -> Result<bool, WireError> {
     Ok(row.len() == 1 && matches!(row[0], Value::NULL) && buf.len() == 1)
 }
 
-/// Indicators 1 to 3 read no value: NULL, and for now what the column's default is and what is ignored.
-#[test]
-fn indicators_without_values(rt: HostRuntime) {
-    let assert = Asserting(&rt);
-    for bytes in [b"\x01x", b"\x02x", b"\x03x"] {
-        let null = once_more(
-            &assert,
-            is_null(rt.alloc(), bytes),
-            is_null(rt.alloc(), bytes),
-        );
-        assert.holds(null);
-    }
-}
-
-/// Indicators without a value, and their bytes.
+/// An indicator without a value and another byte, and that indicator.
 const WITHOUT_VALUES: [(&[u8], MariadbBulkIndicator); 3] = [
-    (b"\x01", MariadbBulkIndicator::BULK_INDICATOR_NULL),
-    (b"\x02", MariadbBulkIndicator::BULK_INDICATOR_DEFAULT),
-    (b"\x03", MariadbBulkIndicator::BULK_INDICATOR_IGNORE),
+    (b"\x01x", MariadbBulkIndicator::BULK_INDICATOR_NULL),
+    (b"\x02x", MariadbBulkIndicator::BULK_INDICATOR_DEFAULT),
+    (b"\x03x", MariadbBulkIndicator::BULK_INDICATOR_IGNORE),
 ];
 
-/// Asserts that these bytes are NULL, with this indicator.
+/// Asserts that these bytes begin with NULL, with this indicator, and that one byte is left.
 fn assert_null(assert: &impl Assert, alloc: Global, bytes: &[u8], indicator: MariadbBulkIndicator) {
     let column = (ColumnType::MYSQL_TYPE_LONGLONG, ColumnFlags(0));
-    let found = whole::<StmtBulkExecuteParamValue, (ColumnType, ColumnFlags)>(
-        assert, alloc, column, bytes,
+    let mut buf = ParseBuf(bytes);
+    let found = first_of::<StmtBulkExecuteParamValue, (ColumnType, ColumnFlags)>(
+        assert, alloc, column, &mut buf,
     );
+    assert_equal(assert, buf.len(), 1);
     assert_equal(assert, found.indicator(), indicator);
     assert.holds(matches!(found.value(), Value::NULL));
 }
 
+/// Indicators 1 to 3 read no value: NULL, and for now what the column's default is and what is ignored. A value keeps them.
 #[test]
-fn indicators_are_kept(rt: HostRuntime) {
+fn indicators_without_values(rt: HostRuntime) {
+    let assert = Asserting(&rt);
     for (bytes, indicator) in &WITHOUT_VALUES {
-        assert_null(&Asserting(&rt), rt.alloc(), *bytes, *indicator);
+        let null = once_more(
+            &assert,
+            is_null(rt.alloc(), *bytes),
+            is_null(rt.alloc(), *bytes),
+        );
+        assert.holds(null);
+        assert_null(&assert, rt.alloc(), *bytes, *indicator);
     }
 }
 
@@ -327,36 +301,29 @@ fn first_request(
     Ok((request, buf.len()))
 }
 
-/// A request is read with its first row; nine bytes are left, which are the second one.
-#[test]
-fn a_request_is_read_with_its_first_row(rt: HostRuntime) {
-    let assert = Asserting(&rt);
-    let alloc = rt.alloc();
-    let (read, left) = once_more(
-        &assert,
-        first_request(alloc, TYPED_1_2),
-        first_request(alloc, TYPED_1_2),
-    );
-    assert_equal(&assert, left, 9);
-    assert_parts(&assert, &read);
-    assert_number(&assert, &read, 1);
-}
+/// Bytes that begin with a request, its flags, its first number, and how many bytes are left.
+const FIRST_REQUESTS: [(&[u8], StmtBulkExecuteFlags, i64, usize); 2] = [
+    // A request is read with its first row; nine bytes are left, which are the second one.
+    (TYPED_1_2, TYPED, 1, 9),
+    // A request without types is read by those that are known.
+    (b"\xfa\x01\0\0\0\0\0\0\x05\0\0\0\0\0\0\0", UNTYPED, 5, 0),
+];
 
-/// A request without types is read by those that are known.
 #[test]
-fn a_request_without_types_is_read(rt: HostRuntime) {
+fn requests_are_read_with_their_first_row(rt: HostRuntime) {
     let assert = Asserting(&rt);
     let alloc = rt.alloc();
-    let bytes = b"\xfa\x01\0\0\0\0\0\0\x05\0\0\0\0\0\0\0";
-    let (read, left) = once_more(
-        &assert,
-        first_request(alloc, bytes),
-        first_request(alloc, bytes),
-    );
-    assert_equal(&assert, left, 0);
-    assert_equal(&assert, read.bulk_flags(), UNTYPED);
-    assert.holds(read.types().is_empty());
-    assert_number(&assert, &read, 5);
+    for (bytes, flags, number, rest) in &FIRST_REQUESTS {
+        let (read, left) = once_more(
+            &assert,
+            first_request(alloc, *bytes),
+            first_request(alloc, *bytes),
+        );
+        assert_equal(&assert, left, *rest);
+        assert_parts(&assert, &read, *flags);
+        assert_number(&assert, &read, *number);
+        assert_copied(&assert, &read, read.clone(alloc), read.clone(alloc));
+    }
 }
 
 /// Why these bytes are no request, all of which are left; None where they are one.
@@ -417,24 +384,4 @@ fn a_type_is_read(rt: HostRuntime) {
         wanted,
     );
     assert_reads_back::<StmtBulkExecuteParamType, ()>(&assert, rt.alloc(), (), bytes);
-}
-
-/// Bytes that are no type, and why: a number and a flag without names, and no flags.
-const NO_TYPES: [(&[u8], WireError); 3] = [
-    (b"\xf4\0", WireError::UnknownValue),
-    (b"\x08\x40", WireError::UnknownValue),
-    (b"\x08", WireError::UnexpectedEof),
-];
-
-#[test]
-fn no_types(rt: HostRuntime) {
-    for (bytes, cause) in &NO_TYPES {
-        assert_refused::<StmtBulkExecuteParamType, ()>(
-            &Asserting(&rt),
-            rt.alloc(),
-            (),
-            *bytes,
-            *cause,
-        );
-    }
 }

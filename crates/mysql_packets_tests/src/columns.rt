@@ -10,7 +10,7 @@ use tests_support::{
     assert_reads_back, assert_refused, once_more, whole,
 };
 
-const COLUMN: &[u8] =
+pub const COLUMN: &[u8] =
     b"\x03def\x06schema\x05table\x09org_table\x04name\x08org_name\x0c\x21\0\x0f\0\0\0\0\x01\0\x08\0\0";
 
 fn assert_names(assert: &impl Assert, column: &Column) {
@@ -73,21 +73,12 @@ fn a_column(rt: HostRuntime) {
     assert_fields(&assert, &column);
     assert_texts(&assert, rt.alloc(), &column);
     assert_texts_of_the_table(&assert, rt.alloc(), &column);
-}
-
-#[test]
-fn a_copy(rt: HostRuntime) {
-    let assert = Asserting(&rt);
-    let alloc = rt.alloc();
-    let column = whole::<Column, ()>(&assert, alloc, (), COLUMN);
-    assert_copied(&assert, &column, column.clone(alloc), column.clone(alloc));
-}
-
-#[test]
-fn read_back(rt: HostRuntime) {
-    let assert = Asserting(&rt);
-    assert_reads_back::<Column, ()>(&assert, rt.alloc(), (), COLUMN);
-    assert_cut_off::<Column, ()>(&assert, rt.alloc(), (), COLUMN, 0, COLUMN.len());
+    assert_copied(
+        &assert,
+        &column,
+        column.clone(rt.alloc()),
+        column.clone(rt.alloc()),
+    );
 }
 
 fn with_names(alloc: Global) -> Result<Column, AllocError> {
@@ -111,21 +102,18 @@ fn made(alloc: Global) -> Result<Column, AllocError> {
 }
 
 #[test]
-fn made_by_its_parts(rt: HostRuntime) {
+fn made_by_its_parts_and_read_back(rt: HostRuntime) {
+    let assert = Asserting(&rt);
     let alloc = rt.alloc();
-    assert_made(&Asserting(&rt), alloc, made(alloc), made(alloc), COLUMN);
+    assert_made(&assert, alloc, made(alloc), made(alloc), COLUMN);
+    assert_reads_back::<Column, ()>(&assert, alloc, (), COLUMN);
+    assert_cut_off::<Column, ()>(&assert, alloc, (), COLUMN, 0, COLUMN.len());
 }
 
 /// What stands before and behind a name of 300 bytes.
 const BEFORE_LONG_NAME: &[u8] = b"\x03def\0\0\0\xfc\x2c\x01";
 
 const BEHIND_LONG_NAME: &[u8] = b"\0\x0c\x21\0\x0f\0\0\0\x08\x01\0\0\0\0";
-
-fn long_name(alloc: Global) -> Result<Vec<u8>, AllocError> {
-    let mut name = Vec::new(alloc);
-    name.resize(300, b'n')?;
-    Ok(name)
-}
 
 /// The bytes of a column with that name.
 fn bytes_with_long_name(alloc: Global) -> Result<Vec<u8>, AllocError> {
@@ -136,7 +124,8 @@ fn bytes_with_long_name(alloc: Global) -> Result<Vec<u8>, AllocError> {
 }
 
 fn with_long_name(alloc: Global) -> Result<Column, AllocError> {
-    let name = long_name(alloc)?;
+    let mut name = Vec::new(alloc);
+    name.resize(300, b'n')?;
     let column = Column::new(alloc, ColumnType::MYSQL_TYPE_LONGLONG).with_name(&name)?;
     Ok(
         column
@@ -172,7 +161,7 @@ fn a_long_name(rt: HostRuntime) {
     assert_long_name(&assert, alloc, &bytes);
 }
 
-// Bytes, and why they are refused: another catalog, another count of the fixed fields, a type without a name.
+/// Bytes, and why they are refused: another catalog, another count of the fixed fields, a type without a name.
 const NO_COLUMNS: [(&[u8], WireError); 3] = [
     (
         b"\x03dex\0\0\0\0\0\x0c\x21\0\x0f\0\0\0\0\x01\0\x08\0\0",

@@ -18,49 +18,58 @@ const NONE: CapabilityFlags = CapabilityFlags(0);
 
 const PROTOCOL_41: CapabilityFlags = CapabilityFlags::CLIENT_PROTOCOL_41;
 
-const WITH_PROGRESS: CapabilityFlags = CapabilityFlags(0x2000_0200);
+pub const WITH_PROGRESS: CapabilityFlags = CapabilityFlags(0x2000_0200);
 
-const NO_TABLES: &[u8] = b"\xff\x48\x04#HY000No tables used";
+pub const NO_TABLES: &[u8] = b"\xff\x48\x04#HY000No tables used";
 
 const TOO_MANY: &[u8] = b"\xff\x10\x04Too many connections";
 
-const PROGRESS: &[u8] = b"\xff\xff\xff\x01\x01\x0a\xcc\x5b\0\x0astage name";
+pub const PROGRESS: &[u8] = b"\xff\xff\xff\x01\x01\x0a\xcc\x5b\0\x0astage name";
 
-fn assert_error(assert: &impl Assert, packet: &ErrPacket, code: u16, message: &[u8]) {
+/// What an error says: its code, its state and its message.
+type Says = (u16, Option<[u8; 5]>, &'static [u8]);
+
+/// Packets of errors, the capabilities by which they are read, what they say, and how that prints.
+const SERVER_ERRORS: [(&[u8], CapabilityFlags, Says, &str); 2] = [
+    (
+        NO_TABLES,
+        PROTOCOL_41,
+        (1096, Some(*b"HY000"), b"No tables used"),
+        "ERROR 1096 (HY000): No tables used",
+    ),
+    (
+        TOO_MANY,
+        NONE,
+        (1040, None, b"Too many connections"),
+        "ERROR 1040: Too many connections",
+    ),
+];
+
+fn assert_error(assert: &impl Assert, packet: &ErrPacket, says: &Says) {
     match packet {
         ErrPacket::Error(error) => {
-            assert_equal(assert, error.error_code(), code);
-            assert_bytes(assert, error.message_ref(), message);
-        }
-        ErrPacket::Progress(_) => assert.holds(false),
-    }
-}
-
-fn assert_state(assert: &impl Assert, packet: &ErrPacket, state: Option<[u8; 5]>) {
-    match packet {
-        ErrPacket::Error(error) => {
-            let found = error.sql_state_ref().map(|state| state.as_bytes());
-            assert_equal(assert, found, state);
+            assert_equal(assert, error.error_code(), says.0);
+            let state = error.sql_state_ref().map(|state| state.as_bytes());
+            assert_equal(assert, state, says.1);
+            assert_bytes(assert, error.message_ref(), says.2);
         }
         ErrPacket::Progress(_) => assert.holds(false),
     }
 }
 
 #[test]
-fn an_error(rt: HostRuntime) {
+fn errors(rt: HostRuntime) {
     let assert = Asserting(&rt);
-    let packet = whole::<ErrPacket, CapabilityFlags>(&assert, rt.alloc(), PROTOCOL_41, NO_TABLES);
-    assert.holds(packet.is_error());
-    assert_error(&assert, &packet, 1096, b"No tables used");
-    assert_state(&assert, &packet, Some(*b"HY000"));
-}
-
-#[test]
-fn an_error_without_a_state(rt: HostRuntime) {
-    let assert = Asserting(&rt);
-    let packet = whole::<ErrPacket, CapabilityFlags>(&assert, rt.alloc(), NONE, TOO_MANY);
-    assert_error(&assert, &packet, 1040, b"Too many connections");
-    assert_state(&assert, &packet, None);
+    for (bytes, capabilities, says, _) in &SERVER_ERRORS {
+        let packet = whole::<ErrPacket, CapabilityFlags>(
+            &assert,
+            rt.alloc(),
+            *capabilities,
+            *bytes,
+        );
+        assert.holds(packet.is_error());
+        assert_error(&assert, &packet, says);
+    }
 }
 
 /// Packets, the capabilities by which they are read, and the number of bytes without which they are cut off.
@@ -84,14 +93,6 @@ fn read_back(rt: HostRuntime) {
             *len,
         );
     }
-}
-
-#[test]
-fn no_errors(rt: HostRuntime) {
-    let assert = Asserting(&rt);
-    let cause = WireError::BadConstant;
-    assert_refused::<ErrPacket, CapabilityFlags>(&assert, rt.alloc(), NONE, b"\xfe\x10\x04", cause);
-    assert_refused::<ErrPacket, CapabilityFlags>(&assert, rt.alloc(), PROTOCOL_41, TOO_MANY, cause);
 }
 
 fn assert_report(assert: &impl Assert, packet: &ErrPacket) {
@@ -122,26 +123,11 @@ fn assert_prints<T: Display>(assert: &impl Assert, alloc: Global, value: &T, wan
 
 #[test]
 fn errors_print(rt: HostRuntime) {
-    let assert = Asserting(&rt);
-    let state = Some(SqlState::new(*b"HY000"));
-    let error = ServerError::new(1096, state, CowSlice::Borrowed(b"No tables used"));
-    assert_prints(
-        &assert,
-        rt.alloc(),
-        &error,
-        "ERROR 1096 (HY000): No tables used",
-    );
-}
-
-#[test]
-fn errors_without_a_state_print(rt: HostRuntime) {
-    let error = ServerError::new(1040, None, CowSlice::Borrowed(b"Too many connections"));
-    assert_prints(
-        &Asserting(&rt),
-        rt.alloc(),
-        &error,
-        "ERROR 1040: Too many connections",
-    );
+    for (_, _, says, text) in &SERVER_ERRORS {
+        let state = says.1.map(|state| SqlState::new(state));
+        let error = ServerError::new(says.0, state, CowSlice::Borrowed(says.2));
+        assert_prints(&Asserting(&rt), rt.alloc(), &error, *text);
+    }
 }
 
 #[test]
@@ -192,37 +178,31 @@ fn a_statement(rt: HostRuntime) {
 const NO_TABLES_BODY: &[u8] = b"#HY000No tables used";
 
 /// A server's error by its own reader: what stands behind the code, whether a state is sent, and the message.
-const BODIES: [(&[u8], bool, &[u8]); 3] = [
-    (NO_TABLES_BODY, true, b"No tables used"),
-    (NO_TABLES_BODY, false, NO_TABLES_BODY),
-    (b"", false, b""),
+const BODIES: [(&[u8], bool, &str); 3] = [
+    (NO_TABLES_BODY, true, "No tables used"),
+    (NO_TABLES_BODY, false, "#HY000No tables used"),
+    (b"", false, ""),
 ];
 
 #[test]
 fn bodies_of_errors(rt: HostRuntime) {
     let assert = Asserting(&rt);
+    let alloc = rt.alloc();
     for (bytes, has_state, message) in &BODIES {
         let ctx = (1096, *has_state);
-        let error = whole::<ServerError, (u16, bool)>(&assert, rt.alloc(), ctx, *bytes);
+        let error = whole::<ServerError, (u16, bool)>(&assert, alloc, ctx, *bytes);
         assert_equal(&assert, error.error_code(), 1096);
         assert_equal(&assert, error.sql_state_ref().is_some(), *has_state);
-        assert_bytes(&assert, error.message_ref(), *message);
-        assert_reads_back::<ServerError, (u16, bool)>(&assert, rt.alloc(), ctx, *bytes);
+        assert_bytes(&assert, error.message_ref(), message.as_bytes());
+        assert_text(
+            &assert,
+            error.message_str(alloc),
+            error.message_str(alloc),
+            *message,
+        );
+        assert_copied(&assert, &error, error.clone(alloc), error.clone(alloc));
+        assert_reads_back::<ServerError, (u16, bool)>(&assert, alloc, ctx, *bytes);
     }
-}
-
-#[test]
-fn a_message_is_text(rt: HostRuntime) {
-    let assert = Asserting(&rt);
-    let alloc = rt.alloc();
-    let error = whole::<ServerError, (u16, bool)>(&assert, alloc, (1096, true), NO_TABLES_BODY);
-    assert_text(
-        &assert,
-        error.message_str(alloc),
-        error.message_str(alloc),
-        "No tables used",
-    );
-    assert_copied(&assert, &error, error.clone(alloc), error.clone(alloc));
 }
 
 #[test]
@@ -255,11 +235,6 @@ fn a_report_of_its_own(rt: HostRuntime) {
         "stage name",
     );
     assert_copied(&assert, &report, report.clone(alloc), report.clone(alloc));
-}
-
-#[test]
-fn a_report_is_read_back(rt: HostRuntime) {
-    let assert = Asserting(&rt);
-    assert_reads_back::<ProgressReport, ()>(&assert, rt.alloc(), (), REPORT);
-    assert_cut_off::<ProgressReport, ()>(&assert, rt.alloc(), (), REPORT, 0, REPORT.len());
+    assert_reads_back::<ProgressReport, ()>(&assert, alloc, (), REPORT);
+    assert_cut_off::<ProgressReport, ()>(&assert, alloc, (), REPORT, 0, REPORT.len());
 }

@@ -1,6 +1,8 @@
-//! Rows of values that tests give.
+//! Rows of values that tests give, and what is made of them.
 
+use mysql_bulk::{BulkExecuteRequestError, ComStmtBulkExecuteRequest, StmtBulkExecuteParamValues};
 use mysql_cells::Value;
+use mysql_const::StmtBulkExecuteFlags;
 use mysql_values::ByteString;
 use std::alloc::{AllocError, Global};
 
@@ -65,4 +67,20 @@ pub fn rows(alloc: Global, all: &[Cells]) -> Result<Vec<Vec<Value>>, AllocError>
         rows.push(row(alloc, *cells)?)?;
     }
     Ok(rows)
+}
+
+pub const TYPED: StmtBulkExecuteFlags = StmtBulkExecuteFlags::SEND_TYPES_TO_SERVER;
+
+/// A request of the statement 1 over these rows, by the types of their values; or why there is none.
+pub fn request(
+    alloc: Global,
+    all: &[Cells],
+) -> Result<ComStmtBulkExecuteRequest, BulkExecuteRequestError> {
+    let rows = rows(alloc, all)?;
+    ComStmtBulkExecuteRequest::new(alloc, 1, TYPED, rows)
+}
+
+/// The values of a row with their indicators.
+pub fn param_values(alloc: Global, cells: Cells) -> Result<StmtBulkExecuteParamValues, AllocError> {
+    StmtBulkExecuteParamValues::new(alloc, row(alloc, cells)?)
 }

@@ -1,19 +1,21 @@
 //! What stands where memory is refused: in front of what would be appended, in builders, and in rows.
 
 use crate::building::named;
-use crate::given::{Cells, ONE, TWO, TWO_VALUES, TYPED_1, TYPED_1_2, row, rows};
+use crate::columns::COLUMN;
+use crate::errors::{NO_TABLES, PROGRESS, WITH_PROGRESS};
+use crate::given::{Cells, ONE, TWO, TWO_VALUES, TYPED_1, TYPED_1_2, param_values, request, row};
 use crate::rows::{copy_of, row_of};
 use crate::support::{Asserting, name};
 use mysql_bulk_builder::{
     BulkExecuteRequestBuilderError, BulkExecuteRequestError, ComStmtBulkExecuteRequestBuilder,
 };
 use mysql_cells::Value;
-use mysql_const::{CapabilityFlags, ColumnType, StmtBulkExecuteFlags, StmtExecuteParamFlags};
+use mysql_const::{CapabilityFlags, ColumnType, StmtExecuteParamFlags};
 use mysql_null_bitmap::ServerSide;
 use mysql_packets::{
-    Column, ComStmtBulkExecuteRequest, ComStmtClose, ComStmtExecuteRequestBuilder, ComStmtReset,
-    ComStmtSendLongData, ErrPacket, LocalInfilePacket, ProgressReport, ServerError, SqlState,
-    StmtBulkExecuteParamType, StmtBulkExecuteParamValue, StmtBulkExecuteParamValues, StmtPacket,
+    Column, ComStmtClose, ComStmtExecuteRequestBuilder, ComStmtReset, ComStmtSendLongData,
+    ErrPacket, LocalInfilePacket, ProgressReport, ServerError, SqlState, StmtBulkExecuteParamType,
+    StmtBulkExecuteParamValue, StmtPacket,
 };
 use mysql_raw::{MyDeserialize, MySerialize, Readable, Text};
 use mysql_rows::{Row, RowDeserializer};
@@ -58,23 +60,12 @@ fn assert_appends<
     assert_appended(assert, alloc, &value, bytes);
 }
 
-const COLUMN: &[u8] =
-    b"\x03def\x06schema\x05table\x09org_table\x04name\x08org_name\x0c\x21\0\x0f\0\0\0\0\x01\0\x08\0\0";
-
-/// An error packet, and a progress report.
-const ERRORS: [&[u8]; 2] = [
-    b"\xff\x48\x04#HY000No tables used",
-    b"\xff\xff\xff\x01\x01\x0a\xcc\x5b\0\x0astage name",
-];
-
-const WITH_PROGRESS: CapabilityFlags = CapabilityFlags(0x2000_0200);
-
 #[test]
 fn errors(rt: HostRuntime) {
     let assert = Asserting(&rt);
     let alloc = rt.alloc();
-    for bytes in &ERRORS {
-        assert_appends::<ErrPacket, CapabilityFlags>(&assert, alloc, WITH_PROGRESS, *bytes);
+    for bytes in [NO_TABLES, PROGRESS] {
+        assert_appends::<ErrPacket, CapabilityFlags>(&assert, alloc, WITH_PROGRESS, bytes);
     }
     let body = b"#HY000No tables used";
     assert_appends::<ServerError, (u16, bool)>(&assert, alloc, (1096, true), body);
@@ -123,28 +114,6 @@ fn commands(rt: HostRuntime) {
     assert_execution(&assert, alloc);
 }
 
-const TYPED: StmtBulkExecuteFlags = StmtBulkExecuteFlags::SEND_TYPES_TO_SERVER;
-
-/// A request of these rows.
-fn request(
-    alloc: Global,
-    all: &[Cells],
-) -> Result<ComStmtBulkExecuteRequest, BulkExecuteRequestError> {
-    let rows = rows(alloc, all)?;
-    ComStmtBulkExecuteRequest::new(alloc, 1, TYPED, rows)
-}
-
-/// The values of a row of the number 1 with their indicators.
-fn values_of_one(assert: &impl Assert, alloc: Global) -> StmtBulkExecuteParamValues {
-    let values = once_more(assert, row(alloc, ONE), row(alloc, ONE));
-    let again = once_more(assert, row(alloc, ONE), row(alloc, ONE));
-    once_more(
-        assert,
-        StmtBulkExecuteParamValues::new(alloc, values),
-        StmtBulkExecuteParamValues::new(alloc, again),
-    )
-}
-
 #[test]
 fn bulk_requests(rt: HostRuntime) {
     let assert = Asserting(&rt);
@@ -158,7 +127,7 @@ fn bulk_requests(rt: HostRuntime) {
     let kind = ColumnType::MYSQL_TYPE_LONGLONG;
     let sent = StmtBulkExecuteParamType::new(kind, StmtExecuteParamFlags::UNSIGNED);
     assert_appended(&assert, alloc, &sent, b"\x08\x80");
-    let values = values_of_one(&assert, alloc);
+    let values = once_more(&assert, param_values(alloc, ONE), param_values(alloc, ONE));
     assert_appended(&assert, alloc, &values, b"\0\x01\0\0\0\0\0\0\0");
     let value = StmtBulkExecuteParamValue::new(Value::Int(1));
     assert_appended(&assert, alloc, &value, b"\0\x01\0\0\0\0\0\0\0");

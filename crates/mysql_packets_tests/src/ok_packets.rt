@@ -10,8 +10,7 @@ use mysql_ok_packets::{
 use mysql_raw::WireError;
 use std::alloc::Global;
 use tests_support::{
-    Assert, assert_bytes, assert_copied, assert_equal, assert_refused, assert_same, once_more,
-    whole,
+    Assert, assert_bytes, assert_copied, assert_equal, assert_refused, once_more, whole,
 };
 
 const NONE: CapabilityFlags = CapabilityFlags::CLIENT_PROTOCOL_41;
@@ -57,59 +56,55 @@ fn assert_kind<T: OkPacketKind>(
 
 const DONE: &[u8] = b"\x00\x01\x00\x02\x00\x00\x00";
 
-const DONE_SAYS: Says = (1, None, AUTOCOMMIT, 0, None, None);
-
-#[test]
-fn common(rt: HostRuntime) {
-    let assert = Asserting(&rt);
-    assert_kind::<CommonOkPacket>(&assert, rt.alloc(), NONE, DONE, &DONE_SAYS);
-    assert_kind::<CommonOkPacket>(&assert, rt.alloc(), TRACKED, DONE, &DONE_SAYS);
-}
-
 const STATE: &[u8] = b"\x00\x0f\x0aautocommit\x03OFF";
 
 /// An OK packet with a session state.
 const CHANGED: &[u8] = b"\x00\x00\x00\x02\x40\x00\x00\x00\x11\x00\x0f\x0aautocommit\x03OFF";
 
+/// The client's capabilities, a packet, and what it says.
+const COMMON: [(CapabilityFlags, &[u8], Says); 3] = [
+    (NONE, DONE, (1, None, AUTOCOMMIT, 0, None, None)),
+    (TRACKED, DONE, (1, None, AUTOCOMMIT, 0, None, None)),
+    (
+        TRACKED,
+        CHANGED,
+        (0, None, StatusFlags(0x4002), 0, None, Some(STATE)),
+    ),
+];
+
 #[test]
-fn with_a_state(rt: HostRuntime) {
-    let says: Says = (0, None, StatusFlags(0x4002), 0, None, Some(STATE));
-    assert_kind::<CommonOkPacket>(&Asserting(&rt), rt.alloc(), TRACKED, CHANGED, &says);
+fn common(rt: HostRuntime) {
+    for (capabilities, bytes, says) in &COMMON {
+        assert_kind::<CommonOkPacket>(&Asserting(&rt), rt.alloc(), *capabilities, *bytes, says);
+    }
 }
 
 /// The terminator's numbers are passed over; its info follows.
 const TERMINATOR: &[u8] = b"\xfe\x00\x00\x00\x00\x00\x00\x02ok";
 
+/// A common OK packet is none.
 #[test]
 fn a_terminator(rt: HostRuntime) {
+    let assert = Asserting(&rt);
     let says: Says = (0, None, StatusFlags(0), 0, Some(b"ok"), None);
-    assert_kind::<ResultSetTerminator>(&Asserting(&rt), rt.alloc(), TRACKED, TERMINATOR, &says);
-}
-
-#[test]
-fn an_eof_packet(rt: HostRuntime) {
-    let says: Says = (0, None, AUTOCOMMIT, 0, None, None);
-    let bytes = b"\xfe\x00\x00\x02\x00";
-    assert_kind::<OldEofPacket>(&Asserting(&rt), rt.alloc(), NONE, bytes, &says);
-}
-
-/// The terminator of a binlog stream is read in the same way.
-#[test]
-fn a_stream_terminator(rt: HostRuntime) {
-    let says: Says = (0, None, AUTOCOMMIT, 0, None, None);
-    let bytes = b"\xfe\x00\x00\x02\x00";
-    assert_kind::<NetworkStreamTerminator>(&Asserting(&rt), rt.alloc(), NONE, bytes, &says);
-}
-
-#[test]
-fn no_terminator(rt: HostRuntime) {
+    assert_kind::<ResultSetTerminator>(&assert, rt.alloc(), TRACKED, TERMINATOR, &says);
     assert_refused::<OkPacketDeserializer<ResultSetTerminator>, CapabilityFlags>(
-        &Asserting(&rt),
+        &assert,
         rt.alloc(),
         NONE,
         DONE,
         WireError::BadConstant,
     );
+}
+
+/// The terminator of a binlog stream is read in the same way as one of rows.
+#[test]
+fn eof_packets(rt: HostRuntime) {
+    let assert = Asserting(&rt);
+    let says: Says = (0, None, AUTOCOMMIT, 0, None, None);
+    let bytes = b"\xfe\x00\x00\x02\x00";
+    assert_kind::<OldEofPacket>(&assert, rt.alloc(), NONE, bytes, &says);
+    assert_kind::<NetworkStreamTerminator>(&assert, rt.alloc(), NONE, bytes, &says);
 }
 
 /// Each prefix is cut off, but those without session states that end behind the warnings or the info.
@@ -183,11 +178,6 @@ fn states_of_packets(rt: HostRuntime) {
     }
 }
 
-/// Why a packet's states are none; None where they are read.
-fn refusal_of(alloc: Global, packet: &OkPacket) -> Option<WireError> {
-    packet.session_state_info(alloc).err()
-}
-
 /// A state of a type without a name: the packet is read, and its states aren't.
 #[test]
 fn a_type_that_is_yet_to_come(rt: HostRuntime) {
@@ -195,9 +185,9 @@ fn a_type_that_is_yet_to_come(rt: HostRuntime) {
     let alloc = rt.alloc();
     let bytes = b"\x00\x00\x00\x02\x40\x00\x00\x00\x02\x06\x00";
     let packet = tracked(&assert, alloc, bytes);
-    let mut found = refusal_of(alloc, &packet);
+    let mut found = packet.session_state_info(alloc).err();
     if found == Some(WireError::Memory) {
-        found = refusal_of(alloc, &packet);
+        found = packet.session_state_info(alloc).err();
     }
     assert_equal(&assert, found, Some(WireError::UnknownValue));
 }
@@ -225,19 +215,11 @@ fn copies(rt: HostRuntime) {
     for bytes in [DONE, CHANGED, WITH_INFO] {
         let packet = tracked(&assert, alloc, bytes);
         assert_copied(&assert, &packet, packet.clone(alloc), packet.clone(alloc));
-    }
-}
-
-#[test]
-fn owned_packets(rt: HostRuntime) {
-    let assert = Asserting(&rt);
-    let alloc = rt.alloc();
-    for bytes in [DONE, CHANGED, WITH_INFO] {
-        let owned = once_more(
+        assert_copied(
             &assert,
+            &packet,
             tracked(&assert, alloc, bytes).into_owned(alloc),
             tracked(&assert, alloc, bytes).into_owned(alloc),
         );
-        assert_same(&assert, &owned, &tracked(&assert, alloc, bytes));
     }
 }

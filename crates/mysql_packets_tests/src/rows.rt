@@ -18,6 +18,7 @@ fn column(alloc: Global, name: &[u8], kind: ColumnType) -> Result<Column, AllocE
     Column::new(alloc, kind).with_name(name)
 }
 
+/// Two columns, `id` and `name`.
 fn two(alloc: Global) -> Result<RcSlice<Column>, AllocError> {
     let mut columns = Vec::new(alloc);
     columns.push(column(alloc, b"id", ColumnType::MYSQL_TYPE_LONGLONG)?)?;
@@ -25,18 +26,13 @@ fn two(alloc: Global) -> Result<RcSlice<Column>, AllocError> {
     RcSlice::from_vec(columns)
 }
 
-/// Two columns, `id` and `name`.
-fn columns(assert: &impl Assert, alloc: Global) -> RcSlice<Column> {
-    once_more(assert, two(alloc), two(alloc))
-}
-
-/// The row that these bytes are; None where memory was refused.
+/// The row that these bytes are, or why they are none.
 fn read<'a, T: MyDeserialize<'a> + Readable<Ctx = RcSlice<Column>> + Drop>(
     assert: &impl Assert,
     alloc: Global,
-    columns: RcSlice<Column>,
     bytes: &'a [u8],
 ) -> Result<T, WireError> {
+    let columns = two(alloc)?;
     let mut buf = ParseBuf(bytes);
     let row = buf.parse::<T>(alloc, columns);
     assert.holds(row.is_err() || buf.is_empty());
@@ -49,8 +45,8 @@ pub fn row_of<'a, T: MyDeserialize<'a> + Readable<Ctx = RcSlice<Column>> + Drop>
     alloc: Global,
     bytes: &'a [u8],
 ) -> T {
-    let first = read::<T>(assert, alloc, columns(assert, alloc), bytes);
-    let second = read::<T>(assert, alloc, columns(assert, alloc), bytes);
+    let first = read::<T>(assert, alloc, bytes);
+    let second = read::<T>(assert, alloc, bytes);
     once_more(assert, first, second)
 }
 
@@ -143,36 +139,15 @@ pub fn copy_of(
     row.get_opt(alloc, name)
 }
 
-#[test]
-fn copied(rt: HostRuntime) {
-    let assert = Asserting(&rt);
-    let alloc = rt.alloc();
-    let read = row_of::<RowDeserializer<ServerSide, Text>>(&assert, alloc, b"\x017\xfb");
-    let row = read.into_inner();
-    let found = once_more(
-        &assert,
-        copy_of(alloc, &row, "id"),
-        copy_of(alloc, &row, "id"),
-    );
-    assert.holds(matches!(found, Some(Ok(7))));
-    let missing = once_more(
-        &assert,
-        copy_of(alloc, &row, "no"),
-        copy_of(alloc, &row, "no"),
-    );
-    assert.holds(missing.is_none());
-    assert.holds(row.is_whole());
-}
-
 /// Why bytes are no row; None where they are one.
 fn refusal_of<'a, T: MyDeserialize<'a> + Readable<Ctx = RcSlice<Column>> + Drop>(
     assert: &impl Assert,
     alloc: Global,
     bytes: &'a [u8],
 ) -> Option<WireError> {
-    let mut found = read::<T>(assert, alloc, columns(assert, alloc), bytes).err();
+    let mut found = read::<T>(assert, alloc, bytes).err();
     if found == Some(WireError::Memory) {
-        found = read::<T>(assert, alloc, columns(assert, alloc), bytes).err();
+        found = read::<T>(assert, alloc, bytes).err();
     }
     found
 }
@@ -209,16 +184,6 @@ fn cut_off(rt: HostRuntime) {
     }
 }
 
-#[test]
-fn shared_columns(rt: HostRuntime) {
-    let assert = Asserting(&rt);
-    let alloc = rt.alloc();
-    let row = row_of::<RowDeserializer<ServerSide, Text>>(&assert, alloc, b"\xfb\xfb");
-    let row = row.into_inner();
-    let shared = once_more(&assert, row.columns(), row.columns());
-    assert_equal(&assert, shared.as_slice().len(), row.columns_ref().len());
-}
-
 /// The values 7 and the text `x`.
 fn seven_and_x(alloc: Global) -> Result<Vec<Value>, AllocError> {
     let mut values = Vec::new(alloc);
@@ -245,8 +210,16 @@ fn number_named(alloc: Global, row: &Row, name: &str) -> Result<Option<i64>, All
     }
 }
 
+/// Asserts what stands in a cell by its number.
+fn assert_indexed(assert: &impl Assert, row: &Row) {
+    match row.as_ref(0) {
+        Some(_) => assert_same(assert, &row[0], &Value::Int(7)),
+        None => assert.holds(false),
+    }
+}
+
 #[test]
-fn a_number_by_its_name(rt: HostRuntime) {
+fn a_whole_row(rt: HostRuntime) {
     let assert = Asserting(&rt);
     let alloc = rt.alloc();
     let row = once_more(
@@ -254,7 +227,9 @@ fn a_number_by_its_name(rt: HostRuntime) {
         whole_row(&assert, alloc),
         whole_row(&assert, alloc),
     );
+    assert.holds(!row.is_empty());
     assert_cells(&assert, &row, Some(7), Some(b"x"));
+    assert_indexed(&assert, &row);
     let found = once_more(
         &assert,
         number_named(alloc, &row, "id"),
@@ -299,27 +274,7 @@ fn a_number_is_taken_once(rt: HostRuntime) {
     }
 }
 
-/// Asserts what stands in a cell by its number.
-fn assert_indexed(assert: &impl Assert, row: &Row) {
-    match row.as_ref(0) {
-        Some(_) => assert_same(assert, &row[0], &Value::Int(7)),
-        None => assert.holds(false),
-    }
-}
-
-#[test]
-fn indexed(rt: HostRuntime) {
-    let assert = Asserting(&rt);
-    let alloc = rt.alloc();
-    let row = once_more(
-        &assert,
-        whole_row(&assert, alloc),
-        whole_row(&assert, alloc),
-    );
-    assert_indexed(&assert, &row);
-}
-
-/// The values of such a row.
+/// The values of a whole row.
 fn unwrapped(assert: &impl Assert, alloc: Global) -> Result<Vec<Value>, AllocError> {
     let row = whole_row(assert, alloc)?;
     assert.holds(row.is_whole());
@@ -339,6 +294,7 @@ fn values_of_a_row(rt: HostRuntime) {
     assert_equal(&assert, found, wanted);
 }
 
+/// A copy of a row, and the columns that rows share.
 #[test]
 fn a_copy(rt: HostRuntime) {
     let assert = Asserting(&rt);
@@ -349,6 +305,8 @@ fn a_copy(rt: HostRuntime) {
         whole_row(&assert, alloc),
     );
     assert_copied(&assert, &row, row.clone(alloc), row.clone(alloc));
+    let shared = once_more(&assert, row.columns(), row.columns());
+    assert_equal(&assert, shared.as_slice().len(), row.columns_ref().len());
 }
 
 /// A row of which the first cell was taken.
@@ -368,12 +326,15 @@ fn a_row_without_a_cell(rt: HostRuntime) {
     let row = once_more(&assert, raw_row(&assert, alloc), raw_row(&assert, alloc));
     assert.holds(!row.is_whole() & row.as_ref(0).is_none());
     assert_name(&assert, row.as_ref(1), Some(b"x"));
-    let found = once_more(
-        &assert,
-        copy_of(alloc, &row, "id"),
-        copy_of(alloc, &row, "id"),
-    );
-    assert.holds(found.is_none());
+    // The value of the one was taken, and there is no column of the other name.
+    for name in ["id", "no"] {
+        let found = once_more(
+            &assert,
+            copy_of(alloc, &row, name),
+            copy_of(alloc, &row, name),
+        );
+        assert.holds(found.is_none());
+    }
 }
 
 /// A row of 1 and 2 over two columns of one name.
@@ -425,10 +386,4 @@ fn an_empty_row(rt: HostRuntime) {
         empty_row(&assert, alloc),
     );
     assert.holds(row.is_empty() & row.is_whole());
-    let row = once_more(
-        &assert,
-        whole_row(&assert, alloc),
-        whole_row(&assert, alloc),
-    );
-    assert.holds(!row.is_empty());
 }

@@ -10,8 +10,7 @@ use mysql_session_states::{
 use std::alloc::Global;
 use std::borrow::CowSlice;
 use tests_support::{
-    Assert, assert_bytes, assert_copied, assert_cut_off, assert_equal, assert_reads_back,
-    assert_refused, whole,
+    Assert, assert_bytes, assert_copied, assert_cut_off, assert_equal, assert_reads_back, whole,
 };
 
 /// What a state is decoded to.
@@ -122,11 +121,13 @@ const STATES: [(&[u8], SessionStateType, Told); 9] = [
 #[test]
 fn states(rt: HostRuntime) {
     let assert = Asserting(&rt);
+    let alloc = rt.alloc();
     for (bytes, kind, told) in &STATES {
-        let state = whole::<SessionStateInfo, ()>(&assert, rt.alloc(), (), *bytes);
+        let state = whole::<SessionStateInfo, ()>(&assert, alloc, (), *bytes);
         assert_equal(&assert, state.data_type(), *kind);
         assert_bytes(&assert, state.data_ref(), &bytes[2..]);
-        assert_decoded(&assert, rt.alloc(), &state, told);
+        assert_decoded(&assert, alloc, &state, told);
+        assert_copied(&assert, &state, state.clone(alloc), state.clone(alloc));
     }
 }
 
@@ -136,27 +137,6 @@ fn read_back(rt: HostRuntime) {
     for (bytes, _, _) in &STATES {
         assert_reads_back::<SessionStateInfo, ()>(&assert, rt.alloc(), (), *bytes);
         assert_cut_off::<SessionStateInfo, ()>(&assert, rt.alloc(), (), *bytes, 0, bytes.len());
-    }
-}
-
-#[test]
-fn a_type_without_a_name(rt: HostRuntime) {
-    assert_refused::<SessionStateInfo, ()>(
-        &Asserting(&rt),
-        rt.alloc(),
-        (),
-        b"\x06\x00",
-        WireError::UnknownValue,
-    );
-}
-
-#[test]
-fn copies(rt: HostRuntime) {
-    let assert = Asserting(&rt);
-    let alloc = rt.alloc();
-    for (bytes, _, _) in &STATES {
-        let state = whole::<SessionStateInfo, ()>(&assert, alloc, (), *bytes);
-        assert_copied(&assert, &state, state.clone(alloc), state.clone(alloc));
     }
 }
 

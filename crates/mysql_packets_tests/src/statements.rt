@@ -5,11 +5,10 @@ use mysql_cells::Value;
 use mysql_const::{CursorType, StmtExecuteParamsFlags};
 use mysql_raw::WireError;
 use mysql_stmt::{
-    ComStmtClose, ComStmtExecuteRequest, ComStmtExecuteRequestBuilder, ComStmtReset,
-    ComStmtSendLongData, put_execution, size_within,
+    ComStmtClose, ComStmtExecuteRequest, ComStmtExecuteRequestBuilder, ComStmtReset, put_execution,
+    size_within,
 };
 use std::alloc::{AllocError, Global};
-use std::borrow::CowSlice;
 use tests_support::{
     Assert, assert_bytes, assert_copied, assert_cut_off, assert_equal, assert_reads_back,
     assert_refused, assert_same, assert_written, once_more,
@@ -38,12 +37,6 @@ fn a_reset(rt: HostRuntime) {
     assert_written(&assert, rt.alloc(), &ComStmtReset::new(1), bytes);
     assert_reads_back::<ComStmtReset, ()>(&assert, rt.alloc(), (), bytes);
     assert_cut_off::<ComStmtReset, ()>(&assert, rt.alloc(), (), bytes, 0, 5);
-}
-
-#[test]
-fn long_data(rt: HostRuntime) {
-    let packet = ComStmtSendLongData::new(1, 0, CowSlice::Borrowed(b"x"));
-    assert_written(&Asserting(&rt), rt.alloc(), &packet, b"\x18\x01\0\0\0\0\0x");
 }
 
 /// Asserts that the bytes of an execution of one value are appended, and are as many as was said before.

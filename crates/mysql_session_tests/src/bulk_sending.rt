@@ -1,16 +1,11 @@
-//! Sets that are sent by bulk requests, and values that are sent as long data.
+//! Sets that are sent by bulk requests.
 
-use crate::audits::{Want, WantedSet, assert_read};
-use crate::large::{LIMIT, LONG_DATA, PIECE_LEN, TWO_PLACES, long_data_stream};
+use crate::audits::{Want, WantedSet};
+use crate::large::TWO_PLACES;
 use crate::prefixes::{Standing, assert_prefixes};
-use crate::sending::{
-    Cause, Given, RoundTrip, Sending, Set, assert_appended, assert_refusals, assert_round_trips,
-    front, named, sent_at_last,
-};
+use crate::sending::{Cause, Given, RoundTrip, Sending, Set, assert_refusals, assert_round_trips};
 use crate::support::Asserting;
-use mysql_session::{End, Params, Refusal, Road, Value};
-use std::alloc::{AllocError, Global};
-use tests_support::{Assert, assert_bytes, once_more};
+use mysql_session::Road;
 
 const QUERY: &[u8] = b"SELECT :a";
 
@@ -136,116 +131,25 @@ fn refused_by_bulk(rt: HostRuntime) {
     assert_refusals(&Asserting(&rt), rt.alloc(), &REFUSED);
 }
 
-/// By execute numbers of both kinds are sent.
-const BOTH_KINDS: [RoundTrip; 1] = [(
-    (Road::Execute, QUERY, &[INT_1, UINT_2], 1000),
-    b"\x09\0\0\0\x16SELECT ?\x16\0\0\0\x17\x01\0\0\0\0\x01\0\0\0\0\x01\x08\0\x01\0\0\0\0\0\0\0\x16\0\0\0\x17\x01\0\0\0\0\x01\0\0\0\0\x01\x08\x80\x02\0\0\0\0\0\0\0",
-    &[ONE, TWO],
-)];
-
-#[test]
-fn both_kinds_by_execute(rt: HostRuntime) {
-    assert_round_trips(&Asserting(&rt), rt.alloc(), &BOTH_KINDS);
-}
-
-const BY_BULK: Sending = (Road::Bulk, QUERY, &[INT_1, INT_2], 30);
-
-/// A prepare of 13 bytes, a request with types of 22, and one without them of 20.
-const BULK_STANDINGS: [Standing; 4] = [(0, &[]), (13, &[]), (35, &[ONE]), (55, &[ONE, TWO])];
-
-#[test]
-fn prefixes_by_bulk(rt: HostRuntime) {
-    assert_prefixes(&Asserting(&rt), rt.alloc(), BY_BULK, 55, &BULK_STANDINGS);
-}
-
-const BY_EXECUTE: Sending = (Road::Execute, QUERY, &[INT_1, INT_2], 1000);
-
-/// A prepare of 13 bytes, and two executions of 26.
-const EXECUTE_STANDINGS: [Standing; 4] = [(0, &[]), (13, &[]), (39, &[ONE]), (65, &[ONE, TWO])];
-
-#[test]
-fn prefixes_by_execute(rt: HostRuntime) {
-    let standings = &EXECUTE_STANDINGS;
-    assert_prefixes(&Asserting(&rt), rt.alloc(), BY_EXECUTE, 65, standings);
-}
-
-/// Sets of `SELECT :a`, of which the last one's value is a float.
-fn many_sets(alloc: Global) -> Result<Vec<Params>, AllocError> {
-    let mut sets = Vec::new(alloc);
-    for _ in 0..999 {
-        sets.push(named(alloc, Value::Int(1))?)?;
-    }
-    sets.push(named(alloc, Value::Float(0))?)?;
-    Ok(sets)
-}
-
-const NO_SETS: &[Set] = &[];
-
-/// Asserts that these sets are refused for the float, and that nothing is appended.
-fn assert_float(assert: &impl Assert, alloc: Global, road: Road, sets: &[Params]) {
-    let mut out = front(assert, alloc);
-    let answer = sent_at_last(alloc, (road, QUERY, NO_SETS, 1000), sets, &mut out);
-    assert.holds(answer == Err(Refusal::Float(999, 0)));
-    assert_bytes(assert, out.as_slice(), b"front");
-}
-
-#[test]
-fn a_float_in_the_last_of_many_sets(rt: HostRuntime) {
-    let assert = Asserting(&rt);
-    let alloc = rt.alloc();
-    let sets = once_more(&assert, many_sets(alloc), many_sets(alloc));
-    assert_float(&assert, alloc, Road::Text, sets.as_slice());
-    assert_float(&assert, alloc, Road::Execute, sets.as_slice());
-    assert_float(&assert, alloc, Road::Bulk, sets.as_slice());
-}
-
-/// A text of as many bytes as a full chunk, and an empty one.
-const LARGE: Sending = (
-    Road::Execute,
-    TWO_PLACES,
-    &[Set::Both(Given::Filled(PIECE_LEN), Given::Filled(0))],
-    LIMIT,
-);
-
-/// A prepare, a piece of two chunks, one of no bytes, and an execution without cells.
-#[test]
-fn texts_as_long_data(rt: HostRuntime) {
-    let assert = Asserting(&rt);
-    let mut found = Vec::new(rt.alloc());
-    assert_appended(&assert, rt.alloc(), LARGE, &mut found);
-    let wanted = long_data_stream(&assert, rt.alloc());
-    assert_bytes(&assert, found.as_slice(), wanted.as_slice());
-}
-
-/// How many bytes came of that stream, the sets that they carry, and how they end: behind the prepare, between the chunks of the
-/// first piece, behind it, inside the next header, a byte before the end, and whole.
-const CUT_OFF: [(usize, &[WantedSet], End); 6] = [
-    (16, &[], End::Whole),
-    (16777235, &[], End::UnfinishedPacket),
-    (16777246, &[], End::WaitingPieces),
-    (16777248, &[], End::WaitingPieces),
-    (16777276, &[], End::WaitingPieces),
-    (16777277, &LONG_DATA, End::Whole),
+/// Sets that are sent, how many bytes their stream has, and what stands after which of them.
+const FRONTS: [(Sending, usize, &[Standing]); 2] = [
+    // A prepare of 13 bytes, a request with types of 22, and one without them of 20.
+    (
+        (Road::Bulk, QUERY, &[INT_1, INT_2], 30),
+        55,
+        &[(0, &[]), (13, &[]), (35, &[ONE]), (55, &[ONE, TWO])],
+    ),
+    // A prepare of 13 bytes, and two executions of 26.
+    (
+        (Road::Execute, QUERY, &[INT_1, INT_2], 1000),
+        65,
+        &[(0, &[]), (13, &[]), (39, &[ONE]), (65, &[ONE, TWO])],
+    ),
 ];
 
-/// Asserts what the first bytes of the stream say, in one piece.
-fn assert_cut_off(
-    assert: &impl Assert,
-    alloc: Global,
-    stream: &[u8],
-    (len, sets, end): (usize, &[WantedSet], End),
-) {
-    match stream.get(..len) {
-        Some(front) => assert_read(assert, alloc, (TWO_PLACES, LIMIT), front, sets, end),
-        None => assert.holds(false),
-    }
-}
-
 #[test]
-fn long_data_cut_off(rt: HostRuntime) {
-    let assert = Asserting(&rt);
-    let stream = long_data_stream(&assert, rt.alloc());
-    for cut in &CUT_OFF {
-        assert_cut_off(&assert, rt.alloc(), stream.as_slice(), *cut);
+fn fronts(rt: HostRuntime) {
+    for (sending, len, standings) in &FRONTS {
+        assert_prefixes(&Asserting(&rt), rt.alloc(), *sending, *len, standings);
     }
 }

@@ -1,4 +1,4 @@
-//! Prepared statements and their executions, sent and read.
+//! Prepared statements and their executions, sent and read, and bulk executions that are read.
 
 use crate::audits::{Stream, Want, WantedSet, assert_packets, assert_streams};
 use crate::sending::{Given, RoundTrip, Sending, Set, assert_appended, assert_round_trips};
@@ -19,7 +19,9 @@ const LONG_DATA: &[u8] = b"\x08\0\0\0\x18\x01\0\0\0\0\0x";
 
 const ONE: WantedSet = &[Want::Number(1)];
 
-const SENT: [RoundTrip; 8] = [
+const TWO: WantedSet = &[Want::Number(2)];
+
+const SENT: [RoundTrip; 9] = [
     (
         (Road::Execute, QUERY, &[Set::A(Given::Int(1))], 1000),
         b"\x09\0\0\0\x16SELECT ?\x16\0\0\0\x17\x01\0\0\0\0\x01\0\0\0\0\x01\x08\0\x01\0\0\0\0\0\0\0",
@@ -78,6 +80,17 @@ const SENT: [RoundTrip; 8] = [
         b"\x09\0\0\0\x16SELECT ?\x16\0\0\0\x17\x01\0\0\0\0\x01\0\0\0\0\x01\x08\0\x01\0\0\0\0\0\0\0\x16\0\0\0\x17\x01\0\0\0\0\x01\0\0\0\0\x01\x08\0\x0a\0\0\0\0\0\0\0",
         &[ONE, &[Want::Number(10)]],
     ),
+    // By execute numbers of both kinds are sent.
+    (
+        (
+            Road::Execute,
+            QUERY,
+            &[Set::A(Given::Int(1)), Set::A(Given::UInt(2))],
+            1000,
+        ),
+        b"\x09\0\0\0\x16SELECT ?\x16\0\0\0\x17\x01\0\0\0\0\x01\0\0\0\0\x01\x08\0\x01\0\0\0\0\0\0\0\x16\0\0\0\x17\x01\0\0\0\0\x01\0\0\0\0\x01\x08\x80\x02\0\0\0\0\0\0\0",
+        &[ONE, TWO],
+    ),
     ((Road::Execute, QUERY, &[], 1000), PREPARE, &[]),
 ];
 
@@ -86,32 +99,50 @@ fn sent_by_execute(rt: HostRuntime) {
     assert_round_trips(&Asserting(&rt), rt.alloc(), &SENT);
 }
 
-const ONE_BY_TEXT: Sending = (Road::Text, QUERY, &[Set::A(Given::Int(1))], 1000);
-
-const TWO_BY_EXECUTE: Sending = (Road::Execute, QUERY, &[Set::A(Given::Int(2))], 1000);
-
-const THREE_BY_BULK: Sending = (Road::Bulk, QUERY, &[Set::A(Given::Int(3))], 1000);
-
 /// A set by text, one by execute behind it, and one by bulk behind both.
+const BY_EACH_ROAD: [Sending; 3] = [
+    (Road::Text, QUERY, &[Set::A(Given::Int(1))], 1000),
+    (Road::Execute, QUERY, &[Set::A(Given::Int(2))], 1000),
+    (Road::Bulk, QUERY, &[Set::A(Given::Int(3))], 1000),
+];
+
 #[test]
 fn all_roads(rt: HostRuntime) {
     let assert = Asserting(&rt);
     let alloc = rt.alloc();
     let mut out = Vec::new(alloc);
-    assert_appended(&assert, alloc, ONE_BY_TEXT, &mut out);
-    assert_appended(&assert, alloc, TWO_BY_EXECUTE, &mut out);
-    assert_appended(&assert, alloc, THREE_BY_BULK, &mut out);
+    for sending in &BY_EACH_ROAD {
+        assert_appended(&assert, alloc, *sending, &mut out);
+    }
     assert_packets(
         &assert,
         alloc,
         QUERY,
         &[out.as_slice()],
-        &[ONE, &[Want::Number(2)], &[Want::Number(3)]],
+        &[ONE, TWO, &[Want::Number(3)]],
         End::Whole,
     );
 }
 
-const CELLS: [Stream; 13] = [
+const BAD_EXECUTE: End = End::Fault(1, StreamFault::BadExecute);
+
+const TYPED_5: &[u8] = b"\x0f\0\0\0\x17\x01\0\0\0\0\x01\0\0\0\0\x01\x01\0\x05";
+
+const UNTYPED_7: &[u8] = b"\x0d\0\0\0\x17\x01\0\0\0\0\x01\0\0\0\0\0\x07";
+
+const FIVE: WantedSet = &[Want::Number(5)];
+
+const SEVEN: WantedSet = &[Want::Number(7)];
+
+const BULK_1_2: &[u8] =
+    b"\x1b\0\0\0\xfa\x01\0\0\0\x80\0\x08\0\0\x01\0\0\0\0\0\0\0\0\x02\0\0\0\0\0\0\0";
+
+const TYPED_1: &[u8] = b"\x12\0\0\0\xfa\x01\0\0\0\x80\0\x08\0\0\x01\0\0\0\0\0\0\0";
+
+const UNTYPED_2: &[u8] = b"\x10\0\0\0\xfa\x01\0\0\0\0\0\0\x02\0\0\0\0\0\0\0";
+
+const STREAMS: [Stream; 33] = [
+    // What cells say.
     (&[PREPARE, EXECUTE_1], &[ONE], End::Whole),
     (&[PREPARE, EXECUTE_NULL], &[&[Want::Null]], End::Whole),
     (
@@ -199,11 +230,7 @@ const CELLS: [Stream; 13] = [
         &[],
         End::Fault(1, StreamFault::BadType),
     ),
-];
-
-const BAD_EXECUTE: End = End::Fault(1, StreamFault::BadExecute);
-
-const FAULTS: [Stream; 7] = [
+    // Packets that are no execution of the statement.
     (&[EXECUTE_1], &[], End::Fault(0, StreamFault::NotPrepared)),
     (
         &[
@@ -248,18 +275,7 @@ const FAULTS: [Stream; 7] = [
         &[],
         End::Fault(0, StreamFault::PrepareMismatch),
     ),
-];
-
-const TYPED_5: &[u8] = b"\x0f\0\0\0\x17\x01\0\0\0\0\x01\0\0\0\0\x01\x01\0\x05";
-
-const UNTYPED_7: &[u8] = b"\x0d\0\0\0\x17\x01\0\0\0\0\x01\0\0\0\0\0\x07";
-
-const FIVE: WantedSet = &[Want::Number(5)];
-
-const SEVEN: WantedSet = &[Want::Number(7)];
-
-/// Types that are kept up to the next prepare, and long data.
-const KEPT: [Stream; 6] = [
+    // Types that are kept up to the next prepare, and long data.
     (&[PREPARE, TYPED_5, UNTYPED_7], &[FIVE, SEVEN], End::Whole),
     (
         &[PREPARE, TYPED_5, UNTYPED_7, PREPARE, UNTYPED_7],
@@ -282,21 +298,47 @@ const KEPT: [Stream; 6] = [
         &[&[Want::Bytes(b"xx")]],
         End::Whole,
     ),
+    // Bulk executions.
+    (&[PREPARE, BULK_1_2], &[ONE, TWO], End::Whole),
+    (&[PREPARE, TYPED_1, UNTYPED_2], &[ONE, TWO], End::Whole),
+    // All but the last byte of the second request.
+    (
+        &[
+            PREPARE,
+            TYPED_1,
+            b"\x10\0\0\0\xfa\x01\0\0\0\0\0\0\x02\0\0\0\0\0\0",
+        ],
+        &[ONE],
+        End::UnfinishedPacket,
+    ),
+    (
+        &[
+            PREPARE,
+            b"\x13\0\0\0\xfa\x01\0\0\0\x80\0\x08\0\x01\0\x01\0\0\0\0\0\0\0",
+        ],
+        &[&[Want::Null], ONE],
+        End::Whole,
+    ),
+    (
+        &[PREPARE, b"\x0a\0\0\0\xfa\x01\0\0\0\x80\0\x08\0\x02"],
+        &[],
+        End::Fault(1, StreamFault::Indicator),
+    ),
+    (
+        &[PREPARE, b"\x09\0\0\0\xfa\x01\0\0\0\x80\0\x08\0"],
+        &[],
+        End::Fault(1, StreamFault::NoRows),
+    ),
+    (
+        &[PREPARE, b"\x08\0\0\0\x18\x01\0\0\0\0\0x", BULK_1_2],
+        &[],
+        End::Fault(2, StreamFault::PiecesBeforeBulk),
+    ),
 ];
 
 #[test]
-fn cells(rt: HostRuntime) {
-    assert_streams(&Asserting(&rt), rt.alloc(), QUERY, &CELLS);
-}
-
-#[test]
-fn faults(rt: HostRuntime) {
-    assert_streams(&Asserting(&rt), rt.alloc(), QUERY, &FAULTS);
-}
-
-#[test]
-fn kept_types_and_long_data(rt: HostRuntime) {
-    assert_streams(&Asserting(&rt), rt.alloc(), QUERY, &KEPT);
+fn streams(rt: HostRuntime) {
+    assert_streams(&Asserting(&rt), rt.alloc(), QUERY, &STREAMS);
 }
 
 /// Asserts that an execution is refused that is cut off before the end of its payload.

@@ -1,10 +1,8 @@
 //! Bytes that are no reply, and what stays after a fault.
 
-use crate::expected::{Expected, Row, assert_replies};
+use crate::expected::{Expected, Row, assert_replies, is_wanted};
 use crate::support::Asserting;
-use mysql_session::{
-    CapabilityFlags, Reply, ReplyEnd, ReplyFault, ReplyKind, ReplyReader, StatusFlags,
-};
+use mysql_session::{CapabilityFlags, ReplyEnd, ReplyFault, ReplyKind, ReplyReader, StatusFlags};
 use std::alloc::Global;
 use tests_support::Assert;
 
@@ -61,18 +59,13 @@ fn no_replies(rt: HostRuntime) {
     assert_replies(&Asserting(&rt), rt.alloc(), TEXT, &NO_REPLIES);
 }
 
-/// Asserts that a reply ends with this fault at its first packet.
-fn assert_failed(assert: &impl Assert, reply: &Reply, fault: ReplyFault) {
-    assert.holds(reply.end == ReplyEnd::Fault(0, fault));
-    assert.holds(reply.results.is_empty());
-}
-
 /// Asserts that a reader answers this fault from now on, and ends with it; where there is none, that the reply is whole.
 fn assert_stays(assert: &impl Assert, mut reader: ReplyReader, fault: Option<ReplyFault>) {
     match fault {
         Some(fault) => {
             assert.holds(reader.feed(DONE) == Err(fault));
-            assert_failed(assert, &reader.finish(), fault);
+            let end = ReplyEnd::Fault(0, fault);
+            assert.holds(is_wanted(&reader.finish(), (&[], &[], end)));
         }
         None => assert.holds(reader.finish().end == ReplyEnd::Whole),
     }

@@ -1,16 +1,22 @@
 //! How many bytes a receiver holds of a packet that isn't whole.
 
-use crate::audits::assert_read;
 use crate::support::Asserting;
-use mysql_session::{End, Receiver, ReceiverError, StreamFault};
+use mysql_session::{Receiver, ReceiverError, StreamFault};
 use std::alloc::{AllocError, Global};
 use tests_support::{Assert, once_more};
 
-/// The text `SELECT 1` as a packet.
-const TEXT: &[u8] = b"\x09\0\0\0\x03SELECT 1";
+const LARGE: usize = 20_000_000;
 
-/// So many bytes of the packet were fed, and so many of them are held: not the header, once it stands whole.
-const KEPT: [(usize, usize); 5] = [(0, 0), (3, 3), (4, 0), (12, 8), (13, 0)];
+/// The limit of a packet, what came of one, and how many bytes of it are held: not the header, once it stands whole. The text
+/// `SELECT 1` as a packet, and the header of a full chunk alone.
+const KEPT: [(usize, &[u8], usize); 6] = [
+    (1000, b"", 0),
+    (1000, b"\x09\0\0", 3),
+    (1000, b"\x09\0\0\0", 0),
+    (1000, b"\x09\0\0\0\x03SELECT ", 8),
+    (1000, b"\x09\0\0\0\x03SELECT 1", 0),
+    (LARGE, b"\xff\xff\xff\0", 0),
+];
 
 /// How many bytes a receiver holds that was fed these; None where memory was refused.
 fn kept_of(assert: &impl Assert, alloc: Global, limit: usize, stream: &[u8]) -> Option<usize> {
@@ -43,30 +49,9 @@ fn assert_kept(assert: &impl Assert, alloc: Global, limit: usize, stream: &[u8],
 
 #[test]
 fn fronts_of_a_packet(rt: HostRuntime) {
-    for (fed, kept) in &KEPT {
-        assert_kept(&Asserting(&rt), rt.alloc(), 1000, &TEXT[..*fed], *kept);
+    for (limit, front, kept) in &KEPT {
+        assert_kept(&Asserting(&rt), rt.alloc(), *limit, front, *kept);
     }
-}
-
-const LARGE: usize = 20_000_000;
-
-/// The header of a full chunk.
-const HEADER: &[u8] = b"\xff\xff\xff\0";
-
-/// The header of a full chunk alone.
-#[test]
-fn a_header_of_a_full_chunk(rt: HostRuntime) {
-    let assert = Asserting(&rt);
-    let query = (b"SELECT :a".as_slice(), LARGE);
-    assert_kept(&assert, rt.alloc(), LARGE, HEADER, 0);
-    assert_read(
-        &assert,
-        rt.alloc(),
-        query,
-        HEADER,
-        &[],
-        End::UnfinishedPacket,
-    );
 }
 
 /// The first chunk of a text query of 16777215 bytes, behind which an empty chunk is due.

@@ -1,80 +1,82 @@
 //! Commands of two chunks.
 
-use crate::audits::{Want, WantedSet, assert_audits, assert_read, assert_read_by_bytes};
-use crate::sending::named;
+use crate::audits::{Query, Want, WantedSet, assert_read, assert_read_by_bytes};
+use crate::sending::{Given, Sending, Set, assert_appended};
 use crate::support::Asserting;
-use mysql_session::{End, Params, Road, Value, send};
-use mysql_values::ByteString;
+use mysql_session::{End, Road};
 use std::alloc::{AllocError, Global};
-use tests_support::{Assert, once_more};
+use tests_support::{Assert, assert_bytes};
 
 pub const LIMIT: usize = 20000000;
+
+/// How many bytes came of a stream, whether they are read byte by byte too, the sets that they carry, and how they end.
+type Front = (usize, bool, &'static [WantedSet], End);
+
+/// Asserts what the first bytes of a stream say: in one piece, and byte by byte.
+fn assert_front(
+    assert: &impl Assert,
+    alloc: Global,
+    query: Query<'_>,
+    stream: &[u8],
+    (len, by_bytes, sets, end): Front,
+) {
+    match stream.get(..len) {
+        Some(front) => {
+            assert_read(assert, alloc, query, front, sets, end);
+            if by_bytes {
+                assert_read_by_bytes(assert, alloc, query, front, sets, end);
+            }
+        }
+        None => assert.holds(false),
+    }
+}
 
 const ONE_PLACE: &[u8] = b"SELECT :a";
 
 /// So many bytes that the text query with them has 16777215 bytes: a whole chunk, and an empty one after it.
 const TEXT_LEN: usize = 16777205;
 
-/// That text.
-fn text(alloc: Global) -> Result<ByteString, AllocError> {
-    let mut text = Vec::new(alloc);
-    text.resize(TEXT_LEN, b'x')?;
-    Ok(ByteString::from_vec(text))
-}
-
-/// The set that gives the name `a` that text.
-fn text_set(alloc: Global) -> Result<Params, AllocError> {
-    named(alloc, Value::Bytes(text(alloc)?))
-}
-
-/// Whether a set of `SELECT :a` is sent by text. Where memory was refused nothing is appended.
-fn is_sent(alloc: Global, set: &[Params], out: &mut Vec<u8>) -> bool {
-    send(alloc, ONE_PLACE, set, Road::Text, 1, LIMIT, out).is_ok()
-}
+const TEXT: Sending = (
+    Road::Text,
+    ONE_PLACE,
+    &[Set::A(Given::Filled(TEXT_LEN))],
+    LIMIT,
+);
 
 /// The stream of that text query.
 fn text_stream(assert: &impl Assert, alloc: Global) -> Vec<u8> {
-    let set = [once_more(assert, text_set(alloc), text_set(alloc))];
     let mut out = Vec::new(alloc);
-    let first = is_sent(alloc, &set, &mut out);
-    assert.holds(first || is_sent(alloc, &set, &mut out));
+    assert_appended(assert, alloc, TEXT, &mut out);
     out
 }
 
-const TEXT: [WantedSet; 1] = [&[Want::Filled(TEXT_LEN)]];
+const WHOLE_TEXT: Front = (16777223, true, &[&[Want::Filled(TEXT_LEN)]], End::Whole);
 
-/// Asserts that the stream is two chunks, of which the second is empty, and says nothing without it.
-fn assert_two_chunks(assert: &impl Assert, alloc: Global, stream: &[u8]) {
-    assert.holds(stream.len() == 16777223);
-    let (chunk, last) = stream.split_at(16777219);
-    assert.holds(last == [0, 0, 0, 1].as_slice());
-    let end = End::UnfinishedPacket;
-    assert_audits(assert, alloc, (ONE_PLACE, LIMIT), chunk, &[], end);
-}
-
-/// Asserts what the stream is, and that it carries the text.
-fn assert_text(assert: &impl Assert, alloc: Global, stream: &[u8]) {
-    assert_two_chunks(assert, alloc, stream);
-    assert_read(assert, alloc, (ONE_PLACE, LIMIT), stream, &TEXT, End::Whole);
-}
-
+/// Two chunks, of which the second is empty.
 #[test]
 fn a_text(rt: HostRuntime) {
     let assert = Asserting(&rt);
     let stream = text_stream(&assert, rt.alloc());
-    assert_text(&assert, rt.alloc(), stream.as_slice());
+    assert.holds(stream.len() == 16777223);
+    assert.holds(stream.as_slice().ends_with(b"\0\0\0\x01"));
+    let query = (ONE_PLACE, LIMIT);
+    assert_front(&assert, rt.alloc(), query, stream.as_slice(), WHOLE_TEXT);
 }
 
-/// Asserts that the stream carries the text, byte by byte.
-fn assert_text_by_bytes(assert: &impl Assert, alloc: Global, stream: &[u8]) {
-    assert_read_by_bytes(assert, alloc, (ONE_PLACE, LIMIT), stream, &TEXT, End::Whole);
-}
+/// The header of a full chunk alone, and the first chunk, which says nothing without the second.
+const TEXT_CUT_OFF: [Front; 2] = [
+    (4, true, &[], End::UnfinishedPacket),
+    (16777219, true, &[], End::UnfinishedPacket),
+];
 
 #[test]
-fn a_text_by_bytes(rt: HostRuntime) {
+fn a_text_cut_off(rt: HostRuntime) {
     let assert = Asserting(&rt);
     let stream = text_stream(&assert, rt.alloc());
-    assert_text_by_bytes(&assert, rt.alloc(), stream.as_slice());
+    let query = (ONE_PLACE, LIMIT);
+    for front in &TEXT_CUT_OFF {
+        assert_front(&assert, rt.alloc(), query, stream.as_slice(), *front);
+    }
 }
 
 pub const TWO_PLACES: &[u8] = b"SELECT :a, :b";
@@ -99,7 +101,7 @@ fn put_long_data(out: &mut Vec<u8>) -> Result<(), AllocError> {
 }
 
 /// The stream of a large piece of long data and an empty one.
-pub fn long_data_stream(assert: &impl Assert, alloc: Global) -> Vec<u8> {
+fn long_data_stream(assert: &impl Assert, alloc: Global) -> Vec<u8> {
     let mut out = Vec::new(alloc);
     if put_long_data(&mut out).is_err() {
         // Memory was refused: a part may stand.
@@ -109,59 +111,63 @@ pub fn long_data_stream(assert: &impl Assert, alloc: Global) -> Vec<u8> {
     out
 }
 
-pub const LONG_DATA: [WantedSet; 1] = [&[Want::Filled(PIECE_LEN), Want::Filled(0)]];
+/// A text of as many bytes as a full chunk, and an empty one.
+const PIECES: Sending = (
+    Road::Execute,
+    TWO_PLACES,
+    &[Set::Both(Given::Filled(PIECE_LEN), Given::Filled(0))],
+    LIMIT,
+);
 
-/// Asserts that the stream carries both pieces.
-fn assert_long_data(assert: &impl Assert, alloc: Global, stream: &[u8]) {
-    let end = End::Whole;
-    assert_read(assert, alloc, (TWO_PLACES, LIMIT), stream, &LONG_DATA, end);
+/// A prepare, a piece of two chunks, one of no bytes, and an execution without cells.
+#[test]
+fn texts_as_long_data(rt: HostRuntime) {
+    let assert = Asserting(&rt);
+    let mut found = Vec::new(rt.alloc());
+    assert_appended(&assert, rt.alloc(), PIECES, &mut found);
+    let wanted = long_data_stream(&assert, rt.alloc());
+    assert_bytes(&assert, found.as_slice(), wanted.as_slice());
 }
+
+const WHOLE_LONG_DATA: Front = (
+    16777277,
+    true,
+    &[&[Want::Filled(PIECE_LEN), Want::Filled(0)]],
+    End::Whole,
+);
 
 #[test]
 fn long_data(rt: HostRuntime) {
     let assert = Asserting(&rt);
     let stream = long_data_stream(&assert, rt.alloc());
-    assert_long_data(&assert, rt.alloc(), stream.as_slice());
-}
-
-/// Asserts that the stream carries both pieces, byte by byte.
-fn assert_long_data_by_bytes(assert: &impl Assert, alloc: Global, stream: &[u8]) {
-    let end = End::Whole;
-    assert_read_by_bytes(assert, alloc, (TWO_PLACES, LIMIT), stream, &LONG_DATA, end);
-}
-
-#[test]
-fn long_data_by_bytes(rt: HostRuntime) {
-    let assert = Asserting(&rt);
-    let stream = long_data_stream(&assert, rt.alloc());
-    assert_long_data_by_bytes(&assert, rt.alloc(), stream.as_slice());
-}
-
-/// Asserts that the stream waits for an execution behind its first piece.
-fn assert_waits(assert: &impl Assert, alloc: Global, stream: &[u8]) {
     assert.holds(stream.len() == 16777277);
-    let (front, _) = stream.split_at(16777246);
-    let end = End::WaitingPieces;
-    assert_audits(assert, alloc, (TWO_PLACES, LIMIT), front, &[], end);
+    let query = (TWO_PLACES, LIMIT);
+    assert_front(
+        &assert,
+        rt.alloc(),
+        query,
+        stream.as_slice(),
+        WHOLE_LONG_DATA,
+    );
 }
 
+/// Behind the prepare, behind the header of the first chunk, between the chunks of the first piece, behind it, inside the next
+/// header, and a byte before the end.
+const LONG_DATA_CUT_OFF: [Front; 6] = [
+    (16, false, &[], End::Whole),
+    (20, true, &[], End::UnfinishedPacket),
+    (16777235, false, &[], End::UnfinishedPacket),
+    (16777246, true, &[], End::WaitingPieces),
+    (16777248, false, &[], End::WaitingPieces),
+    (16777276, false, &[], End::WaitingPieces),
+];
+
 #[test]
-fn long_data_that_waits(rt: HostRuntime) {
+fn long_data_cut_off(rt: HostRuntime) {
     let assert = Asserting(&rt);
     let stream = long_data_stream(&assert, rt.alloc());
-    assert_waits(&assert, rt.alloc(), stream.as_slice());
-}
-
-#[test]
-fn long_data_cut_off_in_its_header(rt: HostRuntime) {
-    let header = &BEFORE[..20];
-    let end = End::UnfinishedPacket;
-    assert_audits(
-        &Asserting(&rt),
-        rt.alloc(),
-        (TWO_PLACES, LIMIT),
-        header,
-        &[],
-        end,
-    );
+    let query = (TWO_PLACES, LIMIT);
+    for front in &LONG_DATA_CUT_OFF {
+        assert_front(&assert, rt.alloc(), query, stream.as_slice(), *front);
+    }
 }

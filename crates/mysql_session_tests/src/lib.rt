@@ -8,8 +8,6 @@
 #[cfg(test)]
 mod audits;
 #[cfg(test)]
-mod bulk;
-#[cfg(test)]
 mod bulk_sending;
 #[cfg(test)]
 mod executions;

@@ -1,9 +1,9 @@
 //! Queries of more placeholders than a statement has, and many sets.
 
 use crate::audits::assert_audits;
-use crate::sending::{Sending, front, named, sent_at_last};
+use crate::sending::{Cause, Given, Set, all_params, assert_cause, front, sent_at_last};
 use crate::support::Asserting;
-use mysql_session::{End, Params, Refusal, Road, StreamFault, Value, send};
+use mysql_session::{End, Params, Refusal, Road, StreamFault, send};
 use std::alloc::{AllocError, Global};
 use tests_support::{Assert, assert_bytes, once_more};
 
@@ -39,6 +39,14 @@ fn sent_without_sets(
     }
 }
 
+/// The roads by a statement, each with a limit within which no prepare fits, and with one within which it does.
+const BY_STATEMENT: [(Road, usize); 4] = [
+    (Road::Execute, 4),
+    (Road::Execute, 100000),
+    (Road::Bulk, 4),
+    (Road::Bulk, 100000),
+];
+
 /// Asserts that a query is refused for its many places, and that nothing is appended.
 fn assert_too_many(assert: &impl Assert, alloc: Global, query: &[u8], road: Road, limit: usize) {
     let mut out = front(assert, alloc);
@@ -52,10 +60,9 @@ fn too_many_places(rt: HostRuntime) {
     let assert = Asserting(&rt);
     let alloc = rt.alloc();
     let query = marks(&assert, alloc, b"", 65536);
-    assert_too_many(&assert, alloc, query.as_slice(), Road::Execute, 4);
-    assert_too_many(&assert, alloc, query.as_slice(), Road::Execute, 100000);
-    assert_too_many(&assert, alloc, query.as_slice(), Road::Bulk, 4);
-    assert_too_many(&assert, alloc, query.as_slice(), Road::Bulk, 100000);
+    for (road, limit) in &BY_STATEMENT {
+        assert_too_many(&assert, alloc, query.as_slice(), *road, *limit);
+    }
 }
 
 /// A prepare of as many places as there can be.
@@ -64,11 +71,11 @@ fn as_many_places_as_there_can_be(rt: HostRuntime) {
     let assert = Asserting(&rt);
     let alloc = rt.alloc();
     let query = marks(&assert, alloc, b"", 65535);
-    let wanted = marks(&assert, alloc, b"\0\0\x01\0\x16", 65535);
     let mut out = Vec::new(alloc);
     let answer = sent_without_sets(alloc, query.as_slice(), Road::Execute, 100000, &mut out);
     assert.holds(answer.is_ok());
-    assert_bytes(&assert, out.as_slice(), wanted.as_slice());
+    let text = out.as_slice().strip_prefix(b"\0\0\x01\0\x16");
+    assert.holds(text == Some(query.as_slice()));
 }
 
 const TOO_MANY: End = End::Fault(0, StreamFault::TooManyPlaces);
@@ -89,33 +96,66 @@ fn too_many_places_read(rt: HostRuntime) {
     );
 }
 
-/// Appends so many sets of the number 1.
-fn put_ones(alloc: Global, count: usize, sets: &mut Vec<Params>) -> Result<(), AllocError> {
-    for _ in 0..count {
-        sets.push(named(alloc, Value::Int(1))?)?;
-    }
-    Ok(())
-}
-
-/// A thousand sets of the number 1, of which one has no sign.
-fn thousand_sets(alloc: Global) -> Result<Vec<Params>, AllocError> {
+/// A thousand sets of the number 1, but for the one at this place.
+fn thousand_sets(alloc: Global, at: usize, other: Set) -> Result<Vec<Params>, AllocError> {
     let mut sets = Vec::new(alloc);
-    put_ones(alloc, 900, &mut sets)?;
-    sets.push(named(alloc, Value::UInt(1))?)?;
-    put_ones(alloc, 99, &mut sets)?;
-    Ok(sets)
+    for i in 0..1000 {
+        sets.push(if i == at {
+            other
+        } else {
+            Set::A(Given::Int(1))
+        })?;
+    }
+    all_params(alloc, sets.as_slice())
 }
 
-const BY_BULK: Sending = (Road::Bulk, b"SELECT :a", &[], 1000);
+/// A set, its place among a thousand, the road, and why all are refused.
+const REFUSED: [(Set, usize, Road, Cause); 4] = [
+    (
+        Set::A(Given::Float(0)),
+        999,
+        Road::Text,
+        Cause::Float(999, 0),
+    ),
+    (
+        Set::A(Given::Float(0)),
+        999,
+        Road::Execute,
+        Cause::Float(999, 0),
+    ),
+    (
+        Set::A(Given::Float(0)),
+        999,
+        Road::Bulk,
+        Cause::Float(999, 0),
+    ),
+    // The first request would stand before the set that is refused.
+    (
+        Set::A(Given::UInt(1)),
+        900,
+        Road::Bulk,
+        Cause::MixedKinds(900, 0),
+    ),
+];
 
-/// The first request would stand before the set that is refused.
+/// Asserts that sets of `SELECT :a` are refused for this cause, and that nothing is appended.
+fn assert_refused(assert: &impl Assert, alloc: Global, sets: &[Params], road: Road, cause: Cause) {
+    let mut out = front(assert, alloc);
+    let answer = sent_at_last(alloc, (road, b"SELECT :a", &[], 1000), sets, &mut out);
+    assert_cause(assert, alloc, answer, cause);
+    assert_bytes(assert, out.as_slice(), b"front");
+}
+
 #[test]
-fn another_kind_among_many_sets(rt: HostRuntime) {
+fn one_among_many_sets(rt: HostRuntime) {
     let assert = Asserting(&rt);
     let alloc = rt.alloc();
-    let sets = once_more(&assert, thousand_sets(alloc), thousand_sets(alloc));
-    let mut out = front(&assert, alloc);
-    let answer = sent_at_last(alloc, BY_BULK, sets.as_slice(), &mut out);
-    assert.holds(answer == Err(Refusal::MixedKinds(900, 0)));
-    assert_bytes(&assert, out.as_slice(), b"front");
+    for (other, at, road, cause) in &REFUSED {
+        let sets = once_more(
+            &assert,
+            thousand_sets(alloc, *at, *other),
+            thousand_sets(alloc, *at, *other),
+        );
+        assert_refused(&assert, alloc, sets.as_slice(), *road, *cause);
+    }
 }

@@ -156,23 +156,21 @@ const SENT: [RoundTrip; 5] = [
     ),
 ];
 
+/// Asserts that lists are sent as this stream behind what stands.
+fn assert_sent(assert: &impl Assert, alloc: Global, sending: Sending, stream: &[u8]) {
+    let mut out = front(assert, alloc);
+    assert.holds(sent(assert, alloc, sending, &mut out).is_ok());
+    assert.holds(out.as_slice().strip_prefix(b"front") == Some(stream));
+}
+
 #[test]
 fn sent_and_read(rt: HostRuntime) {
     let assert = Asserting(&rt);
-    let alloc = rt.alloc();
     for (sending, stream, contents) in &SENT {
-        let mut out = front(&assert, alloc);
-        assert.holds(sent(&assert, alloc, *sending, &mut out).is_ok());
-        assert.holds(out.as_slice().strip_prefix(b"front") == Some(*stream));
+        assert_sent(&assert, rt.alloc(), *sending, stream);
         let (_, query, _) = *sending;
-        assert_audits(
-            &assert,
-            alloc,
-            (query, LIMIT),
-            *stream,
-            *contents,
-            End::Whole,
-        );
+        let query = (query, LIMIT);
+        assert_audits(&assert, rt.alloc(), query, stream, contents, End::Whole);
     }
 }
 
@@ -252,14 +250,17 @@ const REFUSED: [(Sending, Cause); 12] = [
     ),
 ];
 
+/// Asserts why lists are not sent, and that nothing is appended.
+fn assert_refused(assert: &impl Assert, alloc: Global, sending: Sending, cause: Cause) {
+    let mut out = front(assert, alloc);
+    let answer = sent(assert, alloc, sending, &mut out);
+    assert_cause(assert, alloc, answer, cause);
+    assert.holds(out.as_slice() == b"front".as_slice());
+}
+
 #[test]
 fn refused(rt: HostRuntime) {
-    let assert = Asserting(&rt);
-    let alloc = rt.alloc();
     for (sending, cause) in &REFUSED {
-        let mut out = front(&assert, alloc);
-        let answer = sent(&assert, alloc, *sending, &mut out);
-        assert_cause(&assert, alloc, answer, *cause);
-        assert.holds(out.as_slice() == b"front".as_slice());
+        assert_refused(&Asserting(&rt), rt.alloc(), *sending, *cause);
     }
 }

@@ -141,21 +141,3 @@ fn of_what_is_sent(rt: HostRuntime) {
         assert_prefixes(&Asserting(&rt), rt.alloc(), *sending, *len, standings);
     }
 }
-
-/// A prepare of 16 bytes, and an execution of 36 with two numbers, of which no set gives both for the same name.
-pub const TWO_NUMBERS: &[u8] =
-    b"\x0c\0\0\0\x16SELECT ?, ?\x20\0\0\0\x17\x01\0\0\0\0\x01\0\0\0\0\x01\x08\0\x08\0\x01\0\0\0\0\0\0\0\x02\0\0\0\0\0\0\0";
-
-pub const BOTH_NUMBERS: [Standing; 3] = [
-    (0, &[]),
-    (16, &[]),
-    (52, &[&[Want::Number(1), Want::Number(2)]]),
-];
-
-#[test]
-fn of_two_numbers_for_one_name(rt: HostRuntime) {
-    let assert = Asserting(&rt);
-    assert.holds(TWO_NUMBERS.len() == 52);
-    let query = (b"SELECT :a, :a".as_slice(), 1000);
-    assert_fronts(&assert, rt.alloc(), query, TWO_NUMBERS, &BOTH_NUMBERS);
-}

@@ -65,17 +65,6 @@ const BINARY: [Row; 7] = [
     ),
 ];
 
-#[test]
-fn binary_rows(rt: HostRuntime) {
-    assert_replies_of(
-        &Asserting(&rt),
-        rt.alloc(),
-        ReplyKind::Binary,
-        WITHOUT_EOF,
-        &BINARY,
-    );
-}
-
 /// A statement without parameters and columns.
 const BARE: &[u8] = b"\x0c\0\0\x01\0\x01\0\0\0\0\0\0\0\0\0\0";
 
@@ -124,17 +113,6 @@ const PREPARED: [Row; 6] = [
     ),
 ];
 
-#[test]
-fn prepared(rt: HostRuntime) {
-    assert_replies_of(
-        &Asserting(&rt),
-        rt.alloc(),
-        ReplyKind::Prepare,
-        WITH_EOF,
-        &PREPARED,
-    );
-}
-
 /// Without EOF packets the groups follow each other.
 const PREPARED_WITHOUT_EOF: [Row; 2] = [
     (
@@ -154,13 +132,16 @@ const PREPARED_WITHOUT_EOF: [Row; 2] = [
     ),
 ];
 
+/// Replies, by the kind of the command and the capabilities.
+const REPLIES: [(ReplyKind, CapabilityFlags, &[Row]); 3] = [
+    (ReplyKind::Binary, WITHOUT_EOF, &BINARY),
+    (ReplyKind::Prepare, WITH_EOF, &PREPARED),
+    (ReplyKind::Prepare, WITHOUT_EOF, &PREPARED_WITHOUT_EOF),
+];
+
 #[test]
-fn prepared_without_eof(rt: HostRuntime) {
-    assert_replies_of(
-        &Asserting(&rt),
-        rt.alloc(),
-        ReplyKind::Prepare,
-        WITHOUT_EOF,
-        &PREPARED_WITHOUT_EOF,
-    );
+fn replies(rt: HostRuntime) {
+    for (kind, capabilities, rows) in &REPLIES {
+        assert_replies_of(&Asserting(&rt), rt.alloc(), *kind, *capabilities, rows);
+    }
 }

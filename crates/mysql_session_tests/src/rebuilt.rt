@@ -1,11 +1,9 @@
 //! Streams that are rebuilt by hand, of the calls that make their payloads.
 
 use crate::large::{LIMIT, PIECE_LEN, TWO_PLACES};
-use crate::sending::{Given, Sending, Set, assert_appended, named};
-use crate::support::Asserting;
-use mysql_bulk::{BulkExecuteRequestError, ComStmtBulkExecuteRequest, StmtBulkExecuteParamType};
+use crate::sending::{Given, Sending, Set, assert_appended, list, named};
+use crate::support::{Asserting, filled};
 use mysql_bulk_builder::{BulkExecuteRequestBuilderError, ComStmtBulkExecuteRequestBuilder};
-use mysql_const::{ColumnType, StmtBulkExecuteFlags, StmtExecuteParamFlags};
 use mysql_raw::MySerialize;
 use mysql_session::{Road, Value};
 use mysql_stmt::{ComStmtExecuteRequestBuilder, ComStmtSendLongData};
@@ -99,13 +97,6 @@ fn an_execution(rt: HostRuntime) {
     assert_rebuilt(&assert, rt.alloc(), BY_EXECUTE, wanted.as_slice());
 }
 
-/// So many bytes `x`.
-fn filled(alloc: Global, len: usize) -> Result<Vec<u8>, AllocError> {
-    let mut bytes = Vec::new(alloc);
-    bytes.resize(len, b'x')?;
-    Ok(bytes)
-}
-
 /// Appends bytes as the long data of a place.
 fn put_piece(alloc: Global, place: u16, bytes: &[u8], out: &mut Vec<u8>) -> Result<(), AllocError> {
     let piece = ComStmtSendLongData::new(1, place, CowSlice::Borrowed(bytes));
@@ -162,18 +153,11 @@ fn long_data(rt: HostRuntime) {
     assert_rebuilt(&assert, alloc, BY_LONG_DATA, wanted.as_slice());
 }
 
-/// A row of this value.
-fn row(alloc: Global, value: Value) -> Result<Vec<Value>, AllocError> {
-    let mut row = Vec::new(alloc);
-    row.push(value)?;
-    Ok(row)
-}
-
 /// The rows of the numbers 1 and 2.
 fn two_rows(alloc: Global) -> Result<Vec<Vec<Value>>, AllocError> {
     let mut rows = Vec::new(alloc);
-    rows.push(row(alloc, Value::Int(1))?)?;
-    rows.push(row(alloc, Value::Int(2))?)?;
+    rows.push(list(alloc, Value::Int(1))?)?;
+    rows.push(list(alloc, Value::Int(2))?)?;
     Ok(rows)
 }
 
@@ -219,54 +203,4 @@ fn assert_requests(assert: &impl Assert, alloc: Global, limit: usize) {
 fn requests_of_a_builder(rt: HostRuntime) {
     assert_requests(&Asserting(&rt), rt.alloc(), 31);
     assert_requests(&Asserting(&rt), rt.alloc(), 30);
-}
-
-/// This type alone, of numbers with a sign.
-fn one_type(
-    alloc: Global,
-    column_type: ColumnType,
-) -> Result<Vec<StmtBulkExecuteParamType>, AllocError> {
-    let mut types = Vec::new(alloc);
-    let flags = StmtExecuteParamFlags(0);
-    types.push(StmtBulkExecuteParamType::new(column_type, flags))?;
-    Ok(types)
-}
-
-/// Appends the request of one row of one value, which carries this type.
-fn put_typed(
-    alloc: Global,
-    column_type: ColumnType,
-    value: Value,
-    out: &mut Vec<u8>,
-) -> Result<(), BulkExecuteRequestError> {
-    let types = one_type(alloc, column_type)?;
-    let mut rows = Vec::new(alloc);
-    rows.push(row(alloc, value)?)?;
-    let flags = StmtBulkExecuteFlags::SEND_TYPES_TO_SERVER;
-    let request = ComStmtBulkExecuteRequest::with_types(alloc, 1, flags, types, rows)?;
-    put_command(alloc, &request, out)?;
-    Ok(())
-}
-
-/// The stream of the prepare, a request of NULL, and one of the number 1.
-fn typed(alloc: Global) -> Result<Vec<u8>, BulkExecuteRequestError> {
-    let mut out = Vec::new(alloc);
-    put_query(alloc, &mut out)?;
-    put_typed(alloc, ColumnType::MYSQL_TYPE_NULL, Value::NULL, &mut out)?;
-    put_typed(
-        alloc,
-        ColumnType::MYSQL_TYPE_LONGLONG,
-        Value::Int(1),
-        &mut out,
-    )?;
-    Ok(out)
-}
-
-const NULL_FIRST: Sending = (Road::Bulk, QUERY, &[Set::A(Given::Null), INT_1], 22);
-
-#[test]
-fn requests_with_types(rt: HostRuntime) {
-    let assert = Asserting(&rt);
-    let wanted = once_more(&assert, typed(rt.alloc()), typed(rt.alloc()));
-    assert_rebuilt(&assert, rt.alloc(), NULL_FIRST, wanted.as_slice());
 }

@@ -1,9 +1,9 @@
 //! Streams of commands, and contents, as executions.
 
 use crate::audits::{Query, Want, WantedSet, joined};
-use crate::prefixes::{BOTH_NUMBERS, TWO_NUMBERS, assert_fronts};
+use crate::prefixes::{Standing, assert_fronts};
 use crate::sending::{Cause, assert_cause, front};
-use crate::support::Asserting;
+use crate::support::{Asserting, filled};
 use mysql_session::{Content, End, RecodeError, Refusal, StreamFault, recode, send_contents};
 use mysql_values::ByteString;
 use std::alloc::{AllocError, Global};
@@ -142,16 +142,23 @@ fn streams(rt: HostRuntime) {
 /// A text query with 1 and 2 over a query that has the same name twice.
 const TEXT_1_2: &[u8] = b"\x0c\0\0\0\x03SELECT 1, 2";
 
+/// A prepare of 16 bytes, and an execution of 36 with two numbers, of which no set gives both for the same name.
+const TWO_NUMBERS: &[u8] =
+    b"\x0c\0\0\0\x16SELECT ?, ?\x20\0\0\0\x17\x01\0\0\0\0\x01\0\0\0\0\x01\x08\0\x08\0\x01\0\0\0\0\0\0\0\x02\0\0\0\0\0\0\0";
+
+const BOTH_NUMBERS: [Standing; 3] = [
+    (0, &[]),
+    (16, &[]),
+    (52, &[&[Want::Number(1), Want::Number(2)]]),
+];
+
 /// Two contents, of which no set gives both for the same name: each front of what they are recoded as is read.
 #[test]
 fn two_numbers_for_one_name(rt: HostRuntime) {
     let assert = Asserting(&rt);
-    let alloc = rt.alloc();
     let query = (b"SELECT :a, :a".as_slice(), 1000);
-    let mut out = Vec::new(alloc);
-    assert.holds(recoded(alloc, query, &[TEXT_1_2], &mut out).is_ok());
-    assert_bytes(&assert, out.as_slice(), TWO_NUMBERS);
-    assert_fronts(&assert, alloc, query, out.as_slice(), &BOTH_NUMBERS);
+    assert_recoded(&assert, rt.alloc(), query, &[TEXT_1_2], TWO_NUMBERS);
+    assert_fronts(&assert, rt.alloc(), query, TWO_NUMBERS, &BOTH_NUMBERS);
 }
 
 /// Asserts why a stream is not recoded, and that nothing is appended.
@@ -227,33 +234,28 @@ fn put_times(alloc: Global, bytes: &[u8], again: &[u8]) -> Result<Vec<u8>, Alloc
     Ok(out)
 }
 
-/// A query of more placeholders than a statement has: its text is read, and not recoded.
+fn times(assert: &impl Assert, alloc: Global, bytes: &[u8], again: &[u8]) -> Vec<u8> {
+    once_more(
+        assert,
+        put_times(alloc, bytes, again),
+        put_times(alloc, bytes, again),
+    )
+}
+
+/// Asserts that a text over a query of more placeholders than a statement has is read, and not recoded.
+fn assert_too_many(assert: &impl Assert, alloc: Global, query: &[u8], text: &[u8]) {
+    let cause = RecodeError::TooManyPlaces;
+    assert_refused(assert, alloc, (query, 131073), &[text], cause);
+    assert_refused(assert, alloc, (query, 4), &[], cause);
+    assert_refused(assert, alloc, (query, 4), &[b"\x01"], UNFINISHED);
+}
+
 #[test]
 fn too_many_places(rt: HostRuntime) {
     let assert = Asserting(&rt);
-    let alloc = rt.alloc();
-    let query = once_more(
-        &assert,
-        put_times(alloc, b"", b"?,"),
-        put_times(alloc, b"", b"?,"),
-    );
-    let text = once_more(
-        &assert,
-        put_times(alloc, b"\x01\0\x02\0\x03", b"1,"),
-        put_times(alloc, b"\x01\0\x02\0\x03", b"1,"),
-    );
-    let limited = (query.as_slice(), 131073);
-    let cause = RecodeError::TooManyPlaces;
-    assert_refused(&assert, alloc, limited, &[text.as_slice()], cause);
-    let limited = (query.as_slice(), 4);
-    assert_refused(&assert, alloc, limited, &[], cause);
-    assert_refused(&assert, alloc, limited, &[b"\x01"], UNFINISHED);
-}
-
-fn filled(alloc: Global, len: usize) -> Result<ByteString, AllocError> {
-    let mut bytes = Vec::new(alloc);
-    bytes.resize(len, b'x')?;
-    Ok(ByteString::from_vec(bytes))
+    let query = times(&assert, rt.alloc(), b"", b"?,");
+    let text = times(&assert, rt.alloc(), b"\x01\0\x02\0\x03", b"1,");
+    assert_too_many(&assert, rt.alloc(), query.as_slice(), text.as_slice());
 }
 
 fn content(alloc: Global, given: Want) -> Result<Content, AllocError> {
@@ -261,7 +263,7 @@ fn content(alloc: Global, given: Want) -> Result<Content, AllocError> {
         Want::Null => Ok(Content::Null),
         Want::Number(number) => Ok(Content::Number(number)),
         Want::Bytes(bytes) => Ok(Content::Bytes(ByteString::copy(alloc, bytes)?)),
-        Want::Filled(len) => Ok(Content::Bytes(filled(alloc, len)?)),
+        Want::Filled(len) => Ok(Content::Bytes(ByteString::from_vec(filled(alloc, len)?))),
     }
 }
 

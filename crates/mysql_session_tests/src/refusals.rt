@@ -1,6 +1,6 @@
 //! Why sets are not sent.
 
-use crate::sending::{Cause, Given, RoundTrip, Sending, Set, assert_refusals, assert_round_trips};
+use crate::sending::{Cause, Given, Sending, Set, assert_refusals};
 use crate::support::Asserting;
 use mysql_session::Road;
 use mysql_values::ParamsConfusionError;
@@ -112,16 +112,6 @@ const BY_EXECUTE: [(Sending, Cause); 11] = [
     ),
 ];
 
-#[test]
-fn by_text(rt: HostRuntime) {
-    assert_refusals(&Asserting(&rt), rt.alloc(), &BY_TEXT);
-}
-
-#[test]
-fn by_execute(rt: HostRuntime) {
-    assert_refusals(&Asserting(&rt), rt.alloc(), &BY_EXECUTE);
-}
-
 const UNSIGNED: Set = Set::A(Given::UInt(2));
 
 const BY_BULK: [(Sending, Cause); 4] = [
@@ -152,15 +142,12 @@ const BY_BULK: [(Sending, Cause); 4] = [
     ),
 ];
 
-#[test]
-fn by_bulk(rt: HostRuntime) {
-    assert_refusals(&Asserting(&rt), rt.alloc(), &BY_BULK);
-}
-
-/// Without sets no packet is too large.
-const NO_SETS: [RoundTrip; 1] = [((Road::Text, QUERY, &[], 4), b"", &[])];
+/// What is refused by each road.
+const BY_ROADS: [&[(Sending, Cause)]; 3] = [&BY_TEXT, &BY_EXECUTE, &BY_BULK];
 
 #[test]
-fn no_sets(rt: HostRuntime) {
-    assert_round_trips(&Asserting(&rt), rt.alloc(), &NO_SETS);
+fn refused(rt: HostRuntime) {
+    for rows in &BY_ROADS {
+        assert_refusals(&Asserting(&rt), rt.alloc(), rows);
+    }
 }

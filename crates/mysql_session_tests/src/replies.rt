@@ -1,4 +1,4 @@
-//! Replies of one packet: OK, an error, a file that is asked for; progress reports before them.
+//! Replies of one packet: OK, an error, a file that is asked for.
 
 use crate::expected::{Expected, Row, Wanted, assert_reads, assert_replies};
 use crate::support::Asserting;
@@ -7,8 +7,6 @@ use std::alloc::Global;
 use tests_support::Assert;
 
 const TEXT: CapabilityFlags = CapabilityFlags::CLIENT_PROTOCOL_41;
-
-const WITH_PROGRESS: CapabilityFlags = CapabilityFlags(0x2000_0200);
 
 const AUTOCOMMIT: StatusFlags = StatusFlags(2);
 
@@ -62,11 +60,6 @@ const REPLIES: [Row; 8] = [
     (&[PROGRESS], &[], ReplyEnd::Fault(0, ReplyFault::BadError)),
 ];
 
-#[test]
-fn one_packet(rt: HostRuntime) {
-    assert_replies(&Asserting(&rt), rt.alloc(), TEXT, &REPLIES);
-}
-
 /// Changes of the session's state behind an OK packet.
 const TRACKING: CapabilityFlags = CapabilityFlags(0x80_0200);
 
@@ -84,11 +77,6 @@ const TRACKED: [Row; 2] = [
     ),
 ];
 
-#[test]
-fn with_session_states(rt: HostRuntime) {
-    assert_replies(&Asserting(&rt), rt.alloc(), TRACKING, &TRACKED);
-}
-
 /// An error without a state.
 const TOO_MANY: &[u8] = b"\x17\0\0\x01\xff\x10\x04Too many connections";
 
@@ -97,6 +85,7 @@ const CODE: &[u8] = b"\x03\0\0\x01\xff\x10\x04";
 
 const BAD_ERROR: ReplyEnd = ReplyEnd::Fault(0, ReplyFault::BadError);
 
+/// Errors of the protocol before version 4.1 have no state.
 const WITHOUT_STATES: [Row; 4] = [
     (
         &[TOO_MANY],
@@ -117,17 +106,7 @@ const WITHOUT_STATES: [Row; 4] = [
     (&[b"\x02\0\0\x01\xff\x10"], &[], BAD_ERROR),
 ];
 
-/// Errors of the protocol before version 4.1 have no state.
-#[test]
-fn errors_without_states(rt: HostRuntime) {
-    assert_replies(
-        &Asserting(&rt),
-        rt.alloc(),
-        CapabilityFlags(0),
-        &WITHOUT_STATES,
-    );
-}
-
+/// Since version 4.1 each error has a state.
 const NO_ERRORS: [Row; 3] = [
     (&[TOO_MANY], &[], BAD_ERROR),
     (&[CODE], &[], BAD_ERROR),
@@ -135,25 +114,19 @@ const NO_ERRORS: [Row; 3] = [
     (&[b"\x08\0\0\x01\xff\x10\x04#0800"], &[], BAD_ERROR),
 ];
 
-/// Since version 4.1 each error has a state.
-#[test]
-fn errors_that_lack_states(rt: HostRuntime) {
-    assert_replies(&Asserting(&rt), rt.alloc(), TEXT, &NO_ERRORS);
-}
+/// Replies, by the capabilities.
+const BY_CAPABILITIES: [(CapabilityFlags, &[Row]); 4] = [
+    (TEXT, &REPLIES),
+    (TRACKING, &TRACKED),
+    (CapabilityFlags(0), &WITHOUT_STATES),
+    (TEXT, &NO_ERRORS),
+];
 
 #[test]
-fn a_progress_report(rt: HostRuntime) {
-    assert_reads(
-        &Asserting(&rt),
-        rt.alloc(),
-        (ReplyKind::Text, WITH_PROGRESS, 1),
-        PROGRESS,
-        (
-            &[(1, 10, 23500, b"stage name")],
-            &[CHANGED_ONE],
-            ReplyEnd::Whole,
-        ),
-    );
+fn one_packet(rt: HostRuntime) {
+    for (capabilities, rows) in &BY_CAPABILITIES {
+        assert_replies(&Asserting(&rt), rt.alloc(), *capabilities, rows);
+    }
 }
 
 /// An OK packet whose number goes on from a command of two chunks.

@@ -3,8 +3,6 @@
 use crate::expected::{Expected, Report, Row, Wanted, assert_packets, assert_replies};
 use crate::support::Asserting;
 use mysql_session::{CapabilityFlags, ReplyEnd, ReplyFault, ReplyKind, StatusFlags};
-use std::alloc::Global;
-use tests_support::Assert;
 
 /// EOF packets end columns and rows.
 const TEXT: CapabilityFlags = CapabilityFlags::CLIENT_PROTOCOL_41;
@@ -114,16 +112,6 @@ const WITHOUT_EOF_PACKETS: [Row; 11] = [
     ),
 ];
 
-#[test]
-fn without_eof_packets(rt: HostRuntime) {
-    assert_replies(
-        &Asserting(&rt),
-        rt.alloc(),
-        WITHOUT_EOF,
-        &WITHOUT_EOF_PACKETS,
-    );
-}
-
 const WITH_EOF_PACKETS: [Row; 7] = [
     // No EOF packet behind the column.
     (
@@ -172,9 +160,17 @@ const WITH_EOF_PACKETS: [Row; 7] = [
     ),
 ];
 
+/// Replies, by the capabilities.
+const BY_CAPABILITIES: [(CapabilityFlags, &[Row]); 2] = [
+    (WITHOUT_EOF, &WITHOUT_EOF_PACKETS),
+    (TEXT, &WITH_EOF_PACKETS),
+];
+
 #[test]
-fn with_eof_packets(rt: HostRuntime) {
-    assert_replies(&Asserting(&rt), rt.alloc(), TEXT, &WITH_EOF_PACKETS);
+fn rows(rt: HostRuntime) {
+    for (capabilities, rows) in &BY_CAPABILITIES {
+        assert_replies(&Asserting(&rt), rt.alloc(), *capabilities, rows);
+    }
 }
 
 /// EOF packets, and progress reports.
@@ -195,8 +191,9 @@ const SECOND_AT_5: &[u8] = b"\x0e\0\0\x05\xff\xff\xff\x01\x01\x02\x30\x5c\0\x04s
 
 const THIRD_AT_7: &[u8] = b"\x0e\0\0\x07\xff\xff\xff\x01\x02\x02\0\0\0\x04copy";
 
-/// The packets of a reply with progress reports, the reports, the results, and the reply's end.
+/// The capabilities, the packets of a reply with progress reports, the reports, the results, and the reply's end.
 type Reported = (
+    CapabilityFlags,
     &'static [&'static [u8]],
     &'static [Report],
     &'static [Expected],
@@ -204,8 +201,9 @@ type Reported = (
 );
 
 /// Reports before the columns' end, before the rows, and between them.
-const AMONG_ROWS: [Reported; 6] = [
+const AMONG_ROWS: [Reported; 7] = [
     (
+        REPORTING,
         &[
             ONE_COLUMN,
             FIRST_AT_3,
@@ -222,12 +220,14 @@ const AMONG_ROWS: [Reported; 6] = [
     ),
     // The end of the columns is still awaited, and then the rows are.
     (
+        REPORTING,
         &[ONE_COLUMN, FIRST_AT_3],
         &[FIRST],
         &[],
         ReplyEnd::Unfinished,
     ),
     (
+        REPORTING,
         &[
             ONE_COLUMN,
             FIRST_AT_3,
@@ -240,6 +240,7 @@ const AMONG_ROWS: [Reported; 6] = [
     ),
     // An error is no report.
     (
+        REPORTING,
         &[
             ONE_COLUMN,
             END_OF_COLUMNS,
@@ -256,6 +257,7 @@ const AMONG_ROWS: [Reported; 6] = [
     ),
     // A report that is cut off, behind a row and a report.
     (
+        REPORTING,
         &[
             ONE_COLUMN,
             END_OF_COLUMNS,
@@ -269,52 +271,33 @@ const AMONG_ROWS: [Reported; 6] = [
     ),
     // The same before the end of the columns.
     (
+        REPORTING,
         &[ONE_COLUMN, b"\x04\0\0\x03\xff\xff\xff\x01"],
         &[],
         &[],
         ReplyEnd::Fault(2, ReplyFault::BadError),
     ),
+    // The rows begin where the columns end without a packet of their own.
+    (
+        REPORTING_WITHOUT_EOF,
+        &[
+            ONE_COLUMN,
+            FIRST_AT_3,
+            b"\x02\0\0\x04\x015",
+            SECOND_AT_5,
+            b"\x07\0\0\x06\xfe\0\0\x02\0\0\0",
+        ],
+        &[FIRST, SECOND],
+        &[Expected::Rows(1, &[&[Some(b"5")]], AUTOCOMMIT)],
+        ReplyEnd::Whole,
+    ),
 ];
-
-/// Asserts what each of these replies says.
-fn assert_reported(
-    assert: &impl Assert,
-    alloc: Global,
-    capabilities: CapabilityFlags,
-    rows: &[Reported],
-) {
-    for (packets, reports, results, end) in rows {
-        let wanted: Wanted = (reports, results, *end);
-        let start = (ReplyKind::Text, capabilities, 1);
-        assert_packets(assert, alloc, start, packets, wanted);
-    }
-}
 
 #[test]
 fn reports_among_rows(rt: HostRuntime) {
-    assert_reported(&Asserting(&rt), rt.alloc(), REPORTING, &AMONG_ROWS);
-}
-
-/// The rows begin where the columns end without a packet of their own.
-const AMONG_ROWS_WITHOUT_EOF: [Reported; 1] = [(
-    &[
-        ONE_COLUMN,
-        FIRST_AT_3,
-        b"\x02\0\0\x04\x015",
-        SECOND_AT_5,
-        b"\x07\0\0\x06\xfe\0\0\x02\0\0\0",
-    ],
-    &[FIRST, SECOND],
-    &[Expected::Rows(1, &[&[Some(b"5")]], AUTOCOMMIT)],
-    ReplyEnd::Whole,
-)];
-
-#[test]
-fn reports_among_rows_without_eof(rt: HostRuntime) {
-    assert_reported(
-        &Asserting(&rt),
-        rt.alloc(),
-        REPORTING_WITHOUT_EOF,
-        &AMONG_ROWS_WITHOUT_EOF,
-    );
+    for (capabilities, packets, reports, results, end) in &AMONG_ROWS {
+        let start = (ReplyKind::Text, *capabilities, 1);
+        let wanted: Wanted = (reports, results, *end);
+        assert_packets(&Asserting(&rt), rt.alloc(), start, packets, wanted);
+    }
 }

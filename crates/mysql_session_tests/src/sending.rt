@@ -1,6 +1,7 @@
 //! Sets that are sent, and read back.
 
 use crate::audits::{WantedSet, assert_audits};
+use crate::support::filled;
 use mysql_session::{End, Params, ParamsError, Refusal, Road, SetError, Value, send};
 use mysql_values::{ByteString, MissingNamedParameterError, ParamsConfusionError};
 use std::alloc::{AllocError, Global};
@@ -21,17 +22,11 @@ pub enum Given {
     ZeroTime,
 }
 
-fn filled(alloc: Global, len: usize) -> Result<ByteString, AllocError> {
-    let mut bytes = Vec::new(alloc);
-    bytes.resize(len, b'x')?;
-    Ok(ByteString::from_vec(bytes))
-}
-
 fn value(alloc: Global, given: Given) -> Result<Value, AllocError> {
     match given {
         Given::Null => Ok(Value::NULL),
         Given::Bytes(bytes) => Ok(Value::Bytes(ByteString::copy(alloc, bytes)?)),
-        Given::Filled(len) => Ok(Value::Bytes(filled(alloc, len)?)),
+        Given::Filled(len) => Ok(Value::Bytes(ByteString::from_vec(filled(alloc, len)?))),
         Given::Int(number) => Ok(Value::Int(number)),
         Given::UInt(number) => Ok(Value::UInt(number)),
         Given::Float(bits) => Ok(Value::Float(bits)),
@@ -53,10 +48,10 @@ pub enum Set {
 }
 
 /// A list of one value.
-fn list(alloc: Global, value: Value) -> Result<Params, AllocError> {
+pub fn list(alloc: Global, value: Value) -> Result<Vec<Value>, AllocError> {
     let mut values = Vec::new(alloc);
     values.push(value)?;
-    Ok(Params::Positional(values))
+    Ok(values)
 }
 
 /// Gives a name a value.
@@ -91,7 +86,7 @@ fn both(alloc: Global, a: Value, b: Value) -> Result<Params, AllocError> {
 fn params(alloc: Global, set: Set) -> Result<Params, AllocError> {
     match set {
         Set::Empty => Ok(Params::Empty),
-        Set::List(given) => list(alloc, value(alloc, given)?),
+        Set::List(given) => Ok(Params::Positional(list(alloc, value(alloc, given)?)?)),
         Set::A(given) => named(alloc, value(alloc, given)?),
         Set::Both(a, b) => both(alloc, value(alloc, a)?, value(alloc, b)?),
     }

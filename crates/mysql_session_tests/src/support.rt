@@ -1,7 +1,8 @@
-//! How a test of this crate ends.
+//! How a test of this crate ends, and bytes that tests share.
 
 ghost use Rattle.std.specs.Prelude.{◌≡◌, true};
 
+use std::alloc::{AllocError, Global};
 use std::process::Abort;
 use tests_support::Assert;
 
@@ -15,4 +16,11 @@ impl<R: Abort> Assert for Asserting<'_, R> {
     {
         assert!(self.0; is_so);
     }
+}
+
+/// So many bytes `x`.
+pub fn filled(alloc: Global, len: usize) -> Result<Vec<u8>, AllocError> {
+    let mut bytes = Vec::new(alloc);
+    bytes.resize(len, b'x')?;
+    Ok(bytes)
 }

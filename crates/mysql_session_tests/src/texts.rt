@@ -3,16 +3,14 @@
 use crate::audits::{Stream, Want, WantedSet, assert_audits, assert_streams};
 use crate::sending::{Given, RoundTrip, Set, assert_round_trips};
 use crate::support::Asserting;
-use mysql_session::{End, Receiver, ReceiverError, Road, StreamFault};
-use std::alloc::Global;
-use tests_support::Assert;
+use mysql_session::{End, Road, StreamFault};
 
 const ONE: WantedSet = &[Want::Number(1)];
 
 const QUERY: &[u8] = b"SELECT :a";
 
 /// Values of `:a` in `SELECT :a`. Bytes that look like more of the query stay in their place.
-const SENT: [RoundTrip; 10] = [
+const SENT: [RoundTrip; 11] = [
     (
         (Road::Text, QUERY, &[Set::A(Given::Int(1))], 1000),
         b"\x09\0\0\0\x03SELECT 1",
@@ -79,6 +77,8 @@ const SENT: [RoundTrip; 10] = [
         &[ONE, &[Want::Number(10)]],
     ),
     ((Road::Text, QUERY, &[], 1000), b"", &[]),
+    // Without sets no packet is too large.
+    ((Road::Text, QUERY, &[], 4), b"", &[]),
 ];
 
 #[test]
@@ -103,20 +103,6 @@ fn within_the_limit(rt: HostRuntime) {
     let assert = Asserting(&rt);
     for (limit, stream, sets, end) in &LIMITS {
         assert_audits(&assert, rt.alloc(), (QUERY, *limit), stream, sets, *end);
-    }
-}
-
-#[test]
-fn cut_off(rt: HostRuntime) {
-    for len in 1..13 {
-        assert_audits(
-            &Asserting(&rt),
-            rt.alloc(),
-            (QUERY, 1000),
-            &SELECT_1[..len],
-            &[],
-            End::UnfinishedPacket,
-        );
     }
 }
 
@@ -179,11 +165,6 @@ const STREAMS: [Stream; 13] = [
     ),
 ];
 
-#[test]
-fn read(rt: HostRuntime) {
-    assert_streams(&Asserting(&rt), rt.alloc(), QUERY, &STREAMS);
-}
-
 const OVER_TWO_PLACES: [Stream; 4] = [
     (
         &[b"\x12\0\0\0\x03SELECT 'x, ', 'y'"],
@@ -200,7 +181,8 @@ const OVER_TWO_PLACES: [Stream; 4] = [
 ];
 
 /// Queries, each with the streams over it.
-const OVER_OTHER_QUERIES: [(&[u8], &[Stream]); 4] = [
+const READ: [(&[u8], &[Stream]); 5] = [
+    (QUERY, &STREAMS),
     (b"SELECT :a, :b", &OVER_TWO_PLACES),
     (
         b"SELECT :a, :a",
@@ -226,22 +208,8 @@ const OVER_OTHER_QUERIES: [(&[u8], &[Stream]); 4] = [
 ];
 
 #[test]
-fn over_other_queries(rt: HostRuntime) {
-    for (query, streams) in &OVER_OTHER_QUERIES {
+fn read(rt: HostRuntime) {
+    for (query, streams) in &READ {
         assert_streams(&Asserting(&rt), rt.alloc(), query, streams);
     }
-}
-
-/// Why no receiver is made for a query.
-fn refusal(alloc: Global, query: &[u8]) -> Option<ReceiverError> {
-    Receiver::new(alloc, query, 1, 1000).err()
-}
-
-#[test]
-fn names_and_marks_together(rt: HostRuntime) {
-    let mut found = refusal(rt.alloc(), b":a ?");
-    if found == Some(ReceiverError::Memory) {
-        found = refusal(rt.alloc(), b":a ?");
-    }
-    Asserting(&rt).holds(found == Some(ReceiverError::Mixed));
 }

@@ -7,14 +7,9 @@ use std::fmt::Display;
 use std::test::*;
 use tests_support::{Assert, assert_bytes, once_more};
 
-// The text of a value.
-fn text<T: Display>(assert: &impl Assert, alloc: Global, value: &T) -> String {
-    once_more(assert, value.to_string(alloc), value.to_string(alloc))
-}
-
-// Asserts that a value is printed so.
-fn assert_text<T: Display + Drop>(assert: &impl Assert, alloc: Global, value: T, wanted: &str) {
-    let found = text(assert, alloc, &value);
+/// Asserts that a value is printed so.
+fn assert_text<T: Display>(assert: &impl Assert, alloc: Global, value: &T, wanted: &str) {
+    let found = once_more(assert, value.to_string(alloc), value.to_string(alloc));
     assert_bytes(assert, found.as_bytes(), wanted.as_bytes());
 }
 
@@ -25,21 +20,21 @@ fn faults_and_ends(rt: HostRuntime) {
     assert_text(
         &assert,
         alloc,
-        StreamFault::WrongId,
+        &StreamFault::WrongId,
         "the id is another statement's",
     );
-    assert_text(&assert, alloc, ReplyFault::BadRow, "a row can't be read");
-    assert_text(&assert, alloc, End::Whole, "whole");
+    assert_text(&assert, alloc, &ReplyFault::BadRow, "a row can't be read");
+    assert_text(&assert, alloc, &End::Whole, "whole");
     assert_text(
         &assert,
         alloc,
-        End::Fault(3, StreamFault::NoTypes),
+        &End::Fault(3, StreamFault::NoTypes),
         "payload 3: there are no types for the values",
     );
     assert_text(
         &assert,
         alloc,
-        ReplyEnd::Fault(2, ReplyFault::AfterEnd),
+        &ReplyEnd::Fault(2, ReplyFault::AfterEnd),
         "payload 2: bytes follow the last result",
     );
 }

@@ -1,6 +1,6 @@
 //! Cells of the binary and of the text protocol, read and written as fields.
 
-use crate::support::{Asserting, Given, assert_value, made};
+use crate::support::{Asserting, Given, assert_value, copied, made};
 use mysql_values::{
     BinValue, ClientSide, SerializationSide, ServerSide, TextValue, Value, ValueDeserializer,
     read_text_cell,
@@ -10,7 +10,6 @@ use mysql_wire::{MySerialize, ParseBuf, WireError};
 use std::alloc::Global;
 use tests_support::{
     Assert, assert_answer, assert_bytes, assert_cut_off, assert_equal, assert_refused, first_of,
-    once_more,
 };
 
 const SIGNED: ColumnFlags = ColumnFlags(0);
@@ -180,15 +179,11 @@ fn text_cells(rt: HostRuntime) {
     }
 }
 
-fn bit_offset<S: SerializationSide>() -> usize {
-    S::BIT_OFFSET
-}
-
 #[test]
 fn offsets_of_bits(rt: HostRuntime) {
     let assert = Asserting(&rt);
-    assert_equal(&assert, bit_offset::<ServerSide>(), 2);
-    assert_equal(&assert, bit_offset::<ClientSide>(), 0);
+    assert_equal(&assert, ServerSide::BIT_OFFSET, 2);
+    assert_equal(&assert, ClientSide::BIT_OFFSET, 0);
 }
 
 /// Values and their cells.
@@ -207,8 +202,7 @@ const WRITTEN: [(Given, &[u8]); 4] = [
 
 /// Asserts that a value's cell is these bytes, behind what is there, and as long as is counted for it.
 fn assert_cell(assert: &impl Assert, alloc: Global, value: &Value, cell: &[u8]) {
-    let first = Vec::from_slice(alloc, b"> ");
-    let mut out = once_more(assert, first, Vec::from_slice(alloc, b"> "));
+    let mut out = copied(assert, alloc, b"> ");
     if value.serialize(&mut out).is_err() {
         // Memory was refused: nothing was written.
         assert_bytes(assert, out.as_slice(), b"> ");

@@ -3,12 +3,12 @@
 ghost use Rattle.std.specs.Prelude.{Bool, Some};
 ghost use Rattle.mysql_values.specs.Values.{is_null};
 
-use crate::support::{Asserting, Given, assert_value, made};
+use crate::support::{Asserting, Given, assert_value, byte_string, copied, made, string};
 use mysql_convert::{
     FromValue, FromValueError, Intermediate, ParseIr, ParseIrOpt, ToValue, ToValueError,
     from_value, from_value_opt, get_intermediate,
 };
-use mysql_values::{ByteString, Content, Value};
+use mysql_values::{Content, Value};
 use std::alloc::Global;
 use std::borrow::{CowSlice, CowStr};
 use std::convert::AsSlice;
@@ -186,33 +186,9 @@ fn signed_integers(rt: HostRuntime) {
     assert_range(
         &a,
         alloc,
-        7i16,
-        (b"-32768", -32768),
-        (b"32767", 32767),
-        [b"-32769", b"32768"],
-    );
-    assert_range(
-        &a,
-        alloc,
-        7i32,
-        (b"-2147483648", -2147483648),
-        (b"2147483647", 2147483647),
-        [b"-2147483649", b"2147483648"],
-    );
-    assert_range(
-        &a,
-        alloc,
         7i64,
         (b"-9223372036854775808", i64::MIN),
         (b"9223372036854775807", i64::MAX),
-        [b"-9223372036854775809", b"9223372036854775808"],
-    );
-    assert_range(
-        &a,
-        alloc,
-        7isize,
-        (b"-9223372036854775808", isize::MIN),
-        (b"9223372036854775807", isize::MAX),
         [b"-9223372036854775809", b"9223372036854775808"],
     );
     assert_range(
@@ -236,33 +212,9 @@ fn unsigned_integers(rt: HostRuntime) {
     assert_range(
         &a,
         alloc,
-        7u16,
-        (b"0", 0),
-        (b"65535", 65535),
-        [b"-1", b"65536"],
-    );
-    assert_range(
-        &a,
-        alloc,
-        7u32,
-        (b"0", 0),
-        (b"4294967295", 4294967295),
-        [b"-1", b"4294967296"],
-    );
-    assert_range(
-        &a,
-        alloc,
         7u64,
         (b"0", 0),
         (b"18446744073709551615", u64::MAX),
-        [b"-1", b"18446744073709551616"],
-    );
-    assert_range(
-        &a,
-        alloc,
-        7usize,
-        (b"0", 0),
-        (b"18446744073709551615", usize::MAX),
         [b"-1", b"18446744073709551616"],
     );
     assert_range(
@@ -281,11 +233,8 @@ fn numbers_past_a_range(rt: HostRuntime) {
     let a = Asserting(&rt);
     let alloc = rt.alloc();
     assert_converts::<u8>(&a, alloc, Given::Int(256), None);
-    assert_converts::<u8>(&a, alloc, Given::UInt(256), None);
     assert_converts::<u64>(&a, alloc, Given::Int(-1), None);
     assert_converts::<i64>(&a, alloc, Given::UInt(9223372036854775808), None);
-    assert_converts::<i8>(&a, alloc, Given::Int(-129), None);
-    assert_converts(&a, alloc, Given::Int(-128), Some(-128i8));
     assert_converts(&a, alloc, Given::UInt(u64::MAX), Some(u64::MAX));
     assert_converts(&a, alloc, Given::Int(i64::MIN), Some(i64::MIN));
 }
@@ -322,64 +271,48 @@ fn options_and_arrays(rt: HostRuntime) {
     assert_converts::<[u8; 2]>(&a, alloc, Given::Null, None);
 }
 
-/// Texts, and the nanoseconds of their durations.
-const DURATIONS: [(&[u8], u64); 10] = [
-    (b"838:59:59.500000", 3020399_500000000),
-    (b"00:00:00", 0),
-    (b"012:34:56", 45296_000000000),
-    (b"899:59:59", 3239999_000000000),
-    (b"99:59:59.1", 359999_100000000),
-    (b"00:00:01.02", 1_020000000),
-    (b"00:00:01.003", 1_003000000),
-    (b"00:00:01.0004", 1_000400000),
-    (b"00:00:01.00005", 1_000050000),
-    (b"00:00:01.000006", 1_000006000),
+/// Values, and the nanoseconds of their durations; none where they are no duration.
+const DURATIONS: [(Given, Option<u64>); 26] = [
+    (Given::Bytes(b"838:59:59.500000"), Some(3020399_500000000)),
+    (Given::Bytes(b"00:00:00"), Some(0)),
+    (Given::Bytes(b"012:34:56"), Some(45296_000000000)),
+    (Given::Bytes(b"899:59:59"), Some(3239999_000000000)),
+    (Given::Bytes(b"99:59:59.1"), Some(359999_100000000)),
+    (Given::Bytes(b"00:00:01.02"), Some(1_020000000)),
+    (Given::Bytes(b"00:00:01.003"), Some(1_003000000)),
+    (Given::Bytes(b"00:00:01.0004"), Some(1_000400000)),
+    (Given::Bytes(b"00:00:01.00005"), Some(1_000050000)),
+    (Given::Bytes(b"00:00:01.000006"), Some(1_000006000)),
+    (Given::Bytes(b"900:00:00"), None),
+    (Given::Bytes(b"00:00:01.0000070"), None),
+    (Given::Bytes(b"00:00:01."), None),
+    (Given::Bytes(b"00:00:01,5"), None),
+    (Given::Bytes(b"-01:00:00"), None),
+    (Given::Bytes(b"1:00:00"), None),
+    (Given::Bytes(b"12:60:00"), None),
+    (Given::Bytes(b"12:00:60"), None),
+    (Given::Bytes(b"12:34"), None),
+    (Given::Bytes(b"12:"), None),
+    (Given::Bytes(b""), None),
+    (Given::Time(false, 0, 0, 0, 0, 0), Some(0)),
+    (
+        Given::Time(false, 34, 22, 59, 59, 999999),
+        Some(3020399_999999000),
+    ),
+    (Given::Time(true, 0, 0, 0, 1, 0), None),
+    (Given::Time(true, 0, 0, 0, 0, 0), None),
+    (Given::Int(5), None),
 ];
 
-#[test]
-fn durations_of_texts(rt: HostRuntime) {
-    for (text, nanos) in DURATIONS {
-        let wanted = Some(Duration::from_nanos(nanos));
-        assert_converts(&Asserting(&rt), rt.alloc(), Given::Bytes(text), wanted);
-    }
-}
-
-/// Texts that are no duration.
-const NO_DURATIONS: [&[u8]; 11] = [
-    b"900:00:00",
-    b"00:00:01.0000070",
-    b"00:00:01.",
-    b"00:00:01,5",
-    b"-01:00:00",
-    b"1:00:00",
-    b"12:60:00",
-    b"12:00:60",
-    b"12:34",
-    b"12:",
-    b"",
-];
-
-#[test]
-fn texts_that_are_no_duration(rt: HostRuntime) {
-    for text in NO_DURATIONS {
-        assert_converts::<Duration>(&Asserting(&rt), rt.alloc(), Given::Bytes(text), None);
-    }
+fn duration(nanos: Option<u64>) -> Option<Duration> {
+    Some(Duration::from_nanos(nanos?))
 }
 
 #[test]
-fn durations_of_times(rt: HostRuntime) {
-    let a = Asserting(&rt);
-    let alloc = rt.alloc();
-    let zero = Given::Time(false, 0, 0, 0, 0, 0);
-    assert_converts(&a, alloc, zero, Some(Duration::from_nanos(0)));
-    let time = Given::Time(false, 34, 22, 59, 59, 999999);
-    let wanted = Duration::from_nanos(3020399_999999000);
-    assert_converts(&a, alloc, time, Some(wanted));
-    let negative = Given::Time(true, 0, 0, 0, 1, 0);
-    assert_converts::<Duration>(&a, alloc, negative, None);
-    let negative = Given::Time(true, 0, 0, 0, 0, 0);
-    assert_converts::<Duration>(&a, alloc, negative, None);
-    assert_converts::<Duration>(&a, alloc, Given::Int(5), None);
+fn durations(rt: HostRuntime) {
+    for (given, nanos) in DURATIONS {
+        assert_converts(&Asserting(&rt), rt.alloc(), given, duration(nanos));
+    }
 }
 
 /// No field of a time is checked. This one's duration has no value of its own, and undoing the conversion gives the time.
@@ -400,18 +333,36 @@ fn assert_undone<T: FromValue>(assert: &impl Assert, alloc: Global, given: Given
     drop(again);
 }
 
-/// Asserts the bytes that a value holds.
-fn assert_holds_bytes<T: FromValue + AsSlice<u8> + Drop>(
+type CowText = CowStr<'static, Global>;
+
+type CowBytes = CowSlice<'static, u8, Global>;
+
+/// Values, and the bytes and the text that they hold.
+const TEXTS: [(Given, Option<&[u8]>, Option<&[u8]>); 6] = [
+    (
+        Given::Bytes(b"h\xc3\xa9"),
+        Some(b"h\xc3\xa9"),
+        Some(b"h\xc3\xa9"),
+    ),
+    (Given::Bytes(b""), Some(b""), Some(b"")),
+    (Given::Bytes(b"\xff"), Some(b"\xff"), None),
+    (Given::Bytes(b"a\xff"), Some(b"a\xff"), None),
+    (Given::Int(5), None, None),
+    (Given::Null, None, None),
+];
+
+/// Asserts the bytes that were found in a value.
+fn assert_found<T: AsSlice<u8> + Drop>(
     assert: &impl Assert,
     alloc: Global,
+    found: Result<T, FromValueError>,
     given: Given,
     wanted: Option<&[u8]>,
 ) {
-    match from_value_opt::<T>(made(assert, alloc, given)) {
+    match found {
         Ok(bytes) => {
             assert.holds(Some(bytes.as_slice()) == wanted);
             drop(bytes);
-            assert_undone::<T>(assert, alloc, given);
         }
         Err(error) => {
             assert.holds(wanted.is_none());
@@ -420,35 +371,19 @@ fn assert_holds_bytes<T: FromValue + AsSlice<u8> + Drop>(
     }
 }
 
-type CowText = CowStr<'static, Global>;
-
-type CowBytes = CowSlice<'static, u8, Global>;
-
-/// Values, and the bytes and the text that they hold.
-const TEXTS: [(Given, Option<&[u8]>, Option<&[u8]>); 5] = [
-    (
-        Given::Bytes(b"h\xc3\xa9"),
-        Some(b"h\xc3\xa9"),
-        Some(b"h\xc3\xa9"),
-    ),
-    (Given::Bytes(b""), Some(b""), Some(b"")),
-    (Given::Bytes(b"a\xff"), Some(b"a\xff"), None),
-    (Given::Int(5), None, None),
-    (Given::Null, None, None),
-];
-
-/// Asserts the bytes that a value holds, by a type that may borrow.
-fn assert_holds_cow(assert: &impl Assert, alloc: Global, given: Given, wanted: Option<&[u8]>) {
-    match from_value_opt::<CowBytes>(made(assert, alloc, given)) {
-        Ok(bytes) => {
-            assert.holds(Some(bytes.as_slice()) == wanted);
-            drop(bytes);
-            assert_undone::<CowBytes>(assert, alloc, given);
-        }
-        Err(error) => {
-            assert.holds(wanted.is_none());
-            assert_handed_back(assert, alloc, error, given);
-        }
+/// Asserts the bytes that a value and a copy of it hold, and that the value is had again.
+fn assert_holds<T: FromValue + AsSlice<u8> + Drop>(
+    assert: &impl Assert,
+    alloc: Global,
+    given: Given,
+    wanted: Option<&[u8]>,
+) {
+    let found = from_value_opt::<T>(made(assert, alloc, given));
+    assert_found(assert, alloc, found, given, wanted);
+    let found = converted_copy::<T>(assert, alloc, given);
+    assert_found(assert, alloc, found, given, wanted);
+    if wanted.is_some() {
+        assert_undone::<T>(assert, alloc, given);
     }
 }
 
@@ -467,41 +402,13 @@ fn assert_holds_text(assert: &impl Assert, alloc: Global, given: Given, wanted: 
     }
 }
 
-/// Asserts the bytes that a copy of a value holds.
-fn assert_copy_holds<T: FromValue + AsSlice<u8> + Drop>(
-    assert: &impl Assert,
-    alloc: Global,
-    given: Given,
-    wanted: Option<&[u8]>,
-) {
-    match converted_copy::<T>(assert, alloc, given) {
-        Ok(bytes) => {
-            assert.holds(Some(bytes.as_slice()) == wanted);
-            drop(bytes);
-        }
-        Err(error) => {
-            assert.holds(wanted.is_none());
-            assert_handed_back(assert, alloc, error, given);
-        }
-    }
-}
-
-#[test]
-fn texts_that_copies_hold(rt: HostRuntime) {
-    let assert = Asserting(&rt);
-    for (given, bytes, text) in TEXTS {
-        assert_copy_holds::<Vec<u8>>(&assert, rt.alloc(), given, bytes);
-        assert_copy_holds::<String>(&assert, rt.alloc(), given, text);
-    }
-}
-
 #[test]
 fn texts_that_values_hold(rt: HostRuntime) {
     let assert = Asserting(&rt);
     for (given, bytes, text) in TEXTS {
-        assert_holds_bytes::<Vec<u8>>(&assert, rt.alloc(), given, bytes);
-        assert_holds_cow(&assert, rt.alloc(), given, bytes);
-        assert_holds_bytes::<String>(&assert, rt.alloc(), given, text);
+        assert_holds::<Vec<u8>>(&assert, rt.alloc(), given, bytes);
+        assert_holds::<CowBytes>(&assert, rt.alloc(), given, bytes);
+        assert_holds::<String>(&assert, rt.alloc(), given, text);
         assert_holds_text(&assert, rt.alloc(), given, text);
     }
 }
@@ -514,24 +421,10 @@ fn values_that_values_hold(rt: HostRuntime) {
         let value = from_value::<Value>(made(&assert, rt.alloc(), given));
         assert_value(&assert, rt.alloc(), &value, given);
         drop(value);
-        let again = undone::<Value>(&assert, rt.alloc(), given);
-        assert_value(&assert, rt.alloc(), &again, given);
-        drop(again);
-        assert_copied(&assert, rt.alloc(), given);
-    }
-}
-
-/// Asserts that a copy of a value is that value.
-fn assert_copied(assert: &impl Assert, alloc: Global, given: Given) {
-    match converted_copy::<Value>(assert, alloc, given) {
-        Ok(copy) => {
-            assert_value(assert, alloc, &copy, given);
-            drop(copy);
-        }
-        Err(error) => {
-            assert.holds(false);
-            assert_handed_back(assert, alloc, error, given);
-        }
+        assert_undone::<Value>(&assert, rt.alloc(), given);
+        let copy = converted_copy::<Value>(&assert, rt.alloc(), given);
+        let wanted = Some(made(&assert, rt.alloc(), given));
+        assert_answer_is(&assert, rt.alloc(), copy, given, wanted);
     }
 }
 
@@ -620,12 +513,10 @@ fn values_of_lent_texts(rt: HostRuntime) {
 #[test]
 fn values_of_owned_texts(rt: HostRuntime) {
     let a = Asserting(&rt);
-    let first = String::from_str(rt.alloc(), "ab");
-    let text = once_more(&a, first, String::from_str(rt.alloc(), "ab"));
-    assert_gives(&a, rt.alloc(), text, Given::Bytes(b"ab"));
-    let first = Vec::from_slice(rt.alloc(), b"ab");
-    let bytes = once_more(&a, first, Vec::from_slice(rt.alloc(), b"ab"));
-    assert_gives(&a, rt.alloc(), bytes, Given::Bytes(b"ab"));
+    let alloc = rt.alloc();
+    let ab = Given::Bytes(b"ab");
+    assert_gives(&a, alloc, string(&a, alloc, "ab"), ab);
+    assert_gives(&a, alloc, copied(&a, alloc, b"ab"), ab);
 }
 
 /// Numbers that a command carries, and the values that are sent for them.
@@ -645,8 +536,7 @@ fn values_of_contents(rt: HostRuntime) {
     for (number, wanted) in CARRIED {
         assert_gives(&a, alloc, Content::Number(number), wanted);
     }
-    let first = ByteString::copy(alloc, b"ab");
-    let bytes = once_more(&a, first, ByteString::copy(alloc, b"ab"));
+    let bytes = byte_string(&a, alloc, b"ab");
     assert_gives(&a, alloc, Content::Bytes(bytes), Given::Bytes(b"ab"));
 }
 

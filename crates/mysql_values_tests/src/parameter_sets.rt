@@ -3,55 +3,42 @@
 ghost use Rattle.std.specs.Prelude.{Some};
 ghost use Rattle.mysql_values.specs.Value.TheVariants.{UInt};
 
-use crate::support::{Asserting, Given, Set, assert_value, made_set};
+use crate::support::{Asserting, Given, Set, byte_string, copied, made_set, string};
 use mysql_convert::{IntoParams, SetError, ToValue, ToValueError};
-use mysql_values::{
-    BindError, ByteString, Params, ParamsConfusionError, ParamsError, ParsedNamedParams, Value,
-    bind_text,
-};
-use std::alloc::{AllocError, Global};
+use mysql_values::Value;
+use std::alloc::Global;
 use std::time::Duration;
-use tests_support::{Assert, assert_answer, assert_bytes, assert_equal, assert_same, once_more};
+use tests_support::{Assert, assert_answer, assert_equal, once_more};
 
-/// The set that is made, by reference and by value.
-fn sets_of<P: IntoParams>(assert: &impl Assert, alloc: Global, from: P) -> (Params, Params) {
+/// Asserts the set that is made, by reference and by value.
+fn assert_makes<P: IntoParams>(assert: &impl Assert, alloc: Global, from: P, wanted: Set) {
     let lent = once_more(assert, from.to_params(alloc), from.to_params(alloc));
+    assert_equal(assert, lent, made_set(assert, alloc, wanted));
     let again = (&from).into_params(alloc);
     let owned = once_more(assert, from.into_params(alloc), again);
-    (lent, owned)
+    assert_equal(assert, owned, made_set(assert, alloc, wanted));
 }
 
-/// Asserts the set that is made.
-fn assert_makes<P: IntoParams>(assert: &impl Assert, alloc: Global, from: P, wanted: Set) {
-    let (lent, owned) = sets_of(assert, alloc, from);
-    let wanted = made_set(assert, alloc, wanted);
-    assert_same(assert, &lent, &wanted);
-    assert_same(assert, &owned, &wanted);
-    drop(lent);
-    drop(owned);
-    drop(wanted);
-}
-
-/// Asserts that the values of a set count up from 1.
-fn assert_counts(assert: &impl Assert, alloc: Global, set: &Params, count: i64) {
-    match set {
-        Params::Positional(values) => {
-            assert.holds(values.len() as i64 == count);
-            for (place, value) in values.iter().enumerate() {
-                assert_value(assert, alloc, value, Given::Int(place as i64 + 1));
-            }
-        }
-        _ => assert.holds(false),
-    }
-}
+/// Numbers that count up from 1.
+const NUMBERS: &[Given] = &[
+    Given::Int(1),
+    Given::Int(2),
+    Given::Int(3),
+    Given::Int(4),
+    Given::Int(5),
+    Given::Int(6),
+    Given::Int(7),
+    Given::Int(8),
+    Given::Int(9),
+    Given::Int(10),
+    Given::Int(11),
+    Given::Int(12),
+];
 
 /// Asserts that what is made is a list that counts up from 1.
-fn assert_count<P: IntoParams>(assert: &impl Assert, alloc: Global, from: P, count: i64) {
-    let (lent, owned) = sets_of(assert, alloc, from);
-    assert_counts(assert, alloc, &lent, count);
-    assert_counts(assert, alloc, &owned, count);
-    drop(lent);
-    drop(owned);
+fn assert_count<P: IntoParams>(assert: &impl Assert, alloc: Global, from: P, count: usize) {
+    let wanted = NUMBERS.get(..count).unwrap_or(&[]);
+    assert_makes(assert, alloc, from, Set::List(wanted));
 }
 
 const MIXED: Set = Set::List(&[Given::Int(1), Given::Bytes(b"x"), Given::Null]);
@@ -81,10 +68,6 @@ fn tuples(rt: HostRuntime) {
     assert_makes(&a, alloc, (1i64, "x", Option::<u8>::None), MIXED);
 }
 
-fn list(alloc: Global, numbers: &[u8]) -> Result<Vec<u8>, AllocError> {
-    Vec::from_slice(alloc, numbers)
-}
-
 const BOOLEANS: Set = Set::List(&[Given::Int(1), Given::Int(0)]);
 
 #[test]
@@ -94,29 +77,8 @@ fn lists(rt: HostRuntime) {
     assert_makes(&a, alloc, [true, false].as_slice(), BOOLEANS);
     let none: [bool; 0] = [];
     assert_makes(&a, alloc, none.as_slice(), Set::Empty);
-    let numbers = once_more(&a, list(alloc, &[1, 2, 3]), list(alloc, &[1, 2, 3]));
-    assert_count(&a, alloc, numbers, 3);
-    let numbers = once_more(&a, list(alloc, &[]), list(alloc, &[]));
-    assert_makes(&a, alloc, numbers, Set::Empty);
-}
-
-fn pairs(
-    alloc: Global,
-    given: &[(&'static str, u8)],
-) -> Result<Vec<(&'static str, u8)>, AllocError> {
-    let mut pairs = Vec::new(alloc);
-    for pair in given {
-        pairs.push(*pair)?;
-    }
-    Ok(pairs)
-}
-
-fn made_pairs(
-    assert: &impl Assert,
-    alloc: Global,
-    given: &[(&'static str, u8)],
-) -> Vec<(&'static str, u8)> {
-    once_more(assert, pairs(alloc, given), pairs(alloc, given))
+    assert_count(&a, alloc, copied(&a, alloc, &[1u8, 2, 3]), 3);
+    assert_makes(&a, alloc, copied::<u8>(&a, alloc, &[]), Set::Empty);
 }
 
 const TWO: Set = Set::Named(&[(b"a", Given::Int(1)), (b"b", Given::Int(2))]);
@@ -127,9 +89,9 @@ const NO_NAMES: Set = Set::Named(&[]);
 fn names(rt: HostRuntime) {
     let a = Asserting(&rt);
     let alloc = rt.alloc();
-    let from = made_pairs(&a, alloc, &[("b", 2), ("a", 1)]);
+    let from = copied(&a, alloc, &[("b", 2u8), ("a", 1)]);
     assert_makes(&a, alloc, from, TWO);
-    let from = made_pairs(&a, alloc, &[]);
+    let from = copied::<(&'static str, u8)>(&a, alloc, &[]);
     assert_makes(&a, alloc, from, NO_NAMES);
 }
 
@@ -145,31 +107,17 @@ fn assert_makes_none<P: IntoParams>(
     assert_answer(assert, first, second, Some(SetError::Memory), Some(wanted));
 }
 
-fn redefined(assert: &impl Assert, alloc: Global, name: &[u8]) -> SetError {
-    let first = ByteString::copy(alloc, name);
-    SetError::Redefined(once_more(assert, first, ByteString::copy(alloc, name)))
-}
-
 /// The first name that an earlier pair has, also where a name behind it comes twice.
 #[test]
 fn names_given_twice(rt: HostRuntime) {
     let a = Asserting(&rt);
     let alloc = rt.alloc();
-    let from = made_pairs(&a, alloc, &[("a", 1), ("a", 2)]);
-    assert_makes_none(&a, alloc, from, redefined(&a, alloc, b"a"));
-    let from = made_pairs(&a, alloc, &[("a", 1), ("b", 2), ("b", 3), ("a", 4)]);
-    assert_makes_none(&a, alloc, from, redefined(&a, alloc, b"b"));
-}
-
-fn long_pairs(
-    alloc: Global,
-    names: [&'static str; 3],
-) -> Result<Vec<(&'static str, Duration)>, AllocError> {
-    let mut pairs = Vec::new(alloc);
-    pairs.push((names[0], Duration::new(1, 0)))?;
-    pairs.push((names[1], Duration::new(u64::MAX, 0)))?;
-    pairs.push((names[2], Duration::new(u64::MAX, 0)))?;
-    Ok(pairs)
+    let from = copied(&a, alloc, &[("a", 1u8), ("a", 2)]);
+    let wanted = SetError::Redefined(byte_string(&a, alloc, b"a"));
+    assert_makes_none(&a, alloc, from, wanted);
+    let from = copied(&a, alloc, &[("a", 1u8), ("b", 2), ("b", 3), ("a", 4)]);
+    let wanted = SetError::Redefined(byte_string(&a, alloc, b"b"));
+    assert_makes_none(&a, alloc, from, wanted);
 }
 
 /// Durations without a value: the least place; but a name given twice comes first.
@@ -188,12 +136,11 @@ fn values_too_long(rt: HostRuntime) {
     assert_makes_none(&a, alloc, (1u8, "x", long, long), SetError::TooLong(2));
     let behind = (1u8, 2u8, 3u8, 4u8, 5u8, 6u8, 7u8, Some(long));
     assert_makes_none(&a, alloc, behind, SetError::TooLong(7));
-    let names = ["a", "b", "c"];
-    let from = once_more(&a, long_pairs(alloc, names), long_pairs(alloc, names));
+    let from = copied(&a, alloc, &[("a", short), ("b", long), ("c", long)]);
     assert_makes_none(&a, alloc, from, SetError::TooLong(1));
-    let names = ["a", "b", "a"];
-    let from = once_more(&a, long_pairs(alloc, names), long_pairs(alloc, names));
-    assert_makes_none(&a, alloc, from, redefined(&a, alloc, b"a"));
+    let from = copied(&a, alloc, &[("a", short), ("b", long), ("a", long)]);
+    let wanted = SetError::Redefined(byte_string(&a, alloc, b"a"));
+    assert_makes_none(&a, alloc, from, wanted);
 }
 
 /// A type of this crate that converts to a number.
@@ -208,14 +155,6 @@ impl ToValue for Id {
     }
 }
 
-fn text(assert: &impl Assert, alloc: Global) -> String {
-    once_more(
-        assert,
-        String::from_str(alloc, "x"),
-        String::from_str(alloc, "x"),
-    )
-}
-
 fn boxed<T: Drop>(assert: &impl Assert, alloc: Global, first: T, second: T) -> Box<T> {
     once_more(assert, Box::new(alloc, first), Box::new(alloc, second))
 }
@@ -228,61 +167,9 @@ fn boxed_objects(rt: HostRuntime) {
     let alloc = rt.alloc();
     let objects: [Box<dyn ToValue + Drop>; 3] = [
         boxed(&a, alloc, Id(7), Id(7)),
-        boxed(&a, alloc, text(&a, alloc), text(&a, alloc)),
+        boxed(&a, alloc, string(&a, alloc, "x"), string(&a, alloc, "x")),
         boxed(&a, alloc, Option::<i8>::None, None),
     ];
     assert_makes(&a, alloc, objects.as_slice(), OBJECTS);
     drop(objects);
-}
-
-fn parsed<'a>(assert: &impl Assert, alloc: Global, query: &'a [u8]) -> ParsedNamedParams<'a> {
-    let first = ParsedNamedParams::parse(alloc, query);
-    once_more(assert, first, ParsedNamedParams::parse(alloc, query))
-}
-
-/// Asserts that a set is of the other kind than the query's placeholders.
-fn assert_confuses<P: IntoParams>(
-    assert: &impl Assert,
-    alloc: Global,
-    query: &[u8],
-    from: P,
-    confusion: ParamsConfusionError,
-) {
-    let query = parsed(assert, alloc, query);
-    let (lent, owned) = sets_of(assert, alloc, from);
-    drop(lent);
-    let refused = owned.values_for(alloc, &query).err();
-    assert_equal(assert, refused, Some(ParamsError::Confusion(confusion)));
-    drop(owned);
-    drop(query);
-}
-
-#[test]
-fn sets_of_the_other_kind(rt: HostRuntime) {
-    let a = Asserting(&rt);
-    let alloc = rt.alloc();
-    let named = made_pairs(&a, alloc, &[("a", 1)]);
-    let confusion = ParamsConfusionError::NamedParamsForPositionalQuery;
-    assert_confuses(&a, alloc, b"SELECT ?", named, confusion);
-    let confusion = ParamsConfusionError::PositionalParamsForNamedQuery;
-    assert_confuses(&a, alloc, b"SELECT :a", (1u8,), confusion);
-}
-
-/// The text of a query with the values of a set.
-fn bound(alloc: Global, params: &Params) -> Result<Vec<u8>, BindError> {
-    let mut text = Vec::new(alloc);
-    bind_text(alloc, b"CALL log(?, ?, ?)", params, &mut text)?;
-    Ok(text)
-}
-
-#[test]
-fn a_tuple_is_bound(rt: HostRuntime) {
-    let a = Asserting(&rt);
-    let alloc = rt.alloc();
-    let values = (7u64, "it's", Some(Duration::from_millis(1500)));
-    let params = once_more(&a, values.to_params(alloc), values.into_params(alloc));
-    let text = once_more(&a, bound(alloc, &params), bound(alloc, &params));
-    drop(params);
-    assert_bytes(&a, &text, b"CALL log(7, 'it\\'s', '000:00:01.500000')");
-    drop(text);
 }

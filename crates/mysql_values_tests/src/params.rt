@@ -1,41 +1,26 @@
 //! The values that a set gives a query.
 
-use crate::support::{Asserting, Given, Set, assert_value, made_set};
-use mysql_values::{
-    ByteString, MissingNamedParameterError, Params, ParamsConfusionError, ParamsError,
-    ParsedNamedParams, Value,
-};
+use crate::support::{Asserting, Given, Set, assert_value, byte_string, made_set, parsed};
+use mysql_values::{MissingNamedParameterError, Params, ParamsConfusionError, ParamsError, Value};
 use std::alloc::{AllocError, Global};
-use tests_support::{Assert, assert_answer, assert_copied, once_more};
+use tests_support::{Assert, assert_answer, assert_copied, assert_equal, once_more};
 
-fn copied(alloc: Global, names: &[&[u8]]) -> Result<Vec<Vec<u8>>, AllocError> {
-    let mut copies = Vec::new(alloc);
+fn copies(alloc: Global, names: &[&[u8]]) -> Result<Vec<Vec<u8>>, AllocError> {
+    let mut made = Vec::new(alloc);
     for name in names {
-        copies.push(Vec::from_slice(alloc, name)?)?;
+        made.push(Vec::from_slice(alloc, name)?)?;
     }
-    Ok(copies)
+    Ok(made)
 }
 
 fn made_names(assert: &impl Assert, alloc: Global, names: &[&[u8]]) -> Vec<Vec<u8>> {
-    once_more(assert, copied(alloc, names), copied(alloc, names))
-}
-
-fn parsed<'a>(assert: &impl Assert, alloc: Global, query: &'a [u8]) -> ParsedNamedParams<'a> {
-    let first = ParsedNamedParams::parse(alloc, query);
-    once_more(assert, first, ParsedNamedParams::parse(alloc, query))
+    once_more(assert, copies(alloc, names), copies(alloc, names))
 }
 
 fn assert_lent(assert: &impl Assert, alloc: Global, values: &[&Value], wanted: &[Given]) {
     assert.holds(values.len() == wanted.len());
     for (value, given) in values.iter().zip(wanted.iter()) {
         assert_value(assert, alloc, *value, *given);
-    }
-}
-
-fn assert_values(assert: &impl Assert, alloc: Global, values: &[Value], wanted: &[Given]) {
-    assert.holds(values.len() == wanted.len());
-    for (value, given) in values.iter().zip(wanted.iter()) {
-        assert_value(assert, alloc, value, *given);
     }
 }
 
@@ -53,32 +38,23 @@ fn assert_lends(assert: &impl Assert, alloc: Global, query: &[u8], set: Set, wan
 }
 
 /// Asserts the values that a set gives these names.
-fn assert_gives(assert: &impl Assert, alloc: Global, names: &[&[u8]], set: Set, wanted: &[Given]) {
+fn assert_gives(assert: &impl Assert, alloc: Global, names: &[&[u8]], set: Set, wanted: Set) {
     let names = made_names(assert, alloc, names);
     let first = made_set(assert, alloc, set).into_values(alloc, Some(names.as_slice()));
     let second = made_set(assert, alloc, set).into_values(alloc, Some(names.as_slice()));
     drop(names);
-    let values = once_more(assert, first, second);
-    assert_values(assert, alloc, values.as_slice(), wanted);
-    drop(values);
-}
-
-fn assert_list(assert: &impl Assert, alloc: Global, params: &Params, wanted: &[Given]) {
-    match params {
-        Params::Positional(values) => assert_values(assert, alloc, values.as_slice(), wanted),
-        _ => assert.holds(false),
-    }
+    let found = Params::Positional(once_more(assert, first, second));
+    assert_equal(assert, found, made_set(assert, alloc, wanted));
 }
 
 /// Asserts the list of the values that a set gives these names.
-fn assert_places(assert: &impl Assert, alloc: Global, names: &[&[u8]], set: Set, wanted: &[Given]) {
+fn assert_places(assert: &impl Assert, alloc: Global, names: &[&[u8]], set: Set, wanted: Set) {
     let names = made_names(assert, alloc, names);
     let first = made_set(assert, alloc, set).into_positional(alloc, names.as_slice());
     let second = made_set(assert, alloc, set).into_positional(alloc, names.as_slice());
     drop(names);
-    let params = once_more(assert, first, second);
-    assert_list(assert, alloc, &params, wanted);
-    drop(params);
+    let found = once_more(assert, first, second);
+    assert_equal(assert, found, made_set(assert, alloc, wanted));
 }
 
 /// Queries, their names, sets, and the values that they give.
@@ -103,8 +79,8 @@ fn values_given(rt: HostRuntime) {
     let assert = Asserting(&rt);
     for (query, names, set, wanted) in GIVEN {
         assert_lends(&assert, rt.alloc(), query, set, wanted);
-        assert_gives(&assert, rt.alloc(), names, set, wanted);
-        assert_places(&assert, rt.alloc(), names, set, wanted);
+        assert_gives(&assert, rt.alloc(), names, set, Set::List(wanted));
+        assert_places(&assert, rt.alloc(), names, set, Set::List(wanted));
     }
 }
 
@@ -115,12 +91,12 @@ enum Cause {
     Confusion(ParamsConfusionError),
 }
 
-fn error(alloc: Global, cause: Cause) -> Result<ParamsError, AllocError> {
+fn error(assert: &impl Assert, alloc: Global, cause: Cause) -> ParamsError {
     match cause {
         Cause::Missing(name) => {
-            Ok(ParamsError::Missing(MissingNamedParameterError(ByteString::copy(alloc, name)?)))
+            ParamsError::Missing(MissingNamedParameterError(byte_string(assert, alloc, name)))
         }
-        Cause::Confusion(confusion) => Ok(ParamsError::Confusion(confusion)),
+        Cause::Confusion(confusion) => ParamsError::Confusion(confusion),
     }
 }
 
@@ -131,14 +107,8 @@ fn assert_error(
     second: Option<ParamsError>,
     cause: Cause,
 ) {
-    let wanted = once_more(assert, error(alloc, cause), error(alloc, cause));
-    assert_answer(
-        assert,
-        first,
-        second,
-        Some(ParamsError::Memory),
-        Some(wanted),
-    );
+    let wanted = Some(error(assert, alloc, cause));
+    assert_answer(assert, first, second, Some(ParamsError::Memory), wanted);
 }
 
 /// Asserts why a set gives a query with these names no values.

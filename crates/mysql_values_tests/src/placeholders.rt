@@ -1,8 +1,7 @@
 //! Placeholders of a query, and the query as it is parsed.
 
-use crate::support::Asserting;
+use crate::support::{Asserting, parsed};
 use mysql_values::{MixedParamsError, NamedParamsError, ParsedNamedParams, Place, places};
-use std::borrow::CowSlice;
 use tests_support::{Assert, assert_answer, assert_bytes, once_more};
 
 /// Start, end, whether a name, whether it stands alone.
@@ -58,13 +57,6 @@ const PARSED: [(&[u8], &[u8], &[&[u8]]); 4] = [
     (b"? ?", b"? ?", &[]),
 ];
 
-fn assert_names(assert: &impl Assert, names: &[CowSlice<'_, u8>], wanted: &[&[u8]]) {
-    assert.holds(names.len() == wanted.len());
-    for (name, expected) in names.iter().zip(wanted.iter()) {
-        assert_bytes(assert, name.as_slice(), expected);
-    }
-}
-
 fn assert_parsed(
     assert: &impl Assert,
     found: &ParsedNamedParams<'_>,
@@ -72,20 +64,21 @@ fn assert_parsed(
     names: &[&[u8]],
 ) {
     assert_bytes(assert, found.query(), query);
-    assert_names(assert, found.params(), names);
+    assert.holds(found.params().len() == names.len());
+    for (name, expected) in found.params().iter().zip(names.iter()) {
+        assert_bytes(assert, name.as_slice(), expected);
+    }
 }
 
 #[test]
 fn parsed_queries(rt: HostRuntime) {
     let assert = Asserting(&rt);
-    for (query, parsed, names) in PARSED {
-        let first = ParsedNamedParams::parse(rt.alloc(), query);
-        let second = ParsedNamedParams::parse(rt.alloc(), query);
-        let found = once_more(&assert, first, second);
-        assert_parsed(&assert, &found, parsed, names);
+    for (query, marked, names) in PARSED {
+        let found = parsed(&assert, rt.alloc(), query);
+        assert_parsed(&assert, &found, marked, names);
         let copy = once_more(&assert, found.clone(rt.alloc()), found.clone(rt.alloc()));
         drop(found);
-        assert_parsed(&assert, &copy, parsed, names);
+        assert_parsed(&assert, &copy, marked, names);
         drop(copy);
     }
 }

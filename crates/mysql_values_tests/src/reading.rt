@@ -8,24 +8,20 @@ use tests_support::{Assert, once_more};
 
 const QUERY: &[u8] = b"SELECT :a, :b";
 
-/// Texts, and the contents that they carry.
-const TEXTS: [(&[u8], [Want; 2]); 3] = [
+/// Texts, and the contents that they carry; none where they carry no two literals of the query.
+const TEXTS: [(&[u8], Option<&[Want]>); 9] = [
     (
         b"SELECT 'x, ', 'y'",
-        [Want::Bytes(b"x, "), Want::Bytes(b"y")],
+        Some(&[Want::Bytes(b"x, "), Want::Bytes(b"y")]),
     ),
-    (b"SELECT nUlL, 0x4a", [Want::Null, Want::Bytes(b"J")]),
-    (b"SELECT 1, 2", [Want::Number(1), Want::Number(2)]),
-];
-
-/// Texts that carry no two literals of the query.
-const OTHERS: [&[u8]; 6] = [
-    b"SELECT +5, 1",
-    b"SELECT  1, 2",
-    b"SELECT 18446744073709551616, 1",
-    b"SELECT 1, 2 ",
-    b"SELECT 1, ",
-    b"",
+    (b"SELECT nUlL, 0x4a", Some(&[Want::Null, Want::Bytes(b"J")])),
+    (b"SELECT 1, 2", Some(&[Want::Number(1), Want::Number(2)])),
+    (b"SELECT +5, 1", None),
+    (b"SELECT  1, 2", None),
+    (b"SELECT 18446744073709551616, 1", None),
+    (b"SELECT 1, 2 ", None),
+    (b"SELECT 1, ", None),
+    (b"", None),
 ];
 
 /// What a text is read as.
@@ -46,31 +42,22 @@ fn assert_contents(assert: &impl Assert, contents: &[Content], wanted: &[Want]) 
     }
 }
 
-fn assert_carries(assert: &impl Assert, found: Option<Vec<Content>>, wanted: &[Want]) {
+fn assert_carries(assert: &impl Assert, found: Option<Vec<Content>>, wanted: Option<&[Want]>) {
     match found {
         Some(contents) => {
-            assert_contents(assert, contents.as_slice(), wanted);
+            assert.holds(wanted.is_some());
+            assert_contents(assert, contents.as_slice(), wanted.unwrap_or(&[]));
             drop(contents);
         }
-        None => assert.holds(false),
+        None => assert.holds(wanted.is_none()),
     }
 }
 
 #[test]
-fn foreign_texts(rt: HostRuntime) {
+fn texts_of_others(rt: HostRuntime) {
     let assert = Asserting(&rt);
     for (text, wanted) in TEXTS {
         let found = once_more(&assert, read(rt.alloc(), text), read(rt.alloc(), text));
-        assert_carries(&assert, found, &wanted);
-    }
-}
-
-#[test]
-fn other_texts(rt: HostRuntime) {
-    let assert = Asserting(&rt);
-    for text in OTHERS {
-        let found = once_more(&assert, read(rt.alloc(), text), read(rt.alloc(), text));
-        assert.holds(found.is_none());
-        drop(found);
+        assert_carries(&assert, found, wanted);
     }
 }

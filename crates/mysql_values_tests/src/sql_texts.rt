@@ -1,9 +1,9 @@
 //! SQL texts of values, and what values mean.
 
 use crate::support::{Asserting, Given, Want, made, meets};
-use mysql_values::{AsSqlError, Content, Value};
+use mysql_values::{Content, Value};
 use std::alloc::Global;
-use tests_support::{Assert, assert_answer, assert_copied, once_more};
+use tests_support::{Assert, assert_copied, once_more};
 
 /// Values, and their texts: with backslash escapes, and without.
 const TEXTS: [(Given, &str, &str); 3] = [
@@ -44,19 +44,6 @@ fn sql_texts(rt: HostRuntime) {
     for (given, escaped, doubled) in TEXTS {
         assert_texts(&Asserting(&rt), rt.alloc(), given, escaped, doubled);
     }
-}
-
-#[test]
-fn no_text_of_a_float(rt: HostRuntime) {
-    let value = Value::Double(0);
-    assert_answer(
-        &Asserting(&rt),
-        value.as_sql(rt.alloc(), false).err(),
-        value.as_sql(rt.alloc(), false).err(),
-        Some(AsSqlError::Memory),
-        Some(AsSqlError::Float),
-    );
-    drop(value);
 }
 
 /// Values, and their contents.

@@ -5,7 +5,7 @@
 
 ghost use Rattle.std.specs.Prelude.{◌≡◌, true};
 
-use mysql_values::{ByteString, Content, Params, Value};
+use mysql_values::{ByteString, Content, Params, ParsedNamedParams, Value};
 use std::alloc::{AllocError, Global};
 use std::collections::HashMap;
 use std::process::Abort;
@@ -21,6 +21,30 @@ impl<R: Abort> Assert for Asserting<'_, R> {
     {
         assert!(self.0; is_so);
     }
+}
+
+/// A list of these items.
+pub fn copied<T: Copy + Drop>(assert: &impl Assert, alloc: Global, items: &[T]) -> Vec<T> {
+    let first = Vec::from_slice(alloc, items);
+    once_more(assert, first, Vec::from_slice(alloc, items))
+}
+
+/// This text, owned.
+pub fn string(assert: &impl Assert, alloc: Global, text: &str) -> String {
+    let first = String::from_str(alloc, text);
+    once_more(assert, first, String::from_str(alloc, text))
+}
+
+/// These bytes, owned.
+pub fn byte_string(assert: &impl Assert, alloc: Global, bytes: &[u8]) -> ByteString {
+    let first = ByteString::copy(alloc, bytes);
+    once_more(assert, first, ByteString::copy(alloc, bytes))
+}
+
+/// A query that is parsed.
+pub fn parsed<'a>(assert: &impl Assert, alloc: Global, query: &'a [u8]) -> ParsedNamedParams<'a> {
+    let first = ParsedNamedParams::parse(alloc, query);
+    once_more(assert, first, ParsedNamedParams::parse(alloc, query))
 }
 
 /// A value of a table.

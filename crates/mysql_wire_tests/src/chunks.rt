@@ -14,14 +14,6 @@ fn a_command_is_written(rt: HostRuntime) {
     assert_bytes(&assert, out.as_slice(), &SELECT_1);
 }
 
-#[test]
-fn numbers_written_go_on_past_255(rt: HostRuntime) {
-    let assert = Asserting(&rt);
-    let mut out = BytesMut::new(rt.alloc());
-    put_payload(&assert, 255, b"a", 0, &mut out);
-    assert_bytes(&assert, out.as_slice(), &[1, 0, 0, 255, 0x61]);
-}
-
 // Writes a payload that is within the limit.
 fn write(assert: &impl Assert, codec: &mut PacketCodec, payload: &[u8], out: &mut BytesMut) {
     let written = out.len();

@@ -18,7 +18,8 @@ use std::alloc::Global;
 use std::fmt::Debug;
 use std::test::*;
 use tests_support::{
-    Assert, assert_equal, assert_refused, assert_same, assert_written, first_of, once_more,
+    Assert, assert_equal, assert_reads_back, assert_same, assert_written, first_of, once_more,
+    whole,
 };
 
 /// The catalog's name after its length.
@@ -37,49 +38,14 @@ impl ConstBytesValue<4> for Catalog {
 /// Names a header.
 struct Header;
 
-// Asserts that the value whose number stands first, in a representation, is this one.
-fn assert_first<T: ConstValue + PartialEq + Debug + Drop, U: IntRepr<Primitive = T::Number>>(
-    assert: &impl Assert,
-    alloc: Global,
-    buf: &mut ParseBuf<'_>,
-    wanted: T,
-) {
-    assert_same(
-        assert,
-        &first_of::<Const<T, U>, ()>(assert, alloc, (), buf).0,
-        &wanted,
-    );
-}
-
 #[test]
-fn constants_written(rt: HostRuntime) {
+fn constants_read_back(rt: HostRuntime) {
     let assert = Asserting(&rt);
     let alloc = rt.alloc();
-    assert_written(&assert, alloc, &ConstU8::<Header, 0xfe>::new(), &[0xfe]);
-    assert_written(&assert, alloc, &ConstU32::<Header, 1>::new(), &[1, 0, 0, 0]);
-    assert_written(&assert, alloc, &Skip::<2>, &[0, 0]);
-    assert_written(&assert, alloc, &ConstBytes::<Catalog, 4>::new(), b"\x03def");
-}
-
-#[test]
-fn constants_read(rt: HostRuntime) {
-    let assert = Asserting(&rt);
-    let alloc = rt.alloc();
-    let mut buf = ParseBuf(&[0xfe, 9, 9, 1, 0, 0, 0]);
-    let _ = first_of::<ConstU8<Header, 0xfe>, ()>(&assert, alloc, (), &mut buf);
-    let _ = first_of::<Skip<2>, ()>(&assert, alloc, (), &mut buf);
-    assert_equal(&assert, buf.len(), 4);
-    let _ = first_of::<ConstU32<Header, 1>, ()>(&assert, alloc, (), &mut buf);
-    assert.holds(buf.is_empty());
-}
-
-#[test]
-fn other_constants(rt: HostRuntime) {
-    let assert = Asserting(&rt);
-    let alloc = rt.alloc();
-    let bad = WireError::BadConstant;
-    assert_refused::<ConstU32<Header, 2>, ()>(&assert, alloc, (), &[1, 0, 0, 0], bad);
-    assert_refused::<ConstBytes<Catalog, 4>, ()>(&assert, alloc, (), b"\x03dee", bad);
+    assert_reads_back::<ConstU8<Header, 0xfe>, ()>(&assert, alloc, (), &[0xfe]);
+    assert_reads_back::<ConstU32<Header, 1>, ()>(&assert, alloc, (), &[1, 0, 0, 0]);
+    assert_reads_back::<ConstBytes<Catalog, 4>, ()>(&assert, alloc, (), b"\x03def");
+    assert_reads_back::<Skip<2>, ()>(&assert, alloc, (), &[0, 0]);
 }
 
 /// A number of one byte or of two.
@@ -115,22 +81,15 @@ fn the_held_of_two(rt: HostRuntime) {
     assert_equal(&assert, right.unwrap_right(), 2);
 }
 
-// Whether representations are equal where what they hold is.
-fn numbers_are_compared() -> bool {
-    (RawInt::<LeU16>::new(5) == RawInt::new(5)) & (RawInt::<LeU16>::new(5) != RawInt::default())
-}
-
-// Whether constants are equal where what they hold is.
-fn constants_are_compared() -> bool {
-    (ConstU8::<Header, 1>::new() == ConstU8::default())
-        & (RawConst::<u8, Command>::new(14) != RawConst::default())
-        & (Const::<Command, u8>::new(Command::COM_PING).get() == Command::COM_PING)
-}
-
+// Representations are equal where what they hold is.
 #[test]
 fn representations_compared(rt: HostRuntime) {
-    let assert = Asserting(&rt);
-    assert.holds(numbers_are_compared() & constants_are_compared());
+    let are_compared = (RawInt::<LeU16>::new(5) == RawInt::new(5))
+        & (RawInt::<LeU16>::new(5) != RawInt::default())
+        & (ConstU8::<Header, 1>::new() == ConstU8::default())
+        & (RawConst::<u8, Command>::new(14) != RawConst::default())
+        & (Const::<Command, u8>::new(Command::COM_PING).get() == Command::COM_PING);
+    Asserting(&rt).holds(are_compared);
 }
 
 #[test]
@@ -144,37 +103,8 @@ fn flags_with_an_unknown_bit(rt: HostRuntime) {
     assert_equal(&assert, buf.len(), 1);
 }
 
-// Asserts of each place which value has the number that stands there.
-fn assert_value_at(assert: &impl Assert, alloc: Global, buf: &mut ParseBuf<'_>, place: usize) {
-    match place {
-        0 => assert_first::<Command, u8>(assert, alloc, buf, Command::COM_PING),
-        1 => assert_first::<ColumnType, u8>(assert, alloc, buf, ColumnType::MYSQL_TYPE_LONGLONG),
-        2 => assert_first::<GeometryType, u8>(assert, alloc, buf, GeometryType::GEOM_POINT),
-        3 => assert_first::<ItemResult, i8>(assert, alloc, buf, ItemResult::INVALID_RESULT),
-        4 => {
-            let tracked = SessionStateType::SESSION_TRACK_SCHEMA;
-            assert_first::<SessionStateType, u8>(assert, alloc, buf, tracked)
-        }
-        5 => {
-            let default = MariadbBulkIndicator::BULK_INDICATOR_DEFAULT;
-            assert_first::<MariadbBulkIndicator, u8>(assert, alloc, buf, default)
-        }
-        6 => assert_first::<BinlogDumpFlags, LeU16>(assert, alloc, buf, BinlogDumpFlags(5)),
-        _ => assert_first::<StatusFlags, LeU16>(assert, alloc, buf, StatusFlags(0x802)),
-    }
-}
-
-#[test]
-fn values_by_their_numbers(rt: HostRuntime) {
-    let mut buf = ParseBuf(&[14, 8, 1, 0xff, 1, 2, 5, 0, 2, 8, 9]);
-    for place in 0..8 {
-        assert_value_at(&Asserting(&rt), rt.alloc(), &mut buf, place);
-    }
-    Asserting(&rt).holds(buf.len() == 1);
-}
-
-// Asserts that a value is written by its number, in a representation.
-fn assert_by_number<T: ConstValue, U: IntRepr<Primitive = T::Number>>(
+// Asserts that a value in a representation is written as these bytes, and that they are read as it.
+fn assert_by_number<T: ConstValue + PartialEq + Debug + Drop, U: IntRepr<Primitive = T::Number>>(
     assert: &impl Assert,
     alloc: Global,
     value: T,
@@ -182,22 +112,40 @@ fn assert_by_number<T: ConstValue, U: IntRepr<Primitive = T::Number>>(
 ) {
     let value: Const<T, U> = Const::new(value);
     assert_written(assert, alloc, &value, bytes);
+    assert_same(
+        assert,
+        &whole::<Const<T, U>, ()>(assert, alloc, (), bytes).0,
+        &value.0,
+    );
+}
+
+fn assert_value(assert: &impl Assert, alloc: Global, row: usize) {
+    match row {
+        0 => assert_by_number::<Command, u8>(assert, alloc, Command::COM_PING, &[14]),
+        1 => {
+            let long = ColumnType::MYSQL_TYPE_LONGLONG;
+            assert_by_number::<ColumnType, u8>(assert, alloc, long, &[8])
+        }
+        2 => assert_by_number::<GeometryType, u8>(assert, alloc, GeometryType::GEOM_POINT, &[1]),
+        3 => assert_by_number::<ItemResult, i8>(assert, alloc, ItemResult::INVALID_RESULT, &[0xff]),
+        4 => {
+            let tracked = SessionStateType::SESSION_TRACK_SCHEMA;
+            assert_by_number::<SessionStateType, u8>(assert, alloc, tracked, &[1])
+        }
+        5 => {
+            let default = MariadbBulkIndicator::BULK_INDICATOR_DEFAULT;
+            assert_by_number::<MariadbBulkIndicator, u8>(assert, alloc, default, &[2])
+        }
+        6 => assert_by_number::<BinlogDumpFlags, LeU16>(assert, alloc, BinlogDumpFlags(5), &[5, 0]),
+        _ => assert_by_number::<StatusFlags, LeU16>(assert, alloc, StatusFlags(0x802), &[2, 8]),
+    }
 }
 
 #[test]
-fn numbers_by_their_values(rt: HostRuntime) {
-    let assert = Asserting(&rt);
-    assert_by_number::<Command, u8>(&assert, rt.alloc(), Command::COM_PING, &[14]);
-    assert_by_number::<StatusFlags, LeU16>(&assert, rt.alloc(), StatusFlags(0x802), &[2, 8]);
-}
-
-#[test]
-fn numbers_without_values(rt: HostRuntime) {
-    let assert = Asserting(&rt);
-    let unknown = WireError::UnknownValue;
-    assert_refused::<Const<Command, u8>, ()>(&assert, rt.alloc(), (), &[33], unknown);
-    let bytes = &[2, 0x80];
-    assert_refused::<Const<StatusFlags, LeU16>, ()>(&assert, rt.alloc(), (), bytes, unknown);
+fn values_by_their_numbers(rt: HostRuntime) {
+    for row in 0..8 {
+        assert_value(&Asserting(&rt), rt.alloc(), row);
+    }
 }
 
 #[test]

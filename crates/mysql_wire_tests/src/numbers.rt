@@ -9,9 +9,7 @@ use mysql_raw::{
 use std::alloc::Global;
 use std::fmt::Debug;
 use std::test::*;
-use tests_support::{
-    Assert, assert_cut_off, assert_equal, assert_same, assert_written, first_of, once_more, whole,
-};
+use tests_support::{Assert, assert_equal, assert_same, assert_written, once_more, whole};
 
 // Asserts that a number in a representation, through its bound, is written as these bytes, and that they are read as it.
 fn assert_number<T: IntRepr<Primitive = P>, P: Copy + PartialEq + Debug + Drop>(
@@ -47,26 +45,12 @@ fn assert_unsigned(assert: &impl Assert, alloc: Global, row: usize) {
     }
 }
 
-#[test]
-fn unsigned_numbers(rt: HostRuntime) {
-    for row in 0..7 {
-        assert_unsigned(&Asserting(&rt), rt.alloc(), row);
-    }
-}
-
 fn assert_halves_and_lengths(assert: &impl Assert, alloc: Global, row: usize) {
     match row {
         0 => assert_number::<LeU32LowerHalf, u32>(assert, alloc, 0x0605, &[5, 6]),
         1 => assert_number::<LeU32UpperHalf, u32>(assert, alloc, 0x0403_0000, &[3, 4]),
         2 => assert_number::<LenEnc, u64>(assert, alloc, 251, &[0xfc, 0xfb, 0]),
         _ => assert_number::<VarLen, u64>(assert, alloc, 128, &[1, 2]),
-    }
-}
-
-#[test]
-fn halves_and_lengths(rt: HostRuntime) {
-    for row in 0..4 {
-        assert_halves_and_lengths(&Asserting(&rt), rt.alloc(), row);
     }
 }
 
@@ -88,35 +72,17 @@ fn assert_signed(assert: &impl Assert, alloc: Global, row: usize) {
 }
 
 #[test]
-fn signed_numbers(rt: HostRuntime) {
-    for row in 0..6 {
-        assert_signed(&Asserting(&rt), rt.alloc(), row);
-    }
-}
-
-// Asserts that the number which stands first is this one.
-fn assert_first<T: IntRepr<Primitive = P>, P: Copy + PartialEq + Debug + Drop>(
-    assert: &impl Assert,
-    alloc: Global,
-    buf: &mut ParseBuf<'_>,
-    wanted: P,
-) {
-    assert_same(
-        assert,
-        &first_of::<RawInt<T>, ()>(assert, alloc, (), buf).0,
-        &wanted,
-    );
-}
-
-#[test]
-fn numbers_one_after_another(rt: HostRuntime) {
+fn numbers_read_back(rt: HostRuntime) {
     let assert = Asserting(&rt);
-    let alloc = rt.alloc();
-    let mut buf = ParseBuf(&[1, 2, 3, 4, 5, 6, 7, 0xfe, 0xff, 0xff, 3, 4, 9]);
-    assert_first::<LeU56, u64>(&assert, alloc, &mut buf, 0x07_0605_0403_0201);
-    assert_first::<LeI24, i32>(&assert, alloc, &mut buf, -2);
-    assert_first::<LeU32UpperHalf, u32>(&assert, alloc, &mut buf, 0x0403_0000);
-    assert_equal(&assert, buf.len(), 1);
+    for row in 0..7 {
+        assert_unsigned(&assert, rt.alloc(), row);
+    }
+    for row in 0..6 {
+        assert_signed(&assert, rt.alloc(), row);
+    }
+    for row in 0..4 {
+        assert_halves_and_lengths(&assert, rt.alloc(), row);
+    }
 }
 
 #[test]
@@ -131,23 +97,4 @@ fn a_number_that_is_there(rt: HostRuntime) {
         &7,
     );
     assert_equal(&assert, buf.len(), 1);
-}
-
-fn assert_number_cut_off(assert: &impl Assert, alloc: Global, row: usize) {
-    match row {
-        0 => assert_cut_off::<RawInt<u8>, ()>(assert, alloc, (), &[1], 0, 1),
-        1 => assert_cut_off::<RawInt<LeU24>, ()>(assert, alloc, (), &[1, 2, 3], 0, 3),
-        2 => assert_cut_off::<RawInt<LenEnc>, ()>(assert, alloc, (), &[0xfd, 1, 2, 3], 0, 4),
-        _ => {
-            let bytes = &[0xff, 1, 2, 3, 4, 5, 6, 7, 8];
-            assert_cut_off::<RawInt<VarLen>, ()>(assert, alloc, (), bytes, 0, 9)
-        }
-    }
-}
-
-#[test]
-fn numbers_cut_off(rt: HostRuntime) {
-    for row in 0..4 {
-        assert_number_cut_off(&Asserting(&rt), rt.alloc(), row);
-    }
 }

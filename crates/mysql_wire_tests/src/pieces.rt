@@ -66,17 +66,6 @@ fn the_same_stream_in_pieces_of_any_size(rt: HostRuntime) {
 }
 
 #[test]
-fn a_packet_is_begun_by_its_first_byte(rt: HostRuntime) {
-    let assert = Asserting(&rt);
-    let mut reader = PacketReader::new(rt.alloc(), 0, 1000);
-    assert.holds(!reader.is_begun());
-    let mut front: &[u8] = &STREAM[..1];
-    assert.holds(matches!(reader.advance(&mut front), Ok(false)));
-    assert.holds(reader.is_begun());
-    assert_equal(&assert, front.len(), 0);
-}
-
-#[test]
 fn a_reader_keeps_to_a_refusal(rt: HostRuntime) {
     let assert = Asserting(&rt);
     let mut reader = PacketReader::new(rt.alloc(), 0, 8);
@@ -86,36 +75,6 @@ fn a_reader_keeps_to_a_refusal(rt: HostRuntime) {
     assert.holds(is_too_large(reader.advance(&mut fine)));
     assert_equal(&assert, fine.len(), 5);
     assert.holds(!reader.is_begun());
-}
-
-// Whether the second command stands whole, where the number is set to 0 before it or goes on.
-fn reads_both(alloc: Global, reset: bool) -> Result<bool, PacketCodecError> {
-    let mut rest: &[u8] = &PINGS;
-    let mut reader = PacketReader::new(alloc, 0, 1000);
-    if !reader.advance(&mut rest)? {
-        return Ok(false);
-    }
-    if reset {
-        reader.reset_seq_id();
-    }
-    reader.advance(&mut rest)
-}
-
-#[test]
-fn each_command_begins_at_number_0(rt: HostRuntime) {
-    let assert = Asserting(&rt);
-    let first = reads_both(rt.alloc(), true);
-    assert.holds(matches!(first, Ok(true) | Err(PacketCodecError::Memory)));
-    let answer = reads_both(rt.alloc(), true);
-    assert.holds(first.is_ok() || matches!(answer, Ok(true)));
-    let goes_on = reads_both(rt.alloc(), false);
-    let again = reads_both(rt.alloc(), false);
-    assert.holds(is_out_of_sync(goes_on) || is_out_of_sync(again));
-}
-
-// Whether the number was refused.
-fn is_out_of_sync(answer: Result<bool, PacketCodecError>) -> bool {
-    matches!(answer, Err(PacketCodecError::PacketsOutOfSync))
 }
 
 // A payload that is taken, and whether none is held then.

@@ -25,11 +25,6 @@ fn sizes(rt: HostRuntime) {
     assert_size::<Skip<10>>(&assert, Some(10));
     assert_size::<[u8; 6]>(&assert, Some(6));
     assert_size::<RawBytes<FixedLengthText<5>>>(&assert, Some(5));
-}
-
-#[test]
-fn no_sizes(rt: HostRuntime) {
-    let assert = Asserting(&rt);
     assert_size::<RawInt<LenEnc>>(&assert, None);
     assert_size::<RawBytes<NullBytes>>(&assert, None);
     assert_size::<Seq<RawInt<LeU32>, u8>>(&assert, None);

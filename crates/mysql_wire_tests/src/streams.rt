@@ -20,17 +20,12 @@ type Row = (
     Option<Cause>,
 );
 
-// Asserts what each stream is, in one piece and byte by byte.
-fn assert_rows(assert: &impl Assert, alloc: Global, rows: &[Row]) {
-    for (codec, stream, packets, cause) in rows {
-        assert_fed(assert, alloc, *codec, &[stream], (packets, *cause));
-        assert_fed_by_bytes(assert, alloc, *codec, stream, (packets, *cause));
-    }
-}
-
 const COMMAND: &[&[u8]] = &[b"\x03SELECT 1"];
 
-const PACKETS: [Row; 4] = [
+// The front of the command: its header.
+const HEADER: &[u8] = &[9, 0, 0, 0];
+
+const STREAMS: [Row; 10] = [
     ((0, 1000), &SELECT_1, COMMAND, None),
     ((0, DEFAULT_MAX_ALLOWED_PACKET), &SELECT_1, COMMAND, None),
     // An empty payload.
@@ -42,35 +37,13 @@ const PACKETS: [Row; 4] = [
         &[b"a", b"b"],
         None,
     ),
-];
-
-#[test]
-fn packets_of_streams(rt: HostRuntime) {
-    let assert = Asserting(&rt);
-    assert_rows(&assert, rt.alloc(), &PACKETS);
-    // A stream without pieces.
-    assert_fed(&assert, rt.alloc(), (0, 1000), &[], (&[], None));
-}
-
-// The front of the command: its header.
-const HEADER: &[u8] = &[9, 0, 0, 0];
-
-const LIMITS: [Row; 4] = [
+    // A packet within the limit and past it: the fault comes once the header stands.
     ((0, 9), &SELECT_1, COMMAND, None),
     ((0, 8), &SELECT_1, &[], Some(Cause::TooLarge)),
-    // The fault comes once the header stands.
     ((0, 9), HEADER, &[], None),
     ((0, 8), HEADER, &[], Some(Cause::TooLarge)),
-];
-
-#[test]
-fn a_packet_within_the_limit_and_past_it(rt: HostRuntime) {
-    assert_rows(&Asserting(&rt), rt.alloc(), &LIMITS);
-}
-
-const NUMBERS: [Row; 2] = [
+    // A wrong number: the fault comes once the chunk is whole.
     ((1, 1000), &SELECT_1, &[], Some(Cause::OutOfSync)),
-    // All but the last byte of the command.
     (
         (1, 1000),
         &[9, 0, 0, 0, 3, 0x53, 0x45, 0x4c, 0x45, 0x43, 0x54, 0x20],
@@ -79,9 +52,16 @@ const NUMBERS: [Row; 2] = [
     ),
 ];
 
+// What each stream is, in one piece and byte by byte.
 #[test]
-fn a_wrong_number_once_its_chunk_is_whole(rt: HostRuntime) {
-    assert_rows(&Asserting(&rt), rt.alloc(), &NUMBERS);
+fn packets_of_streams(rt: HostRuntime) {
+    let assert = Asserting(&rt);
+    for (codec, stream, packets, cause) in &STREAMS {
+        assert_fed(&assert, rt.alloc(), *codec, &[stream], (packets, *cause));
+        assert_fed_by_bytes(&assert, rt.alloc(), *codec, stream, (packets, *cause));
+    }
+    // A stream without pieces.
+    assert_fed(&assert, rt.alloc(), (0, 1000), &[], (&[], None));
 }
 
 // Whether the command was read, or memory was refused. Nothing else is answered.

@@ -127,22 +127,6 @@ fn texts_after_their_lengths(rt: HostRuntime) {
     assert_equal(&assert, lenenc_str_len(b"ab"), 3);
 }
 
-// Asserts that the front of a long text stands behind its length of one byte.
-fn assert_cut(assert: &impl Assert, out: &[u8]) {
-    assert_equal(assert, out.len(), 256);
-    assert.holds(out.starts_with(&[255, 7]));
-}
-
-#[test]
-fn a_long_text_after_a_length_of_one_byte_is_cut(rt: HostRuntime) {
-    let assert = Asserting(&rt);
-    let text = [7u8; 300];
-    let mut out = room_for(&assert, rt.alloc(), 256);
-    assert.holds(out.put_u8_str(&text).is_ok());
-    assert_cut(&assert, out.as_slice());
-    assert_equal(&assert, lenenc_str_len(&text), 303);
-}
-
 #[test]
 fn fronts_of_texts(rt: HostRuntime) {
     let assert = Asserting(&rt);
