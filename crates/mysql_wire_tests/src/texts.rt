@@ -53,15 +53,8 @@ fn texts_written(rt: HostRuntime) {
     }
 }
 
-// Asserts that the text which stands first, in a representation through its bound, is this one.
-fn assert_first<T: BytesRepr<Ctx = C>, C: Copy + Drop>(
-    assert: &impl Assert,
-    alloc: Global,
-    ctx: C,
-    buf: &mut ParseBuf<'_>,
-    wanted: &[u8],
-) {
-    let text = first_of::<RawBytes<T>, C>(assert, alloc, ctx, buf);
+// Asserts that a text that was read is this one.
+fn assert_is<T: BytesRepr>(assert: &impl Assert, text: RawBytes<'_, T>, wanted: &[u8]) {
     assert_bytes(assert, text.as_bytes(), wanted);
 }
 
@@ -70,13 +63,20 @@ fn texts_read(rt: HostRuntime) {
     let assert = Asserting(&rt);
     let alloc = rt.alloc();
     let mut buf = ParseBuf(b"\x02ab\x01c\x06appde\x00fghijkl");
-    assert_first::<LenEnc, ()>(&assert, alloc, (), &mut buf, b"ab");
-    assert_first::<U8Bytes, ()>(&assert, alloc, (), &mut buf, b"c");
-    assert_first::<VarLen, ()>(&assert, alloc, (), &mut buf, b"app");
-    assert_first::<NullBytes, ()>(&assert, alloc, (), &mut buf, b"de");
-    assert_first::<BareU8Bytes, usize>(&assert, alloc, 2, &mut buf, b"fg");
-    assert_first::<BareU16Bytes, usize>(&assert, alloc, 2, &mut buf, b"hi");
-    assert_first::<FixedLengthText<2>, ()>(&assert, alloc, (), &mut buf, b"jk");
+    let text = first_of::<RawBytes<LenEnc>, ()>(&assert, alloc, (), &mut buf);
+    assert_is(&assert, text, b"ab");
+    let text = first_of::<RawBytes<U8Bytes>, ()>(&assert, alloc, (), &mut buf);
+    assert_is(&assert, text, b"c");
+    let text = first_of::<RawBytes<VarLen>, ()>(&assert, alloc, (), &mut buf);
+    assert_is(&assert, text, b"app");
+    let text = first_of::<RawBytes<NullBytes>, ()>(&assert, alloc, (), &mut buf);
+    assert_is(&assert, text, b"de");
+    let text = first_of::<RawBytes<BareU8Bytes>, usize>(&assert, alloc, 2, &mut buf);
+    assert_is(&assert, text, b"fg");
+    let text = first_of::<RawBytes<BareU16Bytes>, usize>(&assert, alloc, 2, &mut buf);
+    assert_is(&assert, text, b"hi");
+    let text = first_of::<RawBytes<FixedLengthText<2>>, ()>(&assert, alloc, (), &mut buf);
+    assert_is(&assert, text, b"jk");
     assert_bytes(&assert, buf.0, b"l");
 }
 
