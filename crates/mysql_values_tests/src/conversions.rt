@@ -387,6 +387,21 @@ fn assert_holds<T: FromValue + AsSlice<u8> + Drop>(
     }
 }
 
+/// Asserts the bytes that a value holds, by a type that may borrow.
+fn assert_holds_bytes(assert: &impl Assert, alloc: Global, given: Given, wanted: Option<&[u8]>) {
+    match from_value_opt::<CowBytes>(made(assert, alloc, given)) {
+        Ok(bytes) => {
+            assert.holds(Some(bytes.as_slice()) == wanted);
+            drop(bytes);
+            assert_undone::<CowBytes>(assert, alloc, given);
+        }
+        Err(error) => {
+            assert.holds(wanted.is_none());
+            assert_handed_back(assert, alloc, error, given);
+        }
+    }
+}
+
 /// Asserts the text that a value holds, by a type that may borrow.
 fn assert_holds_text(assert: &impl Assert, alloc: Global, given: Given, wanted: Option<&[u8]>) {
     match from_value_opt::<CowText>(made(assert, alloc, given)) {
@@ -407,8 +422,8 @@ fn texts_that_values_hold(rt: HostRuntime) {
     let assert = Asserting(&rt);
     for (given, bytes, text) in TEXTS {
         assert_holds::<Vec<u8>>(&assert, rt.alloc(), given, bytes);
-        assert_holds::<CowBytes>(&assert, rt.alloc(), given, bytes);
         assert_holds::<String>(&assert, rt.alloc(), given, text);
+        assert_holds_bytes(&assert, rt.alloc(), given, bytes);
         assert_holds_text(&assert, rt.alloc(), given, text);
     }
 }
