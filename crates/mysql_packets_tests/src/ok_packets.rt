@@ -82,7 +82,7 @@ fn common(rt: HostRuntime) {
 /// The terminator's numbers are passed over; its info follows.
 const TERMINATOR: &[u8] = b"\xfe\x00\x00\x00\x00\x00\x00\x02ok";
 
-/// A common OK packet is none.
+/// Read as a terminator, a common OK packet is refused.
 #[test]
 fn a_terminator(rt: HostRuntime) {
     let assert = Asserting(&rt);

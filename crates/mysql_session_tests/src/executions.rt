@@ -330,7 +330,7 @@ const STREAMS: [Stream; 33] = [
         End::Fault(1, StreamFault::NoRows),
     ),
     (
-        &[PREPARE, b"\x08\0\0\0\x18\x01\0\0\0\0\0x", BULK_1_2],
+        &[PREPARE, LONG_DATA, BULK_1_2],
         &[],
         End::Fault(2, StreamFault::PiecesBeforeBulk),
     ),
