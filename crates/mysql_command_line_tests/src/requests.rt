@@ -26,15 +26,6 @@ const LATE_NUMBER_BY_BULK: &[u8] =
 /// A text in quotes, with a quote inside.
 const QUOTED: &[u8] = b"\x13\0\0\0\x03SELECT 'x\\' OR :b'";
 
-const WHOLE_RUN: &[u8] = b"09 00 00 00 03 53 45 4c 45 43 54 20 31\nset 0: 1\nend: whole\n";
-
-const WITHOUT_WORDS: &[Row] = &[(&[], b"", WHOLE_RUN, Done)];
-
-#[test]
-fn without_words(rt: HostRuntime) {
-    assert_rows(&Asserting(&rt), rt.alloc(), WITHOUT_WORDS);
-}
-
 const BY_TEXT: &[&str] = &["encode", "text", "1", "1000", "SELECT :a"];
 
 const BY_EXECUTE: &[&str] = &["encode", "execute", "1", "1000", "SELECT :a"];

@@ -123,6 +123,13 @@ fn unknown_words_come_before_limits(rt: HostRuntime) {
 }
 
 const KNOWN: &[Row] = &[
+    // Without words `SELECT :a` with a = 1 is sent and read back.
+    (
+        &[],
+        b"",
+        b"09 00 00 00 03 53 45 4c 45 43 54 20 31\nset 0: 1\nend: whole\n",
+        Done,
+    ),
     (
         &["encode", "execute", "4294967295", "1000", "SELECT ?"],
         b"[[null]]",
