@@ -16,5 +16,4 @@ pub mod value;
 pub use as_sql::AsSqlError;
 pub use cells::{read_cell, read_text_cell};
 pub use deserializer::{BinValue, TextValue, ValueDeserializer};
-pub use mysql_null_bitmap::{ClientSide, SerializationSide, ServerSide};
 pub use value::Value;

@@ -1,13 +1,19 @@
 //! A bit for each column.
 
-ghost use Rattle.std.specs.Prelude.{◌≡◌, ◌≤◌, ◌<◌, ◌+◌, ◌/◌, ◌-◌, ◌==◌, ℕ, List, IfOk, OnErr, OnOk, length, slice_set, take, drop, false, replicate, if◌then◌else◌};
+ghost use Rattle.std.specs.Prelude.{◌≡◌, ◌≤◌, ◌<◌, ◌+◌, ◌/◌, ◌-◌, ◌==◌, ℕ, List, IfOk, None, OnErr, OnOk, length, slice_set, take, drop, false, replicate, if◌then◌else◌};
+ghost use Rattle.std.specs.Cow.{cow_slice_items};
 ghost use Rattle.std.specs.Int.{bit_at};
+ghost use Rattle.mysql_raw.specs.Forms.{bytes_at};
+ghost use Rattle.mysql_raw.specs.Laws.{unsized};
 ghost use Rattle.mysql_null_bitmap.specs.NullBitmap.{bitmap_len as len_of, is_null_at, nulls_of, SetsBit};
 ghost use Rattle.mysql_null_bitmap.specs.NullBits.{bits_left};
 
 use crate::null_bits::NullBits;
 use crate::side::SerializationSide;
+use mysql_buf::ParseBuf;
+use mysql_raw::{MyDeserialize, Readable, WireError};
 use std::alloc::{AllocError, Global};
+use std::borrow::CowSlice;
 use std::convert::AsSlice;
 use std::marker::PhantomData;
 
@@ -36,13 +42,12 @@ impl BitmapBytes for &mut [u8] {
 ///
 /// MySQL: Client/Server Protocol, "Null-Bitmap".
 #[derive(Drop)]
-#[derive_where(Debug, PartialEq, Eq; U)]
+#[derive_where(Debug, Clone, PartialEq, Eq; U)]
 pub struct NullBitmap<T: SerializationSide, U = Vec<u8>>(pub U, PhantomData<T>);
 
 impl<T: SerializationSide> NullBitmap<T, Vec<u8>> {
     /// A bitmap of so many columns, none of them NULL. Refused for want of memory alone.
     pub fn new(alloc: Global, columns: usize) -> Result<NullBitmap<T, Vec<u8>>, AllocError>
-        requires { columns ≤ usize.MAX - 9 }
         ensures { IfOk result (λ bitmap. bitmap.0.items ≡ replicate (len_of T.BIT_OFFSET columns) 0) }
     {
         let len = NullBitmap::<T, Vec<u8>>::bitmap_len(columns);
@@ -65,8 +70,7 @@ impl<T: SerializationSide> NullBitmap<T, Vec<u8>> {
         input: &mut &[u8],
         columns: usize,
     ) -> Result<NullBitmap<T, Vec<u8>>, AllocError>
-        requires columns { columns ≤ usize.MAX - 9 }
-        requires bytes { len_of T.BIT_OFFSET columns ≤ length input.old.now }
+        requires { len_of T.BIT_OFFSET columns ≤ length input.old.now }
         ensures taken { IfOk result (λ bitmap. bitmap.0.items ≡ take (len_of T.BIT_OFFSET columns) input.old.now) }
         ensures left { OnOk result (input.new.now ≡ drop (len_of T.BIT_OFFSET columns) input.old.now) }
         ensures kept { OnErr result (input.new.now ≡ input.old.now) }
@@ -81,10 +85,9 @@ impl<T: SerializationSide> NullBitmap<T, Vec<u8>> {
 impl<T: SerializationSide, U: AsSlice<u8>> NullBitmap<T, U> {
     /// How many bytes the bits of so many columns fill.
     pub fn bitmap_len(columns: usize) -> usize
-        requires { columns ≤ usize.MAX - 9 }
         ensures { result ≡ len_of T.BIT_OFFSET columns }
     {
-        (columns + 7 + T::BIT_OFFSET) / 8
+        columns / 8 + (columns % 8 + 7 + T::BIT_OFFSET) / 8
     }
 
     /// The bitmap that these bytes are.
@@ -132,6 +135,48 @@ impl<T: SerializationSide, U: BitmapBytes> NullBitmap<T, U> {
         let bit = T::BIT_OFFSET + column;
         let byte = self.0.as_slice()[bit / 8];
         self.0.set_byte(bit / 8, with_bit(byte, bit % 8, is_null));
+    }
+}
+
+impl<'a, T: SerializationSide> Readable for NullBitmap<T, CowSlice<'a, u8>> {
+    // how many columns there are
+    type Ctx = usize;
+
+    ghost SIZE = { None };
+
+    ghost AsksForMemory = { false };
+
+    ghost Shown = { List ℕ };
+
+    ghost shown = { λ bitmap. cow_slice_items bitmap.0 };
+
+    ghost kept = { λ bitmap. cow_slice_items bitmap.0 };
+
+    ghost read_at = { λ columns bytes. bytes_at (len_of T.BIT_OFFSET columns) bytes };
+
+    ghost sized = { λ columns. unsized (bytes_at (len_of T.BIT_OFFSET columns)) };
+
+    fn size() -> Option<usize>
+        ensures { result ≡ None }
+    {
+        None
+    }
+}
+
+/// Reads the bitmap of so many columns, which borrows its bytes. Refuses UnexpectedEof where they aren't there; all bytes are then left.
+///
+/// MySQL: Client/Server Protocol, "Null-Bitmap".
+impl<'de, T: SerializationSide> MyDeserialize<'de> for NullBitmap<T, CowSlice<'de, u8>> {
+    fn deserialize(
+        _alloc: Global,
+        columns: usize,
+        buf: &mut ParseBuf<'de>,
+    ) -> Result<NullBitmap<T, CowSlice<'de, u8>>, WireError> {
+        let len = NullBitmap::<T, CowSlice<'de, u8>>::bitmap_len(columns);
+        match buf.checked_eat(len) {
+            Some(bytes) => Ok(NullBitmap(CowSlice::Borrowed(bytes), PhantomData)),
+            None => Err(WireError::UnexpectedEof),
+        }
     }
 }
 

@@ -5,7 +5,7 @@ ghost use Rattle.std.specs.Iterator.{YieldsFirst, item_count};
 ghost use Rattle.mysql_null_bitmap.specs.NullBitmap.{bits_from};
 
 /// Whether each of some columns is NULL, in order: one byte is held, and a mask that is shifted.
-#[derive(Clone, Copy)]
+#[derive(Clone, Copy, Debug, PartialEq, Eq)]
 pub struct NullBits<'a> {
     bytes: &'a [u8],
     // the number of the bit that comes next, and of the one behind the last

@@ -13,7 +13,8 @@ use mysql_raw::MySerialize;
 use mysql_values::{ByteString, MissingNamedParameterError, Params, ParamsError};
 use std::alloc::{AllocError, Global};
 use std::collections::HashMap;
-use tests_support::{Assert, assert_bytes, assert_equal, assert_written, once_more};
+use std::fmt::Debug;
+use tests_support::{Assert, assert_bytes, assert_copied, assert_equal, assert_written, once_more};
 
 /// What a builder answers about a row.
 type Answer = Result<Option<Vec<Value>>, BulkExecuteRequestBuilderError>;
@@ -218,6 +219,26 @@ fn rows_and_their_requests(rt: HostRuntime) {
     }
 }
 
+/// Asserts that a copy of a builder is equal to it, that an empty one isn't, and that its requests have a text.
+fn assert_copies(
+    assert: &impl Assert,
+    alloc: Global,
+    builder: &mut ComStmtBulkExecuteRequestBuilder<'_>,
+) {
+    let copy = builder.clone(alloc);
+    assert_copied(assert, builder, copy, builder.clone(alloc));
+    let empty = ComStmtBulkExecuteRequestBuilder::new(alloc, 1, 31).with_results();
+    assert.holds(*builder != empty);
+    let requests = builder.build_iter(Vec::new(alloc));
+    let text = once_more(assert, shown(alloc, &requests), shown(alloc, &requests));
+    assert.holds(text.as_str().starts_with("BulkRequests"));
+}
+
+/// What `Debug` writes of a value.
+fn shown<T: Debug>(alloc: Global, value: &T) -> Result<String, AllocError> {
+    format!(in alloc; "{value:?}")
+}
+
 /// A request that asks for the result of each row.
 #[test]
 fn with_results(rt: HostRuntime) {
@@ -225,6 +246,7 @@ fn with_results(rt: HostRuntime) {
     let alloc = rt.alloc();
     let mut builder = ComStmtBulkExecuteRequestBuilder::new(alloc, 1, 31).with_results();
     assert_adds(&assert, alloc, &mut builder, SHORT, Wanted::Taken);
+    assert_copies(&assert, alloc, &mut builder);
     assert_builds(
         &assert,
         alloc,

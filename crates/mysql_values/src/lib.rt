@@ -7,9 +7,9 @@ pub mod params;
 
 pub use bind::{BindError, bind_text, bind_text_at};
 pub use mysql_cells::{
-    AsSqlError, BinValue, ClientSide, SerializationSide, ServerSide, TextValue, Value,
-    ValueDeserializer, read_cell, read_text_cell,
+    AsSqlError, BinValue, TextValue, Value, ValueDeserializer, read_cell, read_text_cell,
 };
+pub use mysql_null_bitmap::{ClientSide, SerializationSide, ServerSide};
 pub use mysql_queries::{
     ByteString, Content, Literal, MixedParamsError, NamedParamsError, ParsedNamedParams, Place,
     first_not_alone, is_mixed, places, read_literal, read_text,

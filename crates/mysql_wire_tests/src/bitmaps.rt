@@ -2,8 +2,15 @@
 
 use crate::support::Asserting;
 use mysql_null_bitmap::{ClientSide, NullBitmap, NullBits, ServerSide};
+use mysql_wire::{ParseBuf, WireError};
+use std::alloc::Global;
+use std::borrow::CowSlice;
+use std::fmt::Debug;
 use std::test::*;
-use tests_support::{Assert, assert_bytes, assert_equal, once_more};
+use tests_support::{
+    Assert, assert_bytes, assert_cut_off, assert_equal, assert_refused, assert_same, first_of,
+    once_more,
+};
 
 /// A client's bitmap of nine columns: the first, the third and the ninth are NULL.
 const NINE: [bool; 9] = [true, false, true, false, false, false, false, false, true];
@@ -17,11 +24,19 @@ fn assert_nulls(assert: &impl Assert, bits: NullBits, wanted: &[bool]) {
     assert.holds(bits.next().is_none());
 }
 
+// Asserts that a copy is the value.
+fn assert_cloned<T: Clone + Eq + Debug>(assert: &impl Assert, value: &T) {
+    let copy = once_more(assert, value.clone(), value.clone());
+    assert_same(assert, &copy, value);
+}
+
 #[test]
 fn the_columns_of_a_client_and_of_a_server(rt: HostRuntime) {
     let assert = Asserting(&rt);
     let client = NullBitmap::<ClientSide, [u8; 2]>::from_bytes([5, 1]);
     assert_nulls(&assert, client.iter(9), &NINE);
+    assert_cloned(&assert, &client);
+    assert_cloned(&assert, &client.iter(9));
     assert.holds(client.is_null(8) && !client.is_null(7));
     let server = NullBitmap::<ServerSide, [u8; 1]>::from_bytes([4]);
     assert_nulls(&assert, server.iter(1), &[true]);
@@ -49,6 +64,20 @@ fn columns_are_set_and_cleared(rt: HostRuntime) {
     assert_bytes(&assert, bitmap.as_slice(), &[1, 1]);
 }
 
+/// A client's bitmap whose bytes are lent.
+type Lent<'a> = NullBitmap<ClientSide, CowSlice<'a, u8>>;
+
+// Asserts that the bitmap of nine columns is read as a field is, and that no more columns wrap its length.
+fn assert_read_as_a_field(assert: &impl Assert, alloc: Global) {
+    let mut buf = ParseBuf(&[5, 1, 7]);
+    let bitmap = first_of::<Lent, usize>(assert, alloc, 9, &mut buf);
+    assert_bytes(assert, bitmap.as_slice(), &[5, 1]);
+    assert_bytes(assert, buf.0, &[7]);
+    assert_cut_off::<Lent, usize>(assert, alloc, 9, &[5, 1], 0, 2);
+    let cause = WireError::UnexpectedEof;
+    assert_refused::<Lent, usize>(assert, alloc, usize::MAX, &[5, 1], cause);
+}
+
 #[test]
 fn a_bitmap_is_read_from_the_front(rt: HostRuntime) {
     let assert = Asserting(&rt);
@@ -62,4 +91,5 @@ fn a_bitmap_is_read_from_the_front(rt: HostRuntime) {
     assert_bytes(&assert, bitmap.as_slice(), &[5, 1]);
     assert.holds(input == [7].as_slice() || input == [5, 1, 7].as_slice());
     assert.holds(input == [7].as_slice() || again == [7].as_slice());
+    assert_read_as_a_field(&assert, rt.alloc());
 }
