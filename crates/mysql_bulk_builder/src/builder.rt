@@ -307,7 +307,7 @@ impl<'a> ComStmtBulkExecuteRequestBuilder<'a> {
     }
 }
 
-/// Builders are equal where their requests are: of the same statement, names, limit and flags, with the same rows held.
+/// Builders are equal where their statement, limit, names, flags and number of values in a row are, and they hold the same rows.
 impl<'a> PartialEq for ComStmtBulkExecuteRequestBuilder<'a> {
     ghost use Rattle.mysql_bulk.specs.contracts.param_value.StmtBulkExecuteParamValuePartialEq.TheImpl.Laws.{laws-law as values_per};
     ghost use Rattle.mysql_bulk_builder.specs.SameBuilder.{same_builder, same_builder_per};
