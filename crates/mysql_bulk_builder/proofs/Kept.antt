@@ -4,6 +4,12 @@ use Rattle.std.specs.Prelude.{sum_by, unwrap_or, MatchOption, if◌then◌else�
 use Rattle.std.specs.List.{AllByRecursion}
 use Rattle.std.proofs.lemmas.List.{take-append-le, take-append-drop, drop-append-le, length-take-le, map-append, take_all}
 use Rattle.std.proofs.lemmas.List.Sums.{sum_by_push}
+use Rattle.std.specs.Bool.{beq}
+use Rattle.std.specs.Cmp.Lexicographic.{pointwise}
+use Rattle.std.specs.Option.{option_eq}
+use Rattle.std.specs.Prelude.{◌&&◌, nat_eq, option_copied}
+use Rattle.mysql_values.specs.Params.{names_given}
+use Rattle.mysql_bulk_builder.specs.SameBuilder.{same_builder, values_held}
 use Rattle.std.specs.declared.alloc.Global.{Global}
 use Rattle.mysql_bulk.specs.Bulk.{BulkExecution, all_values, column_types_of, param_value_of, sends_types}
 use Rattle.mysql_bulk.specs.declared.param_type.StmtBulkExecuteParamType.{StmtBulkExecuteParamType}
@@ -184,3 +190,24 @@ execution_is b flags arity is pos e by_arity =
     ap (λ (t : Bool). let x : BulkExecution = record { stmt_id = b.stmt_id; flags = bulk_flags b.with_results b.with_types; types = if t then column_types_of (unwrap_or b.arity 0) b.count (values_in b.values.items) else []; values = b.values.items } in x) sends ∙
     ap (λ (ts : List StmtBulkExecuteParamType). let x : BulkExecution = record { stmt_id = b.stmt_id; flags = bulk_flags b.with_results b.with_types; types = if b.with_types then ts else []; values = b.values.items } in x) types ∙
     ap (λ (ps : List StmtBulkExecuteParamValue). let x : BulkExecution = record { stmt_id = b.stmt_id; flags = bulk_flags b.with_results b.with_types; types = if b.with_types then column_types_of (columns_of rows) (length rows) (all_values rows) else []; values = ps } in x) (is.sent ∙ sym (ap (map param_value_of) whole))
+
+-- the values held are the list
+values_held_are : (b : Inside) → IsBuilder b → values_held (builder_of b) ≡ b.values.items
+values_held_are b is = ap (map param_value_of) (all_values_are b.count (unwrap_or b.arity 0) (values_in b.values.items) is.len) ∙ sym is.sent
+
+-- builders are equal by their fields and these lists, which are their values
+pub same_by_fields : (same_value : StmtBulkExecuteParamValue → StmtBulkExecuteParamValue → Bool) (a b : Inside) (xs ys : List StmtBulkExecuteParamValue) → IsBuilder a → IsBuilder b →
+    xs ≡ a.values.items → ys ≡ b.values.items →
+    same_builder same_value (builder_of a) (builder_of b) ≡
+    (((((((nat_eq a.stmt_id b.stmt_id && nat_eq a.room b.room) && beq a.with_results b.with_results) && beq a.with_types b.with_types) && option_eq nat_eq a.arity b.arity) && nat_eq a.count b.count) &&
+    pointwise (pointwise nat_eq) (names_given (option_copied a.named_params)) (names_given (option_copied b.named_params))) &&
+    pointwise same_value xs ys)
+same_by_fields same_value a b xs ys is_a is_b xs_are ys_are =
+    let rows_a = length_rows a.count (unwrap_or a.arity 0) (values_in a.values.items) in
+    let rows_b = length_rows b.count (unwrap_or b.arity 0) (values_in b.values.items) in
+    let values_a : values_held (builder_of a) ≡ xs = values_held_are a is_a ∙ sym xs_are in
+    let values_b : values_held (builder_of b) ≡ ys = values_held_are b is_b ∙ sym ys_are in
+    λ i.
+    (((((((nat_eq a.stmt_id b.stmt_id && nat_eq a.room b.room) && beq a.with_results b.with_results) && beq a.with_types b.with_types) && option_eq nat_eq a.arity b.arity) && nat_eq (rows_a i) (rows_b i)) &&
+    pointwise (pointwise nat_eq) (names_given (option_copied a.named_params)) (names_given (option_copied b.named_params))) &&
+    pointwise same_value (values_a i) (values_b i))

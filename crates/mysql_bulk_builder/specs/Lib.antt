@@ -13,6 +13,7 @@ pub mod InForce
 pub mod FlatRows
 pub mod Builder
 pub mod BuilderView
+pub mod SameBuilder
 pub mod Errors
 pub mod Adds
 pub mod RequestView

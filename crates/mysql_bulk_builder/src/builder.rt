@@ -1,17 +1,19 @@
 //! A builder of bulk execute requests.
 
-ghost use Rattle.std.specs.Prelude.{◌≡◌, ◌+◌, ◌*◌, ◌<◌, ◌≤◌, if◌then◌else◌, length, MatchOption};
+ghost use Rattle.std.specs.Prelude.{◌≡◌, ◌+◌, ◌*◌, ◌<◌, ◌≤◌, if◌then◌else◌, length, map, nat_eq, option_copied, ◌&&◌, MatchOption};
+ghost use Rattle.std.specs.Cmp.Lexicographic.{pointwise};
+ghost use Rattle.mysql_values.specs.Params.{names_given};
 ghost use Rattle.mysql_bulk_builder.specs.Cut.{row_size};
 ghost use Rattle.mysql_bulk_builder.specs.RequestView.{bulk_flags as flags_of};
 
 use crate::error::BulkExecuteRequestBuilderError;
-use crate::flat::append_row;
+use crate::flat::{append_row, copies_of};
 use crate::row_size::row_size_within;
 use mysql_bulk::{BulkExecuteRequestError, ComStmtBulkExecuteRequest, StmtBulkExecuteParamValue};
 use mysql_cells::Value;
 use mysql_const::StmtBulkExecuteFlags;
 use mysql_values::{Params, ParamsError};
-use std::alloc::Global;
+use std::alloc::{AllocError, Global};
 use std::marker::Model;
 
 /// Fills bulk execute requests row by row.
@@ -19,7 +21,7 @@ use std::marker::Model;
 /// The first request built carries the types of its parameters, later ones don't. The rows are kept one after another in one list.
 ///
 /// Follows MariaDB's "COM_STMT_BULK_EXECUTE".
-#[derive(Drop)]
+#[derive(Debug, Drop)]
 pub struct ComStmtBulkExecuteRequestBuilder<'a> {
     alloc: Global,
     stmt_id: u32,
@@ -66,6 +68,41 @@ fn row_size_beside(row: &[Value], typed: bool, held: usize, room: usize) -> Opti
         return None;
     }
     row_size_within(row, left - held)
+}
+
+/// The names, where there are any.
+fn names_of<'n>(names: Option<&'n [Vec<u8>]>) -> &'n [Vec<u8>]
+    ensures { map (λ name. name.items) result.now ≡ names_given (option_copied names.entry) }
+{
+    match names {
+        Some(names) => names,
+        None => &[],
+    }
+}
+
+/// Whether two lists of names are the same; none is an empty one.
+fn same_names(names: Option<&[Vec<u8>]>, others: Option<&[Vec<u8>]>) -> bool
+    ensures { result ≡ pointwise (pointwise nat_eq) (names_given (option_copied names.entry)) (names_given (option_copied others.entry)) }
+{
+    names_of(names) == names_of(others)
+}
+
+/// The statement, the most bytes of a request, its flags, how many values a row has and how many rows are held.
+type Settings = (u32, usize, bool, bool, Option<usize>, usize);
+
+/// Whether builders have the same settings, names and values.
+fn same_fields(
+    settings: (Settings, Settings),
+    names: Option<&[Vec<u8>]>,
+    other_names: Option<&[Vec<u8>]>,
+    values: &[StmtBulkExecuteParamValue],
+    other_values: &[StmtBulkExecuteParamValue],
+) -> bool
+    ensures { result ≡ ((⟦<(u32, usize, bool, bool, Option<usize>, usize) as PartialEq>⟧.eq settings.0 settings.1
+        && pointwise (pointwise nat_eq) (names_given (option_copied names.entry)) (names_given (option_copied other_names.entry)))
+        && pointwise ⟦<StmtBulkExecuteParamValue as PartialEq>⟧.eq values.entry.now other_values.entry.now) }
+{
+    settings.0 == settings.1 && same_names(names, other_names) && values == other_values
 }
 
 /// The flags of a request.
@@ -142,6 +179,25 @@ impl<'a> ComStmtBulkExecuteRequestBuilder<'a> {
         let mut builder = self;
         builder.with_results = true;
         builder
+    }
+
+    /// A copy with the rows held, by this allocator. Refused for want of memory.
+    pub fn clone(&self, alloc: Global) -> Result<ComStmtBulkExecuteRequestBuilder<'a>, AllocError>
+        ensures { IfOk result (λ copy. copy ≡ self.now) }
+    {
+        let values = copies_of(alloc, &self.values)?;
+        Ok(ComStmtBulkExecuteRequestBuilder {
+            alloc,
+            stmt_id: self.stmt_id,
+            room: self.room,
+            named_params: self.named_params,
+            with_results: self.with_results,
+            with_types: self.with_types,
+            arity: self.arity,
+            held: self.held,
+            count: self.count,
+            values,
+        })
     }
 
     /// What the rows held and one more take together, and how many they are, where the next request has room for it.
@@ -248,5 +304,41 @@ impl<'a> ComStmtBulkExecuteRequestBuilder<'a> {
         self.held = 0;
         self.count = 0;
         Ok(request)
+    }
+}
+
+/// Builders are equal where their statement, limit, names, flags and number of values in a row are, and they hold the same rows.
+impl<'a> PartialEq for ComStmtBulkExecuteRequestBuilder<'a> {
+    ghost use Rattle.mysql_bulk.specs.contracts.param_value.StmtBulkExecuteParamValuePartialEq.TheImpl.Laws.{laws-law as values_per};
+    ghost use Rattle.mysql_bulk_builder.specs.SameBuilder.{same_builder, same_builder_per};
+
+    ghost eq = { same_builder ⟦<StmtBulkExecuteParamValue as PartialEq>⟧.eq };
+
+    ghost laws = { same_builder_per ⟦<StmtBulkExecuteParamValue as PartialEq>⟧.eq values_per };
+
+    fn eq(&self, other: &ComStmtBulkExecuteRequestBuilder<'a>) -> bool {
+        let own = (
+            self.stmt_id,
+            self.room,
+            self.with_results,
+            self.with_types,
+            self.arity,
+            self.count,
+        );
+        let theirs = (
+            other.stmt_id,
+            other.room,
+            other.with_results,
+            other.with_types,
+            other.arity,
+            other.count,
+        );
+        same_fields(
+            (own, theirs),
+            self.named_params,
+            other.named_params,
+            &self.values,
+            &other.values,
+        )
     }
 }

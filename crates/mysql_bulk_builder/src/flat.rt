@@ -1,6 +1,6 @@
 //! Rows appended to one flat list.
 
-ghost use Rattle.std.specs.Prelude.{◌≡◌, ◌++◌, OnErr, OnOk, map};
+ghost use Rattle.std.specs.Prelude.{◌≡◌, ◌++◌, IfOk, OnErr, OnOk, map};
 ghost use Rattle.mysql_bulk.specs.Bulk.{param_value_of};
 
 use mysql_bulk::StmtBulkExecuteParamValue;
@@ -21,4 +21,18 @@ pub(crate) fn append_row(
         values.push(StmtBulkExecuteParamValue::new(value)).unwrap();
     }
     Ok(())
+}
+
+/// The same values again.
+pub(crate) fn copies_of(
+    alloc: Global,
+    values: &[StmtBulkExecuteParamValue],
+) -> Result<Vec<StmtBulkExecuteParamValue>, AllocError>
+    ensures { IfOk result (λ copies. copies.items ≡ values.now) }
+{
+    let mut copies = Vec::new(alloc);
+    for value in values {
+        copies.push(value.clone(alloc)?)?;
+    }
+    Ok(copies)
 }

@@ -9,14 +9,14 @@ use mysql_values::Params;
 use std::vec::IntoIter;
 
 /// What was not taken yet.
-#[derive(Drop)]
+#[derive(Debug, Drop)]
 pub enum Rest {
     Rows(IntoIter<Vec<Value>>),
     Sets(IntoIter<Params>),
 }
 
 /// What was not taken yet, and before it the row that came back.
-#[derive(Drop)]
+#[derive(Debug, Drop)]
 pub struct Given {
     pub back: Option<Vec<Value>>,
     pub rest: Rest,
