@@ -1,5 +1,5 @@
 -- There is one audit of payloads and a rest, and the audit of two lists goes on from the statement behind the first.
-use Rattle.std.proofs.Common.{◌≡◌, ℕ, zero, suc, ◌+◌, ◌-◌, ◌<◌, ◌≤◌, ◌⊎◌, List, [], ◌∷◌, ◌++◌, length, get_or, refl, sym, ap, subst, ◌∙◌, arith, inl, inr, take}
+use Rattle.std.proofs.Common.{◌≡◌, ℕ, zero, suc, ◌+◌, ◌-◌, ◌<◌, ◌≤◌, ◌⊎◌, true, false, cond, List, [], ◌∷◌, ◌++◌, length, get_or, refl, sym, ap, subst, ◌∙◌, arith, inl, inr, take}
 use Rattle.std.specs.List.{flat_map}
 use Rattle.std.proofs.lemmas.Bool.{cases_lt}
 use Rattle.std.proofs.lemmas.List.{length-append, get_or-append-add, take-append-le}
@@ -9,10 +9,11 @@ use Rattle.std.proofs.Math.Seq.{take-append-add}
 use Rattle.mysql_commands.specs.declared.fault.StreamFault.{StreamFault}
 use Rattle.mysql_commands.proofs.Readable.{IsReadable}
 use Rattle.mysql_commands.specs.Layout.{Conversation}
-use Rattle.mysql_commands.specs.InForce.{StatementState, state_after}
+use Rattle.mysql_commands.specs.InForce.{StatementState, state_after, is_waiting}
 use Rattle.mysql_commands.specs.Reading.{Set, PayloadReadsAs, PayloadFaulty, ReadsAs, Faulty}
-use Rattle.mysql_wire.specs.Stream.{Rest}
-use Rattle.mysql_commands.specs.Audit.{Audit, Read, Ends, Audits, end_by_rest}
+use Rattle.mysql_wire.specs.Stream.{Rest, IsFault}
+use Rattle.mysql_wire.specs.Stream.Rest.{Empty as EmptyRest, TooLarge as TooLargeRest, OutOfSync as OutOfSyncRest, Open as OpenRest}
+use Rattle.mysql_commands.specs.Audit.{Audit, Read, Ends, Audits, end_by_rest, IsNoFault}
 use Rattle.mysql_commands.specs.declared.audit.End.{End}
 use Rattle.mysql_commands.specs.declared.audit.End.TheVariants as ends
 use Rattle.mysql_commands.proofs.Looking.{state_after_append}
@@ -179,3 +180,19 @@ module _ (c : Conversation) (readable : IsReadable c.query) (s : StatementState)
       let sets : a.sets ≡ b.sets = p.sets ∙ ap (λ (l : List (List Set)). flat_map (λ sets. sets) l) reads ∙ sym q.sets in
       let ending : a.ending ≡ b.ending = same_ending (length q.reads) a.ending b.ending (subst (λ (n : ℕ). Ends c s first payloads kind n a.ending) len p.ending) q.ending in
       λ i. record { sets = sets i; ending = ending i }
+
+-- ---- no fault
+
+pub no_fault_by_rest : (c : Conversation) (s : StatementState) (n : ℕ) (rest : Rest) → ¬ IsFault rest → IsNoFault (end_by_rest c s n rest)
+no_fault_by_rest c s n EmptyRest none = elim (is_waiting c s) as (λ b. IsNoFault (cond b ends.WaitingPieces ends.Whole)) [ true ↦ tt | false ↦ tt ]
+no_fault_by_rest c s n OpenRest none = elim (is_waiting c s) as (λ b. IsNoFault (cond b ends.WaitingPieces ends.UnfinishedPacket)) [ true ↦ tt | false ↦ tt ]
+no_fault_by_rest c s n TooLargeRest none = absurd (none tt)
+no_fault_by_rest c s n OutOfSyncRest none = absurd (none tt)
+
+-- nor has it any over no payloads
+pub no_fault_alone : (c : Conversation) (s : StatementState) (first : ℕ) (rest : Rest) (a : Audit) → ¬ IsFault rest → Audits c s first [] rest a → IsNoFault a.ending
+no_fault_alone c s first rest a none h = by h.ending
+  where
+    by : Ends c s first [] rest (length h.reads) a.ending → IsNoFault a.ending
+    by (inl k) = absurd (omega (arith, k.1))
+    by (inr k) = subst IsNoFault (sym k.1) (no_fault_by_rest c (state_after c s []) (first + length h.reads) rest none)

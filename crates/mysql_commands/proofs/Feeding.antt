@@ -1,13 +1,14 @@
 -- Bytes in pieces: what is held after a piece decides what was decided before it over the piece and the rest.
 use Rattle.std.proofs.Common.{◌≡◌, ℕ, ◌+◌, ◌<◌, List, [], ◌++◌, length, get_or, Option, Some, None, refl, sym, ap, subst, ◌∙◌, append_assoc, arith, length-append, inl, inr, take}
 use Rattle.std.specs.List.{flat_map}
+use Rattle.std.proofs.lemmas.List.{append-nil}
 use Rattle.std.proofs.lemmas.List.Concat.{flat_map-append}
 use Rattle.mysql_commands.specs.declared.fault.StreamFault.{StreamFault}
 use Rattle.mysql_commands.specs.declared.fault.StreamFault.TheVariants.{TooLarge, OutOfSync, Memory}
 use Rattle.mysql_commands.specs.declared.audit.End.{End}
 use Rattle.mysql_commands.specs.declared.audit.End.TheVariants as ends
 use Rattle.mysql_wire.specs.Bytes.{AreBytes}
-use Rattle.mysql_wire.specs.Stream.{Rest, Split, IsSplit, IsFault, with_payloads}
+use Rattle.mysql_wire.specs.Stream.{Numbering, Rest, Split, IsSplit, IsRest, IsFault, first_number, with_payloads}
 use Rattle.mysql_wire.specs.Stream.Rest.{Empty as EmptyRest, TooLarge as TooLargeRest, OutOfSync as OutOfSyncRest, Open as OpenRest}
 use Rattle.mysql_wire.specs.Stream.Numbering.{EachFromZero}
 use Rattle.mysql_wire.specs.GoingOn.{ReaderLaws}
@@ -16,9 +17,9 @@ use Rattle.mysql_commands.specs.Layout.{Conversation}
 use Rattle.mysql_commands.specs.InForce.{StatementState, state_after, nothing_yet}
 use Rattle.mysql_commands.specs.Reading.{Set, Faulty}
 use Rattle.mysql_commands.specs.Audit.{Audit, Read, Audits, Audited, end_by_rest}
-use Rattle.mysql_commands.specs.GoingOn.{ReceiverState, fresh_receiver, ReceiverDecidesBy, ReceiverDecides, ReceiverGoesOn, Fed, Stops, TakesAll, RunsShort, fault_of_rest}
-use Rattle.mysql_commands.proofs.Splits.{split_append, some_split, rest_are_bytes, bytes_append}
-use Rattle.mysql_commands.proofs.Auditing.{some_audit, one_audit, audits_append, audits_faulty, read_append, read_longer}
+use Rattle.mysql_commands.specs.GoingOn.{ReceiverState, fresh_receiver, ReceiverDecidesBy, ReceiverDecides, ReceiverGoesOn, HasFoundNoFault, Fed, Stops, TakesAll, RunsShort, fault_of_rest}
+use Rattle.mysql_commands.proofs.Splits.{each_stays, split_append, some_split, rest_are_bytes, bytes_append}
+use Rattle.mysql_commands.proofs.Auditing.{some_audit, one_audit, audits_append, audits_faulty, no_fault_alone, read_append, read_longer}
 use Rattle.mysql_commands.proofs.Looking.{state_after_append}
 
 module _ (wire : ReaderLaws) (c : Conversation) (limit : ℕ) where
@@ -154,6 +155,28 @@ module _ (wire : ReaderLaws) (c : Conversation) (limit : ℕ) where
         count = r.count;
         fault = r.fault;
       }
+
+  -- ---- no fault
+
+  -- a packet that bytes to come can make whole is no fault over none
+  pub none_found : (state : ReceiverState) (rest : Rest) → state.fault ≡ None → AreBytes state.partial → ¬ IsFault rest → IsRest limit 0 state.partial rest → HasFoundNoFault c limit state
+  none_found state rest none are no_fault is_rest a d =
+      let split : Split = record { payloads = []; rest_bytes = state.partial; rest = rest } in
+      let is_split : IsSplit limit EachFromZero (state.partial ++ []) split = record { joined = append-nil state.partial; within = tt; ends = is_rest } in
+      let by = subst (λ (o : Option StreamFault). ReceiverDecidesBy c limit state o [] a) none d in
+      let one = wire.one_split limit EachFromZero (state.partial ++ []) (subst AreBytes (sym (append-nil state.partial)) are) in
+      let same : by.0 ≡ split = one.2 by.0 by.2 ∙ sym (one.2 split is_split) in
+      let b : Audit = record { sets = by.1; ending = a.ending } in
+      no_fault_alone c state.statement state.count rest b no_fault (subst (λ (p : Split). Audits c state.statement state.count p.payloads p.rest b) same by.4)
+
+  pub none_taken : (old new : ReceiverState) (piece : List ℕ) → new.fault ≡ None → AreBytes (old.partial ++ piece) → (taken : TakesAll c limit old piece new) → ¬ IsFault taken.split.rest → HasFoundNoFault c limit new
+  none_taken old new piece none are taken no_fault =
+      let back : new.partial ≡ taken.split.rest_bytes = taken.partial in
+      none_found new taken.split.rest none
+      (subst AreBytes (sym back) (rest_are_bytes limit (old.partial ++ piece) taken.split taken.is_split are))
+      no_fault
+      (subst (λ (l : List ℕ). IsRest limit 0 l taken.split.rest) (sym back)
+      (subst (λ (n : Numbering). IsRest limit (first_number n) taken.split.rest_bytes taken.split.rest) (each_stays taken.split.payloads) taken.is_split.ends))
 
   pub one_of_stream : IsReadable c.query → (bytes : List ℕ) → AreBytes bytes → (a : Audit) × Audited c limit bytes a × ((b : Audit) → Audited c limit bytes b → b ≡ a)
   one_of_stream readable bytes are =

@@ -26,17 +26,11 @@ use Rattle.mysql_commands.specs.Laws.{FrontsReadOn, WholeStreamsJoin}
 use Rattle.mysql_commands.specs.Audit.{Audit, Audited, Read, Ends, Audits, end_by_rest, IsNoFault}
 use Rattle.mysql_commands.specs.declared.audit.End.{End}
 use Rattle.mysql_commands.specs.declared.audit.End.TheVariants as ends
-use Rattle.mysql_commands.proofs.Auditing.{one_audit, audits_append}
+use Rattle.mysql_commands.proofs.Auditing.{no_fault_by_rest, one_audit, audits_append}
 use Rattle.mysql_commands.proofs.Binds.{bind_ok, bind_from, must_ok, must_from}
 use Rattle.mysql_commands.proofs.Splits.{split_append}
 
 -- ---- cut off
-
-no_fault_by_rest : (c : Conversation) (s : StatementState) (n : ℕ) (rest : Rest) → ¬ IsFault rest → IsNoFault (end_by_rest c s n rest)
-no_fault_by_rest c s n EmptyRest none = elim (is_waiting c s) as (λ b. IsNoFault (cond b ends.WaitingPieces ends.Whole)) [ true ↦ tt | false ↦ tt ]
-no_fault_by_rest c s n OpenRest none = elim (is_waiting c s) as (λ b. IsNoFault (cond b ends.WaitingPieces ends.UnfinishedPacket)) [ true ↦ tt | false ↦ tt ]
-no_fault_by_rest c s n TooLargeRest none = absurd (none tt)
-no_fault_by_rest c s n OutOfSyncRest none = absurd (none tt)
 
 take_take : (i k : ℕ) (xs : List (List ℕ)) → i ≤ k → take i (take k xs) ≡ take i xs
 take_take zero k xs h = refl

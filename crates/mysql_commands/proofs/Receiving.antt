@@ -1,11 +1,12 @@
 -- From a receiver's fields to what it holds and decides.
-use Rattle.std.proofs.Common.{◌≡◌, ℕ, zero, suc, ◌+◌, ◌<◌, ◌⊎◌, Bool, true, false, cond, List, [], ◌∷◌, ◌++◌, length, Option, Some, None, Result, Err, refl, sym, ap, subst, ◌∙◌, arith, inl, inr, append_assoc, take, get_or}
+use Rattle.std.proofs.Common.{◌≡◌, ℕ, zero, suc, ◌+◌, ◌<◌, ◌≤◌, ◌⊎◌, map, Bool, true, false, cond, List, [], ◌∷◌, ◌++◌, length, Option, Some, None, Result, Err, refl, sym, ap, subst, ◌∙◌, arith, inl, inr, append_assoc, take, get_or}
 use Rattle.std.specs.Prelude.{◌==◌, not, if◌then◌else◌, IfSome, OnOk}
 use Rattle.std.specs.Global.{Vec}
 use Rattle.std.proofs.lemmas.Bool.{ne_eqb}
-use Rattle.std.specs.List.{flat_map}
-use Rattle.std.proofs.lemmas.List.{append-nil, take_more}
-use Rattle.std.proofs.lemmas.List.Concat.{flat_map-append}
+use Rattle.std.specs.List.{concat, flat_map}
+use Rattle.std.proofs.lemmas.List.{append-nil, map-append, take_more}
+use Rattle.std.proofs.lemmas.List.Concat.{concat_is}
+use Rattle.std.proofs.lemmas.List.Folds.{concat-append, flat_map-map}
 use Rattle.mysql_wire.specs.Bytes.{AreBytes}
 use Rattle.mysql_wire.specs.Codec.{codec_at}
 use Rattle.mysql_wire.specs.Incoming.{Incoming, incoming_at}
@@ -21,8 +22,8 @@ use Rattle.mysql_commands.specs.declared.audit.End.TheVariants as ends
 use Rattle.mysql_commands.specs.declared.receiver.Receiver.TheInside.{Inside}
 use Rattle.mysql_commands.specs.Layout.{Conversation}
 use Rattle.mysql_commands.specs.InForce.{StatementState, is_waiting, state_after, nothing_yet}
-use Rattle.mysql_commands.specs.Audit.{Audit, Ends, Audited, OutOfMemory, end_by_rest}
-use Rattle.mysql_commands.specs.GoingOn.{ReceiverState, fresh_receiver, ReceiverDecidesBy, ReceiverDecides, ReceiverGoesOn, Fed, Stops, TakesAll, RunsShort}
+use Rattle.mysql_commands.specs.Audit.{Audit, Audited, OutOfMemory, IsNoFault, end_by_rest}
+use Rattle.mysql_commands.specs.GoingOn.{ReceiverState, fresh_receiver, ReceiverDecidesBy, ReceiverDecides, ReceiverGoesOn, HasFoundNoFault, Fed, Stops, TakesAll, RunsShort, fault_of_rest}
 use Rattle.mysql_commands.specs.Views.{conversation_of, piece_kept, state_of, sets_of}
 use Rattle.mysql_commands.specs.Receiving.{IsMemory, answer_by}
 use Rattle.mysql_commands.specs.Parts.{IsOpen, state_of_parts, end_by}
@@ -30,7 +31,7 @@ use Rattle.mysql_commands.specs.Received.{Received, piece_in, receiver_state}
 use Rattle.mysql_commands.specs.Inside.{pieces_of, received_of, IsKept}
 use Rattle.mysql_commands.proofs.Looking.{state_after_nil}
 use Rattle.mysql_commands.proofs.Splits.{bytes_append}
-use Rattle.mysql_commands.proofs.Feeding.{goes_on, takes_append, short_append, short_longer, start_decides}
+use Rattle.mysql_commands.proofs.Feeding.{goes_on, takes_append, short_append, none_found, none_taken, start_decides}
 
 kept_pieces : (xs : List (Option (Vec ℕ))) (k : ℕ) → piece_in (pieces_of xs) k ≡ piece_kept xs k
 kept_pieces [] zero = refl
@@ -82,11 +83,6 @@ pub short_by : (c : Conversation) (limit : ℕ) (old : ReceiverState) (piece : L
 short_by c limit old piece new memory fed = record { split = fed.split; is_split = fed.is_split; reads = fed.reads; each = fed.each; sets = fed.sets; count = fed.count; fault = memory }
 
 -- ---- an answer, by whether memory ran out
-
-pub memory_or_not : (o : Option StreamFault) → (o ≡ Some Memory) ⊎ (o ≡ Some Memory → ⊥)
-memory_or_not None = inr (λ e. cc)
-memory_or_not (Some Memory) = inl refl
-memory_or_not (Some f) = inr (λ e. cc)
 
 memory_is : (o : Option StreamFault) → answer_by o ≡ Err Memory → o ≡ Some Memory
 memory_is None e = absurd cc
@@ -157,6 +153,10 @@ pub fed_takes : (r new : Inside) (v : Received) (piece : List ℕ) → received_
 fed_takes r new v piece view is none fed =
     by_views r new v piece None view is (λ c limit old after. TakesAll c limit old piece after) none (takes_by (conversation_of r.conversation) r.packets.limit _ piece _ refl fed)
 
+-- a piece without a fault leaves none to be found
+pub found_none : ReaderLaws → (r : Inside) → r.fault ≡ None → IsOpen r.packets → HasFoundNoFault (conversation_of r.conversation) r.packets.limit (receiver_state (received_of r))
+found_none wire r none open_now = none_found wire (conversation_of r.conversation) r.packets.limit (receiver_state (received_of r)) open_now.rest none open_now.bytes open_now.no_fault open_now.is_rest
+
 -- ---- the end
 
 begun_none : (b : Bool) → true ≡ not b → b ≡ false
@@ -214,8 +214,11 @@ finished wire r v begun ending view kept b is =
 
 -- ---- all pieces
 
-pub pieces_more : {X : Type 0} (f : X → List ℕ) (xs : List X) (i : ℕ) (d : X) → i < length xs → flat_map f (take (i + 1) xs) ≡ flat_map f (take i xs) ++ f (get_or xs i d)
-pieces_more f xs i d h = ap (flat_map f) (take_more xs i d h) ∙ flat_map-append f (take i xs) (get_or xs i d ∷ []) ∙ ap (λ (l : List ℕ). flat_map f (take i xs) ++ l) (append-nil (f (get_or xs i d)))
+pub pieces_more : {X : Type 0} (f : X → List ℕ) (xs : List X) (i : ℕ) (d : X) → i < length xs → map f (take (i + 1) xs) ≡ map f (take i xs) ++ f (get_or xs i d) ∷ []
+pieces_more f xs i d h = ap (map f) (take_more xs i d h) ∙ map-append f (take i xs) (get_or xs i d ∷ [])
+
+pub pieces_joined : {X : Type 0} (f : X → List ℕ) (xs : List X) → concat (map f xs) ≡ flat_map f xs
+pieces_joined f xs = concat_is (map f xs) ∙ flat_map-map (λ l. l) f xs
 
 pub pieces_on : (c : Conversation) (limit : ℕ) (old mid new : ReceiverState) (front back : List ℕ) → AreBytes back → ReceiverGoesOn c limit old front mid → ReceiverGoesOn c limit mid back new → ReceiverGoesOn c limit old (front ++ back) new
 pieces_on c limit old mid new front back are p q z a more d =
@@ -224,13 +227,23 @@ pieces_on c limit old mid new front back are p q z a more d =
 pub none_on : (c : Conversation) (limit : ℕ) (state : ReceiverState) → ReceiverGoesOn c limit state [] state
 none_on c limit state z a more d = d
 
--- What is held once some bytes were fed: all payloads were read that stand whole, and bytes to come go on; or a fault,
+-- Memory ran out over one of the pieces, and all payloads of those before it were read.
+pub record ShortOver (c : Conversation) (limit : ℕ) (pieces : List (List ℕ)) (state : ReceiverState) : Type 0 where
+  pub before : List (List ℕ)
+  pub piece : List ℕ
+  pub after : List (List ℕ)
+  pub cut : pieces ≡ before ++ piece ∷ after
+  pub mid : ReceiverState
+  pub takes : TakesAll c limit fresh_receiver (concat before) mid
+  pub short : RunsShort c limit mid piece state
+
+-- What is held once some pieces were fed: all payloads were read that stand whole, and bytes to come go on; or a fault,
 -- and where it is want of memory, the sets of the first payloads.
-pub record SoFar (c : Conversation) (limit : ℕ) (fed : List ℕ) (state : ReceiverState) : Type 0 where
-  pub bytes : AreBytes fed
-  pub takes : state.fault ≡ None → TakesAll c limit fresh_receiver fed state
-  pub goes_on : (state.fault ≡ Some Memory → ⊥) → ReceiverGoesOn c limit fresh_receiver fed state
-  pub short : state.fault ≡ Some Memory → RunsShort c limit fresh_receiver fed state
+pub record SoFar (c : Conversation) (limit : ℕ) (pieces : List (List ℕ)) (state : ReceiverState) : Type 0 where
+  pub bytes : AreBytes (concat pieces)
+  pub takes : state.fault ≡ None → TakesAll c limit fresh_receiver (concat pieces) state
+  pub goes_on : (state.fault ≡ Some Memory → ⊥) → ReceiverGoesOn c limit fresh_receiver (concat pieces) state
+  pub short : state.fault ≡ Some Memory → ShortOver c limit pieces state
 
 takes_nothing : ReaderLaws → (c : Conversation) (limit : ℕ) → TakesAll c limit fresh_receiver [] fresh_receiver
 takes_nothing wire c limit = record {
@@ -261,86 +274,116 @@ pub record Feeds (c : Conversation) (limit : ℕ) (old : ReceiverState) (piece :
   pub takes : new.fault ≡ None → TakesAll c limit old piece new
   pub stays : (f : StreamFault) → old.fault ≡ Some f → new ≡ old
 
-module _ (wire : ReaderLaws) (c : Conversation) (limit : ℕ) (old new : ReceiverState) (front piece : List ℕ) (are : AreBytes piece) (h : SoFar c limit front old) (feeds : Feeds c limit old piece new) where
+module _ (wire : ReaderLaws) (c : Conversation) (limit : ℕ) (old new : ReceiverState) (front : List (List ℕ)) (piece : List ℕ) (are : AreBytes piece) (h : SoFar c limit front old) (feeds : Feeds c limit old piece new) where
+  -- the bytes of one piece more
+  joined : concat front ++ piece ≡ concat (front ++ piece ∷ [])
+  joined = ap (λ (l : List ℕ). concat front ++ l) (sym (append-nil piece)) ∙ sym (concat-append front (piece ∷ []))
+
+  more_bytes : AreBytes (concat (front ++ piece ∷ []))
+  more_bytes = subst AreBytes joined (bytes_append (concat front) piece h.bytes are)
+
+  on_both : ReceiverGoesOn c limit fresh_receiver (concat front) old → ReceiverGoesOn c limit old piece new → ReceiverGoesOn c limit fresh_receiver (concat (front ++ piece ∷ [])) new
+  on_both p q = subst (λ (l : List ℕ). ReceiverGoesOn c limit fresh_receiver l new) joined (pieces_on c limit fresh_receiver old new (concat front) piece are p q)
+
   -- no fault is held before it
-  next_going : old.fault ≡ None → SoFar c limit (front ++ piece) new
+  next_going : old.fault ≡ None → SoFar c limit (front ++ piece ∷ []) new
   next_going none = record {
-    bytes = bytes_append front piece h.bytes are;
-    takes = λ e. takes_append wire c limit fresh_receiver old new front piece (h.takes none) (feeds.takes e);
-    goes_on = λ never. pieces_on c limit fresh_receiver old new front piece are (h.goes_on (λ e. let f = sym none ∙ e in cc)) (feeds.goes_on never);
-    short = λ e. short_append wire c limit fresh_receiver old new front piece (h.takes none) (feeds.short none e);
+    bytes = more_bytes;
+    takes = λ e. subst (λ (l : List ℕ). TakesAll c limit fresh_receiver l new) joined (takes_append wire c limit fresh_receiver old new (concat front) piece (h.takes none) (feeds.takes e));
+    goes_on = λ never. on_both (h.goes_on (λ e. let f = sym none ∙ e in cc)) (feeds.goes_on never);
+    short = λ e. record { before = front; piece = piece; after = []; cut = refl; mid = old; takes = h.takes none; short = feeds.short none e };
   }
 
-  next_faulty : (f : StreamFault) → old.fault ≡ Some f → SoFar c limit (front ++ piece) new
+  next_faulty : (f : StreamFault) → old.fault ≡ Some f → SoFar c limit (front ++ piece ∷ []) new
   next_faulty f some =
-      let same : new ≡ old = feeds.stays f some in record {
-        bytes = bytes_append front piece h.bytes are;
-        takes = λ e. absurd (let g = sym e ∙ ap (λ (x : ReceiverState). x.fault) same ∙ some in cc);
-        goes_on = λ never. pieces_on c limit fresh_receiver old new front piece are (h.goes_on (λ e. never (ap (λ (x : ReceiverState). x.fault) same ∙ e))) (feeds.goes_on never);
+      let same : new ≡ old = feeds.stays f some in
+      let fault : new.fault ≡ old.fault = ap (λ (x : ReceiverState). x.fault) same in record {
+        bytes = more_bytes;
+        takes = λ e. absurd (let g = sym e ∙ fault ∙ some in cc);
+        goes_on = λ never. on_both (h.goes_on (λ e. never (fault ∙ e))) (feeds.goes_on never);
         short = λ e.
-            subst (λ (x : ReceiverState). RunsShort c limit fresh_receiver (front ++ piece) x) (sym same)
-            (short_longer wire c limit fresh_receiver old front piece h.bytes are (h.short (sym (ap (λ (x : ReceiverState). x.fault) same) ∙ e)));
+            let s = h.short (sym fault ∙ e) in
+            record {
+              before = s.before;
+              piece = s.piece;
+              after = s.after ++ piece ∷ [];
+              cut = ap (λ (l : List (List ℕ)). l ++ piece ∷ []) s.cut ∙ append_assoc s.before (s.piece ∷ s.after) (piece ∷ []);
+              mid = s.mid;
+              takes = s.takes;
+              short = subst (λ (x : ReceiverState). RunsShort c limit s.mid s.piece x) (sym same) s.short;
+            };
       }
 
-  so_far_next : SoFar c limit (front ++ piece) new
+  so_far_next : SoFar c limit (front ++ piece ∷ []) new
   so_far_next = by old.fault refl
     where
-      by : (o : Option StreamFault) → old.fault ≡ o → SoFar c limit (front ++ piece) new
+      by : (o : Option StreamFault) → old.fault ≡ o → SoFar c limit (front ++ piece ∷ []) new
       by None e = next_going e
       by (Some f) e = next_faulty f e
 
-short_audit : (c : Conversation) (limit : ℕ) (state : ReceiverState) (fed : List ℕ) (a : Audit) → state.fault ≡ Some Memory → RunsShort c limit fresh_receiver fed state → ReceiverDecides c limit state [] a → OutOfMemory c limit fed a
-short_audit c limit state fed a e r d =
-    let k = subst (λ (o : Option StreamFault). ReceiverDecidesBy c limit state o [] a) e d in
-    (r.split, r.is_split, record { reads = r.reads; each = r.each; sets = k.0 ∙ r.sets; ending = k.1 ∙ ap (λ (n : ℕ). ends.Fault n Memory) r.count })
+-- ---- the answer
 
-whole_audit : (c : Conversation) (limit : ℕ) (state : ReceiverState) (fed : List ℕ) (a : Audit) → ReceiverGoesOn c limit fresh_receiver fed state → ReceiverDecides c limit state [] a → Audited c limit fed a
-whole_audit c limit state fed a on d = (start_decides c limit fed a).0 (subst (λ (l : List ℕ). ReceiverDecides c limit fresh_receiver l a) (append-nil fed) (on [] a no_bytes d))
+no_fault_is : (rest : Rest) → fault_of_rest rest ≡ None → ¬ IsFault rest
+no_fault_is EmptyRest e = λ f. f
+no_fault_is OpenRest e = λ f. f
+no_fault_is TooLargeRest e = absurd cc
+no_fault_is OutOfSyncRest e = absurd cc
 
-pub all_on : (c : Conversation) (limit : ℕ) (state : ReceiverState) (fed : List ℕ) (a : Audit) → SoFar c limit fed state → ReceiverDecides c limit state [] a → Audited c limit fed a ⊎ OutOfMemory c limit fed a
-all_on c limit state fed a h d = by (memory_or_not state.fault)
-  where
-    by : (state.fault ≡ Some Memory) ⊎ (state.fault ≡ Some Memory → ⊥) → Audited c limit fed a ⊎ OutOfMemory c limit fed a
-    by (inl e) = inr (short_audit c limit state fed a e (h.short e) d)
-    by (inr never) = inl (whole_audit c limit state fed a (h.goes_on never) d)
+no_memory : (e : End) → IsNoFault e → IsMemory e → ⊥
+no_memory (ends.Fault n f) none m = none
+no_memory ends.WaitingPieces none m = let e = m.1 in absurd cc
+no_memory ends.UnfinishedPacket none m = let e = m.1 in absurd cc
+no_memory ends.Whole none m = let e = m.1 in absurd cc
 
--- ---- want of memory
-
-same_fault : (n m : ℕ) (f : StreamFault) → ends.Fault n f ≡ ends.Fault m Memory → f ≡ Memory
+same_fault : (n m : ℕ) (f : StreamFault) → ends.Fault n f ≡ ends.Fault m Memory → Some f ≡ Some Memory
 same_fault n m f e = cc
 
-no_memory_end : (c : Conversation) (s : StatementState) (n m : ℕ) (rest : Rest) → end_by_rest c s n rest ≡ ends.Fault m Memory → ⊥
-no_memory_end c s n m TooLargeRest e = absurd cc
-no_memory_end c s n m OutOfSyncRest e = absurd cc
-no_memory_end c s n m OpenRest e = by (is_waiting c s) e
-  where
-    by : (b : Bool) → cond b ends.WaitingPieces ends.UnfinishedPacket ≡ ends.Fault m Memory → ⊥
-    by true h = absurd cc
-    by false h = absurd cc
-no_memory_end c s n m EmptyRest e = by (is_waiting c s) e
-  where
-    by : (b : Bool) → cond b ends.WaitingPieces ends.Whole ≡ ends.Fault m Memory → ⊥
-    by true h = absurd cc
-    by false h = absurd cc
+module _ (wire : ReaderLaws) (c : Conversation) (limit : ℕ) (pieces : List (List ℕ)) (state : ReceiverState) (a : Audit) where
+  short_audit : (f : StreamFault) → f ≡ Memory → ShortOver c limit pieces state → ReceiverDecidesBy c limit state (Some f) [] a → OutOfMemory c limit pieces a
+  short_audit f memory r d =
+      let both = short_append wire c limit fresh_receiver r.mid state (concat r.before) r.piece r.takes r.short in
+      record {
+        before = r.before;
+        piece = r.piece;
+        after = r.after;
+        cut = r.cut;
+        earlier = r.takes.split;
+        is_earlier = r.takes.is_split;
+        no_fault = no_fault_is r.takes.split.rest r.takes.no_fault;
+        split = both.split;
+        is_split = both.is_split;
+        stopped = record { reads = both.reads; each = both.each; sets = d.0 ∙ both.sets; ending = d.1 ∙ ap (λ (n : ℕ). ends.Fault n f) both.count ∙ ap (λ (g : StreamFault). ends.Fault (0 + length both.reads) g) memory };
+        at_least = omega (arith, r.takes.count, r.short.count, both.count);
+      }
 
-pub memory_of : (c : Conversation) (limit : ℕ) (bytes : List ℕ) (a : Audit) → Audited c limit bytes a ⊎ OutOfMemory c limit bytes a → IsMemory a.ending → OutOfMemory c limit bytes a
-memory_of c limit bytes a (inr h) m = h
-memory_of c limit bytes a (inl h) m = (h.0, h.1, record { reads = h.2.reads; each = h.2.each; sets = h.2.sets; ending = by h.2.ending })
-  where
-    by : Ends c nothing_yet 0 h.0.payloads h.0.rest (length h.2.reads) a.ending → a.ending ≡ ends.Fault (0 + length h.2.reads) Memory
-    by (inl k) = k.3 ∙ ap (λ (f : StreamFault). ends.Fault (0 + length h.2.reads) f) (same_fault (0 + length h.2.reads) m.0 k.0 (sym k.3 ∙ m.1))
-    by (inr k) = absurd (no_memory_end c (state_after c nothing_yet h.0.payloads) (0 + length h.2.reads) m.0 h.0.rest (sym k.1 ∙ m.1))
+  pub memory_so_far : SoFar c limit pieces state → ReceiverDecides c limit state [] a → IsMemory a.ending → OutOfMemory c limit pieces a
+  memory_so_far h d m = by state.fault refl d
+    where
+      by : (o : Option StreamFault) → state.fault ≡ o → ReceiverDecidesBy c limit state o [] a → OutOfMemory c limit pieces a
+      by None e k =
+          let taken = h.takes e in
+          absurd (no_memory a.ending (none_taken wire c limit fresh_receiver state (concat pieces) e h.bytes taken (no_fault_is taken.split.rest taken.no_fault) a d) m)
+      by (Some f) e k =
+          let memory : Some f ≡ Some Memory = same_fault state.count m.0 f (sym k.1 ∙ m.1) in
+          short_audit f (cc) (h.short (e ∙ memory)) k
 
-pub audit_by : (c : Conversation) (limit : ℕ) (bytes : List ℕ) (a : Audit) → Audited c limit bytes a ⊎ OutOfMemory c limit bytes a → (IsMemory a.ending → ⊥) → Audited c limit bytes a
-audit_by c limit bytes a (inl h) none = h
-audit_by c limit bytes a (inr h) none = absurd (none (0 + length h.2.reads, h.2.ending))
+  pub audit_so_far : SoFar c limit pieces state → ReceiverDecides c limit state [] a → (IsMemory a.ending → ⊥) → Audited c limit (concat pieces) a
+  audit_so_far h d none =
+      let on = h.goes_on (λ e. none (state.count, (subst (λ (o : Option StreamFault). ReceiverDecidesBy c limit state o [] a) e d).1)) in
+      (start_decides c limit (concat pieces) a).0 (subst (λ (l : List ℕ). ReceiverDecides c limit fresh_receiver l a) (append-nil (concat pieces)) (on [] a no_bytes d))
 
 -- the answer over all pieces
-pub received : (v : Received) (limit : ℕ) (fed all : List ℕ) (a : Audit) → v.limit ≡ limit → fed ≡ all → SoFar v.conversation v.limit fed (receiver_state v) → ReceiverDecides v.conversation v.limit (receiver_state v) [] a
-    → Audited v.conversation limit all a ⊎ OutOfMemory v.conversation limit all a
-received v limit fed all a l e on d =
-    subst (λ (n : ℕ). Audited v.conversation n all a ⊎ OutOfMemory v.conversation n all a) l
-    (subst (λ (bytes : List ℕ). Audited v.conversation v.limit bytes a ⊎ OutOfMemory v.conversation v.limit bytes a) e (all_on v.conversation v.limit (receiver_state v) fed a on d))
+pub memory_over : ReaderLaws → (v : Received) (limit : ℕ) (fed all : List (List ℕ)) (a : Audit) → v.limit ≡ limit → fed ≡ all → SoFar v.conversation v.limit fed (receiver_state v) → ReceiverDecides v.conversation v.limit (receiver_state v) [] a
+    → IsMemory a.ending → OutOfMemory v.conversation limit all a
+memory_over wire v limit fed all a l e h d m =
+    subst (λ (n : ℕ). OutOfMemory v.conversation n all a) l
+    (subst (λ (pieces : List (List ℕ)). OutOfMemory v.conversation v.limit pieces a) e (memory_so_far wire v.conversation v.limit fed (receiver_state v) a h d m))
+
+pub audit_over : ReaderLaws → (v : Received) (limit : ℕ) (fed : List (List ℕ)) (all : List ℕ) (a : Audit) → v.limit ≡ limit → concat fed ≡ all → SoFar v.conversation v.limit fed (receiver_state v) → ReceiverDecides v.conversation v.limit (receiver_state v) [] a
+    → (IsMemory a.ending → ⊥) → Audited v.conversation limit all a
+audit_over wire v limit fed all a l e h d none =
+    subst (λ (n : ℕ). Audited v.conversation n all a) l
+    (subst (λ (bytes : List ℕ). Audited v.conversation v.limit bytes a) e (audit_so_far wire v.conversation v.limit fed (receiver_state v) a h d none))
 
 -- what a feed says, as one record
 pub feeds_of : (mid new : Received) (piece : List ℕ) (result : Result (Unit {0}) StreamFault) → result ≡ answer_by new.fault
@@ -355,9 +398,9 @@ feeds_of mid new piece result answer on short takes stays = record {
 }
 
 -- one piece more
-pub received_next : ReaderLaws → (mid new : Received) (front piece next : List ℕ) → new.conversation ≡ mid.conversation → new.limit ≡ mid.limit → AreBytes piece → next ≡ front ++ piece
+pub received_next : ReaderLaws → (mid new : Received) (front : List (List ℕ)) (piece : List ℕ) (next : List (List ℕ)) → new.conversation ≡ mid.conversation → new.limit ≡ mid.limit → AreBytes piece → next ≡ front ++ piece ∷ []
     → SoFar mid.conversation mid.limit front (receiver_state mid) → Feeds mid.conversation mid.limit (receiver_state mid) piece (receiver_state new) → SoFar new.conversation new.limit next (receiver_state new)
 received_next wire mid new front piece next c l are e p q =
-    subst (λ (bytes : List ℕ). SoFar new.conversation new.limit bytes (receiver_state new)) (sym e)
-    (subst (λ (n : ℕ). SoFar new.conversation n (front ++ piece) (receiver_state new)) (sym l)
-    (subst (λ (k : Conversation). SoFar k mid.limit (front ++ piece) (receiver_state new)) (sym c) (so_far_next wire mid.conversation mid.limit (receiver_state mid) (receiver_state new) front piece are p q)))
+    subst (λ (pieces : List (List ℕ)). SoFar new.conversation new.limit pieces (receiver_state new)) (sym e)
+    (subst (λ (n : ℕ). SoFar new.conversation n (front ++ piece ∷ []) (receiver_state new)) (sym l)
+    (subst (λ (k : Conversation). SoFar k mid.limit (front ++ piece ∷ []) (receiver_state new)) (sym c) (so_far_next wire mid.conversation mid.limit (receiver_state mid) (receiver_state new) front piece are p q)))

@@ -1,7 +1,7 @@
 -- What a stream of commands says: its parameter sets, and how it ends.
 -- MySQL: Client/Server Protocol, "MySQL Packets" and "Command Phase".
-use Rattle.std.specs.Prelude.{◌≡◌, ℕ, ◌+◌, ◌<◌, ◌≤◌, ◌⊎◌, List, [], length, take, slice_index_or, if◌then◌else◌}
-use Rattle.std.specs.List.{flat_map}
+use Rattle.std.specs.Prelude.{◌≡◌, ℕ, ◌+◌, ◌<◌, ◌≤◌, ◌⊎◌, List, [], ◌∷◌, ◌++◌, length, take, slice_index_or, if◌then◌else◌}
+use Rattle.std.specs.List.{concat, flat_map}
 use Rattle.mysql_commands.specs.declared.fault.StreamFault.{StreamFault}
 use Rattle.mysql_commands.specs.declared.fault.StreamFault.TheVariants.{TooLarge, OutOfSync, Memory}
 use Rattle.mysql_commands.specs.declared.audit.End.{End}
@@ -10,7 +10,7 @@ use Rattle.mysql_commands.specs.Query.{IsQuery}
 use Rattle.mysql_commands.specs.Layout.{Conversation}
 use Rattle.mysql_commands.specs.InForce.{StatementState, nothing_yet, state_after, is_waiting}
 use Rattle.mysql_commands.specs.Reading.{Set, ReadsAs, Faulty}
-use Rattle.mysql_wire.specs.Stream.{Rest, Split, IsSplit}
+use Rattle.mysql_wire.specs.Stream.{Rest, Split, IsSplit, IsFault}
 use Rattle.mysql_wire.specs.Stream.Rest.{Empty as EmptyRest, TooLarge as TooLargeRest, OutOfSync as OutOfSyncRest, Open as OpenRest}
 use Rattle.mysql_wire.specs.Stream.Numbering.{EachFromZero}
 
@@ -54,9 +54,20 @@ pub record Stopped (c : Conversation) (s : StatementState) (first : ℕ) (payloa
 abbrev pub Audited : Conversation → ℕ → List ℕ → Audit → Type 0
 Audited c limit bytes audit = (split : Split) × IsSplit limit EachFromZero bytes split × Audits c nothing_yet 0 split.payloads split.rest audit
 
--- as much of it as was read before memory ran out
-abbrev pub OutOfMemory : Conversation → ℕ → List ℕ → Audit → Type 0
-OutOfMemory c limit bytes audit = (split : Split) × IsSplit limit EachFromZero bytes split × Stopped c nothing_yet 0 split.payloads audit
+-- Memory ran out over one of the pieces that the stream came in, and no bytes before it are a fault: of the bytes up to its
+-- end the first payloads were read, and at least those that stand whole before it.
+pub record OutOfMemory (c : Conversation) (limit : ℕ) (pieces : List (List ℕ)) (audit : Audit) : Type 0 where
+  pub before : List (List ℕ)
+  pub piece : List ℕ
+  pub after : List (List ℕ)
+  pub cut : pieces ≡ before ++ piece ∷ after
+  pub earlier : Split
+  pub is_earlier : IsSplit limit EachFromZero (concat before) earlier
+  pub no_fault : ¬ IsFault earlier.rest
+  pub split : Split
+  pub is_split : IsSplit limit EachFromZero (concat before ++ piece) split
+  pub stopped : Stopped c nothing_yet 0 split.payloads audit
+  pub at_least : length earlier.payloads ≤ length stopped.reads
 
 -- an end that is no fault
 abbrev pub IsNoFault : End → Type 0
@@ -75,6 +86,6 @@ pub record IsAbout (c : Conversation) (query : List ℕ) (id : ℕ) : Type 0 whe
 abbrev pub AuditOf : List ℕ → ℕ → ℕ → List ℕ → Audit → Type 0
 AuditOf query id limit bytes audit = (c : Conversation) × IsAbout c query id × Audited c limit bytes audit
 
--- the sets of the stream's first payloads, as many as the end counts, where memory ran out behind them
-abbrev pub OutOfMemoryIn : List ℕ → ℕ → ℕ → List ℕ → Audit → Type 0
-OutOfMemoryIn query id limit bytes audit = (c : Conversation) × IsAbout c query id × OutOfMemory c limit bytes audit
+-- as much of it as was read of the pieces that the stream came in, where memory ran out over one of them
+abbrev pub OutOfMemoryIn : List ℕ → ℕ → ℕ → List (List ℕ) → Audit → Type 0
+OutOfMemoryIn query id limit pieces audit = (c : Conversation) × IsAbout c query id × OutOfMemory c limit pieces audit

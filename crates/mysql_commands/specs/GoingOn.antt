@@ -11,7 +11,7 @@ use Rattle.mysql_wire.specs.Bytes.{AreBytes}
 use Rattle.mysql_wire.specs.Stream.{Rest, Split, IsSplit}
 use Rattle.mysql_wire.specs.Stream.Rest.{Empty as EmptyRest, TooLarge as TooLargeRest, OutOfSync as OutOfSyncRest, Open as OpenRest}
 use Rattle.mysql_wire.specs.Stream.Numbering.{EachFromZero}
-use Rattle.mysql_commands.specs.Audit.{Audit, Audits, Read}
+use Rattle.mysql_commands.specs.Audit.{Audit, Audits, Read, IsNoFault}
 use Rattle.mysql_commands.specs.declared.audit.End.TheVariants as ends
 
 -- the payloads read, what is in force behind them, the bytes of the packet that isn't whole, the sets so far, the fault
@@ -36,6 +36,10 @@ ReceiverDecidesBy c limit state None z a =
 
 abbrev pub ReceiverDecides : Conversation → ℕ → ReceiverState → List ℕ → Audit → Type 0
 ReceiverDecides c limit state z a = ReceiverDecidesBy c limit state state.fault z a
+
+-- Over no more bytes it decides an end that is no fault.
+abbrev pub HasFoundNoFault : Conversation → ℕ → ReceiverState → Type 0
+HasFoundNoFault c limit state = (a : Audit) → ReceiverDecides c limit state [] a → IsNoFault a.ending
 
 -- What the one decides over bytes still to come, the other decides over the piece and them.
 abbrev pub ReceiverGoesOn : Conversation → ℕ → ReceiverState → List ℕ → ReceiverState → Type 0

@@ -8,7 +8,7 @@ ghost use Rattle.mysql_commands.specs.declared.fault.StreamFault.TheVariants.{Me
 ghost use Rattle.mysql_commands.specs.declared.receiver.ReceiverError.TheVariants as receiver_error;
 ghost use Rattle.mysql_commands.specs.Query.{IsQuery};
 ghost use Rattle.mysql_commands.specs.Audit.{IsAbout};
-ghost use Rattle.mysql_commands.specs.GoingOn.{ReceiverGoesOn, ReceiverDecides, RunsShort, TakesAll, fresh_receiver};
+ghost use Rattle.mysql_commands.specs.GoingOn.{HasFoundNoFault, ReceiverGoesOn, ReceiverDecides, RunsShort, TakesAll, fresh_receiver};
 ghost use Rattle.mysql_commands.specs.Receiving.{answer_by, audit_of};
 ghost use Rattle.mysql_commands.specs.Parts.{end_by, fault_from, state_of_parts};
 ghost use Rattle.mysql_commands.specs.Received.{receiver_state};
@@ -197,7 +197,8 @@ impl Receiver {
     /// Takes the next piece of the stream, of any length.
     ///
     /// What is held after it decides, over all bytes to come, what was decided before it over the piece and them. No more
-    /// is held of the bytes than the packet that isn't whole.
+    /// is held of the bytes than the packet that isn't whole. A fault that needs no more bytes is answered at once: after
+    /// `Ok` what came ends without one.
     ///
     /// # Errors
     /// The first fault of the stream, [`StreamFault::Memory`] where a growth was refused. From then on each call answers
@@ -208,6 +209,7 @@ impl Receiver {
         ensures goes_on { result ≢ Err Memory → ReceiverGoesOn self.old.conversation self.old.limit (receiver_state self.old) piece.now (receiver_state self.new) }
         ensures short { self.old.fault ≡ None → result ≡ Err Memory → RunsShort self.old.conversation self.old.limit (receiver_state self.old) piece.now (receiver_state self.new) }
         ensures takes { OnOk result (TakesAll self.old.conversation self.old.limit (receiver_state self.old) piece.now (receiver_state self.new)) }
+        ensures no_fault { OnOk result (HasFoundNoFault self.new.conversation self.new.limit (receiver_state self.new)) }
         ensures stays { IfSome self.old.fault (λ fault. (result ≡ Err fault) × (self.new ≡ self.old)) }
         ensures answer { result ≡ answer_by self.new.fault }
         ensures bytes { OnOk result (AreBytes self.new.partial) }

@@ -1,6 +1,6 @@
 //! A whole stream of commands.
 
-ghost use Rattle.std.specs.Prelude.{◌≡◌, ◌≤◌, ◌⊎◌, true, false, IfErr, IfOk, OnOk, flat_map};
+ghost use Rattle.std.specs.Prelude.{◌≡◌, ◌≤◌, ◌⊎◌, true, false, IfErr, IfOk, OnOk, flat_map, map};
 ghost use Rattle.mysql_wire.specs.Bytes.{AreBytes};
 ghost use Rattle.mysql_values.specs.Queries.{HasMixed};
 ghost use Rattle.mysql_commands.specs.declared.receiver.ReceiverError.TheVariants as receiver_error;
@@ -22,7 +22,8 @@ fn are_bytes(bytes: &[u8])
 /// The audit of the stream of commands whose bytes are those of the pieces, one after another, however they are cut.
 ///
 /// The statement was given the id `stmt_id`; payloads have at most `limit` bytes, which is at least 4. Where memory runs
-/// out while the stream is read, the audit's end is a fault by that name, and its sets are those of the payloads before.
+/// out over a piece, the audit's end is a fault by that name, and its sets are those of the first payloads, as many as the end
+/// counts: at least those that stand whole in the pieces before.
 ///
 /// # Errors
 /// `Mixed` where both names and question marks occur in the query, `Memory`.
@@ -35,7 +36,7 @@ pub fn receive(
 ) -> Result<Audit, ReceiverError>
     requires { 4 ≤ limit }
     ensures audit { IfOk result (λ a. (IsMemory a.end → ⊥) → AuditOf query.now stmt_id limit (flat_map (λ piece. piece.now) pieces.now) (audit_of a)) }
-    ensures memory { IfOk result (λ a. IsMemory a.end → OutOfMemoryIn query.now stmt_id limit (flat_map (λ piece. piece.now) pieces.now) (audit_of a)) }
+    ensures memory { IfOk result (λ a. IsMemory a.end → OutOfMemoryIn query.now stmt_id limit (map (λ piece. piece.now) pieces.now) (audit_of a)) }
     ensures one_kind { OnOk result (HasMixed query.now false) }
     ensures mixed { IfErr result (λ e. (e ≡ receiver_error.Memory) ⊎ ((e ≡ receiver_error.Mixed) × HasMixed query.now true)) }
 {

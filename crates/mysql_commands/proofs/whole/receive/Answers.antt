@@ -1,9 +1,9 @@
-use Rattle.std.proofs.Common.{◌+◌, ◌∙◌, ap, sym, subst, take, [], arith}
+use Rattle.std.proofs.Common.{◌+◌, ◌∙◌, ap, sym, subst, map, take, [], arith}
 use Rattle.std.specs.List.{flat_map}
 use Rattle.std.proofs.lemmas.List.{take_all}
 use Rattle.mysql_commands.specs.Audit.{IsAbout}
 use Rattle.mysql_commands.specs.Receiving.{audit_of}
-use Rattle.mysql_commands.proofs.Receiving.{SoFar, so_far_nothing, pieces_more, feeds_of, received, received_next, audit_by, memory_of}
+use Rattle.mysql_commands.proofs.Receiving.{SoFar, so_far_nothing, pieces_more, pieces_joined, feeds_of, received_next, audit_over, memory_over}
 use Rattle.mysql_commands.proofs.whole.receive.Goals as goal
 
 pub pieces-init : goal.pieces-init
@@ -21,7 +21,7 @@ pieces-preserved c =
     record {
       about = subst (λ k. IsAbout k c.args.query.now c.args.stmt_id) (sym c.feed-answer.ensures.conversation) inv.about;
       limit = c.feed-answer.ensures.limit ∙ inv.limit;
-      so_far = received_next c.reader_laws.ensures mid new (flat_map (λ piece. piece.now) (take c.pieces.piece-index c.args.pieces.now)) _ (flat_map (λ piece. piece.now) (take (c.pieces.piece-index + 1) c.args.pieces.now))
+      so_far = received_next c.reader_laws.ensures mid new (map (λ piece. piece.now) (take c.pieces.piece-index c.args.pieces.now)) _ (map (λ piece. piece.now) (take (c.pieces.piece-index + 1) c.args.pieces.now))
           c.feed-answer.ensures.conversation c.feed-answer.ensures.limit c.are_bytes.ensures
           (pieces_more (λ piece. piece.now) c.args.pieces.now c.pieces.piece-index (record { ref_ptr = (0, 0); now = [] }) (omega arith))
           inv.so_far (feeds_of mid new _ c.feed-answer.result c.feed-answer.ensures.answer c.feed-answer.ensures.goes_on c.feed-answer.ensures.short c.feed-answer.ensures.takes c.feed-answer.ensures.stays);
@@ -31,22 +31,22 @@ pub returns-clause-audit : goal.returns-clause-audit
 returns-clause-audit c =
     let v = c.pieces.receiver in
     let inv = c.pieces.invariant in
-    let all = ap (flat_map (λ piece. piece.now)) (take_all c.pieces.piece-index c.args.pieces.now c.pieces-test.false) in
+    let all = take_all c.pieces.piece-index c.args.pieces.now c.pieces-test.false in
     λ none. (
       v.conversation,
       inv.about,
-      audit_by v.conversation c.args.limit (flat_map (λ piece. piece.now) c.args.pieces.now) (audit_of c.finish.result)
-          (received v c.args.limit (flat_map (λ piece. piece.now) (take c.pieces.piece-index c.args.pieces.now)) (flat_map (λ piece. piece.now) c.args.pieces.now) (audit_of c.finish.result) inv.limit all inv.so_far c.finish.ensures) none,
+      audit_over c.reader_laws.ensures v c.args.limit (map (λ piece. piece.now) (take c.pieces.piece-index c.args.pieces.now)) (flat_map (λ piece. piece.now) c.args.pieces.now) (audit_of c.finish.result)
+          inv.limit (pieces_joined (λ piece. piece.now) (take c.pieces.piece-index c.args.pieces.now) ∙ ap (flat_map (λ piece. piece.now)) all) inv.so_far c.finish.ensures none,
     )
 
 pub returns-clause-memory : goal.returns-clause-memory
 returns-clause-memory c =
     let v = c.pieces.receiver in
     let inv = c.pieces.invariant in
-    let all = ap (flat_map (λ piece. piece.now)) (take_all c.pieces.piece-index c.args.pieces.now c.pieces-test.false) in
+    let all = ap (map (λ piece. piece.now)) (take_all c.pieces.piece-index c.args.pieces.now c.pieces-test.false) in
     λ memory. (
       v.conversation,
       inv.about,
-      memory_of v.conversation c.args.limit (flat_map (λ piece. piece.now) c.args.pieces.now) (audit_of c.finish.result)
-          (received v c.args.limit (flat_map (λ piece. piece.now) (take c.pieces.piece-index c.args.pieces.now)) (flat_map (λ piece. piece.now) c.args.pieces.now) (audit_of c.finish.result) inv.limit all inv.so_far c.finish.ensures) memory,
+      memory_over c.reader_laws.ensures v c.args.limit (map (λ piece. piece.now) (take c.pieces.piece-index c.args.pieces.now)) (map (λ piece. piece.now) c.args.pieces.now) (audit_of c.finish.result)
+          inv.limit all inv.so_far c.finish.ensures memory,
     )

@@ -1,5 +1,4 @@
-use Rattle.std.proofs.Common.{◌≡◌, take}
-use Rattle.std.specs.List.{flat_map}
+use Rattle.std.proofs.Common.{◌≡◌, map, take}
 use Rattle.mysql_commands.specs.Audit.{IsAbout}
 use Rattle.mysql_commands.specs.Received.{receiver_state}
 use Rattle.mysql_commands.proofs.Receiving.{SoFar}
@@ -10,5 +9,5 @@ abbrev pub invariant-pieces : goal.invariant-pieces
 invariant-pieces l = record {
   about : IsAbout l.receiver.conversation l.fn.query l.fn.stmt_id;
   limit : l.receiver.limit ≡ l.fn.limit;
-  so_far : SoFar l.receiver.conversation l.receiver.limit (flat_map (λ piece. piece.now) (take l.piece-index l.pieces)) (receiver_state l.receiver);
+  so_far : SoFar l.receiver.conversation l.receiver.limit (map (λ piece. piece.now) (take l.piece-index l.pieces)) (receiver_state l.receiver);
 }

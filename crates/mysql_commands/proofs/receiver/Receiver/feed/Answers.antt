@@ -1,5 +1,5 @@
 use Rattle.std.proofs.Common.{◌∙◌, ap, Some, sym, arith}
-use Rattle.mysql_commands.proofs.Receiving.{fed_feed, fed_short, fed_takes, stays_on, unless_by, on_by}
+use Rattle.mysql_commands.proofs.Receiving.{fed_feed, fed_short, fed_takes, found_none, stays_on, unless_by, on_by}
 use Rattle.mysql_commands.proofs.receiver.Receiver.feed.Goals as goal
 
 pub returns-in-Some-clause-goes_on : goal.returns-in-Some-clause-goes_on
@@ -25,3 +25,6 @@ returns-in-Err-clause-short c =
 pub returns-in-Ok-clause-takes : goal.returns-in-Ok-clause-takes
 returns-in-Ok-clause-takes c =
     fed_takes c.self.inside (record c.self.inside { packets = c.read_piece.new.packets; progress = c.read_piece.new.progress }) c.args.self.now c.args.piece.now c.self.view_is c.in_default.is c.in_default.is c.in-Ok.ensures.fed
+
+pub returns-in-Ok-clause-no_fault : goal.returns-in-Ok-clause-no_fault
+returns-in-Ok-clause-no_fault c = found_none c.reader_laws.ensures (record c.self.inside { packets = c.read_piece.new.packets; progress = c.read_piece.new.progress }) c.in_default.is c.in-Ok.ensures.open
