@@ -13,7 +13,7 @@ use Rattle.mysql_values.specs.Values.{content_of, first_float}
 use Rattle.mysql_values.specs.Queries.{is_mixed}
 use Rattle.mysql_values.specs.Binding.{values_cause}
 use Rattle.mysql_stmt.specs.Executions.{execute_command}
-use Rattle.mysql_to_values.specs.Values.{content_value, integer_value}
+use Rattle.mysql_values.specs.Contents.{content_value, integer_value}
 use Rattle.mysql_bulk_builder.specs.Causes.{first_some}
 use Rattle.mysql_commands.specs.Reading.{Set}
 use Rattle.mysql_commands.specs.declared.audit.End.TheVariants as ends

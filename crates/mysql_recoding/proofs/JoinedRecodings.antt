@@ -16,7 +16,7 @@ use Rattle.mysql_commands.specs.declared.audit.End.TheVariants.{Whole}
 use Rattle.mysql_stmt.specs.Executions.{execute_command}
 use Rattle.mysql_streams.specs.Laws.{OneConversation}
 use Rattle.mysql_streams.specs.Sent.{SentPayload, Statement, as_execution, payloads_of, statement_of}
-use Rattle.mysql_to_values.specs.Values.{content_value}
+use Rattle.mysql_values.specs.Contents.{content_value}
 use Rattle.mysql_recoding.specs.Canonical.{canonical, execution_framings, prepare_framing, values_of_sets}
 use Rattle.mysql_recoding.specs.Causes.{recoding_cause}
 use Rattle.mysql_recoding.specs.Laws.{JoinedStreamsRecode, both}

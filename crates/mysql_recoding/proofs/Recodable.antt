@@ -19,7 +19,7 @@ use Rattle.mysql_streams.specs.Cause.{cause_of, max_places}
 use Rattle.mysql_streams.specs.Commands.{prepare_command}
 use Rattle.mysql_streams.specs.Sent.{Statement, parsed_of}
 use Rattle.mysql_streams.specs.declared.road.Road.TheVariants.{Execute}
-use Rattle.mysql_to_values.specs.Values.{content_value}
+use Rattle.mysql_values.specs.Contents.{content_value}
 use Rattle.mysql_recoding.specs.Canonical.{values_of_sets}
 use Rattle.mysql_recoding.specs.Causes.{ending_cause, error_if, first_too_large, recoding_cause}
 use Rattle.mysql_recoding.specs.Laws.{FillsPlaces}

@@ -15,7 +15,7 @@ use Rattle.mysql_values.specs.Content.TheVariants as content
 use Rattle.mysql_values.specs.Place.{Place}
 use Rattle.mysql_commands.specs.Reading.{Set}
 use Rattle.mysql_streams.specs.Reading.{held}
-use Rattle.mysql_to_values.specs.Values.{content_value, integer_value}
+use Rattle.mysql_values.specs.Contents.{content_value, integer_value}
 use Rattle.mysql_wire.specs.Writing.{lenenc_int}
 use Rattle.mysql_recoding.specs.Canonical.{values_of_sets}
 use Rattle.mysql_recoding.specs.Laws.{FillsPlaces, IsCarried}

@@ -6,7 +6,7 @@ use Rattle.mysql_wire.specs.Framing.{framing}
 use Rattle.mysql_wire.specs.Stream.{framings}
 use Rattle.mysql_wire.specs.Stream.Numbering.{EachFromZero}
 use Rattle.mysql_values.specs.Value.{Value}
-use Rattle.mysql_to_values.specs.Values.{content_value}
+use Rattle.mysql_values.specs.Contents.{content_value}
 use Rattle.mysql_commands.specs.Reading.{Set}
 use Rattle.mysql_streams.specs.Commands.{prepare_command}
 use Rattle.mysql_streams.specs.Sent.{Statement, as_execution, parsed_of, payloads_of}

@@ -2,7 +2,7 @@
 
 ghost use Rattle.std.specs.Prelude.{◌≡◌, ◌≤◌, ◌⊎◌, IfErr, IfOk, OnErr, OnOk, Some, flat_map, map, ℕ};
 ghost use Rattle.mysql_wire.specs.Bytes.{AreBytes};
-ghost use Rattle.mysql_to_values.specs.Values.{content_value};
+ghost use Rattle.mysql_values.specs.Contents.{content_value};
 ghost use Rattle.mysql_commands.specs.declared.audit.End.TheVariants as ends;
 ghost use Rattle.mysql_commands.specs.Audit.{AuditOf};
 ghost use Rattle.mysql_commands.specs.Receiving.{audit_of};
