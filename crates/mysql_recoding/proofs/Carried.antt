@@ -10,9 +10,11 @@ use Rattle.mysql_commands.specs.InForce.{StatementState, nothing_yet, state_afte
 use Rattle.mysql_commands.specs.Layout.{Conversation}
 use Rattle.mysql_commands.specs.Query.{place_count}
 use Rattle.mysql_commands.specs.Reading.{Set}
+use Rattle.mysql_streams.specs.declared.refusal.Refusal.TheVariants as refusals
 use Rattle.mysql_recoding.specs.Laws.{CarriedSetsFillPlaces, FillsPlaces}
 use Rattle.mysql_recoding.proofs.CarriedCommands.{CountsPlaces, Fills, payload_carried}
 use Rattle.mysql_recoding.proofs.FramedBytes.{payloads_are_bytes}
+use Rattle.mysql_recoding.proofs.NoFloats.{values_are_right}
 use Rattle.mysql_recoding.proofs.StatesInForce.{IsInForce, all_append, nothing_in_force, stays_in_force}
 
 -- ---- lists
@@ -60,5 +62,9 @@ carried_sets_fill one query tokens id limit stream audit has bytes says =
     let text : c.query.text ≡ query = says.1.text in
     let places : place_count c.query ≡ length (places_from query 0 tokens) =
     sym (counts tokens (subst (λ (t : List ℕ). HasTokens t tokens) (sym text) has)) ∙ ap (λ (t : List ℕ). length (places_from t 0 tokens)) text in
-    all_mapped (Fills (place_count c.query)) (FillsPlaces (places_from query 0 tokens)) audit.sets (λ set fills. record { count = fills.0 ∙ places; each = fills.1 })
+    all_mapped (Fills (place_count c.query)) (FillsPlaces (places_from query 0 tokens)) audit.sets (λ set fills. record {
+      count = fills.0 ∙ places;
+      each = fills.1;
+      right = λ limit number. values_are_right (refusals.WrongCount number) (λ place. refusals.Float number place) (length (places_from query 0 tokens)) set (fills.0 ∙ places);
+    })
     (subst (AllByRecursion (Fills (place_count c.query))) (sym says.2.2.sets) reads)

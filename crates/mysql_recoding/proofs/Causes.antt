@@ -1,121 +1,136 @@
--- The causes against what is sent of contents, and against what is recoded.
-use Rattle.std.proofs.Common.{◌≡◌, ℕ, ℤ, suc, pos, negsuc, ◌+◌, ◌-◌, ◌^◌, ◌==◌, nat_lt, Bool, true, false, List, [], ◌∷◌, length, map, Option, Some, None, Ok, refl, ◌∙◌, ap, rules}
-use Rattle.std.specs.Prelude.{is_none, if◌then◌else◌}
-use Rattle.std.specs.List.{AllByRecursion, position_from}
+-- What it says that no cause speaks against recoding a stream: it is whole, and none speaks against sending its sets by execute.
+use Rattle.std.proofs.Common.{◌≡◌, ℕ, ◌+◌, ◌-◌, ◌==◌, nat_lt, Bool, true, false, List, [], ◌∷◌, length, map, Option, Some, None, Ok, refl, sym, ◌∙◌, ap}
+use Rattle.std.specs.Prelude.{if◌then◌else◌}
+use Rattle.std.specs.List.{AllByRecursion}
 use Rattle.std.specs.Option.{option_map, option_or}
-use Rattle.std.specs.Fmt.{decimal}
-use Rattle.std.proofs.lemmas.List.{length-map}
-use Rattle.mysql_cells.specs.declared.value.Value.TheVariants as values
-use Rattle.mysql_values.specs.Content.{Content}
-use Rattle.mysql_values.specs.Content.TheVariants as content
-use Rattle.mysql_values.specs.Value.{Value}
-use Rattle.mysql_values.specs.Values.{content_of, first_float}
 use Rattle.mysql_values.specs.Queries.{is_mixed}
-use Rattle.mysql_values.specs.Binding.{values_cause}
+use Rattle.mysql_values.specs.Value.{Value}
+use Rattle.mysql_values.specs.Values.{first_float}
 use Rattle.mysql_stmt.specs.Executions.{execute_command}
-use Rattle.mysql_to_values.specs.Values.{content_value, integer_value}
 use Rattle.mysql_bulk_builder.specs.Causes.{first_some}
-use Rattle.mysql_commands.specs.Reading.{Set}
-use Rattle.mysql_commands.specs.declared.audit.End.TheVariants as ends
+use Rattle.mysql_commands.specs.Audit.{Audit}
+use Rattle.mysql_commands.specs.declared.audit.End.{End}
+use Rattle.mysql_commands.specs.declared.audit.End.TheVariants.{Fault, UnfinishedPacket, WaitingPieces, Whole}
 use Rattle.mysql_streams.specs.declared.refusal.Refusal.{Refusal}
 use Rattle.mysql_streams.specs.declared.refusal.Refusal.TheVariants as refusals
 use Rattle.mysql_streams.specs.declared.road.Road.TheVariants.{Execute}
-use Rattle.mysql_streams.specs.Cause.{Limits, cause_if, cause_of, first_of_sets, limits_of, max_places, prepare_cause, set_cause}
+use Rattle.mysql_streams.specs.Cause.{Limits, cause_if, cause_of, first_of_sets, max_places, query_cause, set_cause}
 use Rattle.mysql_streams.specs.Commands.{prepare_command}
 use Rattle.mysql_streams.specs.Sent.{Statement, parsed_of}
 use Rattle.mysql_recoding.specs.declared.errors.RecodeError.{RecodeError}
 use Rattle.mysql_recoding.specs.declared.errors.RecodeError.TheVariants as errors
-use Rattle.mysql_recoding.specs.Canonical.{values_of_sets}
-use Rattle.mysql_recoding.specs.Causes.{error_if, first_too_large, recoding_cause}
+use Rattle.mysql_recoding.specs.Causes.{ending_cause, error_for, recoding_cause, values_of_sets}
 
--- a value that is no float, whichever of two it is
-either_is_no_float : (test : Bool) (a b : Value) → is_none (content_of a) ≡ false → is_none (content_of b) ≡ false → is_none (content_of (if test then a else b)) ≡ false
-either_is_no_float true a b first second = first
-either_is_no_float false a b first second = second
+-- where neither is an answer, neither is
+neither : {X : Type 0} (first second : Option X) → option_or first second ≡ None → (first ≡ None) × (second ≡ None)
+neither None second none = (refl, none)
+neither (Some answer) second none = cc
 
--- a whole number is sent as no float
-whole_is_no_float : (number : ℤ) → is_none (content_of (integer_value number)) ≡ false
-whole_is_no_float (pos n) =
-    either_is_no_float (nat_lt n (2 ^ 63)) (values.Int (pos n)) (if nat_lt n (2 ^ 64) then values.UInt n else values.Bytes (decimal n)) refl
-    (either_is_no_float (nat_lt n (2 ^ 64)) (values.UInt n) (values.Bytes (decimal n)) refl refl)
-whole_is_no_float (negsuc n) = either_is_no_float (nat_lt n (2 ^ 63)) (values.Int (negsuc n)) (values.Bytes (0x2d ∷ decimal (suc n))) refl refl
+or_none : {X : Type 0} (first : Option X) → option_or first None ≡ first
+or_none None = refl
+or_none (Some answer) = refl
 
--- a content is sent as no float
-content_is_no_float : (c : Content) → is_none (content_of (content_value c)) ≡ false
-content_is_no_float content.Null = refl
-content_is_no_float (content.Number number) = whole_is_no_float number
-content_is_no_float (content.Bytes bytes) = refl
+-- ---- whole streams
 
--- no float is among the values of contents
-no_float_from : (place : ℕ) (set : Set) → position_from (λ value. is_none (content_of value)) place (map content_value set) ≡ None
-no_float_from place [] = refl
-no_float_from place (content ∷ set) =
-    ap (λ test. if test then Some place else position_from (λ value. is_none (content_of value)) (place + 1) (map content_value set)) (content_is_no_float content)
-    ∙ no_float_from (place + 1) set
-
--- nothing is wrong with the values of a set that has as many contents as placeholders
-values_are_right : (wrong_count : Refusal) (float : ℕ → Refusal) (count : ℕ) (set : Set) → length set ≡ count → values_cause wrong_count float count (map content_value set) ≡ None
-values_are_right wrong_count float count set fills =
-    ap (λ test. if test then option_map (λ place. float place) (first_float (map content_value set)) else Some wrong_count) (by_count (length (map content_value set)) count (length-map set content_value ∙ fills))
-    ∙ ap (λ found. option_map (λ place. float place) found) (no_float_from 0 set)
-  where
-    by_count : (m n : ℕ) → m ≡ n → (m == n) ≡ true
-    by_count m n same = search (rules, same)
-
--- the cause against a set that has as many contents as placeholders: its execution is too long
-one_set : (command : List Value → List ℕ) (limits : Limits) (number : ℕ) (set : Set) → length set ≡ limits.places
-    → set_cause command limits number (Ok (map content_value set)) ≡ cause_if (nat_lt limits.bytes (length (command (map content_value set)))) (refusals.PacketTooLarge number)
-one_set command limits number set fills =
-    ap (λ cause. option_or cause (cause_if (nat_lt limits.bytes (length (command (map content_value set)))) (refusals.PacketTooLarge number)))
-    (values_are_right (refusals.WrongCount number) (λ place. refusals.Float number place) limits.places set fills)
-
--- a set that is too long, else one of the others
-one_or_others : (test : Bool) (number : ℕ) (others : Option ℕ)
-    → option_or (cause_if test (refusals.PacketTooLarge number)) (option_map (λ set. refusals.PacketTooLarge set) others)
-    ≡ option_map (λ set. refusals.PacketTooLarge set) (if test then Some number else others)
-one_or_others true number others = refl
-one_or_others false number others = refl
-
--- set by set the first cause is the first execution that is too long
-all_sets : (command : List Value → List ℕ) (limits : Limits) (number : ℕ) (sets : List Set) → AllByRecursion (λ set. length set ≡ limits.places) sets
-    → first_of_sets (set_cause command limits) number (map Ok (values_of_sets sets))
-    ≡ option_map (λ set. refusals.PacketTooLarge set) (position_from (λ values. nat_lt limits.bytes (length (command values))) number (values_of_sets sets))
-all_sets command limits number [] fill = refl
-all_sets command limits number (set ∷ sets) fill =
-    ap (λ cause. option_or cause (first_of_sets (set_cause command limits) (number + 1) (map Ok (values_of_sets sets)))) (one_set command limits number set fill.0)
-    ∙ ap (λ causes. option_or (cause_if (nat_lt limits.bytes (length (command (map content_value set)))) (refusals.PacketTooLarge number)) causes) (all_sets command limits (number + 1) sets fill.1)
-    ∙ one_or_others (nat_lt limits.bytes (length (command (map content_value set)))) number
-    (position_from (λ values. nat_lt limits.bytes (length (command values))) (number + 1) (values_of_sets sets))
-
--- the refusal of what is sent for which there is such an error; what speaks against a stream is no refusal of its contents
-abbrev pub as_refusal : RecodeError → Refusal
-as_refusal errors.Mixed = refusals.Mixed
-as_refusal (errors.Stream payload fault) = refusals.Memory
-as_refusal (errors.Unfinished ending) = refusals.Memory
-as_refusal errors.TooManyPlaces = refusals.TooManyPlaces
-as_refusal errors.PrepareTooLarge = refusals.PrepareTooLarge
-as_refusal (errors.PacketTooLarge set) = refusals.PacketTooLarge set
-as_refusal errors.Memory = refusals.Memory
-
--- the causes against the query, and then against a set, are looked for in one order
-same_order : (mixed many long : Bool) (set : Option ℕ)
+-- both kinds of placeholder are the first cause against either
+mixed_first : (mixed : Bool) (many long sets : Option Refusal)
     → first_some (
-    first_some (cause_if mixed refusals.Mixed ∷ cause_if many refusals.TooManyPlaces ∷ cause_if long refusals.PrepareTooLarge ∷ [])
-    ∷ option_map (λ set. refusals.PacketTooLarge set) set ∷ None ∷ [])
-    ≡ option_map as_refusal (first_some (
-    error_if mixed errors.Mixed ∷ None ∷ error_if many errors.TooManyPlaces ∷ error_if long errors.PrepareTooLarge
-    ∷ option_map (λ set. errors.PacketTooLarge set) set ∷ []))
-same_order true many long set = refl
-same_order false true long set = refl
-same_order false false true set = refl
-same_order false false false None = refl
-same_order false false false (Some set) = refl
+    (if mixed then Some errors.Mixed else None)
+    ∷ None
+    ∷ option_map error_for (first_some (first_some (cause_if mixed refusals.Mixed ∷ many ∷ long ∷ []) ∷ sets ∷ None ∷ [])) ∷ [])
+    ≡ option_map error_for (first_some (first_some (cause_if mixed refusals.Mixed ∷ many ∷ long ∷ []) ∷ sets ∷ None ∷ []))
+mixed_first true many long sets = refl
+mixed_first false many long sets = or_none (option_map error_for (first_some (first_some (None ∷ many ∷ long ∷ []) ∷ sets ∷ None ∷ [])))
 
--- The cause against sending the contents of a whole stream is the cause against recoding it.
-pub causes_agree : (statement : Statement) (limit : ℕ) (sets : List Set) → AllByRecursion (λ set. length set ≡ length statement.places) sets
-    → cause_of Execute statement limit (map Ok (values_of_sets sets)) ≡ option_map as_refusal (recoding_cause statement limit (record { sets = sets; ending = ends.Whole }))
-causes_agree statement limit sets fill =
-    ap (λ cause. first_some (prepare_cause statement.places (parsed_of statement.tokens) (limit - 4) ∷ cause ∷ None ∷ []))
-    (all_sets (λ values. execute_command statement.id values false) (limits_of statement.places limit) 0 sets fill)
-    ∙ same_order (is_mixed statement.places) (nat_lt max_places (length statement.places)) (nat_lt (limit - 4) (length (prepare_command (parsed_of statement.tokens))))
-    (first_too_large statement.id (limit - 4) (values_of_sets sets))
+-- The cause against recoding a whole stream is the cause against sending its sets.
+pub whole_cause : (statement : Statement) (limit : ℕ) (audit : Audit) → audit.ending ≡ Whole
+    → recoding_cause statement limit audit ≡ option_map error_for (cause_of Execute statement limit (map Ok (values_of_sets audit.sets)))
+whole_cause statement limit audit whole =
+    ap (λ ending. first_some (
+    (if is_mixed statement.places then Some errors.Mixed else None)
+    ∷ ending_cause ending
+    ∷ option_map error_for (cause_of Execute statement limit (map Ok (values_of_sets audit.sets))) ∷ [])) whole
+    ∙ mixed_first (is_mixed statement.places) (cause_if (nat_lt max_places (length statement.places)) refusals.TooManyPlaces)
+    (cause_if (nat_lt (limit - 4) (length (prepare_command (parsed_of statement.tokens)))) refusals.PrepareTooLarge)
+    (first_of_sets (set_cause (λ values. execute_command statement.id values false) (record { places = length statement.places; bytes = limit - 4 })) 0 (map Ok (values_of_sets audit.sets)))
+
+is_whole : (ending : End) → ending_cause ending ≡ None → ending ≡ Whole
+is_whole (Fault payload fault) none = cc
+is_whole WaitingPieces none = cc
+is_whole UnfinishedPacket none = cc
+is_whole Whole none = refl
+
+no_error : (cause : Option Refusal) → option_map error_for cause ≡ None → cause ≡ None
+no_error None none = refl
+no_error (Some refusal) none = absurd (cc)
+
+-- what can be recoded is whole, and its sets can be sent
+pub recodable : (statement : Statement) (limit : ℕ) (audit : Audit) → recoding_cause statement limit audit ≡ None
+    → (audit.ending ≡ Whole) × (cause_of Execute statement limit (map Ok (values_of_sets audit.sets)) ≡ None)
+recodable statement limit audit none =
+    let mixed = neither (if is_mixed statement.places then Some errors.Mixed else None) _ none in
+    let ending = neither (ending_cause audit.ending) _ mixed.1 in
+    let whole : audit.ending ≡ Whole = is_whole audit.ending ending.0 in
+    (whole, no_error _ (sym (whole_cause statement limit audit whole) ∙ none))
+
+pub no_cause : (statement : Statement) (limit : ℕ) (audit : Audit) → audit.ending ≡ Whole → cause_of Execute statement limit (map Ok (values_of_sets audit.sets)) ≡ None
+    → recoding_cause statement limit audit ≡ None
+no_cause statement limit audit whole none = whole_cause statement limit audit whole ∙ ap (option_map error_for) none
+
+-- ---- sets that are sent
+
+-- nothing speaks against a set's values: they are as many as the placeholders, none is a float, and their execution has at most so many bytes
+pub record IsFree (id places room : ℕ) (values : List Value) : Type 0 where
+  pub counted : (length values == places) ≡ true
+  pub no_float : first_float values ≡ None
+  pub small : nat_lt room (length (execute_command id values false)) ≡ false
+
+tests_fail : (counted large : Bool) (float : Option ℕ) (number : ℕ)
+    → option_or (if counted then option_map (λ place. refusals.Float number place) float else Some (refusals.WrongCount number)) (cause_if large (refusals.PacketTooLarge number)) ≡ None
+    → (counted ≡ true) × (float ≡ None) × (large ≡ false)
+tests_fail true false None number none = (refl, refl, refl)
+tests_fail true true None number none = absurd (cc)
+tests_fail true large (Some place) number none = absurd (cc)
+tests_fail false large float number none = absurd (cc)
+
+none_where_tests_fail : (counted large : Bool) (float : Option ℕ) (number : ℕ) → counted ≡ true → float ≡ None → large ≡ false
+    → option_or (if counted then option_map (λ place. refusals.Float number place) float else Some (refusals.WrongCount number)) (cause_if large (refusals.PacketTooLarge number)) ≡ None
+none_where_tests_fail counted large float number is_counted no_float not_large = rw (is_counted, no_float, not_large) refl
+
+-- what a set has to meet: so many values, and so many bytes
+abbrev limits : ℕ → ℕ → Limits
+limits places room = record { places = places; bytes = room }
+
+abbrev one_cause : ℕ → ℕ → ℕ → ℕ → List Value → Option Refusal
+one_cause id places room number values = set_cause (λ values. execute_command id values false) (limits places room) number (Ok values)
+
+abbrev causes : ℕ → ℕ → ℕ → ℕ → List (List Value) → Option Refusal
+causes id places room number sets = first_of_sets (set_cause (λ values. execute_command id values false) (limits places room)) number (map Ok sets)
+
+each_free : (id places room number : ℕ) (sets : List (List Value)) → causes id places room number sets ≡ None → AllByRecursion (IsFree id places room) sets
+each_free id places room number [] none = tt
+each_free id places room number (values ∷ sets) none =
+    let parts = neither (one_cause id places room number values) (causes id places room (number + 1) sets) none in
+    let fail = tests_fail (length values == places) (nat_lt room (length (execute_command id values false))) (first_float values) number parts.0 in
+    (record { counted = fail.0; no_float = fail.1; small = fail.2 }, each_free id places room (number + 1) sets parts.1)
+
+none_of_free : (id places room number : ℕ) (sets : List (List Value)) → AllByRecursion (IsFree id places room) sets → causes id places room number sets ≡ None
+none_of_free id places room number [] each = refl
+none_of_free id places room number (values ∷ sets) each =
+    ap (λ cause. option_or cause (causes id places room (number + 1) sets))
+    (none_where_tests_fail (length values == places) (nat_lt room (length (execute_command id values false))) (first_float values) number each.0.counted each.0.no_float each.0.small)
+    ∙ none_of_free id places room (number + 1) sets each.1
+
+-- what can be sent: nothing speaks against the query, nor against a set
+pub free_of_causes : (statement : Statement) (limit : ℕ) (sets : List (List Value)) → cause_of Execute statement limit (map Ok sets) ≡ None
+    → (query_cause Execute statement (limit - 4) ≡ None) × AllByRecursion (IsFree statement.id (length statement.places) (limit - 4)) sets
+free_of_causes statement limit sets none =
+    let query = neither (query_cause Execute statement (limit - 4)) _ none in
+    let others = neither (causes statement.id (length statement.places) (limit - 4) 0 sets) _ query.1 in
+    (query.0, each_free statement.id (length statement.places) (limit - 4) 0 sets others.0)
+
+pub no_cause_of_free : (statement : Statement) (limit : ℕ) (sets : List (List Value)) → query_cause Execute statement (limit - 4) ≡ None
+    → AllByRecursion (IsFree statement.id (length statement.places) (limit - 4)) sets → cause_of Execute statement limit (map Ok sets) ≡ None
+no_cause_of_free statement limit sets query each =
+    ap (λ cause. option_or cause (option_or (causes statement.id (length statement.places) (limit - 4) 0 sets) None)) query
+    ∙ ap (λ cause. option_or cause None) (none_of_free statement.id (length statement.places) (limit - 4) 0 sets each)

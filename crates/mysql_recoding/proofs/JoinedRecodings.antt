@@ -1,6 +1,6 @@
 -- The recoding of two whole streams one behind the other.
-use Rattle.std.proofs.Common.{◌≡◌, ℕ, ◌+◌, ◌-◌, ◌<◌, ◌≤◌, ◌^◌, Bool, false, List, [], ◌∷◌, ◌++◌, length, map, None, refl, sym, ◌∙◌, ap, subst, arith, append_assoc, length-append, nat_lt}
-use Rattle.std.specs.List.{AllByRecursion, flat_map, position_from}
+use Rattle.std.proofs.Common.{◌≡◌, ℕ, ◌+◌, ◌-◌, ◌<◌, ◌≤◌, ◌^◌, List, [], ◌∷◌, ◌++◌, length, map, None, refl, sym, ◌∙◌, ap, subst, arith, append_assoc, length-append}
+use Rattle.std.specs.List.{AllByRecursion, flat_map}
 use Rattle.std.proofs.lemmas.Grind.{flat_map-append}
 use Rattle.std.proofs.lemmas.List.{map-append}
 use Rattle.mysql_wire.specs.Framing.{framing}
@@ -13,14 +13,14 @@ use Rattle.mysql_commands.specs.Laws.{WholeStreamsJoin}
 use Rattle.mysql_commands.specs.Layout.{Conversation}
 use Rattle.mysql_commands.specs.Reading.{Set}
 use Rattle.mysql_commands.specs.declared.audit.End.TheVariants.{Whole}
-use Rattle.mysql_stmt.specs.Executions.{execute_command}
 use Rattle.mysql_streams.specs.Laws.{OneConversation}
-use Rattle.mysql_streams.specs.Sent.{SentPayload, Statement, as_execution, payloads_of, statement_of}
-use Rattle.mysql_to_values.specs.Values.{content_value}
-use Rattle.mysql_recoding.specs.Canonical.{canonical, execution_framings, prepare_framing, values_of_sets}
-use Rattle.mysql_recoding.specs.Causes.{recoding_cause}
+use Rattle.mysql_streams.specs.Cause.{query_cause}
+use Rattle.mysql_streams.specs.Sent.{AreSent, SentPayload, Statement, as_execution, payloads_of, prepare_of, statement_of}
+use Rattle.mysql_streams.specs.declared.road.Road.TheVariants.{Execute}
+use Rattle.mysql_values.specs.Contents.{content_value}
+use Rattle.mysql_recoding.specs.Causes.{recoding_cause, values_of_sets}
 use Rattle.mysql_recoding.specs.Laws.{JoinedStreamsRecode, both}
-use Rattle.mysql_recoding.proofs.Recodable.{IsRecodable, no_cause, not_here, recodable}
+use Rattle.mysql_recoding.proofs.Causes.{IsFree, free_of_causes, no_cause, no_cause_of_free, recodable}
 
 -- one split of bytes has no more payloads than another
 as_many : FramedComeFirst → (limit : ℕ) (bytes : List ℕ) (split other : Split) → IsSplit limit EachFromZero bytes split → IsSplit limit EachFromZero bytes other → length split.payloads ≤ length other.payloads
@@ -28,34 +28,19 @@ as_many come_first limit bytes split other is also =
     let found = come_first limit EachFromZero split.payloads bytes split.rest_bytes other is.within is.joined also in
     omega (arith, ap length found.1, length-append split.payloads found.0)
 
--- ---- causes against joined sets
+-- ---- joined lists
 
--- each of them fails a test
-abbrev Fail : {X : Type 0} → (X → Bool) → List X → Type 0
-Fail test xs = AllByRecursion (λ x. test x ≡ false) xs
+both_hold : {X : Type 0} (P : X → Type 0) (xs ys : List X) → AllByRecursion P xs → AllByRecursion P ys → AllByRecursion P (xs ++ ys)
+both_hold P [] ys first second = second
+both_hold P (x ∷ xs) ys first second = (first.0, both_hold P xs ys first.1 second)
 
--- where none passes, each fails
-each_fails : {X : Type 0} (test : X → Bool) (number : ℕ) (xs : List X) → position_from test number xs ≡ None → Fail test xs
-each_fails test number [] none = tt
-each_fails test number (x ∷ xs) none =
-    let parts = not_here (test x) number (position_from test (number + 1) xs) none in
-    (parts.0, each_fails test (number + 1) xs parts.1)
+front_holds : {X : Type 0} (P : X → Type 0) (xs ys : List X) → AllByRecursion P (xs ++ ys) → AllByRecursion P xs
+front_holds P [] ys each = tt
+front_holds P (x ∷ xs) ys each = (each.0, front_holds P xs ys each.1)
 
-none_passes : {X : Type 0} (test : X → Bool) (number : ℕ) (xs : List X) → Fail test xs → position_from test number xs ≡ None
-none_passes test number [] each = refl
-none_passes test number (x ∷ xs) each = rw each.0 (none_passes test (number + 1) xs each.1)
-
-both_fail : {X : Type 0} (test : X → Bool) (xs ys : List X) → Fail test xs → Fail test ys → Fail test (xs ++ ys)
-both_fail test [] ys first second = second
-both_fail test (x ∷ xs) ys first second = (first.0, both_fail test xs ys first.1 second)
-
-front_fails : {X : Type 0} (test : X → Bool) (xs ys : List X) → Fail test (xs ++ ys) → Fail test xs
-front_fails test [] ys each = tt
-front_fails test (x ∷ xs) ys each = (each.0, front_fails test xs ys each.1)
-
-back_fails : {X : Type 0} (test : X → Bool) (xs ys : List X) → Fail test (xs ++ ys) → Fail test ys
-back_fails test [] ys each = each
-back_fails test (x ∷ xs) ys each = back_fails test xs ys each.1
+back_holds : {X : Type 0} (P : X → Type 0) (xs ys : List X) → AllByRecursion P (xs ++ ys) → AllByRecursion P ys
+back_holds P [] ys each = each
+back_holds P (x ∷ xs) ys each = back_holds P xs ys each.1
 
 -- the values of joined sets
 values_joined : (sets others : List Set) → values_of_sets (sets ++ others) ≡ values_of_sets sets ++ values_of_sets others
@@ -68,58 +53,56 @@ framings_joined [] others = refl
 framings_joined (payload ∷ payloads) others =
     ap (λ l. framing payload 0 ++ l) (framings_joined payloads others) ∙ sym (append_assoc (framing payload 0) (framings payloads EachFromZero) (framings others EachFromZero))
 
-executions_joined : (statement : Statement) (sets others : List Set) → execution_framings statement (sets ++ others) ≡ execution_framings statement sets ++ execution_framings statement others
-executions_joined statement sets others =
-    let first : List (List Value) = values_of_sets sets in
-    let second : List (List Value) = values_of_sets others in
-    ap (λ values. framings (payloads_of (flat_map (as_execution statement) values)) EachFromZero) (values_joined sets others)
-    ∙ ap (λ sent. framings (payloads_of sent) EachFromZero) (flat_map-append (as_execution statement) first second)
-    ∙ ap (λ payloads. framings payloads EachFromZero) (map-append (λ (s : SentPayload). s.payload) (flat_map (as_execution statement) first) (flat_map (as_execution statement) second))
-    ∙ framings_joined (payloads_of (flat_map (as_execution statement) first)) (payloads_of (flat_map (as_execution statement) second))
+-- what is sent of joined sets
+sent_joined : (statement : Statement) (sets others : List Set) (more : List SentPayload) → more ≡ flat_map (as_execution statement) (values_of_sets others)
+    → flat_map (as_execution statement) (values_of_sets sets) ++ more ≡ flat_map (as_execution statement) (values_of_sets (sets ++ others))
+sent_joined statement sets others more is =
+    ap (λ l. flat_map (as_execution statement) (values_of_sets sets) ++ l) is
+    ∙ sym (flat_map-append (as_execution statement) (values_of_sets sets) (values_of_sets others))
+    ∙ ap (flat_map (as_execution statement)) (sym (values_joined sets others))
 
-canonical_joined : (statement : Statement) (sets others : List Set) → canonical statement (sets ++ others) ≡ canonical statement sets ++ execution_framings statement others
-canonical_joined statement sets others =
-    ap (λ l. prepare_framing statement ++ l) (executions_joined statement sets others)
-    ∙ sym (append_assoc (prepare_framing statement) (execution_framings statement sets) (execution_framings statement others))
+-- what is sent of joined sets behind the prepare
+prepared_joined : (statement : Statement) (room : ℕ) (sets others : List Set) (sent more : List SentPayload) → AreSent Execute statement room (values_of_sets sets) sent
+    → AreSent Execute statement room (values_of_sets others) (prepare_of statement ∷ more) → AreSent Execute statement room (values_of_sets (sets ++ others)) (sent ++ more)
+prepared_joined statement room sets others sent more first second =
+    let behind : more ≡ flat_map (as_execution statement) (values_of_sets others) = cc second in
+    ap (λ l. l ++ more) first ∙ ap (λ l. prepare_of statement ∷ l) (sent_joined statement sets others more behind)
 
--- ---- joined
+framed_joined : (sent more : List SentPayload)
+    → framings (payloads_of (sent ++ more)) EachFromZero ≡ framings (payloads_of sent) EachFromZero ++ framings (payloads_of more) EachFromZero
+framed_joined sent more =
+    ap (λ payloads. framings payloads EachFromZero) (map-append (λ (s : SentPayload). s.payload) sent more) ∙ framings_joined (payloads_of sent) (payloads_of more)
 
--- whether the execution of a set's values is larger than so many bytes
-abbrev is_large : ℕ → ℕ → List Value → Bool
-is_large id room values = nat_lt room (length (execute_command id values false))
+-- ---- causes against joined sets
 
-none_from_each : (statement : Statement) (limit : ℕ) (first second : Audit) → recoding_cause statement limit first ≡ None → recoding_cause statement limit second ≡ None → recoding_cause statement limit (both first second) ≡ None
-none_from_each statement limit first second first_none second_none =
-    let test : List Value → Bool = is_large statement.id (limit - 4) in
-    let one : IsRecodable statement limit first = recodable statement limit first first_none in
-    let other : IsRecodable statement limit second = recodable statement limit second second_none in
-    let fail = both_fail test (values_of_sets first.sets) (values_of_sets second.sets) (each_fails test 0 _ one.large) (each_fails test 0 _ other.large) in
-    no_cause statement limit (both first second) (record {
-      mixed = one.mixed;
-      ending = refl;
-      many = one.many;
-      long = one.long;
-      large = ap (λ values. position_from test 0 values) (values_joined first.sets second.sets) ∙ none_passes test 0 _ fail;
-    })
+-- nothing speaks against the values of sets
+abbrev AreFree : Statement → ℕ → List (List Value) → Type 0
+AreFree statement limit sets = AllByRecursion (IsFree statement.id (length statement.places) (limit - 4)) sets
 
--- the executions of both are within the limit
-both_within : (statement : Statement) (limit : ℕ) (first second : Audit) → IsRecodable statement limit (both first second) → Fail (is_large statement.id (limit - 4)) (values_of_sets first.sets ++ values_of_sets second.sets)
-both_within statement limit first second is =
-    each_fails (is_large statement.id (limit - 4)) 0 _ (ap (λ values. position_from (is_large statement.id (limit - 4)) 0 values) (sym (values_joined first.sets second.sets)) ∙ is.large)
+free_of_each : (statement : Statement) (limit : ℕ) (first second : Audit) → recoding_cause statement limit first ≡ None → recoding_cause statement limit second ≡ None → recoding_cause statement limit (both first second) ≡ None
+free_of_each statement limit first second first_none second_none =
+    let one = free_of_causes statement limit (values_of_sets first.sets) (recodable statement limit first first_none).1 in
+    let other = free_of_causes statement limit (values_of_sets second.sets) (recodable statement limit second second_none).1 in
+    let free : AreFree statement limit (values_of_sets first.sets ++ values_of_sets second.sets) = both_hold _ (values_of_sets first.sets) (values_of_sets second.sets) one.1 other.1 in
+    no_cause statement limit (both first second) refl
+    (no_cause_of_free statement limit (values_of_sets (first.sets ++ second.sets)) one.0 (subst (AreFree statement limit) (sym (values_joined first.sets second.sets)) free))
+
+-- nothing speaks against the query, nor against the values of both
+free_of_both : (statement : Statement) (limit : ℕ) (first second : Audit) → recoding_cause statement limit (both first second) ≡ None
+    → (query_cause Execute statement (limit - 4) ≡ None) × AreFree statement limit (values_of_sets first.sets ++ values_of_sets second.sets)
+free_of_both statement limit first second none =
+    let parts = free_of_causes statement limit (values_of_sets (first.sets ++ second.sets)) (recodable statement limit (both first second) none).1 in
+    (parts.0, subst (AreFree statement limit) (values_joined first.sets second.sets) parts.1)
 
 none_to_first : (statement : Statement) (limit : ℕ) (first second : Audit) → first.ending ≡ Whole → recoding_cause statement limit (both first second) ≡ None → recoding_cause statement limit first ≡ None
 none_to_first statement limit first second whole none =
-    let test : List Value → Bool = is_large statement.id (limit - 4) in
-    let is : IsRecodable statement limit (both first second) = recodable statement limit (both first second) none in
-    let fail = front_fails test (values_of_sets first.sets) (values_of_sets second.sets) (both_within statement limit first second is) in
-    no_cause statement limit first (record { mixed = is.mixed; ending = whole; many = is.many; long = is.long; large = none_passes test 0 _ fail })
+    let parts = free_of_both statement limit first second none in
+    no_cause statement limit first whole (no_cause_of_free statement limit (values_of_sets first.sets) parts.0 (front_holds _ (values_of_sets first.sets) (values_of_sets second.sets) parts.1))
 
 none_to_second : (statement : Statement) (limit : ℕ) (first second : Audit) → second.ending ≡ Whole → recoding_cause statement limit (both first second) ≡ None → recoding_cause statement limit second ≡ None
 none_to_second statement limit first second whole none =
-    let test : List Value → Bool = is_large statement.id (limit - 4) in
-    let is : IsRecodable statement limit (both first second) = recodable statement limit (both first second) none in
-    let fail = back_fails test (values_of_sets first.sets) (values_of_sets second.sets) (both_within statement limit first second is) in
-    no_cause statement limit second (record { mixed = is.mixed; ending = whole; many = is.many; long = is.long; large = none_passes test 0 _ fail })
+    let parts = free_of_both statement limit first second none in
+    no_cause statement limit second whole (no_cause_of_free statement limit (values_of_sets second.sets) parts.0 (back_holds _ (values_of_sets first.sets) (values_of_sets second.sets) parts.1))
 
 pub joined : WholeStreamsJoin → OneConversation → FramedComeFirst → JoinedStreamsRecode
 joined join one come_first query tokens id limit stream behind front back first second has front_split back_split few first_says second_says first_whole second_whole =
@@ -132,8 +115,9 @@ joined join one come_first query tokens id limit stream behind front back first 
     omega (arith, few, as_many come_first limit stream here.0 front here.1 front_split, as_many come_first limit behind there.0 back there.1 back_split) in
     record {
       says = (c, first_says.1, join c limit stream behind here.0 there.0 first second here.1 there.1 here.2 there.2 payloads first_whole second_whole);
-      from_each = none_from_each statement limit first second;
+      from_each = free_of_each statement limit first second;
       to_first = none_to_first statement limit first second first_whole;
       to_second = none_to_second statement limit first second second_whole;
-      recoded = canonical_joined statement first.sets second.sets;
+      recoded = prepared_joined statement (limit - 4) first.sets second.sets;
+      framed = framed_joined;
     }

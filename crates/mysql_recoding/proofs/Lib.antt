@@ -5,10 +5,11 @@ pub mod CarriedCommands
 pub mod CarriedTexts
 pub mod FramedBytes
 pub mod StatesInForce
+pub mod NoFloats
 pub mod Causes
 pub mod Recodings
 pub mod SentContents
-pub mod Recodable
+pub mod Canonical
 pub mod SentAgain
 pub mod OneRecoding
 pub mod JoinedRecodings

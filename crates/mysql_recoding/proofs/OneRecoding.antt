@@ -10,10 +10,9 @@ use Rattle.mysql_commands.specs.Reading.{Set}
 use Rattle.mysql_commands.specs.declared.audit.End.TheVariants.{Whole}
 use Rattle.mysql_streams.specs.Laws.{OneConversation}
 use Rattle.mysql_streams.specs.Sent.{statement_of}
-use Rattle.mysql_recoding.specs.Canonical.{canonical}
 use Rattle.mysql_recoding.specs.Causes.{recoding_cause}
 use Rattle.mysql_recoding.specs.Laws.{EqualSetsRecodeEqually, RecodingsAreDecided, RecodingsCarryTheSame}
-use Rattle.mysql_recoding.proofs.SentAgain.{appended}
+use Rattle.mysql_recoding.proofs.Canonical.{appended_form, canonical, recoded}
 
 -- a stream says one thing of a query and an id
 one_audit : StreamHasOneAudit → OneConversation → (query : List ℕ) (id limit : ℕ) (stream : List ℕ) (a b : Audit) → AreBytes stream → AuditOf query id limit stream a → AuditOf query id limit stream b → a ≡ b
@@ -44,7 +43,7 @@ pub decided : StreamHasOneAudit → OneConversation → OneTokens → RecodingsA
 decided once one tokens_once query id limit stream old bytes = record {
   one = λ new other first second.
       let form = one_form once one tokens_once query id limit stream first.tokens second.tokens first.audit second.audit bytes first.has second.has first.says second.says in
-      first.appended ∙ ap (λ l. old ++ l) form ∙ sym second.appended;
+      recoded query id limit stream old new first ∙ ap (λ l. old ++ l) form ∙ sym (recoded query id limit stream old other second);
   cause_one = λ error other first second.
       let causes = one_cause once one tokens_once query id limit stream first.tokens second.tokens first.audit second.audit bytes first.has second.has first.says second.says in
       let same : Some error ≡ Some other = sym first.first ∙ causes ∙ second.first in
@@ -57,8 +56,8 @@ decided once one tokens_once query id limit stream old bytes = record {
 pub recode_equally : RecodingsCarryTheSame → StreamHasOneAudit → OneConversation → OneTokens → EqualSetsRecodeEqually
 recode_equally carry once one tokens_once query id limit stream behind old recoded after other few room small short bytes other_bytes recoded_bytes first second =
     let tokens : first.tokens ≡ second.tokens = tokens_once query first.tokens second.tokens first.has second.has in
-    let here : recoded ≡ canonical (statement_of query first.tokens id) first.audit.sets = appended query id limit stream old recoded first in
-    let there : other ≡ canonical (statement_of query second.tokens id) second.audit.sets = appended query id limit behind after other second in
+    let here : recoded ≡ canonical (statement_of query first.tokens id) first.audit.sets = appended_form query id limit stream old recoded first in
+    let there : other ≡ canonical (statement_of query second.tokens id) second.audit.sets = appended_form query id limit behind after other second in
     record {
       bytes = λ same. here ∙ ap (λ t. canonical (statement_of query t id) first.audit.sets) tokens ∙ ap (λ (l : List Set). canonical (statement_of query second.tokens id) l) same ∙ sym there;
       carried = λ same.

@@ -1,5 +1,5 @@
 -- What is sent of a stream's contents is its recoding, and why nothing is.
-use Rattle.std.proofs.Common.{◌≡◌, ◌⊎◌, inl, inr, ℕ, zero, suc, ◌+◌, ◌<◌, true, List, [], ◌∷◌, ◌++◌, length, map, take, get_or, Option, Some, None, Result, Ok, Err, refl, sym, ◌∙◌, ap, subst}
+use Rattle.std.proofs.Common.{◌≡◌, ◌⊎◌, inl, inr, ℕ, zero, suc, ◌+◌, ◌-◌, ◌<◌, true, List, [], ◌∷◌, ◌++◌, length, map, take, get_or, Option, Some, None, Result, Ok, Err, refl, sym, ◌∙◌, ap, subst}
 use Rattle.std.specs.Prelude.{IfErr}
 use Rattle.std.specs.List.{flat_map}
 use Rattle.std.specs.Result.{IsErrAnd}
@@ -7,8 +7,6 @@ use Rattle.std.proofs.lemmas.List.{append-nil, take_more}
 use Rattle.std.proofs.lemmas.Grind.{flat_map-append}
 use Rattle.std.specs.Option.{option_map}
 use Rattle.mysql_wire.specs.Bytes.{AreBytes}
-use Rattle.mysql_wire.specs.Stream.{framings}
-use Rattle.mysql_wire.specs.Stream.Numbering.{EachFromZero}
 use Rattle.mysql_values.specs.Queries.{HasMixed, is_mixed, places_from}
 use Rattle.mysql_values.specs.Tokens.{HasTokens}
 use Rattle.mysql_values.specs.Value.{Value}
@@ -20,20 +18,15 @@ use Rattle.mysql_commands.specs.declared.audit.End.TheVariants as ends
 use Rattle.mysql_commands.specs.declared.receiver.ReceiverError.{ReceiverError}
 use Rattle.mysql_commands.specs.declared.receiver.ReceiverError.TheVariants as receiver_error
 use Rattle.mysql_streams.specs.declared.refusal.Refusal.{Refusal}
-use Rattle.mysql_streams.specs.declared.refusal.Refusal.TheVariants as refusals
 use Rattle.mysql_streams.specs.declared.road.Road.TheVariants.{Execute}
 use Rattle.mysql_streams.specs.Sending.{RefusesGiven, SendsGiven}
-use Rattle.mysql_streams.specs.Sent.{Statement, as_execution, parsed_of, payloads_of, prepare_of, statement_of}
-use Rattle.mysql_streams.specs.Cause.{cause_of}
+use Rattle.mysql_streams.specs.Sent.{AreSent, parsed_of, statement_of}
 use Rattle.mysql_streams.specs.Sets.{Given, all_given_in_places}
 use Rattle.mysql_recoding.specs.declared.errors.RecodeError.{RecodeError}
 use Rattle.mysql_recoding.specs.declared.errors.RecodeError.TheVariants as errors
-use Rattle.mysql_recoding.specs.Canonical.{values_of_sets}
-use Rattle.mysql_recoding.specs.Causes.{recoding_cause}
-use Rattle.mysql_recoding.specs.Laws.{CarriedSetsFillPlaces}
+use Rattle.mysql_recoding.specs.Causes.{error_for, recoding_cause, values_of_sets}
 use Rattle.mysql_recoding.specs.Recoding.{IsRecodingCause, Recodes, RefusesRecoding}
-use Rattle.mysql_recoding.proofs.Causes.{as_refusal, causes_agree}
-use Rattle.mysql_recoding.proofs.Recodable.{counts}
+use Rattle.mysql_recoding.proofs.Causes.{no_cause, whole_cause}
 
 -- the conversation about a query with these tokens
 conversation_of : List ℕ → List (List ℕ) → ℕ → Conversation
@@ -99,37 +92,7 @@ same_values (set ∷ sets) (other ∷ others) same =
     let later : sets ≡ others = same_values sets others rest in
     cc
 
--- the error that a refusal is answered by, where there is one for it
-pub record RefusedAs (refusal : Refusal) (error : RecodeError) : Type 0 where
-  pub mixed : refusal ≡ refusals.Mixed → error ≡ errors.Mixed
-  pub too_many : refusal ≡ refusals.TooManyPlaces → error ≡ errors.TooManyPlaces
-  pub prepare : refusal ≡ refusals.PrepareTooLarge → error ≡ errors.PrepareTooLarge
-  pub packet : (set : ℕ) → refusal ≡ refusals.PacketTooLarge set → error ≡ errors.PacketTooLarge set
-  pub memory : refusal ≡ refusals.Memory → error ≡ errors.Memory
-
--- the answer to the refusal of a cause is that cause, or Memory
-answer_is : (refusal : Refusal) (error cause : RecodeError) → RefusedAs refusal error → as_refusal cause ≡ refusal → (error ≡ errors.Memory) ⊎ (cause ≡ error)
-answer_is refusal error errors.Mixed answers is = inr (sym (answers.mixed (sym is)))
-answer_is refusal error (errors.Stream payload fault) answers is = inl (answers.memory (sym is))
-answer_is refusal error (errors.Unfinished ending) answers is = inl (answers.memory (sym is))
-answer_is refusal error errors.TooManyPlaces answers is = inr (sym (answers.too_many (sym is)))
-answer_is refusal error errors.PrepareTooLarge answers is = inr (sym (answers.prepare (sym is)))
-answer_is refusal error (errors.PacketTooLarge set) answers is = inr (sym (answers.packet set (sym is)))
-answer_is refusal error errors.Memory answers is = inl (answers.memory (sym is))
-
-module _ (fill : CarriedSetsFillPlaces) (query : List ℕ) (id limit : ℕ) (stream : List ℕ) (bytes : AreBytes stream) (audit : Audit) (says : AuditOf query id limit stream audit) (is_whole : audit.ending ≡ ends.Whole) where
-  -- the cause against sending the sets is the cause against recoding the stream
-  same_cause : (tokens : List (List ℕ)) → HasTokens query tokens
-      → cause_of Execute (statement_of query tokens id) limit (map Ok (values_of_sets audit.sets)) ≡ option_map as_refusal (recoding_cause (statement_of query tokens id) limit audit)
-  same_cause tokens has =
-      causes_agree (statement_of query tokens id) limit audit.sets (counts (places_from query 0 tokens) audit.sets (fill query tokens id limit stream audit has bytes says))
-      ∙ ap (λ ending. option_map as_refusal (recoding_cause (statement_of query tokens id) limit (record { sets = audit.sets; ending = ending }))) (sym is_whole)
-
-  -- no cause on one side is none on the other
-  none_of_none : (cause : Option RecodeError) → option_map as_refusal cause ≡ None → cause ≡ None
-  none_of_none None none = refl
-  none_of_none (Some error) none = absurd (cc)
-
+module _ (query : List ℕ) (id limit : ℕ) (stream : List ℕ) (audit : Audit) (says : AuditOf query id limit stream audit) (whole : audit.ending ≡ ends.Whole) where
   -- what was sent of the stream's contents is its recoding
   pub sent_is_recoded : (old new : List ℕ) → SendsGiven Execute query (all_given_in_places (values_of_sets audit.sets)) id limit old new → Recodes query id limit stream old new
   sent_is_recoded old new sends = record {
@@ -137,25 +100,20 @@ module _ (fill : CarriedSetsFillPlaces) (query : List ℕ) (id limit : ℕ) (str
     has = sends.has;
     audit = audit;
     says = says;
-    none = none_of_none _ (sym (same_cause sends.tokens sends.has) ∙ sends.none);
-    appended = sends.appended ∙ ap (λ sent. old ++ framings (payloads_of sent) EachFromZero) (sends.are_sent ∙ ap (λ values. prepare_of statement ∷ flat_map (as_execution statement) values) (sym (same_values (values_of_sets audit.sets) sends.values sends.given)));
+    none = no_cause (statement_of query sends.tokens id) limit audit whole sends.none;
+    sent = sends.sent;
+    are_sent = subst (λ (values : List (List Value)). AreSent Execute (statement_of query sends.tokens id) (limit - 4) values sends.sent) (sym (same_values (values_of_sets audit.sets) sends.values sends.given)) sends.are_sent;
+    appended = sends.appended;
   }
-    where
-      statement : Statement
-      statement = statement_of query sends.tokens id
 
   -- why it was not sent is why the stream is not recoded
-  pub refused_is_cause : (refusal : Refusal) (error : RecodeError) → RefusedAs refusal error
+  pub refused_is_cause : (refusal : Refusal) (error : RecodeError) → error ≡ error_for refusal
       → RefusesGiven Execute query (all_given_in_places (values_of_sets audit.sets)) id limit refusal → RefusesRecoding query id limit stream error
-  refused_is_cause refusal error answers (inl memory) = inl (answers.memory memory)
-  refused_is_cause refusal error answers (inr why) = by_cause (recoding_cause (statement_of query why.tokens id) limit audit) refl (sym (same_cause why.tokens why.has) ∙ why.first)
-    where
-      by_answer : (cause : RecodeError) → recoding_cause (statement_of query why.tokens id) limit audit ≡ Some cause → ((error ≡ errors.Memory) ⊎ (cause ≡ error)) → RefusesRecoding query id limit stream error
-      by_answer cause first (inl memory) = inl memory
-      by_answer cause first (inr is) = inr (record { tokens = why.tokens; has = why.has; audit = audit; says = says; first = first ∙ ap (λ e. Some e) is })
-
-      by_cause : (cause : Option RecodeError) → recoding_cause (statement_of query why.tokens id) limit audit ≡ cause → option_map as_refusal cause ≡ Some refusal → RefusesRecoding query id limit stream error
-      by_cause None first is = absurd (cc)
-      by_cause (Some cause) first is =
-          let same : as_refusal cause ≡ refusal = cc in
-          by_answer cause first (answer_is refusal error cause answers same)
+  refused_is_cause refusal error is (inl memory) = inl (is ∙ ap error_for memory)
+  refused_is_cause refusal error is (inr why) = inr (record {
+    tokens = why.tokens;
+    has = why.has;
+    audit = audit;
+    says = says;
+    first = whole_cause (statement_of query why.tokens id) limit audit whole ∙ ap (option_map error_for) why.first ∙ ap (λ e. Some e) (sym is);
+  })

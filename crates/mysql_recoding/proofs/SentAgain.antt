@@ -1,7 +1,6 @@
 -- What recoding appends carries the same sets, and recodes to the same bytes.
-use Rattle.std.proofs.Common.{◌≡◌, ℕ, ◌-◌, ◌<◌, ◌^◌, List, [], ◌∷◌, ◌++◌, map, refl, sym, ap, subst, arith}
-use Rattle.std.specs.List.{AllByRecursion, flat_map}
-use Rattle.std.proofs.lemmas.List.{append_cancel_left}
+use Rattle.std.proofs.Common.{◌≡◌, ℕ, ◌-◌, ◌<◌, ◌^◌, List, [], ◌++◌, map, None, Ok, refl, sym, ap, subst, arith}
+use Rattle.std.specs.List.{AllByRecursion}
 use Rattle.mysql_values.specs.Queries.{places_from}
 use Rattle.mysql_commands.specs.Audit.{Audit, AuditOf}
 use Rattle.mysql_commands.specs.Reading.{Set}
@@ -9,18 +8,16 @@ use Rattle.mysql_commands.specs.declared.audit.End.TheVariants.{Whole}
 use Rattle.mysql_stmt.specs.Statements.{ExecutionsHaveSizes}
 use Rattle.mysql_streams.specs.Laws.{CarriesValues, SentValuesAreCarried}
 use Rattle.mysql_streams.specs.Reading.{SentReadable, held}
-use Rattle.mysql_streams.specs.Sent.{Statement, as_execution, prepare_of, statement_of}
+use Rattle.mysql_streams.specs.Cause.{cause_of}
+use Rattle.mysql_streams.specs.Sent.{Statement, statement_of}
 use Rattle.mysql_streams.specs.Sets.{all_given_in_places}
 use Rattle.mysql_streams.specs.declared.road.Road.TheVariants.{Execute}
-use Rattle.mysql_recoding.specs.Canonical.{canonical, values_of_sets}
+use Rattle.mysql_recoding.specs.Causes.{values_of_sets}
 use Rattle.mysql_recoding.specs.Laws.{CarriedSetsFillPlaces, FillsPlaces, RecodingsCarryTheSame, RecodingsRecodeToThemselves}
 use Rattle.mysql_recoding.specs.Recoding.{Recodes}
-use Rattle.mysql_recoding.proofs.Recodable.{IsRecodable, no_cause, no_refusal, recodable, sets_fit}
-use Rattle.mysql_recoding.proofs.SentContents.{sets_held}
-
--- the canonical form is all that was appended
-pub appended : (query : List ℕ) (id limit : ℕ) (stream old recoded : List ℕ) (is : Recodes query id limit stream old (old ++ recoded)) → recoded ≡ canonical (statement_of query is.tokens id) is.audit.sets
-appended query id limit stream old recoded is = append_cancel_left old recoded (canonical (statement_of query is.tokens id) is.audit.sets) is.appended
+use Rattle.mysql_recoding.proofs.Canonical.{appended}
+use Rattle.mysql_recoding.proofs.Causes.{free_of_causes, no_cause, recodable}
+use Rattle.mysql_recoding.proofs.SentContents.{sets_fit, sets_held}
 
 -- the sets are sent by execute, and can be read back
 sent_again : ExecutionsHaveSizes → (query : List ℕ) (id limit : ℕ) (stream old recoded : List ℕ) → limit < 2 ^ 64 → (is : Recodes query id limit stream old (old ++ recoded))
@@ -28,7 +25,7 @@ sent_again : ExecutionsHaveSizes → (query : List ℕ) (id limit : ℕ) (stream
 sent_again sizes query id limit stream old recoded small is fill =
     let statement : Statement = statement_of query is.tokens id in
     let sets : List Set = is.audit.sets in
-    let can : IsRecodable statement limit is.audit = recodable statement limit is.audit is.none in
+    let none : cause_of Execute statement limit (map Ok (values_of_sets sets)) ≡ None = (recodable statement limit is.audit is.none).1 in
     let room : limit - 4 < 2 ^ 64 = omega arith in
     record {
       sends = record {
@@ -36,12 +33,12 @@ sent_again sizes query id limit stream old recoded small is fill =
         has = is.has;
         values = values_of_sets sets;
         given = refl;
-        none = no_refusal statement limit is.audit fill can;
-        sent = prepare_of statement ∷ flat_map (as_execution statement) (values_of_sets sets);
-        are_sent = refl;
+        none = none;
+        sent = is.sent;
+        are_sent = is.are_sent;
         appended = appended query id limit stream old recoded is;
       };
-      readable = sets_fit sizes id (limit - 4) 0 statement.places sets room fill can.large;
+      readable = sets_fit sizes id (limit - 4) statement.places sets room fill (free_of_causes statement limit (values_of_sets sets) none).1;
     }
 
 pub carry_the_same : CarriedSetsFillPlaces → SentValuesAreCarried → ExecutionsHaveSizes → RecodingsCarryTheSame
@@ -63,12 +60,13 @@ pub recode_to_themselves : RecodingsCarryTheSame → RecodingsRecodeToThemselves
 unfolding whole
 recode_to_themselves same query id limit stream old other recoded few room small short bytes is =
     let statement : Statement = statement_of query is.tokens id in
-    let can : IsRecodable statement limit is.audit = recodable statement limit is.audit is.none in
     record {
       tokens = is.tokens;
       has = is.has;
       audit = whole is.audit.sets;
       says = same query id limit stream old recoded few room small short bytes is;
-      none = no_cause statement limit (whole is.audit.sets) (record { mixed = can.mixed; ending = refl; many = can.many; long = can.long; large = can.large });
+      none = no_cause statement limit (whole is.audit.sets) refl (recodable statement limit is.audit is.none).1;
+      sent = is.sent;
+      are_sent = is.are_sent;
       appended = ap (λ l. other ++ l) (appended query id limit stream old recoded is);
     }

@@ -1,9 +1,9 @@
 -- The values that contents are sent as hold these contents, and their numbers fit their fields.
-use Rattle.std.proofs.Common.{◌≡◌, ℕ, ℤ, suc, pos, negsuc, ◌<◌, ◌^◌, Bool, true, false, List, [], ◌∷◌, ◌++◌, length, map, Some, refl, ◌∙◌, ap, arith, inl, inr, nat_lt, unwrap_or, length-append}
+use Rattle.std.proofs.Common.{◌≡◌, ℕ, ℤ, suc, pos, negsuc, ◌<◌, ◌≤◌, ◌^◌, Bool, true, false, List, [], ◌∷◌, ◌++◌, length, map, Some, refl, ◌∙◌, ap, arith, inl, inr, nat_lt, unwrap_or, length-append}
 use Rattle.std.specs.Prelude.{if◌then◌else◌}
 use Rattle.std.specs.Fmt.{decimal}
 use Rattle.std.specs.List.{AllByRecursion, sum_by}
-use Rattle.std.proofs.lemmas.Bool.{ltb-true, lt-ltb}
+use Rattle.std.proofs.lemmas.Bool.{ltb-false, ltb-true, lt-ltb}
 use Rattle.std.proofs.lemmas.List.Sums.{sum_by-cons}
 use Rattle.mysql_cells.specs.AsSql.{FitsFields}
 use Rattle.mysql_cells.specs.Cells.{bin_len}
@@ -14,11 +14,14 @@ use Rattle.mysql_values.specs.Content.{Content}
 use Rattle.mysql_values.specs.Content.TheVariants as content
 use Rattle.mysql_values.specs.Place.{Place}
 use Rattle.mysql_commands.specs.Reading.{Set}
+use Rattle.mysql_stmt.specs.Executions.{execute_command}
+use Rattle.mysql_stmt.specs.Statements.{ExecutionsHaveSizes}
 use Rattle.mysql_streams.specs.Reading.{held}
-use Rattle.mysql_to_values.specs.Values.{content_value, integer_value}
+use Rattle.mysql_values.specs.Contents.{content_value, integer_value}
 use Rattle.mysql_wire.specs.Writing.{lenenc_int}
-use Rattle.mysql_recoding.specs.Canonical.{values_of_sets}
+use Rattle.mysql_recoding.specs.Causes.{values_of_sets}
 use Rattle.mysql_recoding.specs.Laws.{FillsPlaces, IsCarried}
+use Rattle.mysql_recoding.proofs.Causes.{IsFree}
 
 -- ---- numbers
 
@@ -96,3 +99,18 @@ set_fits (c ∷ set) each short =
 pub sets_held : (places : List Place) (sets : List Set) → AllByRecursion (FillsPlaces places) sets → map (map held) (values_of_sets sets) ≡ sets
 sets_held places [] each = refl
 sets_held places (set ∷ sets) each = ap (λ l. l ∷ map (map held) (values_of_sets sets)) (set_held set each.0.each) ∙ ap (λ l. set ∷ l) (sets_held places sets each.1)
+
+-- the cells of an execution are no longer than it
+cells_short : ExecutionsHaveSizes → (id : ℕ) (values : List Value) → sum_by bin_len values ≤ length (execute_command id values false)
+cells_short sizes id [] = omega arith
+cells_short sizes id (value ∷ values) = omega (arith, sizes.1 id value values)
+
+-- so the numbers of sets that can be sent fit their fields
+pub sets_fit : ExecutionsHaveSizes → (id room : ℕ) (places : List Place) (sets : List Set) → room < 2 ^ 64 → AllByRecursion (FillsPlaces places) sets
+    → AllByRecursion (IsFree id (length places) room) (values_of_sets sets) → AllByRecursion (λ values. AllByRecursion (λ value. FitsFields value) values) (values_of_sets sets)
+sets_fit sizes id room places [] few each free = tt
+sets_fit sizes id room places (set ∷ sets) few each free =
+    let values : List Value = map content_value set in
+    let within : length (execute_command id values false) ≤ room = ltb-false room (length (execute_command id values false)) free.0.small in
+    let short : sum_by bin_len values < 2 ^ 64 = omega (arith, cells_short sizes id values) in
+    (set_fits set each.0.each short, sets_fit sizes id room places sets few each.1 free.1)

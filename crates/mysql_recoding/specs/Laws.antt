@@ -1,23 +1,25 @@
 -- The laws of recoding: what was recoded carries the same sets, and there is one form for the same sets.
 -- MySQL: Client/Server Protocol, "Command Phase".
-use Rattle.std.specs.Prelude.{◌≡◌, ◌⊎◌, ℕ, ◌+◌, ◌<◌, ◌≤◌, ◌^◌, pos, FitsSigned, List, ◌++◌, length, None}
+use Rattle.std.specs.Prelude.{◌≡◌, ◌⊎◌, ℕ, ◌+◌, ◌-◌, ◌<◌, ◌≤◌, ◌^◌, pos, FitsSigned, List, ◌∷◌, ◌++◌, length, map, None, Ok}
 use Rattle.std.specs.List.{AllByRecursion}
 use Rattle.std.specs.Int.{w64}
 use Rattle.mysql_wire.specs.Bytes.{AreBytes}
-use Rattle.mysql_wire.specs.Stream.{IsSplit, Split}
+use Rattle.mysql_wire.specs.Stream.{IsSplit, Split, framings}
 use Rattle.mysql_wire.specs.Stream.Numbering.{EachFromZero}
 use Rattle.mysql_values.specs.Content.{Content}
 use Rattle.mysql_values.specs.Content.TheVariants as content
+use Rattle.mysql_values.specs.Contents.{content_value}
 use Rattle.mysql_values.specs.Place.{Place}
 use Rattle.mysql_values.specs.Queries.{places_from}
 use Rattle.mysql_values.specs.Tokens.{HasTokens}
 use Rattle.mysql_commands.specs.declared.audit.End.TheVariants.{Whole}
 use Rattle.mysql_commands.specs.Audit.{Audit, AuditOf}
 use Rattle.mysql_commands.specs.Reading.{Set}
-use Rattle.mysql_streams.specs.Sent.{Statement, statement_of}
+use Rattle.mysql_streams.specs.Cause.{given_cause, limits_of}
+use Rattle.mysql_streams.specs.Sent.{AreSent, SentPayload, Statement, payloads_of, prepare_of, statement_of}
+use Rattle.mysql_streams.specs.declared.road.Road.TheVariants.{Execute}
 use Rattle.mysql_recoding.specs.declared.errors.RecodeError.{RecodeError}
-use Rattle.mysql_recoding.specs.Canonical.{canonical, execution_framings}
-use Rattle.mysql_recoding.specs.Causes.{recoding_cause}
+use Rattle.mysql_recoding.specs.Causes.{recoding_cause, values_of_sets}
 use Rattle.mysql_recoding.specs.Recoding.{IsRecodingCause, Recodes}
 
 -- a content that a command can carry: nothing, a number from -2^63 to 2^64-1, or bytes
@@ -26,10 +28,11 @@ IsCarried content.Null = Unit {0}
 IsCarried (content.Number number) = FitsSigned w64 number ⊎ ((n : ℕ) × (number ≡ pos n) × (n < 2 ^ 64))
 IsCarried (content.Bytes bytes) = AreBytes bytes
 
--- a set has such a content for each of these placeholders
+-- a set has such a content for each of these placeholders, and nothing speaks against the values that it is sent as: their count, or a float
 pub record FillsPlaces (places : List Place) (set : Set) : Type 0 where
   pub count : length set ≡ length places
   pub each : AllByRecursion IsCarried set
+  pub right : (limit number : ℕ) → given_cause (limits_of places limit) number (Ok (map content_value set)) ≡ None
 
 -- Each set that a stream carries fills the query's placeholders.
 abbrev pub CarriedSetsFillPlaces : Type 0
@@ -73,14 +76,18 @@ RecodingsAreDecided = (query : List ℕ) (id limit : ℕ) (stream old : List ℕ
 abbrev pub both : Audit → Audit → Audit
 both first second = record { sets = first.sets ++ second.sets; ending = Whole }
 
--- Two whole streams one behind the other carry the sets of both; they can be recoded exactly where each of them can, and then what stands behind
--- the prepare of the second one's recoding stands behind the first one's.
+-- Two whole streams one behind the other carry the sets of both; they can be recoded exactly where each of them can, and then what is sent of the second
+-- one behind the prepare is sent behind what is sent of the first one, and so stand their bytes.
 pub record RecodesJoined (query : List ℕ) (id limit : ℕ) (statement : Statement) (stream behind : List ℕ) (first second : Audit) : Type 0 where
   pub says : AuditOf query id limit (stream ++ behind) (both first second)
   pub from_each : recoding_cause statement limit first ≡ None → recoding_cause statement limit second ≡ None → recoding_cause statement limit (both first second) ≡ None
   pub to_first : recoding_cause statement limit (both first second) ≡ None → recoding_cause statement limit first ≡ None
   pub to_second : recoding_cause statement limit (both first second) ≡ None → recoding_cause statement limit second ≡ None
-  pub recoded : canonical statement (both first second).sets ≡ canonical statement first.sets ++ execution_framings statement second.sets
+  pub recoded : (sent more : List SentPayload) → AreSent Execute statement (limit - 4) (values_of_sets first.sets) sent
+      → AreSent Execute statement (limit - 4) (values_of_sets second.sets) (prepare_of statement ∷ more)
+      → AreSent Execute statement (limit - 4) (values_of_sets (both first second).sets) (sent ++ more)
+  pub framed : (sent more : List SentPayload)
+      → framings (payloads_of (sent ++ more)) EachFromZero ≡ framings (payloads_of sent) EachFromZero ++ framings (payloads_of more) EachFromZero
 
 abbrev pub JoinedStreamsRecode : Type 0
 JoinedStreamsRecode =

@@ -1,4 +1,3 @@
-pub mod Canonical
 pub mod Causes
 pub mod Recoding
 pub mod Laws

@@ -1,22 +1,26 @@
 -- What recoding a stream appends, and why nothing is.
--- MySQL: Client/Server Protocol, "Protocol Basics: MySQL Packets", "Command Phase".
-use Rattle.std.specs.Prelude.{◌≡◌, ◌⊎◌, ℕ, List, ◌++◌, None, Some}
+-- MySQL: Client/Server Protocol, "Protocol Basics: MySQL Packets", "Command Phase", "COM_STMT_PREPARE", "COM_STMT_EXECUTE".
+use Rattle.std.specs.Prelude.{◌≡◌, ◌⊎◌, ◌-◌, ℕ, List, ◌++◌, None, Some}
+use Rattle.mysql_wire.specs.Stream.{framings}
+use Rattle.mysql_wire.specs.Stream.Numbering.{EachFromZero}
 use Rattle.mysql_values.specs.Tokens.{HasTokens}
 use Rattle.mysql_commands.specs.Audit.{Audit, AuditOf}
-use Rattle.mysql_streams.specs.Sent.{statement_of}
+use Rattle.mysql_streams.specs.Sent.{AreSent, SentPayload, payloads_of, statement_of}
+use Rattle.mysql_streams.specs.declared.road.Road.TheVariants.{Execute}
 use Rattle.mysql_recoding.specs.declared.errors.RecodeError.{RecodeError}
 use Rattle.mysql_recoding.specs.declared.errors.RecodeError.TheVariants as recode_error
-use Rattle.mysql_recoding.specs.Canonical.{canonical}
-use Rattle.mysql_recoding.specs.Causes.{recoding_cause}
+use Rattle.mysql_recoding.specs.Causes.{recoding_cause, values_of_sets}
 
--- no cause speaks against recoding the stream, and the canonical form of the sets that it carries is appended
+-- no cause speaks against recoding the stream, and the framings of what is sent by execute of the sets that it carries are appended
 pub record Recodes (query : List ℕ) (id limit : ℕ) (stream old new : List ℕ) : Type 0 where
   pub tokens : List (List ℕ)
   pub has : HasTokens query tokens
   pub audit : Audit
   pub says : AuditOf query id limit stream audit
   pub none : recoding_cause (statement_of query tokens id) limit audit ≡ None
-  pub appended : new ≡ old ++ canonical (statement_of query tokens id) audit.sets
+  pub sent : List SentPayload
+  pub are_sent : AreSent Execute (statement_of query tokens id) (limit - 4) (values_of_sets audit.sets) sent
+  pub appended : new ≡ old ++ framings (payloads_of sent) EachFromZero
 
 -- the first cause for which the stream is not recoded
 pub record IsRecodingCause (query : List ℕ) (id limit : ℕ) (stream : List ℕ) (error : RecodeError) : Type 0 where

@@ -8,7 +8,8 @@ use mysql_streams::laws::{conversations_are_one, sent_values_are_carried};
 use mysql_values::laws::tokens_of_a_text;
 use mysql_wire::laws::framed_come_first;
 
-/// Each set that a stream carries has as many contents as the query has placeholders, and its numbers are from -2^63 to 2^64-1.
+/// Each set that a stream carries has as many contents as the query has placeholders, its numbers are from -2^63 to 2^64-1, and of the
+/// values that it is sent as none is a float.
 pub fn carried_sets_fill_places()
     ensures { CarriedSetsFillPlaces }
 {

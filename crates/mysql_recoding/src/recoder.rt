@@ -2,7 +2,7 @@
 
 ghost use Rattle.std.specs.Prelude.{◌≡◌, ◌≤◌, ◌⊎◌, IfErr, IfOk, OnErr, OnOk, Some, flat_map, map, ℕ};
 ghost use Rattle.mysql_wire.specs.Bytes.{AreBytes};
-ghost use Rattle.mysql_to_values.specs.Values.{content_value};
+ghost use Rattle.mysql_values.specs.Contents.{content_value};
 ghost use Rattle.mysql_commands.specs.declared.audit.End.TheVariants as ends;
 ghost use Rattle.mysql_commands.specs.Audit.{AuditOf};
 ghost use Rattle.mysql_commands.specs.Receiving.{audit_of};
@@ -12,12 +12,10 @@ ghost use Rattle.mysql_streams.specs.Sending.{RefusesGiven};
 ghost use Rattle.mysql_streams.specs.Sets.{all_given_in_places};
 ghost use Rattle.mysql_streams.specs.declared.road.Road.TheVariants as roads;
 ghost use Rattle.mysql_commands.specs.Views.{sets_of};
-ghost use Rattle.mysql_recoding.specs.Canonical.{values_of_sets};
+ghost use Rattle.mysql_recoding.specs.Causes.{error_for, values_of_sets};
 ghost use Rattle.mysql_recoding.specs.Recoding.{Recodes, RefusesRecoding};
-ghost use Rattle.mysql_recoding.specs.declared.errors.RecodeError.TheVariants as recode_error;
 
 use crate::errors::RecodeError;
-use crate::laws::carried_sets_fill_places;
 use mysql_commands::laws::stream_has_one_audit;
 use mysql_commands::{Audit, Content, receive};
 use mysql_senders::put_executions_of_values;
@@ -140,11 +138,7 @@ fn whole_audit(
 /// What a refusal of contents that a stream carries makes of the recoding. They are as many as the placeholders and no floats, so
 /// that the other refusals never come.
 fn refused(refusal: Refusal) -> RecodeError
-    ensures mixed { refusal ≡ refusals.Mixed → result ≡ recode_error.Mixed }
-    ensures too_many { refusal ≡ refusals.TooManyPlaces → result ≡ recode_error.TooManyPlaces }
-    ensures prepare { refusal ≡ refusals.PrepareTooLarge → result ≡ recode_error.PrepareTooLarge }
-    ensures packet { (set : ℕ) → refusal ≡ refusals.PacketTooLarge set → result ≡ recode_error.PacketTooLarge set }
-    ensures memory { refusal ≡ refusals.Memory → result ≡ recode_error.Memory }
+    ensures { result ≡ error_for refusal }
 {
     match refusal {
         Refusal::Mixed => RecodeError::Mixed,
@@ -183,8 +177,6 @@ pub fn recode(
     ensures refused { IfErr result (RefusesRecoding query.now stmt_id limit (flat_map (λ piece. piece.now) pieces.now)) }
     ensures kept { OnErr result (out.new.items ≡ out.old.items) }
 {
-    carried_sets_fill_places();
-    all_are_bytes(pieces);
     let audit = whole_audit(alloc, query, stmt_id, limit, pieces)?;
     match send_contents(alloc, query, audit.sets, stmt_id, limit, out) {
         Ok(()) => Ok(()),

@@ -37,3 +37,12 @@ behind_long place (value ∷ values) (Some x ∷ xs) ys e h t =
     let others : map Some values ≡ xs = cc in
     let n : place + suc (length values) ≡ place + 1 + length values = omega arith in
     behind_long (place + 1) values xs ys e others (subst (λ m. too_long m ys ≡ Some e) n t)
+
+-- where each is a value, none is too long
+pub none_long : (place : ℕ) (parts : List (Option Value)) (values : List Value) → parts ≡ map Some values → too_long place parts ≡ None
+none_long place [] values h = refl
+none_long place (None ∷ parts) [] h = absurd (cc)
+none_long place (None ∷ parts) (value ∷ values) h = absurd (cc)
+none_long place (Some x ∷ parts) [] h = absurd (cc)
+none_long place (Some x ∷ parts) (value ∷ values) h =
+    let others : parts ≡ map Some values = cc in none_long (place + 1) parts values others

@@ -1,7 +1,7 @@
 //! The values of contents.
 
 ghost use Rattle.std.specs.Prelude.{Some};
-ghost use Rattle.mysql_to_values.specs.Values.{content_value};
+ghost use Rattle.mysql_values.specs.Contents.{content_value};
 
 use crate::conversion::ToValue;
 use crate::errors::ToValueError;

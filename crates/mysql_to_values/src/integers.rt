@@ -2,7 +2,7 @@
 
 ghost use Rattle.std.specs.Prelude.{Some, pos};
 ghost use Rattle.mysql_cells.specs.declared.value.Value.TheVariants.{Int, UInt};
-ghost use Rattle.mysql_to_values.specs.Values.{integer_value};
+ghost use Rattle.mysql_values.specs.Contents.{integer_value};
 
 use crate::conversion::ToValue;
 use crate::errors::ToValueError;

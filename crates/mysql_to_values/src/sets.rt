@@ -33,6 +33,7 @@ pub trait IntoParams: Sized + Drop {
     /// `Redefined` with the first name that an earlier pair has, `TooLong` with the least place whose value is too long, `Memory`.
     fn to_params(&self, alloc: Global) -> Result<Params, SetError>
         ensures ok { IfOk result (IsMadeOf (parts self.now)) }
+        ensures none { OnOk result (set_cause (parts self.now) ≡ None) }
         ensures err { IfErr result (λ e. (e ≡ set_error.Memory) ⊎ (set_cause (parts self.now) ≡ Some e)) };
 
     /// The set of the values, as `to_params`.
@@ -41,6 +42,7 @@ pub trait IntoParams: Sized + Drop {
     /// As `to_params`.
     final fn into_params(self, alloc: Global) -> Result<Params, SetError>
         ensures ok { IfOk result (IsMadeOf (parts self)) }
+        ensures none { OnOk result (set_cause (parts self) ≡ None) }
         ensures err { IfErr result (λ e. (e ≡ set_error.Memory) ⊎ (set_cause (parts self) ≡ Some e)) }
     {
         self.to_params(alloc)
@@ -61,6 +63,7 @@ fn set_of(values: Vec<Value>) -> Params
 /// A set of the values of a list.
 pub(crate) fn set_of_list<T: ToValue>(alloc: Global, list: &[T]) -> Result<Params, SetError>
     ensures ok { IfOk result (IsMadeOf (InOrder (map T.as_value list.now))) }
+    ensures none { OnOk result (set_cause (InOrder (map T.as_value list.now)) ≡ None) }
     ensures err { IfErr result (λ e. (e ≡ set_error.Memory) ⊎ (set_cause (InOrder (map T.as_value list.now)) ≡ Some e)) }
 {
     Ok(set_of(values_of_list(alloc, list)?))
@@ -73,6 +76,7 @@ pub(crate) fn set_of_elements<E: Elements, F: Elements>(
     second: &F,
 ) -> Result<Params, SetError>
     ensures ok { IfOk result (IsMadeOf (InOrder (E.as_values first.now ++ F.as_values second.now))) }
+    ensures none { OnOk result (too_long 0 (E.as_values first.now ++ F.as_values second.now) ≡ None) }
     ensures err { IfErr result (λ e. (e ≡ set_error.Memory) ⊎ (too_long 0 (E.as_values first.now ++ F.as_values second.now) ≡ Some e)) }
 {
     let mut values = Vec::new(alloc);
@@ -126,6 +130,7 @@ fn named_set<N: AsSlice<u8>, V: ToValue>(
     pairs: &[(N, V)],
 ) -> Result<Params, SetError>
     ensures ok { IfOk result (IsMadeOf (ByName (map (λ pair. (N.items pair.0, V.as_value pair.1)) pairs.now))) }
+    ensures none { OnOk result (set_cause (ByName (map (λ pair. (N.items pair.0, V.as_value pair.1)) pairs.now)) ≡ None) }
     ensures err { IfErr result (λ e. (e ≡ set_error.Memory) ⊎ (set_cause (ByName (map (λ pair. (N.items pair.0, V.as_value pair.1)) pairs.now)) ≡ Some e)) }
 {
     let mut entries = HashMap::new(alloc);

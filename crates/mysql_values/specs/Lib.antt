@@ -19,3 +19,4 @@ pub use Rattle.mysql_cells.specs.CellLaws
 pub use Rattle.mysql_cells.specs.declared.value.Value
 pub mod Params
 pub mod Binding
+pub mod Contents

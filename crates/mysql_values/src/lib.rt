@@ -2,10 +2,12 @@
 #![tactic(auto)]
 
 pub mod bind;
+mod contents;
 pub mod laws;
 pub mod params;
 
 pub use bind::{BindError, bind_text, bind_text_at};
+pub use contents::ContentExt;
 pub use mysql_cells::{
     AsSqlError, BinValue, TextValue, Value, ValueDeserializer, read_cell, read_text_cell,
 };

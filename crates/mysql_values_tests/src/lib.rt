@@ -9,6 +9,8 @@ mod binding;
 #[cfg(test)]
 mod cells;
 #[cfg(test)]
+mod contents;
+#[cfg(test)]
 mod conversions;
 #[cfg(test)]
 mod literals;

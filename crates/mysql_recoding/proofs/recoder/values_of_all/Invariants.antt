@@ -1,6 +1,6 @@
 use Rattle.std.proofs.Common.{◌≡◌, ◌++◌, map}
 use Rattle.mysql_commands.specs.Views.{sets_of}
-use Rattle.mysql_recoding.specs.Canonical.{values_of_sets}
+use Rattle.mysql_recoding.specs.Causes.{values_of_sets}
 use Rattle.mysql_recoding.proofs.recoder.values_of_all.Given as goal
 
 abbrev pub invariant-sets : goal.invariant-sets

@@ -1,5 +1,5 @@
 use Rattle.std.proofs.Common.{◌≡◌, ◌++◌, map}
-use Rattle.mysql_to_values.specs.Values.{content_value}
+use Rattle.mysql_values.specs.Contents.{content_value}
 use Rattle.mysql_recoding.proofs.recoder.values_of_set.Given as goal
 
 abbrev pub invariant-contents : goal.invariant-contents

@@ -1,0 +1,49 @@
+//! The values that contents are sent as.
+
+ghost use Rattle.std.specs.Prelude.{◌≡◌, IfOk};
+ghost use Rattle.mysql_queries.specs.declared.content.Content.{Content as ContentOf};
+ghost use Rattle.mysql_queries.specs.declared.content.Content.TheVariants as contents;
+ghost use Rattle.mysql_values.specs.Contents.{IsInRange, content_value, integer_value};
+
+use mysql_cells::Value;
+use mysql_queries::Content;
+use std::alloc::{AllocError, Global};
+
+/// The value of a number from -2^63 to 2^64-1.
+fn value_of_number(number: i128) -> Value
+    requires { IsInRange (contents.Number number) }
+    ensures { result ≡ integer_value number }
+{
+    if number <= i128::from(i64::MAX) {
+        Value::Int(number as i64)
+    } else {
+        Value::UInt(number as u64)
+    }
+}
+
+/// The value of a content. It stands in place of a method of `Content`, which is a type of another crate.
+pub trait ContentExt {
+    // the content that this is
+    ghost content: { Self → ContentOf };
+
+    /// The value that the content is sent as: `NULL`, a number as `Int` where it fits, else as `UInt`, bytes as `Bytes`. They are copied.
+    ///
+    /// A number is from -2^63 to 2^64-1, as each that was read is. Refused for want of memory alone.
+    ///
+    /// (MySQL Reference Manual, "Integer Types (Exact Value)".)
+    fn to_value(&self, alloc: Global) -> Result<Value, AllocError>
+        requires { IsInRange (content self.now) }
+        ensures { IfOk result (λ value. value ≡ content_value (content self.now)) };
+}
+
+impl ContentExt for Content {
+    ghost content = { λ content. content };
+
+    fn to_value(&self, alloc: Global) -> Result<Value, AllocError> {
+        match self {
+            Content::Null => Ok(Value::NULL),
+            Content::Number(number) => Ok(value_of_number(*number)),
+            Content::Bytes(bytes) => Ok(Value::Bytes(bytes.clone(alloc)?)),
+        }
+    }
+}
