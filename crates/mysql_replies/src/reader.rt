@@ -1,6 +1,6 @@
 //! A reply, read from the bytes of a connection as they come.
 
-ghost use Rattle.std.specs.Prelude.{◌≡◌, ◌≢◌, ◌⊎◌, ◌∷◌, ◌++◌, [], None, Some, Ok, Err, OnOk, IfErr, IfSome, false, flat_map, length, ◌<◌, ℕ, List};
+ghost use Rattle.std.specs.Prelude.{◌≡◌, ◌≢◌, ◌⊎◌, ◌∷◌, ◌++◌, [], None, Some, Ok, Err, OnOk, IfErr, IfSome, false, flat_map, length, map, ◌<◌, ℕ, List};
 ghost use Rattle.std.specs.Bool.{OnFalse, OnTrue};
 ghost use Rattle.mysql_wire.specs.Incoming.{ReadsOn, codec_by};
 ghost use Rattle.mysql_replies.specs.Steps.{IsAwaiting};
@@ -196,7 +196,8 @@ impl ReplyReader {
 }
 
 /// The reply of these pieces' bytes, one after another: the answer of a [`ReplyReader`] that is fed them. Where memory ran
-/// out its end is Fault(p, Memory), and it has the results and the reports of the first p payloads.
+/// out over a piece its end is Fault(p, Memory), and it has the results and the reports of the first p payloads: at least
+/// of those that stand whole in the pieces before it.
 ///
 /// MySQL: Client/Server Protocol, "COM_QUERY Response", "Text Resultset", "Binary Protocol Resultset" and
 /// "COM_STMT_PREPARE Response".
@@ -209,7 +210,7 @@ pub fn read_reply(
     pieces: &[&[u8]],
 ) -> Reply
     ensures { IsReplyOf (record { kind = kind; capabilities = capabilities }) first_id limit (flat_map (λ piece. piece.now) pieces.now) (answer_view result)
-        ⊎ IsShortReplyOf (record { kind = kind; capabilities = capabilities }) first_id limit (flat_map (λ piece. piece.now) pieces.now) (answer_view result) }
+        ⊎ IsShortReplyOf (record { kind = kind; capabilities = capabilities }) first_id limit (map (λ piece. piece.now) pieces.now) (answer_view result) }
 {
     let mut reader = ReplyReader::new(alloc, kind, capabilities, first_id, limit);
     // After a fault the reader takes no notice of further pieces.
