@@ -9,6 +9,7 @@ pub mod Finishing
 pub mod Numbers
 pub mod Receiving
 pub mod Fed
+pub mod Found
 pub mod ManualReadings
 pub mod ManualReports
 pub mod ManualFronts

@@ -1,11 +1,11 @@
 -- A reply over the bytes of a connection, which split into payloads numbered on from the reply's first id.
 -- MySQL: Client/Server Protocol, "MySQL Packets" and "Text Resultset".
-use Rattle.std.specs.Prelude.{◌≡◌, ℕ, ◌-◌, List, length, take, nat_le, if◌then◌else◌}
+use Rattle.std.specs.Prelude.{◌≡◌, ℕ, ◌-◌, ◌≤◌, List, ◌∷◌, ◌++◌, length, take, nat_le, if◌then◌else◌}
 use Rattle.std.specs.List.{flat_map}
 use Rattle.mysql_wire.specs.Bytes.{AreBytes}
 use Rattle.mysql_wire.specs.Reader.{StandFirst}
 use Rattle.mysql_wire.specs.Stream as stream
-use Rattle.mysql_wire.specs.Stream.{Rest, Split, IsSplit}
+use Rattle.mysql_wire.specs.Stream.{Rest, Split, IsSplit, IsFault}
 use Rattle.mysql_wire.specs.Stream.Numbering.{OnFrom}
 use Rattle.mysql_wire.specs.Stream.Rest.{TooLarge}
 use Rattle.mysql_replies.specs.declared.context.Context.{Context}
@@ -31,10 +31,9 @@ pub record IsReplyOf (c : Context) (first_id limit : ℕ) (bytes : List ℕ) (an
   pub splits : IsSplit limit (OnFrom first_id) bytes split
   pub reply : IsReply c (numbered 0 split.payloads) (after_numbered 0 split.payloads split.rest) answer
 
--- The answer where memory ran out: the results and the reports of the first payloads of the bytes, however many
--- were read, and their number. Each of them has its place, and the reply goes on behind them.
-pub record IsShortReplyOf (c : Context) (first_id limit : ℕ) (bytes : List ℕ) (answer : Answer) : Type 0 where
-  pub read : List Payload
+-- The answer that stops for want of memory after these payloads, which come first in the bytes: their results and
+-- reports, and their number. Each of them has its place, and the reply goes on behind them.
+pub record StopsAfter (c : Context) (first_id limit : ℕ) (bytes : List ℕ) (read : List Payload) (answer : Answer) : Type 0 where
   pub first : StandFirst limit (OnFrom first_id) bytes read
   pub whole : Answer
   pub reply : IsReply c (numbered 0 read) (after_numbered 0 read stream.Open) whole
@@ -42,6 +41,20 @@ pub record IsShortReplyOf (c : Context) (first_id limit : ℕ) (bytes : List ℕ
   pub results : answer.results ≡ whole.results
   pub progress : answer.progress ≡ whole.progress
   pub end : answer.end ≡ FaultAt (length read) Memory
+
+-- The answer where memory ran out over one of the pieces: the pieces before it have no fault, and the answer stops after
+-- the payloads that stand whole in them or after more, within that piece.
+pub record IsShortReplyOf (c : Context) (first_id limit : ℕ) (pieces : List (List ℕ)) (answer : Answer) : Type 0 where
+  pub before : List (List ℕ)
+  pub piece : List ℕ
+  pub after : List (List ℕ)
+  pub parts : pieces ≡ before ++ piece ∷ after
+  pub came : Split
+  pub splits : IsSplit limit (OnFrom first_id) (flat_map (λ piece. piece) before) came
+  pub no_fault : ¬ IsFault came.rest
+  pub read : List Payload
+  pub at_least : length came.payloads ≤ length read
+  pub stops : StopsAfter c first_id limit (flat_map (λ piece. piece) before ++ piece) read answer
 
 -- From what stands, the payloads still to come and the rest after them decide this answer, as far as they can
 -- be numbered.

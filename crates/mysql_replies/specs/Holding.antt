@@ -52,6 +52,10 @@ abbrev pub fault_of : Standing → Option ReplyFault
 fault_of (GoingOn s) = None
 fault_of (Answered answer) = fault_of_end answer.end
 
+-- No fault was found in what is held: the answer that it decides over no more bytes ends without one.
+abbrev pub HasFoundNoFault : ReaderState → Type 0
+HasFoundNoFault reader = (answer : Answer) → ReaderDecides reader [] answer → fault_of_end answer.end ≡ None
+
 -- How many payloads were read.
 abbrev pub count_of_end : End → ℕ
 count_of_end (FaultAt count fault) = count

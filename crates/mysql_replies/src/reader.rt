@@ -1,12 +1,12 @@
 //! A reply, read from the bytes of a connection as they come.
 
-ghost use Rattle.std.specs.Prelude.{◌≡◌, ◌≢◌, ◌⊎◌, ◌∷◌, ◌++◌, [], None, Some, Ok, Err, OnOk, IfErr, IfSome, false, flat_map, length, ◌<◌, ℕ, List};
+ghost use Rattle.std.specs.Prelude.{◌≡◌, ◌≢◌, ◌⊎◌, ◌∷◌, ◌++◌, [], None, Some, Ok, Err, OnOk, IfErr, IfSome, false, flat_map, length, map, ◌<◌, ℕ, List};
 ghost use Rattle.std.specs.Bool.{OnFalse, OnTrue};
 ghost use Rattle.mysql_wire.specs.Incoming.{ReadsOn, codec_by};
 ghost use Rattle.mysql_replies.specs.Steps.{IsAwaiting};
 ghost use Rattle.mysql_replies.specs.declared.fault.ReplyFault.TheVariants.{Memory};
 ghost use Rattle.mysql_replies.specs.Bytes.{IsReplyOf, IsShortReplyOf};
-ghost use Rattle.mysql_replies.specs.Holding.{fresh_reader, fault_of, ReaderDecides, ReaderGoesOn, TakesAll, StandsShort};
+ghost use Rattle.mysql_replies.specs.Holding.{fresh_reader, fault_of, ReaderDecides, ReaderGoesOn, HasFoundNoFault, TakesAll, StandsShort};
 ghost use Rattle.mysql_replies.specs.Standings.{reader_state, fault_named, IsReading, IsPaused, UnlessMemory, OnMemory};
 ghost use Rattle.mysql_replies.specs.Views.{answer_view, awaited_view};
 ghost use Rattle.mysql_replies.specs.Standings as states;
@@ -166,12 +166,14 @@ impl ReplyReader {
         }
     }
 
-    /// Reads the next bytes. Answers the fault of the first payload that has no place, or of the bytes after the payloads;
-    /// from then on it answers that fault and changes nothing. Where memory ran out it answers Memory from then on, and
-    /// what was read of the payloads before stays: each of them has its place in a reply that goes on behind them.
+    /// Reads the next bytes. Answers the fault of the first payload that has no place, or of the bytes after the payloads, as
+    /// soon as no further bytes could mend it; from then on it answers that fault and changes nothing. Where memory ran out it
+    /// answers Memory from then on, and what was read of the payloads before stays: each of them has its place in a reply that
+    /// goes on behind them.
     pub fn feed(&mut self, piece: &[u8]) -> Result<(), ReplyFault>
         ensures stays { IfSome (fault_of self.old.standing) (λ fault. (result ≡ Err fault) × (self.new ≡ self.old)) }
         ensures going { OnOk result (fault_of self.new.standing ≡ None) }
+        ensures no_fault { OnOk result (HasFoundNoFault self.new) }
         ensures fault { IfErr result (λ fault. fault_of self.new.standing ≡ Some fault) }
         ensures takes { OnOk result (TakesAll self.old (self.old.bytes ++ piece.now) self.new) }
         ensures goes_on { result ≢ Err Memory → ReaderGoesOn self.old piece.now self.new }
@@ -194,7 +196,8 @@ impl ReplyReader {
 }
 
 /// The reply of these pieces' bytes, one after another: the answer of a [`ReplyReader`] that is fed them. Where memory ran
-/// out its end is Fault(p, Memory), and it has the results and the reports of the first p payloads.
+/// out over a piece its end is Fault(p, Memory), and it has the results and the reports of the first p payloads: at least
+/// of those that stand whole in the pieces before it.
 ///
 /// MySQL: Client/Server Protocol, "COM_QUERY Response", "Text Resultset", "Binary Protocol Resultset" and
 /// "COM_STMT_PREPARE Response".
@@ -207,7 +210,7 @@ pub fn read_reply(
     pieces: &[&[u8]],
 ) -> Reply
     ensures { IsReplyOf (record { kind = kind; capabilities = capabilities }) first_id limit (flat_map (λ piece. piece.now) pieces.now) (answer_view result)
-        ⊎ IsShortReplyOf (record { kind = kind; capabilities = capabilities }) first_id limit (flat_map (λ piece. piece.now) pieces.now) (answer_view result) }
+        ⊎ IsShortReplyOf (record { kind = kind; capabilities = capabilities }) first_id limit (map (λ piece. piece.now) pieces.now) (answer_view result) }
 {
     let mut reader = ReplyReader::new(alloc, kind, capabilities, first_id, limit);
     // After a fault the reader takes no notice of further pieces.

@@ -3,6 +3,7 @@ use Rattle.mysql_wire.specs.Incoming.{codec_by}
 use Rattle.mysql_replies.specs.Holding.{ReaderGoesOn, StandsShort, fault_of}
 use Rattle.mysql_replies.specs.Standings.{reader_state, UnlessMemory, OnMemory}
 use Rattle.mysql_replies.proofs.Receiving.{fault_is, if_fault, if_no_fault, not_both, stays_going_on, unless_is, on_is}
+use Rattle.mysql_replies.proofs.Found.{feed_found_none}
 use Rattle.mysql_replies.proofs.reader.ReplyReader.feed.Goals as goal
 
 pub returns-in-Some-clause-stays : goal.returns-in-Some-clause-stays
@@ -23,6 +24,9 @@ returns-in-Some-clause-short c =
 
 pub returns-clause-stays : goal.returns-clause-stays
 returns-clause-stays c = if_no_fault _ _ (ap (λ held. fault_of held.standing) (sym c.self.view_is) ∙ fault_is c.self.inside.state ∙ c.in-None.is)
+
+pub returns-clause-no_fault : goal.returns-clause-no_fault
+returns-clause-no_fault c = feed_found_none c.framing_laws.ensures c.take_packets.new.state c.take_packets.new.packets c.take_packets.result c.take_packets.ensures.reading c.take_packets.ensures.paused
 
 pub returns-clause-goes_on : goal.returns-clause-goes_on
 returns-clause-goes_on c =
