@@ -1,0 +1,14 @@
+//! The constants of the protocol: commands, types, flags and sizes, and the trait of flag sets.
+
+pub use bitflags::Flags;
+pub use mysql_const::{
+    BinlogDumpFlags, CapabilityFlags, ColumnFlags, ColumnType, Command, CursorType,
+    DEFAULT_MAX_ALLOWED_PACKET, GeometryType, ItemResult, MAX_PAYLOAD_LEN, MariadbBulkIndicator,
+    MariadbCapabilities, SessionStateType, StatusFlags, StmtBulkExecuteFlags,
+    StmtExecuteParamFlags, StmtExecuteParamsFlags, UTF8_GENERAL_CI, UTF8MB4_GENERAL_CI,
+    UnknownBinlogDumpFlags, UnknownCapabilityFlags, UnknownColumnFlags, UnknownColumnType,
+    UnknownCommand, UnknownCursorType, UnknownGeometryType, UnknownItemResultType,
+    UnknownMariadbBulkIndicator, UnknownMariadbCapabilities, UnknownSessionStateType,
+    UnknownStatusFlags, UnknownStmtBulkExecuteFlags, UnknownStmtExecuteParamFlags,
+    UnknownStmtExecuteParamsFlags,
+};
