@@ -1,5 +1,5 @@
 -- What recoding appends carries the same sets, and recodes to the same bytes.
-use Rattle.std.proofs.Common.{◌≡◌, ℕ, ◌-◌, ◌<◌, ◌^◌, List, [], ◌∷◌, ◌++◌, map, refl, sym, ap, subst, arith}
+use Rattle.std.proofs.Common.{◌≡◌, ℕ, ◌-◌, ◌<◌, ◌^◌, List, [], ◌∷◌, ◌++◌, map, refl, sym, ◌∙◌, ap, subst, arith}
 use Rattle.std.specs.List.{AllByRecursion, flat_map}
 use Rattle.std.proofs.lemmas.List.{append_cancel_left}
 use Rattle.mysql_values.specs.Queries.{places_from}
@@ -8,7 +8,7 @@ use Rattle.mysql_commands.specs.Reading.{Set}
 use Rattle.mysql_commands.specs.declared.audit.End.TheVariants.{Whole}
 use Rattle.mysql_stmt.specs.Statements.{ExecutionsHaveSizes}
 use Rattle.mysql_streams.specs.Laws.{CarriesValues, SentValuesAreCarried}
-use Rattle.mysql_streams.specs.Reading.{SentReadable, held}
+use Rattle.mysql_streams.specs.Reading.{SentReadable}
 use Rattle.mysql_streams.specs.Sent.{Statement, as_execution, prepare_of, statement_of}
 use Rattle.mysql_streams.specs.Sets.{all_given_in_places}
 use Rattle.mysql_streams.specs.declared.road.Road.TheVariants.{Execute}
@@ -16,7 +16,7 @@ use Rattle.mysql_recoding.specs.Canonical.{canonical, values_of_sets}
 use Rattle.mysql_recoding.specs.Laws.{CarriedSetsFillPlaces, FillsPlaces, RecodingsCarryTheSame, RecodingsRecodeToThemselves}
 use Rattle.mysql_recoding.specs.Recoding.{Recodes}
 use Rattle.mysql_recoding.proofs.Recodable.{IsRecodable, no_cause, no_refusal, recodable, sets_fit}
-use Rattle.mysql_recoding.proofs.SentContents.{sets_held}
+use Rattle.mysql_recoding.proofs.SentContents.{one_contents, sets_held}
 
 -- the canonical form is all that was appended
 pub appended : (query : List ℕ) (id limit : ℕ) (stream old recoded : List ℕ) (is : Recodes query id limit stream old (old ++ recoded)) → recoded ≡ canonical (statement_of query is.tokens id) is.audit.sets
@@ -51,9 +51,10 @@ carry_the_same fill_places are_carried sizes query id limit stream old recoded f
     let fill = fill_places query is.tokens id limit stream is.audit is.has bytes is.says in
     let carried : CarriesValues query (values_of_sets sets) id limit [] recoded =
     are_carried Execute query (all_given_in_places (values_of_sets sets)) id limit [] recoded few room short (sent_again sizes query id limit stream old recoded small is fill) in
-    let audit : AuditOf query id limit recoded (record { sets = map (map held) (values_of_sets sets); ending = Whole }) =
-    subst (λ (bytes : List ℕ). AuditOf query id limit bytes (record { sets = map (map held) (values_of_sets sets); ending = Whole })) (sym carried.appended) carried.audit in
-    subst (λ (l : List Set). AuditOf query id limit recoded (record { sets = l; ending = Whole })) (sets_held (places_from query 0 is.tokens) sets fill) audit
+    let audit : AuditOf query id limit recoded (record { sets = carried.contents; ending = Whole }) =
+    subst (λ (bytes : List ℕ). AuditOf query id limit bytes (record { sets = carried.contents; ending = Whole })) (sym carried.appended) carried.audit in
+    let same : carried.contents ≡ sets = one_contents carried.contents sets (sym carried.each ∙ sets_held (places_from query 0 is.tokens) sets fill) in
+    subst (λ (l : List Set). AuditOf query id limit recoded (record { sets = l; ending = Whole })) same audit
 
 -- the same sets, to the end of a whole stream
 whole : List Set → Audit
