@@ -14,5 +14,4 @@ pub use mysql_wire::laws as wire;
 /// `send` appended of the ones and `send_values` of the others read as the same contents.
 pub fn made_sets_give_the_same()
     ensures { MadeSetsGiveTheSame }
-{
-}
+{}

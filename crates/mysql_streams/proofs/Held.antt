@@ -1,5 +1,5 @@
 -- What values hold, and the contents of sets of which none has a float.
-use Rattle.std.proofs.Common.{◌≡◌, ℕ, ◌+◌, List, [], ◌∷◌, ◌++◌, length, map, take, zero, suc, Some, None, Ok, refl, sym, ◌∙◌, ap, subst, unwrap_or}
+use Rattle.std.proofs.Common.{◌≡◌, ℕ, List, [], ◌∷◌, ◌++◌, map, take, zero, suc, Some, refl, sym, ◌∙◌, ap, unwrap_or}
 use Rattle.std.specs.List.{AllByRecursion, AllZip, flat_map}
 use Rattle.std.proofs.lemmas.List.{map-append}
 use Rattle.mysql_values.specs.Content.{Content}

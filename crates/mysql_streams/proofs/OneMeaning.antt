@@ -1,5 +1,5 @@
 -- Sets have one meaning.
-use Rattle.std.proofs.Common.{◌≡◌, ℕ, List, map, Ok, sym, ◌∙◌, ap}
+use Rattle.std.proofs.Common.{◌≡◌, List, map, Ok, sym, ◌∙◌, ap}
 use Rattle.mysql_values.specs.Laws.{OneTokens}
 use Rattle.mysql_values.specs.Parsed.{names_of}
 use Rattle.mysql_values.specs.Value.{Value}

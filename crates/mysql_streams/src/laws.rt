@@ -77,8 +77,7 @@ pub fn sent_sets_are_delivered()
 /// Parameter sets mean what each of them means by itself, as `bind_text` goes by it.
 pub fn sets_mean_each()
     ensures { SetsMeanEach }
-{
-}
+{}
 
 /// Sets that are appended behind others, each by whichever road, read as all of them one after another: parameter sets or lists
 /// of objects behind either.
