@@ -1,5 +1,5 @@
 -- What recoding appends carries the same sets, and recodes to the same bytes.
-use Rattle.std.proofs.Common.{◌≡◌, ℕ, ◌-◌, ◌<◌, ◌^◌, List, [], ◌++◌, map, None, Ok, refl, sym, ap, subst, arith}
+use Rattle.std.proofs.Common.{◌≡◌, ℕ, ◌-◌, ◌<◌, ◌^◌, List, [], ◌++◌, map, None, Ok, refl, sym, ◌∙◌, ap, subst, arith}
 use Rattle.std.specs.List.{AllByRecursion}
 use Rattle.mysql_values.specs.Queries.{places_from}
 use Rattle.mysql_commands.specs.Audit.{Audit, AuditOf}
@@ -7,7 +7,7 @@ use Rattle.mysql_commands.specs.Reading.{Set}
 use Rattle.mysql_commands.specs.declared.audit.End.TheVariants.{Whole}
 use Rattle.mysql_stmt.specs.Statements.{ExecutionsHaveSizes}
 use Rattle.mysql_streams.specs.Laws.{CarriesValues, SentValuesAreCarried}
-use Rattle.mysql_streams.specs.Reading.{SentReadable, held}
+use Rattle.mysql_streams.specs.Reading.{SentReadable}
 use Rattle.mysql_streams.specs.Cause.{cause_of}
 use Rattle.mysql_streams.specs.Sent.{Statement, statement_of}
 use Rattle.mysql_streams.specs.Sets.{all_given_in_places}
@@ -17,7 +17,7 @@ use Rattle.mysql_recoding.specs.Laws.{CarriedSetsFillPlaces, FillsPlaces, Recodi
 use Rattle.mysql_recoding.specs.Recoding.{Recodes}
 use Rattle.mysql_recoding.proofs.Canonical.{appended}
 use Rattle.mysql_recoding.proofs.Causes.{free_of_causes, no_cause, recodable}
-use Rattle.mysql_recoding.proofs.SentContents.{sets_fit, sets_held}
+use Rattle.mysql_recoding.proofs.SentContents.{one_contents, sets_fit, sets_held}
 
 -- the sets are sent by execute, and can be read back
 sent_again : ExecutionsHaveSizes → (query : List ℕ) (id limit : ℕ) (stream old recoded : List ℕ) → limit < 2 ^ 64 → (is : Recodes query id limit stream old (old ++ recoded))
@@ -48,9 +48,10 @@ carry_the_same fill_places are_carried sizes query id limit stream old recoded f
     let fill = fill_places query is.tokens id limit stream is.audit is.has bytes is.says in
     let carried : CarriesValues query (values_of_sets sets) id limit [] recoded =
     are_carried Execute query (all_given_in_places (values_of_sets sets)) id limit [] recoded few room short (sent_again sizes query id limit stream old recoded small is fill) in
-    let audit : AuditOf query id limit recoded (record { sets = map (map held) (values_of_sets sets); ending = Whole }) =
-    subst (λ (bytes : List ℕ). AuditOf query id limit bytes (record { sets = map (map held) (values_of_sets sets); ending = Whole })) (sym carried.appended) carried.audit in
-    subst (λ (l : List Set). AuditOf query id limit recoded (record { sets = l; ending = Whole })) (sets_held (places_from query 0 is.tokens) sets fill) audit
+    let audit : AuditOf query id limit recoded (record { sets = carried.contents; ending = Whole }) =
+    subst (λ (bytes : List ℕ). AuditOf query id limit bytes (record { sets = carried.contents; ending = Whole })) (sym carried.appended) carried.audit in
+    let same : carried.contents ≡ sets = one_contents carried.contents sets (sym carried.each ∙ sets_held (places_from query 0 is.tokens) sets fill) in
+    subst (λ (l : List Set). AuditOf query id limit recoded (record { sets = l; ending = Whole })) same audit
 
 -- the same sets, to the end of a whole stream
 whole : List Set → Audit

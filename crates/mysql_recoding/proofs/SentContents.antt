@@ -1,5 +1,5 @@
 -- The values that contents are sent as hold these contents, and their numbers fit their fields.
-use Rattle.std.proofs.Common.{◌≡◌, ℕ, ℤ, suc, pos, negsuc, ◌<◌, ◌≤◌, ◌^◌, Bool, true, false, List, [], ◌∷◌, ◌++◌, length, map, Some, refl, ◌∙◌, ap, arith, inl, inr, nat_lt, unwrap_or, length-append}
+use Rattle.std.proofs.Common.{◌≡◌, ℕ, ℤ, suc, pos, negsuc, ◌<◌, ◌≤◌, ◌^◌, Bool, true, false, List, [], ◌∷◌, ◌++◌, length, map, Some, refl, ◌∙◌, ap, arith, inl, inr, nat_lt, length-append}
 use Rattle.std.specs.Prelude.{if◌then◌else◌}
 use Rattle.std.specs.Fmt.{decimal}
 use Rattle.std.specs.List.{AllByRecursion, sum_by}
@@ -16,7 +16,7 @@ use Rattle.mysql_values.specs.Place.{Place}
 use Rattle.mysql_commands.specs.Reading.{Set}
 use Rattle.mysql_stmt.specs.Executions.{execute_command}
 use Rattle.mysql_stmt.specs.Statements.{ExecutionsHaveSizes}
-use Rattle.mysql_streams.specs.Reading.{held}
+use Rattle.mysql_streams.specs.Reading.{HaveContents}
 use Rattle.mysql_values.specs.Contents.{content_value, integer_value}
 use Rattle.mysql_wire.specs.Writing.{lenenc_int}
 use Rattle.mysql_recoding.specs.Causes.{values_of_sets}
@@ -82,10 +82,9 @@ content_fits (content.Bytes bytes) carried short = (carried, bytes_few (lenenc_i
 -- ---- sets
 
 -- so with each content of a set
-pub set_held : (set : Set) → AllByRecursion IsCarried set → map held (map content_value set) ≡ set
+set_held : (set : Set) → AllByRecursion IsCarried set → map content_of (map content_value set) ≡ map Some set
 set_held [] each = refl
-set_held (c ∷ set) each =
-    ap (λ o. unwrap_or o content.Null ∷ map held (map content_value set)) (content_held c each.0) ∙ ap (λ l. c ∷ l) (set_held set each.1)
+set_held (c ∷ set) each = ap (λ o. o ∷ map content_of (map content_value set)) (content_held c each.0) ∙ ap (λ l. Some c ∷ l) (set_held set each.1)
 
 pub set_fits : (set : Set) → AllByRecursion IsCarried set → sum_by bin_len (map content_value set) < 2 ^ 64 → AllByRecursion (λ value. FitsFields value) (map content_value set)
 set_fits [] each short = tt
@@ -96,9 +95,9 @@ set_fits (c ∷ set) each short =
     (content_fits c each.0 here, set_fits set each.1 later)
 
 -- and with each of several sets
-pub sets_held : (places : List Place) (sets : List Set) → AllByRecursion (FillsPlaces places) sets → map (map held) (values_of_sets sets) ≡ sets
+pub sets_held : (places : List Place) (sets : List Set) → AllByRecursion (FillsPlaces places) sets → HaveContents (values_of_sets sets) sets
 sets_held places [] each = refl
-sets_held places (set ∷ sets) each = ap (λ l. l ∷ map (map held) (values_of_sets sets)) (set_held set each.0.each) ∙ ap (λ l. set ∷ l) (sets_held places sets each.1)
+sets_held places (set ∷ sets) each = ap (λ l. l ∷ map (map content_of) (values_of_sets sets)) (set_held set each.0.each) ∙ ap (λ l. map Some set ∷ l) (sets_held places sets each.1)
 
 -- the cells of an execution are no longer than it
 cells_short : ExecutionsHaveSizes → (id : ℕ) (values : List Value) → sum_by bin_len values ≤ length (execute_command id values false)
@@ -114,3 +113,23 @@ sets_fit sizes id room places (set ∷ sets) few each free =
     let within : length (execute_command id values false) ≤ room = ltb-false room (length (execute_command id values false)) free.0.small in
     let short : sum_by bin_len values < 2 ^ 64 = omega (arith, cells_short sizes id values) in
     (set_fits set each.0.each short, sets_fit sizes id room places sets few each.1 free.1)
+
+-- ---- sets of values have one list of contents
+
+one_set : (set other : Set) → map Some set ≡ map Some other → set ≡ other
+one_set [] [] same = refl
+one_set [] (d ∷ other) same = cc
+one_set (c ∷ set) [] same = cc
+one_set (c ∷ set) (d ∷ other) same =
+    let first : c ≡ d = cc in
+    let later : map Some set ≡ map Some other = cc in
+    ap (λ e. e ∷ set) first ∙ ap (λ l. d ∷ l) (one_set set other later)
+
+pub one_contents : (sets others : List Set) → map (map Some) sets ≡ map (map Some) others → sets ≡ others
+one_contents [] [] same = refl
+one_contents [] (other ∷ others) same = cc
+one_contents (set ∷ sets) [] same = cc
+one_contents (set ∷ sets) (other ∷ others) same =
+    let first : map Some set ≡ map Some other = cc in
+    let later : map (map Some) sets ≡ map (map Some) others = cc in
+    ap (λ s. s ∷ sets) (one_set set other first) ∙ ap (λ l. other ∷ l) (one_contents sets others later)

@@ -1,18 +1,14 @@
--- What sets give, and what values hold.
-use Rattle.std.proofs.Common.{◌≡◌, ℕ, List, [], ◌∷◌, ◌++◌, map, Option, Some, None, Result, Ok, Err, refl, sym, ◌∙◌, ap, unwrap_or, Global, Vec}
+-- What sets give.
+use Rattle.std.proofs.Common.{◌≡◌, ℕ, List, [], ◌++◌, map, Option, Some, None, Result, Ok, Err, refl, sym, ◌∙◌, ap, Global, Vec}
 use Rattle.std.specs.Result.{result_map_both}
 use Rattle.std.proofs.lemmas.List.{append-nil}
 use Rattle.std.proofs.lemmas.Simd.{map-map}
-use Rattle.mysql_values.specs.Content.{Content}
-use Rattle.mysql_values.specs.Content.TheVariants.{Null}
 use Rattle.mysql_values.specs.declared.params.Params.{Params}
 use Rattle.mysql_values.specs.declared.params.ParamsError.{ParamsError}
 use Rattle.mysql_values.specs.declared.params.SetError.{SetError}
 use Rattle.mysql_values.specs.declared.params.SetError.TheVariants as set_error
 use Rattle.mysql_values.specs.Value.{Value}
-use Rattle.mysql_values.specs.Values.{content_of}
 use Rattle.mysql_values.specs.Params.{values_over}
-use Rattle.mysql_streams.specs.Reading.{held}
 use Rattle.mysql_streams.specs.Sets.{Given, all_given_in_places, given_by, given_up_to}
 use Rattle.mysql_senders.specs.OneSet.{behind}
 
@@ -40,13 +36,3 @@ given_whole set = Ok set.items
 -- what sets of values give
 pub given_in_places : (sets : List (Vec Value Global)) (names : List (List ℕ)) → all_given_in_places (map (λ set. set.items) sets) names ≡ map given_whole sets ++ []
 given_in_places sets names = map-map Ok (λ (set : Vec Value Global). set.items) sets ∙ sym (append-nil (map given_whole sets))
-
--- the contents of values are what they hold
-pub held_contents : (values : List Value) (contents : List Content) → map content_of values ≡ map Some contents → contents ≡ map held values
-held_contents [] [] each = refl
-held_contents [] (content ∷ contents) each = cc
-held_contents (value ∷ values) [] each = cc
-held_contents (value ∷ values) (content ∷ contents) each =
-    let first : content_of value ≡ Some content = cc in
-    let others : map content_of values ≡ map Some contents = cc in
-    ap (λ c. c ∷ contents) (sym (ap (λ o. unwrap_or o Null) first)) ∙ ap (λ l. held value ∷ l) (held_contents values contents others)

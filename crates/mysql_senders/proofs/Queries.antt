@@ -5,25 +5,24 @@ use Rattle.std.specs.Option.{option_or}
 use Rattle.std.proofs.lemmas.List.{append-nil, take-append-le, take_all}
 use Rattle.mysql_wire.specs.Stream.{framings}
 use Rattle.mysql_wire.specs.Stream.Numbering.{EachFromZero}
-use Rattle.mysql_values.specs.Content.{Content}
 use Rattle.mysql_values.specs.Value.{Value}
+use Rattle.mysql_values.specs.Values.{content_of}
 use Rattle.mysql_values.specs.declared.params.Params.{Params}
 use Rattle.mysql_values.specs.Laws.{OneTokens}
 use Rattle.mysql_values.specs.Params.{IsMeaning, values_over}
 use Rattle.mysql_values.specs.Parsed.{names_of}
 use Rattle.mysql_values.specs.Tokens.{HasTokens}
 use Rattle.mysql_values.specs.Queries.{places_from}
-use Rattle.mysql_commands.specs.Reading.{TextReadsAs}
 use Rattle.mysql_streams.specs.declared.refusal.Refusal.{Refusal}
 use Rattle.mysql_streams.specs.declared.refusal.Refusal.TheVariants as refusals
 use Rattle.mysql_streams.specs.declared.road.Road.TheVariants.{Text}
 use Rattle.mysql_streams.specs.Sets.{Given, given_by}
-use Rattle.mysql_streams.specs.Sent.{Statement, as_text, payloads_of, query_text_of, statement_of}
+use Rattle.mysql_streams.specs.Sent.{Statement, as_text, payloads_of, statement_of}
 use Rattle.mysql_streams.specs.Cause.{first_of_sets, limits_of, places_cause, set_cause}
-use Rattle.mysql_streams.specs.Reading.{IsReadable, SentReadable, held}
+use Rattle.mysql_streams.specs.Reading.{IsReadable, SentReadable}
 use Rattle.mysql_streams.specs.Sending.{RefusesGiven}
 use Rattle.mysql_senders.specs.OneSet.{AppendsQuery, AppendsSet, RefusesQuery, query_and_set_cause, text_command, text_payloads}
-use Rattle.mysql_senders.proofs.Contents.{gives_one, gives_values, held_contents}
+use Rattle.mysql_senders.proofs.Contents.{gives_one, gives_values}
 use Rattle.mysql_senders.proofs.SentSets.{AllSent, SetsSent, all_sent as all_of, cause_behind, first_is, first_of_two, first_refused, front_length, none_of_two, none_sent as none_of, one_more}
 
 -- so many queries were sent of what is given: by these sets, and by others behind them
@@ -81,8 +80,7 @@ module _ {S : Type 0} (query : List ℕ) (given : List (List ℕ) → List Given
           let m : IsMeaning query params a.contents = a.meant in
           let over : values_over (names_of s.tokens) params ≡ Ok m.values = ap (λ t. values_over (names_of t) params) (once query s.tokens m.tokens s.has m.has) ∙ m.over in
           let same : m.values ≡ a.appends.values = gives_one (given_by (names_of s.tokens) params) m.values a.appends.values (gives_values (names_of s.tokens) params m.values over) a.appends.gives in
-          let contents : a.contents ≡ map held a.appends.values = held_contents m.values a.contents m.each ∙ ap (λ v. map held v) same in
-          subst (λ (l : List Content). TextReadsAs query (query_text_of s.tokens a.appends.values) l) contents a.reads
+          (a.contents, ap (λ v. map content_of v) (sym same) ∙ m.each, a.reads)
 
       -- one more query was sent
       pub sent_next : (new : List ℕ) → (tokens : List (List ℕ)) × HasTokens query tokens × AppendsQuery query tokens params i limit out new → QueriesSent query given give sets others limit old new (i + 1)

@@ -1,12 +1,10 @@
 -- Lists of objects, and the parameter sets that are made of them.
-use Rattle.std.proofs.Common.{◌≡◌, ◌≢◌, inl, inr, ℕ, suc, ◌+◌, ◌-◌, ◌^◌, ◌<◌, ◌≤◌, List, [], ◌∷◌, ◌++◌, length, map, take, drop, get_or, Option, Some, None, Result, Ok, Err, refl, sym, ◌∙◌, ap, add-one, drop-cons, is_none}
-use Rattle.std.specs.List.{AllZip, filter_map, position_from}
+use Rattle.std.proofs.Common.{◌≡◌, ◌≢◌, inl, inr, ℕ, suc, ◌+◌, ◌-◌, ◌<◌, ◌≤◌, List, [], ◌∷◌, ◌++◌, length, map, take, drop, get_or, Option, Some, None, Result, Ok, Err, refl, sym, ◌∙◌, ap, add-one, drop-cons, is_none}
+use Rattle.std.specs.List.{filter_map, position_from}
 use Rattle.std.specs.Option.{option_map, option_or}
-use Rattle.std.specs.Result.{result_map_both}
 use Rattle.std.proofs.lemmas.List.{append-nil, drop_all, length-map, map-append, take-append-drop, take_more}
 use Rattle.std.proofs.lemmas.Option.{slice_get-map, slice_get_read}
 use Rattle.std.specs.Prelude.{MatchResult}
-use Rattle.mysql_values.specs.Content.{Content}
 use Rattle.mysql_values.specs.Value.{Value}
 use Rattle.mysql_values.specs.declared.params.Params.{Params}
 use Rattle.mysql_values.specs.declared.params.Params.TheVariants.{Empty, Named, Positional}
@@ -14,23 +12,21 @@ use Rattle.mysql_values.specs.declared.params.ParamsError.TheVariants.{Confusion
 use Rattle.mysql_values.specs.declared.params.ParamsConfusionError.TheVariants.{PositionalParamsForNamedQuery}
 use Rattle.mysql_values.specs.declared.params.SetError.{SetError}
 use Rattle.mysql_values.specs.declared.params.SetError.TheVariants as set_error
-use Rattle.mysql_values.specs.Params.{IsMeaning, values_over}
-use Rattle.mysql_values.specs.declared.params.ParamsError.{ParamsError}
 use Rattle.mysql_values.specs.Parsed.{names_of}
 use Rattle.mysql_convert.specs.Sets.{IsMadeOf, too_long}
 use Rattle.mysql_convert.specs.Sets.Parts.{InOrder}
 use Rattle.mysql_streams.specs.declared.refusal.Refusal.{Refusal}
 use Rattle.mysql_streams.specs.declared.refusal.Refusal.TheVariants as refusals
 use Rattle.mysql_streams.specs.declared.road.Road.{Road}
-use Rattle.mysql_session.specs.Objects.{IsObjectsMeaning, ReadsBackValues, RefusesValues, SendsValues, SendsWholeValues, all_given_by_objects, given_by_objects, given_in_order, unless_refused}
+use Rattle.mysql_session.specs.Objects.{AreMade, RefusesValues, all_given_by_objects, given_by_objects, given_in_order, unless_refused}
+use Rattle.mysql_session.specs.Laws.{MadeSetsGiveTheSame}
 use Rattle.mysql_streams.specs.Sets.{Given, all_given, given_by, given_up_to, values_of}
 use Rattle.mysql_streams.specs.Sent.{Statement, statement_of, whole_command}
 use Rattle.mysql_streams.specs.Cause.{cause_of, first_of_sets, limits_of, query_cause, set_cause, sets_cause}
 use Rattle.mysql_streams.specs.Reading.{SentReadable}
 use Rattle.mysql_streams.specs.Sending.{RefusesGiven, SendsGiven}
-use Rattle.mysql_streams.specs.Laws.{IsDelivered, SentSetsAreDelivered}
-use Rattle.mysql_senders.specs.MadeSets.{AllMade, IsSetAt, given_by_made}
-use Rattle.mysql_session.specs.Made.{AreLeft, AreMade, AreMadeUpTo}
+use Rattle.mysql_senders.specs.MadeSets.{IsSetAt, given_by_made}
+use Rattle.mysql_session.specs.Made.{AreLeft, AreMadeUpTo}
 
 -- ---- one list
 
@@ -65,21 +61,6 @@ made_gives (name ∷ names) objects (Positional list) made =
     sym (ap (λ (l : List (Option Value)). given_by_objects (name ∷ names) l) made.1 ∙ objects_give (name ∷ names) list.items ∙ with_names name names list.items (λ none. made.0 (made.1 ∙ ap (λ (l : List Value). map Some l) none)))
 made_gives names objects (Named entries) made = absurd made
 
--- values over a query's names are given
-gives_values : (names : List (List ℕ)) (params : Params) (values : List Value) → values_over names params ≡ Ok values → given_by names params ≡ Ok values
-gives_values names params values over = ap (λ (o : Result (List Value) ParamsError). result_map_both (λ values. values) (λ error. set_error.Params error) o) over
-
--- a set that gives what objects give means what they mean
-gives_means : (query : List ℕ) (objects : List (Option Value)) (params : Params) (contents : List Content) → ((names : List (List ℕ)) → given_by names params ≡ given_by_objects names objects) → IsMeaning query params contents → IsObjectsMeaning query objects contents
-gives_means query objects params contents same m = record {
-  tokens = m.tokens;
-  has = m.has;
-  values = m.values;
-  gives = sym (same (names_of m.tokens)) ∙ gives_values (names_of m.tokens) params m.values m.over;
-  count = m.count;
-  each = m.each;
-}
-
 -- objects that are refused give nothing
 refused_give : (names : List (List ℕ)) (objects : List (Option Value)) (error : SetError) → too_long 0 objects ≡ Some error → given_by_objects names objects ≡ Err error
 refused_give names objects error long = ap (λ (found : Option SetError). unless_refused found (given_in_order names (filter_map (λ object. object) objects))) long
@@ -93,18 +74,8 @@ all_made_give names (objects ∷ lists) [] made = absurd made
 all_made_give names (objects ∷ lists) (params ∷ sets) made =
     ap (λ g. g ∷ map (given_by names) sets) (made_gives names objects params made.0) ∙ ap (λ l. given_by_objects names objects ∷ l) (all_made_give names lists sets made.1)
 
--- sets that give what lists of objects give mean what they mean
-all_mean : (query : List ℕ) (lists : List (List (Option Value))) (sets : List Params) (contents : List (List Content)) → ((names : List (List ℕ)) → all_given sets names ≡ all_given_by_objects lists names)
-    → AllZip (IsMeaning query) sets contents → AllZip (IsObjectsMeaning query) lists contents
-all_mean query [] [] [] same means = tt
-all_mean query [] [] (held ∷ contents) same means = absurd means
-all_mean query [] (params ∷ sets) contents same means = let none : all_given (params ∷ sets) [] ≡ all_given_by_objects [] [] = same [] in cc
-all_mean query (objects ∷ lists) [] contents same means = let none : all_given [] [] ≡ all_given_by_objects (objects ∷ lists) [] = same [] in cc
-all_mean query (objects ∷ lists) (params ∷ sets) [] same means = absurd means
-all_mean query (objects ∷ lists) (params ∷ sets) (held ∷ contents) same means = (
-  gives_means query objects params held (λ names. let both : all_given (params ∷ sets) names ≡ all_given_by_objects (objects ∷ lists) names = same names in cc) means.0,
-  all_mean query lists sets contents (λ names. let both : all_given (params ∷ sets) names ≡ all_given_by_objects (objects ∷ lists) names = same names in cc) means.1,
-)
+pub made_sets_give_the_same : MadeSetsGiveTheSame
+made_sets_give_the_same lists sets made names = all_made_give names lists sets made
 
 -- ---- making them
 
@@ -250,31 +221,8 @@ module _ (road : Road) (query : List ℕ) (lists : List (List (Option Value))) (
     first = sym (same_cause stop m (statement_of query c.tokens id) (names_of c.tokens)) ∙ c.first;
   }
 
-  -- all lists made sets, and what was sent of these was sent of the lists
+  -- what was sent of the made sets was sent of the lists, which all made sets
   pub sent : (stop : Option SetError) (old new : List ℕ) → AreMadeUpTo lists sets stop → SentReadable road query (given_up_to sets stop) id limit old new
-      → SentReadable road query (all_given_by_objects lists) id limit old new × AllMade (all_given_by_objects lists)
-  sent None old new m s = (
-    same_sent road query id limit old new (all_given sets) (all_given_by_objects lists) (same_given m) s,
-    record { sets = sets; give = same_given m },
-  )
+      → SentReadable road query (all_given_by_objects lists) id limit old new
+  sent None old new m s = same_sent road query id limit old new (all_given sets) (all_given_by_objects lists) (same_given m) s
   sent (Some error) old new m s = absurd (none_stopped (all_given sets (names_of s.sends.tokens)) error s.sends.values s.sends.given)
-
--- what is sent of lists of objects that all make sets is delivered
-pub delivered : SentSetsAreDelivered → (road : Road) (query : List ℕ) (lists : List (List (Option Value))) (id limit : ℕ) (old new : List ℕ) → id < 2 ^ 32 → 4 ≤ limit → length new < 2 ^ 64
-    → AllMade (all_given_by_objects lists) → SentReadable road query (all_given_by_objects lists) id limit old new
-    → SendsValues road query lists id limit old new × ReadsBackValues query lists id limit old new × SendsWholeValues road query lists id limit old new
-delivered law road query lists id limit old new small four short m s =
-    let d : IsDelivered road query m.sets id limit old new =
-    law road query m.sets id limit old new small four short (same_sent road query id limit old new (all_given_by_objects lists) (all_given m.sets) (λ names. sym (m.give names)) s) in (
-      s.sends,
-      record {
-        stream = d.read_back.stream;
-        appended = d.read_back.appended;
-        contents = d.read_back.contents;
-        reads = record {
-          meanings = all_mean query lists m.sets d.read_back.contents m.give d.read_back.reads.meanings;
-          audit = d.read_back.reads.audit;
-        };
-      },
-      record { sends = same_sends road query id limit old new (all_given m.sets) (all_given_by_objects lists) m.give d.whole.sends; fronts = d.whole.fronts; fewest = d.whole.fewest },
-    )

@@ -6,10 +6,6 @@ pub on_ok : {E P Q : Type 0} (answer : Result (Unit {0}) E) → (P → Q) → On
 on_ok (Ok done) step holds = step holds
 on_ok (Err error) step holds = tt
 
-pub on_both : {E P Q R : Type 0} (answer : Result (Unit {0}) E) → (P → Q → R) → OnOk answer P → OnOk answer Q → OnOk answer R
-on_both (Ok done) step holds both = step holds both
-on_both (Err error) step holds both = tt
-
 pub if_ok : {A E : Type 0} {P Q : A → Type 0} (answer : Result A E) → ((a : A) → P a → Q a) → IfOk answer P → IfOk answer Q
 if_ok (Ok a) step holds = step a holds
 if_ok (Err error) step holds = tt

@@ -1,16 +1,11 @@
 -- Parameter sets that are made of lists of objects: what a private step of sending promises.
 -- MySQL: Client/Server Protocol, "COM_STMT_EXECUTE".
 use Rattle.std.specs.Prelude.{◌≡◌, List, [], ◌∷◌, ◌++◌, Option, None, Some}
-use Rattle.std.specs.List.{AllZip}
 use Rattle.mysql_values.specs.Value.{Value}
 use Rattle.mysql_values.specs.declared.params.Params.{Params}
 use Rattle.mysql_values.specs.declared.params.SetError.{SetError}
-use Rattle.mysql_convert.specs.Sets.{IsMadeOf, too_long}
-use Rattle.mysql_convert.specs.Sets.Parts.{InOrder}
-
--- each set is made of its list of objects with these values
-abbrev pub AreMade : List (List (Option Value)) → List Params → Type 0
-AreMade lists sets = AllZip (λ objects params. IsMadeOf (InOrder objects) params) lists sets
+use Rattle.mysql_convert.specs.Sets.{too_long}
+use Rattle.mysql_session.specs.Objects.{AreMade}
 
 -- the lists that are left: none, or the first one is refused
 abbrev pub AreLeft : Option SetError → List (List (Option Value)) → Type 0

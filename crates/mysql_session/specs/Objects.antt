@@ -1,21 +1,18 @@
 -- What lists of objects give a query: what is sent of them, and what speaks against them, is stated over this.
 -- MySQL Reference Manual, "PREPARE Statement" (parameter markers).
-use Rattle.std.specs.Prelude.{◌≡◌, ℕ, List, [], ◌∷◌, filter, length, map, Option, None, Some, Ok, Err}
-use Rattle.std.specs.List.{filter_map}
-use Rattle.mysql_values.specs.Content.{Content}
+use Rattle.std.specs.Prelude.{ℕ, List, [], ◌∷◌, map, Option, None, Some, Ok, Err}
+use Rattle.std.specs.List.{AllZip, filter_map}
 use Rattle.mysql_values.specs.Value.{Value}
-use Rattle.mysql_values.specs.Values.{content_of}
-use Rattle.mysql_values.specs.Parsed.{names_of}
-use Rattle.mysql_values.specs.Queries.{is_place}
-use Rattle.mysql_values.specs.Tokens.{HasTokens}
+use Rattle.mysql_values.specs.declared.params.Params.{Params}
 use Rattle.mysql_values.specs.declared.params.ParamsError.TheVariants.{Confusion}
 use Rattle.mysql_values.specs.declared.params.ParamsConfusionError.TheVariants.{PositionalParamsForNamedQuery}
 use Rattle.mysql_values.specs.declared.params.SetError.{SetError}
 use Rattle.mysql_values.specs.declared.params.SetError.TheVariants as set_error
-use Rattle.mysql_convert.specs.Sets.{too_long}
+use Rattle.mysql_convert.specs.Sets.{IsMadeOf, too_long}
+use Rattle.mysql_convert.specs.Sets.Parts.{InOrder}
 use Rattle.mysql_streams.specs.declared.refusal.Refusal.{Refusal}
 use Rattle.mysql_streams.specs.declared.road.Road.{Road}
-use Rattle.mysql_streams.specs.Reading.{ReadsBackAs, SendsWhole}
+use Rattle.mysql_streams.specs.Reading.{ReadsBack, SendsWhole}
 use Rattle.mysql_streams.specs.Sending.{RefusesGiven, SendsGiven}
 use Rattle.mysql_streams.specs.Sets.{Given}
 
@@ -38,14 +35,9 @@ given_by_objects names objects = unless_refused (too_long 0 objects) (given_in_o
 abbrev pub all_given_by_objects : List (List (Option Value)) → List (List ℕ) → List Given
 all_given_by_objects sets names = map (given_by_objects names) sets
 
--- what a list of objects means over a query: the contents of its values, which are as many as the placeholders and none a float
-pub record IsObjectsMeaning (query : List ℕ) (objects : List (Option Value)) (contents : List Content) : Type 0 where
-  pub tokens : List (List ℕ)
-  pub has : HasTokens query tokens
-  pub values : List Value
-  pub gives : given_by_objects (names_of tokens) objects ≡ Ok values
-  pub count : length values ≡ length (filter is_place tokens)
-  pub each : map content_of values ≡ map Some contents
+-- each of the sets is made of a list of objects with these values
+abbrev pub AreMade : List (List (Option Value)) → List Params → Type 0
+AreMade lists sets = AllZip (λ objects params. IsMadeOf (InOrder objects) params) lists sets
 
 -- what is appended of lists of objects with these values, and why they are refused
 abbrev pub SendsValues : Road → List ℕ → List (List (Option Value)) → ℕ → ℕ → List ℕ → List ℕ → Type 0
@@ -54,9 +46,9 @@ SendsValues road query sets id limit old new = SendsGiven road query (all_given_
 abbrev pub RefusesValues : Road → List ℕ → List (List (Option Value)) → ℕ → ℕ → Refusal → Type 0
 RefusesValues road query sets id limit refusal = RefusesGiven road query (all_given_by_objects sets) id limit refusal
 
--- what is appended of them is read back as their meanings
+-- what is appended of them is read back as what they mean
 abbrev pub ReadsBackValues : List ℕ → List (List (Option Value)) → ℕ → ℕ → List ℕ → List ℕ → Type 0
-ReadsBackValues query sets id limit old new = ReadsBackAs (IsObjectsMeaning query) query sets id limit old new
+ReadsBackValues query sets id limit old new = ReadsBack query (all_given_by_objects sets) id limit old new
 
 -- each front of what is appended reads as the sets that stand whole in it, and by bulk no requests could be fewer
 abbrev pub SendsWholeValues : Road → List ℕ → List (List (Option Value)) → ℕ → ℕ → List ℕ → List ℕ → Type 0

@@ -3,7 +3,6 @@
 ghost use Rattle.std.specs.Prelude.{◌≡◌, ◌≤◌, IfErr, IfOk, MatchResult, OnErr, OnOk, Some, length, map, take};
 ghost use Rattle.mysql_convert.specs.Sets.{IsMadeOf, too_long};
 ghost use Rattle.mysql_convert.specs.Sets.Parts.{InOrder};
-ghost use Rattle.mysql_senders.specs.MadeSets.{AllMade};
 ghost use Rattle.mysql_session.specs.Made.{AreMadeUpTo};
 ghost use Rattle.mysql_session.specs.Objects.{ReadsBackValues, RefusesValues, SendsValues, SendsWholeValues, all_given_by_objects};
 ghost use Rattle.mysql_streams.specs.Reading.{SentReadable};
@@ -94,7 +93,6 @@ fn put_held_sets(
 ) -> Result<(), Refusal>
     requires { 4 ≤ limit }
     ensures ok { OnOk result (SentReadable roads.Bulk query.now (all_given_by_objects (map (λ list. map (λ object. as_value object) list.items) lists.now)) stmt_id limit out.old.items out.new.items) }
-    ensures made { OnOk result (AllMade (all_given_by_objects (map (λ list. map (λ object. as_value object) list.items) lists.now))) }
     ensures err { IfErr result (RefusesValues roads.Bulk query.now (map (λ list. map (λ object. as_value object) list.items) lists.now) stmt_id limit) }
     ensures kept { take (length out.old.items) out.new.items ≡ out.old.items }
 {
@@ -116,7 +114,6 @@ fn send_lists(
     ensures refused { IfErr result (RefusesValues road query.now (map (λ list. map (λ object. as_value object) list.items) lists.now) stmt_id limit) }
     ensures kept { OnErr result (out.new.items ≡ out.old.items) }
     ensures sent { OnOk result (SentReadable road query.now (all_given_by_objects (map (λ list. map (λ object. as_value object) list.items) lists.now)) stmt_id limit out.old.items out.new.items) }
-    ensures made { OnOk result (AllMade (all_given_by_objects (map (λ list. map (λ object. as_value object) list.items) lists.now))) }
 {
     let start = out.len();
     let sets = Lists { lists };

@@ -51,8 +51,9 @@ fn send_sets(
 /// which, without the colon, a set gives its value. `:aB` is the placeholder `a` before a `B`; `:Name` is none, so that a set
 /// that names values is refused by `Params` over `SELECT :Name`.
 ///
-/// What is appended behind another stream of the same query, id and limit, by whichever road, reads behind its sets: the law
-/// `laws::sent_streams_join`, which stands on `mysql_commands::laws::whole_streams_join`.
+/// What is appended behind another stream of the same query, id and limit, by whichever road, also by
+/// [`send_values`](crate::send_values), reads behind its sets: the law `laws::sent_streams_join`, which stands on
+/// `mysql_commands::laws::whole_streams_join`.
 ///
 /// The limit is at least 4.
 ///
@@ -76,7 +77,7 @@ pub fn send(
     ensures refused { IfErr result (Refuses road query.now sets.now stmt_id limit) }
     ensures kept { OnErr result (out.new.items ≡ out.old.items) }
     ensures sent { OnOk result (Sends road query.now sets.now stmt_id limit out.old.items out.new.items) }
-    ensures read_back { OnOk result (ReadsBack query.now sets.now stmt_id limit out.old.items out.new.items) }
+    ensures read_back { OnOk result (ReadsBack query.now (all_given sets.now) stmt_id limit out.old.items out.new.items) }
     ensures whole { OnOk result (SendsWhole road query.now (all_given sets.now) stmt_id limit out.old.items out.new.items) }
 {
     sent_sets_are_delivered();

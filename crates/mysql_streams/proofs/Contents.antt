@@ -1,4 +1,4 @@
--- What sets give, and what it holds where no cause speaks against it.
+-- What sets give, and what it holds where no cause speaks against it; parameter sets mean what each means by itself.
 use Rattle.std.proofs.Common.{◌≡◌, ℕ, suc, ◌+◌, ◌-◌, ◌≤◌, ◌==◌, Bool, true, false, List, [], ◌∷◌, length, map, filter, Option, Some, None, Result, Ok, Err, refl, ◌∙◌, ap, arith, is_none, nat_lt, cond, unwrap_or, if◌then◌else◌}
 use Rattle.std.specs.List.{AllByRecursion, AllZip, position_from}
 use Rattle.std.specs.Option.{option_map, option_or}
@@ -15,11 +15,14 @@ use Rattle.mysql_values.specs.Params.{IsMeaning, values_over}
 use Rattle.mysql_values.specs.Parsed.{names_of}
 use Rattle.mysql_values.specs.Queries.{is_place, place_at, places_from}
 use Rattle.mysql_values.specs.Tokens.{HasTokens}
+use Rattle.mysql_commands.specs.Reading.{Set}
 use Rattle.mysql_streams.specs.declared.refusal.Refusal.{Refusal}
 use Rattle.mysql_streams.specs.declared.refusal.Refusal.TheVariants as refusals
 use Rattle.mysql_streams.specs.Sets.{given_by}
 use Rattle.mysql_streams.specs.Cause.{Limits, cause_if, first_of_sets, given_cause, set_cause, size_cause}
-use Rattle.mysql_streams.specs.Reading.{held}
+use Rattle.mysql_streams.specs.Laws.{SetsMeanEach}
+use Rattle.mysql_streams.specs.Reading.{HaveContents}
+use Rattle.mysql_streams.proofs.Held.{HoldsAll, held}
 
 -- ---- what sets give
 
@@ -28,6 +31,26 @@ given_over : (over : Result (List Value) ParamsError) (values : List Value) → 
 given_over (Ok others) values gives =
     let same : others ≡ values = cc in ap (λ v. Ok v) same
 given_over (Err error) values gives = cc
+
+-- each parameter set has its meaning
+mean_each : (query : List ℕ) (tokens : List (List ℕ)) → HasTokens query tokens → (sets : List Params) (values : List (List Value)) (contents : List Set) → map (given_by (names_of tokens)) sets ≡ map Ok values
+    → AllByRecursion (λ set. length set ≡ length (filter is_place tokens)) values → HaveContents values contents → AllZip (IsMeaning query) sets contents
+mean_each query tokens has [] [] [] gives counts each = tt
+mean_each query tokens has [] [] (set ∷ contents) gives counts each = cc
+mean_each query tokens has [] (first ∷ values) contents gives counts each = cc
+mean_each query tokens has (params ∷ sets) [] contents gives counts each = cc
+mean_each query tokens has (params ∷ sets) (first ∷ values) [] gives counts each = cc
+mean_each query tokens has (params ∷ sets) (first ∷ values) (set ∷ contents) gives counts each =
+    let here : given_by (names_of tokens) params ≡ Ok first = cc in
+    let others : map (given_by (names_of tokens)) sets ≡ map Ok values = cc in
+    let content : map content_of first ≡ map Some set = cc in
+    let later : HaveContents values contents = cc in (
+      record { tokens = tokens; has = has; values = first; over = given_over (values_over (names_of tokens) params) first here; count = counts.0; each = content },
+      mean_each query tokens has sets values contents others counts.1 later,
+    )
+
+pub sets_mean_each : SetsMeanEach
+sets_mean_each query sets contents m = mean_each query m.tokens m.has sets m.values contents m.given m.counts m.each
 
 -- ---- causes
 
@@ -92,28 +115,22 @@ counted query start (token ∷ tokens) = by (is_place token) (counted query (sta
     by true same = ap (λ n. suc n) same
     by false same = same
 
--- sets against which nothing speaks mean what their values hold
-pub meanings : (query : List ℕ) (tokens : List (List ℕ)) → HasTokens query tokens → (command : List Value → List ℕ) (limits : Limits) → limits.places ≡ length (places_from query 0 tokens)
-    → (number : ℕ) (sets : List Params) (values : List (List Value)) → map (given_by (names_of tokens)) sets ≡ map Ok values → first_of_sets (set_cause command limits) number (map Ok values) ≡ None
-    → AllZip (IsMeaning query) sets (map (map held) values)
-meanings query tokens has command limits count number [] [] gives none = tt
-meanings query tokens has command limits count number [] (first ∷ values) gives none = cc
-meanings query tokens has command limits count number (params ∷ sets) [] gives none = cc
-meanings query tokens has command limits count number (params ∷ sets) (first ∷ values) gives none =
-    let here : given_by (names_of tokens) params ≡ Ok first = cc in
-    let others : map (given_by (names_of tokens)) sets ≡ map Ok values = cc in
-    let parts = neither (set_cause command limits number (Ok first)) (first_of_sets (set_cause command limits) (number + 1) (map Ok values)) none in
-    let g : IsGood command limits first = good command limits number first parts.0 in (
-      record {
-        tokens = tokens;
-        has = has;
-        values = first;
-        over = given_over (values_over (names_of tokens) params) first here;
-        count = g.count_is ∙ count ∙ counted query 0 tokens;
-        each = all_held 0 first g.exact;
-      },
-      meanings query tokens has command limits count (number + 1) sets values others parts.1,
-    )
+-- sets against which nothing speaks have no float
+pub all_hold : (command : List Value → List ℕ) (limits : Limits) (number : ℕ) (sets : List (List Value)) → first_of_sets (set_cause command limits) number (map Ok sets) ≡ None → AllByRecursion HoldsAll sets
+all_hold command limits number [] none = tt
+all_hold command limits number (values ∷ sets) none =
+    let parts = neither (set_cause command limits number (Ok values)) (first_of_sets (set_cause command limits) (number + 1) (map Ok sets)) none in
+    let g : IsGood command limits values = good command limits number values parts.0 in
+    (all_held 0 values g.exact, all_hold command limits (number + 1) sets parts.1)
+
+-- and each has as many values as the query has placeholders
+pub all_counted : (query : List ℕ) (tokens : List (List ℕ)) (command : List Value → List ℕ) (limits : Limits) → limits.places ≡ length (places_from query 0 tokens) → (number : ℕ) (sets : List (List Value))
+    → first_of_sets (set_cause command limits) number (map Ok sets) ≡ None → AllByRecursion (λ set. length set ≡ length (filter is_place tokens)) sets
+all_counted query tokens command limits count number [] none = tt
+all_counted query tokens command limits count number (values ∷ sets) none =
+    let parts = neither (set_cause command limits number (Ok values)) (first_of_sets (set_cause command limits) (number + 1) (map Ok sets)) none in
+    let g : IsGood command limits values = good command limits number values parts.0 in
+    (g.count_is ∙ count ∙ counted query 0 tokens, all_counted query tokens command limits count (number + 1) sets parts.1)
 
 -- payloads that leave room for a header are within the limit
 pub within_limit : (limit : ℕ) (payloads : List (List ℕ)) → AllByRecursion (λ payload. length payload ≤ limit - 4) payloads → AllByRecursion (λ payload. length payload ≤ limit) payloads

@@ -1,5 +1,6 @@
 -- Sets that were sent are read back, each front of their stream reads as the sets that stand whole in it, and by bulk no requests could be fewer.
-use Rattle.std.proofs.Common.{◌≡◌, ℕ, suc, ◌+◌, ◌-◌, ◌^◌, ◌<◌, ◌≤◌, List, [], ◌∷◌, length, map, Option, None, Ok, refl, ◌∙◌, ap, subst, arith}
+use Rattle.std.proofs.Common.{◌≡◌, ℕ, suc, ◌+◌, ◌-◌, ◌^◌, ◌<◌, ◌≤◌, List, [], ◌∷◌, length, map, take, Option, Some, None, Ok, refl, sym, ◌∙◌, ap, subst, arith}
+use Rattle.std.specs.List.{flat_map}
 use Rattle.std.specs.Option.{option_or}
 use Rattle.std.proofs.lemmas.List.{length-map}
 use Rattle.mysql_values.specs.Laws.{OneTokens}
@@ -10,17 +11,19 @@ use Rattle.mysql_bulk_builder.specs.TypedCutLaws.{TightTypedHasFewest}
 use Rattle.mysql_commands.specs.Audit.{Audited}
 use Rattle.mysql_commands.specs.Laws.{FrontsReadOn}
 use Rattle.mysql_commands.specs.Layout.{Conversation}
+use Rattle.mysql_commands.specs.Reading.{Set}
 use Rattle.mysql_streams.specs.declared.road.Road.{Road}
 use Rattle.mysql_streams.specs.declared.road.Road.TheVariants.{Text, Execute, Bulk}
 use Rattle.mysql_streams.specs.Cause.{first_of_sets, limits_of, query_cause, set_cause, sets_cause}
 use Rattle.mysql_streams.specs.Laws.{CarriesValues, ReadsEach, SentPayloadsRead, SentSetsAreDelivered, SentValuesAreCarried}
-use Rattle.mysql_streams.specs.Reading.{FrontsRead, contents_of, held}
+use Rattle.mysql_streams.specs.Reading.{FrontsRead, HaveContents}
 use Rattle.mysql_streams.specs.Sending.{HasFewest}
-use Rattle.mysql_streams.specs.Sent.{AreSent, SentPayload, Statement, as_requests, payloads_of, statement_of, whole_command}
-use Rattle.mysql_streams.specs.Sets.{all_given, values_of}
+use Rattle.mysql_streams.specs.Sent.{AreSent, SentPayload, Statement, as_requests, payloads_of, sets_of, statement_of, whole_command}
+use Rattle.mysql_streams.specs.Sets.{values_of}
 use Rattle.mysql_streams.proofs.Carried.{as_many, few_sent, no_cause, reads_each}
-use Rattle.mysql_streams.proofs.Contents.{meanings, neither}
+use Rattle.mysql_streams.proofs.Contents.{all_counted, neither}
 use Rattle.mysql_streams.proofs.Conversations.{about_of, conversation_of, one_conversation}
+use Rattle.mysql_streams.proofs.Held.{contents_in_a_row, first_zip}
 
 -- ---- no cut has fewer
 
@@ -45,7 +48,11 @@ fronts once law query tokens id limit sent has reads few front back audit joined
     let c : Conversation = conversation_of query tokens id in
     let about = about_of query tokens id has in
     let same : is.0 ≡ c = one_conversation once query id is.0 c is.1 about in
-    law c limit (payloads_of sent) (contents_of sent) front back audit about.is_query reads.within joined (reads.each few) (as_many sent) (subst (λ (d : Conversation). Audited d limit front audit) same is.2)
+    let all : List (List Set) = reads.reads in
+    let found = law c limit (payloads_of sent) all front back audit about.is_query reads.within joined (reads.each few) (as_many sent all reads.contents) (subst (λ (d : Conversation). Audited d limit front audit) same is.2) in
+    let whole : HaveContents (sets_of (take found.0 sent)) (flat_map (λ sets. sets) (take found.0 all)) =
+    contents_in_a_row (take found.0 sent) (take found.0 all) (first_zip (λ payload sets. HaveContents payload.sets sets) found.0 sent all reads.contents) in
+    (found.0, found.1, whole ∙ ap (λ l. map (map Some) l) (sym found.2), found.3)
 
 pub delivered : SentPayloadsRead Text → SentPayloadsRead Execute → SentPayloadsRead Bulk → SentValuesAreCarried → OneTokens → FrontsReadOn → TightTypedHasFewest → SentSetsAreDelivered
 delivered text execute bulk carried once fronts_read fewest road query sets id limit old new small room short q =
@@ -55,18 +62,25 @@ delivered text execute bulk carried once fronts_read fewest road query sets id l
     let statement : Statement = statement_of query tokens id in
     let first : Option _ = first_of_sets (set_cause (whole_command road statement) (limits_of statement.places limit)) 0 (map Ok values) in
     let together : Option _ = option_or (sets_cause road statement (limit - 4) (values_of (map Ok values))) None in
-    let parts = neither (query_cause road statement (limit - 4)) (option_or first together) (no_cause road query (all_given sets) id limit old new q.sends) in
+    let parts = neither (query_cause road statement (limit - 4)) (option_or first together) (no_cause road query sets id limit old new q.sends) in
     let each_none = neither first together parts.1 in
-    let carries : CarriesValues query values id limit old new = carried road query (all_given sets) id limit old new small room short q in
-    let reads = reads_each text execute bulk road query (all_given sets) id limit old new small room q in
-    let few = few_sent road query (all_given sets) id limit old new short q.sends in
+    let carries : CarriesValues query values id limit old new = carried road query sets id limit old new small room short q in
+    let reads = reads_each text execute bulk road query sets id limit old new small room q in
+    let few = few_sent road query sets id limit old new short q.sends in
     record {
       read_back = record {
         stream = carries.stream;
         appended = carries.appended;
-        contents = map (map held) values;
+        contents = carries.contents;
         reads = record {
-          meanings = meanings query tokens q.sends.has (whole_command road statement) (limits_of statement.places limit) refl 0 sets values q.sends.given each_none.0;
+          meanings = record {
+            tokens = tokens;
+            has = q.sends.has;
+            values = values;
+            given = q.sends.given;
+            counts = all_counted query tokens (whole_command road statement) (limits_of statement.places limit) refl 0 values each_none.0;
+            each = carries.each;
+          };
           audit = carries.audit;
         };
       };

@@ -11,8 +11,8 @@ use Rattle.mysql_values.specs.Values.{content_of}
 use Rattle.mysql_streams.specs.declared.refusal.Refusal.TheVariants as refusals
 use Rattle.mysql_streams.specs.Cause.{Limits, cause_if, first_of_sets, max_places, prepare_cause, set_cause}
 use Rattle.mysql_streams.specs.Commands.{prepare_command}
-use Rattle.mysql_streams.specs.Reading.{held}
 use Rattle.mysql_streams.proofs.Contents.{IsGood, all_held, good, neither}
+use Rattle.mysql_streams.proofs.Held.{held}
 
 -- ---- the query
 

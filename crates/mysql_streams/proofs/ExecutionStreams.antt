@@ -14,16 +14,17 @@ use Rattle.mysql_streams.specs.declared.road.Road.TheVariants.{Execute}
 use Rattle.mysql_streams.specs.Cause.{Limits, first_of_sets, limits_of, max_places, prepare_cause, set_cause}
 use Rattle.mysql_streams.specs.Commands.{pieces_from, prepare_command}
 use Rattle.mysql_streams.specs.Laws.{ReadsEach, SentPayloadsRead}
-use Rattle.mysql_streams.specs.Reading.{held}
 use Rattle.mysql_streams.specs.Sent.{SentPayload, Statement, as_execution, last_of, on_the_way, parsed_of, payloads_of, prepare_of, statement_of, whole_command}
 use Rattle.mysql_streams.proofs.Contents.{neither}
 use Rattle.mysql_streams.proofs.Conversations.{conversation_is, conversation_of}
 use Rattle.mysql_streams.proofs.Executable.{IsPreparable, IsSendable, all_sendable, preparable}
 use Rattle.mysql_streams.proofs.ExecutionSizes.{Within, cells_in_execution, execution_fewer, pieces_within, within_append, within_on_the_way}
 use Rattle.mysql_streams.proofs.Executions.{execution_reads, nothing_apart}
+use Rattle.mysql_streams.proofs.Held.{held}
 use Rattle.mysql_streams.proofs.LongData.{AfterPieces, after_pieces}
 use Rattle.mysql_streams.proofs.Preparing.{FreshlyPrepared, prepare_leaves, prepare_reads}
 use Rattle.mysql_streams.proofs.ReadEach.{ReadFrom, not_waiting, read_each}
+use Rattle.mysql_streams.proofs.SentSets.{ReadsHeld, reads_contents}
 use Rattle.mysql_streams.proofs.States.{IsReady, behind, behind_append, behind_is, execution_leaves, read_behind}
 
 -- a set as an execution, with its byte strings before it or in it
@@ -108,7 +109,7 @@ module _ (law : WrittenCellsAreHeld) (c : Conversation) (statement : Statement) 
         record { reads = (prepare_reads c nothing_yet (parsed_of statement.tokens) parsed few, later.reads); ready = later.ready }
 
     -- and each payload as the sets that stand whole with it
-    reads_each : ReadsEach c most all_sent
+    reads_each : ReadsHeld c most all_sent
     reads_each = record {
       within = (le_trans short room, all_within most sets room may);
       each = λ bounded. read_each goes_on c nothing_yet all_sent whole.reads bounded;
@@ -125,10 +126,11 @@ executions_are_read goes_on law once query tokens id limit sets sent c has small
     let of_sets = neither first_cause (option_or None None) parts.1 in
     let may_prepare : IsPreparable statement.places (parsed_of tokens) (limit - 4) = preparable statement.places (parsed_of tokens) (limit - 4) parts.0 in
     let d : Conversation = conversation_of query tokens id in
-    let reads : ReadsEach d limit (prepare_of statement ∷ flat_map (as_execution statement) sets) =
+    let reads : ReadsHeld d limit (prepare_of statement ∷ flat_map (as_execution statement) sets) =
     reads_each law d statement small refl limits refl may_prepare.few goes_on refl limit (sub_le limit 4) may_prepare.short sets
     (all_sendable (whole_command Execute statement) limits 0 sets of_sets.0 fit) in
-    subst (λ (e : Conversation). ReadsEach e limit sent) (conversation_is once query tokens id c has about) (subst (λ l. ReadsEach d limit l) (sym are) reads)
+    subst (λ (e : Conversation). ReadsEach e limit sent) (conversation_is once query tokens id c has about)
+    (reads_contents Execute statement (limit - 4) sets sent are (whole_command Execute statement) limits of_sets.0 d limit (subst (λ l. ReadsHeld d limit l) (sym are) reads))
   where
     sub_le : (n k : ℕ) → n - k ≤ n
     sub_le n k = omega arith

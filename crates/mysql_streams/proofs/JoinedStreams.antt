@@ -1,20 +1,23 @@
 -- Streams that were sent one behind the other.
-use Rattle.std.proofs.Common.{◌≡◌, ℕ, suc, ◌+◌, ◌<◌, ◌≤◌, ◌^◌, List, [], ◌∷◌, ◌++◌, length, refl, ◌∙◌, ap, subst, arith, append_assoc, add-one, length-append}
-use Rattle.std.specs.List.{AllZip}
+use Rattle.std.proofs.Common.{◌≡◌, ℕ, suc, ◌+◌, ◌<◌, ◌≤◌, ◌^◌, List, [], ◌∷◌, ◌++◌, filter, length, map, Ok, refl, sym, ◌∙◌, ap, subst, arith, append_assoc, add-one, length-append}
+use Rattle.std.specs.List.{AllByRecursion}
+use Rattle.std.proofs.lemmas.List.{map-append}
 use Rattle.mysql_wire.specs.Framing.{chunk, chunks, framing, slice}
 use Rattle.mysql_wire.specs.Stream.{Split, framings}
 use Rattle.mysql_wire.specs.Stream.Numbering.{EachFromZero}
-use Rattle.mysql_values.specs.Content.{Content}
-use Rattle.mysql_values.specs.declared.params.Params.{Params}
 use Rattle.mysql_values.specs.Laws.{OneTokens}
-use Rattle.mysql_values.specs.Params.{IsMeaning}
+use Rattle.mysql_values.specs.Parsed.{names_of}
+use Rattle.mysql_values.specs.Queries.{is_place}
 use Rattle.mysql_commands.specs.Audit.{Audited}
 use Rattle.mysql_commands.specs.declared.audit.End.TheVariants.{Whole}
 use Rattle.mysql_commands.specs.Laws.{WholeStreamsJoin}
 use Rattle.mysql_commands.specs.Layout.{Conversation}
+use Rattle.mysql_commands.specs.Reading.{Set}
 use Rattle.mysql_streams.specs.Laws.{SentStreamsJoin}
-use Rattle.mysql_streams.specs.Reading.{ReadsAsMeanings}
+use Rattle.mysql_streams.specs.Reading.{AreMeanings, ReadsAs}
+use Rattle.mysql_streams.specs.Sets.{Given}
 use Rattle.mysql_streams.proofs.Conversations.{one_conversation}
+use Rattle.mysql_streams.proofs.Held.{all_append, contents_append}
 
 -- a chunk has bytes
 chunk_some : (number : ℕ) (bytes rest : List ℕ) → 0 < length (chunk number bytes ++ rest)
@@ -37,21 +40,29 @@ few : (split : Split) (bytes : List ℕ) → bytes ≡ framings split.payloads E
 few split bytes is = omega (arith, ap length is, as_long split.payloads, length-append (framings split.payloads EachFromZero) split.rest_bytes)
 
 -- the meanings of sets and of others behind them
-meanings_join : (query : List ℕ) (sets others : List Params) (contents later : List (List Content)) → AllZip (IsMeaning query) sets contents → AllZip (IsMeaning query) others later → AllZip (IsMeaning query) (sets ++ others) (contents ++ later)
-meanings_join query [] others [] later first second = second
-meanings_join query [] others (held ∷ contents) later first second = absurd first
-meanings_join query (params ∷ sets) others [] later first second = absurd first
-meanings_join query (params ∷ sets) others (held ∷ contents) later first second = (first.0, meanings_join query sets others contents later first.1 second)
+meanings_join : OneTokens → (query : List ℕ) (sets others : List (List ℕ) → List Given) (contents later : List Set) → AreMeanings query sets contents → AreMeanings query others later → AreMeanings query (λ names. sets names ++ others names) (contents ++ later)
+meanings_join once query sets others contents later m n =
+    let tokens : n.tokens ≡ m.tokens = once query n.tokens m.tokens n.has m.has in
+    let given : others (names_of m.tokens) ≡ map Ok n.values = ap (λ t. others (names_of t)) (sym tokens) ∙ n.given in
+    record {
+      tokens = m.tokens;
+      has = m.has;
+      values = m.values ++ n.values;
+      given = ap (λ l. l ++ others (names_of m.tokens)) m.given ∙ ap (λ l. map Ok m.values ++ l) given ∙ sym (map-append Ok m.values n.values);
+      counts = all_append (λ set. length set ≡ length (filter is_place m.tokens)) m.values n.values m.counts
+          (subst (λ (t : List (List ℕ)). AllByRecursion (λ set. length set ≡ length (filter is_place t)) n.values) tokens n.counts);
+      each = contents_append m.values n.values contents later m.each n.each;
+    }
 
 -- two streams of a query and an id that read as meanings, one behind the other, in fewer than 2 ^ 64 bytes
-streams_join : OneTokens → WholeStreamsJoin → (query : List ℕ) (sets others : List Params) (id limit : ℕ) (stream behind : List ℕ) (contents later : List (List Content)) → length stream + length behind < 2 ^ 64
-    → ReadsAsMeanings query sets id limit stream contents → ReadsAsMeanings query others id limit behind later → ReadsAsMeanings query (sets ++ others) id limit (stream ++ behind) (contents ++ later)
+streams_join : OneTokens → WholeStreamsJoin → (query : List ℕ) (sets others : List (List ℕ) → List Given) (id limit : ℕ) (stream behind : List ℕ) (contents later : List Set) → length stream + length behind < 2 ^ 64
+    → ReadsAs query sets id limit stream contents → ReadsAs query others id limit behind later → ReadsAs query (λ names. sets names ++ others names) id limit (stream ++ behind) (contents ++ later)
 streams_join once join query sets others id limit stream behind contents later short r q =
     let same : q.audit.0 ≡ r.audit.0 = one_conversation once query id q.audit.0 r.audit.0 q.audit.1 r.audit.1 in
     let second : Audited r.audit.0 limit behind (record { sets = later; ending = Whole }) =
     subst (λ (c : Conversation). Audited c limit behind (record { sets = later; ending = Whole })) same q.audit.2 in
     record {
-      meanings = meanings_join query sets others contents later r.meanings q.meanings;
+      meanings = meanings_join once query sets others contents later r.meanings q.meanings;
       audit = (
         r.audit.0,
         r.audit.1,

@@ -7,6 +7,7 @@ pub mod ExecutionSizes
 pub mod ExecutionStreams
 pub mod Executions
 pub mod FieldsRead
+pub mod Held
 pub mod JoinedStreams
 pub mod LongData
 pub mod OneMeaning
@@ -17,4 +18,5 @@ pub mod RequestRows
 pub mod RequestSizes
 pub mod RequestStreams
 pub mod Requests
+pub mod SentSets
 pub mod States

@@ -1,5 +1,5 @@
 -- Text queries that were sent read as the sets whose values they carry.
-use Rattle.std.proofs.Common.{◌≡◌, ℕ, ◌+◌, ◌≤◌, not, Bool, true, false, List, [], ◌∷◌, length, map, Option, Some, None, Ok, refl, sym, ◌∙◌, ap, subst, cond}
+use Rattle.std.proofs.Common.{◌≡◌, ℕ, ◌+◌, ◌-◌, ◌≤◌, not, Bool, true, false, List, [], ◌∷◌, length, map, Option, Some, None, Ok, refl, sym, ◌∙◌, ap, subst, cond}
 use Rattle.std.specs.Prelude.{IsTrue}
 use Rattle.std.specs.List.{AllByRecursion, flat_map, list_all, position_from}
 use Rattle.std.specs.Option.{option_map, option_or}
@@ -11,15 +11,18 @@ use Rattle.mysql_commands.specs.InForce.{StatementState, nothing_yet, state_afte
 use Rattle.mysql_commands.specs.Laws.{LookingBackGoesOn}
 use Rattle.mysql_commands.specs.Layout.{Conversation}
 use Rattle.mysql_commands.specs.Query.{all_alone}
+use Rattle.mysql_commands.specs.Reading.{Set, TextReadsAs}
 use Rattle.mysql_streams.specs.declared.refusal.Refusal.TheVariants as refusals
 use Rattle.mysql_streams.specs.declared.road.Road.TheVariants.{Text}
 use Rattle.mysql_streams.specs.Cause.{cause_if, first_of_sets, limits_of, places_cause, set_cause}
 use Rattle.mysql_streams.specs.Laws.{ReadsEach, SentPayloadsRead}
 use Rattle.mysql_streams.specs.Reading.{IsReadable}
-use Rattle.mysql_streams.specs.Sent.{Statement, as_text, payloads_of, statement_of, whole_command}
+use Rattle.mysql_streams.specs.Sent.{Statement, as_text, payloads_of, query_text_of, statement_of, whole_command}
 use Rattle.mysql_streams.proofs.Contents.{neither, short_each, within_limit}
 use Rattle.mysql_streams.proofs.Conversations.{conversation_is, conversation_of}
+use Rattle.mysql_streams.proofs.Held.{held, what_is_held}
 use Rattle.mysql_streams.proofs.ReadEach.{ReadFrom, not_waiting, read_each}
+use Rattle.mysql_streams.proofs.SentSets.{ReadsHeld, reads_contents}
 
 -- placeholders of which none is found that doesn't stand alone all do
 all_pass : (n : ℕ) (places : List Place) → position_from (λ place. not place.alone) n places ≡ None → list_all (λ place. place.alone) places ≡ true
@@ -46,12 +49,16 @@ payloads_are : (statement : Statement) (sets : List (List Value)) → payloads_o
 payloads_are statement [] = refl
 payloads_are statement (values ∷ sets) = ap (λ l. whole_command Text statement values ∷ l) (payloads_are statement sets)
 
+-- a query that reads as its values' contents reads as what they hold
+as_held : (query : List ℕ) (tokens : List (List ℕ)) (values : List Value) → IsReadable Text query tokens values → TextReadsAs query (query_text_of tokens values) (map held values)
+as_held query tokens values is = subst (λ (l : Set). TextReadsAs query (query_text_of tokens values) l) (what_is_held values is.0 is.1) is.2
+
 -- each query reads as what its values hold, whatever is in force
 reads_from : (c : Conversation) (alone : IsTrue (all_alone c.query)) (statement : Statement) (sets : List (List Value)) → AllByRecursion (IsReadable Text c.query.text statement.tokens) sets
     → (s : StatementState) → ReadFrom c s (flat_map (as_text statement) sets)
 reads_from c alone statement [] readable s = tt
 reads_from c alone statement (values ∷ sets) readable s =
-    ((alone, (_, readable.0, refl)), reads_from c alone statement sets readable.1 (state_after c s (whole_command Text statement values ∷ [])))
+    ((alone, (_, as_held c.query.text statement.tokens values readable.0, refl)), reads_from c alone statement sets readable.1 (state_after c s (whole_command Text statement values ∷ [])))
 
 -- behind queries no piece waits
 none_waits : LookingBackGoesOn → (c : Conversation) (statement : Statement) (sets : List (List Value)) (s : StatementState) → ((place : ℕ) → s.pieces place ≡ None)
@@ -71,10 +78,11 @@ queries_read goes_on once query tokens id limit values sent c has small room abo
     let sets_none = neither sets None parts.1 in
     let queries = flat_map (as_text statement) values in
     let d : Conversation = conversation_of query tokens id in
-    let reads : ReadsEach d limit queries = record {
+    let reads : ReadsHeld d limit queries = record {
       within = subst (λ (l : List (List ℕ)). AllByRecursion (λ payload. length payload ≤ limit) l) (sym (payloads_are statement values))
           (within_limit limit (map (whole_command Text statement) values) (short_each (whole_command Text statement) (limits_of statement.places limit) 0 values sets_none.0));
       each = read_each goes_on d nothing_yet queries (reads_from d (places_alone statement.places parts.0) statement values readable nothing_yet);
       ends = not_waiting d (state_after d nothing_yet (payloads_of queries)) (none_waits goes_on d statement values nothing_yet (λ place. refl));
     } in
-    subst (λ (e : Conversation). ReadsEach e limit sent) (conversation_is once query tokens id c has about) (subst (λ l. ReadsEach d limit l) (sym is) reads)
+    subst (λ (e : Conversation). ReadsEach e limit sent) (conversation_is once query tokens id c has about)
+    (reads_contents Text statement (limit - 4) values sent is (whole_command Text statement) (limits_of statement.places limit) sets_none.0 d limit (subst (λ l. ReadsHeld d limit l) (sym is) reads))

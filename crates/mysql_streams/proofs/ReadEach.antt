@@ -9,8 +9,8 @@ use Rattle.mysql_commands.specs.Laws.{LookingBackGoesOn}
 use Rattle.mysql_commands.specs.Layout.{Conversation}
 use Rattle.mysql_commands.specs.Query.{place_count}
 use Rattle.mysql_commands.specs.Reading.{PayloadReadsAs}
-use Rattle.mysql_streams.specs.Reading.{contents_of, held}
 use Rattle.mysql_streams.specs.Sent.{SentPayload, payloads_of}
+use Rattle.mysql_streams.proofs.Held.{contents_of, held}
 
 -- each payload reads as the sets that stand whole with it, from this state on
 abbrev pub ReadFrom : Conversation → StatementState → List SentPayload → Type 0

@@ -19,8 +19,8 @@ use Rattle.mysql_commands.specs.declared.param_type.ParamType.{ParamType}
 use Rattle.mysql_commands.specs.Laws.{WrittenCellsAreHeld}
 use Rattle.mysql_commands.specs.Layout.{Types}
 use Rattle.mysql_commands.specs.Reading.{RowsAt, column_at, columns_at, row_at}
-use Rattle.mysql_streams.specs.Reading.{held}
 use Rattle.mysql_streams.proofs.FieldsRead.{byte_front}
+use Rattle.mysql_streams.proofs.Held.{held}
 
 -- the type that a value is sent by, as it is read
 abbrev pub read_type : Value → ParamType

@@ -23,17 +23,18 @@ use Rattle.mysql_streams.specs.declared.road.Road.TheVariants.{Bulk}
 use Rattle.mysql_streams.specs.Cause.{Limits, bulk_cause, cause_if, first_of_sets, limits_of, prepare_cause, query_cause, set_cause}
 use Rattle.mysql_streams.specs.Commands.{bulk_request, prepare_command, types_size}
 use Rattle.mysql_streams.specs.Laws.{ReadsEach, RequestsHaveTheirSize, SentPayloadsRead}
-use Rattle.mysql_streams.specs.Reading.{held}
 use Rattle.mysql_streams.specs.Sent.{SentPayload, Statement, as_requests, parsed_of, payloads_of, prepare_of, statement_of, whole_command}
 use Rattle.mysql_streams.specs.Sets.{values_of}
 use Rattle.mysql_streams.proofs.Contents.{IsGood, all_held, good, neither, within_limit}
 use Rattle.mysql_streams.proofs.Conversations.{conversation_is, conversation_of}
 use Rattle.mysql_streams.proofs.Executable.{IsPreparable, preparable}
+use Rattle.mysql_streams.proofs.Held.{held}
 use Rattle.mysql_streams.proofs.Preparing.{FreshlyPrepared, prepare_leaves, prepare_reads}
 use Rattle.mysql_streams.proofs.ReadEach.{ReadFrom, not_waiting, read_each}
 use Rattle.mysql_streams.proofs.RequestRows.{IsHeld}
 use Rattle.mysql_streams.proofs.RequestSizes.{requests_have_their_size}
 use Rattle.mysql_streams.proofs.Requests.{IsInForce, request_goes}
+use Rattle.mysql_streams.proofs.SentSets.{ReadsHeld, reads_contents}
 
 -- ---- what no cause says
 
@@ -148,10 +149,11 @@ requests_read goes_on once law lengths serves query tokens id limit values sent 
     let goes = requests_go (limit - 4) id columns values goes_on law d small refl refl (some_places columns prepare_none.1) (λ k inside. (rows k inside).0) (λ k inside. (rows k inside).1)
     0 0 cut (state_after d nothing_yet (prepare_command parsed ∷ [])) (record { prepared = fresh.prepared; none = fresh.pieces; types = λ later. absurd (omega (arith, later)) }) tight.is_cut.0 (omega (arith, tight.is_cut.1)) fits serve in
     let all_sent : List SentPayload = prepare_of statement ∷ as_requests statement values cut in
-    let reads : ReadsEach d limit all_sent = record {
+    let reads : ReadsHeld d limit all_sent = record {
       within = within_limit limit (payloads_of all_sent) (prepare.short, short_requests (limit - 4) id columns values (requests_have_their_size lengths) 0 cut fits);
       each = read_each goes_on d nothing_yet all_sent (prepare_reads d nothing_yet parsed refl prepare.few, goes.0);
       ends = not_waiting d (state_after d nothing_yet (payloads_of all_sent))
           (λ k. ap (λ (t : StatementState). t.pieces k) (goes_on d nothing_yet (prepare_command parsed ∷ []) (payloads_of (as_requests statement values cut))) ∙ goes.1 k);
     } in
-    subst (λ (e : Conversation). ReadsEach e limit sent) (conversation_is once query tokens id c has about) (subst (λ l. ReadsEach d limit l) (sym are_sent.2) reads)
+    subst (λ (e : Conversation). ReadsEach e limit sent) (conversation_is once query tokens id c has about)
+    (reads_contents Bulk statement (limit - 4) values sent are_sent (whole_command Bulk statement) (limits_of statement.places limit) sets_none.0 d limit (subst (λ l. ReadsHeld d limit l) (sym are_sent.2) reads))

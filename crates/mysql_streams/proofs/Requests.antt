@@ -25,8 +25,8 @@ use Rattle.mysql_commands.specs.Layout.{BulkHead, Conversation, Types, bulk_head
 use Rattle.mysql_commands.specs.Query.{place_count}
 use Rattle.mysql_commands.specs.Reading.{PayloadReadsAs, RowsAt, bulk_rows, types_in_force}
 use Rattle.mysql_streams.specs.Commands.{request_flags, request_types}
-use Rattle.mysql_streams.specs.Reading.{held}
 use Rattle.mysql_streams.proofs.FieldsRead.{byte_front, id_front, number_front}
+use Rattle.mysql_streams.proofs.Held.{held}
 use Rattle.mysql_streams.proofs.ReadEach.{not_waiting}
 use Rattle.mysql_streams.proofs.RequestRows.{IsHeld, Serves, read_type, rows_bytes, rows_read, types_by}
 

@@ -1,28 +1,31 @@
 -- The laws of streams that were sent.
 -- MySQL: Client/Server Protocol, "Command Phase".
 use Rattle.std.specs.Prelude.{◌≡◌, ℕ, ◌+◌, ◌<◌, ◌≤◌, ◌^◌, ◌-◌, false, List, ◌++◌, length, map, None, Ok}
-use Rattle.std.specs.List.{AllByRecursion}
-use Rattle.mysql_values.specs.Content.{Content}
+use Rattle.std.specs.List.{AllByRecursion, AllZip}
 use Rattle.mysql_values.specs.Value.{Value}
 use Rattle.mysql_values.specs.declared.params.Params.{Params}
+use Rattle.mysql_values.specs.Params.{IsMeaning}
 use Rattle.mysql_values.specs.Tokens.{HasTokens}
 use Rattle.mysql_commands.specs.declared.audit.End.TheVariants.{Whole}
 use Rattle.mysql_commands.specs.Audit.{AuditOf, IsAbout, Read}
 use Rattle.mysql_commands.specs.InForce.{is_waiting, nothing_yet, state_after}
 use Rattle.mysql_commands.specs.Layout.{Conversation}
+use Rattle.mysql_commands.specs.Reading.{Set}
 use Rattle.mysql_bulk_builder.specs.Cut.{Row, rows_size}
 use Rattle.mysql_bulk_builder.specs.TypedCut.{Part}
 use Rattle.mysql_streams.specs.declared.road.Road.{Road}
 use Rattle.mysql_streams.specs.Commands.{bulk_request, types_size}
-use Rattle.mysql_streams.specs.Sets.{Given, all_given}
+use Rattle.mysql_streams.specs.Sets.{GiveTheSame, Given, all_given}
 use Rattle.mysql_streams.specs.Sent.{AreSent, SentPayload, payloads_of, statement_of}
 use Rattle.mysql_streams.specs.Cause.{cause_of}
-use Rattle.mysql_streams.specs.Reading.{IsReadable, ReadsAsMeanings, ReadsBack, SendsWhole, SentReadable, contents_of, held}
+use Rattle.mysql_streams.specs.Reading.{AreMeanings, HaveContents, IsReadable, ReadsAs, ReadsBack, SendsWhole, SentReadable}
 
--- What is sent reads, payload by payload, as the sets that stand whole with each, and no piece waits behind it.
+-- What is sent reads, payload by payload, as the contents of the sets that stand whole with each, and no piece waits behind it.
 pub record ReadsEach (c : Conversation) (limit : ℕ) (sent : List SentPayload) : Type 0 where
   pub within : AllByRecursion (λ payload. length payload ≤ limit) (payloads_of sent)
-  pub each : length sent < 2 ^ 64 → Read c nothing_yet 0 (payloads_of sent) (contents_of sent)
+  pub reads : List (List Set)
+  pub contents : AllZip (λ payload sets. HaveContents payload.sets sets) sent reads
+  pub each : length sent < 2 ^ 64 → Read c nothing_yet 0 (payloads_of sent) reads
   pub ends : is_waiting c (state_after c nothing_yet (payloads_of sent)) ≡ false
 
 -- What is sent of sets without a cause that can be read back reads as these sets, by each road.
@@ -33,11 +36,13 @@ SentPayloadsRead road =
     → cause_of road (statement_of query tokens id) limit (map Ok values) ≡ None → AreSent road (statement_of query tokens id) (limit - 4) values sent
     → AllByRecursion (IsReadable road query tokens) values → ReadsEach c limit sent
 
--- what was appended reads, to its end, as what these sets of values hold
+-- what was appended reads, to its end, as the contents of these sets of values
 pub record CarriesValues (query : List ℕ) (values : List (List Value)) (id limit : ℕ) (old new : List ℕ) : Type 0 where
   pub stream : List ℕ
   pub appended : new ≡ old ++ stream
-  pub audit : AuditOf query id limit stream (record { sets = map (map held) values; ending = Whole })
+  pub contents : List Set
+  pub each : HaveContents values contents
+  pub audit : AuditOf query id limit stream (record { sets = contents; ending = Whole })
 
 -- Values that were sent, in fewer than 2 ^ 64 bytes, are carried by what was appended, whichever sets gave them.
 abbrev pub SentValuesAreCarried : Type 0
@@ -50,26 +55,30 @@ abbrev pub OneConversation : Type 0
 OneConversation = (query : List ℕ) (id : ℕ) (c d : Conversation) → IsAbout c query id → IsAbout d query id → c ≡ d
 
 -- Sets that were sent, in fewer than 2 ^ 64 bytes, are read back, each front of their stream reads as the sets that stand whole in it, and by bulk no requests could be fewer.
-pub record IsDelivered (road : Road) (query : List ℕ) (sets : List Params) (id limit : ℕ) (old new : List ℕ) : Type 0 where
+pub record IsDelivered (road : Road) (query : List ℕ) (sets : List (List ℕ) → List Given) (id limit : ℕ) (old new : List ℕ) : Type 0 where
   pub read_back : ReadsBack query sets id limit old new
-  pub whole : SendsWhole road query (all_given sets) id limit old new
+  pub whole : SendsWhole road query sets id limit old new
 
 abbrev pub SentSetsAreDelivered : Type 0
 SentSetsAreDelivered =
-    (road : Road) (query : List ℕ) (sets : List Params) (id limit : ℕ) (old new : List ℕ) → id < 2 ^ 32 → 4 ≤ limit → length new < 2 ^ 64
-    → SentReadable road query (all_given sets) id limit old new → IsDelivered road query sets id limit old new
+    (road : Road) (query : List ℕ) (sets : List (List ℕ) → List Given) (id limit : ℕ) (old new : List ℕ) → id < 2 ^ 32 → 4 ≤ limit → length new < 2 ^ 64
+    → SentReadable road query sets id limit old new → IsDelivered road query sets id limit old new
+
+-- Parameter sets mean what each of them means by itself.
+abbrev pub SetsMeanEach : Type 0
+SetsMeanEach = (query : List ℕ) (sets : List Params) (contents : List Set) → AreMeanings query (all_given sets) contents → AllZip (IsMeaning query) sets contents
 
 -- Sets that are appended behind others, each by whichever road, read as all of them one after another, in fewer than 2 ^ 64 bytes.
 abbrev pub SentStreamsJoin : Type 0
 SentStreamsJoin =
-    (query : List ℕ) (sets others : List Params) (id limit : ℕ) (old mid new : List ℕ) → length new < 2 ^ 64
-    → ReadsBack query sets id limit old mid → ReadsBack query others id limit mid new → ReadsBack query (sets ++ others) id limit old new
+    (query : List ℕ) (sets others : List (List ℕ) → List Given) (id limit : ℕ) (old mid new : List ℕ) → length new < 2 ^ 64
+    → ReadsBack query sets id limit old mid → ReadsBack query others id limit mid new → ReadsBack query (λ names. sets names ++ others names) id limit old new
 
--- The same sets read as the same contents, by whichever road, id and limit they are sent.
+-- Sets that give the same read as the same contents, by whichever road, id and limit they are sent.
 abbrev pub RoadsReadEqually : Type 0
 RoadsReadEqually =
-    (query : List ℕ) (sets : List Params) (id limit other_id other_limit : ℕ) (stream other : List ℕ) (contents others : List (List Content))
-    → ReadsAsMeanings query sets id limit stream contents → ReadsAsMeanings query sets other_id other_limit other others → contents ≡ others
+    (query : List ℕ) (sets others : List (List ℕ) → List Given) (id limit other_id other_limit : ℕ) (stream other : List ℕ) (contents other_contents : List Set) → GiveTheSame sets others
+    → ReadsAs query sets id limit stream contents → ReadsAs query others other_id other_limit other other_contents → contents ≡ other_contents
 
 -- A bulk request takes seven bytes, the types that it carries, and its rows.
 abbrev pub RequestsHaveTheirSize : Type 0

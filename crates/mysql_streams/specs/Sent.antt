@@ -82,6 +82,9 @@ AreSent Execute statement room sets sent = sent ≡ prepare_of statement ∷ fla
 AreSent Bulk statement room sets sent =
     (cut : List Part) × IsTightTyped room (length statement.places) sets cut × (sent ≡ prepare_of statement ∷ as_requests statement sets cut)
 
--- their payloads, and for each of them the sets that stand whole with it
+-- their payloads, and the sets that stand whole with them
 abbrev pub payloads_of : List SentPayload → List (List ℕ)
 payloads_of sent = map (λ s. s.payload) sent
+
+abbrev pub sets_of : List SentPayload → List (List Value)
+sets_of sent = flat_map (λ s. s.sets) sent

@@ -1,6 +1,6 @@
 -- What sets give a query: all that is sent of them, and all that speaks against them, is stated over this.
 -- MySQL Reference Manual, "PREPARE Statement" (parameter markers); names as placeholders are a form of client libraries.
-use Rattle.std.specs.Prelude.{ℕ, List, [], ◌∷◌, ◌++◌, map, Option, None, Some, Result, Err, Ok}
+use Rattle.std.specs.Prelude.{◌≡◌, ℕ, List, [], ◌∷◌, ◌++◌, map, Option, None, Some, Result, Err, Ok}
 use Rattle.std.specs.List.{filter_map}
 use Rattle.std.specs.Result.{result_map_both, result_ok}
 use Rattle.mysql_values.specs.Value.{Value}
@@ -25,6 +25,10 @@ all_given sets names = map (given_by names) sets
 abbrev pub given_up_to : List Params → Option SetError → List (List ℕ) → List Given
 given_up_to sets None names = all_given sets names
 given_up_to sets (Some error) names = all_given sets names ++ Err error ∷ []
+
+-- sets that give every query the same
+abbrev pub GiveTheSame : (List (List ℕ) → List Given) → (List (List ℕ) → List Given) → Type 0
+GiveTheSame sets others = (names : List (List ℕ)) → sets names ≡ others names
 
 -- the values of the sets that give any
 abbrev pub values_of : List Given → List (List Value)

@@ -1,6 +1,6 @@
 //! Laws of what is sent. Functions without a result do nothing: their contracts are the laws.
 
-ghost use Rattle.mysql_streams.specs.Laws.{OneConversation, RequestsHaveTheirSize, RoadsReadEqually, SentPayloadsRead, SentSetsAreDelivered, SentStreamsJoin, SentValuesAreCarried};
+ghost use Rattle.mysql_streams.specs.Laws.{OneConversation, RequestsHaveTheirSize, RoadsReadEqually, SentPayloadsRead, SentSetsAreDelivered, SentStreamsJoin, SentValuesAreCarried, SetsMeanEach};
 ghost use Rattle.mysql_streams.specs.declared.road.Road.TheVariants as roads;
 
 use mysql_bulk_builder::laws::{tight_typed_has_fewest, types_in_force_serve};
@@ -74,7 +74,13 @@ pub fn sent_sets_are_delivered()
     tight_typed_has_fewest();
 }
 
-/// Sets that are appended behind others, each by whichever road, read as all of them one after another.
+/// Parameter sets mean what each of them means by itself, as `bind_text` goes by it.
+pub fn sets_mean_each()
+    ensures { SetsMeanEach }
+{}
+
+/// Sets that are appended behind others, each by whichever road, read as all of them one after another: parameter sets or lists
+/// of objects behind either.
 pub fn sent_streams_join()
     ensures { SentStreamsJoin }
 {
@@ -82,7 +88,8 @@ pub fn sent_streams_join()
     whole_streams_join();
 }
 
-/// The same sets read as the same contents, by whichever road they are sent.
+/// Sets that give a query the same read as the same contents, by whichever road they are sent: the same parameter sets, the same
+/// lists of objects, or lists of objects and the parameter sets that are made of them.
 pub fn roads_read_equally()
     ensures { RoadsReadEqually }
 {

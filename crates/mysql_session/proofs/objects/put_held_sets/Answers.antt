@@ -18,11 +18,5 @@ returns-clause-err g c =
 pub returns-clause-ok : goal.returns-clause-ok
 returns-clause-ok g c =
     on_ok c.put_requests.result
-    (λ is. (sent roads.Bulk c.args.query.now _ c.in_ok-sets.field-0.sets.items c.args.stmt_id c.args.limit c.in_ok-sets.field-0.refusal c.args.out.now.items c.put_requests.new.out.items c.in_ok-sets.ensures is).0)
-    (subst (λ (l : List Params). OnOk c.put_requests.result (SentReadable roads.Bulk c.args.query.now (given_up_to l c.in_ok-sets.field-0.refusal) c.args.stmt_id c.args.limit c.args.out.now.items c.put_requests.new.out.items)) c.deref.ensures.value c.put_requests.ensures.ok)
-
-pub returns-clause-made : goal.returns-clause-made
-returns-clause-made g c =
-    on_ok c.put_requests.result
-    (λ is. (sent roads.Bulk c.args.query.now _ c.in_ok-sets.field-0.sets.items c.args.stmt_id c.args.limit c.in_ok-sets.field-0.refusal c.args.out.now.items c.put_requests.new.out.items c.in_ok-sets.ensures is).1)
+    (λ is. (sent roads.Bulk c.args.query.now _ c.in_ok-sets.field-0.sets.items c.args.stmt_id c.args.limit c.in_ok-sets.field-0.refusal c.args.out.now.items c.put_requests.new.out.items c.in_ok-sets.ensures is))
     (subst (λ (l : List Params). OnOk c.put_requests.result (SentReadable roads.Bulk c.args.query.now (given_up_to l c.in_ok-sets.field-0.refusal) c.args.stmt_id c.args.limit c.args.out.now.items c.put_requests.new.out.items)) c.deref.ensures.value c.put_requests.ensures.ok)

@@ -15,10 +15,3 @@ returns-else-is_err-clause-sent g c = elim c.match-road.branch [
   | in-Execute w ↦ rw (w.sent-is, w.out-is, w.in-Execute.is) w.put_made_executions-sent.ensures.ok
   | in-Bulk w ↦ rw (w.sent-is, w.out-is, w.in-Bulk.is) w.put_held_sets-sent.ensures.ok
 ]
-
-pub returns-else-is_err-clause-made : goal.returns-else-is_err-clause-made
-returns-else-is_err-clause-made g c = elim c.match-road.branch [
-  | in-Text w ↦ rw w.sent-is w.put_made_queries-sent.ensures.made
-  | in-Execute w ↦ rw w.sent-is w.put_made_executions-sent.ensures.made
-  | in-Bulk w ↦ rw w.sent-is w.put_held_sets-sent.ensures.made
-]

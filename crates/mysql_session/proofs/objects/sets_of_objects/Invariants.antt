@@ -1,5 +1,5 @@
 use Rattle.std.proofs.Common.{◌+◌, ◌≤◌, length, map, take, vec_capacity, vec_len}
-use Rattle.mysql_session.specs.Made.{AreMade}
+use Rattle.mysql_session.specs.Objects.{AreMade}
 use Rattle.mysql_session.proofs.objects.sets_of_objects.Given as goal
 
 abbrev pub invariant-loop-list : goal.invariant-loop-list
