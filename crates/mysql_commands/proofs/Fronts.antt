@@ -19,7 +19,7 @@ use Rattle.mysql_commands.specs.Reading.{Set, ReadsAs, CommandReadsAs, PayloadRe
 use Rattle.mysql_values.specs.Laws.{TextIsDecided, OneReading, OnePlaces, SlicedIsLexed}
 use Rattle.mysql_wire.specs.Laws.{FrontsSplit}
 use Rattle.mysql_wire.specs.GoingOn.{ReaderLaws}
-use Rattle.mysql_wire.specs.Stream.{Rest, IsSplit, IsRest, IsFault, with_payloads, after_all, first_number}
+use Rattle.mysql_wire.specs.Stream.{Rest, IsSplit, IsRest, with_payloads, after_all, first_number}
 use Rattle.mysql_wire.specs.Stream.Rest.{Empty as EmptyRest, TooLarge as TooLargeRest, OutOfSync as OutOfSyncRest, Open as OpenRest}
 use Rattle.mysql_wire.specs.Stream.Numbering.{EachFromZero}
 use Rattle.mysql_commands.specs.Laws.{FrontsReadOn, WholeStreamsJoin}
