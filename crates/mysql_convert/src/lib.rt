@@ -15,3 +15,4 @@ pub use conversion::{FromValue, Intermediate, from_value, from_value_opt, get_in
 pub use errors::FromValueError;
 pub use intermediates::{OptionIr2, ParseIr, ParseIrOpt, ValueIr};
 pub use mysql_to_values::{IntoParams, SetError, ToValue, ToValueError};
+pub use mysql_values;

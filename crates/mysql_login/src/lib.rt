@@ -30,3 +30,4 @@ pub use mysql_repl::{
     InvalidTag, SemiSyncAckPacket, SemiSyncAckPacketPacketHeader, Sid, SidBlock, SidError, Tag,
     UUID_LEN, UnknownBinlogDumpFlags,
 };
+pub use mysql_wire;

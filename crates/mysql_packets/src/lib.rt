@@ -1,5 +1,5 @@
-//! Packets of a server's reply: error packets and progress reports, requests for files, statement packets; columns and OK
-//! packets, and the commands of prepared statements, single and in bulk, are passed on.
+//! Packets of a server's reply: error packets and progress reports, requests for files, statement packets; columns, rows, OK
+//! packets, and the commands of prepared statements, single and in bulk, are passed on, and so are values and the wire.
 #![tactic(auto)]
 
 pub mod err_packet;
@@ -18,8 +18,9 @@ pub use headers::{
 };
 pub use local_infile::LocalInfilePacket;
 pub use mysql_bulk::{
-    BulkExecuteRequestError, ComStmtBulkExecuteRequest, StmtBulkExecuteParamType,
-    StmtBulkExecuteParamValue, StmtBulkExecuteParamValues, read_bulk_row,
+    BulkExecuteRequestError, ComStmtBulkExecuteHeader, ComStmtBulkExecuteRequest,
+    InvalidComStmtBulkExecuteHeader, StmtBulkExecuteParamType, StmtBulkExecuteParamValue,
+    StmtBulkExecuteParamValues, read_bulk_row,
 };
 pub use mysql_bulk_builder::{
     BulkExecuteRequestBuilderError, BulkRequests, ComStmtBulkExecuteRequestBuilder,
@@ -28,10 +29,23 @@ pub use mysql_columns::{
     Catalog, Column, ColumnDefinitionCatalog, FixedLengthFieldsLen, InvalidCatalog,
     InvalidFixedLengthFieldsLen,
 };
-pub use mysql_ok_packets::OkPacket;
+pub use mysql_convert;
+pub use mysql_null_bitmap::{BitmapBytes, NullBitmap, NullBits};
+pub use mysql_ok_packets::{
+    CommonOkPacket, InvalidOkPacketHeader, NetworkStreamTerminator, OkPacket, OkPacketBody,
+    OkPacketDeserializer, OkPacketKind, OldEofPacket, ResultSetTerminator,
+};
+pub use mysql_rows::{ColumnIndex, Row, RowDeserializer, new_row, new_row_raw};
+pub use mysql_session_states::{
+    Gtids, Schema, SessionStateChange, SessionStateInfo, SystemVariable,
+    TransactionCharacteristics, TransactionState, Unsupported,
+};
 pub use mysql_stmt::{
-    ComStmtClose, ComStmtExecuteRequest, ComStmtExecuteRequestBuilder, ComStmtReset,
-    ComStmtSendLongData,
+    ComStmtClose, ComStmtCloseHeader, ComStmtExecuteHeader, ComStmtExecuteRequest,
+    ComStmtExecuteRequestBuilder, ComStmtReset, ComStmtResetHeader, ComStmtSendLongData,
+    ComStmtSendLongDataHeader, InvalidComStmtCloseHeader, InvalidComStmtExecuteHeader,
+    InvalidComStmtResetHeader, InvalidComStmtSendLongDataHeader, InvalidIterationCount,
+    IterationCount,
 };
 pub use progress_report::ProgressReport;
 pub use server_error::{ServerError, SqlState};

@@ -5,11 +5,13 @@ pub mod laws;
 mod objects;
 mod sender;
 
+pub use bitflags::Flags;
 pub use mysql_commands::{Audit, End, Receiver, ReceiverError, StreamFault, receive};
 pub use mysql_const::{CapabilityFlags, StatusFlags};
 pub use mysql_convert::{
     FromValue, FromValueError, IntoParams, ToValue, ToValueError, from_value, from_value_opt,
 };
+pub use mysql_packets;
 pub use mysql_packets::{
     Column, LocalInfilePacket, OkPacket, ProgressReport, ServerError, SqlState, StmtPacket,
 };

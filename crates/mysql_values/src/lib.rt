@@ -16,4 +16,5 @@ pub use mysql_queries::{
     ByteString, Content, Literal, MixedParamsError, NamedParamsError, ParsedNamedParams, Place,
     first_not_alone, is_mixed, places, read_literal, read_text,
 };
+pub use mysql_wire;
 pub use params::{MissingNamedParameterError, Params, ParamsConfusionError, ParamsError, SetError};

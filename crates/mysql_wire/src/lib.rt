@@ -10,10 +10,9 @@ pub use codec::{
     feed_all, packet_to_chunks,
 };
 pub use mysql_buf::{
-    BufMutExt, ParseBuf, ReadMysqlExt, WriteMysqlExt, lenenc_int_len, lenenc_str_len,
+    BufMutExt, ParseBuf, ReadMysqlExt, WriteMysqlExt, constants, lenenc_int_len, lenenc_str_len,
     read_varlen_uint, varlen_uint_size, write_varlen_uint,
 };
-pub use mysql_const as constants;
 pub use mysql_const::{
     DEFAULT_MAX_ALLOWED_PACKET, MAX_PAYLOAD_LEN, UTF8_GENERAL_CI, UTF8MB4_GENERAL_CI,
 };
