@@ -1,0 +1,15 @@
+//! What a user of `mysql_session` alone can name: each item of the layer, and the faces below it. A name that the face doesn't pass on is refused here.
+#![tactic(auto)]
+
+// Sessions.
+use mysql_session::{
+    Audit, CapabilityFlags, End, Flags, Receiver, ReceiverError, RecodeError, Refusal, Reply,
+    ReplyEnd, ReplyFault, ReplyKind, ReplyReader, ReplyResult, Road, StatusFlags, StreamFault,
+    read_reply, receive, recode, send, send_values,
+};
+
+// The layers below.
+use mysql_session::mysql_packets::mysql_convert::mysql_values::mysql_wire::{ParseBuf, constants};
+use mysql_session::mysql_packets::mysql_convert::mysql_values::{bind_text, places};
+use mysql_session::mysql_packets::mysql_convert::{Intermediate, OptionIr2};
+use mysql_session::mysql_packets::{ComStmtBulkExecuteRequestBuilder, NullBitmap};
