@@ -1,7 +1,7 @@
 //! Sets of global transaction identifiers as bytes.
 
 use crate::support::{Asserting, assert_each_refused, assert_makes, set, tagged_set, untagged_set};
-use mysql_login::{GnoInterval, Sid, SidBlock};
+use mysql_login::{GnoInterval, Sid, SidBlock, SidError};
 use mysql_raw::WireError;
 use std::alloc::Global;
 use std::borrow::CowSlice;
@@ -61,6 +61,16 @@ fn an_interval(rt: HostRuntime) {
     assert_equal(&assert, interval.start(), 1);
     assert_equal(&assert, interval.end(), 100);
     assert_written(&assert, rt.alloc(), &interval, &SET[24..]);
+    // Of ends that are no interval's the start that isn't below the end is told first.
+    let rows = [
+        (1, 100, Ok(interval)),
+        (5, 5, Err(SidError::StartNotBelowEnd)),
+        (0, 0, Err(SidError::StartNotBelowEnd)),
+        (0, 1, Err(SidError::ZeroGno)),
+    ];
+    for (start, end, wanted) in rows {
+        assert_equal(&assert, GnoInterval::check_and_new(start, end), wanted);
+    }
 }
 
 // Asserts that two values differ.

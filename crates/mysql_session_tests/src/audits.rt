@@ -73,9 +73,72 @@ pub fn are_sets(sets: &[Vec<Content>], wanted: &[WantedSet]) -> bool {
     true
 }
 
-/// Asserts what a stream was found to say: whether memory sufficed.
-fn says(assert: &impl Assert, audit: &Audit, sets: &[WantedSet], end: End) -> bool {
-    if matches!(audit.end, End::Fault(_, StreamFault::Memory)) {
+/// The bytes of a stream's first payloads, so many of them, with their headers; None where fewer stand whole in it.
+pub fn front_of(stream: &[u8], payloads: u64) -> Option<&[u8]> {
+    let mut rest = stream;
+    let mut left = payloads;
+    for _ in 0..=stream.len() {
+        if left == 0 {
+            return stream.get(..stream.len().saturating_sub(rest.len()));
+        }
+        let [low, middle, high, _number, chunk @ ..] = rest else {
+            return None;
+        };
+        let len = u32::from_le_bytes([*low, *middle, *high, 0]) as usize;
+        rest = chunk.get(len..)?;
+        // A full chunk has another one behind it.
+        if len < 16777215 {
+            left -= 1;
+        }
+    }
+    None
+}
+
+/// The bytes of so many payloads, where none but these stands whole in the first bytes of the stream.
+pub fn front_behind(stream: &[u8], before: usize, payloads: u64) -> Option<&[u8]> {
+    match front_of(stream.get(..before)?, payloads.saturating_add(1)) {
+        Some(_) => None,
+        None => front_of(stream, payloads),
+    }
+}
+
+/// A query with the limit of a packet.
+pub type Query<'a> = (&'a [u8], usize);
+
+/// A query, a stream about it with the id 1, the sets that it carries, and its end.
+type Reading<'a> = (Query<'a>, &'a [u8], &'a [WantedSet], End);
+
+/// Whether these are the first of the wanted sets, as many as the payloads of these bytes carry.
+fn are_first(
+    alloc: Global,
+    (query, limit): Query<'_>,
+    front: &[u8],
+    sets: &[Vec<Content>],
+    wanted: &[WantedSet],
+) -> bool {
+    match (
+        receive(alloc, query, 1, limit.max(4), &[front]),
+        wanted.get(..sets.len()),
+    ) {
+        (Ok(audit), Some(wanted)) => audit.sets.len() == sets.len() && are_sets(sets, wanted),
+        _ => false,
+    }
+}
+
+/// Asserts what a stream was found to say: whether memory sufficed. Where it was refused, with the piece behind so many bytes,
+/// the sets are those of the payloads that its end counts, among them all that stood whole before.
+fn says(
+    assert: &impl Assert,
+    alloc: Global,
+    (query, stream, sets, end): Reading<'_>,
+    before: usize,
+    audit: &Audit,
+) -> bool {
+    if let End::Fault(payloads, StreamFault::Memory) = audit.end {
+        match front_behind(stream, before, payloads) {
+            Some(front) => assert.holds(are_first(alloc, query, front, &audit.sets, sets)),
+            None => assert.holds(false),
+        }
         return false;
     }
     assert.holds(audit.end == end);
@@ -83,21 +146,12 @@ fn says(assert: &impl Assert, audit: &Audit, sets: &[WantedSet], end: End) -> bo
     true
 }
 
-/// A query, and the limit of a packet.
-pub type Query<'a> = (&'a [u8], usize);
-
-/// Asserts what a stream in one piece says, with the id 1: whether memory sufficed.
-fn is_read(
-    assert: &impl Assert,
-    alloc: Global,
-    (query, limit): Query<'_>,
-    stream: &[u8],
-    sets: &[WantedSet],
-    end: End,
-) -> bool {
+/// Asserts what a stream in one piece says: whether memory sufficed.
+fn is_read(assert: &impl Assert, alloc: Global, reading: Reading<'_>) -> bool {
+    let ((query, limit), stream, _, _) = reading;
     assert.holds(4 <= limit);
     match receive(alloc, query, 1, limit, &[stream]) {
-        Ok(audit) => says(assert, &audit, sets, end),
+        Ok(audit) => says(assert, alloc, reading, 0, &audit),
         Err(error) => {
             assert.holds(error == ReceiverError::Memory);
             false
@@ -105,52 +159,30 @@ fn is_read(
     }
 }
 
-/// Asserts what a stream in one piece says, with the id 1. It is read once more where memory was refused.
-pub fn assert_read(
-    assert: &impl Assert,
-    alloc: Global,
-    query: Query<'_>,
-    stream: &[u8],
-    sets: &[WantedSet],
-    end: End,
-) {
-    let first = is_read(assert, alloc, query, stream, sets, end);
-    assert.holds(first || is_read(assert, alloc, query, stream, sets, end));
-}
-
-/// Feeds a stream byte by byte. A fault has to be answered again.
-fn feed_bytes(assert: &impl Assert, receiver: &mut Receiver, stream: &[u8]) {
+/// Feeds a stream byte by byte: how many bytes came before the one that was refused first. Its fault has to be answered again.
+fn feed_bytes(assert: &impl Assert, receiver: &mut Receiver, stream: &[u8]) -> usize {
     let mut last = Ok(());
-    for byte in stream {
+    let mut before = 0;
+    for (at, byte) in stream.iter().enumerate() {
         let answer = receiver.feed(&[*byte]);
         assert.holds(last.is_ok() || answer == last);
+        if last.is_ok() {
+            before = at;
+        }
         last = answer;
     }
+    before
 }
 
-fn says_by_bytes(
-    assert: &impl Assert,
-    mut receiver: Receiver,
-    stream: &[u8],
-    sets: &[WantedSet],
-    end: End,
-) -> bool {
-    feed_bytes(assert, &mut receiver, stream);
-    says(assert, &receiver.finish(), sets, end)
-}
-
-/// Asserts what a stream that comes byte by byte says, with the id 1: whether memory sufficed.
-fn is_read_by_bytes(
-    assert: &impl Assert,
-    alloc: Global,
-    (query, limit): Query<'_>,
-    stream: &[u8],
-    sets: &[WantedSet],
-    end: End,
-) -> bool {
+/// Asserts what a stream that comes byte by byte says: whether memory sufficed.
+fn is_read_by_bytes(assert: &impl Assert, alloc: Global, reading: Reading<'_>) -> bool {
+    let ((query, limit), stream, _, _) = reading;
     assert.holds(4 <= limit);
     match Receiver::new(alloc, query, 1, limit) {
-        Ok(receiver) => says_by_bytes(assert, receiver, stream, sets, end),
+        Ok(mut receiver) => {
+            let before = feed_bytes(assert, &mut receiver, stream);
+            says(assert, alloc, reading, before, &receiver.finish())
+        }
         Err(error) => {
             assert.holds(error == ReceiverError::Memory);
             false
@@ -158,20 +190,7 @@ fn is_read_by_bytes(
     }
 }
 
-/// Asserts what a stream that comes byte by byte says, with the id 1. It is read once more where memory was refused.
-pub fn assert_read_by_bytes(
-    assert: &impl Assert,
-    alloc: Global,
-    query: Query<'_>,
-    stream: &[u8],
-    sets: &[WantedSet],
-    end: End,
-) {
-    let first = is_read_by_bytes(assert, alloc, query, stream, sets, end);
-    assert.holds(first || is_read_by_bytes(assert, alloc, query, stream, sets, end));
-}
-
-/// Asserts what a stream says, with the id 1: in one piece, and byte by byte.
+/// Asserts what a stream says, with the id 1: in one piece, and byte by byte. It is read once more where memory was refused.
 pub fn assert_audits(
     assert: &impl Assert,
     alloc: Global,
@@ -180,8 +199,11 @@ pub fn assert_audits(
     sets: &[WantedSet],
     end: End,
 ) {
-    assert_read(assert, alloc, query, stream, sets, end);
-    assert_read_by_bytes(assert, alloc, query, stream, sets, end);
+    let reading = (query, stream, sets, end);
+    let first = is_read(assert, alloc, reading);
+    assert.holds(first || is_read(assert, alloc, reading));
+    let first = is_read_by_bytes(assert, alloc, reading);
+    assert.holds(first || is_read_by_bytes(assert, alloc, reading));
 }
 
 fn put_all(stream: &mut Vec<u8>, packets: &[&[u8]]) -> Result<(), AllocError> {

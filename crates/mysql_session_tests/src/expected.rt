@@ -1,11 +1,12 @@
 //! What replies of servers say.
 
-use crate::audits::joined;
+use crate::audits::{front_behind, joined};
+use mysql_const::ColumnType;
 use mysql_packets::{LocalInfilePacket, OkPacket, ProgressReport, ServerError, StmtPacket};
 use mysql_rows::Row as RowOf;
 use mysql_session::{
-    CapabilityFlags, Reply, ReplyEnd, ReplyFault, ReplyKind, ReplyReader, ReplyResult, StatusFlags,
-    Value, read_reply,
+    CapabilityFlags, Column, Reply, ReplyEnd, ReplyFault, ReplyKind, ReplyReader, ReplyResult,
+    StatusFlags, Value, read_reply,
 };
 use std::alloc::Global;
 use tests_support::Assert;
@@ -21,11 +22,11 @@ pub type Numbers = &'static [Option<i64>];
 pub enum Expected {
     /// How many rows were changed, and the server's status.
     Ok(u64, StatusFlags),
-    /// How many columns there are, the rows, and the server's status behind them.
+    /// How many columns there are, each a LONGLONG, the rows, and the server's status behind them.
     Rows(usize, &'static [Cells], Option<StatusFlags>),
     /// The same of rows of numbers.
     NumberRows(usize, &'static [Numbers], Option<StatusFlags>),
-    /// The statement's id, how many parameters it has, and how many columns.
+    /// The statement's id, how many parameters it has, and how many columns, each a LONGLONG.
     Prepared(u32, usize, usize),
     /// The code, the state where there is one, and the message.
     Error(u16, Option<[u8; 5]>, &'static [u8]),
@@ -68,11 +69,12 @@ fn is_row(row: &RowOf, wanted: Cells) -> bool {
     true
 }
 
+/// Whether these are the first rows of the wanted ones.
 fn are_rows(rows: &[RowOf], wanted: &[Cells]) -> bool {
-    if rows.len() != wanted.len() {
+    if rows.len() > wanted.len() {
         return false;
     }
-    for i in 0..wanted.len() {
+    for i in 0..rows.len() {
         if !is_row(&rows[i], wanted[i]) {
             return false;
         }
@@ -100,11 +102,12 @@ fn has_numbers(row: &RowOf, wanted: Numbers) -> bool {
     true
 }
 
+/// Whether these are the first rows of the wanted ones.
 fn have_numbers(rows: &[RowOf], wanted: &[Numbers]) -> bool {
-    if rows.len() != wanted.len() {
+    if rows.len() > wanted.len() {
         return false;
     }
-    for i in 0..wanted.len() {
+    for i in 0..rows.len() {
         if !has_numbers(&rows[i], wanted[i]) {
             return false;
         }
@@ -119,18 +122,35 @@ fn status_of(terminator: &Option<OkPacket>) -> Option<StatusFlags> {
     }
 }
 
+/// Whether columns are so many, each a LONGLONG.
+fn are_longlongs(columns: &[Column], count: usize) -> bool {
+    for column in columns {
+        if column.column_type() != ColumnType::MYSQL_TYPE_LONGLONG {
+            return false;
+        }
+    }
+    columns.len() == count
+}
+
+/// Whether rows are these with this end behind them, or where they need not be whole the first of them without an end.
 fn is_result_set(
-    columns: usize,
+    columns: &[Column],
     rows: &[RowOf],
     status: Option<StatusFlags>,
     wanted: Expected,
+    whole: bool,
 ) -> bool {
+    let is_begun = !whole && status.is_none();
     match wanted {
         Expected::Rows(count, cells, behind) => {
-            columns == count && status == behind && are_rows(rows, cells)
+            are_longlongs(columns, count)
+                && are_rows(rows, cells)
+                && (is_begun || (rows.len() == cells.len() && status == behind))
         }
         Expected::NumberRows(count, cells, behind) => {
-            columns == count && status == behind && have_numbers(rows, cells)
+            are_longlongs(columns, count)
+                && have_numbers(rows, cells)
+                && (is_begun || (rows.len() == cells.len() && status == behind))
         }
         _ => false,
     }
@@ -154,16 +174,18 @@ fn is_file(found: &LocalInfilePacket, wanted: Expected) -> bool {
     }
 }
 
-fn is_prepared(stmt: &StmtPacket, params: usize, columns: usize, wanted: Expected) -> bool {
+fn is_prepared(stmt: &StmtPacket, params: &[Column], columns: &[Column], wanted: Expected) -> bool {
     match wanted {
         Expected::Prepared(id, param_count, column_count) => {
-            (stmt.statement_id() == id) & (params == param_count) & (columns == column_count)
+            (stmt.statement_id() == id)
+                & are_longlongs(params, param_count)
+                & are_longlongs(columns, column_count)
         }
         _ => false,
     }
 }
 
-fn is_result(found: &ReplyResult, wanted: Expected) -> bool {
+fn is_result(found: &ReplyResult, wanted: Expected, whole: bool) -> bool {
     match found {
         ReplyResult::Ok(packet) => is_ok(packet, wanted),
         ReplyResult::Rows {
@@ -171,10 +193,11 @@ fn is_result(found: &ReplyResult, wanted: Expected) -> bool {
             rows,
             terminator,
         } => is_result_set(
-            columns.as_slice().len(),
+            columns.as_slice(),
             rows.as_slice(),
             status_of(terminator),
             wanted,
+            whole,
         ),
         ReplyResult::Error(error) => is_error(error, wanted),
         ReplyResult::File(packet) => is_file(packet, wanted),
@@ -182,16 +205,17 @@ fn is_result(found: &ReplyResult, wanted: Expected) -> bool {
             stmt,
             params,
             columns,
-        } => is_prepared(stmt, params.len(), columns.len(), wanted),
+        } => is_prepared(stmt, params.as_slice(), columns.as_slice(), wanted),
     }
 }
 
-fn are_results(results: &[ReplyResult], wanted: &[Expected]) -> bool {
-    if results.len() != wanted.len() {
+/// Whether results are these, or where they need not be whole the first of them, of which the last one may lack rows.
+fn are_results(results: &[ReplyResult], wanted: &[Expected], whole: bool) -> bool {
+    if results.len() > wanted.len() || (whole && results.len() < wanted.len()) {
         return false;
     }
-    for i in 0..wanted.len() {
-        if !is_result(&results[i], wanted[i]) {
+    for i in 0..results.len() {
+        if !is_result(&results[i], wanted[i], whole || i + 1 < results.len()) {
             return false;
         }
     }
@@ -224,91 +248,124 @@ pub type Wanted<'a> = (&'a [Report], &'a [Expected], ReplyEnd);
 pub fn is_wanted(reply: &Reply, (reports, results, end): Wanted<'_>) -> bool {
     reply.end == end
         && are_reports(reply.progress.as_slice(), reports)
-        && are_results(reply.results.as_slice(), results)
+        && are_results(reply.results.as_slice(), results, true)
 }
 
-/// Whether no more was read than a reply has to say.
+/// Whether a reply has the first of the wanted reports and results, and none else.
 fn is_front(reply: &Reply, (reports, results, _): Wanted<'_>) -> bool {
-    (reply.progress.len() <= reports.len()) & (reply.results.len() <= results.len())
+    match reports.get(..reply.progress.len()) {
+        Some(reports) => {
+            are_reports(reply.progress.as_slice(), reports)
+                && are_results(reply.results.as_slice(), results, false)
+        }
+        None => false,
+    }
 }
 
-/// Asserts what a reply was found to say: whether memory sufficed.
-fn says(assert: &impl Assert, reply: &Reply, wanted: Wanted<'_>) -> bool {
-    if matches!(reply.end, ReplyEnd::Fault(_, ReplyFault::Memory)) {
+/// How many reports and results a reply has, how many rows the last result has, and whether these have ended.
+fn counts(reply: &Reply) -> (usize, usize, usize, bool) {
+    let (rows, ended) = match reply.results.last() {
+        Some(
+            ReplyResult::Rows {
+                columns: _,
+                rows,
+                terminator,
+            },
+        ) => (rows.len(), terminator.is_some()),
+        _ => (0, false),
+    };
+    (reply.progress.len(), reply.results.len(), rows, ended)
+}
+
+/// The kind of the command, the capabilities, and the number that is due first.
+pub type Start = (ReplyKind, CapabilityFlags, u8);
+
+/// Whether a reply has as many reports, results and rows as these bytes.
+fn has_as_many(
+    alloc: Global,
+    (kind, capabilities, first_id): Start,
+    front: &[u8],
+    reply: &Reply,
+) -> bool {
+    let whole = read_reply(alloc, kind, capabilities, first_id, 1000, &[front]);
+    counts(&whole) == counts(reply)
+}
+
+/// The bytes of a reply, and what they have to say.
+type Reading<'a> = (Start, &'a [u8], Wanted<'a>);
+
+/// Asserts what a reply was found to say: whether memory sufficed. Where it was refused, with the piece behind so many bytes, the
+/// reports and results are those of the payloads that its end counts, among them all that stood whole before.
+fn says(
+    assert: &impl Assert,
+    alloc: Global,
+    (start, stream, wanted): Reading<'_>,
+    before: usize,
+    reply: &Reply,
+) -> bool {
+    if let ReplyEnd::Fault(payloads, ReplyFault::Memory) = reply.end {
         assert.holds(is_front(reply, wanted));
+        match front_behind(stream, before, payloads) {
+            Some(front) => assert.holds(has_as_many(alloc, start, front, reply)),
+            None => assert.holds(false),
+        }
         return false;
     }
     assert.holds(is_wanted(reply, wanted));
     true
 }
 
-/// The kind of the command, the capabilities, and the number that is due first.
-pub type Start = (ReplyKind, CapabilityFlags, u8);
-
-fn is_read(
-    assert: &impl Assert,
-    alloc: Global,
-    (kind, capabilities, first_id): Start,
-    stream: &[u8],
-    wanted: Wanted<'_>,
-) -> bool {
+fn is_read(assert: &impl Assert, alloc: Global, reading: Reading<'_>) -> bool {
+    let ((kind, capabilities, first_id), stream, _) = reading;
     let reply = read_reply(alloc, kind, capabilities, first_id, 1000, &[stream]);
-    says(assert, &reply, wanted)
+    says(assert, alloc, reading, 0, &reply)
 }
 
-fn feed_bytes(reader: &mut ReplyReader, stream: &[u8]) {
-    for byte in stream {
-        let _answer = reader.feed(&[*byte]);
+/// Feeds a reply byte by byte: how many bytes came before the one that was refused first.
+pub fn feed_bytes(reader: &mut ReplyReader, stream: &[u8]) -> usize {
+    let mut before = 0;
+    let mut is_going = true;
+    for (at, byte) in stream.iter().enumerate() {
+        if is_going {
+            before = at;
+        }
+        is_going = reader.feed(&[*byte]).is_ok();
     }
+    before
 }
 
-fn is_read_by_bytes(
-    assert: &impl Assert,
-    alloc: Global,
-    (kind, capabilities, first_id): Start,
-    stream: &[u8],
-    wanted: Wanted<'_>,
-) -> bool {
+fn is_read_by_bytes(assert: &impl Assert, alloc: Global, reading: Reading<'_>) -> bool {
+    let ((kind, capabilities, first_id), stream, _) = reading;
     let mut reader = ReplyReader::new(alloc, kind, capabilities, first_id, 1000);
-    feed_bytes(&mut reader, stream);
-    says(assert, &reader.finish(), wanted)
+    let before = feed_bytes(&mut reader, stream);
+    says(assert, alloc, reading, before, &reader.finish())
 }
 
 fn is_read_in_two(
     assert: &impl Assert,
     alloc: Global,
-    (kind, capabilities, first_id): Start,
-    pieces: [&[u8]; 2],
-    wanted: Wanted<'_>,
+    reading: Reading<'_>,
+    [front, back]: [&[u8]; 2],
 ) -> bool {
-    let reply = read_reply(alloc, kind, capabilities, first_id, 1000, &pieces);
-    says(assert, &reply, wanted)
+    let ((kind, capabilities, first_id), _, _) = reading;
+    let mut reader = ReplyReader::new(alloc, kind, capabilities, first_id, 1000);
+    let before = if reader.feed(front).is_ok() {
+        front.len()
+    } else {
+        0
+    };
+    let _answer = reader.feed(back);
+    says(assert, alloc, reading, before, &reader.finish())
 }
 
-/// Asserts what the bytes of a reply say, cut in two. They are read once more where memory was refused.
-fn assert_reads_in_two(
-    assert: &impl Assert,
-    alloc: Global,
-    start: Start,
-    pieces: [&[u8]; 2],
-    wanted: Wanted<'_>,
-) {
-    let first = is_read_in_two(assert, alloc, start, pieces, wanted);
-    assert.holds(first || is_read_in_two(assert, alloc, start, pieces, wanted));
-}
-
-/// Asserts what the bytes of a reply say, cut in two at each place.
-fn assert_reads_cut(
-    assert: &impl Assert,
-    alloc: Global,
-    start: Start,
-    stream: &[u8],
-    wanted: Wanted<'_>,
-) {
+/// Asserts what the bytes of a reply say, cut in two at each place. They are read once more where memory was refused.
+fn assert_reads_cut(assert: &impl Assert, alloc: Global, reading: Reading<'_>) {
+    let (_, stream, _) = reading;
     for at in 0..=stream.len() {
         match (stream.get(..at), stream.get(at..)) {
             (Some(front), Some(back)) => {
-                assert_reads_in_two(assert, alloc, start, [front, back], wanted);
+                let first = is_read_in_two(assert, alloc, reading, [front, back]);
+                assert.holds(first || is_read_in_two(assert, alloc, reading, [front, back]));
             }
             _ => assert.holds(false),
         }
@@ -324,12 +381,13 @@ pub fn assert_reads(
     stream: &[u8],
     wanted: Wanted<'_>,
 ) {
-    let first = is_read(assert, alloc, start, stream, wanted);
-    assert.holds(first || is_read(assert, alloc, start, stream, wanted));
-    let first = is_read_by_bytes(assert, alloc, start, stream, wanted);
-    assert.holds(first || is_read_by_bytes(assert, alloc, start, stream, wanted));
+    let reading = (start, stream, wanted);
+    let first = is_read(assert, alloc, reading);
+    assert.holds(first || is_read(assert, alloc, reading));
+    let first = is_read_by_bytes(assert, alloc, reading);
+    assert.holds(first || is_read_by_bytes(assert, alloc, reading));
     if stream.len() < 100 {
-        assert_reads_cut(assert, alloc, start, stream, wanted);
+        assert_reads_cut(assert, alloc, reading);
     }
 }
 

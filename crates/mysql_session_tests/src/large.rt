@@ -1,6 +1,6 @@
 //! Commands of two chunks.
 
-use crate::audits::{Query, Want, WantedSet, assert_read, assert_read_by_bytes};
+use crate::audits::{Query, Want, WantedSet, assert_audits};
 use crate::sending::{Given, Sending, Set, assert_appended};
 use crate::support::Asserting;
 use mysql_session::{End, Road};
@@ -9,8 +9,8 @@ use tests_support::{Assert, assert_bytes};
 
 pub const LIMIT: usize = 20000000;
 
-/// How many bytes came of a stream, whether they are read byte by byte too, the sets that they carry, and how they end.
-type Front = (usize, bool, &'static [WantedSet], End);
+/// How many bytes came of a stream, the sets that they carry, and how they end.
+type Front = (usize, &'static [WantedSet], End);
 
 /// Asserts what the first bytes of a stream say: in one piece, and byte by byte.
 fn assert_front(
@@ -18,15 +18,10 @@ fn assert_front(
     alloc: Global,
     query: Query<'_>,
     stream: &[u8],
-    (len, by_bytes, sets, end): Front,
+    (len, sets, end): Front,
 ) {
     match stream.get(..len) {
-        Some(front) => {
-            assert_read(assert, alloc, query, front, sets, end);
-            if by_bytes {
-                assert_read_by_bytes(assert, alloc, query, front, sets, end);
-            }
-        }
+        Some(front) => assert_audits(assert, alloc, query, front, sets, end),
         None => assert.holds(false),
     }
 }
@@ -50,7 +45,7 @@ fn text_stream(assert: &impl Assert, alloc: Global) -> Vec<u8> {
     out
 }
 
-const WHOLE_TEXT: Front = (16777223, true, &[&[Want::Filled(TEXT_LEN)]], End::Whole);
+const WHOLE_TEXT: Front = (16777223, &[&[Want::Filled(TEXT_LEN)]], End::Whole);
 
 /// Two chunks, of which the second is empty.
 #[test]
@@ -65,8 +60,8 @@ fn a_text(rt: HostRuntime) {
 
 /// The header of a full chunk alone, and the first chunk, which says nothing without the second.
 const TEXT_CUT_OFF: [Front; 2] = [
-    (4, true, &[], End::UnfinishedPacket),
-    (16777219, true, &[], End::UnfinishedPacket),
+    (4, &[], End::UnfinishedPacket),
+    (16777219, &[], End::UnfinishedPacket),
 ];
 
 #[test]
@@ -131,7 +126,6 @@ fn texts_as_long_data(rt: HostRuntime) {
 
 const WHOLE_LONG_DATA: Front = (
     16777277,
-    true,
     &[&[Want::Filled(PIECE_LEN), Want::Filled(0)]],
     End::Whole,
 );
@@ -154,12 +148,12 @@ fn long_data(rt: HostRuntime) {
 /// Behind the prepare, behind the header of the first chunk, between the chunks of the first piece, behind it, inside the next
 /// header, and a byte before the end.
 const LONG_DATA_CUT_OFF: [Front; 6] = [
-    (16, false, &[], End::Whole),
-    (20, true, &[], End::UnfinishedPacket),
-    (16777235, false, &[], End::UnfinishedPacket),
-    (16777246, true, &[], End::WaitingPieces),
-    (16777248, false, &[], End::WaitingPieces),
-    (16777276, false, &[], End::WaitingPieces),
+    (16, &[], End::Whole),
+    (20, &[], End::UnfinishedPacket),
+    (16777235, &[], End::UnfinishedPacket),
+    (16777246, &[], End::WaitingPieces),
+    (16777248, &[], End::WaitingPieces),
+    (16777276, &[], End::WaitingPieces),
 ];
 
 #[test]

@@ -86,8 +86,12 @@ const NOTHING: WantedSet = &[Want::Null];
 
 const THE_DAY: WantedSet = &[Want::Bytes(b"2024-02-29")];
 
+const ZERO_TIME: Set = Set::A(Given::ZeroTime);
+
+const THE_TIME: WantedSet = &[Want::Bytes(b"000:00:00")];
+
 /// Sets that are sent, how many bytes their stream has, and what stands after which of them.
-const SENT: [(Sending, usize, &[Standing]); 8] = [
+const SENT: [(Sending, usize, &[Standing]); 10] = [
     (
         (Road::Text, QUERY, &[INT_1], 1000),
         13,
@@ -109,6 +113,11 @@ const SENT: [(Sending, usize, &[Standing]); 8] = [
         &[(0, &[]), (24, &[THE_DAY])],
     ),
     (
+        (Road::Text, QUERY, &[ZERO_TIME], 1000),
+        23,
+        &[(0, &[]), (23, &[THE_TIME])],
+    ),
+    (
         (Road::Execute, QUERY, &[INT_1], 1000),
         39,
         &[(0, &[]), (13, &[]), (39, &[ONE])],
@@ -122,6 +131,11 @@ const SENT: [(Sending, usize, &[Standing]); 8] = [
         (Road::Execute, QUERY, &[DAY], 1000),
         36,
         &[(0, &[]), (13, &[]), (36, &[THE_DAY])],
+    ),
+    (
+        (Road::Execute, QUERY, &[ZERO_TIME], 1000),
+        32,
+        &[(0, &[]), (13, &[]), (32, &[THE_TIME])],
     ),
     (
         (Road::Bulk, QUERY, &[INT_1, INT_2], 31),

@@ -2,7 +2,7 @@
 
 use crate::expected::{Expected, Report, Start, Wanted, assert_reads};
 use crate::support::Asserting;
-use mysql_session::{CapabilityFlags, ReplyEnd, ReplyKind, StatusFlags};
+use mysql_session::{CapabilityFlags, ReplyEnd, ReplyFault, ReplyKind, StatusFlags};
 use std::alloc::Global;
 use tests_support::Assert;
 
@@ -62,7 +62,11 @@ const NO_ROWS: Expected = Expected::Rows(1, &[], None);
 
 const NO_NUMBERS: Expected = Expected::NumberRows(1, &[], None);
 
-const REPLIES: [Staged; 6] = [
+const NO_ROWS_OF_TWO: Expected = Expected::Rows(2, &[], None);
+
+const BAD_COUNT: ReplyEnd = ReplyEnd::Fault(0, ReplyFault::BadCount);
+
+const REPLIES: [Staged; 11] = [
     (
         ReplyKind::Text,
         TEXT,
@@ -161,6 +165,60 @@ const REPLIES: [Staged; 6] = [
                 &[(1, 10, 23500, b"stage name")],
                 &[CHANGED_ONE],
                 ReplyEnd::Whole,
+            ),
+        ],
+    ),
+    // A count of no columns, one of 65536, and an empty payload.
+    (
+        ReplyKind::Text,
+        TEXT,
+        b"\x03\0\0\x01\xfc\0\0",
+        7,
+        &[(7, &[], &[], BAD_COUNT)],
+    ),
+    (
+        ReplyKind::Text,
+        TEXT,
+        b"\x04\0\0\x01\xfd\0\0\x01",
+        8,
+        &[(8, &[], &[], BAD_COUNT)],
+    ),
+    (
+        ReplyKind::Text,
+        TEXT,
+        b"\0\0\0\x01",
+        4,
+        &[(4, &[], &[], ReplyEnd::Fault(0, ReplyFault::BadHeader))],
+    ),
+    // Two columns of 57 bytes with their count, and in place of a row a cell before one that begins with ff, and an error without
+    // a code.
+    (
+        ReplyKind::Text,
+        WITHOUT_EOF,
+        b"\x01\0\0\x01\x02\x16\0\0\x02\x03def\0\0\0\0\0\x0c\x3f\0\x01\0\0\0\x08\0\0\0\0\0\x16\0\0\x03\x03def\0\0\0\0\0\x0c\x3f\0\x01\0\0\0\x08\0\0\0\0\0\x03\0\0\x04\x015\xff",
+        64,
+        &[
+            (57, &[], &[NO_ROWS_OF_TWO], ReplyEnd::Unfinished),
+            (
+                64,
+                &[],
+                &[NO_ROWS_OF_TWO],
+                ReplyEnd::Fault(3, ReplyFault::BadRow),
+            ),
+        ],
+    ),
+    (
+        ReplyKind::Text,
+        WITHOUT_EOF,
+        b"\x01\0\0\x01\x02\x16\0\0\x02\x03def\0\0\0\0\0\x0c\x3f\0\x01\0\0\0\x08\0\0\0\0\0\x16\0\0\x03\x03def\0\0\0\0\0\x0c\x3f\0\x01\0\0\0\x08\0\0\0\0\0\x01\0\0\x04\xff",
+        62,
+        &[
+            (57, &[], &[NO_ROWS_OF_TWO], ReplyEnd::Unfinished),
+            (
+                62,
+                &[],
+                &[NO_ROWS_OF_TWO],
+                ReplyEnd::Fault(3, ReplyFault::BadError),
             ),
         ],
     ),

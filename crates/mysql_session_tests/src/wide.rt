@@ -1,5 +1,7 @@
 //! A result set of as many columns as there can be.
 
+use crate::audits::front_behind;
+use crate::expected::feed_bytes;
 use crate::support::Asserting;
 use mysql_packets::OkPacket;
 use mysql_session::{
@@ -67,65 +69,72 @@ fn are_nulls(row: &Row) -> bool {
     row.len() == COLUMNS
 }
 
-fn is_one_row(rows: &[Row]) -> bool {
+/// How many payloads the reply has: the count, the columns, the row and the end.
+const PAYLOADS: u64 = 65538;
+
+/// Whether the rows are those of the reply's first payloads, so many.
+fn are_rows(rows: &[Row], payloads: u64) -> bool {
     match rows {
-        [row] => are_nulls(row),
+        [] => payloads < 65537,
+        [row] => 65537 <= payloads && are_nulls(row),
         _ => false,
     }
 }
 
-fn ends(terminator: &Option<OkPacket>) -> bool {
+/// Whether the rows ended with all payloads.
+fn ends(terminator: &Option<OkPacket>, payloads: u64) -> bool {
     match terminator {
-        Some(packet) => packet.status_flags() == StatusFlags(2),
-        None => false,
+        Some(packet) => payloads == PAYLOADS && packet.status_flags() == StatusFlags(2),
+        None => payloads < PAYLOADS,
     }
 }
 
-fn is_wide_set(found: &ReplyResult) -> bool {
+fn is_wide_set(found: &ReplyResult, payloads: u64) -> bool {
     match found {
         ReplyResult::Rows {
             columns,
             rows,
             terminator,
         } => {
-            (columns.as_slice().len() == COLUMNS) & is_one_row(rows.as_slice()) & ends(terminator)
+            (columns.as_slice().len() == COLUMNS)
+                & are_rows(rows.as_slice(), payloads)
+                & ends(terminator, payloads)
         }
         _ => false,
     }
 }
 
-fn are_results(results: &[ReplyResult]) -> bool {
+/// Whether the results are those of the reply's first payloads: none until the columns stand.
+fn are_results(results: &[ReplyResult], payloads: u64) -> bool {
     match results {
-        [found] => is_wide_set(found),
+        [] => payloads < 65536,
+        [found] => 65536 <= payloads && is_wide_set(found, payloads),
         _ => false,
     }
 }
 
-/// Asserts that a reply has the columns and the row: whether memory sufficed.
-fn is_wide(assert: &impl Assert, reply: &Reply) -> bool {
-    if matches!(reply.end, ReplyEnd::Fault(_, ReplyFault::Memory)) {
+/// Asserts that a reply has the columns and the row: whether memory sufficed. Where it was refused, with the piece behind so many
+/// bytes, it has what the payloads before say.
+fn is_wide(assert: &impl Assert, stream: &[u8], before: usize, reply: &Reply) -> bool {
+    if let ReplyEnd::Fault(payloads, ReplyFault::Memory) = reply.end {
+        assert.holds(front_behind(stream, before, payloads).is_some());
+        assert.holds(are_results(reply.results.as_slice(), payloads));
         return false;
     }
     assert.holds(reply.end == ReplyEnd::Whole);
-    assert.holds(are_results(reply.results.as_slice()));
+    assert.holds(are_results(reply.results.as_slice(), PAYLOADS));
     true
 }
 
 fn is_read(assert: &impl Assert, alloc: Global, stream: &[u8]) -> bool {
     let reply = read_reply(alloc, ReplyKind::Text, WITHOUT_EOF, 1, LIMIT, &[stream]);
-    is_wide(assert, &reply)
-}
-
-fn feed_bytes(reader: &mut ReplyReader, stream: &[u8]) {
-    for byte in stream {
-        let _answer = reader.feed(&[*byte]);
-    }
+    is_wide(assert, stream, 0, &reply)
 }
 
 fn is_read_by_bytes(assert: &impl Assert, alloc: Global, stream: &[u8]) -> bool {
     let mut reader = ReplyReader::new(alloc, ReplyKind::Text, WITHOUT_EOF, 1, LIMIT);
-    feed_bytes(&mut reader, stream);
-    is_wide(assert, &reader.finish())
+    let before = feed_bytes(&mut reader, stream);
+    is_wide(assert, stream, before, &reader.finish())
 }
 
 /// Asserts that the stream is the reply, in one piece and byte by byte. It is read once more where memory was refused.
