@@ -12,6 +12,7 @@ use mysql_session::{
 use std::alloc::Global;
 
 /// What bytes are read as.
+#[derive(Drop)]
 pub enum Reading {
     /// Commands about a query: the query, the statement's id, and the limit of a packet.
     Audit(Vec<u8>, u32, usize),
@@ -148,14 +149,16 @@ pub fn check(
     stream: &[u8],
     lines: &[&[Token<'_>]],
 ) -> Result<(), Trouble> {
-    let mut said = lines;
-    if let [before @ .., [Token::Word("prefixes:"), stages @ ..]] = lines {
-        said = before;
-        let stages = stages_of(alloc, stages)?;
-        for len in 0..stream.len() {
-            let words = front_words(alloc, reading, before, &stages, len)?;
-            check_bytes(alloc, reading, &stream[..len], &words)?;
-        }
+    let Some((last, said)) = lines.split_last() else {
+        return Err(Trouble::Malformed("nothing is wanted"));
+    };
+    let [Token::Word("prefixes:"), stages @ ..] = *last else {
+        return check_bytes(alloc, reading, stream, &words_of(alloc, lines)?);
+    };
+    let stages = stages_of(alloc, stages)?;
+    for len in 0..stream.len() {
+        let words = front_words(alloc, reading, said, &stages, len)?;
+        check_bytes(alloc, reading, &stream[..len], &words)?;
     }
     check_bytes(alloc, reading, stream, &words_of(alloc, said)?)
 }

@@ -31,7 +31,7 @@ fn put_column(words: &mut String, start: &str, column: &Column) -> Result<(), Al
         column.character_set(),
         column.column_length()
     )?;
-    let flags = column.flags().bits();
+    let flags = column.flags().0;
     write!(words, " flags {flags:04x} decimals {}", column.decimals())?;
     for text in [
         column.schema_ref(),

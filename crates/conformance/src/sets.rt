@@ -102,10 +102,19 @@ fn set_of(alloc: Global, set: &Json) -> Result<Params, Trouble> {
 
 /// What a field in JSON lists.
 pub fn json_list(alloc: Global, text: &str) -> Result<Vec<Json>, Trouble> {
-    match Json::from_str(alloc, text) {
-        Ok(Json::Array(list)) => Ok(list),
-        Err(error) if error.is_memory() => Err(Trouble::Memory),
-        _ => Err(Trouble::Malformed("the sets are no list in JSON")),
+    let json = match Json::from_str(alloc, text) {
+        Ok(json) => json,
+        Err(error) => {
+            return Err(if error.is_memory() {
+                Trouble::Memory
+            } else {
+                Trouble::Malformed("the sets are not in JSON")
+            });
+        }
+    };
+    match json {
+        Json::Array(list) => Ok(list),
+        _ => Err(Trouble::Malformed("the sets are no list")),
     }
 }
 
