@@ -1,4 +1,4 @@
-//! Rows of data, each an input beside what it has to give, run through the public calls: `data/README` says how they are written.
+//! Rows of data, each an input beside what it has to give, run through the public calls. The head of each file in `data` says how its rows are written.
 #![tactic(auto)]
 
 mod contents;
