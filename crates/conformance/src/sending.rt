@@ -1,0 +1,151 @@
+//! Sendings and recodings: what is appended, or why nothing is.
+
+use crate::contents::put_bytes;
+use crate::fields::bytes_of;
+use crate::reading::{Reading, check};
+use crate::sets::{json_list, list_of, sets_of};
+use crate::tokens::{Token, put_field, words_of};
+use crate::trouble::Trouble;
+use mysql_session::{Content, RecodeError, Refusal, Road, recode, send, send_contents};
+use serde_json::Value as Json;
+use std::alloc::Global;
+use std::fmt::Debug;
+
+/// What stands before what is appended.
+const FRONT: &[u8] = b"front";
+
+/// A query, the id of its statement and the limit of its packets.
+pub type Statement = (Vec<u8>, u32, usize);
+
+/// Compares what was appended with the stream that is wanted, and what the stream says with the lines behind it.
+fn check_stream(
+    alloc: Global,
+    (query, id, limit): Statement,
+    out: &[u8],
+    stream: &[Token<'_>],
+    lines: &[&[Token<'_>]],
+) -> Result<(), Trouble> {
+    if let [Token::Word("refused:"), ..] = stream {
+        return Err(Trouble::Malformed("it is not refused"));
+    }
+    let wanted = bytes_of(alloc, stream)?;
+    if out.strip_prefix(FRONT) != Some(wanted.as_slice()) {
+        let mut found = String::new(alloc);
+        put_bytes(&mut found, out)?;
+        return Err(Trouble::Differs(found));
+    }
+    if lines.is_empty() {
+        return Ok(());
+    }
+    check(alloc, &Reading::Audit(query, id, limit), &wanted, lines)
+}
+
+/// Compares a refusal, at which nothing is appended, with the one that is wanted.
+fn check_refusal<E: Debug + Drop>(
+    alloc: Global,
+    refusal: E,
+    out: &[u8],
+    wanted: &[Token<'_>],
+) -> Result<(), Trouble> {
+    let found = format!(in alloc; " refused: {refusal:?} |")?;
+    let words = words_of(alloc, &[wanted])?;
+    if out != FRONT || found != words {
+        return Err(Trouble::Differs(format!(in alloc; "wanted{words}, found{found}")?));
+    }
+    Ok(())
+}
+
+/// The road of this name.
+fn road_of(field: &[Token<'_>]) -> Result<Road, Trouble> {
+    match field {
+        [Token::Word("text")] => Ok(Road::Text),
+        [Token::Word("execute")] => Ok(Road::Execute),
+        [Token::Word("bulk")] => Ok(Road::Bulk),
+        _ => Err(Trouble::Malformed("the roads are text, execute and bulk")),
+    }
+}
+
+/// Sends the sets of a field.
+pub fn check_sent(
+    alloc: Global,
+    road: &[Token<'_>],
+    statement: Statement,
+    sets: &[Token<'_>],
+    wanted: &[&[Token<'_>]],
+) -> Result<(), Trouble> {
+    let [first, lines @ ..] = wanted else {
+        return Err(Trouble::Malformed("nothing is wanted"));
+    };
+    let road = road_of(road)?;
+    let mut json = String::new(alloc);
+    put_field(&mut json, sets)?;
+    let sets = sets_of(alloc, &json)?;
+    let mut out = Vec::from_slice(alloc, FRONT)?;
+    let (query, id, limit) = &statement;
+    match send(alloc, query, &sets, road, *id, (*limit).max(4), &mut out) {
+        Ok(()) => check_stream(alloc, statement, &out, first, lines),
+        Err(Refusal::Memory) => Err(Trouble::Memory),
+        Err(refusal) => check_refusal(alloc, refusal, &out, first),
+    }
+}
+
+/// The contents of sets of a field: lists of values.
+fn contents_of(alloc: Global, sets: &[Token<'_>]) -> Result<Vec<Vec<Content>>, Trouble> {
+    let mut json = String::new(alloc);
+    put_field(&mut json, sets)?;
+    let mut all = Vec::new(alloc);
+    for set in &json_list(alloc, &json)? {
+        let Json::Array(members) = set else {
+            return Err(Trouble::Malformed("contents are lists"));
+        };
+        let mut contents = Vec::new(alloc);
+        for value in list_of(alloc, members)? {
+            match value.into_content(alloc)? {
+                Some(content) => contents.push(content)?,
+                None => return Err(Trouble::Malformed("a float is no content")),
+            }
+        }
+        all.push(contents)?;
+    }
+    Ok(all)
+}
+
+/// Sends the contents of a field.
+pub fn check_contents(
+    alloc: Global,
+    statement: Statement,
+    sets: &[Token<'_>],
+    wanted: &[&[Token<'_>]],
+) -> Result<(), Trouble> {
+    let [first, lines @ ..] = wanted else {
+        return Err(Trouble::Malformed("nothing is wanted"));
+    };
+    let sets = contents_of(alloc, sets)?;
+    let mut out = Vec::from_slice(alloc, FRONT)?;
+    let (query, id, limit) = &statement;
+    match send_contents(alloc, query, sets, *id, (*limit).max(4), &mut out) {
+        Ok(()) => check_stream(alloc, statement, &out, first, lines),
+        Err(Refusal::Memory) => Err(Trouble::Memory),
+        Err(refusal) => check_refusal(alloc, refusal, &out, first),
+    }
+}
+
+/// Recodes a stream.
+pub fn check_recoded(
+    alloc: Global,
+    statement: Statement,
+    stream: &[Token<'_>],
+    wanted: &[&[Token<'_>]],
+) -> Result<(), Trouble> {
+    let [first, lines @ ..] = wanted else {
+        return Err(Trouble::Malformed("nothing is wanted"));
+    };
+    let stream = bytes_of(alloc, stream)?;
+    let mut out = Vec::from_slice(alloc, FRONT)?;
+    let (query, id, limit) = &statement;
+    match recode(alloc, query, *id, (*limit).max(4), &[&stream], &mut out) {
+        Ok(()) => check_stream(alloc, statement, &out, first, lines),
+        Err(RecodeError::Memory) => Err(Trouble::Memory),
+        Err(error) => check_refusal(alloc, error, &out, first),
+    }
+}

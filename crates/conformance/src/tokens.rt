@@ -1,0 +1,70 @@
+//! A line as tokens, and tokens as words.
+
+use std::alloc::{AllocError, Global};
+
+/// What a line consists of.
+#[derive(Clone, Copy)]
+pub enum Token<'a> {
+    /// What stands between spaces. `|` alone stands between two fields.
+    Word(&'a str),
+    /// What stands between double quotes.
+    Text(&'a str),
+}
+
+/// The names that a file gives to tokens.
+pub type Names<'a> = Vec<(&'a str, Vec<Token<'a>>)>;
+
+/// Puts a word, or the tokens that it names.
+fn put_word<'a>(
+    names: &Names<'a>,
+    word: &'a str,
+    tokens: &mut Vec<Token<'a>>,
+) -> Result<(), AllocError> {
+    for (name, meaning) in names {
+        if *name == word {
+            return tokens.extend_from_slice(meaning);
+        }
+    }
+    tokens.push(Token::Word(word))?;
+    Ok(())
+}
+
+/// The tokens of a line.
+pub fn tokens_of<'a>(
+    alloc: Global,
+    line: &'a str,
+    names: &Names<'a>,
+) -> Result<Vec<Token<'a>>, AllocError> {
+    let mut tokens = Vec::new(alloc);
+    for (number, part) in line.split('"').enumerate() {
+        if number % 2 == 1 {
+            tokens.push(Token::Text(part))?;
+        } else {
+            for word in part.split_whitespace() {
+                put_word(names, word, &mut tokens)?;
+            }
+        }
+    }
+    Ok(tokens)
+}
+
+/// Writes the words of a field, each behind a space.
+pub fn put_field(words: &mut String, field: &[Token<'_>]) -> Result<(), AllocError> {
+    for token in field {
+        match token {
+            Token::Word(word) => write!(words, " {word}")?,
+            Token::Text(text) => write!(words, " \"{text}\"")?,
+        }
+    }
+    Ok(())
+}
+
+/// The words of fields, each with a bar behind it.
+pub fn words_of(alloc: Global, fields: &[&[Token<'_>]]) -> Result<String, AllocError> {
+    let mut words = String::new(alloc);
+    for field in fields {
+        put_field(&mut words, field)?;
+        words.push_str(" |")?;
+    }
+    Ok(words)
+}
