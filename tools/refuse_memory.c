@@ -1,4 +1,5 @@
-/* Refuses a program's requests for memory: the one with the number in REFUSE, counted from 1, or each where REFUSE is "always".
+/* Refuses a program's requests for memory: the one with the number in REFUSE, counted from 1, each from it on where two dots
+   follow the number, or each where REFUSE is "always".
    At its end the program writes to the file that REFUSED names how many were refused. Loaded before the C library. */
 #define _GNU_SOURCE
 #include <dlfcn.h>
@@ -15,7 +16,9 @@ static int refuse(void) {
     static const char *which;
     if (!which && !(which = getenv("REFUSE"))) which = "0";
     asked += 1;
-    int now = !strcmp(which, "always") || asked == strtoul(which, NULL, 10);
+    char *behind;
+    unsigned long number = strtoul(which, &behind, 10);
+    int now = !strcmp(which, "always") || asked == number || (!strcmp(behind, "..") && asked > number);
     if (now) refused += 1, errno = ENOMEM;
     return now;
 }
