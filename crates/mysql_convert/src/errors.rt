@@ -6,10 +6,24 @@ use mysql_cells::Value;
 use std::alloc::{AllocError, Global};
 use thiserror::Error;
 
-/// A value that doesn't convert to the type that was asked for. It holds the value itself.
+/// A value that doesn't convert to the type that was asked for. It holds the value itself; its text names the value's kind.
 #[derive(Debug, PartialEq, Eq, Drop, Error)]
-#[error("the value doesn't convert to this type")]
+#[error("{found} doesn't convert to the type that was asked for", found = kind_of(&self.0))]
 pub struct FromValueError(pub Value);
+
+/// The kind of a value, in words.
+fn kind_of(value: &Value) -> &'static str {
+    match value {
+        Value::NULL => "NULL",
+        Value::Bytes(_) => "a text",
+        Value::Int(_) => "a number with a sign",
+        Value::UInt(_) => "a number without a sign",
+        Value::Float(_) => "a float",
+        Value::Double(_) => "a double",
+        Value::Date(..) => "a date",
+        Value::Time(..) => "a time",
+    }
+}
 
 /// The error of a borrowed value that doesn't convert: it holds a copy of the value.
 #[cold]

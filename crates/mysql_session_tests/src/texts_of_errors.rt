@@ -1,7 +1,7 @@
-//! What is printed of the ends of streams and replies, and of faults.
+//! What is printed of the ends of streams and replies, of faults, and of values that don't convert.
 
 use crate::support::Asserting;
-use mysql_session::{End, ReplyEnd, ReplyFault, StreamFault};
+use mysql_session::{End, FromValueError, ReplyEnd, ReplyFault, StreamFault, Value};
 use std::alloc::Global;
 use std::fmt::Display;
 use std::test::*;
@@ -36,5 +36,11 @@ fn faults_and_ends(rt: HostRuntime) {
         alloc,
         &ReplyEnd::Fault(2, ReplyFault::AfterEnd),
         "payload 2: bytes follow the last result",
+    );
+    assert_text(
+        &assert,
+        alloc,
+        &FromValueError(Value::NULL),
+        "NULL doesn't convert to the type that was asked for",
     );
 }
