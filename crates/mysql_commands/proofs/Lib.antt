@@ -11,6 +11,8 @@ pub mod Pieces
 pub mod Stepping
 pub mod Progressing
 pub mod Receiving
+pub mod Taking
+pub mod Keeping
 pub mod Fronts
 pub mod Cuttings
 pub mod WrittenCells

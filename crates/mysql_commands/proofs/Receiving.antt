@@ -24,6 +24,7 @@ use Rattle.mysql_commands.specs.Layout.{Conversation}
 use Rattle.mysql_commands.specs.InForce.{StatementState, is_waiting, state_after, nothing_yet}
 use Rattle.mysql_commands.specs.Audit.{Audit, Audited, OutOfMemory, IsNoFault, end_by_rest}
 use Rattle.mysql_commands.specs.GoingOn.{ReceiverState, fresh_receiver, ReceiverDecidesBy, ReceiverDecides, ReceiverGoesOn, HasFoundNoFault, Fed, Stops, TakesAll, RunsShort, fault_of_rest}
+use Rattle.mysql_commands.specs.Taking.{Feeds}
 use Rattle.mysql_commands.specs.Views.{conversation_of, piece_kept, state_of, sets_of}
 use Rattle.mysql_commands.specs.Receiving.{IsMemory, answer_by}
 use Rattle.mysql_commands.specs.Parts.{IsOpen, state_of_parts, end_by}
@@ -267,13 +268,6 @@ so_far_nothing wire c limit = record {
   short = λ e. absurd cc;
 }
 
--- What feeding a piece says.
-pub record Feeds (c : Conversation) (limit : ℕ) (old : ReceiverState) (piece : List ℕ) (new : ReceiverState) : Type 0 where
-  pub goes_on : (new.fault ≡ Some Memory → ⊥) → ReceiverGoesOn c limit old piece new
-  pub short : old.fault ≡ None → new.fault ≡ Some Memory → RunsShort c limit old piece new
-  pub takes : new.fault ≡ None → TakesAll c limit old piece new
-  pub stays : (f : StreamFault) → old.fault ≡ Some f → new ≡ old
-
 module _ (wire : ReaderLaws) (c : Conversation) (limit : ℕ) (old new : ReceiverState) (front : List (List ℕ)) (piece : List ℕ) (are : AreBytes piece) (h : SoFar c limit front old) (feeds : Feeds c limit old piece new) where
   -- the bytes of one piece more
   joined : concat front ++ piece ≡ concat (front ++ piece ∷ [])
@@ -314,7 +308,7 @@ module _ (wire : ReaderLaws) (c : Conversation) (limit : ℕ) (old new : Receive
             };
       }
 
-  so_far_next : SoFar c limit (front ++ piece ∷ []) new
+  pub so_far_next : SoFar c limit (front ++ piece ∷ []) new
   so_far_next = by old.fault refl
     where
       by : (o : Option StreamFault) → old.fault ≡ o → SoFar c limit (front ++ piece ∷ []) new

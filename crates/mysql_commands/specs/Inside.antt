@@ -1,8 +1,8 @@
 -- What a receiver's fields stand for, and what is true of them.
 -- MySQL: Client/Server Protocol, "Command Phase".
-use Rattle.std.specs.Prelude.{◌≡◌, ℕ, List, Option, None, map}
+use Rattle.std.specs.Prelude.{◌≡◌, ℕ, List, [], Option, None, map}
 use Rattle.std.specs.Global.{Vec}
-use Rattle.std.specs.Option.{option_map}
+use Rattle.std.specs.Option.{IfSome, option_map}
 use Rattle.mysql_commands.specs.declared.receiver.Receiver.TheInside.{Inside}
 use Rattle.mysql_commands.specs.Query.{IsQuery}
 use Rattle.mysql_commands.specs.Views.{conversation_of, types_kept, sets_of}
@@ -26,7 +26,9 @@ received_of r =
       fault = r.fault;
     }
 
--- the conversation is about its query; where no fault is held, bytes to come can make what is held of a packet whole
+-- the conversation is about its query; where no fault is held, bytes to come can make what is held of a packet whole; after a fault
+-- no bytes are held
 pub record IsKept (r : Inside) : Type 0 where
   pub query : IsQuery (conversation_of r.conversation).query
   pub stays : r.fault ≡ None → IsOpen r.packets
+  pub stopped : IfSome r.fault (λ _. r.packets.bytes ≡ [])

@@ -1,6 +1,6 @@
 -- The laws of reading a command stream.
 -- MySQL: Client/Server Protocol, "MySQL Packets" and "Command Phase".
-use Rattle.std.specs.Prelude.{◌≡◌, ◌≢◌, ◌⊎◌, ℕ, ◌+◌, ◌<◌, ◌≤◌, ◌^◌, List, ◌∷◌, ◌++◌, length, take, Option, Some, None, Ok}
+use Rattle.std.specs.Prelude.{◌≡◌, ◌≢◌, ◌⊎◌, ℕ, ◌+◌, ◌<◌, ◌≤◌, ◌^◌, List, [], ◌∷◌, ◌++◌, length, take, Option, Some, None, Ok}
 use Rattle.std.specs.List.{All, AllByRecursion, flat_map, concat}
 use Rattle.mysql_commands.specs.declared.fault.StreamFault.{StreamFault}
 use Rattle.mysql_commands.specs.Query.{IsQuery}
@@ -16,8 +16,10 @@ use Rattle.mysql_wire.specs.Bytes.{AreBytes}
 use Rattle.mysql_wire.specs.Stream.{IsSplit, Rest, Split, StandWhole, framings}
 use Rattle.mysql_wire.specs.Stream.Numbering.{EachFromZero}
 use Rattle.mysql_commands.specs.declared.audit.End.TheVariants.{Whole}
-use Rattle.mysql_commands.specs.Audit.{Audit, Read, Audits, Audited, AuditOf, IsNoFault}
+use Rattle.mysql_commands.specs.Audit.{Audit, Read, Audits, Audited, AuditOf, IsAbout, IsNoFault, OutOfMemoryIn}
 use Rattle.mysql_commands.specs.GoingOn.{ReceiverState, fresh_receiver, ReceiverDecides, ReceiverGoesOn, Fed, TakesAll, RunsShort}
+use Rattle.mysql_commands.specs.Receiving.{IsMemory}
+use Rattle.mysql_commands.specs.Taking.{Run, with_sets}
 use Rattle.mysql_commands.specs.declared.fault.StreamFault.TheVariants.{Memory}
 
 -- what is in force behind two lists of payloads is what is in force behind the second, from the first on
@@ -93,6 +95,15 @@ PiecesAreTaken =
     → (TakesAll c limit old front mid → TakesAll c limit mid back new → TakesAll c limit old (front ++ back) new)
     × (TakesAll c limit old front mid → RunsShort c limit mid back new → RunsShort c limit old (front ++ back) new)
     × (AreBytes (old.partial ++ front) → AreBytes back → RunsShort c limit old front new → RunsShort c limit old (front ++ back) new)
+
+-- Over any feeds and takes between them, all sets that were taken, and behind them those of the end, are the audit of all bytes
+-- that were fed; where memory ran out, they are those of the stream's first payloads, as many as the end counts.
+abbrev pub TakenSetsAreTheAudit : Type 0
+TakenSetsAreTheAudit =
+    (query : List ℕ) (id : ℕ) (c : Conversation) (limit : ℕ) (pieces : List (List ℕ)) (taken : List Set) (state : ReceiverState) (a : Audit)
+    → IsAbout c query id → Run c limit pieces taken state → ReceiverDecides c limit state [] a
+    → ((IsMemory a.ending → ⊥) → AuditOf query id limit (concat pieces) (with_sets taken a))
+    × (IsMemory a.ending → OutOfMemoryIn query id limit pieces (with_sets taken a))
 
 -- A front of a stream whose payloads all read has no fault, and the sets of exactly those payloads that stand whole in it.
 abbrev pub FrontsReadOn : Type 0

@@ -5,6 +5,7 @@ pub mod InForce
 pub mod Reading
 pub mod Audit
 pub mod GoingOn
+pub mod Taking
 pub mod Laws
 pub mod Views
 pub mod Receiving

@@ -1,12 +1,13 @@
 -- What a receiver answers.
 -- MySQL: Client/Server Protocol, "MySQL Packets" and "Command Phase".
-use Rattle.std.specs.Prelude.{◌≡◌, ℕ, Option, Some, None, Result, Ok, Err}
+use Rattle.std.specs.Prelude.{◌≡◌, ℕ, List, Option, Some, None, Result, Ok, Err}
+use Rattle.std.specs.List.{concat}
 use Rattle.mysql_commands.specs.declared.fault.StreamFault.{StreamFault}
 use Rattle.mysql_commands.specs.declared.fault.StreamFault.TheVariants.{Memory}
 use Rattle.mysql_commands.specs.declared.audit.End.{End}
 use Rattle.mysql_commands.specs.declared.audit.End.TheVariants as ends
 use Rattle.mysql_commands.specs.declared.audit.Audit.{Audit as CodeAudit}
-use Rattle.mysql_commands.specs.Audit.{Audit}
+use Rattle.mysql_commands.specs.Audit.{Audit, AuditOf, OutOfMemoryIn}
 use Rattle.mysql_commands.specs.Views.{sets_of}
 
 -- the answer of a feed, by the fault that is held after it
@@ -20,3 +21,8 @@ IsMemory ending = (count : ℕ) × (ending ≡ ends.Fault count Memory)
 
 abbrev pub audit_of : CodeAudit → Audit
 audit_of a = record { sets = sets_of a.sets.items; ending = a.end }
+
+-- What is answered of a stream that came in these pieces: the audit of its bytes, but where its end says that memory ran out; then as much of it as was read.
+pub record IsReceived (query : List ℕ) (id limit : ℕ) (pieces : List (List ℕ)) (answer : Audit) : Type 0 where
+  pub audit : (IsMemory answer.ending → ⊥) → AuditOf query id limit (concat pieces) answer
+  pub memory : IsMemory answer.ending → OutOfMemoryIn query id limit pieces answer

@@ -1,6 +1,6 @@
 //! Packets of commands, whose bytes come in pieces.
 
-ghost use Rattle.std.specs.Prelude.{◌≡◌, OnOk, None};
+ghost use Rattle.std.specs.Prelude.{◌≡◌, [], OnErr, OnOk, None};
 ghost use Rattle.mysql_commands.specs.Query.{IsQuery};
 ghost use Rattle.mysql_commands.specs.Views.{conversation_of};
 ghost use Rattle.mysql_commands.specs.GoingOn.{Fed};
@@ -40,6 +40,7 @@ fn read_payloads(
     ensures fed { Fed (conversation_of conversation.now) packets.old.limit (state_of_parts progress.old packets.old.bytes None) piece.now
         (state_of_parts progress.new packets.new.bytes (fault_by result)) }
     ensures open { OnOk result (IsOpen packets.new) }
+    ensures stopped { OnErr result (packets.new.bytes ≡ []) }
     ensures limit { packets.new.limit ≡ packets.old.limit }
 {
     reader_laws();
@@ -75,6 +76,7 @@ pub fn read_piece(
     ensures fed { Fed (conversation_of conversation.now) packets.old.limit (state_of_parts progress.old packets.old.bytes None) piece.now
         (state_of_parts progress.new packets.new.bytes (fault_by result)) }
     ensures open { OnOk result (IsOpen packets.new) }
+    ensures stopped { OnErr result (packets.new.bytes ≡ []) }
     ensures limit { packets.new.limit ≡ packets.old.limit }
 {
     reader_laws();

@@ -1,6 +1,6 @@
 //! Laws of the definitions. Each function has an empty body, or calls the laws below: its contract is the law.
 
-ghost use Rattle.mysql_commands.specs.Laws.{AuditGoesOn, CuttingsAgree, EachPayloadIsJudged, FeedingGoesOn, FrontsReadOn, LastWordCounts, LookingBackGoesOn, PiecesAreTaken, PiecesGoOn, StartDecidesTheAudit, StreamHasOneAudit, ThereIsOneAudit, WholeStreamsJoin, WrittenCellsAreHeld};
+ghost use Rattle.mysql_commands.specs.Laws.{AuditGoesOn, CuttingsAgree, EachPayloadIsJudged, FeedingGoesOn, FrontsReadOn, LastWordCounts, LookingBackGoesOn, PiecesAreTaken, PiecesGoOn, StartDecidesTheAudit, StreamHasOneAudit, TakenSetsAreTheAudit, ThereIsOneAudit, WholeStreamsJoin, WrittenCellsAreHeld};
 
 use mysql_values::laws::{cells_read_back, one_reading, texts_are_decided, tokens_of_a_text};
 use mysql_wire::laws::{fronts_split, reader_laws};
@@ -80,6 +80,14 @@ pub fn pieces_go_on()
 /// Pieces that were read one after another were read as one piece, also where memory ran out over the last.
 pub fn pieces_are_taken()
     ensures { PiecesAreTaken }
+{
+    reader_laws();
+}
+
+/// All sets that were taken of a receiver while it was fed, and behind them those of its end, are the audit of what it was
+/// fed, or of its first payloads where memory ran out.
+pub fn taken_sets_are_the_audit()
+    ensures { TakenSetsAreTheAudit }
 {
     reader_laws();
 }

@@ -12,7 +12,8 @@ ghost use Rattle.mysql_commands.specs.GoingOn.{HasFoundNoFault, ReceiverGoesOn, 
 ghost use Rattle.mysql_commands.specs.Receiving.{answer_by, audit_of};
 ghost use Rattle.mysql_commands.specs.Parts.{end_by, fault_from, state_of_parts};
 ghost use Rattle.mysql_commands.specs.Received.{receiver_state};
-ghost use Rattle.mysql_commands.specs.Views.{conversation_of};
+ghost use Rattle.mysql_commands.specs.Taking.{HandsOut, most_kept};
+ghost use Rattle.mysql_commands.specs.Views.{conversation_of, sets_of};
 
 use crate::audit::{Audit, End};
 use crate::fault::StreamFault;
@@ -21,11 +22,12 @@ use crate::progress::Progress;
 use crate::reading::waits;
 use crate::refusal::Refusal;
 use crate::statement::{Conversation, StatementState};
-use mysql_values::{NamedParamsError, ParsedNamedParams, Place, places};
+use mysql_values::{Content, NamedParamsError, ParsedNamedParams, Place, places};
 use mysql_wire::laws::reader_laws;
 use mysql_wire::{PacketReader, WireError};
 use std::alloc::{AllocError, Global};
 use std::marker::Model;
+use std::mem;
 use thiserror::Error;
 
 /// Why a receiver can't be made.
@@ -147,8 +149,11 @@ fn end_now(
 }
 
 impl Receiver {
-    /// A receiver of a stream of commands about this query, whose statement was given this id, with payloads of at most
-    /// `limit` bytes, which is at least 4.
+    /// A receiver of a stream of commands about this query, whose statement was given this id.
+    ///
+    /// The limit is the `max_allowed_packet` of the side that the packets go to, and at least 4. Calls that write count 4
+    /// bytes for a packet's header in it: a payload has at most `limit - 4` bytes. Calls that read count the payload alone: it
+    /// has at most `limit` bytes.
     ///
     /// # Errors
     /// `Mixed` where both names and question marks occur in the query, `Memory`.
@@ -237,19 +242,56 @@ impl Receiver {
     }
 
     /// How many bytes are held of the packet that isn't whole: those that came of it, but for the headers of its chunks, of which
-    /// only one that doesn't stand whole is held. It takes no memory.
+    /// only one that doesn't stand whole is held. They are fewer than the limit; where the limit has room for full chunks and at most
+    /// three bytes more, up to three more than those chunks hold. After a fault none are held. It takes no memory.
     ///
     /// Follows the MySQL Client/Server Protocol, "MySQL Packets".
     pub fn kept(&self) -> usize
-        ensures { result ≡ bytes_kept (length self.now.partial) }
+        ensures kept { result ≡ bytes_kept (length self.now.partial) }
+        ensures most { result ≤ most_kept self.now.limit }
+        ensures stopped { IfSome self.now.fault (λ _. result ≡ 0) }
     {
         self.packets.kept()
     }
 
-    /// The audit of what was fed. It takes no memory.
+    /// How many payloads were read. It takes no memory.
     ///
-    /// After [`StreamFault::Memory`] its sets are those of the stream's first payloads, as many as its end counts: at least
-    /// those that stood whole before the `feed` that answered it.
+    /// Follows the MySQL Client/Server Protocol, "MySQL Packets".
+    pub fn payloads(&self) -> u64
+        ensures { result ≡ self.now.count }
+    {
+        self.progress.count
+    }
+
+    /// The sets that were read and not taken yet, in their order, place by place.
+    pub fn sets(&self) -> &[Vec<Content>]
+        ensures { sets_of result.now ≡ self.now.sets }
+    {
+        &self.progress.sets
+    }
+
+    /// Takes the sets that were read and not taken yet, in their order, place by place; also after a fault, and after
+    /// [`StreamFault::Memory`]. It takes no memory.
+    ///
+    /// What is handed out isn't held any more, and nothing else changes: the next sets, and those of `finish`, follow on it, and all of
+    /// them in a row are those of the audit of what was fed. So a receiver from which sets are taken as they come holds of a stream of
+    /// any length at most one packet within the limit ([`Receiver::kept`]), the long data that waits for an execution, and the
+    /// types in force.
+    ///
+    /// Follows the MySQL Client/Server Protocol, "Command Phase".
+    pub fn take_sets(&mut self) -> Vec<Vec<Content>>
+        ensures hands_out { HandsOut self.old.conversation self.old.limit (receiver_state self.old) (sets_of result.items) (receiver_state self.new) }
+        ensures sets { sets_of result.items ≡ self.old.sets }
+        ensures left { self.new ≡ record self.old { sets = [] } }
+    {
+        let none = Vec::new(self.alloc);
+        mem::replace(&mut self.progress.sets, none)
+    }
+
+    /// The audit of what was fed, but for the sets that were taken before ([`Receiver::take_sets`]). It takes no memory.
+    ///
+    /// After [`StreamFault::Memory`] its sets, behind those that were taken, are those of the stream's first payloads, as many as its
+    /// end counts: at least those that stood whole before the `feed` that answered it.
     pub fn finish(self) -> Audit
         ensures { ReceiverDecides self.conversation self.limit (receiver_state self) [] (audit_of result) }
     {

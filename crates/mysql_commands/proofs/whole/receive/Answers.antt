@@ -1,9 +1,9 @@
 use Rattle.std.proofs.Common.{◌+◌, ◌∙◌, ap, sym, subst, map, take, [], arith}
-use Rattle.std.specs.List.{flat_map}
+use Rattle.std.specs.List.{concat}
 use Rattle.std.proofs.lemmas.List.{take_all}
 use Rattle.mysql_commands.specs.Audit.{IsAbout}
 use Rattle.mysql_commands.specs.Receiving.{audit_of}
-use Rattle.mysql_commands.proofs.Receiving.{SoFar, so_far_nothing, pieces_more, pieces_joined, feeds_of, received_next, audit_over, memory_over}
+use Rattle.mysql_commands.proofs.Receiving.{SoFar, so_far_nothing, pieces_more, feeds_of, received_next, audit_over, memory_over}
 use Rattle.mysql_commands.proofs.whole.receive.Goals as goal
 
 pub pieces-init : goal.pieces-init
@@ -27,26 +27,23 @@ pieces-preserved c =
           inv.so_far (feeds_of mid new _ c.feed-answer.result c.feed-answer.ensures.answer c.feed-answer.ensures.goes_on c.feed-answer.ensures.short c.feed-answer.ensures.takes c.feed-answer.ensures.stays);
     }
 
-pub returns-clause-audit : goal.returns-clause-audit
-returns-clause-audit c =
+pub returns-clause-received : goal.returns-clause-received
+returns-clause-received c =
     let v = c.pieces.receiver in
     let inv = c.pieces.invariant in
-    let all = take_all c.pieces.piece-index c.args.pieces.now c.pieces-test.false in
-    λ none. (
-      v.conversation,
-      inv.about,
-      audit_over c.reader_laws.ensures v c.args.limit (map (λ piece. piece.now) (take c.pieces.piece-index c.args.pieces.now)) (flat_map (λ piece. piece.now) c.args.pieces.now) (audit_of c.finish.result)
-          inv.limit (pieces_joined (λ piece. piece.now) (take c.pieces.piece-index c.args.pieces.now) ∙ ap (flat_map (λ piece. piece.now)) all) inv.so_far c.finish.ensures none,
-    )
-
-pub returns-clause-memory : goal.returns-clause-memory
-returns-clause-memory c =
-    let v = c.pieces.receiver in
-    let inv = c.pieces.invariant in
+    let fed = map (λ piece. piece.now) (take c.pieces.piece-index c.args.pieces.now) in
     let all = ap (map (λ piece. piece.now)) (take_all c.pieces.piece-index c.args.pieces.now c.pieces-test.false) in
-    λ memory. (
-      v.conversation,
-      inv.about,
-      memory_over c.reader_laws.ensures v c.args.limit (map (λ piece. piece.now) (take c.pieces.piece-index c.args.pieces.now)) (map (λ piece. piece.now) c.args.pieces.now) (audit_of c.finish.result)
-          inv.limit all inv.so_far c.finish.ensures memory,
-    )
+    record {
+      audit = λ none. (
+        v.conversation,
+        inv.about,
+        audit_over c.reader_laws.ensures v c.args.limit fed (concat (map (λ piece. piece.now) c.args.pieces.now)) (audit_of c.finish.result)
+            inv.limit (ap concat all) inv.so_far c.finish.ensures none,
+      );
+      memory = λ memory. (
+        v.conversation,
+        inv.about,
+        memory_over c.reader_laws.ensures v c.args.limit fed (map (λ piece. piece.now) c.args.pieces.now) (audit_of c.finish.result)
+            inv.limit all inv.so_far c.finish.ensures memory,
+      );
+    }

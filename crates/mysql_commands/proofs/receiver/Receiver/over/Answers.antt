@@ -3,7 +3,7 @@ use Rattle.mysql_commands.proofs.Receiving.{receiver_state_is, holds_start, star
 use Rattle.mysql_commands.proofs.receiver.Receiver.over.Goals as goal
 
 pub invariant_of-result : goal.invariant_of-result
-invariant_of-result c = record { query = c.requires; stays = λ e. start_open c.reader_laws.ensures c.new.result c.args.limit c.new.ensures }
+invariant_of-result c = record { query = c.requires; stays = λ e. start_open c.reader_laws.ensures c.new.result c.args.limit c.new.ensures; stopped = tt }
 
 pub returns-clause-fresh : goal.returns-clause-fresh
 returns-clause-fresh c =
