@@ -1,6 +1,6 @@
 -- Pieces fed one after another, and the laws of replies over bytes.
 use Rattle.std.proofs.Common.{◌≡◌, ℕ, ◌+◌, ◌≤◌, List, [], ◌∷◌, ◌++◌, length, Option, Some, None, Result, Ok, Err, refl, ap, sym, subst, arith, ◌∙◌, ◌⊎◌, inl, inr, append_assoc, length-append, take, get_or, ◌<◌}
-use Rattle.std.specs.Prelude.{map, OnOk, IfErr, IfSome}
+use Rattle.std.specs.Prelude.{map, IfSome}
 use Rattle.std.specs.List.{AllByRecursion, flat_map}
 use Rattle.std.proofs.lemmas.List.{append-nil, map-append, take_more}
 use Rattle.std.proofs.lemmas.List.Folds.{flat_map-map}
@@ -17,9 +17,10 @@ use Rattle.mysql_replies.specs.declared.context.Context.{Context}
 use Rattle.mysql_replies.specs.declared.fault.ReplyFault.{ReplyFault}
 use Rattle.mysql_replies.specs.declared.fault.ReplyFault.TheVariants as faults
 use Rattle.mysql_replies.specs.Grammar.{Payload}
-use Rattle.mysql_replies.specs.Reply.{Answer, FaultAt, Standing, GoingOn, Answered, IsReply, fresh}
+use Rattle.mysql_replies.specs.Reply.{Answer, FaultAt, Standing, GoingOn, Answered, IsReply}
 use Rattle.mysql_replies.specs.Bytes.{numbered, after_numbered, NumberedPayloadsDecide, IsReplyOf, StopsAfter, IsShortReplyOf, AnyBytesHaveAnswer, CuttingsAgree}
-use Rattle.mysql_replies.specs.Holding.{ReaderState, fresh_reader, ReaderDecides, ReaderDecidesFrom, ReaderGoesOn, TakesAll, RunsShort, StandsShort, fault_of, EachReaderDecides, ReadersAgree, FreshReaderDecides}
+use Rattle.mysql_replies.specs.Holding.{ReaderState, fresh_reader, ReaderDecides, ReaderDecidesFrom, ReaderGoesOn, TakesAll, RunsShort, fault_of, EachReaderDecides, ReadersAgree, FreshReaderDecides}
+use Rattle.mysql_replies.specs.Taking.{Feeds}
 use Rattle.mysql_replies.proofs.GoingOn.{fresh_decides, each_has_answer, answers_agree, each_decides, decisions_agree}
 use Rattle.mysql_replies.proofs.Receiving.{bytes_append, empty_rest}
 
@@ -28,15 +29,15 @@ framings-append [] qs numbering = refl
 framings-append (p ∷ ps) qs numbering =
     ap (λ k. framing p (first_number numbering) ++ k) (framings-append ps qs (after p numbering)) ∙ sym (append_assoc (framing p (first_number numbering)) (framings ps (after p numbering)) (framings qs (after_all ps (after p numbering))))
 
-after_all-append : (ps qs : List Payload) (numbering : Numbering) → after_all (ps ++ qs) numbering ≡ after_all qs (after_all ps numbering)
+pub after_all-append : (ps qs : List Payload) (numbering : Numbering) → after_all (ps ++ qs) numbering ≡ after_all qs (after_all ps numbering)
 after_all-append [] qs numbering = refl
 after_all-append (p ∷ ps) qs numbering = after_all-append ps qs (after p numbering)
 
-within-append : (limit : ℕ) (ps qs : List Payload) → AllByRecursion (λ payload. length payload ≤ limit) ps → AllByRecursion (λ payload. length payload ≤ limit) qs → AllByRecursion (λ payload. length payload ≤ limit) (ps ++ qs)
+pub within-append : (limit : ℕ) (ps qs : List Payload) → AllByRecursion (λ payload. length payload ≤ limit) ps → AllByRecursion (λ payload. length payload ≤ limit) qs → AllByRecursion (λ payload. length payload ≤ limit) (ps ++ qs)
 within-append limit [] qs one two = two
 within-append limit (p ∷ ps) qs one two = (one.0, within-append limit ps qs one.1 two)
 
-on_from : (payloads : List Payload) (number : ℕ) → after_all payloads (OnFrom number) ≡ OnFrom (first_number (after_all payloads (OnFrom number)))
+pub on_from : (payloads : List Payload) (number : ℕ) → after_all payloads (OnFrom number) ≡ OnFrom (first_number (after_all payloads (OnFrom number)))
 on_from [] number = refl
 on_from (p ∷ ps) number = on_from ps _
 
@@ -67,12 +68,12 @@ fed_nothing c first_id limit = (
 )
 
 -- The bytes of one more piece.
-joined_more : (pieces : List (List ℕ)) (piece : List ℕ) → flat_map (λ (p : List ℕ). p) (pieces ++ piece ∷ []) ≡ flat_map (λ (p : List ℕ). p) pieces ++ piece
+pub joined_more : (pieces : List (List ℕ)) (piece : List ℕ) → flat_map (λ (p : List ℕ). p) (pieces ++ piece ∷ []) ≡ flat_map (λ (p : List ℕ). p) pieces ++ piece
 joined_more pieces piece =
     flat_map-append (λ (p : List ℕ). p) pieces (piece ∷ []) ∙ ap (λ k. flat_map (λ (p : List ℕ). p) pieces ++ k) (append-nil piece)
 
 -- What follows the payloads fed: other payloads, and what is left.
-joined_next : (first_id number : ℕ) (fed piece held left : List ℕ) (ps qs : List Payload) → fed ≡ framings ps (OnFrom first_id) ++ held → number ≡ first_number (after_all ps (OnFrom first_id)) → held ++ piece ≡ framings qs (OnFrom number) ++ left → fed ++ piece ≡ framings (ps ++ qs) (OnFrom first_id) ++ left
+pub joined_next : (first_id number : ℕ) (fed piece held left : List ℕ) (ps qs : List Payload) → fed ≡ framings ps (OnFrom first_id) ++ held → number ≡ first_number (after_all ps (OnFrom first_id)) → held ++ piece ≡ framings qs (OnFrom number) ++ left → fed ++ piece ≡ framings (ps ++ qs) (OnFrom first_id) ++ left
 joined_next first_id number fed piece held left ps qs one same two =
     let there : framings qs (OnFrom number) ≡ framings qs (after_all ps (OnFrom first_id)) = ap (framings qs) (ap OnFrom same ∙ sym (on_from ps first_id)) in
     ap (λ k. k ++ piece) one ∙ append_assoc (framings ps (OnFrom first_id)) held piece ∙ ap (λ k. framings ps (OnFrom first_id) ++ k) (two ∙ ap (λ k. k ++ left) there)
@@ -140,7 +141,7 @@ next_short c first_id limit pieces piece old answer t r = record {
   stops = stops_on c first_id limit (flat_map (λ p. p) pieces) piece old answer t r;
 }
 
-short_grows : (c : Context) (first_id limit : ℕ) (pieces : List (List ℕ)) (piece : List ℕ) (answer : Answer) → IsShortReplyOf c first_id limit pieces answer → IsShortReplyOf c first_id limit (pieces ++ piece ∷ []) answer
+pub short_grows : (c : Context) (first_id limit : ℕ) (pieces : List (List ℕ)) (piece : List ℕ) (answer : Answer) → IsShortReplyOf c first_id limit pieces answer → IsShortReplyOf c first_id limit (pieces ++ piece ∷ []) answer
 short_grows c first_id limit pieces piece answer s = record {
   before = s.before;
   piece = s.piece;
@@ -153,15 +154,6 @@ short_grows c first_id limit pieces piece answer s = record {
   at_least = s.at_least;
   stops = s.stops;
 }
-
--- What feeding a piece says.
-pub record Feeds (old new : ReaderState) (piece : List ℕ) (r : Result Unit ReplyFault) : Type 0 where
-  pub stays : IfSome (fault_of old.standing) (λ fault. (r ≡ Err fault) × (new ≡ old))
-  pub going : OnOk r (fault_of new.standing ≡ None)
-  pub fault : IfErr r (λ fault. fault_of new.standing ≡ Some fault)
-  pub takes : OnOk r (TakesAll old (old.bytes ++ piece) new)
-  pub goes_on : (r ≡ Err faults.Memory → ⊥) → ReaderGoesOn old piece new
-  pub short : fault_of old.standing ≡ None → r ≡ Err faults.Memory → StandsShort old (old.bytes ++ piece) new
 
 step_going : (c : Context) (first_id limit : ℕ) (pieces : List (List ℕ)) (piece : List ℕ) (old new : ReaderState) (r : Result Unit ReplyFault) → AreBytes piece → fault_of old.standing ≡ None → Feeds old new piece r → IsFed None c first_id limit pieces old → IsFed (fault_of new.standing) c first_id limit (pieces ++ piece ∷ []) new
 step_going c first_id limit pieces piece old new (Ok x) bytes none f h =

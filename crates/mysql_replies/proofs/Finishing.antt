@@ -38,7 +38,7 @@ at_end : (c : Context) (a : code.Awaited) → IsSettled c (awaited_view a) → A
 unfolding one_result rows next_payload
 at_end c awaiting.First settled = record { reading = begun []; none = refl }
 at_end c (awaiting.Columns left these) settled = record { reading = group_begun c OfResultSet left (column_views these.items) settled; none = refl }
-at_end c (awaiting.Rows columns rows) settled = record { reading = begun _; none = refl }
+at_end c (awaiting.Rows these) settled = record { reading = begun _; none = refl }
 at_end c (awaiting.Parameters stmt left these) settled = record { reading = group_begun c (OfParameters (prepare_ok_view stmt)) left (column_views these.items) settled; none = refl }
 at_end c (awaiting.PreparedColumns stmt params left these) settled = record {
   reading = group_begun c (OfPrepared (prepare_ok_view stmt) (column_views params.items)) left (column_views these.items) settled;

@@ -10,6 +10,11 @@ pub mod Numbers
 pub mod Receiving
 pub mod Fed
 pub mod Found
+pub mod Joining
+pub mod Ordered
+pub mod HandedOut
+pub mod Kept
+pub mod Handing
 pub mod ManualReadings
 pub mod ManualReports
 pub mod ManualFronts

@@ -22,7 +22,7 @@ use Rattle.std.specs.Prelude.{map}
 use Rattle.mysql_replies.specs.Grammar.{or_fault}
 use Rattle.mysql_replies.specs.Reply.{read_report}
 use Rattle.mysql_replies.specs.Steps.{IsStep}
-use Rattle.mysql_replies.specs.Standings.{progressing_of, faulted, standing_of, HasRoom, IsReading, UnlessMemory, OnMemory, IsShortOf}
+use Rattle.mysql_replies.specs.Standings.{progressing_of, faulted, standing_of, HasRoom, IsSpared, IsReading, UnlessMemory, OnMemory, IsShortOf}
 use Rattle.mysql_replies.specs.Standings as states
 use Rattle.mysql_replies.specs.Views.{Refuses, outcome_views, awaited_view, column_views}
 use Rattle.mysql_replies.specs.Steps.{Moves, Fails, Over, Leads, Group, OfResultSet, OfParameters, OfPrepared, group_awaited, IsGroupSettled, IsSettled, IsAwaiting, listed_of}
@@ -62,7 +62,7 @@ passed : (c : Context) (a : code.Awaited) (payload : Payload) → is_report c pa
 unfolding one_result rows next_payload
 passed c awaiting.First payload h settled some z = rw h refl
 passed c (awaiting.Columns left these) payload h settled some z = passed_group c OfResultSet left (column_views these.items) payload h settled z
-passed c (awaiting.Rows columns rows) payload h settled some z = rw h refl
+passed c (awaiting.Rows these) payload h settled some z = rw h refl
 passed c (awaiting.Parameters stmt left these) payload h settled some z = passed_group c (OfParameters (prepare_ok_view stmt)) left (column_views these.items) payload h settled z
 passed c (awaiting.PreparedColumns stmt params left these) payload h settled some z =
     passed_group c (OfPrepared (prepare_ok_view stmt) (column_views params.items)) left (column_views these.items) payload h settled z
@@ -85,7 +85,7 @@ refused : (c : Context) (a : code.Awaited) (payload : Payload) → has_report_fo
 unfolding one_result rows next_payload
 refused c awaiting.First payload h bad settled some z = rw (h, bad) refl
 refused c (awaiting.Columns left these) payload h bad settled some z = refused_group c OfResultSet left (column_views these.items) payload h bad settled z
-refused c (awaiting.Rows columns rows) payload h bad settled some z = rw (h, bad) refl
+refused c (awaiting.Rows these) payload h bad settled some z = rw (h, bad) refl
 refused c (awaiting.Parameters stmt left these) payload h bad settled some z = refused_group c (OfParameters (prepare_ok_view stmt)) left (column_views these.items) payload h bad settled z
 refused c (awaiting.PreparedColumns stmt params left these) payload h bad settled some z =
     refused_group c (OfPrepared (prepare_ok_view stmt) (column_views params.items)) left (column_views these.items) payload h bad settled z
@@ -199,12 +199,25 @@ short_roomed before after room fault same short = tt
 has_room : (a : code.Awaited) (results : Vec ReplyResult Global) → vec_len results < vec_capacity results → HasRoom a results
 has_room awaiting.First results room = tt
 has_room (awaiting.Columns left these) results room = tt
-has_room (awaiting.Rows columns these) results room = room
+has_room (awaiting.Rows these) results room = room
 has_room (awaiting.Parameters stmt left these) results room = tt
 has_room (awaiting.PreparedColumns stmt params left these) results room = tt
 has_room awaiting.Nothing results room = tt
 
+is_spared : (a : code.Awaited) (results spare : Vec ReplyResult Global) → vec_len spare < vec_capacity spare → IsSpared a results spare
+is_spared awaiting.First results spare room = tt
+is_spared (awaiting.Columns left these) results spare room = tt
+is_spared (awaiting.Rows these) results spare room = λ some. room
+is_spared (awaiting.Parameters stmt left these) results spare room = tt
+is_spared (awaiting.PreparedColumns stmt params left these) results spare room = tt
+is_spared awaiting.Nothing results spare room = tt
+
 -- A step that failed leaves what every state keeps.
-pub reading_failed : (before after : ReplyState) (same : code.Awaited) (payload : Payload) (fault : ReplyFault) → after ≡ record before { awaited = same; fault = Some fault } → IsSettled before.context (awaited_view before.awaited) → vec_len before.results < vec_capacity before.results → IsStep before.context (awaited_view before.awaited) payload (Failed same fault) → IsReading after
-reading_failed before after same payload fault is settled room step =
-    subst IsReading (sym is) (record { settled = failed_settled before.context (awaited_view before.awaited) payload same fault settled step; room = has_room same before.results room })
+pub reading_failed : (before after : ReplyState) (same : code.Awaited) (payload : Payload) (fault : ReplyFault) → after ≡ record before { awaited = same; fault = Some fault } → IsSettled before.context (awaited_view before.awaited) → vec_len before.results < vec_capacity before.results → vec_len before.spare < vec_capacity before.spare → before.spare.items ≡ [] → IsStep before.context (awaited_view before.awaited) payload (Failed same fault) → IsReading after
+reading_failed before after same payload fault is settled room spared empty step =
+    subst IsReading (sym is) (record {
+      settled = failed_settled before.context (awaited_view before.awaited) payload same fault settled step;
+      room = has_room same before.results room;
+      spared = is_spared same before.results before.spare spared;
+      empty = empty;
+    })

@@ -2,7 +2,9 @@ pub mod Grammar
 pub mod Reply
 pub mod Bytes
 pub mod Holding
+pub mod OpenRows
 pub mod Views
 pub mod Steps
 pub mod Standings
+pub mod Taking
 pub mod Manual

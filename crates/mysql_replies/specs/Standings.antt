@@ -1,6 +1,6 @@
 -- Words of the reader's own body, which no public call's clause has: what the code holds of a reply, as what stands of it.
 -- MySQL: Client/Server Protocol, "COM_QUERY Response" and "MySQL Packets".
-use Rattle.std.specs.Prelude.{◌≡◌, ℕ, ◌<◌, List, [], ◌∷◌, ◌++◌, map, Option, Some, None, Result, Err, Vec, vec_len, vec_capacity}
+use Rattle.std.specs.Prelude.{◌≡◌, ℕ, ◌<◌, ◌+◌, List, [], ◌∷◌, ◌++◌, length, map, Option, Some, None, Result, Err, Vec, vec_len, vec_capacity}
 use Rattle.std.specs.declared.alloc.Global.{Global}
 use Rattle.mysql_packets.specs.Views.{progress_report_view}
 use Rattle.mysql_wire.specs.Codec.{Codec, CanGoOn, IsBetween, held, packet_number}
@@ -23,6 +23,7 @@ use Rattle.mysql_replies.specs.Reply.{Answer, PayloadsDecide, Progressing, Stand
 use Rattle.mysql_replies.specs.Reply as reply
 use Rattle.mysql_replies.specs.Bytes.{NumberedPayloadsDecide}
 use Rattle.mysql_replies.specs.Holding.{ReaderState}
+use Rattle.mysql_replies.specs.OpenRows.{RowsSoFar}
 use Rattle.mysql_replies.specs.Views.{outcome_views, awaited_view}
 use Rattle.mysql_replies.specs.Steps.{IsSettled, listed_of}
 
@@ -49,13 +50,24 @@ standing_of s = faulted (progressing_of s) s.fault
 
 -- Rows that haven't ended can be listed without growing the list.
 abbrev pub HasRoom : Awaited → Vec ReplyResult Global → Type 0
-HasRoom (awaiting.Rows columns rows) results = vec_len results < vec_capacity results
+HasRoom (awaiting.Rows these) results = vec_len results < vec_capacity results
 HasRoom awaited results = Unit {0}
+
+-- Where there is anything to hand out, a list with room can take its place.
+abbrev pub HasSpare : RowsSoFar → Vec ReplyResult Global → Vec ReplyResult Global → Type 0
+HasSpare these results spare = 0 < length results.items + length these.rows → vec_len spare < vec_capacity spare
+
+-- The same where rows are awaited.
+abbrev pub IsSpared : Awaited → Vec ReplyResult Global → Vec ReplyResult Global → Type 0
+IsSpared (awaiting.Rows these) results spare = HasSpare these results spare
+IsSpared awaited results spare = Unit {0}
 
 -- What every state keeps.
 pub record IsReading (s : ReplyState) : Type 0 where
   pub settled : IsSettled s.context (awaited_view s.awaited)
   pub room : HasRoom s.awaited s.results
+  pub spared : IsSpared s.awaited s.results s.spare
+  pub empty : s.spare.items ≡ []
 
 -- The fact holds where memory didn't run out.
 abbrev pub UnlessMemory : {X : Type 0} → Result X ReplyFault → Type 0 → Type 0

@@ -1,10 +1,6 @@
 -- Words of the reader's own body, which no public call's clause has: what one more payload leads to.
 -- MySQL: Client/Server Protocol, "COM_QUERY Response" and "Text Resultset".
-use Rattle.std.specs.Prelude.{◌≡◌, ℕ, zero, suc, Bool, List, [], ◌∷◌, ◌++◌, length, true, false, nat_lt, ◌&&◌, if◌then◌else◌, None, Result, Ok, Err, Vec}
-use Rattle.std.specs.declared.alloc.Global.{Global}
-use Rattle.std.specs.declared.rc.RcSlice.{RcSlice}
-use Rattle.mysql_columns.specs.declared.column.Column.{Column}
-use Rattle.mysql_rows.specs.declared.row.Row.{Row}
+use Rattle.std.specs.Prelude.{◌≡◌, ℕ, zero, suc, Bool, List, [], ◌∷◌, ◌++◌, length, true, false, nat_lt, ◌&&◌, if◌then◌else◌, None, Result, Ok, Err}
 use Rattle.mysql_columns.specs.Columns.{ColumnDefinition}
 use Rattle.mysql_packets.specs.Packets.{PrepareOk}
 use Rattle.mysql_packets.specs.Views.{prepare_ok_view}
@@ -21,6 +17,7 @@ use Rattle.mysql_replies.specs.declared.awaited.Stepped.{Stepped}
 use Rattle.mysql_replies.specs.declared.awaited.Stepped.TheVariants.{Moved, Failed}
 use Rattle.mysql_replies.specs.Grammar.{Payload, Outcome, RowsResult, PreparedResult, Part, Stands, Stretch, Ending, Ended, Wrong, Results, rows, prepared_columns}
 use Rattle.mysql_replies.specs.Reply.{Awaited, Columns, Rows, Parameters, PreparedColumns, Nothing, rest_of}
+use Rattle.mysql_replies.specs.OpenRows.{RowsSoFar}
 use Rattle.mysql_replies.specs.Views.{outcome_view, awaited_view, column_views}
 
 -- What a payload leads to: these results stand and that is awaited; these results stand and the payload has
@@ -118,7 +115,7 @@ IsStep c a payload (Moved listed awaited) =
 IsStep c a payload (Failed awaited Memory) = LosesNone c a (awaited_view awaited)
 IsStep c a payload (Failed awaited fault) = (awaited_view awaited ≡ a) × Leads c (λ z. rest_of c a (payload ∷ z)) payload (Fails (listed_of a) fault)
 
--- The step that a row made under these columns, of which these are the rows now: it was added to them, or it has no place.
-abbrev pub row_stepped : RcSlice Column Global → Vec Row Global → Result (Unit {0}) ReplyFault → Stepped
-row_stepped columns rows (Ok _) = Moved listed.None (awaiting.Rows columns rows)
-row_stepped columns rows (Err fault) = Failed (awaiting.Rows columns rows) fault
+-- The step that a row made, of which these are the rows now: it was added to them, or it has no place.
+abbrev pub row_stepped : RowsSoFar → Result (Unit {0}) ReplyFault → Stepped
+row_stepped these (Ok _) = Moved listed.None (awaiting.Rows these)
+row_stepped these (Err fault) = Failed (awaiting.Rows these) fault

@@ -1,4 +1,5 @@
--- What the code holds, as values; and what its functions answer. Public clauses have `answer_view` alone.
+-- What the code holds, as values; and what its functions answer. Public clauses have `answer_view`, `outcome_views`, `row_views` and
+-- `report_views` alone.
 -- MySQL: Client/Server Protocol, "COM_QUERY Response", its packets as the code holds them.
 use Rattle.std.specs.Prelude.{◌≡◌, List, map, Result, Ok, Err}
 use Rattle.mysql_wire.specs.WireError.{WireError}
@@ -8,6 +9,8 @@ use Rattle.mysql_rows.specs.Rows as rows
 use Rattle.mysql_rows.specs.Views.{row_view, shared_columns}
 use Rattle.mysql_columns.specs.Columns.{ColumnDefinition}
 use Rattle.mysql_ok_packets.specs.Views.{ok_packet_view}
+use Rattle.mysql_packets.specs.declared.progress_report.ProgressReport.{ProgressReport as ProgressReportOf}
+use Rattle.mysql_packets.specs.Packets.{ProgressReport}
 use Rattle.mysql_packets.specs.Views.{local_infile_view, prepare_ok_view, progress_report_view, server_error_view}
 use Rattle.mysql_columns.specs.Views.{column_view}
 use Rattle.mysql_replies.specs.declared.fault.ReplyFault.{ReplyFault}
@@ -82,10 +85,13 @@ outcome_view (results.File file) = grammar.FileResult (local_infile_view file)
 abbrev pub outcome_views : List ReplyResult → List grammar.Outcome
 outcome_views results = map outcome_view results
 
+abbrev pub report_views : List ProgressReportOf → List ProgressReport
+report_views these = map progress_report_view these
+
 abbrev pub awaited_view : Awaited → reply.Awaited
 awaited_view awaiting.First = reply.First
 awaited_view (awaiting.Columns left these) = reply.Columns left (column_views these.items)
-awaited_view (awaiting.Rows columns these) = reply.Rows (shared_columns columns) (row_views these.items)
+awaited_view (awaiting.Rows these) = reply.Rows these.columns these.rows
 awaited_view (awaiting.Parameters stmt left these) = reply.Parameters (prepare_ok_view stmt) left (column_views these.items)
 awaited_view (awaiting.PreparedColumns stmt params left these) = reply.PreparedColumns (prepare_ok_view stmt) (column_views params.items) left (column_views these.items)
 awaited_view awaiting.Nothing = reply.Nothing

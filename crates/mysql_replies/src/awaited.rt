@@ -1,11 +1,10 @@
 //! What is awaited of a reply.
 
 use crate::fault::ReplyFault;
+use crate::open_rows::OpenRows;
 use crate::results::ReplyResult;
 use mysql_columns::Column;
 use mysql_packets::StmtPacket;
-use mysql_rows::Row;
-use std::rc::RcSlice;
 
 /// What is awaited.
 #[derive(Drop)]
@@ -18,10 +17,7 @@ pub enum Awaited {
         these: Vec<Column>,
     },
     /// Rows after these.
-    Rows {
-        columns: RcSlice<Column>,
-        rows: Vec<Row>,
-    },
+    Rows(OpenRows),
     /// So many more parameters of a prepared statement after these, and its columns.
     Parameters {
         stmt: StmtPacket,

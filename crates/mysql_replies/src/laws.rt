@@ -3,6 +3,7 @@
 ghost use Rattle.mysql_replies.specs.Reply.{EachHasAnswer, AnswersAgree, EachStandingDecides, StandingsAgree, FreshStandingDecides, StandingGoesOn};
 ghost use Rattle.mysql_replies.specs.Bytes.{AnyBytesHaveAnswer, CuttingsAgree};
 ghost use Rattle.mysql_replies.specs.Holding.{EachReaderDecides, ReadersAgree, FreshReaderDecides};
+ghost use Rattle.mysql_replies.specs.Taking.{TakenResultsAreTheReply};
 ghost use Rattle.mysql_replies.specs.Manual.{EachSuchListIsWhole, OnlySuchListsAreWhole, EachFramingIsWhole, OnlyFramingsAreWhole};
 
 use mysql_wire::laws::{one_split, reader_laws};
@@ -42,6 +43,12 @@ pub fn each_reader_decides()
 {
     one_split();
 }
+
+/// Over any feeds and takes the results and the reports that were handed out and those at the end are, joined, the reply of all
+/// the bytes; where memory ran out, they are those of the first payloads.
+pub fn taken_results_are_the_reply()
+    ensures { TakenResultsAreTheReply }
+{}
 
 /// A list of payloads has an answer that ends whole exactly where the manual has it as a whole reply: results one after another, and
 /// before any of their payloads progress reports. The answer's results and reports are those.

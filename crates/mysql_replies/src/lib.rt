@@ -7,6 +7,7 @@ pub mod fault;
 mod framing;
 pub mod laws;
 mod lines;
+mod open_rows;
 mod opening;
 mod reader;
 pub mod results;

@@ -1,22 +1,25 @@
 //! A reply, read from the bytes of a connection as they come.
 
-ghost use Rattle.std.specs.Prelude.{◌≡◌, ◌≢◌, ◌⊎◌, ◌∷◌, ◌++◌, [], None, Some, Ok, Err, OnOk, IfErr, IfSome, false, flat_map, length, map, ◌<◌, ℕ, List};
+ghost use Rattle.std.specs.Prelude.{◌≡◌, ◌≢◌, ◌⊎◌, ◌∷◌, ◌+◌, ◌++◌, [], None, Some, Ok, Err, OnOk, IfErr, IfSome, false, flat_map, length, map, ◌<◌, ◌≤◌, ℕ, List};
 ghost use Rattle.std.specs.Bool.{OnFalse, OnTrue};
-ghost use Rattle.mysql_wire.specs.Incoming.{ReadsOn, codec_by};
+ghost use Rattle.mysql_wire.specs.Incoming.{ReadsOn, bytes_kept, codec_by};
 ghost use Rattle.mysql_replies.specs.Steps.{IsAwaiting};
 ghost use Rattle.mysql_replies.specs.declared.fault.ReplyFault.TheVariants.{Memory};
 ghost use Rattle.mysql_replies.specs.Bytes.{IsReplyOf, IsShortReplyOf};
 ghost use Rattle.mysql_replies.specs.Holding.{fresh_reader, fault_of, ReaderDecides, ReaderGoesOn, HasFoundNoFault, TakesAll, StandsShort};
 ghost use Rattle.mysql_replies.specs.Standings.{reader_state, fault_named, IsReading, IsPaused, UnlessMemory, OnMemory};
-ghost use Rattle.mysql_replies.specs.Views.{answer_view, awaited_view};
+ghost use Rattle.mysql_replies.specs.Taking.{ListsResults, ListsRows, results_in, without_results, reports_in, without_reports};
+ghost use Rattle.mysql_replies.specs.Views.{answer_view, awaited_view, outcome_views, report_views, row_views};
 ghost use Rattle.mysql_replies.specs.Standings as states;
 
 use crate::context::{Context, ReplyKind};
 use crate::fault::ReplyFault;
 use crate::framing::{bytes_are_bytes, framing_laws};
-use crate::results::Reply;
+use crate::results::{Reply, ReplyResult};
 use crate::state::ReplyState;
 use mysql_const::CapabilityFlags;
+use mysql_packets::ProgressReport;
+use mysql_rows::Row;
 use mysql_wire::{PacketCodecError, PacketReader};
 use std::alloc::Global;
 use std::marker::Model;
@@ -120,7 +123,10 @@ fn take_packets(
 }
 
 /// Reads a server's reply from the bytes of a connection, in whatever pieces they come. What it holds, beside the
-/// results and the reports that it read, is at most one packet within the limit.
+/// results and the reports that it read and that were not handed out, is at most one packet within the limit.
+///
+/// What [`ReplyReader::take_results`] and [`ReplyReader::take_progress`] hand out on the way and what
+/// [`ReplyReader::finish`] gives are, joined, the reply.
 ///
 /// MySQL: Client/Server Protocol, "COM_QUERY Response", "Text Resultset", "Binary Protocol Resultset" and
 /// "COM_STMT_PREPARE Response".
@@ -147,7 +153,11 @@ impl Model for ReplyReader {
 
 impl ReplyReader {
     /// A reader of the reply to a command of this kind, of which nothing came yet. The reply's first chunk has the number
-    /// `first_id`; a packet of more than `limit` bytes (at least 4) is a fault.
+    /// `first_id`.
+    ///
+    /// The limit is the `max_allowed_packet` of the side that the packets go to, and at least 4. Calls that write count 4
+    /// bytes for a packet's header in it: a payload has at most `limit - 4` bytes. Calls that read count the payload alone: it
+    /// has at most `limit` bytes.
     pub fn new(
         alloc: Global,
         kind: ReplyKind,
@@ -187,7 +197,63 @@ impl ReplyReader {
         take_packets(self.alloc, &mut self.state, &mut self.packets, piece)
     }
 
-    /// What was read, where no more bytes come. Takes no memory.
+    /// Hands out the results so far: those that stand whole, and of a result set that goes on its rows so far, if there are any,
+    /// as [`ReplyResult::Rows`] without a terminator. Its later rows are listed anew, under the same columns: a result set that
+    /// was handed out in parts is theirs joined, all but the last without a terminator. Where a fault was met, or memory ran
+    /// out, all that is listed is handed out. Takes no memory.
+    ///
+    /// MySQL: Client/Server Protocol, "COM_QUERY Response" and "Text Resultset".
+    pub fn take_results(&mut self) -> Vec<ReplyResult>
+        ensures taken { outcome_views result.items ≡ results_in self.old.standing }
+        ensures left { self.new ≡ record self.old { standing = without_results self.old.standing } }
+    {
+        self.state.take_results(self.alloc)
+    }
+
+    /// Hands out the progress reports so far. Takes no memory.
+    ///
+    /// MariaDB: 'Progress report' of "ERR_Packet".
+    pub fn take_progress(&mut self) -> Vec<ProgressReport<'static>>
+        ensures taken { report_views result.items ≡ reports_in self.old.standing }
+        ensures left { self.new ≡ record self.old { standing = without_reports self.old.standing } }
+    {
+        self.state.take_progress(self.alloc)
+    }
+
+    /// The results that stand whole and were not handed out.
+    pub fn results(&self) -> &[ReplyResult]
+        ensures { ListsResults self.now.standing (outcome_views result.now) }
+    {
+        self.state.results.as_slice()
+    }
+
+    /// The rows so far of a result set that goes on, but for those that were handed out.
+    pub fn rows(&self) -> &[Row]
+        ensures { ListsRows self.now.standing (row_views result.now) }
+    {
+        self.state.rows()
+    }
+
+    /// The progress reports that were not handed out.
+    pub fn progress(&self) -> &[ProgressReport<'static>]
+        ensures { report_views result.now ≡ reports_in self.now.standing }
+    {
+        self.state.progress.as_slice()
+    }
+
+    /// How many bytes are held of the packet that isn't whole: those that came of it, but for the headers of its chunks, of which
+    /// only one that doesn't stand whole is held. Where no fault was met they are no more than the limit and three bytes of a
+    /// header. Takes no memory.
+    ///
+    /// MySQL: Client/Server Protocol, "MySQL Packets".
+    pub fn kept(&self) -> usize
+        ensures bytes { result ≡ bytes_kept (length self.now.bytes) }
+        ensures within { fault_of self.now.standing ≡ None → result ≤ self.now.limit + 3 }
+    {
+        self.packets.kept()
+    }
+
+    /// What was read, where no more bytes come, but for what was handed out. Takes no memory.
     pub fn finish(self) -> Reply
         ensures { ReaderDecides self [] (answer_view result) }
     {
@@ -198,6 +264,10 @@ impl ReplyReader {
 /// The reply of these pieces' bytes, one after another: the answer of a [`ReplyReader`] that is fed them. Where memory ran
 /// out over a piece its end is Fault(p, Memory), and it has the results and the reports of the first p payloads: at least
 /// of those that stand whole in the pieces before it.
+///
+/// The limit is the `max_allowed_packet` of the side that the packets go to, and at least 4. Calls that write count 4 bytes
+/// for a packet's header in it: a payload has at most `limit - 4` bytes. Calls that read count the payload alone: it has at most
+/// `limit` bytes.
 ///
 /// MySQL: Client/Server Protocol, "COM_QUERY Response", "Text Resultset", "Binary Protocol Resultset" and
 /// "COM_STMT_PREPARE Response".

@@ -9,20 +9,24 @@ ghost use Rattle.mysql_replies.specs.declared.fault.ReplyFault.TheVariants.{BadE
 ghost use Rattle.mysql_replies.specs.Grammar.{or_fault, has_report_form};
 ghost use Rattle.mysql_replies.specs.Reply.{fresh};
 ghost use Rattle.mysql_replies.specs.Reply as reply;
+ghost use Rattle.mysql_replies.specs.OpenRows.{rows_of};
+ghost use Rattle.mysql_replies.specs.Taking.{part_of, results_in, without_results, rows_awaited};
 ghost use Rattle.mysql_replies.specs.Views.{Gives, awaited_view, outcome_views, end_view, answer_view};
 ghost use Rattle.mysql_replies.specs.Steps.{IsSettled, IsAwaiting, listed_views, listed_of, reads_as_row};
-ghost use Rattle.mysql_replies.specs.Standings.{standing_of, UnlessMemory, OnMemory, IsReading, IsShortOf, StateGoesOn, NumberedStateGoesOn, HasRoom, end_at, answer_of};
+ghost use Rattle.mysql_replies.specs.Standings.{standing_of, UnlessMemory, OnMemory, IsReading, IsShortOf, StateGoesOn, NumberedStateGoesOn, HasRoom, HasSpare, end_at, answer_of};
 
 use crate::awaited::{Awaited, Listed, Stepped};
 use crate::context::Context;
 use crate::fault::ReplyFault;
 use crate::lines::is_row;
+use crate::open_rows::OpenRows;
 use crate::opening::refused_of;
 use crate::results::{Reply, ReplyEnd, ReplyResult};
 use crate::steps::{row_step, step};
 use bitflags::Flags;
 use mysql_const::CapabilityFlags;
 use mysql_packets::ProgressReport;
+use mysql_rows::Row;
 use mysql_wire::{ParseBuf, ParseExt, WireError};
 use std::alloc::Global;
 use std::mem;
@@ -32,6 +36,8 @@ use std::mem;
 pub struct ReplyState {
     pub context: Context,
     pub results: Vec<ReplyResult>,
+    // An empty list, which takes the place of the results that are handed out while rows are awaited.
+    pub spare: Vec<ReplyResult>,
     pub progress: Vec<ProgressReport<'static>>,
     pub count: u64,
     pub awaited: Awaited,
@@ -102,6 +108,7 @@ impl ReplyState {
         ReplyState {
             context,
             results: Vec::new(alloc),
+            spare: Vec::new(alloc),
             progress: Vec::new(alloc),
             count: 0,
             awaited: Awaited::First,
@@ -186,6 +193,9 @@ impl ReplyState {
         if self.results.reserve(3).is_err() {
             return Err(self.fail(ReplyFault::Memory));
         }
+        if self.spare.reserve(1).is_err() {
+            return Err(self.fail(ReplyFault::Memory));
+        }
         let awaited = mem::replace(&mut self.awaited, Awaited::Nothing);
         match step(alloc, self.context, awaited, payload) {
             Stepped::Moved(listed, next) => {
@@ -217,8 +227,11 @@ impl ReplyState {
     {
         let context = self.context;
         match &mut self.awaited {
-            Awaited::Rows { columns, rows } => {
-                match row_step(alloc, context, columns, rows, payload) {
+            Awaited::Rows(these) => {
+                if self.spare.reserve(1).is_err() {
+                    return Err(self.fail(ReplyFault::Memory));
+                }
+                match row_step(alloc, context, these, payload) {
                     Ok(()) => {
                         self.count += 1;
                         Ok(())
@@ -260,14 +273,8 @@ fn closed(mut results: Vec<ReplyResult>, awaited: Awaited) -> Vec<ReplyResult>
     ensures { outcome_views result.items ≡ outcome_views results.items ++ listed_of (awaited_view awaited) }
 {
     match awaited {
-        Awaited::Rows { columns, rows } => {
-            let terminator = None;
-            let last = ReplyResult::Rows {
-                columns,
-                rows,
-                terminator,
-            };
-            push_in_room(&mut results, last);
+        Awaited::Rows(these) => {
+            push_in_room(&mut results, these.into_result(None));
             results
         }
         Awaited::Columns {
@@ -290,6 +297,35 @@ fn closed(mut results: Vec<ReplyResult>, awaited: Awaited) -> Vec<ReplyResult>
     }
 }
 
+/// Hands out the results and the rows so far of a result set that goes on, if there are any. The other list takes their place.
+fn take_open(
+    alloc: Global,
+    results: &mut Vec<ReplyResult>,
+    spare: &mut Vec<ReplyResult>,
+    these: &mut OpenRows,
+) -> Vec<ReplyResult>
+    requires room { vec_len results.old < vec_capacity results.old }
+    requires spare { HasSpare these.old results.old spare.old }
+    requires empty { spare.old.items ≡ [] }
+    ensures taken { outcome_views result.items ≡ outcome_views results.old.items ++ part_of (reply.Rows these.old.columns these.old.rows) }
+    ensures rest { these.new ≡ record these.old { rows = [] } }
+    ensures none { results.new.items ≡ [] }
+    ensures room { vec_len results.new < vec_capacity results.new }
+    ensures empty { spare.new.items ≡ [] }
+{
+    if these.is_empty() {
+        if results.is_empty() {
+            return Vec::new(alloc);
+        }
+        let left = mem::replace(spare, Vec::new(alloc));
+        return mem::replace(results, left);
+    }
+    let left = mem::replace(spare, Vec::new(alloc));
+    let mut taken = mem::replace(results, left);
+    push_in_room(&mut taken, these.take(alloc));
+    taken
+}
+
 /// The end of a reply where no fault was met and no more bytes come.
 fn end_after(awaited: &Awaited) -> ReplyEnd
     ensures { end_view result ≡ end_at (awaited_view awaited.now) }
@@ -301,6 +337,46 @@ fn end_after(awaited: &Awaited) -> ReplyEnd
 }
 
 impl ReplyState {
+    /// Hands out what is listed. The rows of a result set that goes on are listed anew behind it; where a fault was met nothing is.
+    pub fn take_results(&mut self, alloc: Global) -> Vec<ReplyResult>
+        requires reading { IsReading self.old }
+        ensures reading { IsReading self.new }
+        ensures taken { outcome_views result.items ≡ results_in (standing_of self.old) }
+        ensures left { standing_of self.new ≡ without_results (standing_of self.old) }
+        ensures fault { self.new.fault ≡ self.old.fault }
+        ensures context { self.new.context ≡ self.old.context }
+        ensures over { awaited_view self.new.awaited ≡ reply.Nothing → self.new.fault ≡ None → awaited_view self.old.awaited ≡ reply.Nothing }
+    {
+        if self.fault.is_some() {
+            let awaited = mem::replace(&mut self.awaited, Awaited::Nothing);
+            let results = mem::replace(&mut self.results, Vec::new(alloc));
+            return closed(results, awaited);
+        }
+        match &mut self.awaited {
+            Awaited::Rows(these) => take_open(alloc, &mut self.results, &mut self.spare, these),
+            _ => mem::replace(&mut self.results, Vec::new(alloc)),
+        }
+    }
+
+    /// Hands out the progress reports.
+    pub fn take_progress(&mut self, alloc: Global) -> Vec<ProgressReport<'static>>
+        ensures taken { result ≡ self.old.progress }
+        ensures left { self.new ≡ record self.old { progress = self.new.progress } }
+        ensures none { self.new.progress.items ≡ [] }
+    {
+        mem::replace(&mut self.progress, Vec::new(alloc))
+    }
+
+    /// The rows so far of a result set that goes on.
+    pub fn rows(&self) -> &[Row]
+        ensures { rows_of result.now ≡ rows_awaited (awaited_view self.now.awaited) }
+    {
+        match &self.awaited {
+            Awaited::Rows(these) => these.rows(),
+            _ => &[],
+        }
+    }
+
     /// The answer where no more bytes come.
     pub fn finish(self) -> Reply
         requires reading { IsReading self }
@@ -313,6 +389,7 @@ impl ReplyState {
         let ReplyState {
             context: _,
             results,
+            spare: _,
             progress,
             count: _,
             awaited,

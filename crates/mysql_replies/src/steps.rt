@@ -6,14 +6,14 @@ ghost use Rattle.mysql_ok_packets.specs.OkPackets.{more_results_exist};
 ghost use Rattle.mysql_packets.specs.Views.{prepare_ok_view};
 ghost use Rattle.mysql_replies.specs.Grammar.{has_report_form, one_result, rows};
 ghost use Rattle.mysql_replies.specs.Reply as reply;
-ghost use Rattle.mysql_replies.specs.Views.{awaited_view, column_views, row_views};
-ghost use Rattle.mysql_rows.specs.Views.{shared_columns};
+ghost use Rattle.mysql_replies.specs.Views.{awaited_view, column_views};
 ghost use Rattle.mysql_replies.specs.Steps.{IsStep, IsMove, IsSettled, IsGroupSettled, IsAwaiting, Leads, Moves, OfParameters, reads_as_row, row_stepped, group_view, group_awaited, after_group};
 
 use crate::awaited::{Awaited, ColumnGroup, Listed, Stepped};
 use crate::context::Context;
 use crate::fault::ReplyFault;
 use crate::lines::{Line, column_packet, deprecates_eof, eof_packet, line_of};
+use crate::open_rows::OpenRows;
 use crate::opening::{Opening, opening_of};
 use crate::results::ReplyResult;
 use crate::row_packets::row_packet;
@@ -21,7 +21,6 @@ use mysql_columns::Column;
 use mysql_const::StatusFlags;
 use mysql_ok_packets::ok_packet::has_more_results;
 use mysql_packets::StmtPacket;
-use mysql_rows::Row;
 use std::alloc::Global;
 use std::rc::RcSlice;
 
@@ -88,8 +87,7 @@ fn after_columns(alloc: Global, context: Context, group: ColumnGroup, these: Vec
     match group {
         ColumnGroup::ResultSet => match RcSlice::from_vec(these) {
             Ok(columns) => {
-                let rows = Vec::new(alloc);
-                Stepped::Moved(Listed::None, Awaited::Rows { columns, rows })
+                Stepped::Moved(Listed::None, Awaited::Rows(OpenRows::new(alloc, columns)))
             }
             // The columns are lost; nothing was listed of them.
             Err(_) => Stepped::Failed(Awaited::First, ReplyFault::Memory),
@@ -229,46 +227,29 @@ fn group_step(
 }
 
 /// A row, or what ends the rows.
-fn rows_step(
-    alloc: Global,
-    context: Context,
-    columns: RcSlice<Column>,
-    mut rows: Vec<Row>,
-    payload: &[u8],
-) -> Stepped
+fn rows_step(alloc: Global, context: Context, mut these: OpenRows, payload: &[u8]) -> Stepped
     requires no_report { has_report_form context payload.now ≡ false }
-    ensures { IsStep context (reply.Rows (shared_columns columns) (row_views rows.items)) payload.now result }
+    ensures { IsStep context (reply.Rows these.columns these.rows) payload.now result }
 {
-    match line_of(alloc, context, &columns, payload) {
+    match line_of(alloc, context, these.columns(), payload) {
         Ok(Line::Row(row)) => {
-            if rows.push(row).is_err() {
-                return Stepped::Failed(Awaited::Rows { columns, rows }, ReplyFault::Memory);
+            if these.push(row).is_err() {
+                return Stepped::Failed(Awaited::Rows(these), ReplyFault::Memory);
             }
-            return Stepped::Moved(Listed::None, Awaited::Rows { columns, rows });
+            return Stepped::Moved(Listed::None, Awaited::Rows(these));
         }
         Ok(Line::Terminator(ok)) => {
             let next = awaited_after(ok.status_flags());
-            let terminator = Some(ok);
-            let result = ReplyResult::Rows {
-                columns,
-                rows,
-                terminator,
-            };
-            Stepped::Moved(Listed::One(result), next)
+            Stepped::Moved(Listed::One(these.into_result(Some(ok))), next)
         }
         Ok(Line::Error(error)) => {
-            let terminator = None;
-            let result = ReplyResult::Rows {
-                columns,
-                rows,
-                terminator,
-            };
+            let ended = these.into_result(None);
             Stepped::Moved(
-                Listed::Two(result, ReplyResult::Error(error)),
+                Listed::Two(ended, ReplyResult::Error(error)),
                 Awaited::Nothing,
             )
         }
-        Err(fault) => Stepped::Failed(Awaited::Rows { columns, rows }, fault),
+        Err(fault) => Stepped::Failed(Awaited::Rows(these), fault),
     }
 }
 
@@ -276,17 +257,16 @@ fn rows_step(
 pub fn row_step(
     alloc: Global,
     context: Context,
-    columns: &RcSlice<Column>,
-    rows: &mut Vec<Row>,
+    these: &mut OpenRows,
     payload: &[u8],
 ) -> Result<(), ReplyFault>
     requires no_report { has_report_form context payload.now ≡ false }
     requires row { reads_as_row context payload.now ≡ true }
-    ensures { IsStep context (reply.Rows (shared_columns columns.now) (row_views rows.old.items)) payload.now (row_stepped columns.now rows.new result) }
+    ensures { IsStep context (reply.Rows these.old.columns these.old.rows) payload.now (row_stepped these.new result) }
 {
-    match row_packet(alloc, context.kind, columns, payload) {
+    match row_packet(alloc, context.kind, these.columns(), payload) {
         Ok(row) => {
-            if rows.push(row).is_err() {
+            if these.push(row).is_err() {
                 return Err(ReplyFault::Memory);
             }
             Ok(())
@@ -326,7 +306,7 @@ pub fn step(alloc: Global, context: Context, awaited: Awaited, payload: &[u8]) -
             let group = ColumnGroup::Prepared(stmt, params);
             group_step(alloc, context, group, left, these, payload)
         }
-        Awaited::Rows { columns, rows } => rows_step(alloc, context, columns, rows, payload),
+        Awaited::Rows(these) => rows_step(alloc, context, these, payload),
         Awaited::Nothing => unreachable!(),
     }
 }

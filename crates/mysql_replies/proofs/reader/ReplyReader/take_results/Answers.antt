@@ -1,0 +1,21 @@
+use Rattle.std.proofs.Common.{◌≡◌, [], ap, subst}
+use Rattle.mysql_wire.specs.Incoming.{codec_by}
+use Rattle.mysql_replies.specs.Holding.{ReaderState}
+use Rattle.mysql_replies.specs.Reply.{Standing}
+use Rattle.mysql_replies.specs.Standings.{reader_state}
+use Rattle.mysql_replies.specs.Taking.{results_in, without_results}
+use Rattle.mysql_replies.specs.Views.{outcome_views}
+use Rattle.mysql_replies.proofs.Handing.{receiving_over}
+use Rattle.mysql_replies.proofs.reader.ReplyReader.take_results.Goals as goal
+
+pub invariant_of-self : goal.invariant_of-self
+invariant_of-self c =
+    receiving_over c.self.inside.state c.take_results.new.self (codec_by c.self.inside.packets) c.self.inside.packets.bytes [] c.take_results.ensures.reading c.take_results.ensures.fault c.take_results.ensures.over c.self.invariant
+
+pub returns-clause-taken : goal.returns-clause-taken
+returns-clause-taken c = subst (λ (held : ReaderState). outcome_views c.take_results.result.items ≡ results_in held.standing) c.self.view_is c.take_results.ensures.taken
+
+pub returns-clause-left : goal.returns-clause-left
+returns-clause-left c =
+    subst (λ (held : ReaderState). reader_state c.take_results.new.self c.self.inside.packets ≡ record held { standing = without_results held.standing }) c.self.view_is
+    (ap (λ (standing : Standing). record (reader_state c.self.inside.state c.self.inside.packets) { standing = standing }) c.take_results.ensures.left)
