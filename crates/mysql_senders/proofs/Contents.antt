@@ -1,15 +1,14 @@
 -- What sets give.
-use Rattle.std.proofs.Common.{◌≡◌, ℕ, List, [], ◌++◌, map, Option, Some, None, Result, Ok, Err, refl, sym, ◌∙◌, ap, Global, Vec}
+use Rattle.std.proofs.Common.{◌≡◌, ℕ, List, ◌++◌, map, Option, Some, None, Result, Ok, Err, refl, sym, ◌∙◌, ap}
 use Rattle.std.specs.Result.{result_map_both}
 use Rattle.std.proofs.lemmas.List.{append-nil}
-use Rattle.std.proofs.lemmas.Simd.{map-map}
 use Rattle.mysql_values.specs.declared.params.Params.{Params}
 use Rattle.mysql_values.specs.declared.params.ParamsError.{ParamsError}
 use Rattle.mysql_values.specs.declared.params.SetError.{SetError}
 use Rattle.mysql_values.specs.declared.params.SetError.TheVariants as set_error
 use Rattle.mysql_values.specs.Value.{Value}
 use Rattle.mysql_values.specs.Params.{values_over}
-use Rattle.mysql_streams.specs.Sets.{Given, all_given_in_places, given_by, given_up_to}
+use Rattle.mysql_streams.specs.Sets.{Given, given_by, given_up_to}
 use Rattle.mysql_senders.specs.OneSet.{behind}
 
 -- values over a query's names are given
@@ -28,11 +27,3 @@ gives_one (Err error) values others first second = cc
 pub given_is : (sets : List Params) (stop : Option SetError) (names : List (List ℕ)) → given_up_to sets stop names ≡ map (given_by names) sets ++ behind stop
 given_is sets None names = sym (append-nil (map (given_by names) sets))
 given_is sets (Some error) names = refl
-
--- what a set of values gives: all of them
-abbrev pub given_whole : Vec Value Global → Given
-given_whole set = Ok set.items
-
--- what sets of values give
-pub given_in_places : (sets : List (Vec Value Global)) (names : List (List ℕ)) → all_given_in_places (map (λ set. set.items) sets) names ≡ map given_whole sets ++ []
-given_in_places sets names = map-map Ok (λ (set : Vec Value Global). set.items) sets ∙ sym (append-nil (map given_whole sets))

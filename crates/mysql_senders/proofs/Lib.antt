@@ -6,3 +6,4 @@ pub mod Pieces
 pub mod PlainSizes
 pub mod StatementSets
 pub mod MadeSets
+pub mod MoreSets

@@ -111,6 +111,16 @@ pub record AppendsExecutions (id : ℕ) (limits : Limits) (given : List Given) (
 abbrev pub RefusesSets : (List Value → List ℕ) → Limits → List Given → Refusal → Type 0
 RefusesSets command limits given refusal = (refusal ≡ refusals.Memory) ⊎ (first_of_sets (set_cause command limits) 0 given ≡ Some refusal)
 
+-- the executions of sets of values are appended, of which the first has this number: nothing speaks against any, and the numbers of all values fit their fields
+pub record AppendsMore (id : ℕ) (limits : Limits) (first : ℕ) (sets : List (List Value)) (old new : List ℕ) : Type 0 where
+  pub none : first_of_sets (set_cause (whole_execution id) limits) first (map Ok sets) ≡ None
+  pub fit : AllByRecursion (λ set. AllByRecursion (λ value. FitsFields value) set) sets
+  pub appended : new ≡ old ++ framings (flat_map (execution_payloads id) sets) EachFromZero
+
+-- Memory, or the first cause that speaks against one of them
+abbrev pub RefusesMore : ℕ → Limits → ℕ → List (List Value) → Refusal → Type 0
+RefusesMore id limits first sets refusal = (refusal ≡ refusals.Memory) ⊎ (first_of_sets (set_cause (whole_execution id) limits) first (map Ok sets) ≡ Some refusal)
+
 -- a query that can be prepared: with a question mark for each placeholder, its names, and how many placeholders it has
 pub record IsPreparable (query : List ℕ) (parsed : Parsed) (places : ℕ) : Type 0 where
   pub tokens : List (List ℕ)

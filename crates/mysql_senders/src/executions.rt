@@ -1,6 +1,6 @@
 //! Parameter sets as executions of a prepared statement.
 
-ghost use Rattle.std.specs.Prelude.{◌≡◌, ◌++◌, ◌∷◌, ◌<◌, ◌≤◌, ℕ, [], IfErr, IfOk, IfSome, None, Ok, OnErr, OnOk, OnSome, Some, false, is_none, length, map, nat_lt, take};
+ghost use Rattle.std.specs.Prelude.{◌≡◌, ◌+◌, ◌-◌, ◌^◌, ◌++◌, ◌∷◌, ◌<◌, ◌≤◌, ℕ, [], IfErr, IfOk, IfSome, None, Ok, OnErr, OnOk, OnSome, Some, false, is_none, length, map, nat_lt, take};
 ghost use Rattle.byteorder.specs.Endian.{little_bytes};
 ghost use Rattle.mysql_stmt.specs.Executions.{execute_command};
 ghost use Rattle.mysql_cells.specs.Values.{first_float};
@@ -14,7 +14,7 @@ ghost use Rattle.mysql_streams.specs.Sending.{RefusesGiven};
 ghost use Rattle.mysql_streams.specs.Sets.{all_given, all_given_in_places, given_by};
 ghost use Rattle.mysql_streams.specs.declared.refusal.Refusal.TheVariants as refusals;
 ghost use Rattle.mysql_streams.specs.declared.road.Road.TheVariants as roads;
-ghost use Rattle.mysql_senders.specs.OneSet.{AppendsExecution, AppendsExecutions, RefusesSet, RefusesSets, execution_payloads, whole_execution};
+ghost use Rattle.mysql_senders.specs.OneSet.{AppendsExecution, AppendsExecutions, AppendsMore, RefusesMore, RefusesSet, RefusesSets, execution_payloads, whole_execution};
 
 use crate::set_values::{check_values, list_values_for, values_fit};
 use crate::statement::{Statement, put_prepare, statement_of};
@@ -238,23 +238,24 @@ fn checked_size(values: &[&Value], places: usize, room: usize, set: usize) -> Re
     }
 }
 
-/// Appends the execution with these values.
+/// Appends the execution of a statement of this id and so many placeholders with these values.
 fn put_values(
-    statement: &Statement<'_>,
+    id: u32,
+    places: usize,
     set: usize,
     values: &[&Value],
     room: usize,
     command: &mut Vec<u8>,
     out: &mut Vec<u8>,
 ) -> Result<(), Refusal>
-    requires { statement.now.places ≤ 65535 }
-    ensures ok { OnOk result (AppendsExecution statement.now.id (record { places = statement.now.places; bytes = room }) set (Ok (map (λ value. value.now) values.now)) out.old.items out.new.items) }
-    ensures err { IfErr result (RefusesSet (whole_execution statement.now.id) (record { places = statement.now.places; bytes = room }) set (Ok (map (λ value. value.now) values.now))) }
+    requires { places ≤ 65535 }
+    ensures ok { OnOk result (AppendsExecution id (record { places = places; bytes = room }) set (Ok (map (λ value. value.now) values.now)) out.old.items out.new.items) }
+    ensures err { IfErr result (RefusesSet (whole_execution id) (record { places = places; bytes = room }) set (Ok (map (λ value. value.now) values.now))) }
     ensures kept { take (length out.old.items) out.new.items ≡ out.old.items }
 {
-    let size = checked_size(values, statement.places, room, set)?;
+    let size = checked_size(values, places, room, set)?;
     values_fit(values);
-    put_sized(statement.id, values, size, command, out)
+    put_sized(id, values, size, command, out)
 }
 
 /// Appends the execution of one set, whose values are listed in place of what the list holds.
@@ -273,7 +274,15 @@ pub(crate) fn put_set<'a>(
     ensures kept { take (length out.old.items) out.new.items ≡ out.old.items }
 {
     list_values_for(statement, set, params, values)?;
-    put_values(statement, set, values, room, command, out)
+    put_values(
+        statement.id,
+        statement.places,
+        set,
+        values,
+        room,
+        command,
+        out,
+    )
 }
 
 /// Appends the execution of each set.
@@ -314,7 +323,8 @@ fn list_references<'a>(
 
 /// Appends the execution with a set's values, which are listed in place of what the list holds.
 fn put_value_set<'a>(
-    statement: &Statement<'_>,
+    id: u32,
+    places: usize,
     set: usize,
     values: &'a [Value],
     room: usize,
@@ -322,33 +332,38 @@ fn put_value_set<'a>(
     command: &mut Vec<u8>,
     out: &mut Vec<u8>,
 ) -> Result<(), Refusal>
-    requires { statement.now.places ≤ 65535 }
-    ensures ok { OnOk result (AppendsExecution statement.now.id (record { places = statement.now.places; bytes = room }) set (Ok values.entry.now) out.old.items out.new.items) }
-    ensures err { IfErr result (RefusesSet (whole_execution statement.now.id) (record { places = statement.now.places; bytes = room }) set (Ok values.entry.now)) }
+    requires { places ≤ 65535 }
+    ensures ok { OnOk result (AppendsExecution id (record { places = places; bytes = room }) set (Ok values.entry.now) out.old.items out.new.items) }
+    ensures err { IfErr result (RefusesSet (whole_execution id) (record { places = places; bytes = room }) set (Ok values.entry.now)) }
     ensures kept { take (length out.old.items) out.new.items ≡ out.old.items }
 {
     list_references(values, references)?;
-    put_values(statement, set, references, room, command, out)
+    put_values(id, places, set, references, room, command, out)
 }
 
-/// Appends the execution of each set of values.
+/// Appends the execution of each set of values, of which the first has the number `first`.
 fn put_value_sets(
     alloc: Global,
-    statement: &Statement<'_>,
+    id: u32,
+    places: usize,
+    first: usize,
     sets: &[Vec<Value>],
     room: usize,
     out: &mut Vec<u8>,
 ) -> Result<(), Refusal>
-    requires { statement.now.places ≤ 65535 }
-    ensures ok { OnOk result (AppendsExecutions statement.now.id (record { places = statement.now.places; bytes = room }) (all_given_in_places (map (λ set. set.items) sets.now) statement.now.parsed.names) out.old.items out.new.items) }
-    ensures err { IfErr result (RefusesSets (whole_execution statement.now.id) (record { places = statement.now.places; bytes = room }) (all_given_in_places (map (λ set. set.items) sets.now) statement.now.parsed.names)) }
+    requires places { places ≤ 65535 }
+    requires numbers { first + length sets.now < 2 ^ 64 }
+    ensures ok { OnOk result (AppendsMore id (record { places = places; bytes = room }) first (map (λ set. set.items) sets.now) out.old.items out.new.items) }
+    ensures err { IfErr result (RefusesMore id (record { places = places; bytes = room }) first (map (λ set. set.items) sets.now)) }
     ensures kept { take (length out.old.items) out.new.items ≡ out.old.items }
 {
     let mut references = Vec::new(alloc);
     let mut command = Vec::new(alloc);
-    'sets: for (set, values) in sets.iter().enumerate() {
+    'sets: for (index, values) in sets.iter().enumerate() {
+        let set = first + index;
         put_value_set(
-            statement,
+            id,
+            places,
             set,
             values,
             room,
@@ -413,5 +428,33 @@ pub fn put_executions_of_values(
     let statement = statement_of(alloc, query, stmt_id)?;
     let room = limit - 4;
     put_prepare(alloc, &statement, room, out)?;
-    put_value_sets(alloc, &statement, sets, room, out)
+    put_value_sets(alloc, statement.id, statement.places, 0, sets, room, out)
+}
+
+/// Appends the executions of further sets of values of the statement `stmt_id`, which was prepared with so many placeholders, as
+/// [`put_executions_of_values`] appends those behind its prepare. Sets are numbered on from `first`, the number of those that were
+/// appended before; they stand in the order of the placeholders. A payload has at most `limit - 4` bytes, and so has an
+/// execution with all its values. After a refusal what stood before stands in front of `out`.
+///
+/// # Errors
+/// The first cause that holds, set by set: `WrongCount`, `Float`, `PacketTooLarge`; `Memory` where a growth was refused.
+///
+/// MySQL: Client/Server Protocol, "COM_STMT_SEND_LONG_DATA", "COM_STMT_EXECUTE".
+pub fn put_more_executions(
+    alloc: Global,
+    stmt_id: u32,
+    places: usize,
+    first: usize,
+    sets: &[Vec<Value>],
+    limit: usize,
+    out: &mut Vec<u8>,
+) -> Result<(), Refusal>
+    requires limit { 4 ≤ limit }
+    requires places { places ≤ 65535 }
+    requires numbers { first + length sets.now < 2 ^ 64 }
+    ensures ok { OnOk result (AppendsMore stmt_id (record { places = places; bytes = limit - 4 }) first (map (λ set. set.items) sets.now) out.old.items out.new.items) }
+    ensures err { IfErr result (RefusesMore stmt_id (record { places = places; bytes = limit - 4 }) first (map (λ set. set.items) sets.now)) }
+    ensures kept { take (length out.old.items) out.new.items ≡ out.old.items }
+{
+    put_value_sets(alloc, stmt_id, places, first, sets, limit - 4, out)
 }

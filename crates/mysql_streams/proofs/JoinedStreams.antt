@@ -14,7 +14,7 @@ use Rattle.mysql_commands.specs.Laws.{WholeStreamsJoin}
 use Rattle.mysql_commands.specs.Layout.{Conversation}
 use Rattle.mysql_commands.specs.Reading.{Set}
 use Rattle.mysql_streams.specs.Laws.{SentStreamsJoin}
-use Rattle.mysql_streams.specs.Reading.{AreMeanings, ReadsAs}
+use Rattle.mysql_streams.specs.Reading.{AreMeanings, StreamReadsAs}
 use Rattle.mysql_streams.specs.Sets.{Given}
 use Rattle.mysql_streams.proofs.Conversations.{one_conversation}
 use Rattle.mysql_streams.proofs.Held.{all_append, contents_append}
@@ -56,7 +56,7 @@ meanings_join once query sets others contents later m n =
 
 -- two streams of a query and an id that read as meanings, one behind the other, in fewer than 2 ^ 64 bytes
 streams_join : OneTokens → WholeStreamsJoin → (query : List ℕ) (sets others : List (List ℕ) → List Given) (id limit : ℕ) (stream behind : List ℕ) (contents later : List Set) → length stream + length behind < 2 ^ 64
-    → ReadsAs query sets id limit stream contents → ReadsAs query others id limit behind later → ReadsAs query (λ names. sets names ++ others names) id limit (stream ++ behind) (contents ++ later)
+    → StreamReadsAs query sets id limit stream contents → StreamReadsAs query others id limit behind later → StreamReadsAs query (λ names. sets names ++ others names) id limit (stream ++ behind) (contents ++ later)
 streams_join once join query sets others id limit stream behind contents later short r q =
     let same : q.audit.0 ≡ r.audit.0 = one_conversation once query id q.audit.0 r.audit.0 q.audit.1 r.audit.1 in
     let second : Audited r.audit.0 limit behind (record { sets = later; ending = Whole }) =

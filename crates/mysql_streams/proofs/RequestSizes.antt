@@ -12,7 +12,7 @@ use Rattle.mysql_bulk.specs.Bulk.{bulk_command, bulk_execution, param_type_bytes
 use Rattle.mysql_bulk_builder.specs.Cut.{Row, row_size, rows_of, rows_size}
 use Rattle.mysql_bulk_builder.specs.TypedCut.{Typed, Typing, Untyped}
 use Rattle.mysql_bulk_builder.specs.ValueTypes.{first_value}
-use Rattle.mysql_streams.specs.Commands.{column_types, request_flags, request_types, types_size}
+use Rattle.mysql_streams.specs.Commands.{request_flags, request_types, types_of_columns, types_size}
 use Rattle.mysql_streams.specs.Laws.{RequestsHaveTheirSize}
 use Rattle.mysql_streams.proofs.RequestRows.{row_bytes, rows_bytes, rows_split}
 
@@ -45,7 +45,7 @@ typing_length : CellLength → (id columns : ℕ) (rows : List Row) (start : ℕ
     length (bulk_command id (request_flags typing) (request_types typing columns (take (start + count) rows)) (rows_of rows start count)) ≡ 7 + types_size typing columns + rows_size rows start count
 unfolding bulk_execution
 typing_length law id columns rows start Typed count =
-    total (little_bytes 4 id) (little_bytes 2 0x80) (flat_map param_type_bytes (column_types columns (take (start + count) rows))) (rows_bytes (rows_of rows start count)) (2 * columns) (rows_size rows start count)
+    total (little_bytes 4 id) (little_bytes 2 0x80) (flat_map param_type_bytes (types_of_columns columns (take (start + count) rows))) (rows_bytes (rows_of rows start count)) (2 * columns) (rows_size rows start count)
     (length-bytes_low_first 0 4 id) (length-bytes_low_first 0 2 0x80) (types_length (λ column. first_value column (take (start + count) rows)) 0 columns) (rows_length law (rows_of rows start count))
 typing_length law id columns rows start Untyped count =
     total (little_bytes 4 id) (little_bytes 2 0) [] (rows_bytes (rows_of rows start count)) 0 (rows_size rows start count)

@@ -38,12 +38,12 @@ request_flags Typed = 0x80
 request_flags Untyped = 0
 
 -- the type of each column by its first value, NULL where it has none
-abbrev pub column_types : ℕ → List Row → List StmtBulkExecuteParamType
-column_types columns rows = map (λ column. type_of_value (first_value column rows)) (range_with_len 0 columns)
+abbrev pub types_of_columns : ℕ → List Row → List StmtBulkExecuteParamType
+types_of_columns columns rows = map (λ column. type_of_value (first_value column rows)) (range_with_len 0 columns)
 
 -- the types that a bulk request carries
 abbrev pub request_types : Typing → ℕ → List Row → List StmtBulkExecuteParamType
-request_types Typed columns rows = column_types columns rows
+request_types Typed columns rows = types_of_columns columns rows
 request_types Untyped columns rows = []
 
 -- the bytes of the types that it carries

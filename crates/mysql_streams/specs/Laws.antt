@@ -18,7 +18,7 @@ use Rattle.mysql_streams.specs.Commands.{bulk_request, types_size}
 use Rattle.mysql_streams.specs.Sets.{GiveTheSame, Given, all_given}
 use Rattle.mysql_streams.specs.Sent.{AreSent, SentPayload, payloads_of, statement_of}
 use Rattle.mysql_streams.specs.Cause.{cause_of}
-use Rattle.mysql_streams.specs.Reading.{AreMeanings, HaveContents, IsReadable, ReadsAs, ReadsBack, SendsWhole, SentReadable}
+use Rattle.mysql_streams.specs.Reading.{AreMeanings, HaveContents, IsReadable, ReadsBack, SendsWhole, SentReadable, StreamReadsAs}
 
 -- What is sent reads, payload by payload, as the contents of the sets that stand whole with each, and no piece waits behind it.
 pub record ReadsEach (c : Conversation) (limit : ℕ) (sent : List SentPayload) : Type 0 where
@@ -78,7 +78,7 @@ SentStreamsJoin =
 abbrev pub RoadsReadEqually : Type 0
 RoadsReadEqually =
     (query : List ℕ) (sets others : List (List ℕ) → List Given) (id limit other_id other_limit : ℕ) (stream other : List ℕ) (contents other_contents : List Set) → GiveTheSame sets others
-    → ReadsAs query sets id limit stream contents → ReadsAs query others other_id other_limit other other_contents → contents ≡ other_contents
+    → StreamReadsAs query sets id limit stream contents → StreamReadsAs query others other_id other_limit other other_contents → contents ≡ other_contents
 
 -- A bulk request takes seven bytes, the types that it carries, and its rows.
 abbrev pub RequestsHaveTheirSize : Type 0

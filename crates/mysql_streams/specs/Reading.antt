@@ -33,7 +33,7 @@ pub record AreMeanings (query : List ℕ) (sets : List (List ℕ) → List Given
   pub each : HaveContents values contents
 
 -- these contents are what the sets mean, and the stream reads as them, to its end
-pub record ReadsAs (query : List ℕ) (sets : List (List ℕ) → List Given) (id limit : ℕ) (stream : List ℕ) (contents : List Set) : Type 0 where
+pub record StreamReadsAs (query : List ℕ) (sets : List (List ℕ) → List Given) (id limit : ℕ) (stream : List ℕ) (contents : List Set) : Type 0 where
   pub meanings : AreMeanings query sets contents
   pub audit : AuditOf query id limit stream (record { sets = contents; ending = Whole })
 
@@ -42,7 +42,7 @@ pub record ReadsBack (query : List ℕ) (sets : List (List ℕ) → List Given) 
   pub stream : List ℕ
   pub appended : new ≡ old ++ stream
   pub contents : List Set
-  pub reads : ReadsAs query sets id limit stream contents
+  pub reads : StreamReadsAs query sets id limit stream contents
 
 -- Each front of the stream of these payloads reads, without a fault, as exactly the contents of the sets of the payloads that stand whole in it.
 abbrev pub FrontsRead : List ℕ → ℕ → ℕ → List SentPayload → Type 0

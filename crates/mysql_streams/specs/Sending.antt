@@ -4,7 +4,6 @@ use Rattle.std.specs.Prelude.{◌≡◌, ◌⊎◌, ◌≤◌, ◌+◌, ◌-◌,
 use Rattle.mysql_wire.specs.Stream.{framings}
 use Rattle.mysql_wire.specs.Stream.Numbering.{EachFromZero}
 use Rattle.mysql_values.specs.Value.{Value}
-use Rattle.mysql_values.specs.declared.params.Params.{Params}
 use Rattle.mysql_values.specs.Tokens.{HasTokens}
 use Rattle.mysql_values.specs.Parsed.{names_of}
 use Rattle.mysql_bulk_builder.specs.TypedCut.{IsTypedCut, Part, TypedCutFits}
@@ -12,7 +11,7 @@ use Rattle.mysql_streams.specs.declared.refusal.Refusal.{Refusal}
 use Rattle.mysql_streams.specs.declared.refusal.Refusal.TheVariants as refusals
 use Rattle.mysql_streams.specs.declared.road.Road.{Road}
 use Rattle.mysql_streams.specs.declared.road.Road.TheVariants.{Text, Execute, Bulk}
-use Rattle.mysql_streams.specs.Sets.{Given, all_given}
+use Rattle.mysql_streams.specs.Sets.{Given}
 use Rattle.mysql_streams.specs.Sent.{AreSent, SentPayload, Statement, payloads_of, statement_of}
 use Rattle.mysql_streams.specs.Cause.{cause_of}
 
@@ -36,13 +35,6 @@ pub record IsCause (road : Road) (query : List ℕ) (sets : List (List ℕ) → 
 -- why they are refused: Memory may stand in place of any answer; each other refusal is the first cause
 abbrev pub RefusesGiven : Road → List ℕ → (List (List ℕ) → List Given) → ℕ → ℕ → Refusal → Type 0
 RefusesGiven road query sets id limit refusal = (refusal ≡ refusals.Memory) ⊎ IsCause road query sets id limit refusal
-
--- what is appended of parameter sets of a query by a road, and why they are refused
-abbrev pub Sends : Road → List ℕ → List Params → ℕ → ℕ → List ℕ → List ℕ → Type 0
-Sends road query sets id limit old new = SendsGiven road query (all_given sets) id limit old new
-
-abbrev pub Refuses : Road → List ℕ → List Params → ℕ → ℕ → Refusal → Type 0
-Refuses road query sets id limit refusal = RefusesGiven road query (all_given sets) id limit refusal
 
 -- By bulk no cut of the sets' values that fits, whichever of its parts carry types, has fewer requests than stand behind the prepare.
 abbrev pub HasFewest : Road → Statement → ℕ → List (List Value) → List SentPayload → Type 0

@@ -6,6 +6,6 @@ use Rattle.mysql_senders.proofs.executions.put_values.Goals as goal
 pub returns-clause-ok : goal.returns-clause-ok
 returns-clause-ok c =
     on_ok c.put_sized.result
-    (appended_set c.args.statement.now.id (record { places = c.args.statement.now.places; bytes = c.args.room }) c.args.set (map (λ value. value.now) c.args.values.now) c.args.out.now.items c.put_sized.new.out.items
+    (appended_set c.args.id (record { places = c.args.places; bytes = c.args.room }) c.args.set (map (λ value. value.now) c.args.values.now) c.args.out.now.items c.put_sized.new.out.items
     c.in_ok-size.ensures.ok c.values_fit.ensures)
     c.put_sized.ensures.ok
