@@ -17,16 +17,15 @@ use Rattle.mysql_streams.specs.declared.road.Road.TheVariants.{Execute}
 use Rattle.mysql_streams.specs.Cause.{Limits, cause_if, cause_of, first_of_sets, max_places, query_cause, set_cause}
 use Rattle.mysql_streams.specs.Commands.{prepare_command}
 use Rattle.mysql_streams.specs.Sent.{Statement, parsed_of}
-use Rattle.mysql_recoding.specs.declared.errors.RecodeError.{RecodeError}
 use Rattle.mysql_recoding.specs.declared.errors.RecodeError.TheVariants as errors
 use Rattle.mysql_recoding.specs.Causes.{ending_cause, error_for, recoding_cause, values_of_sets}
 
 -- where neither is an answer, neither is
-neither : {X : Type 0} (first second : Option X) → option_or first second ≡ None → (first ≡ None) × (second ≡ None)
+pub neither : {X : Type 0} (first second : Option X) → option_or first second ≡ None → (first ≡ None) × (second ≡ None)
 neither None second none = (refl, none)
 neither (Some answer) second none = cc
 
-or_none : {X : Type 0} (first : Option X) → option_or first None ≡ first
+pub or_none : {X : Type 0} (first : Option X) → option_or first None ≡ first
 or_none None = refl
 or_none (Some answer) = refl
 
@@ -54,13 +53,13 @@ whole_cause statement limit audit whole =
     (cause_if (nat_lt (limit - 4) (length (prepare_command (parsed_of statement.tokens)))) refusals.PrepareTooLarge)
     (first_of_sets (set_cause (λ values. execute_command statement.id values false) (record { places = length statement.places; bytes = limit - 4 })) 0 (map Ok (values_of_sets audit.sets)))
 
-is_whole : (ending : End) → ending_cause ending ≡ None → ending ≡ Whole
+pub is_whole : (ending : End) → ending_cause ending ≡ None → ending ≡ Whole
 is_whole (Fault payload fault) none = cc
 is_whole WaitingPieces none = cc
 is_whole UnfinishedPacket none = cc
 is_whole Whole none = refl
 
-no_error : (cause : Option Refusal) → option_map error_for cause ≡ None → cause ≡ None
+pub no_error : (cause : Option Refusal) → option_map error_for cause ≡ None → cause ≡ None
 no_error None none = refl
 no_error (Some refusal) none = absurd (cc)
 

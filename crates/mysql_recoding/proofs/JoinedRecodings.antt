@@ -43,12 +43,12 @@ back_holds P [] ys each = each
 back_holds P (x ∷ xs) ys each = back_holds P xs ys each.1
 
 -- the values of joined sets
-values_joined : (sets others : List Set) → values_of_sets (sets ++ others) ≡ values_of_sets sets ++ values_of_sets others
+pub values_joined : (sets others : List Set) → values_of_sets (sets ++ others) ≡ values_of_sets sets ++ values_of_sets others
 values_joined sets others = map-append (map content_value) sets others
 
 -- ---- the bytes of joined sets
 
-framings_joined : (payloads others : List (List ℕ)) → framings (payloads ++ others) EachFromZero ≡ framings payloads EachFromZero ++ framings others EachFromZero
+pub framings_joined : (payloads others : List (List ℕ)) → framings (payloads ++ others) EachFromZero ≡ framings payloads EachFromZero ++ framings others EachFromZero
 framings_joined [] others = refl
 framings_joined (payload ∷ payloads) others =
     ap (λ l. framing payload 0 ++ l) (framings_joined payloads others) ∙ sym (append_assoc (framing payload 0) (framings payloads EachFromZero) (framings others EachFromZero))

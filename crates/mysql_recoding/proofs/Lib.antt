@@ -13,3 +13,9 @@ pub mod Canonical
 pub mod SentAgain
 pub mod OneRecoding
 pub mod JoinedRecodings
+pub mod MoreSets
+pub mod Deciding
+pub mod QueryCauses
+pub mod RecoderSteps
+pub mod ComesOn
+pub mod CausesAgree

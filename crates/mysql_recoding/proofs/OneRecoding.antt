@@ -15,7 +15,7 @@ use Rattle.mysql_recoding.specs.Laws.{EqualSetsRecodeEqually, RecodingsAreDecide
 use Rattle.mysql_recoding.proofs.Canonical.{appended_form, canonical, recoded}
 
 -- a stream says one thing of a query and an id
-one_audit : StreamHasOneAudit → OneConversation → (query : List ℕ) (id limit : ℕ) (stream : List ℕ) (a b : Audit) → AreBytes stream → AuditOf query id limit stream a → AuditOf query id limit stream b → a ≡ b
+pub one_audit : StreamHasOneAudit → OneConversation → (query : List ℕ) (id limit : ℕ) (stream : List ℕ) (a b : Audit) → AreBytes stream → AuditOf query id limit stream a → AuditOf query id limit stream b → a ≡ b
 one_audit once one query id limit stream a b bytes first second =
     let same : second.0 ≡ first.0 = one query id second.0 first.0 second.1 first.1 in
     let found = once first.0 limit stream first.1.is_query bytes in

@@ -1,39 +1,52 @@
 -- What is sent of a stream's contents is its recoding, and why nothing is.
-use Rattle.std.proofs.Common.{◌≡◌, ◌⊎◌, inl, inr, ℕ, zero, suc, ◌+◌, ◌-◌, ◌<◌, true, List, [], ◌∷◌, ◌++◌, length, map, take, get_or, Option, Some, None, Result, Ok, Err, refl, sym, ◌∙◌, ap, subst}
-use Rattle.std.specs.Prelude.{IfErr}
+use Rattle.std.proofs.Common.{◌≡◌, ◌⊎◌, inl, inr, ℕ, zero, suc, ◌+◌, ◌-◌, ◌<◌, Bool, true, false, List, [], ◌∷◌, ◌++◌, length, map, take, get_or, Option, Some, None, Result, Ok, Err, refl, sym, ◌∙◌, ap, subst}
+use Rattle.std.specs.Prelude.{IfErr, if◌then◌else◌}
 use Rattle.std.specs.List.{flat_map}
 use Rattle.std.specs.Result.{IsErrAnd}
 use Rattle.std.proofs.lemmas.List.{append-nil, take_more}
 use Rattle.std.proofs.lemmas.Grind.{flat_map-append}
-use Rattle.std.specs.Option.{option_map}
+use Rattle.std.proofs.lemmas.List.Concat.{concat_is}
+use Rattle.std.proofs.lemmas.List.Folds.{flat_map-map}
+use Rattle.std.specs.Option.{option_map, option_or}
 use Rattle.mysql_wire.specs.Bytes.{AreBytes}
+use Rattle.mysql_values.specs.Place.{Place}
 use Rattle.mysql_values.specs.Queries.{HasMixed, is_mixed, places_from}
 use Rattle.mysql_values.specs.Tokens.{HasTokens}
 use Rattle.mysql_values.specs.Value.{Value}
-use Rattle.mysql_commands.specs.Audit.{Audit, AuditOf}
+use Rattle.mysql_commands.specs.Audit.{Audit, AuditOf, IsAbout}
 use Rattle.mysql_commands.specs.Laws.{StreamHasOneAudit}
 use Rattle.mysql_commands.specs.Layout.{Conversation}
 use Rattle.mysql_commands.specs.Query.{IsQuery}
+use Rattle.mysql_commands.specs.Receiving.{IsMemory, IsReceived}
+use Rattle.mysql_commands.specs.declared.audit.End.{End}
 use Rattle.mysql_commands.specs.declared.audit.End.TheVariants as ends
+use Rattle.mysql_commands.specs.declared.fault.StreamFault.TheVariants.{Memory}
 use Rattle.mysql_commands.specs.declared.receiver.ReceiverError.{ReceiverError}
 use Rattle.mysql_commands.specs.declared.receiver.ReceiverError.TheVariants as receiver_error
 use Rattle.mysql_streams.specs.declared.refusal.Refusal.{Refusal}
 use Rattle.mysql_streams.specs.declared.road.Road.TheVariants.{Execute}
+use Rattle.mysql_bulk_builder.specs.Causes.{first_some}
+use Rattle.mysql_streams.specs.Cause.{cause_of}
 use Rattle.mysql_streams.specs.Sending.{RefusesGiven, SendsGiven}
 use Rattle.mysql_streams.specs.Sent.{AreSent, parsed_of, statement_of}
 use Rattle.mysql_streams.specs.Sets.{Given, all_given_in_places}
 use Rattle.mysql_recoding.specs.declared.errors.RecodeError.{RecodeError}
 use Rattle.mysql_recoding.specs.declared.errors.RecodeError.TheVariants as errors
-use Rattle.mysql_recoding.specs.Causes.{error_for, recoding_cause, values_of_sets}
+use Rattle.mysql_recoding.specs.Causes.{ending_cause, error_for, recoding_cause, values_of_sets}
 use Rattle.mysql_recoding.specs.Recoding.{IsRecodingCause, Recodes, RefusesRecoding}
 use Rattle.mysql_recoding.proofs.Causes.{no_cause, whole_cause}
 
 -- the conversation about a query with these tokens
-conversation_of : List ℕ → List (List ℕ) → ℕ → Conversation
+pub conversation_of : List ℕ → List (List ℕ) → ℕ → Conversation
 conversation_of query tokens id = record { query = record { text = query; parsed = parsed_of tokens; places = places_from query 0 tokens }; id = id }
 
+-- it is about the query
+pub is_about : (query : List ℕ) (tokens : List (List ℕ)) (id : ℕ) → HasTokens query tokens → IsAbout (conversation_of query tokens id) query id
+unfolding conversation_of
+is_about query tokens id has = record { is_query = record { parsed = (tokens, has, refl); places = (tokens, has, refl) }; text = refl; id_is = refl }
+
 -- bytes and bytes behind them are bytes
-bytes_append : (front back : List ℕ) → AreBytes front → AreBytes back → AreBytes (front ++ back)
+pub bytes_append : (front back : List ℕ) → AreBytes front → AreBytes back → AreBytes (front ++ back)
 bytes_append [] back f b i = b i
 bytes_append (x ∷ front) back f b zero = f zero
 bytes_append (x ∷ front) back f b (suc i) = bytes_append front back (λ j. f (suc j)) b i
@@ -48,22 +61,49 @@ one_more_piece f pieces i d within before next =
 
 -- where both kinds of placeholder occur, that is the cause
 pub mixed_is_cause : StreamHasOneAudit → (query : List ℕ) (id limit : ℕ) (stream : List ℕ) → AreBytes stream → HasMixed query true → IsRecodingCause query id limit stream errors.Mixed
-unfolding conversation_of
 mixed_is_cause one_audit query id limit stream bytes mixed =
     let tokens : List (List ℕ) = mixed.1.0 in
     let has : HasTokens query tokens = mixed.1.1 in
-    let is_query : IsQuery ((conversation_of query tokens id).query) = record { parsed = (tokens, has, refl); places = (tokens, has, refl) } in
-    let found = one_audit (conversation_of query tokens id) limit stream is_query bytes in
+    let about : IsAbout (conversation_of query tokens id) query id = is_about query tokens id has in
+    let found = one_audit (conversation_of query tokens id) limit stream about.is_query bytes in
     record {
       tokens = tokens;
       has = has;
       audit = found.0;
-      says = (conversation_of query tokens id, record { is_query = is_query; text = refl; id_is = refl }, found.1);
+      says = (conversation_of query tokens id, about, found.1);
       first = first found.0 (mixed.2 ∙ ap is_mixed mixed.1.2);
     }
   where
     first : (audit : Audit) → true ≡ is_mixed (places_from query 0 mixed.1.0) → recoding_cause (statement_of query mixed.1.0 id) limit audit ≡ Some errors.Mixed
     first audit is = rw (sym is)
+
+-- the audit that was received of pieces is that of the bytes that they make one after another
+pub received_audit : {X : Type 0} (f : X → List ℕ) (pieces : List X) (query : List ℕ) (id limit : ℕ) (answer : Audit) → IsReceived query id limit (map f pieces) answer
+    → (IsMemory answer.ending → ⊥) → AuditOf query id limit (flat_map f pieces) answer
+received_audit f pieces query id limit answer is known = subst (λ (bytes : List ℕ). AuditOf query id limit bytes answer) (concat_is (map f pieces) ∙ flat_map-map (λ l. l) f pieces) (is.audit known)
+
+-- memory did not run out over a whole stream
+pub whole_is_known : (ending : End) → ending ≡ ends.Whole → IsMemory ending → ⊥
+whole_is_known ending whole memory =
+    let same : ends.Whole ≡ ends.Fault memory.0 Memory = sym whole ∙ memory.1 in cc
+
+-- a stream of one kind of placeholder is refused for how it ends
+pub end_is_cause : (query : List ℕ) (id limit : ℕ) (stream : List ℕ) (audit : Audit) (error : RecodeError) → HasMixed query false → ((IsMemory audit.ending → ⊥) → AuditOf query id limit stream audit)
+    → ((error ≡ errors.Memory) × IsMemory audit.ending) ⊎ ((ending_cause audit.ending ≡ Some error) × (IsMemory audit.ending → ⊥)) → RefusesRecoding query id limit stream error
+end_is_cause query id limit stream audit error one says (inl memory) = inl memory.0
+end_is_cause query id limit stream audit error one says (inr cause) =
+    let tokens : List (List ℕ) = one.1.0 in
+    let places : List Place = places_from query 0 tokens in
+    let sets : Option RecodeError = option_map error_for (cause_of Execute (statement_of query tokens id) limit (map Ok (values_of_sets audit.sets))) in
+    let alone : is_mixed places ≡ false = sym (one.2 ∙ ap is_mixed one.1.2) in
+    inr record {
+      tokens = tokens;
+      has = one.1.1;
+      audit = audit;
+      says = says cause.1;
+      first = ap (λ (mixed : Bool). first_some ((if mixed then Some errors.Mixed else None) ∷ ending_cause audit.ending ∷ sets ∷ [])) alone
+          ∙ ap (λ (ending : Option RecodeError). option_or ending (first_some (sets ∷ []))) cause.0;
+    }
 
 -- what a receiver that can't be made is answered by
 pub refused_before : StreamHasOneAudit → (query : List ℕ) (id limit : ℕ) (stream : List ℕ) → AreBytes stream → {T : Type 0} (result : Result T RecodeError) (why : ReceiverError)

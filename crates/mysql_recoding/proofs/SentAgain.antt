@@ -13,11 +13,33 @@ use Rattle.mysql_streams.specs.Sent.{Statement, statement_of}
 use Rattle.mysql_streams.specs.Sets.{all_given_in_places}
 use Rattle.mysql_streams.specs.declared.road.Road.TheVariants.{Execute}
 use Rattle.mysql_recoding.specs.Causes.{values_of_sets}
-use Rattle.mysql_recoding.specs.Laws.{CarriedSetsFillPlaces, FillsPlaces, RecodingsCarryTheSame, RecodingsRecodeToThemselves}
+use Rattle.mysql_recoding.specs.Laws.{CarriedSetsFillPlaces, FillsPlaces, RecodingsAreSent, RecodingsCarryTheSame, RecodingsRecodeToThemselves}
 use Rattle.mysql_recoding.specs.Recoding.{Recodes}
 use Rattle.mysql_recoding.proofs.Canonical.{appended}
 use Rattle.mysql_recoding.proofs.Causes.{free_of_causes, no_cause, recodable}
 use Rattle.mysql_recoding.proofs.SentContents.{one_contents, sets_fit, sets_held}
+
+-- what is appended is what execute sends of the sets, and can be read back
+pub are_sent : CarriedSetsFillPlaces → ExecutionsHaveSizes → RecodingsAreSent
+are_sent fill_places sizes query id limit stream old new small bytes is =
+    let statement : Statement = statement_of query is.tokens id in
+    let sets : List Set = is.audit.sets in
+    let none : cause_of Execute statement limit (map Ok (values_of_sets sets)) ≡ None = (recodable statement limit is.audit is.none).1 in
+    let room : limit - 4 < 2 ^ 64 = omega arith in
+    let fill = fill_places query is.tokens id limit stream is.audit is.has bytes is.says in
+    record {
+      sends = record {
+        tokens = is.tokens;
+        has = is.has;
+        values = values_of_sets sets;
+        given = refl;
+        none = none;
+        sent = is.sent;
+        are_sent = is.are_sent;
+        appended = is.appended;
+      };
+      readable = sets_fit sizes id (limit - 4) statement.places sets room fill (free_of_causes statement limit (values_of_sets sets) none).1;
+    }
 
 -- the sets are sent by execute, and can be read back
 sent_again : ExecutionsHaveSizes → (query : List ℕ) (id limit : ℕ) (stream old recoded : List ℕ) → limit < 2 ^ 64 → (is : Recodes query id limit stream old (old ++ recoded))

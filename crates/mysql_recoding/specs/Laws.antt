@@ -16,7 +16,9 @@ use Rattle.mysql_commands.specs.declared.audit.End.TheVariants.{Whole}
 use Rattle.mysql_commands.specs.Audit.{Audit, AuditOf}
 use Rattle.mysql_commands.specs.Reading.{Set}
 use Rattle.mysql_streams.specs.Cause.{given_cause, limits_of}
+use Rattle.mysql_streams.specs.Reading.{SentReadable}
 use Rattle.mysql_streams.specs.Sent.{AreSent, SentPayload, Statement, payloads_of, prepare_of, statement_of}
+use Rattle.mysql_streams.specs.Sets.{all_given_in_places}
 use Rattle.mysql_streams.specs.declared.road.Road.TheVariants.{Execute}
 use Rattle.mysql_recoding.specs.declared.errors.RecodeError.{RecodeError}
 use Rattle.mysql_recoding.specs.Causes.{recoding_cause, values_of_sets}
@@ -45,6 +47,12 @@ abbrev pub RecodingsCarryTheSame : Type 0
 RecodingsCarryTheSame =
     (query : List ℕ) (id limit : ℕ) (stream old recoded : List ℕ) → id < 2 ^ 32 → 4 ≤ limit → limit < 2 ^ 64 → length recoded < 2 ^ 64 → AreBytes stream
     → (is : Recodes query id limit stream old (old ++ recoded)) → AuditOf query id limit recoded (record { sets = is.audit.sets; ending = Whole })
+
+-- What recoding appends is what execute sends of the values of the stream's contents, in a form that can be read back.
+abbrev pub RecodingsAreSent : Type 0
+RecodingsAreSent =
+    (query : List ℕ) (id limit : ℕ) (stream old new : List ℕ) → limit < 2 ^ 64 → AreBytes stream
+    → (is : Recodes query id limit stream old new) → SentReadable Execute query (all_given_in_places (values_of_sets is.audit.sets)) id limit old new
 
 -- What recoding appends, in fewer than 2 ^ 64 bytes, recodes to the same bytes.
 abbrev pub RecodingsRecodeToThemselves : Type 0

@@ -1,12 +1,15 @@
 //! Laws of recoding. Functions without a result do nothing: their contracts are the laws.
 
-ghost use Rattle.mysql_recoding.specs.Laws.{CarriedSetsFillPlaces, EqualSetsRecodeEqually, JoinedStreamsRecode, RecodingsAreDecided, RecodingsCarryTheSame, RecodingsRecodeToThemselves};
+ghost use Rattle.mysql_recoding.specs.AsItComes.{RecodedAsItComes};
+ghost use Rattle.mysql_recoding.specs.Laws.{CarriedSetsFillPlaces, EqualSetsRecodeEqually, JoinedStreamsRecode, RecodingsAreDecided, RecodingsAreSent, RecodingsCarryTheSame, RecodingsRecodeToThemselves};
 
-use mysql_commands::laws::{stream_has_one_audit, whole_streams_join};
+use mysql_commands::laws::{
+    start_decides_the_audit, stream_has_one_audit, there_is_one_audit, whole_streams_join,
+};
 use mysql_stmt::laws::executions_have_sizes;
 use mysql_streams::laws::{conversations_are_one, sent_values_are_carried};
 use mysql_values::laws::tokens_of_a_text;
-use mysql_wire::laws::framed_come_first;
+use mysql_wire::laws::{framed_come_first, reader_laws};
 
 /// Each set that a stream carries has as many contents as the query has placeholders, its numbers are from -2^63 to 2^64-1, and of the
 /// values that it is sent as none is a float.
@@ -22,6 +25,14 @@ pub fn recodings_carry_the_same()
 {
     carried_sets_fill_places();
     sent_values_are_carried();
+    executions_have_sizes();
+}
+
+/// What recoding appends is what execute sends of the values that the stream's contents are sent as.
+pub fn recodings_are_sent()
+    ensures { RecodingsAreSent }
+{
+    carried_sets_fill_places();
     executions_have_sizes();
 }
 
@@ -58,4 +69,17 @@ pub fn joined_streams_recode()
     whole_streams_join();
     conversations_are_one();
     framed_come_first();
+}
+
+/// What a [`Recoder`](crate::Recoder) appends of a stream, however its bytes are cut, is what [`recode`](crate::recode) appends of all
+/// bytes, and what it refuses is the first cause in the order of the stream.
+pub fn recoded_as_it_comes()
+    ensures { RecodedAsItComes }
+{
+    stream_has_one_audit();
+    conversations_are_one();
+    tokens_of_a_text();
+    start_decides_the_audit();
+    there_is_one_audit();
+    reader_laws();
 }

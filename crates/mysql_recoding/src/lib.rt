@@ -4,6 +4,8 @@
 mod errors;
 pub mod laws;
 mod recoder;
+mod whole;
 
 pub use errors::RecodeError;
-pub use recoder::{recode, send_contents};
+pub use recoder::Recoder;
+pub use whole::{recode, send_contents};

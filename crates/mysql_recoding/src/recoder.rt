@@ -1,185 +1,277 @@
-//! Streams of commands, and contents, as executions.
+//! Streams of commands as executions, as their bytes come.
 
-ghost use Rattle.std.specs.Prelude.{◌≡◌, ◌≤◌, ◌⊎◌, IfErr, IfOk, OnErr, OnOk, Some, flat_map, map, ℕ};
-ghost use Rattle.mysql_wire.specs.Bytes.{AreBytes};
-ghost use Rattle.mysql_values.specs.Contents.{content_value};
-ghost use Rattle.mysql_commands.specs.declared.audit.End.TheVariants as ends;
-ghost use Rattle.mysql_commands.specs.Audit.{AuditOf};
-ghost use Rattle.mysql_commands.specs.Receiving.{audit_of};
-ghost use Rattle.mysql_streams.specs.declared.refusal.Refusal.TheVariants as refusals;
-ghost use Rattle.mysql_streams.specs.Reading.{SentReadable};
-ghost use Rattle.mysql_streams.specs.Sending.{RefusesGiven};
-ghost use Rattle.mysql_streams.specs.Sets.{all_given_in_places};
-ghost use Rattle.mysql_streams.specs.declared.road.Road.TheVariants as roads;
+ghost use Rattle.std.specs.Prelude.{◌≡◌, ◌≤◌, ◌++◌, ◌⊎◌, ℕ, List, Err, IfErr, IfOk, IfSome, None, OnErr, OnOk, Some, length, take};
+ghost use Rattle.std.specs.Option.{option_map};
 ghost use Rattle.mysql_commands.specs.Views.{sets_of};
-ghost use Rattle.mysql_recoding.specs.Causes.{error_for, values_of_sets};
-ghost use Rattle.mysql_recoding.specs.Recoding.{Recodes, RefusesRecoding};
+ghost use Rattle.mysql_recoding.specs.declared.errors.RecodeError.TheVariants as recode_error;
+ghost use Rattle.mysql_recoding.specs.Causes.{error_for};
+ghost use Rattle.mysql_recoding.specs.AsItComes.{Finishes, IsNewRecoder, RecodesPiece, RefusesEnd, RefusesPiece, RefusesQuery, answer_by, recoder_state, sets_cause};
+ghost use Rattle.mysql_recoding.specs.Steps.{AppendsTo, CanBePrepared, PutsSets, ReadsPiece, RefusesSetsFrom};
 
 use crate::errors::RecodeError;
-use mysql_commands::laws::stream_has_one_audit;
-use mysql_commands::{Audit, Content, receive};
-use mysql_senders::put_executions_of_values;
-use mysql_streams::Refusal;
-use mysql_to_values::ToValue;
-use mysql_values::Value;
+use crate::whole::{refused, values_of_all};
+use mysql_commands::laws::there_is_one_audit;
+use mysql_commands::{Content, Receiver, StreamFault};
+use mysql_senders::put_more_executions;
+use mysql_senders::statement::{put_prepare, statement_of};
+use mysql_wire::laws::one_split;
 use std::alloc::Global;
+use std::marker::Model;
 
-/// The value that a content is sent as. Its bytes are moved.
-fn value_of(alloc: Global, content: Content) -> Result<Value, Refusal>
-    ensures ok { IfOk result (λ value. value ≡ content_value content) }
-    ensures err { IfErr result (λ refusal. refusal ≡ refusals.Memory) }
-{
-    match content {
-        Content::Null => Ok(Value::NULL),
-        Content::Number(number) => match number.to_value(alloc) {
-            Ok(value) => Ok(value),
-            Err(_) => Err(Refusal::Memory),
-        },
-        Content::Bytes(bytes) => Ok(Value::Bytes(bytes)),
-    }
+/// Recodes a stream of commands whose bytes come in pieces, as [`recode`](crate::recode) does a whole one. It holds the packet that
+/// isn't whole, the long data that waits, the types in force, the number of the sets so far, and the prepare until it is appended.
+#[derive(Drop)]
+pub struct Recoder {
+    alloc: Global,
+    receiver: Receiver,
+    stmt_id: u32,
+    places: usize,
+    limit: usize,
+    count: usize,
+    prepare: Vec<u8>,
+    refused: Option<RecodeError>,
 }
 
-/// The values of a set of contents, place by place.
-fn values_of_set(alloc: Global, set: Vec<Content>) -> Result<Vec<Value>, Refusal>
-    ensures ok { IfOk result (λ values. values.items ≡ map content_value set.items) }
-    ensures err { IfErr result (λ refusal. refusal ≡ refusals.Memory) }
-{
-    let mut values = Vec::new(alloc);
-    'contents: for content in set {
-        values.push(value_of(alloc, content)?)?;
-    }
-    Ok(values)
+impl Model for Recoder {
+    ghost use Rattle.mysql_recoding.specs.AsItComes.{Recoded};
+
+    ghost Value = { Recoded };
+
+    ghost use Rattle.mysql_recoding.specs.Inside.{recoder_of, IsKept};
+
+    ghost view = { recoder_of };
+
+    ghost invariant = { IsKept };
 }
 
-/// The values of all sets.
-fn values_of_all(alloc: Global, sets: Vec<Vec<Content>>) -> Result<Vec<Vec<Value>>, Refusal>
-    ensures ok { IfOk result (λ all. map (λ values. values.items) all.items ≡ values_of_sets (sets_of sets.items)) }
-    ensures err { IfErr result (λ refusal. refusal ≡ refusals.Memory) }
-{
-    let mut all = Vec::new(alloc);
-    'sets: for set in sets {
-        all.push(values_of_set(alloc, set)?)?;
-    }
-    Ok(all)
-}
-
-/// Appends to `out` the commands that carry sets of contents of a query to a server, as [`recode`] does of what a stream carries:
-/// one prepare, also where there are no sets, and an execution of the statement `stmt_id` for each set, its contents in the order
-/// of the placeholders: nothing as NULL, a number as `Int` where it fits, else as `UInt`, bytes as `Bytes`. No bytes are copied but
-/// into `out`. The limit is at least 4; a payload has at most `limit - 4` bytes.
-///
-/// # Errors
-/// The first cause that holds, in the order of [`Refusal`]: `Mixed`, `TooManyPlaces`, `PrepareTooLarge`; set by set `WrongCount`,
-/// `PacketTooLarge`; `Memory` where a growth was refused. `out` is then as it was.
-///
-/// (MySQL: Client/Server Protocol, "COM_STMT_PREPARE", "COM_STMT_SEND_LONG_DATA", "COM_STMT_EXECUTE".)
-pub fn send_contents(
+/// The prepare of a query as it is framed, and how many placeholders it has.
+fn prepared(
     alloc: Global,
     query: &[u8],
-    sets: Vec<Vec<Content>>,
     stmt_id: u32,
     limit: usize,
-    out: &mut Vec<u8>,
-) -> Result<(), Refusal>
+) -> Result<(usize, Vec<u8>), RecodeError>
     requires { 4 ≤ limit }
-    ensures sent { OnOk result (SentReadable roads.Execute query.now (all_given_in_places (values_of_sets (sets_of sets.items))) stmt_id limit out.old.items out.new.items) }
-    ensures refused { IfErr result (RefusesGiven roads.Execute query.now (all_given_in_places (values_of_sets (sets_of sets.items))) stmt_id limit) }
-    ensures kept { OnErr result (out.new.items ≡ out.old.items) }
+    ensures ok { IfOk result (λ found. CanBePrepared query.now stmt_id limit found.0 found.1.items) }
+    ensures few { IfOk result (λ found. found.0 ≤ 65535) }
+    ensures err { IfErr result (RefusesQuery query.now stmt_id limit) }
 {
-    let start = out.len();
-    let values = values_of_all(alloc, sets)?;
-    match put_executions_of_values(alloc, query, &values, stmt_id, limit, out) {
-        Ok(()) => Ok(()),
-        Err(refusal) => {
-            out.truncate(start);
-            Err(refusal)
+    let statement = match statement_of(alloc, query, stmt_id) {
+        Ok(statement) => statement,
+        Err(refusal) => return Err(refused(refusal)),
+    };
+    let mut prepare = Vec::new(alloc);
+    match put_prepare(alloc, &statement, limit - 4, &mut prepare) {
+        Ok(()) => Ok((statement.places, prepare)),
+        Err(refusal) => Err(refused(refusal)),
+    }
+}
+
+/// Reads the next piece. Answers the sets of the payloads that stand whole with it, which the receiver
+/// holds no more, and the fault behind them.
+fn read_piece(
+    receiver: &mut Receiver,
+    piece: &[u8],
+) -> Result<(Vec<Vec<Content>>, Option<RecodeError>), RecodeError>
+    ensures ok { IfOk result (λ read. ReadsPiece receiver.old piece.now (sets_of read.0.items) read.1 receiver.new) }
+    ensures err { IfErr result (λ error. error ≡ recode_error.Memory) }
+    ensures conversation { receiver.new.conversation ≡ receiver.old.conversation }
+    ensures limit { receiver.new.limit ≡ receiver.old.limit }
+{
+    match receiver.feed(piece) {
+        Ok(()) => Ok((receiver.take_sets(), None)),
+        Err(StreamFault::Memory) => Err(RecodeError::Memory),
+        Err(fault) => {
+            let error = RecodeError::Stream(receiver.payloads(), fault);
+            Ok((receiver.take_sets(), Some(error)))
         }
     }
 }
 
-/// A piece holds bytes: a fact that the proofs below use.
-fn are_bytes(piece: &[u8])
-    ensures { AreBytes piece.now }
-{
-    let _first = piece.first();
-}
-
-/// So does what the pieces make one after another.
-fn all_are_bytes(pieces: &[&[u8]])
-    ensures { AreBytes (flat_map (λ piece. piece.now) pieces.now) }
-{
-    'pieces: for piece in pieces {
-        are_bytes(piece);
-    }
-}
-
-/// What a stream says, where it is whole.
-fn whole_audit(
+/// Appends the prepare, and the executions of sets of the statement, of which the first has the number `first`. Answers the number
+/// behind them.
+fn put_sets(
     alloc: Global,
-    query: &[u8],
     stmt_id: u32,
+    places: usize,
     limit: usize,
-    pieces: &[&[u8]],
-) -> Result<Audit, RecodeError>
-    requires { 4 ≤ limit }
-    ensures says { IfOk result (λ audit. AuditOf query.now stmt_id limit (flat_map (λ piece. piece.now) pieces.now) (audit_of audit)) }
-    ensures whole { IfOk result (λ audit. audit.end ≡ ends.Whole) }
-    ensures refused { IfErr result (RefusesRecoding query.now stmt_id limit (flat_map (λ piece. piece.now) pieces.now)) }
-{
-    stream_has_one_audit();
-    all_are_bytes(pieces);
-    let audit = receive(alloc, query, stmt_id, limit, pieces)?;
-    match RecodeError::of_end(audit.end) {
-        Some(error) => Err(error),
-        None => Ok(audit),
-    }
-}
-
-/// What a refusal of contents that a stream carries makes of the recoding. They are as many as the placeholders and no floats, so
-/// that the other refusals never come.
-fn refused(refusal: Refusal) -> RecodeError
-    ensures { result ≡ error_for refusal }
-{
-    match refusal {
-        Refusal::Mixed => RecodeError::Mixed,
-        Refusal::TooManyPlaces => RecodeError::TooManyPlaces,
-        Refusal::PrepareTooLarge => RecodeError::PrepareTooLarge,
-        Refusal::PacketTooLarge(set) => RecodeError::PacketTooLarge(set),
-        _ => RecodeError::Memory,
-    }
-}
-
-/// Appends to `out` the canonical form of what a stream of commands carries, whose bytes are those of the pieces, one after
-/// another, however they are cut: one prepare, also where there are no sets, and an execution of the statement `stmt_id` for each
-/// set, before it, where it would exceed 16777215 bytes, its byte strings as long data. Nothing is sent as NULL, a number as `Int`
-/// where it fits, else as `UInt`, bytes as `Bytes`. Streams of the same query, id and limit that carry the same sets are recoded
-/// to the same bytes, by whichever commands and types they carry them; the laws stand in `laws`.
-///
-/// The stream was sent to the statement `stmt_id`; its payloads have at most `limit` bytes, and those that are appended at most
-/// `limit - 4`. The limit is at least 4.
-///
-/// # Errors
-/// The first cause that holds: `Mixed`; `Stream` with the payload's number and its fault; `Unfinished`; `TooManyPlaces`;
-/// `PrepareTooLarge`; `PacketTooLarge` with the set; `Memory` where a growth was refused. `out` is then as it was.
-///
-/// (MySQL: Client/Server Protocol, "COM_QUERY", "COM_STMT_PREPARE", "COM_STMT_SEND_LONG_DATA", "COM_STMT_EXECUTE"; MariaDB:
-/// Client/Server Protocol, "COM_STMT_BULK_EXECUTE".)
-pub fn recode(
-    alloc: Global,
-    query: &[u8],
-    stmt_id: u32,
-    limit: usize,
-    pieces: &[&[u8]],
+    first: usize,
+    prepare: &[u8],
+    sets: Vec<Vec<Content>>,
     out: &mut Vec<u8>,
-) -> Result<(), RecodeError>
-    requires { 4 ≤ limit }
-    ensures recoded { OnOk result (Recodes query.now stmt_id limit (flat_map (λ piece. piece.now) pieces.now) out.old.items out.new.items) }
-    ensures refused { IfErr result (RefusesRecoding query.now stmt_id limit (flat_map (λ piece. piece.now) pieces.now)) }
-    ensures kept { OnErr result (out.new.items ≡ out.old.items) }
+) -> Result<usize, RecodeError>
+    requires limit { 4 ≤ limit }
+    requires places { places ≤ 65535 }
+    ensures ok { IfOk result (λ count. AppendsTo stmt_id places limit first prepare.now (sets_of sets.items) out.old.items out.new.items count) }
+    ensures err { IfErr result (RefusesSetsFrom stmt_id places limit first (sets_of sets.items)) }
+    ensures kept { take (length out.old.items) out.new.items ≡ out.old.items }
 {
-    let audit = whole_audit(alloc, query, stmt_id, limit, pieces)?;
-    match send_contents(alloc, query, audit.sets, stmt_id, limit, out) {
-        Ok(()) => Ok(()),
+    let count = match first.checked_add(sets.len()) {
+        Some(count) => count,
+        None => return Err(RecodeError::Memory),
+    };
+    let values = match values_of_all(alloc, sets) {
+        Ok(values) => values,
+        Err(refusal) => return Err(refused(refusal)),
+    };
+    out.extend_from_slice(prepare)?;
+    match put_more_executions(alloc, stmt_id, places, first, &values, limit, out) {
+        Ok(()) => Ok(count),
         Err(refusal) => Err(refused(refusal)),
+    }
+}
+
+impl Recoder {
+    /// A recoder of a stream of commands about this query, whose statement was given the id `stmt_id`. What it appends are
+    /// executions of that statement.
+    ///
+    /// The limit is the `max_allowed_packet` of the side that the packets go to, and at least 4. Calls that write count 4 bytes
+    /// for a packet's header in it: a payload has at most `limit - 4` bytes. Calls that read count the payload alone: it has at most
+    /// `limit` bytes. The stream is read, and what is appended written.
+    ///
+    /// # Errors
+    /// The first cause that holds: `Mixed` where both names and question marks occur in the query, `TooManyPlaces`, `PrepareTooLarge`;
+    /// `Memory` where a growth was refused.
+    ///
+    /// (MySQL: Client/Server Protocol, "COM_STMT_PREPARE".)
+    pub fn new(
+        alloc: Global,
+        query: &[u8],
+        stmt_id: u32,
+        limit: usize,
+    ) -> Result<Recoder, RecodeError>
+        requires { 4 ≤ limit }
+        ensures new { IfOk result (λ recoder. IsNewRecoder query.now stmt_id limit (recoder_state recoder)) }
+        ensures refused { IfErr result (RefusesQuery query.now stmt_id limit) }
+    {
+        let (places, prepare) = prepared(alloc, query, stmt_id, limit)?;
+        let receiver = match Receiver::new(alloc, query, stmt_id, limit) {
+            Ok(receiver) => receiver,
+            // A query that can be prepared has one kind of placeholder.
+            Err(_) => return Err(RecodeError::Memory),
+        };
+        Ok(Recoder {
+            alloc,
+            receiver,
+            stmt_id,
+            places,
+            limit,
+            count: 0,
+            prepare,
+            refused: None,
+        })
+    }
+
+    /// Appends the executions of sets, and before the first set of all the prepare.
+    fn put(&mut self, sets: Vec<Vec<Content>>, out: &mut Vec<u8>) -> Result<(), RecodeError>
+        ensures ok { OnOk result (PutsSets self.old (sets_of sets.items) out.old.items out.new.items self.new) }
+        ensures err { IfErr result (λ error. (error ≡ recode_error.Memory) ⊎ (option_map error_for (sets_cause (recoder_state self.old).terms self.old.count (sets_of sets.items)) ≡ Some error)) }
+        ensures kept { take (length out.old.items) out.new.items ≡ out.old.items }
+        ensures unchanged { OnErr result (self.new ≡ self.old) }
+    {
+        if sets.is_empty() {
+            return Ok(());
+        }
+        self.count = put_sets(
+            self.alloc,
+            self.stmt_id,
+            self.places,
+            self.limit,
+            self.count,
+            &self.prepare,
+            sets,
+            out,
+        )?;
+        self.prepare = Vec::new(self.alloc);
+        Ok(())
+    }
+
+    /// Recodes the next piece. A refusal is not held yet, and what was appended before it stands.
+    fn recode_piece(&mut self, piece: &[u8], out: &mut Vec<u8>) -> Result<(), RecodeError>
+        ensures recoded { OnOk result ((appended : List ℕ) × (out.new.items ≡ out.old.items ++ appended) × RecodesPiece (recoder_state self.old).terms (recoder_state self.old) piece.now appended (recoder_state self.new)) }
+        ensures refused { IfErr result (RefusesPiece (recoder_state self.old) piece.now) }
+        ensures kept { take (length out.old.items) out.new.items ≡ out.old.items }
+        ensures terms { (recoder_state self.new).terms ≡ (recoder_state self.old).terms }
+        ensures unchanged { self.new.refused ≡ self.old.refused }
+    {
+        one_split();
+        there_is_one_audit();
+        let (sets, fault) = read_piece(&mut self.receiver, piece)?;
+        self.put(sets, out)?;
+        match fault {
+            Some(error) => Err(error),
+            None => Ok(()),
+        }
+    }
+
+    /// Takes the next piece of the stream, of any length, and appends to `out` the executions of the sets whose packets are whole with
+    /// it, in the order of the stream; before the first execution of all it appends the prepare. Each packet is numbered from 0.
+    ///
+    /// What all calls append, and [`finish`](Recoder::finish) behind them, is what [`recode`](crate::recode) appends of all bytes,
+    /// however they are cut. Sets are sent as [`send_contents`](crate::send_contents) sends them.
+    ///
+    /// # Errors
+    /// The first cause in the order of the stream: `PacketTooLarge` with the number of the set, among all sets of the stream; `Stream`
+    /// with the payload's number and its fault, which `recode` finds before it looks at sets; `Memory` where a growth was refused, or
+    /// more than 2^64-1 sets came. `out` is then as it was, also where sets of this piece stand before the cause. From then on each call
+    /// answers the same and changes nothing.
+    ///
+    /// (MySQL: Client/Server Protocol, "COM_QUERY", "COM_STMT_PREPARE", "COM_STMT_SEND_LONG_DATA", "COM_STMT_EXECUTE"; MariaDB:
+    /// Client/Server Protocol, "COM_STMT_BULK_EXECUTE".)
+    pub fn feed(&mut self, piece: &[u8], out: &mut Vec<u8>) -> Result<(), RecodeError>
+        ensures recoded { OnOk result ((appended : List ℕ) × (out.new.items ≡ out.old.items ++ appended) × RecodesPiece (recoder_state self.old).terms (recoder_state self.old) piece.now appended (recoder_state self.new)) }
+        ensures refused { self.old.refused ≡ None → IfErr result (RefusesPiece (recoder_state self.old) piece.now) }
+        ensures stays { IfSome self.old.refused (λ error. (result ≡ Err error) × (self.new ≡ self.old)) }
+        ensures answer { result ≡ answer_by self.new.refused }
+        ensures kept { OnErr result (out.new.items ≡ out.old.items) }
+        ensures terms { (recoder_state self.new).terms ≡ (recoder_state self.old).terms }
+    {
+        if let Some(error) = self.refused {
+            return Err(error);
+        }
+        let start = out.len();
+        match self.recode_piece(piece, out) {
+            Ok(()) => Ok(()),
+            Err(error) => {
+                out.truncate(start);
+                self.refused = Some(error);
+                Err(error)
+            }
+        }
+    }
+
+    /// Ends the stream. Where it carried no sets, it appends the prepare to `out`, as [`recode`](crate::recode) does.
+    ///
+    /// # Errors
+    /// What a call of [`feed`](Recoder::feed) refused; else `Unfinished` where long data waits or a packet isn't whole; `Memory` where
+    /// a growth was refused. `out` is then as it was.
+    ///
+    /// (MySQL: Client/Server Protocol, "COM_STMT_PREPARE", "COM_STMT_SEND_LONG_DATA".)
+    pub fn finish(self, out: &mut Vec<u8>) -> Result<(), RecodeError>
+        ensures finished { OnOk result ((appended : List ℕ) × (out.new.items ≡ out.old.items ++ appended) × Finishes (recoder_state self) appended) }
+        ensures refused { self.refused ≡ None → IfErr result (RefusesEnd (recoder_state self)) }
+        ensures stays { IfSome self.refused (λ error. result ≡ Err error) }
+        ensures kept { OnErr result (out.new.items ≡ out.old.items) }
+    {
+        if let Some(error) = self.refused {
+            return Err(error);
+        }
+        let Recoder {
+            alloc: _,
+            receiver,
+            stmt_id: _,
+            places: _,
+            limit: _,
+            count: _,
+            prepare,
+            refused: _,
+        } = self;
+        match RecodeError::of_end(receiver.finish().end) {
+            Some(error) => Err(error),
+            None => {
+                out.extend_from_slice(&prepare)?;
+                Ok(())
+            }
+        }
     }
 }

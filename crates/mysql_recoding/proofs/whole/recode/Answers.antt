@@ -1,7 +1,7 @@
 use Rattle.std.specs.List.{flat_map}
 use Rattle.mysql_commands.specs.Receiving.{audit_of}
 use Rattle.mysql_recoding.proofs.Recodings.{refused_is_cause, sent_is_recoded}
-use Rattle.mysql_recoding.proofs.recoder.recode.Goals as goal
+use Rattle.mysql_recoding.proofs.whole.recode.Goals as goal
 
 pub returns-in-Ok-clause-recoded : goal.returns-in-Ok-clause-recoded
 returns-in-Ok-clause-recoded c = sent_is_recoded c.args.query.now c.args.stmt_id c.args.limit (flat_map (λ piece. piece.now) c.args.pieces.now) (audit_of c.in_ok-audit.audit) c.in_ok-audit.ensures.says c.in_ok-audit.ensures.whole c.args.out.now.items c.send_contents.new.out.items c.in-Ok.ensures.sent.sends
