@@ -1,2 +1,3 @@
 pub mod OnAnswers
 pub mod ObjectSets
+pub mod Deliveries

@@ -18,7 +18,7 @@ use Rattle.mysql_convert.specs.Sets.Parts.{InOrder}
 use Rattle.mysql_streams.specs.declared.refusal.Refusal.{Refusal}
 use Rattle.mysql_streams.specs.declared.refusal.Refusal.TheVariants as refusals
 use Rattle.mysql_streams.specs.declared.road.Road.{Road}
-use Rattle.mysql_session.specs.Objects.{AreMade, RefusesValues, all_given_by_objects, given_by_objects, given_in_order, unless_refused}
+use Rattle.mysql_session.specs.Objects.{AreMade, all_given_by_objects, given_by_objects, given_in_order, unless_refused}
 use Rattle.mysql_session.specs.Laws.{MadeSetsGiveTheSame}
 use Rattle.mysql_streams.specs.Sets.{Given, all_given, given_by, given_up_to, values_of}
 use Rattle.mysql_streams.specs.Sent.{Statement, statement_of, whole_command}
@@ -213,7 +213,7 @@ module _ (road : Road) (query : List ℕ) (lists : List (List (Option Value))) (
           first.0 (first.1 []) (ap (λ l. first_of_sets cause 0 l) whole ∙ first.1 (map (given_by_objects names) left))
 
   -- why the made sets are refused is why the lists are
-  pub refused : (stop : Option SetError) (m : AreMadeUpTo lists sets stop) (refusal : Refusal) → RefusesGiven road query (given_up_to sets stop) id limit refusal → RefusesValues road query lists id limit refusal
+  pub refused : (stop : Option SetError) (m : AreMadeUpTo lists sets stop) (refusal : Refusal) → RefusesGiven road query (given_up_to sets stop) id limit refusal → RefusesGiven road query (all_given_by_objects lists) id limit refusal
   refused stop m refusal (inl memory) = inl memory
   refused stop m refusal (inr c) = inr record {
     tokens = c.tokens;

@@ -1,10 +1,46 @@
--- Lists of objects beside the parameter sets that are made of them.
--- MySQL Reference Manual, "PREPARE Statement" (parameter markers).
-use Rattle.std.specs.Prelude.{List, Option}
+-- The laws of sets that are delivered, and lists of objects beside the parameter sets that are made of them.
+-- MySQL: Client/Server Protocol, "Command Phase"; MySQL Reference Manual, "PREPARE Statement" (parameter markers).
+use Rattle.std.specs.Prelude.{◌≡◌, ℕ, ◌<◌, ◌≤◌, ◌^◌, List, ◌++◌, length, Option}
+use Rattle.std.specs.List.{concat}
+use Rattle.mysql_wire.specs.Bytes.{AreBytes}
 use Rattle.mysql_values.specs.Value.{Value}
 use Rattle.mysql_values.specs.declared.params.Params.{Params}
-use Rattle.mysql_streams.specs.Sets.{GiveTheSame, all_given}
+use Rattle.mysql_commands.specs.Audit.{Audit}
+use Rattle.mysql_commands.specs.Receiving.{IsMemory, IsReceived}
+use Rattle.mysql_streams.specs.declared.road.Road.{Road}
+use Rattle.mysql_streams.specs.declared.road.Road.TheVariants.{Execute}
+use Rattle.mysql_streams.specs.Laws.{IsDelivered}
+use Rattle.mysql_streams.specs.Reading.{SentReadable}
+use Rattle.mysql_streams.specs.Sets.{GiveTheSame, Given, all_given, all_given_in_places}
+use Rattle.mysql_recoding.specs.Causes.{values_of_sets}
+use Rattle.mysql_recoding.specs.Recoding.{Recodes}
+use Rattle.mysql_session.specs.Delivery.{Delivers, whole_of}
 use Rattle.mysql_session.specs.Objects.{AreMade, all_given_by_objects}
+
+-- Sets that were sent in a form that can be read back, in fewer than 2 ^ 64 bytes, are delivered.
+abbrev pub ReadableSetsAreDelivered : Type 0
+ReadableSetsAreDelivered =
+    (road : Road) (query : List ℕ) (sets : List (List ℕ) → List Given) (id limit : ℕ) (old new : List ℕ) → id < 2 ^ 32 → 4 ≤ limit → length new < 2 ^ 64 → AreBytes new
+    → SentReadable road query sets id limit old new → Delivers road query sets id limit old new
+
+-- Sets that are delivered were sent, are read back as what they mean, and each front of their stream reads as the sets that stand whole in it.
+abbrev pub DeliveriesAreReadBack : Type 0
+DeliveriesAreReadBack =
+    (road : Road) (query : List ℕ) (sets : List (List ℕ) → List Given) (id limit : ℕ) (old new : List ℕ)
+    → Delivers road query sets id limit old new → IsDelivered road query sets id limit old new
+
+-- Whatever `receive` answers of what was appended, in whichever pieces, but Memory, is what the sets mean, and Whole.
+abbrev pub DeliveriesAreReceived : Type 0
+DeliveriesAreReceived =
+    (road : Road) (query : List ℕ) (sets : List (List ℕ) → List Given) (id limit : ℕ) (old new : List ℕ) (pieces : List (List ℕ)) (answer : Audit)
+    → (delivery : Delivers road query sets id limit old new) → new ≡ old ++ concat pieces → IsReceived query id limit pieces answer
+    → (IsMemory answer.ending → ⊥) → answer ≡ whole_of delivery.contents
+
+-- What recoding appends, in fewer than 2 ^ 64 bytes, delivers by execute the values of the stream's contents.
+abbrev pub RecodingsAreDelivered : Type 0
+RecodingsAreDelivered =
+    (query : List ℕ) (id limit : ℕ) (stream old new : List ℕ) → id < 2 ^ 32 → 4 ≤ limit → limit < 2 ^ 64 → length new < 2 ^ 64 → AreBytes stream → AreBytes new
+    → (is : Recodes query id limit stream old new) → Delivers Execute query (all_given_in_places (values_of_sets is.audit.sets)) id limit old new
 
 -- Parameter sets that are made of lists of objects give every query what the lists give.
 abbrev pub MadeSetsGiveTheSame : Type 0

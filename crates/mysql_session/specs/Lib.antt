@@ -1,3 +1,9 @@
+pub mod Delivery
+pub use Rattle.mysql_convert.specs.Value
+pub use Rattle.mysql_convert.specs.Numbers
+pub use Rattle.mysql_convert.specs.Booleans
+pub use Rattle.mysql_convert.specs.Texts
+pub use Rattle.mysql_convert.specs.Durations
 pub mod Objects
 pub mod Made
 pub mod Laws

@@ -10,10 +10,6 @@ use Rattle.mysql_values.specs.declared.params.SetError.{SetError}
 use Rattle.mysql_values.specs.declared.params.SetError.TheVariants as set_error
 use Rattle.mysql_convert.specs.Sets.{IsMadeOf, too_long}
 use Rattle.mysql_convert.specs.Sets.Parts.{InOrder}
-use Rattle.mysql_streams.specs.declared.refusal.Refusal.{Refusal}
-use Rattle.mysql_streams.specs.declared.road.Road.{Road}
-use Rattle.mysql_streams.specs.Reading.{ReadsBack, SendsWhole}
-use Rattle.mysql_streams.specs.Sending.{RefusesGiven, SendsGiven}
 use Rattle.mysql_streams.specs.Sets.{Given}
 
 -- what values in order give a query with these names: no values are the empty set, and a query with names takes no others
@@ -38,18 +34,3 @@ all_given_by_objects sets names = map (given_by_objects names) sets
 -- each of the sets is made of a list of objects with these values
 abbrev pub AreMade : List (List (Option Value)) → List Params → Type 0
 AreMade lists sets = AllZip (λ objects params. IsMadeOf (InOrder objects) params) lists sets
-
--- what is appended of lists of objects with these values, and why they are refused
-abbrev pub SendsValues : Road → List ℕ → List (List (Option Value)) → ℕ → ℕ → List ℕ → List ℕ → Type 0
-SendsValues road query sets id limit old new = SendsGiven road query (all_given_by_objects sets) id limit old new
-
-abbrev pub RefusesValues : Road → List ℕ → List (List (Option Value)) → ℕ → ℕ → Refusal → Type 0
-RefusesValues road query sets id limit refusal = RefusesGiven road query (all_given_by_objects sets) id limit refusal
-
--- what is appended of them is read back as what they mean
-abbrev pub ReadsBackValues : List ℕ → List (List (Option Value)) → ℕ → ℕ → List ℕ → List ℕ → Type 0
-ReadsBackValues query sets id limit old new = ReadsBack query (all_given_by_objects sets) id limit old new
-
--- each front of what is appended reads as the sets that stand whole in it, and by bulk no requests could be fewer
-abbrev pub SendsWholeValues : Road → List ℕ → List (List (Option Value)) → ℕ → ℕ → List ℕ → List ℕ → Type 0
-SendsWholeValues road query sets id limit old new = SendsWhole road query (all_given_by_objects sets) id limit old new

@@ -1,14 +1,47 @@
-//! The laws of the crates below, and one on lists of objects. A function without a result does nothing: its contract is the law.
+//! The laws of the crates below, of sets that are delivered, and of lists of objects. A function without a result does nothing: its
+//! contract is the law.
 
-ghost use Rattle.mysql_session.specs.Laws.{MadeSetsGiveTheSame};
+ghost use Rattle.mysql_session.specs.Laws.{DeliveriesAreReadBack, DeliveriesAreReceived, MadeSetsGiveTheSame, ReadableSetsAreDelivered, RecodingsAreDelivered};
 
 pub use mysql_commands::laws as commands;
+use mysql_commands::laws::cuttings_agree;
 pub use mysql_recoding::laws as recoding;
+use mysql_recoding::laws::recodings_are_sent;
 pub use mysql_replies::laws as replies;
 pub use mysql_streams::laws as streams;
+use mysql_streams::laws::sent_sets_are_delivered;
 pub use mysql_streams::laws::{roads_read_equally, sent_streams_join};
 pub use mysql_values::laws as values;
+use mysql_values::laws::tokens_of_a_text;
 pub use mysql_wire::laws as wire;
+
+/// Sets that were sent in a form that can be read back are delivered: what `send_contents` appends too.
+pub fn readable_sets_are_delivered()
+    ensures { ReadableSetsAreDelivered }
+{
+    sent_sets_are_delivered();
+    cuttings_agree();
+    tokens_of_a_text();
+}
+
+/// Sets that are delivered were sent, are read back as what they mean, and each front of their stream reads as the sets that stand
+/// whole in it: what [`sent_streams_join`] and [`roads_read_equally`] go by.
+pub fn deliveries_are_read_back()
+    ensures { DeliveriesAreReadBack }
+{}
+
+/// Whatever `receive` answers of what was appended, in whichever pieces, but Memory, is what the sets mean, and Whole.
+pub fn deliveries_are_received()
+    ensures { DeliveriesAreReceived }
+{}
+
+/// What `recode` appends delivers, by execute, the values that the stream's contents are sent as.
+pub fn recodings_are_delivered()
+    ensures { RecodingsAreDelivered }
+{
+    recodings_are_sent();
+    readable_sets_are_delivered();
+}
 
 /// Parameter sets that are made of lists of objects give every query what the lists give. So by [`roads_read_equally`] what
 /// `send` appended of the ones and `send_values` of the others read as the same contents.

@@ -9,13 +9,14 @@ pub use bitflags::Flags;
 pub use mysql_commands::{Audit, End, Receiver, ReceiverError, StreamFault, receive};
 pub use mysql_const::{CapabilityFlags, StatusFlags};
 pub use mysql_convert::{
-    FromValue, FromValueError, IntoParams, ToValue, ToValueError, from_value, from_value_opt,
+    FromValue, FromValueError, Intermediate, IntoParams, ParseIr, ToValue, ToValueError,
+    from_value, from_value_opt,
 };
 pub use mysql_packets;
 pub use mysql_packets::{
     Column, LocalInfilePacket, OkPacket, ProgressReport, ServerError, SqlState, StmtPacket,
 };
-pub use mysql_recoding::{RecodeError, recode, send_contents};
+pub use mysql_recoding::{RecodeError, Recoder, recode, send_contents};
 pub use mysql_replies::{
     Reply, ReplyEnd, ReplyFault, ReplyKind, ReplyReader, ReplyResult, read_reply,
 };
@@ -25,6 +26,6 @@ pub use mysql_values::{
     ByteString, Content, MissingNamedParameterError, Params, ParamsConfusionError, ParamsError,
     SetError, Value,
 };
-pub use mysql_wire::{PacketCodecError, PacketReader};
+pub use mysql_wire::{PacketCodecError, PacketReader, packet_to_chunks};
 pub use objects::send_values;
 pub use sender::send;

@@ -3,15 +3,18 @@
 ghost use Rattle.std.specs.Prelude.{◌≡◌, ◌≤◌, IfErr, IfOk, MatchResult, OnErr, OnOk, Some, length, map, take};
 ghost use Rattle.mysql_convert.specs.Sets.{IsMadeOf, too_long};
 ghost use Rattle.mysql_convert.specs.Sets.Parts.{InOrder};
+ghost use Rattle.mysql_session.specs.Delivery.{Delivers};
 ghost use Rattle.mysql_session.specs.Made.{AreMadeUpTo};
-ghost use Rattle.mysql_session.specs.Objects.{ReadsBackValues, RefusesValues, SendsValues, SendsWholeValues, all_given_by_objects};
+ghost use Rattle.mysql_session.specs.Objects.{all_given_by_objects};
 ghost use Rattle.mysql_streams.specs.Reading.{SentReadable};
+ghost use Rattle.mysql_streams.specs.Sending.{RefusesGiven};
 ghost use Rattle.mysql_streams.specs.declared.road.Road.TheVariants as roads;
 
+use crate::laws::readable_sets_are_delivered;
+use crate::sender::are_bytes;
 use mysql_bulk_sender::put_requests;
 use mysql_convert::{IntoParams, ToValue};
 use mysql_senders::{SetMaker, put_made_executions, put_made_queries};
-use mysql_streams::laws::sent_sets_are_delivered;
 use mysql_streams::{Refusal, Road};
 use mysql_values::{Params, SetError};
 use std::alloc::{AllocError, Global};
@@ -93,7 +96,7 @@ fn put_held_sets(
 ) -> Result<(), Refusal>
     requires { 4 ≤ limit }
     ensures ok { OnOk result (SentReadable roads.Bulk query.now (all_given_by_objects (map (λ list. map (λ object. as_value object) list.items) lists.now)) stmt_id limit out.old.items out.new.items) }
-    ensures err { IfErr result (RefusesValues roads.Bulk query.now (map (λ list. map (λ object. as_value object) list.items) lists.now) stmt_id limit) }
+    ensures err { IfErr result (RefusesGiven roads.Bulk query.now (all_given_by_objects (map (λ list. map (λ object. as_value object) list.items) lists.now)) stmt_id limit) }
     ensures kept { take (length out.old.items) out.new.items ≡ out.old.items }
 {
     let MadeSets { sets, refusal } = sets_of_objects(alloc, lists)?;
@@ -111,7 +114,7 @@ fn send_lists(
     out: &mut Vec<u8>,
 ) -> Result<(), Refusal>
     requires { 4 ≤ limit }
-    ensures refused { IfErr result (RefusesValues road query.now (map (λ list. map (λ object. as_value object) list.items) lists.now) stmt_id limit) }
+    ensures refused { IfErr result (RefusesGiven road query.now (all_given_by_objects (map (λ list. map (λ object. as_value object) list.items) lists.now)) stmt_id limit) }
     ensures kept { OnErr result (out.new.items ≡ out.old.items) }
     ensures sent { OnOk result (SentReadable road query.now (all_given_by_objects (map (λ list. map (λ object. as_value object) list.items) lists.now)) stmt_id limit out.old.items out.new.items) }
 {
@@ -132,7 +135,9 @@ fn send_lists(
 /// of the objects' values, in order, one set for each list. A list without objects is the empty set. `receive` with the same
 /// query, id and limit reads back what the values mean.
 ///
-/// The limit is at least 4.
+/// The limit is the `max_allowed_packet` of the side that the packets go to, and at least 4. Calls that write count 4 bytes
+/// for a packet's header in it: a payload has at most `limit - 4` bytes. Calls that read count the payload alone: it has at most
+/// `limit` bytes.
 ///
 /// # Errors
 /// The first cause that holds, in the order of [`Refusal`]: `Mixed`; by text `NotAlone`; by execute and bulk `TooManyPlaces`,
@@ -153,14 +158,12 @@ pub fn send_values(
     out: &mut Vec<u8>,
 ) -> Result<(), Refusal>
     requires { 4 ≤ limit }
-    ensures refused { IfErr result (RefusesValues road query.now (map (λ set. map (λ object. as_value object) set.items) sets.now) stmt_id limit) }
+    ensures refused { IfErr result (RefusesGiven road query.now (all_given_by_objects (map (λ set. map (λ object. as_value object) set.items) sets.now)) stmt_id limit) }
     ensures kept { OnErr result (out.new.items ≡ out.old.items) }
-    ensures sent { OnOk result (SendsValues road query.now (map (λ set. map (λ object. as_value object) set.items) sets.now) stmt_id limit out.old.items out.new.items) }
-    ensures read_back { OnOk result (ReadsBackValues query.now (map (λ set. map (λ object. as_value object) set.items) sets.now) stmt_id limit out.old.items out.new.items) }
-    ensures whole { OnOk result (SendsWholeValues road query.now (map (λ set. map (λ object. as_value object) set.items) sets.now) stmt_id limit out.old.items out.new.items) }
+    ensures delivered { OnOk result (Delivers road query.now (all_given_by_objects (map (λ set. map (λ object. as_value object) set.items) sets.now)) stmt_id limit out.old.items out.new.items) }
 {
-    sent_sets_are_delivered();
+    readable_sets_are_delivered();
     let sent = send_lists(alloc, query, sets, road, stmt_id, limit, out);
-    let _len = out.len();
+    are_bytes(out);
     sent
 }

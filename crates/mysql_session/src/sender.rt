@@ -1,16 +1,27 @@
 //! Parameter sets as commands.
 
-ghost use Rattle.std.specs.Prelude.{◌≡◌, ◌≤◌, IfErr, OnErr, OnOk};
-ghost use Rattle.mysql_streams.specs.Reading.{ReadsBack, SendsWhole, SentReadable};
-ghost use Rattle.mysql_streams.specs.Sending.{Refuses, RefusesGiven, Sends};
+ghost use Rattle.std.specs.Prelude.{◌≡◌, ◌<◌, ◌≤◌, ◌^◌, IfErr, OnErr, OnOk, length};
+ghost use Rattle.mysql_wire.specs.Bytes.{AreBytes};
+ghost use Rattle.mysql_session.specs.Delivery.{Delivers};
+ghost use Rattle.mysql_streams.specs.Reading.{SentReadable};
+ghost use Rattle.mysql_streams.specs.Sending.{RefusesGiven};
 ghost use Rattle.mysql_streams.specs.Sets.{all_given};
 
+use crate::laws::readable_sets_are_delivered;
 use mysql_bulk_sender::put_requests;
 use mysql_senders::{put_executions, put_queries};
-use mysql_streams::laws::sent_sets_are_delivered;
 use mysql_streams::{Refusal, Road};
 use mysql_values::Params;
 use std::alloc::Global;
+
+/// A list of bytes holds bytes, and fewer than 2^64: facts that the proofs of what is delivered use.
+pub(crate) fn are_bytes(out: &Vec<u8>)
+    ensures bytes { AreBytes out.now.items }
+    ensures few { length out.now.items < 2 ^ 64 }
+{
+    let _len = out.len();
+    let _first = out.first();
+}
 
 /// Sends sets.
 fn send_sets(
@@ -43,8 +54,7 @@ fn send_sets(
 /// by [`Road::Text`] a query for each set, its values as literals in the places of the placeholders; by [`Road::Execute`] one
 /// prepare, also where there are no sets, and an execution of the statement `stmt_id` for each set, before it, where it would
 /// exceed 16777215 bytes, its byte strings as long data; by [`Road::Bulk`] one prepare, and the fewest bulk executions that
-/// there can be. Sets and places count from 0; a payload has at most `limit - 4` bytes, as the limit counts a packet with its
-/// header. `receive` with the same query, id and limit, which counts payloads alone there, reads the sets back, and of each
+/// there can be. Sets and places count from 0. `receive` with the same query, id and limit reads the sets back, and of each
 /// front of what was appended the sets whose last command stands whole in it.
 ///
 /// A placeholder is a question mark, or a colon and a name of `a` to `z`, `0` to `9` and `_` that begins with no digit, by
@@ -55,7 +65,9 @@ fn send_sets(
 /// [`send_values`](crate::send_values), reads behind its sets: the law `laws::sent_streams_join`, which stands on
 /// `mysql_commands::laws::whole_streams_join`.
 ///
-/// The limit is at least 4.
+/// The limit is the `max_allowed_packet` of the side that the packets go to, and at least 4. Calls that write count 4 bytes
+/// for a packet's header in it: a payload has at most `limit - 4` bytes. Calls that read count the payload alone: it has at most
+/// `limit` bytes.
 ///
 /// # Errors
 /// The first cause that holds, in the order of [`Refusal`]: `Mixed`; by text `NotAlone`; by execute and bulk `TooManyPlaces`,
@@ -74,14 +86,12 @@ pub fn send(
     out: &mut Vec<u8>,
 ) -> Result<(), Refusal>
     requires { 4 ≤ limit }
-    ensures refused { IfErr result (Refuses road query.now sets.now stmt_id limit) }
+    ensures refused { IfErr result (RefusesGiven road query.now (all_given sets.now) stmt_id limit) }
     ensures kept { OnErr result (out.new.items ≡ out.old.items) }
-    ensures sent { OnOk result (Sends road query.now sets.now stmt_id limit out.old.items out.new.items) }
-    ensures read_back { OnOk result (ReadsBack query.now (all_given sets.now) stmt_id limit out.old.items out.new.items) }
-    ensures whole { OnOk result (SendsWhole road query.now (all_given sets.now) stmt_id limit out.old.items out.new.items) }
+    ensures delivered { OnOk result (Delivers road query.now (all_given sets.now) stmt_id limit out.old.items out.new.items) }
 {
-    sent_sets_are_delivered();
+    readable_sets_are_delivered();
     let sent = send_sets(alloc, query, sets, road, stmt_id, limit, out);
-    let _len = out.len();
+    are_bytes(out);
     sent
 }

@@ -3,13 +3,14 @@
 
 // Sessions.
 use mysql_session::{
-    Audit, CapabilityFlags, End, Flags, Receiver, ReceiverError, RecodeError, Refusal, Reply,
-    ReplyEnd, ReplyFault, ReplyKind, ReplyReader, ReplyResult, Road, StatusFlags, StreamFault,
-    read_reply, receive, recode, send, send_values,
+    Audit, CapabilityFlags, End, Flags, Intermediate, PacketReader, ParseIr, Receiver,
+    ReceiverError, RecodeError, Recoder, Refusal, Reply, ReplyEnd, ReplyFault, ReplyKind,
+    ReplyReader, ReplyResult, Road, StatusFlags, StreamFault, packet_to_chunks, read_reply,
+    receive, recode, send, send_values,
 };
 
 // The layers below.
+use mysql_session::mysql_packets::mysql_convert::OptionIr2;
 use mysql_session::mysql_packets::mysql_convert::mysql_values::mysql_wire::{ParseBuf, constants};
 use mysql_session::mysql_packets::mysql_convert::mysql_values::{bind_text, places};
-use mysql_session::mysql_packets::mysql_convert::{Intermediate, OptionIr2};
 use mysql_session::mysql_packets::{ComStmtBulkExecuteRequestBuilder, NullBitmap};

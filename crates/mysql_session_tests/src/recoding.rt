@@ -4,7 +4,9 @@ use crate::audits::{Query, Want, WantedSet, joined};
 use crate::prefixes::{Standing, assert_fronts};
 use crate::sending::{Cause, assert_cause, front};
 use crate::support::{Asserting, filled};
-use mysql_session::{Content, End, RecodeError, Refusal, StreamFault, recode, send_contents};
+use mysql_session::{
+    Content, End, RecodeError, Recoder, Refusal, StreamFault, recode, send_contents,
+};
 use mysql_values::ByteString;
 use std::alloc::{AllocError, Global};
 use tests_support::{Assert, assert_bytes, once_more};
@@ -23,6 +25,40 @@ fn recoded(
     }
 }
 
+/// Recodes a stream with the id 1 byte by byte.
+fn recoded_by_bytes(
+    alloc: Global,
+    (query, limit): Query<'_>,
+    pieces: &[&[u8]],
+    out: &mut Vec<u8>,
+) -> Result<(), RecodeError> {
+    let mut recoder = Recoder::new(alloc, query, 1, limit.max(4))?;
+    for piece in pieces {
+        for byte in *piece {
+            recoder.feed(&[*byte], out)?;
+        }
+    }
+    recoder.finish(out)
+}
+
+/// Asserts as which bytes a stream is recoded that comes byte by byte; once more where memory was refused.
+fn assert_recoded_by_bytes(
+    assert: &impl Assert,
+    alloc: Global,
+    query: Query<'_>,
+    pieces: &[&[u8]],
+    wanted: &[u8],
+) {
+    let mut out = front(assert, alloc);
+    let start = out.len();
+    let first = recoded_by_bytes(alloc, query, pieces, &mut out).is_ok();
+    if !first {
+        out.truncate(start);
+    }
+    assert.holds(first || recoded_by_bytes(alloc, query, pieces, &mut out).is_ok());
+    assert.holds(out.as_slice().strip_prefix(b"front") == Some(wanted));
+}
+
 /// Asserts as which bytes a stream is recoded, behind what stands.
 fn assert_recoded(
     assert: &impl Assert,
@@ -36,12 +72,13 @@ fn assert_recoded(
     assert.holds(out.as_slice().strip_prefix(b"front") == Some(wanted));
 }
 
-/// Asserts as which packets a stream of `SELECT :a` is recoded, and that these are recoded as themselves.
+/// Asserts as which packets a stream of `SELECT :a` is recoded, also byte by byte, and that these are recoded as themselves.
 fn assert_recodes(assert: &impl Assert, alloc: Global, pieces: &[&[u8]], packets: &[&[u8]]) {
     let wanted = joined(assert, alloc, packets);
     let query = (QUERY, 1000);
     assert_recoded(assert, alloc, query, pieces, wanted.as_slice());
     assert_recoded(assert, alloc, query, packets, wanted.as_slice());
+    assert_recoded_by_bytes(assert, alloc, query, pieces, wanted.as_slice());
 }
 
 const QUERY: &[u8] = b"SELECT :a";

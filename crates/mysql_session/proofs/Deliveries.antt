@@ -1,0 +1,129 @@
+-- Sets that were sent in a form that can be read back are delivered, and what follows of sets that are delivered.
+use Rattle.std.proofs.Common.{◌≡◌, ℕ, ◌+◌, ◌<◌, List, [], ◌∷◌, ◌++◌, filter, length, map, Ok, refl, sym, ◌∙◌, ap, subst}
+use Rattle.std.specs.List.{AllByRecursion, concat}
+use Rattle.std.proofs.lemmas.List.{append-nil, append_cancel_left, get_or-append-add}
+use Rattle.mysql_wire.specs.Bytes.{AreBytes}
+use Rattle.mysql_values.specs.Laws.{OneTokens}
+use Rattle.mysql_values.specs.Parsed.{names_of}
+use Rattle.mysql_values.specs.Queries.{is_place}
+use Rattle.mysql_values.specs.Value.{Value}
+use Rattle.mysql_commands.specs.Audit.{Audit, AuditOf}
+use Rattle.mysql_commands.specs.Laws.{CuttingsAgree}
+use Rattle.mysql_commands.specs.Reading.{Set}
+use Rattle.mysql_streams.specs.Cause.{cause_of}
+use Rattle.mysql_streams.specs.Laws.{IsDelivered, SentSetsAreDelivered}
+use Rattle.mysql_streams.specs.Reading.{AreMeanings, HaveContents}
+use Rattle.mysql_streams.specs.Sending.{SendsGiven}
+use Rattle.mysql_streams.specs.Sent.{statement_of}
+use Rattle.mysql_streams.specs.Sets.{Given, all_given_in_places}
+use Rattle.mysql_streams.specs.declared.road.Road.TheVariants.{Execute}
+use Rattle.mysql_recoding.specs.Causes.{values_of_sets}
+use Rattle.mysql_recoding.specs.Laws.{RecodingsAreSent}
+use Rattle.mysql_session.specs.Delivery.{Delivers, ReadsWholeAs, stream_of, whole_of}
+use Rattle.mysql_session.specs.Laws.{DeliveriesAreReadBack, DeliveriesAreReceived, ReadableSetsAreDelivered, RecodingsAreDelivered}
+
+-- ---- one audit
+
+-- bytes behind others are bytes
+bytes_behind : (front back : List ℕ) → AreBytes (front ++ back) → AreBytes back
+bytes_behind front back bytes = λ i. subst (λ (n : ℕ). n < 256) (get_or-append-add front back i 0) (bytes (length front + i))
+
+-- a stream of bytes with such an audit has no other, in whichever pieces
+one_audit : CuttingsAgree → (query : List ℕ) (id limit : ℕ) (stream : List ℕ) (contents : List Set) → AreBytes stream → AuditOf query id limit stream (whole_of contents) → ReadsWholeAs query id limit stream contents
+one_audit agree query id limit stream contents bytes is pieces audit joined =
+    let there : AuditOf query id limit (concat pieces) (whole_of contents) = subst (λ (l : List ℕ). AuditOf query id limit l (whole_of contents)) (sym joined) is in
+    let alone : concat pieces ≡ concat (concat pieces ∷ []) = sym (append-nil (concat pieces)) in (
+      λ other. agree query id limit pieces (concat pieces ∷ []) audit (whole_of contents) (subst (λ (l : List ℕ). AreBytes l) (sym joined) bytes) alone other
+          (subst (λ (l : List ℕ). AuditOf query id limit l (whole_of contents)) alone there),
+      λ same. subst (λ (a : Audit). AuditOf query id limit (concat pieces) a) (sym same) there,
+    )
+
+-- ---- one list of values
+
+-- values that are given
+abbrev values_given : List Value → Given
+values_given values = Ok values
+
+one_values : (xs ys : List (List Value)) → map values_given xs ≡ map values_given ys → xs ≡ ys
+one_values [] [] same = refl
+one_values [] (y ∷ ys) same = cc
+one_values (x ∷ xs) [] same = cc
+one_values (x ∷ xs) (y ∷ ys) same =
+    let here : values_given x ≡ values_given y = cc in
+    let first : x ≡ y = cc in
+    let others : map values_given xs ≡ map values_given ys = cc in
+    ap (λ v. v ∷ xs) first ∙ ap (λ l. y ∷ l) (one_values xs ys others)
+
+-- sets of values have as many as there are placeholders
+abbrev Counts : List (List ℕ) → List (List Value) → Type 0
+Counts tokens values = AllByRecursion (λ set. length set ≡ length (filter is_place tokens)) values
+
+counted : (tokens others : List (List ℕ)) (values same : List (List Value)) → tokens ≡ others → values ≡ same → Counts tokens values → Counts others same
+counted tokens others values same one two counts = subst (λ (l : List (List Value)). Counts others l) two (subst (λ (t : List (List ℕ)). Counts t values) one counts)
+
+-- ---- the laws
+
+pub delivered : SentSetsAreDelivered → CuttingsAgree → OneTokens → ReadableSetsAreDelivered
+delivered sent agree once road query sets id limit old new small room short bytes readable =
+    let d : IsDelivered road query sets id limit old new = sent road query sets id limit old new small room short readable in
+    let s : SendsGiven road query sets id limit old new = d.whole.sends in
+    let contents : List Set = d.read_back.contents in
+    let m : AreMeanings query sets contents = d.read_back.reads.meanings in
+    let tokens : m.tokens ≡ s.tokens = once query m.tokens s.tokens m.has s.has in
+    let values : m.values ≡ s.values = one_values m.values s.values (sym m.given ∙ ap (λ t. sets (names_of t)) tokens ∙ s.given) in
+    let stream : d.read_back.stream ≡ stream_of s.sent = append_cancel_left old d.read_back.stream (stream_of s.sent) (sym d.read_back.appended ∙ s.appended) in
+    record {
+      tokens = s.tokens;
+      has = s.has;
+      values = s.values;
+      given = s.given;
+      counts = counted m.tokens s.tokens m.values s.values tokens values m.counts;
+      no_cause = ap (λ l. cause_of road (statement_of query s.tokens id) limit l) (sym s.given) ∙ s.none;
+      sent = s.sent;
+      are_sent = s.are_sent;
+      appended = s.appended;
+      contents = contents;
+      meanings = subst (λ (l : List (List Value)). HaveContents l contents) values m.each;
+      read_back = one_audit agree query id limit (stream_of s.sent) contents (bytes_behind old (stream_of s.sent) (subst (λ (l : List ℕ). AreBytes l) s.appended bytes))
+          (subst (λ (l : List ℕ). AuditOf query id limit l (whole_of contents)) stream d.read_back.reads.audit);
+      fronts = d.whole.fronts;
+      fewest = d.whole.fewest;
+    }
+
+pub recoded : RecodingsAreSent → ReadableSetsAreDelivered → RecodingsAreDelivered
+recoded sent delivers query id limit stream old new small least room short bytes appended is =
+    delivers Execute query (all_given_in_places (values_of_sets is.audit.sets)) id limit old new small least short appended (sent query id limit stream old new room bytes is)
+
+pub read_back : DeliveriesAreReadBack
+read_back road query sets id limit old new d =
+    let stream : List ℕ = stream_of d.sent in
+    let alone : stream ++ [] ≡ stream = append-nil stream in
+    record {
+      read_back = record {
+        stream = stream;
+        appended = d.appended;
+        contents = d.contents;
+        reads = record {
+          meanings = record { tokens = d.tokens; has = d.has; values = d.values; given = d.given; counts = d.counts; each = d.meanings };
+          audit = subst (λ (l : List ℕ). AuditOf query id limit l (whole_of d.contents)) alone ((d.read_back (stream ∷ []) (whole_of d.contents) alone).1 refl);
+        };
+      };
+      whole = record {
+        sends = record {
+          tokens = d.tokens;
+          has = d.has;
+          values = d.values;
+          given = d.given;
+          none = ap (λ l. cause_of road (statement_of query d.tokens id) limit l) d.given ∙ d.no_cause;
+          sent = d.sent;
+          are_sent = d.are_sent;
+          appended = d.appended;
+        };
+        fronts = d.fronts;
+        fewest = d.fewest;
+      };
+    }
+
+pub received : DeliveriesAreReceived
+received road query sets id limit old new pieces answer d appended is known =
+    (d.read_back pieces answer (append_cancel_left old (concat pieces) (stream_of d.sent) (sym appended ∙ d.appended))).0 (is.audit known)

@@ -1,0 +1,55 @@
+-- The front page: what is promised of the sets that `send` and `send_values` append. docs/THEOREM.md reads it aloud, word by word.
+-- MySQL: Client/Server Protocol, "Protocol Basics: MySQL Packets", "Command Phase".
+use Rattle.std.specs.Prelude.{◌≡◌, ◌↔◌, ◌-◌, ℕ, List, ◌++◌, filter, length, map, None, Ok}
+use Rattle.std.specs.List.{AllByRecursion, concat}
+use Rattle.mysql_wire.specs.Stream.{framings}
+use Rattle.mysql_wire.specs.Stream.Numbering.{EachFromZero}
+use Rattle.mysql_values.specs.Parsed.{names_of}
+use Rattle.mysql_values.specs.Queries.{is_place}
+use Rattle.mysql_values.specs.Tokens.{HasTokens}
+use Rattle.mysql_values.specs.Value.{Value}
+use Rattle.mysql_commands.specs.declared.audit.End.TheVariants.{Whole}
+use Rattle.mysql_commands.specs.Audit.{Audit, AuditOf}
+use Rattle.mysql_commands.specs.Reading.{Set}
+use Rattle.mysql_streams.specs.declared.road.Road.{Road}
+use Rattle.mysql_streams.specs.Cause.{cause_of}
+use Rattle.mysql_streams.specs.Reading.{FrontsRead, HaveContents}
+use Rattle.mysql_streams.specs.Sending.{HasFewest}
+use Rattle.mysql_streams.specs.Sent.{AreSent, SentPayload, payloads_of, statement_of}
+use Rattle.mysql_streams.specs.Sets.{Given}
+
+-- the bytes of payloads that are sent: the framing of each, whose packets are numbered from 0, one after another
+abbrev pub stream_of : List SentPayload → List ℕ
+stream_of sent = framings (payloads_of sent) EachFromZero
+
+-- the audit of a stream that carries these contents and is whole
+abbrev pub whole_of : List Set → Audit
+whole_of contents = record { sets = contents; ending = Whole }
+
+-- A stream, in whichever pieces it comes, has one audit: these contents, and Whole.
+abbrev pub ReadsWholeAs : List ℕ → ℕ → ℕ → List ℕ → List Set → Type 0
+ReadsWholeAs query id limit stream contents =
+    (pieces : List (List ℕ)) (audit : Audit) → concat pieces ≡ stream → AuditOf query id limit (concat pieces) audit ↔ (audit ≡ whole_of contents)
+
+-- Sets that give this for the query's names are delivered by what was appended.
+pub record Delivers (road : Road) (query : List ℕ) (sets : List (List ℕ) → List Given) (id limit : ℕ) (old new : List ℕ) : Type 0 where
+  -- The query has these tokens, and each set gives values for its names, as many as it has placeholders.
+  pub tokens : List (List ℕ)
+  pub has : HasTokens query tokens
+  pub values : List (List Value)
+  pub given : sets (names_of tokens) ≡ map Ok values
+  pub counts : AllByRecursion (λ set. length set ≡ length (filter is_place tokens)) values
+  -- No cause speaks against sending them.
+  pub no_cause : cause_of road (statement_of query tokens id) limit (map Ok values) ≡ None
+  -- These payloads are sent of them, each within the limit with its header, and their stream is appended.
+  pub sent : List SentPayload
+  pub are_sent : AreSent road (statement_of query tokens id) (limit - 4) values sent
+  pub appended : new ≡ old ++ stream_of sent
+  -- The stream reads as what the values mean, to its end, and as nothing else.
+  pub contents : List Set
+  pub meanings : HaveContents values contents
+  pub read_back : ReadsWholeAs query id limit (stream_of sent) contents
+  -- Each front of it reads, without a fault, as the sets that stand whole in it.
+  pub fronts : FrontsRead query id limit sent
+  -- By bulk no cut of the values that fits has fewer requests.
+  pub fewest : HasFewest road (statement_of query tokens id) (limit - 4) values sent
