@@ -1,0 +1,13 @@
+pub mod Numbers
+pub mod Binds
+pub mod Lengths
+pub mod Texts
+pub mod Values
+pub mod Beside
+pub mod Types
+pub mod Executes
+pub mod Bulks
+pub mod Fillings
+pub mod Leaving
+pub mod Commands
+pub mod Streams
