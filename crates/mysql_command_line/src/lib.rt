@@ -2,6 +2,8 @@
 #![tactic(auto)]
 
 mod commands;
+mod following;
+mod help;
 mod json_sets;
 mod lines;
 mod process;

@@ -65,30 +65,69 @@ fn write_end<W: Write>(output: &mut W, end: End) -> io::Result<()> {
     }
 }
 
-/// Writes a line for each set, and one for the end.
-fn write_lines<W: Write>(output: &mut W, audit: &Audit) -> io::Result<()> {
-    for (number, set) in audit.sets.iter().enumerate() {
+/// Writes a line for each set, numbered on from the first.
+fn write_sets<W: Write>(output: &mut W, first: u64, sets: &[Vec<Content>]) -> io::Result<()> {
+    let mut number = first;
+    for set in sets {
         write!(output, "set {number}:")?;
         write_set(output, set)?;
+        number = number.saturating_add(1);
     }
-    write_end(output, audit.end)?;
+    Ok(())
+}
+
+/// Writes a line for each set, numbered on from the first, and one for the end where there is one.
+fn write_lines<W: Write>(
+    output: &mut W,
+    first: u64,
+    sets: &[Vec<Content>],
+    end: Option<End>,
+) -> io::Result<()> {
+    write_sets(output, first, sets)?;
+    if let Some(end) = end {
+        write_end(output, end)?;
+    }
     output.flush()
 }
 
-/// Prints an audit: a line for each set, and one for the end. After a line that could not be written nothing more is written.
+/// Prints these lines. After a line that could not be written nothing more is written.
+fn print_lines<W: Write>(
+    alloc: Global,
+    output: &mut W,
+    first: u64,
+    sets: &[Vec<Content>],
+    end: Option<End>,
+) -> Result<(), Stop> {
+    let Ok(mut waiting) = BufWriter::with_capacity(alloc, WAITING_LEN, output) else {
+        return Err(Stop::Memory);
+    };
+    if write_lines(&mut waiting, first, sets, end).is_ok() {
+        return Ok(());
+    }
+    let _unwritten = waiting.into_parts();
+    Err(Stop::Writing)
+}
+
+/// Prints an audit: a line for each set, and one for the end.
 pub(crate) fn print_audit<W: Write>(
     alloc: Global,
     output: &mut W,
     audit: &Audit,
 ) -> Result<(), Stop> {
-    let Ok(mut waiting) = BufWriter::with_capacity(alloc, WAITING_LEN, output) else {
-        return Err(Stop::Memory);
-    };
-    if write_lines(&mut waiting, audit).is_ok() {
+    print_lines(alloc, output, 0, &audit.sets, Some(audit.end))
+}
+
+/// Prints a line for each set, numbered on from the first. Without sets nothing is written.
+pub(crate) fn print_sets<W: Write>(
+    alloc: Global,
+    output: &mut W,
+    first: u64,
+    sets: &[Vec<Content>],
+) -> Result<(), Stop> {
+    if sets.is_empty() {
         return Ok(());
     }
-    let _unwritten = waiting.into_parts();
-    Err(Stop::Writing)
+    print_lines(alloc, output, first, sets, None)
 }
 
 /// Prints a stream as it is.

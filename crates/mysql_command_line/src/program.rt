@@ -1,7 +1,9 @@
 //! The program, as one function over its words, its input and its output.
 
 use crate::commands::{answer_audit, audit, audit_of, encode, recode};
-use crate::lines::{print_digits, print_line};
+use crate::following::follow;
+use crate::help::HELP;
+use crate::lines::{print_digits, print_line, print_stream};
 use crate::stop::{Answer, Stop};
 use crate::words::{Task, task_of};
 use mysql_session::{Audit, Params, Receiver, Road, Value, send};
@@ -69,6 +71,12 @@ fn worked_run<W: Write>(alloc: Global, output: &mut W) -> Result<Status, Stop> {
     answer_audit(alloc, output, &audit)
 }
 
+/// Prints what the program knows.
+fn help<W: Write>(output: &mut W) -> Result<Status, Stop> {
+    print_stream(output, HELP.as_bytes())?;
+    Ok(Status::Done)
+}
+
 /// Does what the words ask for.
 fn run_words<R: Read, W: Write>(
     alloc: Global,
@@ -80,7 +88,9 @@ fn run_words<R: Read, W: Write>(
         Task::WorkedRun => worked_run(alloc, output),
         Task::Encode(road, statement) => encode(alloc, road, statement, input, output),
         Task::Audit(statement) => audit(alloc, statement, input, output),
+        Task::Follow(statement) => follow(alloc, statement, input, output),
         Task::Recode(statement) => recode(alloc, statement, input, output),
+        Task::Help => help(output),
     }
 }
 
@@ -105,11 +115,14 @@ fn answer_stop<W: Write>(output: &mut W, stop: &Stop) -> Status {
 /// - `encode ROAD ID LIMIT QUERY` reads a list of parameter sets in JSON and prints the commands that carry them by `text`,
 ///   `execute` or `bulk`.
 /// - `audit ID LIMIT QUERY` reads a stream of commands and prints its audit.
+/// - `follow ID LIMIT QUERY` prints the same lines, those of sets as soon as they stand, and reads no further than to a fault.
 /// - `recode ID LIMIT QUERY` reads a stream of commands and prints the executions that carry the same sets.
+/// - `help` prints these words in ten lines, and reads nothing.
 ///
 /// Other words print `usage`, and a limit that is no whole number from 4 to `usize::MAX` prints `bad limit`, before anything is
 /// read. Input that can't be read, or not by 1000000 reads, prints `bad input`, then a text that is no list of sets `bad json`.
-/// A refusal comes after these: it prints `refused:` and its name. After a write that fails nothing more is written.
+/// A refusal comes after these: it prints `refused:` and its name. `follow` refuses the query before it reads, has no greatest
+/// number of reads, and prints `bad input` behind the sets that came. After a write that fails nothing more is written.
 pub fn run<R: Read, W: Write>(
     alloc: Global,
     words: &[String],

@@ -26,8 +26,12 @@ pub(crate) enum Task<'a> {
     Encode(Road, Statement<'a>),
     /// What a stream of commands says, line by line.
     Audit(Statement<'a>),
+    /// The same, as the stream comes.
+    Follow(Statement<'a>),
     /// A stream of commands as executions.
     Recode(Statement<'a>),
+    /// What the program knows.
+    Help,
 }
 
 /// The number that these digits write. None where there is no digit or anything else, and where a `usize` can't hold it.
@@ -84,9 +88,13 @@ pub(crate) fn task_of(words: &[String]) -> Result<Task<'_>, Stop> {
         [command, id, limit, query] if command.as_str() == "audit" => {
             Ok(Task::Audit(statement_of(id, limit, query)?))
         }
+        [command, id, limit, query] if command.as_str() == "follow" => {
+            Ok(Task::Follow(statement_of(id, limit, query)?))
+        }
         [command, id, limit, query] if command.as_str() == "recode" => {
             Ok(Task::Recode(statement_of(id, limit, query)?))
         }
+        [command] if command.as_str() == "help" => Ok(Task::Help),
         _ => Err(Stop::Usage),
     }
 }

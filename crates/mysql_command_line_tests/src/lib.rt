@@ -7,6 +7,8 @@
 #[cfg(test)]
 mod ends;
 #[cfg(test)]
+mod following;
+#[cfg(test)]
 mod inputs;
 #[cfg(test)]
 mod json;

@@ -98,3 +98,18 @@ impl Write for Unflushed {
         Err(io::Error::from(io::ErrorKind::Other))
     }
 }
+
+/// An output that takes all that is written, and counts how often it is flushed.
+#[derive(Clone, Copy)]
+pub struct Flushes(pub u64);
+
+impl Write for Flushes {
+    fn write(&mut self, buf: &[u8]) -> io::Result<usize> {
+        Ok(buf.len())
+    }
+
+    fn flush(&mut self) -> io::Result<()> {
+        self.0 = self.0.saturating_add(1);
+        Ok(())
+    }
+}

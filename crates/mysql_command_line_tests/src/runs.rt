@@ -29,14 +29,20 @@ pub fn words_of(assert: &impl Assert, alloc: Global, words: &[&str]) -> Vec<Stri
 /// What is printed where memory was refused.
 const MEMORY: &[u8] = b"refused: Memory\n";
 
-/// What is printed where memory was refused behind the first line of a run without words.
-const LATE_MEMORY: &[u8] = b"09 00 00 00 03 53 45 4c 45 43 54 20 31\nrefused: Memory\n";
+/// Whether the output says that memory was refused, behind some of the lines that are wanted or none.
+fn says_memory(output: &[u8], wanted: &[u8]) -> bool {
+    match output.strip_suffix(MEMORY) {
+        Some([]) => true,
+        Some(lines) => lines.ends_with(b"\n") && wanted.starts_with(lines),
+        None => false,
+    }
+}
 
 /// Whether a run may end so for want of memory.
 pub fn is_for_memory(status: Status, output: &[u8], wanted: &[u8]) -> bool {
     match status {
         Status::Done => false,
-        Status::Refused => output == MEMORY || output == LATE_MEMORY,
+        Status::Refused => says_memory(output, wanted),
         // The output's own buffer could not grow.
         Status::Failed => wanted.starts_with(output),
     }

@@ -27,13 +27,16 @@ fn assert_refused(assert: &impl Assert, alloc: Global, words: &[&str], line: &[u
 }
 
 const UNKNOWN: &[&[&str]] = &[
-    &["help"],
+    &["Help"],
+    &["help", ""],
     &[""],
     &["encode"],
     &["encode", "text", "1", "1000"],
     &["encode", "text", "1", "1000", "SELECT 1", "SELECT 1"],
     &["audit", "1", "1000"],
     &["audit", "text", "1", "1000", "SELECT 1"],
+    &["follow", "1", "1000"],
+    &["follow", "text", "1", "1000", "SELECT 1"],
     &["recode", "1", "1000"],
     &["recode", "1", "1000", "SELECT 1", ""],
     &["Audit", "1", "1000", "SELECT 1"],
@@ -112,6 +115,7 @@ const UNKNOWN_WITH_NO_LIMIT: &[&[&str]] = &[
     &["encode", "text", "1", "3"],
     &["decode", "1", "3", "SELECT 1"],
     &["audit", "4294967296", "", "SELECT 1"],
+    &["follow", "-1", "3", "SELECT 1"],
     &["recode", "-1", "3", "SELECT 1"],
 ];
 
@@ -122,6 +126,18 @@ fn unknown_words_come_before_limits(rt: HostRuntime) {
     }
 }
 
+const HELP: &[u8] = b"Parameter sets of one query as a stream of MySQL's commands, and back.
+    mysql_session_program                              SELECT :a with a = 1, sent and audited
+    mysql_session_program encode ROAD ID LIMIT QUERY   sets in JSON in, a stream out
+    mysql_session_program audit ID LIMIT QUERY         a stream in, a line for each set out
+    mysql_session_program follow ID LIMIT QUERY        the same lines, as the stream comes
+    mysql_session_program recode ID LIMIT QUERY        a stream in, executions of its sets out
+    mysql_session_program help                         these lines
+ROAD is text, execute or bulk, ID the statement's id, LIMIT the most bytes of a packet, from 4.
+QUERY has question marks, or names as :a; sets are [[1, \"x\"], ..], or [{\"a\": 1}, ..] for :a.
+Status: 0 done, 1 refused or a stream that isn't whole, 2 unknown words or input.
+";
+
 const KNOWN: &[Row] = &[
     // Without words `SELECT :a` with a = 1 is sent and read back.
     (
@@ -130,6 +146,7 @@ const KNOWN: &[Row] = &[
         b"09 00 00 00 03 53 45 4c 45 43 54 20 31\nset 0: 1\nend: whole\n",
         Done,
     ),
+    (&["help"], b"", HELP, Done),
     (
         &["encode", "execute", "4294967295", "1000", "SELECT ?"],
         b"[[null]]",

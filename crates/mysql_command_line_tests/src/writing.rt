@@ -31,6 +31,12 @@ const RUNS: &[Row] = &[
         Done,
     ),
     (
+        &["follow", "1", "1000", "SELECT :a"],
+        b"\x09\0\0\0\x03SELECT 1\x09\0\0\0\x03SELECT 2",
+        b"set 0: 1\nset 1: 2\nend: whole\n",
+        Done,
+    ),
+    (
         &["recode", "1", "1000", "SELECT 1"],
         ONE_BY_TEXT,
         b"\x09\0\0\0\x16SELECT 1\x0a\0\0\0\x17\x01\0\0\0\0\x01\0\0\0",
@@ -42,7 +48,7 @@ const RUNS: &[Row] = &[
         b"refused: NoPlaces\n",
         Refused,
     ),
-    (&["help"], b"", b"usage\n", Failed),
+    (&["Help"], b"", b"usage\n", Failed),
     (
         &["audit", "1", "3", "SELECT 1"],
         b"",

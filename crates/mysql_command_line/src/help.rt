@@ -1,0 +1,15 @@
+//! What the program prints of itself.
+
+/// The words that the program knows, in ten lines.
+pub(crate) const HELP: &str =
+    "Parameter sets of one query as a stream of MySQL's commands, and back.
+    mysql_session_program                              SELECT :a with a = 1, sent and audited
+    mysql_session_program encode ROAD ID LIMIT QUERY   sets in JSON in, a stream out
+    mysql_session_program audit ID LIMIT QUERY         a stream in, a line for each set out
+    mysql_session_program follow ID LIMIT QUERY        the same lines, as the stream comes
+    mysql_session_program recode ID LIMIT QUERY        a stream in, executions of its sets out
+    mysql_session_program help                         these lines
+ROAD is text, execute or bulk, ID the statement's id, LIMIT the most bytes of a packet, from 4.
+QUERY has question marks, or names as :a; sets are [[1, \"x\"], ..], or [{\"a\": 1}, ..] for :a.
+Status: 0 done, 1 refused or a stream that isn't whole, 2 unknown words or input.
+";
