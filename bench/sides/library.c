@@ -9,8 +9,10 @@ size_t mysql_bench_places(Pointer, size_t, size_t);
 size_t mysql_bench_send(Pointer, size_t, Pointer, size_t, size_t, size_t, _Bool, uint8_t, size_t, size_t);
 size_t mysql_bench_send_values(Pointer, size_t, Pointer, size_t, size_t, size_t, uint8_t, size_t);
 size_t mysql_bench_receive(Pointer, size_t, Pointer, size_t, size_t);
+size_t mysql_bench_receive_taken(Pointer, size_t, Pointer, size_t, Pointer, size_t, size_t, size_t);
 size_t mysql_bench_recode(Pointer, size_t, Pointer, size_t);
 size_t mysql_bench_read_reply(Pointer, size_t, size_t, _Bool);
+size_t mysql_bench_read_reply_taken(Pointer, size_t, Pointer, size_t, size_t, size_t, _Bool);
 size_t mysql_bench_cells(Pointer, size_t, _Bool, _Bool, size_t);
 int64_t mysql_bench_convert(Pointer, size_t, size_t, size_t);
 
@@ -29,7 +31,7 @@ static void send_sets(const char *what, Work work, int rounds) {
 
 static void run(const char *what, int rounds) {
     Work work;
-    _Bool binary = strstr(what, "binary") != 0, bytewise = strstr(what, "bytewise") != 0;
+    _Bool binary = strstr(what, "binary") != 0, bytewise = strstr(what, "bytewise") != 0, taken = strstr(what, "taken") != 0;
     size_t copies = bytewise ? BYTEWISE_COPIES : COPIES, piece = bytewise ? 1 : PIECE;
     if (IS("frame-16M")) {
         Bytes one = payload(16000000);
@@ -45,13 +47,16 @@ static void run(const char *what, int rounds) {
         MEASURE("library", 1e6, mysql_bench_places(query.at, query.len, 1000000))
     } else if (BEGINS("receive")) {
         Bytes query = load("query"), stream = commands(what, copies);
-        MEASURE("library", 1e4 * copies, mysql_bench_receive(query.at, query.len, stream.at, stream.len, piece))
+        // Beside a reader from which sets are taken, the one that keeps them all.
+        if (taken) MEASURE("library", 1e4 * copies, mysql_bench_receive_taken(query.at, query.len, stream.at, 0, stream.at, stream.len, 1, piece))
+        MEASURE(taken ? "kept" : "library", 1e4 * copies, mysql_bench_receive(query.at, query.len, stream.at, stream.len, piece))
     } else if (BEGINS("recode")) {
         Bytes query = load("query"), stream = commands(what, copies);
         MEASURE("library", 1e4 * copies, mysql_bench_recode(query.at, query.len, stream.at, stream.len))
     } else if (BEGINS("reply")) {
         Bytes stream = load(binary ? "reply-binary" : "reply-text");
-        MEASURE("library", (double)ROWS, mysql_bench_read_reply(stream.at, stream.len, piece, binary))
+        if (taken) MEASURE("library", (double)ROWS, mysql_bench_read_reply_taken(stream.at, 0, stream.at, stream.len, 1, piece, binary))
+        MEASURE(taken ? "kept" : "library", (double)ROWS, mysql_bench_read_reply(stream.at, stream.len, piece, binary))
     } else if (BEGINS("cells")) {
         Bytes stream = load(binary ? "cells-binary" : "cells-text");
         _Bool by_name = strstr(what, "by-name") != 0;

@@ -1,5 +1,5 @@
 // The most memory that a call holds at a time, over the input's bytes and over what it holds when it has taken its last block, which
-// is what is kept and the reader's own: peak INPUTS
+// is what is kept and the reader's own; and that of readers from which what stands is taken behind each piece: peak INPUTS
 // Linked with --wrap, so that it counts each block with what malloc adds.
 #include "measure.h"
 #include <malloc.h>
@@ -7,7 +7,9 @@
 typedef const unsigned char *Pointer;
 
 size_t mysql_bench_receive(Pointer, size_t, Pointer, size_t, size_t);
+size_t mysql_bench_receive_taken(Pointer, size_t, Pointer, size_t, Pointer, size_t, size_t, size_t);
 size_t mysql_bench_read_reply(Pointer, size_t, size_t, _Bool);
+size_t mysql_bench_read_reply_taken(Pointer, size_t, Pointer, size_t, size_t, size_t, _Bool);
 size_t mysql_bench_split(Pointer, size_t, size_t);
 
 static size_t held, most, last, calls;
@@ -67,30 +69,119 @@ static void commands_of_one_value(void) {
     PEAK("a text with 16 MB of hexadecimal", stream.len, mysql_bench_receive(query.at, query.len, stream.at, stream.len, PIECE));
 }
 
+// Streams that are as long as wanted: a front, and then a block again and again, which alone is held here.
+typedef struct { Bytes query, front, block; _Bool binary; } Endless;
+
+enum { SHORTEST = 1000000, LONG = 100000000, LONGEST = 1000000000 };
+
+static size_t length(Endless all, size_t times) { return all.front.len + times * all.block.len; }
+
+// Readers from which what stands is taken behind each piece, over streams of 10^6 bytes to the most.
+static void receive_taken(const char *what, Endless all, size_t most_len) {
+    for (size_t len = SHORTEST; len <= most_len; len *= 10) {
+        size_t times = len / all.block.len + 1;
+        PEAK(what, length(all, times), mysql_bench_receive_taken(all.query.at, all.query.len, all.front.at, all.front.len, all.block.at, all.block.len, times, PIECE));
+    }
+}
+
+static void reply_taken(const char *what, Endless all, size_t most_len) {
+    for (size_t len = SHORTEST; len <= most_len; len *= 10) {
+        size_t times = len / all.block.len + 1;
+        PEAK(what, length(all, times), mysql_bench_read_reply_taken(all.front.at, all.front.len, all.block.at, all.block.len, times, PIECE, all.binary));
+    }
+}
+
 // Executions of a query of 65535 placeholders, all NULL; the first has the types.
-static void wide_executions(void) {
+static Endless wide_executions(void) {
     enum { COUNT = 65535 };
     static const char head[] = "\x17\1\0\0\0\0\1\0\0\0";
-    Bytes prepare = filled("\x16", 1, ' ', 2 * COUNT, ""), types = filled("", 0, 0, 2 * COUNT, "");
+    Bytes none = {0}, prepare = filled("\x16", 1, ' ', 2 * COUNT, ""), types = filled("", 0, 0, 2 * COUNT, "");
     for (size_t i = 0; i < COUNT; i++) prepare.at[1 + 2 * i] = '?', types.at[2 * i] = 6;
-    Bytes query = {prepare.at + 1, 2 * COUNT};
     Bytes first = filled(head, 10, 0xff, 8192, "\1"), next = filled(head, 10, 0xff, 8192, "\1");
     next.at[next.len - 1] = 0;
     Bytes front = repeated(packet(0, prepare), packet(0, repeated(first, types, 1)), 1);
-    Bytes stream = repeated(front, packet(0, next), 100);
-    PEAK("executes of 65535 NULLs without types", stream.len, mysql_bench_receive(query.at, query.len, stream.at, stream.len, PIECE));
+    return (Endless){{prepare.at + 1, 2 * COUNT}, front, repeated(none, packet(0, next), 8), 0};
 }
 
-// A reply of two million rows of four cells of one byte each.
-static void small_rows(const char *what, unsigned char byte) {
-    Bytes reply = load("reply-text");
+// The executions kept, so many blocks of them.
+static void wide_executions_kept(size_t times) {
+    Endless all = wide_executions();
+    Bytes stream = repeated(all.front, all.block, times);
+    PEAK("executes of 65535 NULLs without types", stream.len, mysql_bench_receive(all.query.at, all.query.len, stream.at, stream.len, PIECE));
+    free(stream.at);
+}
+
+// A row of so many bytes again and again, 256 times as often as told, numbered on from this number.
+static Bytes numbered_rows(Bytes payload, size_t times, unsigned number) {
+    Bytes none = {0}, rows = repeated(none, packet(0, payload), 256 * times);
+    for (size_t i = 0; i < 256 * times; i++) rows.at[i * (payload.len + 4) + 3] = number++;
+    return rows;
+}
+
+// Replies of rows of four cells of one byte each.
+static Endless small_rows(unsigned char byte) {
+    Bytes reply = load("reply-text"), none = {0};
     size_t at = 0;
     for (int i = 0; i < 6; i++) at += 4 + (reply.at[at] | reply.at[at + 1] << 8);
-    Bytes stream = repeated((Bytes){reply.at, at}, (Bytes){(void *)"\4\0\0\0\0\0\0\0", 8}, 2000000);
-    for (size_t i = at, number = 7; i < stream.len; i += 8) stream.at[i + 3] = number++, memset(stream.at + i + 4, byte, 4);
-    unsigned char end[9] = {5, 0, 0, 7 + (unsigned char)2000000, 0xfe, 0, 0, 2, 0};
+    return (Endless){none, {reply.at, at}, numbered_rows(filled("", 0, byte, 4, ""), 32, 7), 0};
+}
+
+static void small_rows_kept(const char *what, unsigned char byte) {
+    Endless all = small_rows(byte);
+    Bytes stream = repeated(all.front, all.block, 244);
+    unsigned char end[9] = {5, 0, 0, 7, 0xfe, 0, 0, 2, 0};
     stream = repeated(stream, (Bytes){end, 9}, 1);
     PEAK(what, stream.len, mysql_bench_read_reply(stream.at, stream.len, PIECE, 0));
+    free(stream.at);
+}
+
+// Replies of binary rows of 65535 NULLs.
+static Endless wide_rows(void) {
+    enum { COUNT = 65535 };
+    static const char texts[] = "\3def\0\0\0\0\0\x0c\x3f\0\1\0\0\0\x08\0\0\0\0";
+    Bytes none = {0}, front = packet(1, filled("\xfc\xff\xff", 3, 0, 0, "")), column = packet(2, filled(texts, 21, 0, 1, ""));
+    front = repeated(front, column, COUNT);
+    for (size_t i = 0; i < COUNT; i++) front.at[7 + i * column.len + 3] = 2 + i;
+    front = repeated(front, packet(2 + COUNT, filled("\xfe\0\0\2\0", 5, 0, 0, "")), 1);
+    return (Endless){none, front, numbered_rows(filled("\0", 1, 0xff, 8193, ""), 1, 3 + COUNT), 1};
+}
+
+// The rows kept, 256 of them for each block.
+static void wide_rows_kept(size_t times) {
+    Endless all = wide_rows();
+    Bytes stream = repeated(all.front, all.block, times);
+    unsigned char end[9] = {5, 0, 0, 2, 0xfe, 0, 0, 2, 0};
+    stream = repeated(stream, (Bytes){end, 9}, 1);
+    PEAK("a reply of rows of 65535 NULLs", stream.len, mysql_bench_read_reply(stream.at, stream.len, PIECE, 1));
+    free(stream.at);
+}
+
+// One bulk request of rows of one NULL, a byte each: its sets stand all together, also where they are taken.
+static void bulk_of_nulls(void) {
+    static const char head[] = "\xfa\1\0\0\0\x80\0\x08\0";
+    Bytes query = {(void *)"SELECT ?", 8}, front = packet(0, filled("\x16SELECT ?", 9, 0, 0, ""));
+    Bytes block = packet(0, filled(head, 9, 1, 16000000, ""));
+    PEAK("one bulk request of 16 million NULLs, taken", front.len + block.len, mysql_bench_receive_taken(query.at, query.len, front.at, front.len, block.at, block.len, 1, PIECE));
+}
+
+// A statement's long data that no execution ever takes: what waits is held, also by a reader from which sets are taken.
+static void waiting_pieces(void) {
+    Bytes query = {(void *)"SELECT ?", 8}, none = {0}, front = packet(0, filled("\x16SELECT ?", 9, 0, 0, ""));
+    Bytes block = repeated(none, packet(0, filled("\x18\1\0\0\0\0", 6, 0, 1000, "")), 1000);
+    size_t len = front.len + 64 * block.len;
+    // Its end isn't whole, so that the count that is answered is 0.
+    PEAK("long data of 1000 bytes that waits, taken", len, mysql_bench_receive_taken(query.at, query.len, front.at, front.len, block.at, block.len, 64, PIECE));
+}
+
+static void taken(void) {
+    Bytes none = {0};
+    receive_taken("texts of 123 bytes, taken", (Endless){load("query"), none, commands("texts", 1), 0}, LONGEST);
+    receive_taken("executes of 85 bytes, taken", (Endless){load("query"), load("prepare"), load("executes"), 0}, LONGEST);
+    receive_taken("executes of 65535 NULLs, taken", wide_executions(), LONG);
+    reply_taken("rows of four NULLs, taken", small_rows(251), LONGEST);
+    reply_taken("rows of 65535 NULLs, taken", wide_rows(), LONG);
+    bulk_of_nulls();
+    waiting_pieces();
 }
 
 int main(int argc, char **argv) {
@@ -103,16 +194,19 @@ int main(int argc, char **argv) {
     stream = commands("bulks", 10);
     PEAK("bulk rows of 65 bytes, pieces of 64 KiB", stream.len, mysql_bench_receive(query.at, query.len, stream.at, stream.len, PIECE));
     commands_of_one_value();
-    wide_executions();
+    wide_executions_kept(13);
+    wide_executions_kept(64);
     stream = load("reply-text");
     PEAK("a reply of rows of 46 bytes", stream.len, mysql_bench_read_reply(stream.at, stream.len, PIECE, 0));
-    small_rows("a reply of rows of four empty cells", 0);
-    small_rows("a reply of rows of four NULLs", 251);
+    small_rows_kept("a reply of rows of four empty cells", 0);
+    small_rows_kept("a reply of rows of four NULLs", 251);
+    wide_rows_kept(2);
     stream = framed(16000000, 8);
     PEAK("payloads of 16 MB split, pieces of 64 KiB", stream.len, mysql_bench_split(stream.at, stream.len, PIECE));
     stream = framed(100, 256000);
     PEAK("payloads of 100 bytes split", stream.len, mysql_bench_split(stream.at, stream.len, PIECE));
     stream = framed(0, 2560000);
     PEAK("empty payloads split", stream.len, mysql_bench_split(stream.at, stream.len, PIECE));
+    taken();
     return 0;
 }

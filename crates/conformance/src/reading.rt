@@ -6,8 +6,8 @@ use crate::results::reply_words;
 use crate::tokens::{Token, words_of};
 use crate::trouble::Trouble;
 use mysql_session::{
-    CapabilityFlags, End, Receiver, ReceiverError, ReplyEnd, ReplyFault, ReplyKind, ReplyReader,
-    StreamFault, read_reply, receive,
+    Audit, CapabilityFlags, End, Receiver, ReceiverError, Reply, ReplyEnd, ReplyFault, ReplyKind,
+    ReplyReader, StreamFault, read_reply, receive,
 };
 use std::alloc::Global;
 
@@ -20,22 +20,40 @@ pub enum Reading {
     Reply(ReplyKind, CapabilityFlags, u8, usize),
 }
 
-/// What a stream of commands says that comes in pieces of this size.
+/// How bytes are fed: the size of the pieces, and how many times in a row what stands is taken before the first piece and behind each.
+type Feeding = (usize, usize);
+
+/// What a stream of commands says that is fed so: the sets that were taken, and behind them those of the end.
+fn fed_audit(
+    mut receiver: Receiver,
+    stream: &[u8],
+    (size, takes): Feeding,
+) -> Result<Audit, Trouble> {
+    let mut sets = receiver.take_sets();
+    for piece in stream.chunks(size.max(1)) {
+        let _answer = receiver.feed(piece);
+        for _ in 0..takes {
+            sets.append(&mut receiver.take_sets())?;
+        }
+    }
+    let mut audit = receiver.finish();
+    sets.append(&mut audit.sets)?;
+    audit.sets = sets;
+    Ok(audit)
+}
+
+/// What a stream of commands says that is fed so.
 fn audited(
     alloc: Global,
     (query, id, limit): (&[u8], u32, usize),
     stream: &[u8],
-    size: usize,
+    feeding: Feeding,
 ) -> Result<String, Trouble> {
     let limit = limit.max(4);
-    let audit = if size >= stream.len() {
+    let audit = if feeding == (stream.len(), 0) {
         receive(alloc, query, id, limit, &[stream])?
     } else {
-        let mut receiver = Receiver::new(alloc, query, id, limit)?;
-        for piece in stream.chunks(size.max(1)) {
-            let _answer = receiver.feed(piece);
-        }
-        receiver.finish()
+        fed_audit(Receiver::new(alloc, query, id, limit)?, stream, feeding)?
     };
     if matches!(audit.end, End::Fault(_, StreamFault::Memory)) {
         return Err(Trouble::Memory);
@@ -43,21 +61,42 @@ fn audited(
     Ok(audit_words(alloc, &audit)?)
 }
 
-/// What a reply says that comes in pieces of this size.
+/// What a reply says that is fed so: the results and reports that were taken, and behind them those of the end. A result set that was
+/// taken in parts stays in parts.
+fn fed_reply(
+    mut reader: ReplyReader,
+    stream: &[u8],
+    (size, takes): Feeding,
+) -> Result<Reply, Trouble> {
+    let mut results = reader.take_results();
+    let mut progress = reader.take_progress();
+    for piece in stream.chunks(size.max(1)) {
+        let _answer = reader.feed(piece);
+        for _ in 0..takes {
+            results.append(&mut reader.take_results())?;
+            progress.append(&mut reader.take_progress())?;
+        }
+    }
+    let mut reply = reader.finish();
+    results.append(&mut reply.results)?;
+    progress.append(&mut reply.progress)?;
+    reply.results = results;
+    reply.progress = progress;
+    Ok(reply)
+}
+
+/// What a reply says that is fed so.
 fn replied(
     alloc: Global,
     (kind, capabilities, first_id, limit): (ReplyKind, CapabilityFlags, u8, usize),
     stream: &[u8],
-    size: usize,
+    feeding: Feeding,
 ) -> Result<String, Trouble> {
-    let reply = if size >= stream.len() {
+    let reply = if feeding == (stream.len(), 0) {
         read_reply(alloc, kind, capabilities, first_id, limit, &[stream])
     } else {
-        let mut reader = ReplyReader::new(alloc, kind, capabilities, first_id, limit);
-        for piece in stream.chunks(size.max(1)) {
-            let _answer = reader.feed(piece);
-        }
-        reader.finish()
+        let reader = ReplyReader::new(alloc, kind, capabilities, first_id, limit);
+        fed_reply(reader, stream, feeding)?
     };
     if matches!(reply.end, ReplyEnd::Fault(_, ReplyFault::Memory)) {
         return Err(Trouble::Memory);
@@ -65,7 +104,26 @@ fn replied(
     Ok(reply_words(alloc, &reply)?)
 }
 
-/// Compares what bytes say with what is wanted: in one piece, byte by byte, and where they are few in pieces of each size.
+/// What bytes say that are fed so.
+fn words_said(
+    alloc: Global,
+    reading: &Reading,
+    stream: &[u8],
+    feeding: Feeding,
+) -> Result<String, Trouble> {
+    match reading {
+        Reading::Audit(query, id, limit) => audited(alloc, (query, *id, *limit), stream, feeding),
+        Reading::Reply(kind, capabilities, id, limit) => replied(
+            alloc,
+            (*kind, *capabilities, *id, *limit),
+            stream,
+            feeding,
+        ),
+    }
+}
+
+/// Compares what bytes say with what is wanted: in one piece, byte by byte, and where they are few in pieces of each size; and once more, in at
+/// most some 10000 pieces, where what stands is taken in between.
 fn check_bytes(
     alloc: Global,
     reading: &Reading,
@@ -75,20 +133,15 @@ fn check_bytes(
     let most = if stream.len() < 100 { stream.len() } else { 1 };
     for size in 0..=most {
         let size = if size == 0 { stream.len() } else { size };
-        let found = match reading {
-            Reading::Audit(query, id, limit) => audited(alloc, (query, *id, *limit), stream, size)?,
-            Reading::Reply(kind, capabilities, id, limit) => replied(
-                alloc,
-                (*kind, *capabilities, *id, *limit),
-                stream,
-                size,
-            )?,
-        };
-        if found.as_str() != wanted {
-            return Err(Trouble::Differs(format!(in alloc;
-                "{} bytes in pieces of {size}: wanted{wanted}, found{found}",
-                stream.len()
-            )?));
+        let taken = (size.max(stream.len() / 10000), 1 + size % 2);
+        for (size, takes) in [(size, 0), taken] {
+            let found = words_said(alloc, reading, stream, (size, takes))?;
+            if found.as_str() != wanted {
+                return Err(Trouble::Differs(format!(in alloc;
+                    "{} bytes in pieces of {size}, {takes} takes: wanted{wanted}, found{found}",
+                    stream.len()
+                )?));
+            }
         }
     }
     Ok(())

@@ -69,6 +69,20 @@ fn put_error(words: &mut String, error: &ServerError<'_>) -> Result<(), AllocErr
     words.push_str(" |")
 }
 
+/// The columns that stand over rows: none, where the rows go on with those before them, which have no end and the same columns.
+fn heading<'a>(columns: &'a [Column], before: Option<&ReplyResult>) -> &'a [Column] {
+    match before {
+        Some(
+            ReplyResult::Rows {
+                columns: same,
+                rows: _,
+                terminator: None,
+            },
+        ) if same.as_slice() == columns => &[],
+        _ => columns,
+    }
+}
+
 /// Writes columns and the rows under them.
 fn put_rows(words: &mut String, columns: &[Column], rows: &[Row]) -> Result<(), AllocError> {
     for column in columns {
@@ -80,8 +94,12 @@ fn put_rows(words: &mut String, columns: &[Column], rows: &[Row]) -> Result<(), 
     Ok(())
 }
 
-/// Writes a result.
-fn put_result(words: &mut String, found: &ReplyResult) -> Result<(), AllocError> {
+/// Writes a result, by the one before it. The parts of a result set are written as one.
+fn put_result(
+    words: &mut String,
+    before: Option<&ReplyResult>,
+    found: &ReplyResult,
+) -> Result<(), AllocError> {
     match found {
         ReplyResult::Ok(packet) => {
             write!(words, " ok: rows {}", packet.affected_rows())?;
@@ -92,7 +110,7 @@ fn put_result(words: &mut String, found: &ReplyResult) -> Result<(), AllocError>
             rows,
             terminator,
         } => {
-            put_rows(words, columns.as_slice(), rows)?;
+            put_rows(words, heading(columns.as_slice(), before), rows)?;
             match terminator {
                 Some(packet) => {
                     words.push_str(" end of rows:")?;
@@ -140,8 +158,10 @@ pub fn reply_words(alloc: Global, reply: &Reply) -> Result<String, AllocError> {
         put_bytes(&mut words, report.stage_info_ref())?;
         words.push_str(" |")?;
     }
+    let mut before = None;
     for outcome in &reply.results {
-        put_result(&mut words, outcome)?;
+        put_result(&mut words, before, outcome)?;
+        before = Some(outcome);
     }
     match reply.end {
         ReplyEnd::Whole => words.push_str(" end: whole |")?,

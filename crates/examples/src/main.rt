@@ -1,17 +1,31 @@
-//! Three short programs over the public calls: they read a captured stream, send a query, and answer a server's handshake.
+//! Short programs over the public calls, one in each file: they audit a captured stream, send a query, load rows in bulk, read a
+//! reply, log in, sort what a client sends, and look on at what passes between a client and a server.
 #![tactic(auto)]
 
 mod answering;
 mod auditing;
+mod cents;
+mod loading;
+mod proxying;
+mod reading;
 mod sending;
+mod sorting;
 
 use std::fs::File;
 use std::io;
 
 fn main(rt: HostRuntime) -> anyhow::Result<()> {
+    let alloc = rt.alloc();
+    let mut out = io::writer(&rt);
     let mut stream = File::open(&rt, "stream.bin")?;
-    auditing::audit(rt.alloc(), &mut stream, &mut io::writer(&rt))?;
-    sending::send_both_roads(rt.alloc(), &mut io::writer(&rt))?;
-    answering::answer(rt.alloc(), &mut io::writer(&rt))?;
+    auditing::audit(alloc, &mut stream, &mut out)?;
+    sending::send_both_roads(alloc, &mut out)?;
+    loading::load(alloc, &mut out)?;
+    let mut reply = File::open(&rt, "reply.bin")?;
+    reading::read(alloc, &mut reply, &mut out)?;
+    answering::answer(alloc, &mut out)?;
+    sorting::sort(alloc, &mut out)?;
+    let (mut client, mut server) = (proxying::CLIENT, proxying::SERVER);
+    proxying::proxy(alloc, &mut client, &mut server, &mut out)?;
     Ok(())
 }

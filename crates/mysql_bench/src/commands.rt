@@ -33,6 +33,44 @@ pub extern "C" fn mysql_bench_receive(
     count_of(&receiver.finish())
 }
 
+/// Feeds bytes in pieces of a size, and takes behind each the sets that stand. Answers how many they are.
+fn taken_sets(receiver: &mut Receiver, bytes: &[u8], size: usize) -> usize
+    requires { 0 < size }
+{
+    let mut count: usize = 0;
+    for piece in bytes.chunks(size) {
+        let _answer = receiver.feed(piece);
+        count = count.wrapping_add(receiver.take_sets().len());
+    }
+    count
+}
+
+/// Reads a stream that comes in pieces of a size, a front and then a block so many times, and takes the sets behind each piece. Answers
+/// how many there are.
+#[unsafe(no_mangle)]
+pub extern "C" fn mysql_bench_receive_taken(
+    alloc: Global,
+    query: &[u8],
+    front: &[u8],
+    block: &[u8],
+    times: usize,
+    size: usize,
+) -> usize
+    requires { 0 < size }
+{
+    let Ok(mut receiver) = Receiver::new(alloc, query, STATEMENT, LIMIT) else {
+        return 0;
+    };
+    let mut count = taken_sets(&mut receiver, front, size);
+    for _ in 0..times {
+        count = count.wrapping_add(taken_sets(&mut receiver, block, size));
+    }
+    match receiver.finish().end {
+        End::Whole => count,
+        _ => 0,
+    }
+}
+
 /// Recodes a stream. Answers the bytes of what is appended.
 #[unsafe(no_mangle)]
 pub extern "C" fn mysql_bench_recode(alloc: Global, query: &[u8], stream: &[u8]) -> usize {

@@ -26,16 +26,21 @@ pub fn rows_of(reply: &Reply) -> &[Row] {
     }
 }
 
-/// The reply that comes in pieces of a size, with its rows in binary or as text.
-pub fn reply_of(alloc: Global, stream: &[u8], size: usize, binary: bool) -> Reply
-    requires { 0 < size }
-{
+/// A reader of a reply with its rows in binary or as text.
+fn reader_of(alloc: Global, binary: bool) -> ReplyReader {
     let kind = if binary {
         ReplyKind::Binary
     } else {
         ReplyKind::Text
     };
-    let mut reader = ReplyReader::new(alloc, kind, CAPABILITIES, 1, LIMIT);
+    ReplyReader::new(alloc, kind, CAPABILITIES, 1, LIMIT)
+}
+
+/// The reply that comes in pieces of a size, with its rows in binary or as text.
+pub fn reply_of(alloc: Global, stream: &[u8], size: usize, binary: bool) -> Reply
+    requires { 0 < size }
+{
+    let mut reader = reader_of(alloc, binary);
     for piece in stream.chunks(size) {
         let _answer = reader.feed(piece);
     }
@@ -53,4 +58,56 @@ pub extern "C" fn mysql_bench_read_reply(
     requires { 0 < size }
 {
     rows_of(&reply_of(alloc, stream, size, binary)).len()
+}
+
+/// How many rows there are in all these results.
+fn count_of(results: &[ReplyResult]) -> usize {
+    let mut count: usize = 0;
+    for found in results {
+        if let ReplyResult::Rows {
+            columns: _,
+            rows,
+            terminator: _,
+        } = found
+        {
+            count = count.wrapping_add(rows.len());
+        }
+    }
+    count
+}
+
+/// Feeds bytes in pieces of a size, and takes behind each the results that stand. Answers how many rows they have.
+fn taken_rows(reader: &mut ReplyReader, bytes: &[u8], size: usize) -> usize
+    requires { 0 < size }
+{
+    let mut count: usize = 0;
+    for piece in bytes.chunks(size) {
+        let _answer = reader.feed(piece);
+        count = count.wrapping_add(count_of(&reader.take_results()));
+    }
+    count
+}
+
+/// Reads a reply that comes in pieces of a size, a front and then a block so many times, and takes the results behind each piece.
+/// Answers how many rows there are, also where the reply goes on.
+#[unsafe(no_mangle)]
+pub extern "C" fn mysql_bench_read_reply_taken(
+    alloc: Global,
+    front: &[u8],
+    block: &[u8],
+    times: usize,
+    size: usize,
+    binary: bool,
+) -> usize
+    requires { 0 < size }
+{
+    let mut reader = reader_of(alloc, binary);
+    let mut count = taken_rows(&mut reader, front, size);
+    for _ in 0..times {
+        count = count.wrapping_add(taken_rows(&mut reader, block, size));
+    }
+    match reader.finish().end {
+        ReplyEnd::Fault(_, _) => 0,
+        _ => count,
+    }
 }
