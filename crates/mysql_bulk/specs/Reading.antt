@@ -18,7 +18,7 @@ use Rattle.mysql_const.specs.declared.execute.StmtExecuteParamFlags.{StmtExecute
 use Rattle.mysql_cells.specs.Cells.{column_cell_at}
 use Rattle.mysql_cells.specs.declared.value.Value.{Value}
 use Rattle.mysql_cells.specs.declared.value.Value.TheVariants.{NULL}
-use Rattle.mysql_raw.specs.Forms.{little_at}
+use Rattle.mysql_raw.specs.Forms.{fixed_number_at}
 use Rattle.mysql_raw.specs.Wire.{Reading, from_block, ◌>>=◌}
 use Rattle.mysql_raw_consts.specs.Constants.{constant_at, named_at}
 use Rattle.mysql_raw_consts.specs.Flags.{flags_named}
@@ -34,8 +34,8 @@ param_flags_named bits = flags_named execute_param_flags (λ b. record { 0 = b }
 -- a type: its number, its flags
 unfoldable pub param_type_fields_at : List ℕ → Reading StmtBulkExecuteParamType
 param_type_fields_at bytes = do
-  column_type ← named_at column_type_named (little_at 1) bytes
-  flags ← named_at param_flags_named (little_at 1) column_type.1
+  column_type ← named_at column_type_named (fixed_number_at 1) bytes
+  flags ← named_at param_flags_named (fixed_number_at 1) column_type.1
   Ok (record { column_type = column_type.0; flags = flags.0 }, flags.1)
 
 -- both bytes are asked for first
@@ -52,7 +52,7 @@ held_at column BULK_INDICATOR_IGNORE bytes = Ok (NULL, bytes)
 -- a value by its column's type and flags: its indicator, what that holds
 unfoldable pub param_value_at : ColumnType × ColumnFlags → List ℕ → Reading StmtBulkExecuteParamValue
 param_value_at column bytes = do
-  indicator ← named_at bulk_indicator_named (little_at 1) bytes
+  indicator ← named_at bulk_indicator_named (fixed_number_at 1) bytes
   held ← held_at column indicator.0 indicator.1
   Ok (record { indicator = indicator.0; value = held.0 }, held.1)
 
@@ -98,8 +98,8 @@ sent_types_at flags count bytes = if sends_types flags then elements_at param_ty
 unfoldable pub bulk_head_at : List ℕ → Reading (ℕ × StmtBulkExecuteFlags)
 bulk_head_at bytes = do
   header ← constant_at 1 (command_number COM_STMT_BULK_EXECUTE) bytes
-  id ← little_at 4 header.1
-  flags ← named_at bulk_flags_named (little_at 2) id.1
+  id ← fixed_number_at 4 header.1
+  flags ← named_at bulk_flags_named (fixed_number_at 2) id.1
   Ok ((id.0, flags.0), flags.1)
 
 -- a bulk execution, of whose rows the first is read

@@ -9,7 +9,7 @@ use Rattle.mysql_cells.specs.declared.value.Value.TheVariants.{NULL, Bytes, Int,
 use Rattle.mysql_bulk_builder.specs.Cut.{Row}
 use Rattle.mysql_bulk_builder.specs.Causes.{is_of_other_kind, place_where}
 use Rattle.mysql_bulk_builder.specs.RowLists.{row_in}
-use Rattle.mysql_bulk_builder.specs.ValueTypes.{is_null, first_value, first_values, same_kind}
+use Rattle.mysql_bulk_builder.specs.ValueTypes.{is_null, first_in_column, first_values, same_kind}
 use Rattle.mysql_bulk_builder.proofs.FirstAt.{first_at_none, first_at_some}
 use Rattle.mysql_bulk_builder.proofs.Rows.{value_at}
 use Rattle.mysql_bulk_builder.proofs.OneKindLemmas.{first_of_append, first_of_rest}
@@ -34,26 +34,26 @@ alone (Date year month day hour minute second micros) = refl
 alone (Time negative days hours minutes seconds micros) = refl
 
 -- the first value of rows and one more
-first_with : (column : ℕ) (before : List Row) (row : Row) → first_value column (before ++ row ∷ []) ≡ filled (first_value column before) (get_or row column NULL)
-first_with column before row = elim (cases_Bool (is_null (first_value column before))) [
-  | inl null ↦ first_of_rest column before (row ∷ []) null ∙ alone (get_or row column NULL) ∙ sym (cond-true (is_null (first_value column before)) (get_or row column NULL) (first_value column before) null)
-  | inr some ↦ first_of_append column before (row ∷ []) some ∙ sym (cond-false (is_null (first_value column before)) (get_or row column NULL) (first_value column before) some)
+first_with : (column : ℕ) (before : List Row) (row : Row) → first_in_column column (before ++ row ∷ []) ≡ filled (first_in_column column before) (get_or row column NULL)
+first_with column before row = elim (cases_Bool (is_null (first_in_column column before))) [
+  | inl null ↦ first_of_rest column before (row ∷ []) null ∙ alone (get_or row column NULL) ∙ sym (cond-true (is_null (first_in_column column before)) (get_or row column NULL) (first_in_column column before) null)
+  | inr some ↦ first_of_append column before (row ∷ []) some ∙ sym (cond-false (is_null (first_in_column column before)) (get_or row column NULL) (first_in_column column before) some)
 ]
 
 -- there is one for each column
 pub length_first : (columns : ℕ) (rows : List Row) → length (first_values columns rows) ≡ columns
-length_first columns rows = length-map-range_with_len (λ column. first_value column rows) 0 columns
+length_first columns rows = length-map-range_with_len (λ column. first_in_column column rows) 0 columns
 
 -- the first value of one column
-pub first_here : (columns : ℕ) (rows : List Row) (column : ℕ) (d : Value) → column < columns → get_or (first_values columns rows) column d ≡ first_value column rows
-first_here columns rows column d lt = get_or-map-range_with_len (λ column. first_value column rows) 0 columns column column d lt (omega arith)
+pub first_here : (columns : ℕ) (rows : List Row) (column : ℕ) (d : Value) → column < columns → get_or (first_values columns rows) column d ≡ first_in_column column rows
+first_here columns rows column d lt = get_or-map-range_with_len (λ column. first_in_column column rows) 0 columns column column d lt (omega arith)
 
 -- NULL for one more column
 pub one_more_null : (firsts new : List (Bor Value)) (null : Bor Value) (column : ℕ) → null.now ≡ NULL → row_in firsts ≡ first_values column [] → new ≡ firsts ++ null ∷ [] → row_in new ≡ first_values (column + 1) []
 one_more_null firsts new null column is before put =
     let none : List Row = [] in
     ap (λ l. row_in l) put ∙ map-append (λ (v : Bor Value). v.now) firsts (null ∷ []) ∙ ap (λ (r : Row). r ++ null.now ∷ []) before ∙ ap (λ (v : Value). first_values column [] ++ v ∷ []) is
-    ∙ sym (map-range_with_len_more (λ column. first_value column none) 0 column column (omega arith))
+    ∙ sym (map-range_with_len_more (λ column. first_in_column column none) 0 column column (omega arith))
 
 -- the first values of one more row, column by column
 pub first_values_more : (columns : ℕ) (old new : List (Bor Value)) (row : Row) → length old ≡ columns → length new ≡ columns →
@@ -63,7 +63,7 @@ first_values_more columns old new row len_old len_new each before is =
     let len : length (row_in new) ≡ columns = length-map new (λ (v : Bor Value). v.now) ∙ len_new in
     same_lists (row_in new) (first_values columns (before ++ row ∷ [])) (len ∙ sym (length_first columns (before ++ row ∷ []))) (λ k d inside.
     let lt : k < columns = omega (arith, inside, len) in
-    let was : get_or (row_in old) k NULL ≡ first_value k before = ap (λ (r : Row). get_or r k NULL) is ∙ first_here columns before k NULL lt in
+    let was : get_or (row_in old) k NULL ≡ first_in_column k before = ap (λ (r : Row). get_or r k NULL) is ∙ first_here columns before k NULL lt in
     get_or_default (row_in new) k d NULL inside ∙ each k lt ∙ ap (λ v. filled v (get_or row k NULL)) was ∙ sym (first_with k before row) ∙ sym (first_here columns (before ++ row ∷ []) k d lt))
 
 -- the first so many columns are filled from a row, and the others as they were
@@ -101,10 +101,10 @@ filled_before was now row i first f lt first_is some =
     filled_one_more was now now row i f (sym (cond-false (is_null (get_or (row_in now) i NULL)) (get_or row i NULL) (get_or (row_in now) i NULL) test)) (λ column ne. refl)
 
 -- the first value of rows and more rows
-first_with_rows : (column : ℕ) (before rows : List Row) → first_value column (before ++ rows) ≡ filled (first_value column before) (first_value column rows)
-first_with_rows column before rows = elim (cases_Bool (is_null (first_value column before))) [
-  | inl null ↦ first_of_rest column before rows null ∙ sym (cond-true (is_null (first_value column before)) (first_value column rows) (first_value column before) null)
-  | inr some ↦ first_of_append column before rows some ∙ sym (cond-false (is_null (first_value column before)) (first_value column rows) (first_value column before) some)
+first_with_rows : (column : ℕ) (before rows : List Row) → first_in_column column (before ++ rows) ≡ filled (first_in_column column before) (first_in_column column rows)
+first_with_rows column before rows = elim (cases_Bool (is_null (first_in_column column before))) [
+  | inl null ↦ first_of_rest column before rows null ∙ sym (cond-true (is_null (first_in_column column before)) (first_in_column column rows) (first_in_column column before) null)
+  | inr some ↦ first_of_append column before rows some ∙ sym (cond-false (is_null (first_in_column column before)) (first_in_column column rows) (first_in_column column before) some)
 ]
 
 -- the first values of rows stand for the rows
@@ -113,20 +113,20 @@ first_values_of_rows columns before rows =
     let one = before ++ first_values columns rows ∷ [] in
     same_lists (first_values columns one) (first_values columns (before ++ rows)) (length_first columns one ∙ sym (length_first columns (before ++ rows))) (λ k d inside.
     let lt : k < columns = omega (arith, inside, length_first columns one) in
-    first_here columns one k d lt ∙ first_with k before (first_values columns rows) ∙ ap (λ v. filled (first_value k before) v) (first_here columns rows k NULL lt)
+    first_here columns one k d lt ∙ first_with k before (first_values columns rows) ∙ ap (λ v. filled (first_in_column k before) v) (first_here columns rows k NULL lt)
     ∙ sym (first_with_rows k before rows) ∙ sym (first_here columns (before ++ rows) k d lt))
 
 -- a row without a value in the column is passed
-pub first_passes : (column : ℕ) (rows : List Row) (i : ℕ) (row : Row) → i < length rows → get_or rows i [] ≡ row → is_null (get_or row column NULL) ≡ true → first_value column (drop i rows) ≡ first_value column (drop (i + 1) rows)
+pub first_passes : (column : ℕ) (rows : List Row) (i : ℕ) (row : Row) → i < length rows → get_or rows i [] ≡ row → is_null (get_or row column NULL) ≡ true → first_in_column column (drop i rows) ≡ first_in_column column (drop (i + 1) rows)
 first_passes column rows i row lt at null =
-    ap (first_value column) (drop_more rows i [] lt)
-    ∙ cond-true (is_null (get_or (get_or rows i []) column NULL)) (first_value column (drop (i + 1) rows)) (get_or (get_or rows i []) column NULL) (ap (λ (r : Row). is_null (get_or r column NULL)) at ∙ null)
+    ap (first_in_column column) (drop_more rows i [] lt)
+    ∙ cond-true (is_null (get_or (get_or rows i []) column NULL)) (first_in_column column (drop (i + 1) rows)) (get_or (get_or rows i []) column NULL) (ap (λ (r : Row). is_null (get_or r column NULL)) at ∙ null)
 
 -- one with a value has the first
-pub first_found : (column : ℕ) (rows : List Row) (i : ℕ) (row : Row) → i < length rows → get_or rows i [] ≡ row → is_null (get_or row column NULL) ≡ false → first_value column (drop i rows) ≡ get_or row column NULL
+pub first_found : (column : ℕ) (rows : List Row) (i : ℕ) (row : Row) → i < length rows → get_or rows i [] ≡ row → is_null (get_or row column NULL) ≡ false → first_in_column column (drop i rows) ≡ get_or row column NULL
 first_found column rows i row lt at some =
-    ap (first_value column) (drop_more rows i [] lt)
-    ∙ cond-false (is_null (get_or (get_or rows i []) column NULL)) (first_value column (drop (i + 1) rows)) (get_or (get_or rows i []) column NULL) (ap (λ (r : Row). is_null (get_or r column NULL)) at ∙ some)
+    ap (first_in_column column) (drop_more rows i [] lt)
+    ∙ cond-false (is_null (get_or (get_or rows i []) column NULL)) (first_in_column column (drop (i + 1) rows)) (get_or (get_or rows i []) column NULL) (ap (λ (r : Row). is_null (get_or r column NULL)) at ∙ some)
     ∙ ap (λ (r : Row). get_or r column NULL) at
 
 -- no value is of another kind than NULL
@@ -166,7 +166,7 @@ module _ (firsts values : List (Bor Value)) (length_is : length values ≡ lengt
   -- the test by the first values is that by the rows before
   same_test : (k : ℕ) → k < length row → is_of_other_kind before k (get_or row k NULL) ≡ is_other (get_or (row_in firsts) k NULL) (get_or row k NULL)
   same_test k lt =
-      let first : first_value k before ≡ get_or (row_in firsts) k NULL = sym (ap (λ (r : Row). get_or r k NULL) is ∙ first_here (length firsts) before k NULL (omega (arith, lt, len))) in
+      let first : first_in_column k before ≡ get_or (row_in firsts) k NULL = sym (ap (λ (r : Row). get_or r k NULL) is ∙ first_here (length firsts) before k NULL (omega (arith, lt, len))) in
       ap (λ v. is_other v (get_or row k NULL)) first
 
   -- no value is of another kind

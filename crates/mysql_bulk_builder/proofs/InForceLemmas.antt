@@ -7,7 +7,7 @@ use Rattle.std.proofs.lemmas.List.{get_or-take, get_or-drop, take-take, drop-tak
 use Rattle.std.proofs.lemmas.List.Sums.{sum_by-take-drop}
 use Rattle.mysql_bulk_builder.specs.Cut.{Row, rows_of}
 use Rattle.mysql_bulk_builder.specs.TypedCut.{Part, Typing, Typed, Untyped, PartFits, HasValue, HasKnownColumns, has_value_at, placed_from}
-use Rattle.mysql_bulk_builder.specs.ValueTypes.{sent_type, first_value}
+use Rattle.mysql_bulk_builder.specs.ValueTypes.{sent_type, first_in_column}
 use Rattle.mysql_bulk_builder.specs.Causes.{mixed_kinds}
 use Rattle.mysql_bulk_builder.specs.KindLaws.{value_in, HasValueAt}
 use Rattle.mysql_bulk_builder.specs.InForce.{covered, in_force_from, TypesServe, TypesInForceServe}
@@ -16,7 +16,7 @@ use Rattle.mysql_bulk_builder.proofs.OneKindLemmas.{one_kind, first_value_is_the
 
 module _ (room columns : ℕ) (rows : List Row) (arity : (k : ℕ) → k < length rows → length (get_or rows k []) ≡ columns) (one : mixed_kinds rows ≡ None) where
   -- the types of some first rows serve a value whose column has a value there
-  serves : (m k column : ℕ) → HasValueAt rows k column → HasValue column (take m rows) → sent_type (first_value column (take m rows)) ≡ sent_type (value_in rows k column)
+  serves : (m k column : ℕ) → HasValueAt rows k column → HasValue column (take m rows) → sent_type (first_in_column column (take m rows)) ≡ sent_type (value_in rows k column)
   serves m k column h has = one_kind rows one m k column h (first_value_is_there (take m rows) column has)
 
   in_columns : (k column : ℕ) → HasValueAt rows k column → column < columns

@@ -10,7 +10,7 @@ use Rattle.mysql_cells.specs.declared.value.Value.{Value}
 use Rattle.mysql_cells.specs.declared.value.Value.TheVariants.{NULL}
 use Rattle.mysql_bulk_builder.specs.Cut.{Row, row_size, rows_of}
 use Rattle.mysql_bulk_builder.specs.TypedCut.{PartFits, HasValue, has_value_at}
-use Rattle.mysql_bulk_builder.specs.ValueTypes.{is_null, sent_type, first_value, same_kind}
+use Rattle.mysql_bulk_builder.specs.ValueTypes.{is_null, sent_type, first_in_column, same_kind}
 use Rattle.mysql_bulk_builder.specs.Causes.{first_some, first_at, place_where, is_of_other_kind, mixed_kinds}
 use Rattle.mysql_bulk_builder.specs.KindLaws.{value_in, HasValueAt, OneKind, UntypedRunAddsNoColumn, FirstValueIsThere, NoneTooLarge}
 use Rattle.mysql_bulk_builder.proofs.LongestPart.{one_row}
@@ -53,28 +53,28 @@ no_place test row none column lt = fails (test column (get_or row column NULL)) 
     fails false place e = refl
 
 -- the first value of rows that go on
-pub first_of_append : (column : ℕ) (a b : List Row) → is_null (first_value column a) ≡ false → first_value column (a ++ b) ≡ first_value column a
+pub first_of_append : (column : ℕ) (a b : List Row) → is_null (first_in_column column a) ≡ false → first_in_column column (a ++ b) ≡ first_in_column column a
 first_of_append column [] b e = absurd (true≢false e)
 first_of_append column (row ∷ a) b e = by (is_null (get_or row column NULL)) (get_or row column NULL) (first_of_append column a b) e
   where
-    by : (n : Bool) (v : Value) → (is_null (first_value column a) ≡ false → first_value column (a ++ b) ≡ first_value column a) → is_null (cond n (first_value column a) v) ≡ false → cond n (first_value column (a ++ b)) v ≡ cond n (first_value column a) v
+    by : (n : Bool) (v : Value) → (is_null (first_in_column column a) ≡ false → first_in_column column (a ++ b) ≡ first_in_column column a) → is_null (cond n (first_in_column column a) v) ≡ false → cond n (first_in_column column (a ++ b)) v ≡ cond n (first_in_column column a) v
     by true v rest e = rest e
     by false v rest e = refl
 
-pub first_of_rest : (column : ℕ) (a b : List Row) → is_null (first_value column a) ≡ true → first_value column (a ++ b) ≡ first_value column b
+pub first_of_rest : (column : ℕ) (a b : List Row) → is_null (first_in_column column a) ≡ true → first_in_column column (a ++ b) ≡ first_in_column column b
 first_of_rest column [] b e = refl
 first_of_rest column (row ∷ a) b e = by (get_or row column NULL) (is_null (get_or row column NULL)) (first_of_rest column a b) refl e
   where
-    by : (v : Value) (n : Bool) → (is_null (first_value column a) ≡ true → first_value column (a ++ b) ≡ first_value column b) → is_null v ≡ n → is_null (cond n (first_value column a) v) ≡ true → cond n (first_value column (a ++ b)) v ≡ first_value column b
+    by : (v : Value) (n : Bool) → (is_null (first_in_column column a) ≡ true → first_in_column column (a ++ b) ≡ first_in_column column b) → is_null v ≡ n → is_null (cond n (first_in_column column a) v) ≡ true → cond n (first_in_column column (a ++ b)) v ≡ first_in_column column b
     by v true rest same e = rest e
     by v false rest same e = absurd (true≢false (sym e ∙ same))
 
 -- the first value of more rows
-first_of_more : (column m k : ℕ) (rows : List Row) → m ≤ k → is_null (first_value column (take m rows)) ≡ false → first_value column (take k rows) ≡ first_value column (take m rows)
+first_of_more : (column m k : ℕ) (rows : List Row) → m ≤ k → is_null (first_in_column column (take m rows)) ≡ false → first_in_column column (take k rows) ≡ first_in_column column (take m rows)
 first_of_more column m k rows le e =
     let front : take m (take k rows) ≡ take m rows = take-take m k rows le in
     let split : take k rows ≡ take m rows ++ drop m (take k rows) = sym (take-append-drop m (take k rows)) ∙ ap (λ (r : List Row). r ++ drop m (take k rows)) front in
-    ap (first_value column) split ∙ first_of_append column (take m rows) (drop m (take k rows)) e
+    ap (first_in_column column) split ∙ first_of_append column (take m rows) (drop m (take k rows)) e
 
 -- values of one kind have one type
 same_type : (v w : Value) → same_kind v w ≡ true → sent_type v ≡ sent_type w
@@ -86,10 +86,10 @@ same_type v w e =
 
 module _ (rows : List Row) (one : mixed_kinds rows ≡ None) (k column : ℕ) (h : HasValueAt rows k column) where
   -- the column's first value before this row has its kind
-  kind_before : is_null (first_value column (take k rows)) ≡ false → sent_type (first_value column (take k rows)) ≡ sent_type (value_in rows k column)
+  kind_before : is_null (first_in_column column (take k rows)) ≡ false → sent_type (first_in_column column (take k rows)) ≡ sent_type (value_in rows k column)
   kind_before e =
       let row = get_or rows k [] in
-      let first = first_value column (take k rows) in
+      let first = first_in_column column (take k rows) in
       let none = none_before rows one k h.0 in
       let test : not (is_null (value_in rows k column) || is_null first || same_kind first (value_in rows k column)) ≡ false = no_place (is_of_other_kind (take k rows)) row none column h.1 in
       same_type first (value_in rows k column) (third (is_null (value_in rows k column)) (is_null first) (same_kind first (value_in rows k column)) h.2 e (not-false _ test))
@@ -100,17 +100,17 @@ module _ (rows : List Row) (one : mixed_kinds rows ≡ None) (k column : ℕ) (h
       third false false c ea eb e = e
 
   -- the rows up to this one have a value in the column
-  here : is_null (first_value column (take k rows)) ≡ true → first_value column (take (k + 1) rows) ≡ value_in rows k column
+  here : is_null (first_in_column column (take k rows)) ≡ true → first_in_column column (take (k + 1) rows) ≡ value_in rows k column
   here e =
       let more : take (k + 1) rows ≡ take k rows ++ get_or rows k [] ∷ [] = take_more rows k [] h.0 in
-      ap (first_value column) more ∙ first_of_rest column (take k rows) (get_or rows k [] ∷ []) e ∙ cond-false (is_null (value_in rows k column)) NULL (value_in rows k column) h.2
+      ap (first_in_column column) more ∙ first_of_rest column (take k rows) (get_or rows k [] ∷ []) e ∙ cond-false (is_null (value_in rows k column)) NULL (value_in rows k column) h.2
 
-  one_kind_at : (m : ℕ) → is_null (first_value column (take m rows)) ≡ false → sent_type (first_value column (take m rows)) ≡ sent_type (value_in rows k column)
+  one_kind_at : (m : ℕ) → is_null (first_in_column column (take m rows)) ≡ false → sent_type (first_in_column column (take m rows)) ≡ sent_type (value_in rows k column)
   one_kind_at m e = elim (cases_lt k m) [
     | inr before ↦
-        let same : first_value column (take k rows) ≡ first_value column (take m rows) = first_of_more column m k rows before e in
+        let same : first_in_column column (take k rows) ≡ first_in_column column (take m rows) = first_of_more column m k rows before e in
         ap sent_type (sym same) ∙ kind_before (ap is_null same ∙ e)
-    | inl after ↦ elim (cases_Bool (is_null (first_value column (take k rows)))) [
+    | inl after ↦ elim (cases_Bool (is_null (first_in_column column (take k rows)))) [
       | inr value ↦ ap sent_type (first_of_more column k m rows (omega arith) value) ∙ kind_before value
       | inl none ↦
           let at = here none in
@@ -145,7 +145,7 @@ pub first_value_is_there : FirstValueIsThere
 first_value_is_there [] column has = absurd (omega arith)
 first_value_is_there (row ∷ rows) column has = by (get_or row column NULL) (is_null (get_or row column NULL)) (first_value_is_there rows column) refl (sum_by-cons (λ r. cond (has_value_at column r) 1 0) row rows)
   where
-    by : (v : Value) (n : Bool) → (HasValue column rows → is_null (first_value column rows) ≡ false) → is_null v ≡ n → count_by (has_value_at column) (row ∷ rows) ≡ cond (not n) 1 0 + count_by (has_value_at column) rows → is_null (cond n (first_value column rows) v) ≡ false
+    by : (v : Value) (n : Bool) → (HasValue column rows → is_null (first_in_column column rows) ≡ false) → is_null v ≡ n → count_by (has_value_at column) (row ∷ rows) ≡ cond (not n) 1 0 + count_by (has_value_at column) rows → is_null (cond n (first_in_column column rows) v) ≡ false
     by v true rest same e = rest (omega (arith, e, has))
     by v false rest same e = same
 

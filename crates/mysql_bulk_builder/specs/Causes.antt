@@ -4,7 +4,7 @@ use Rattle.std.specs.List.{enumerate_from}
 use Rattle.std.specs.Option.{option_map, option_or}
 use Rattle.mysql_cells.specs.declared.value.Value.{Value}
 use Rattle.mysql_bulk_builder.specs.Cut.{Row, row_size}
-use Rattle.mysql_bulk_builder.specs.ValueTypes.{is_null, first_value, same_kind}
+use Rattle.mysql_bulk_builder.specs.ValueTypes.{is_null, first_in_column, same_kind}
 
 -- the first answer in a list
 abbrev pub first_some : {X : Type 0} → List (Option X) → Option X
@@ -22,7 +22,7 @@ place_where test row = first_at (λ place value. if test place value then Some p
 -- a value of another kind than the column's first value in the rows before
 abbrev pub is_of_other_kind : List Row → ℕ → Value → Bool
 is_of_other_kind before column value =
-    let first = first_value column before in not (is_null value || is_null first || same_kind first value)
+    let first = first_in_column column before in not (is_null value || is_null first || same_kind first value)
 
 -- the least row, and in it the least place, with a value of another kind than its column's earlier ones
 abbrev pub mixed_kinds : List Row → Option (ℕ × ℕ)

@@ -3,7 +3,7 @@ use Rattle.std.specs.Prelude.{◌≡◌, ℕ, ◌+◌, ◌<◌, ◌≤◌, List,
 use Rattle.std.specs.List.{AllByRecursion}
 use Rattle.mysql_bulk_builder.specs.Cut.{Row}
 use Rattle.mysql_bulk_builder.specs.TypedCut.{Typing, Typed, Untyped, Part, TypedCutFits}
-use Rattle.mysql_bulk_builder.specs.ValueTypes.{sent_type, first_value}
+use Rattle.mysql_bulk_builder.specs.ValueTypes.{sent_type, first_in_column}
 use Rattle.mysql_bulk_builder.specs.Causes.{mixed_kinds}
 use Rattle.mysql_bulk_builder.specs.KindLaws.{value_in, HasValueAt}
 
@@ -30,7 +30,7 @@ in_force cut = in_force_from 0 0 cut
 -- the types in force are those of the part's values
 abbrev pub TypesServe : List Row → InForce → Type 0
 TypesServe rows part = (k column : ℕ) → part.start ≤ k → k < part.start + part.count → HasValueAt rows k column →
-    sent_type (first_value column (take part.covers rows)) ≡ sent_type (value_in rows k column)
+    sent_type (first_in_column column (take part.covers rows)) ≡ sent_type (value_in rows k column)
 
 -- Where no column mixes kinds, the types in force serve each part of a cut that fits.
 abbrev pub TypesInForceServe : Type 0

@@ -5,7 +5,7 @@ use Rattle.mysql_cells.specs.declared.value.Value.{Value}
 use Rattle.mysql_cells.specs.declared.value.Value.TheVariants.{NULL}
 use Rattle.mysql_bulk_builder.specs.Cut.{Row}
 use Rattle.mysql_bulk_builder.specs.TypedCut.{Part, Typed, Untyped, PartFits, HasValue, placed_from}
-use Rattle.mysql_bulk_builder.specs.ValueTypes.{is_null, sent_type, first_value}
+use Rattle.mysql_bulk_builder.specs.ValueTypes.{is_null, sent_type, first_in_column}
 use Rattle.mysql_bulk_builder.specs.TypedCutLaws.{EachRowFitsTyped}
 use Rattle.mysql_bulk_builder.specs.Causes.{is_of_other_kind, mixed_kinds, place_where, row_too_large}
 
@@ -20,7 +20,7 @@ HasValueAt rows k column = (k < length rows) × (column < length (slice_index_or
 -- Where no column mixes kinds, the first value of a column in some first rows has the type of every value in it.
 abbrev pub OneKind : Type 0
 OneKind = (rows : List Row) → mixed_kinds rows ≡ None → (m k column : ℕ) → HasValueAt rows k column →
-    is_null (first_value column (take m rows)) ≡ false → sent_type (first_value column (take m rows)) ≡ sent_type (value_in rows k column)
+    is_null (first_in_column column (take m rows)) ≡ false → sent_type (first_in_column column (take m rows)) ≡ sent_type (value_in rows k column)
 
 -- A run of untyped parts brings no value to a column that had none before the run.
 abbrev pub UntypedRunAddsNoColumn : Type 0
@@ -31,7 +31,7 @@ UntypedRunAddsNoColumn = (room columns start : ℕ) (rows : List Row) (run : Lis
 
 -- Where some rows have a value in a column, the first value there isn't NULL.
 abbrev pub FirstValueIsThere : Type 0
-FirstValueIsThere = (rows : List Row) (column : ℕ) → HasValue column rows → is_null (first_value column rows) ≡ false
+FirstValueIsThere = (rows : List Row) (column : ℕ) → HasValue column rows → is_null (first_in_column column rows) ≡ false
 
 -- Where no row is too large, each fits a typed request of its own.
 abbrev pub NoneTooLarge : Type 0

@@ -17,11 +17,11 @@ abbrev pub same_kind : Value → Value → Bool
 same_kind a b = ((sent_type a).0 == (sent_type b).0) && ((sent_type a).1 == (sent_type b).1)
 
 -- the first of the rows' values in a column, NULL where there is none
-abbrev pub first_value : ℕ → List Row → Value
-first_value column [] = NULL
-first_value column (row ∷ rows) =
-    let value = slice_index_or row column NULL in if is_null value then first_value column rows else value
+abbrev pub first_in_column : ℕ → List Row → Value
+first_in_column column [] = NULL
+first_in_column column (row ∷ rows) =
+    let value = slice_index_or row column NULL in if is_null value then first_in_column column rows else value
 
 -- the first value of each of so many columns
 abbrev pub first_values : ℕ → List Row → Row
-first_values columns rows = map (λ column. first_value column rows) (range_with_len 0 columns)
+first_values columns rows = map (λ column. first_in_column column rows) (range_with_len 0 columns)

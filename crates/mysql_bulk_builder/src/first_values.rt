@@ -3,7 +3,7 @@
 ghost use Rattle.std.specs.Prelude.{◌≡◌, ◌<◌, ◌++◌, All, IfOk, List, [], length, slice_index_or, true};
 ghost use Rattle.mysql_cells.specs.declared.value.Value.TheVariants.{NULL};
 ghost use Rattle.mysql_bulk_builder.specs.Cut.{Row};
-ghost use Rattle.mysql_bulk_builder.specs.ValueTypes.{first_value, first_values, is_null};
+ghost use Rattle.mysql_bulk_builder.specs.ValueTypes.{first_in_column, first_values, is_null};
 ghost use Rattle.mysql_bulk_builder.specs.RowLists.{row_in, rows_in};
 
 use crate::row_size::is_null;
@@ -38,7 +38,7 @@ fn value_in<'a>(row: &[&'a Value], column: usize) -> &'a Value
 fn first_in_column<'a>(rows: &[&[&'a Value]], column: usize, null: &'a Value) -> &'a Value
     requires null { is_null null.now ≡ true }
     requires within { All (λ row. column < length row.now) rows.now }
-    ensures { result.now ≡ first_value column (rows_in rows.now) }
+    ensures { result.now ≡ first_in_column column (rows_in rows.now) }
 {
     for row in rows {
         let value = value_in(*row, column);

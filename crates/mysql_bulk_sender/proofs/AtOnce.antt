@@ -19,15 +19,15 @@ use Rattle.mysql_bulk_builder.specs.TypedCut.{Part, Typed}
 use Rattle.mysql_bulk_builder.specs.TypedCutLaws.{WholeIsTight}
 use Rattle.mysql_bulk_builder.specs.ValueTypes.{first_values}
 use Rattle.mysql_streams.specs.declared.refusal.Refusal.TheVariants as refusals
-use Rattle.mysql_streams.specs.Commands.{bulk_request, request_flags, request_types}
-use Rattle.mysql_streams.specs.Cause.{Limits}
+use Rattle.mysql_streams.specs.Commands.{bulk_request}
 use Rattle.mysql_streams.specs.Laws.{RequestsHaveTheirSize}
 use Rattle.mysql_streams.specs.Sets.{Given, given_by, given_up_to}
-use Rattle.mysql_bulk_sender.specs.BulkSets.{AppendsAll, AppendsRow, AppendsRows, GivesRow, front_bytes, row_bytes, types_by}
+use Rattle.mysql_bulk_sender.specs.BulkSets.{AppendsAll, AppendsRow, AppendsRows, GivesRow, front_bytes, request_flags, request_types, row_bytes, types_by}
 use Rattle.mysql_bulk_sender.proofs.RequestBytes.{command_is}
 use Rattle.mysql_bulk_sender.proofs.SentRequests.{types_are}
 use Rattle.mysql_bulk_sender.proofs.SetRows.{RowsSoFar, all_rows, no_rows, row_more}
 use Rattle.mysql_senders.proofs.Pieces.{short_framing}
+use Rattle.mysql_senders.specs.OneSet.{Limits}
 use Rattle.mysql_senders.proofs.SentSets.{one_framed}
 
 -- what holds where both answers are yes
@@ -106,7 +106,7 @@ neither : (mixed : Option (ℕ × ℕ)) (large : Option ℕ) → mixed ≡ None 
 neither mixed large none nor = rw (none, nor) refl
 
 -- the request of all rows
-whole_request : (id columns : ℕ) (rows : List Row) (firsts : Row) → firsts ≡ first_values columns rows → front_bytes id true firsts ++ flat_map row_bytes rows ≡ bulk_request id columns rows 0 (whole rows)
+whole_request : (id columns : ℕ) (rows : List Row) (firsts : Row) → firsts ≡ first_values columns rows → front_bytes id true firsts ++ flat_map row_bytes rows ≡ bulk_request id columns rows 0 Typed (length rows)
 whole_request id columns rows firsts are =
     let all : rows ≡ take (0 + length rows) rows = sym (take_all (0 + length rows) rows (omega arith)) in
     let these : rows ≡ take (length rows) (drop 0 rows) = sym (take_all (length rows) rows (omega arith)) in
@@ -137,9 +137,9 @@ pub all_appended : RequestsHaveTheirSize → WholeIsTight → WholeHasNoneTooLar
     AppendsRows limits (given_up_to sets None names) firsts [] bytes → length (front_bytes id true firsts ++ bytes) ≤ limits.bytes → new ≡ old ++ framing (front_bytes id true firsts ++ bytes) 0 →
     AppendsAll id limits (given_up_to sets None names) old new
 all_appended sizes tight none_large id limits names sets firsts bytes old new some a short put =
-    let is : front_bytes id true firsts ++ bytes ≡ bulk_request id limits.places a.rows 0 (whole a.rows) =
+    let is : front_bytes id true firsts ++ bytes ≡ bulk_request id limits.places a.rows 0 Typed (length a.rows) =
     ap (λ l. front_bytes id true firsts ++ l) a.appended ∙ whole_request id limits.places a.rows firsts a.firsts_are in
-    let fits : 7 + 2 * limits.places + rows_size a.rows 0 (length a.rows) ≤ limits.bytes = omega (arith, short, ap length is, sizes id limits.places a.rows 0 (whole a.rows)) in
+    let fits : 7 + 2 * limits.places + rows_size a.rows 0 (length a.rows) ≤ limits.bytes = omega (arith, short, ap length is, sizes id limits.places a.rows 0 Typed (length a.rows)) in
     record {
       rows = a.rows;
       gives = a.gives;
@@ -147,7 +147,7 @@ all_appended sizes tight none_large id limits names sets firsts bytes old new so
         none = neither (mixed_kinds a.rows) (row_too_large limits.bytes limits.places a.rows) a.one_kind (none_large limits.bytes limits.places a.rows fits);
         cut = whole a.rows ∷ [];
         tight = tight limits.bytes limits.places a.rows (some_rows names sets a.rows a.gives.gives some) fits;
-        appended = one_framed old new (bulk_request id limits.places a.rows 0 (whole a.rows)) (put ∙ ap (λ l. old ++ framing l 0) is);
+        appended = one_framed old new (bulk_request id limits.places a.rows 0 Typed (length a.rows)) (put ∙ ap (λ l. old ++ framing l 0) is);
       };
     }
 

@@ -11,8 +11,7 @@ use Rattle.mysql_bulk.specs.Bulk.{all_values, bulk_command, bulk_execution, para
 use Rattle.mysql_bulk_builder.specs.Cut.{Row}
 use Rattle.mysql_bulk_builder.specs.RowLists.{row_in, rows_in}
 use Rattle.mysql_bulk_builder.specs.TypedRequests.{typing_of}
-use Rattle.mysql_streams.specs.Commands.{request_flags}
-use Rattle.mysql_bulk_sender.specs.BulkSets.{front_bytes, row_bytes, types_by, types_bytes}
+use Rattle.mysql_bulk_sender.specs.BulkSets.{front_bytes, request_flags, row_bytes, types_by, types_bytes}
 
 -- all elements are passed
 pub passed : {X : Type 0} (f : X → List ℕ) (xs : List X) (i : ℕ) (old new : List ℕ) → length xs ≤ i → new ≡ old ++ flat_map f (take i xs) → new ≡ old ++ flat_map f xs

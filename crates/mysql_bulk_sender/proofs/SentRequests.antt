@@ -19,26 +19,27 @@ use Rattle.mysql_bulk.specs.Bulk.{bulk_command, type_of_value}
 use Rattle.mysql_bulk_builder.specs.declared.search.BulkPart.{BulkPart}
 use Rattle.mysql_bulk_builder.specs.Cut.{Row, rows_of}
 use Rattle.mysql_bulk_builder.specs.RowLists.{row_in, rows_in}
-use Rattle.mysql_bulk_builder.specs.TypedCut.{Part, placed}
+use Rattle.mysql_bulk_builder.specs.TypedCut.{Part, Typed, Typing, Untyped, placed}
 use Rattle.mysql_bulk_builder.specs.TypedRequests.{typing_of, view_part, view_parts}
-use Rattle.mysql_bulk_builder.specs.ValueTypes.{first_value, first_values}
+use Rattle.mysql_bulk_builder.specs.ValueTypes.{first_in_column, first_values}
+use Rattle.mysql_commands.specs.Query.{statement_of}
 use Rattle.mysql_streams.specs.declared.refusal.Refusal.{Refusal}
 use Rattle.mysql_streams.specs.declared.refusal.Refusal.TheVariants as refusals
 use Rattle.mysql_streams.specs.declared.road.Road.TheVariants.{Bulk}
-use Rattle.mysql_streams.specs.Commands.{bulk_request, prepare_command, request_flags, request_types}
+use Rattle.mysql_streams.specs.Commands.{bulk_request, prepare_command}
 use Rattle.mysql_streams.specs.Sets.{Given, given_up_to, values_of}
-use Rattle.mysql_streams.specs.Sent.{as_requests, parsed_of, payloads_of, prepare_of, statement_of}
-use Rattle.mysql_streams.specs.Cause.{bulk_cause, cause_if, first_of_sets, limits_of, max_places, query_cause, set_cause}
+use Rattle.mysql_streams.specs.Sent.{as_requests, payloads_of, prepare_of}
+use Rattle.mysql_streams.specs.Cause.{bulk_cause, cause_if, first_of_sets, max_places, query_cause, set_cause}
 use Rattle.mysql_streams.specs.Sending.{RefusesGiven}
 use Rattle.mysql_streams.specs.Reading.{SentReadable}
-use Rattle.mysql_senders.specs.OneSet.{IsPreparable, RefusesSets}
-use Rattle.mysql_bulk_sender.specs.BulkSets.{AppendsRequests, GivesRows, RefusesAll, RefusesRows, no_command, requests_from, types_by}
+use Rattle.mysql_senders.specs.OneSet.{IsPreparable, RefusesSets, limits_of}
+use Rattle.mysql_bulk_sender.specs.BulkSets.{AppendsRequests, GivesRows, RefusesAll, RefusesRows, no_command, request_flags, request_types, requests_from, types_by}
 
 -- ---- one part
 
 -- the types by the first values of columns
 pub types_are : (typed : Bool) (columns : ℕ) (rows : List Row) → types_by typed (first_values columns rows) ≡ request_types (typing_of typed) columns rows
-types_are true columns rows = map-map (λ value. type_of_value value) (λ column. first_value column rows) (range_with_len 0 columns)
+types_are true columns rows = map-map (λ value. type_of_value value) (λ column. first_in_column column rows) (range_with_len 0 columns)
 types_are false columns rows = refl
 
 -- the rows of a part
@@ -54,17 +55,24 @@ rows_up_to rows start count n is =
     ap (λ (l : List Row). take start (rows_in rows) ++ l) (rows_are rows start count n is ∙ sym (drop-take start count (rows_in rows)))
     ∙ ap (λ (l : List Row). l ++ drop start all) (sym (take-take start (start + count) (rows_in rows) (omega arith))) ∙ take-append-drop start all
 
+-- a request by its flags and its types
+request_is : (id columns : ℕ) (rows : List Row) (start count : ℕ) (typing : Typing) →
+    bulk_command id (request_flags typing) (request_types typing columns (take (start + count) rows)) (rows_of rows start count) ≡ bulk_request id columns rows start typing count
+request_is id columns rows start count Typed = refl
+request_is id columns rows start count Untyped = refl
+
 -- the request that was written is that of the part
 part_request : (id columns : ℕ) (rows : List (Bor (List (Bor Value)))) (start n : ℕ) (part : BulkPart) (firsts : List (Bor Value)) → row_in firsts ≡ first_values columns (take (start + part.count) (rows_in rows)) → n ≡ part.count →
-    bulk_command id (request_flags (typing_of part.typed)) (types_by part.typed (row_in firsts)) (rows_in (take n (drop start rows))) ≡ bulk_request id columns (rows_in rows) start (view_part part)
+    bulk_command id (request_flags (typing_of part.typed)) (types_by part.typed (row_in firsts)) (rows_in (take n (drop start rows))) ≡ bulk_request id columns (rows_in rows) start (typing_of part.typed) part.count
 part_request id columns rows start n part firsts are is =
     ap (λ l. bulk_command id (request_flags (typing_of part.typed)) (types_by part.typed l) (rows_in (take n (drop start rows)))) are
     ∙ ap (λ types. bulk_command id (request_flags (typing_of part.typed)) types (rows_in (take n (drop start rows)))) (types_are part.typed columns (take (start + part.count) (rows_in rows)))
     ∙ ap (λ l. bulk_command id (request_flags (typing_of part.typed)) (request_types (typing_of part.typed) columns (take (start + part.count) (rows_in rows))) l) (rows_are rows start part.count n is)
+    ∙ request_is id columns (rows_in rows) start part.count (typing_of part.typed)
 
 -- and so is the command that was written, in a buffer that had been cleared
 pub part_command : (id columns : ℕ) (rows : List (Bor (List (Bor Value)))) (start n : ℕ) (part : BulkPart) (firsts : List (Bor Value)) (cleared command : List ℕ) → row_in firsts ≡ first_values columns (take (start + part.count) (rows_in rows)) → n ≡ part.count →
-    cleared ≡ [] → command ≡ cleared ++ bulk_command id (request_flags (typing_of part.typed)) (types_by part.typed (row_in firsts)) (rows_in (take n (drop start rows))) → command ≡ bulk_request id columns (rows_in rows) start (view_part part)
+    cleared ≡ [] → command ≡ cleared ++ bulk_command id (request_flags (typing_of part.typed)) (types_by part.typed (row_in firsts)) (rows_in (take n (drop start rows))) → command ≡ bulk_request id columns (rows_in rows) start (typing_of part.typed) part.count
 part_command id columns rows start n part firsts cleared command are is none put =
     put ∙ ap (λ l. l ++ bulk_command id (request_flags (typing_of part.typed)) (types_by part.typed (row_in firsts)) (rows_in (take n (drop start rows)))) none ∙ part_request id columns rows start n part firsts are is
 
@@ -72,11 +80,11 @@ part_command id columns rows start n part firsts cleared command are is none put
 
 -- one more part was sent: those that are left go on from it
 pub part_sent : (id columns : ℕ) (rows : List Row) (start : ℕ) (parts later : List BulkPart) (part : BulkPart) (out new total : List ℕ) → parts ≡ part ∷ later →
-    out ++ framings (requests_from id columns rows start (view_parts parts)) EachFromZero ≡ total → new ≡ out ++ framing (bulk_request id columns rows start (view_part part)) 0 →
+    out ++ framings (requests_from id columns rows start (view_parts parts)) EachFromZero ≡ total → new ≡ out ++ framing (bulk_request id columns rows start (typing_of part.typed) part.count) 0 →
     new ++ framings (requests_from id columns rows (start + part.count) (view_parts later)) EachFromZero ≡ total
 part_sent id columns rows start parts later part out new total here before put =
     let rest = framings (requests_from id columns rows (start + part.count) (view_parts later)) EachFromZero in
-    ap (λ l. l ++ rest) put ∙ append_assoc out (framing (bulk_request id columns rows start (view_part part)) 0) rest
+    ap (λ l. l ++ rest) put ∙ append_assoc out (framing (bulk_request id columns rows start (typing_of part.typed) part.count) 0) rest
     ∙ ap (λ l. out ++ framings (requests_from id columns rows start (view_parts l)) EachFromZero) (sym here) ∙ before
 
 -- the rows that are left
@@ -115,9 +123,9 @@ values_back (row ∷ rows) = ap (λ l. row ∷ l) (values_back rows)
 
 -- the payloads of requests
 payloads_are : (id columns : ℕ) (rows : List Row) (parts : List (ℕ × Part)) →
-    payloads_of (map (λ p. record { payload = bulk_request id columns rows p.0 p.1; sets = rows_of rows p.0 p.1.count }) parts) ≡ map (λ p. bulk_request id columns rows p.0 p.1) parts
+    payloads_of (map (λ p. record { payload = bulk_request id columns rows p.0 p.1.typing p.1.count; sets = rows_of rows p.0 p.1.count }) parts) ≡ map (λ p. bulk_request id columns rows p.0 p.1.typing p.1.count) parts
 payloads_are id columns rows [] = refl
-payloads_are id columns rows (p ∷ parts) = ap (λ l. bulk_request id columns rows p.0 p.1 ∷ l) (payloads_are id columns rows parts)
+payloads_are id columns rows (p ∷ parts) = ap (λ l. bulk_request id columns rows p.0 p.1.typing p.1.count ∷ l) (payloads_are id columns rows parts)
 
 module _ (query : List ℕ) (parsed : Parsed) (places : ℕ) (s : IsPreparable query parsed places) (sets : List Params) (stop : Option SetError) (id limit : ℕ) (short : length (prepare_command parsed.query) ≤ limit - 4) (some : places ≢ 0) where
   -- the placeholders are few enough
@@ -127,7 +135,7 @@ module _ (query : List ℕ) (parsed : Parsed) (places : ℕ) (s : IsPreparable q
   -- nothing speaks against the query
   prepared : query_cause Bulk (statement_of query s.tokens id) (limit - 4) ≡ None
   prepared =
-      query_none (is_mixed (places_from query 0 s.tokens)) (nat_lt max_places (length (places_from query 0 s.tokens))) (nat_lt (limit - 4) (length (prepare_command (parsed_of s.tokens)))) (length (places_from query 0 s.tokens) == 0) s.one_kind few
+      query_none (is_mixed (places_from query 0 s.tokens)) (nat_lt max_places (length (places_from query 0 s.tokens))) (nat_lt (limit - 4) (length (prepare_command (statement_of query s.tokens id).query.parsed))) (length (places_from query 0 s.tokens) == 0) s.one_kind few
       (subst (λ (l : List ℕ). nat_lt (limit - 4) (length (prepare_command l)) ≡ false) s.query_is (le-ltb (limit - 4) (length (prepare_command parsed.query)) short))
       (subst (λ (n : ℕ). (n == 0) ≡ false) s.count (ne_eqb places 0 some))
 
@@ -141,8 +149,8 @@ module _ (query : List ℕ) (parsed : Parsed) (places : ℕ) (s : IsPreparable q
   pub refused_sets : (refusal : Refusal) → RefusesSets no_command (record { places = places; bytes = limit - 4 }) (given_up_to sets stop parsed.names) refusal → RefusesGiven Bulk query (given_up_to sets stop) id limit refusal
   refused_sets refusal (inl memory) = inl memory
   refused_sets refusal (inr this) =
-      let cause : first_of_sets (set_cause no_command (limits_of (places_from query 0 s.tokens) limit)) 0 (given_up_to sets stop (names_of s.tokens)) ≡ Some refusal =
-      over_tokens (λ n given. first_of_sets (set_cause no_command (record { places = n; bytes = limit - 4 })) 0 given ≡ Some refusal) this in
+      let cause : first_of_sets (set_cause no_command (length (places_from query 0 s.tokens)) (limit - 4)) 0 (given_up_to sets stop (names_of s.tokens)) ≡ Some refusal =
+      over_tokens (λ n given. first_of_sets (set_cause no_command n (limit - 4)) 0 given ≡ Some refusal) this in
       inr (record {
         tokens = s.tokens;
         has = s.has;
@@ -174,7 +182,7 @@ module _ (query : List ℕ) (parsed : Parsed) (places : ℕ) (s : IsPreparable q
     pub all_requested : (old mid new : List ℕ) → mid ≡ old ++ framing (prepare_command parsed.query) 0 → AppendsRequests id places (limit - 4) rows mid new → SentReadable Bulk query (given_up_to sets stop) id limit old new
     all_requested old mid new put sent =
         let a : AppendsRequests id (length (places_from query 0 s.tokens)) (limit - 4) rows mid new = subst (λ (n : ℕ). AppendsRequests id n (limit - 4) rows mid new) s.count sent in
-        let prepare : mid ≡ old ++ framing (prepare_command (parsed_of s.tokens)) 0 = put ∙ ap (λ l. old ++ framing (prepare_command l) 0) s.query_is in
+        let prepare : mid ≡ old ++ framing (prepare_command (statement_of query s.tokens id).query.parsed) 0 = put ∙ ap (λ l. old ++ framing (prepare_command l) 0) s.query_is in
         let columns = length (places_from query 0 s.tokens) in
         let requests = framings (requests_from id columns rows 0 a.cut) EachFromZero in
         record {
@@ -186,8 +194,8 @@ module _ (query : List ℕ) (parsed : Parsed) (places : ℕ) (s : IsPreparable q
             none = none_is (query_cause Bulk (statement_of query s.tokens id) (limit - 4)) _ _ prepared given.none (ap (λ l. bulk_cause columns (limit - 4) l) values ∙ a.none);
             sent = prepare_of (statement_of query s.tokens id) ∷ as_requests (statement_of query s.tokens id) rows a.cut;
             are_sent = (a.cut, a.tight, refl);
-            appended = a.appended ∙ ap (λ l. l ++ requests) prepare ∙ append_assoc old (framing (prepare_command (parsed_of s.tokens)) 0) requests
-                ∙ ap (λ l. old ++ (framing (prepare_command (parsed_of s.tokens)) 0 ++ framings l EachFromZero)) (sym (payloads_are id columns rows (placed a.cut)));
+            appended = a.appended ∙ ap (λ l. l ++ requests) prepare ∙ append_assoc old (framing (prepare_command (statement_of query s.tokens id).query.parsed) 0) requests
+                ∙ ap (λ l. old ++ (framing (prepare_command (statement_of query s.tokens id).query.parsed) 0 ++ framings l EachFromZero)) (sym (payloads_are id columns rows (placed a.cut)));
           };
           readable = given.fit;
         }

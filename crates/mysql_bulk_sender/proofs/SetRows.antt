@@ -21,12 +21,12 @@ use Rattle.mysql_values.specs.declared.params.SetError.TheVariants as set_error
 use Rattle.mysql_values.specs.Params.{values_over}
 use Rattle.mysql_values.specs.Value.{Value}
 use Rattle.mysql_bulk_builder.specs.Cut.{Row}
-use Rattle.mysql_bulk_builder.specs.ValueTypes.{first_value, first_values}
+use Rattle.mysql_bulk_builder.specs.ValueTypes.{first_in_column, first_values}
 use Rattle.mysql_streams.specs.declared.refusal.Refusal.{Refusal}
 use Rattle.mysql_streams.specs.declared.refusal.Refusal.TheVariants as refusals
 use Rattle.mysql_streams.specs.Sets.{Given, given_by, given_up_to}
-use Rattle.mysql_streams.specs.Cause.{Limits, cause_if, first_of_sets, set_cause}
-use Rattle.mysql_senders.specs.OneSet.{RefusesSet, RefusesSets, behind, refusal_of}
+use Rattle.mysql_streams.specs.Cause.{cause_if, first_of_sets, set_cause}
+use Rattle.mysql_senders.specs.OneSet.{Limits, RefusesSet, RefusesSets, behind, refusal_of}
 use Rattle.mysql_bulk_sender.specs.BulkSets.{AreRows, GivesRow, GivesRows, no_command}
 use Rattle.mysql_senders.proofs.Contents.{gives_values, given_is}
 
@@ -68,7 +68,7 @@ module _ (names : List (List ℕ)) (params : Params) (limits : Limits) (set : �
   pub refuses_values : (values : List Value) (refusal : Refusal) → values_over names params ≡ Ok values → values_cause (refusals.WrongCount set) (λ place. refusals.Float set place) limits.places values ≡ Some refusal →
       RefusesSet no_command limits set (given_by names params) refusal
   refuses_values values refusal over cause =
-      inr (ap (λ g. set_cause no_command limits set g) (gives_values names params values over) ∙ first_is (values_cause (refusals.WrongCount set) (λ place. refusals.Float set place) limits.places values) _ refusal cause)
+      inr (ap (λ g. set_cause no_command limits.places limits.bytes set g) (gives_values names params values over) ∙ first_is (values_cause (refusals.WrongCount set) (λ place. refusals.Float set place) limits.places values) _ refusal cause)
     where
       first_is : (first rest : Option Refusal) (this : Refusal) → first ≡ Some this → option_or first rest ≡ Some this
       first_is first rest this some = rw some refl
@@ -83,15 +83,15 @@ module _ (names : List (List ℕ)) (params : Params) (limits : Limits) (set : �
 
       by : (e : ParamsError) → values_over names params ≡ Err e → refusal ≡ refusal_of set e → RefusesSet no_command limits set (given_by names params) refusal
       by params_error.Memory over is = inl is
-      by (params_error.Missing name) over is = inr (ap (λ g. set_cause no_command limits set g) (given (params_error.Missing name) over) ∙ ap (λ r. Some r) (sym is))
-      by (params_error.Confusion confusion) over is = inr (ap (λ g. set_cause no_command limits set g) (given (params_error.Confusion confusion) over) ∙ ap (λ r. Some r) (sym is))
+      by (params_error.Missing name) over is = inr (ap (λ g. set_cause no_command limits.places limits.bytes set g) (given (params_error.Missing name) over) ∙ ap (λ r. Some r) (sym is))
+      by (params_error.Confusion confusion) over is = inr (ap (λ g. set_cause no_command limits.places limits.bytes set g) (given (params_error.Confusion confusion) over) ∙ ap (λ r. Some r) (sym is))
 
 -- ---- sets one after another
 
 -- so many sets gave rows, each with no cause
 pub record RowsSoFar (names : List (List ℕ)) (limits : Limits) (sets : List Params) (rows : List Row) (i : ℕ) : Type 0 where
   pub gives : map (given_by names) sets ≡ map Ok rows ++ map (given_by names) (drop i sets)
-  pub causes : (others : List Given) → first_of_sets (set_cause no_command limits) 0 (map (given_by names) sets ++ others) ≡ first_of_sets (set_cause no_command limits) i (map (given_by names) (drop i sets) ++ others)
+  pub causes : (others : List Given) → first_of_sets (set_cause no_command limits.places limits.bytes) 0 (map (given_by names) sets ++ others) ≡ first_of_sets (set_cause no_command limits.places limits.bytes) i (map (given_by names) (drop i sets) ++ others)
   pub fit : AllByRecursion Fit rows
 
 -- before the first set
@@ -101,19 +101,19 @@ no_rows names limits sets = record { gives = refl; causes = λ others. refl; fit
 module _ (names : List (List ℕ)) (limits : Limits) (sets : List Params) (rows : List Row) (i : ℕ) (s : RowsSoFar names limits sets rows i) where
   module _ (params : Params) (here : drop i sets ≡ params ∷ drop (i + 1) sets) where
     -- the first cause from this set on
-    from_here : (others : List Given) → first_of_sets (set_cause no_command limits) 0 (map (given_by names) sets ++ others)
-        ≡ option_or (set_cause no_command limits i (given_by names params)) (first_of_sets (set_cause no_command limits) (i + 1) (map (given_by names) (drop (i + 1) sets) ++ others))
-    from_here others = s.causes others ∙ ap (λ l. first_of_sets (set_cause no_command limits) i (map (given_by names) l ++ others)) here
+    from_here : (others : List Given) → first_of_sets (set_cause no_command limits.places limits.bytes) 0 (map (given_by names) sets ++ others)
+        ≡ option_or (set_cause no_command limits.places limits.bytes i (given_by names params)) (first_of_sets (set_cause no_command limits.places limits.bytes) (i + 1) (map (given_by names) (drop (i + 1) sets) ++ others))
+    from_here others = s.causes others ∙ ap (λ l. first_of_sets (set_cause no_command limits.places limits.bytes) i (map (given_by names) l ++ others)) here
 
     -- one more row
     pub row_more : (row : Row) → GivesRow limits i (given_by names params) row → RowsSoFar names limits sets (rows ++ row ∷ []) (i + 1)
     row_more row g =
-        let none : set_cause no_command limits i (given_by names params) ≡ None = ap (λ given. set_cause no_command limits i given) g.gives ∙ g.none in
+        let none : set_cause no_command limits.places limits.bytes i (given_by names params) ≡ None = ap (λ given. set_cause no_command limits.places limits.bytes i given) g.gives ∙ g.none in
         let later = map (given_by names) (drop (i + 1) sets) in
         record {
           gives = s.gives ∙ ap (λ l. map Ok rows ++ map (given_by names) l) here ∙ ap (λ given. map Ok rows ++ given ∷ later) g.gives
               ∙ sym (append_assoc (map Ok rows) (Ok row ∷ []) later) ∙ ap (λ l. l ++ later) (sym (map-append Ok rows (row ∷ [])));
-          causes = λ others. from_here others ∙ ap (λ c. option_or c (first_of_sets (set_cause no_command limits) (i + 1) (later ++ others))) none;
+          causes = λ others. from_here others ∙ ap (λ c. option_or c (first_of_sets (set_cause no_command limits.places limits.bytes) (i + 1) (later ++ others))) none;
           fit = all_push Fit rows row s.fit g.fit;
         }
 
@@ -121,8 +121,8 @@ module _ (names : List (List ℕ)) (limits : Limits) (sets : List Params) (rows 
     pub refused_at : (stop : Option SetError) (refusal : Refusal) → RefusesSet no_command limits i (given_by names params) refusal → RefusesSets no_command limits (given_up_to sets stop names) refusal
     refused_at stop refusal (inl memory) = inl memory
     refused_at stop refusal (inr this) =
-        inr (ap (λ l. first_of_sets (set_cause no_command limits) 0 l) (given_is sets stop names) ∙ from_here (behind stop)
-        ∙ ap (λ c. option_or c (first_of_sets (set_cause no_command limits) (i + 1) (map (given_by names) (drop (i + 1) sets) ++ behind stop))) this)
+        inr (ap (λ l. first_of_sets (set_cause no_command limits.places limits.bytes) 0 l) (given_is sets stop names) ∙ from_here (behind stop)
+        ∙ ap (λ c. option_or c (first_of_sets (set_cause no_command limits.places limits.bytes) (i + 1) (map (given_by names) (drop (i + 1) sets) ++ behind stop))) this)
 
   module _ (end : length sets ≤ i) where
     -- no set is left
@@ -130,8 +130,8 @@ module _ (names : List (List ℕ)) (limits : Limits) (sets : List Params) (rows 
     none_left = drop_all i sets end
 
     -- the first cause is that of those behind them
-    cause_behind : (others : List Given) → first_of_sets (set_cause no_command limits) 0 (map (given_by names) sets ++ others) ≡ first_of_sets (set_cause no_command limits) i others
-    cause_behind others = s.causes others ∙ ap (λ l. first_of_sets (set_cause no_command limits) i (map (given_by names) l ++ others)) none_left
+    cause_behind : (others : List Given) → first_of_sets (set_cause no_command limits.places limits.bytes) 0 (map (given_by names) sets ++ others) ≡ first_of_sets (set_cause no_command limits.places limits.bytes) i others
+    cause_behind others = s.causes others ∙ ap (λ l. first_of_sets (set_cause no_command limits.places limits.bytes) i (map (given_by names) l ++ others)) none_left
 
     -- all sets gave rows
     pub all_rows : (stop : Option SetError) → stop ≡ None → GivesRows limits (given_up_to sets stop names) rows
@@ -140,14 +140,14 @@ module _ (names : List (List ℕ)) (limits : Limits) (sets : List Params) (rows 
         let nothing : map (given_by names) sets ≡ map (given_by names) sets ++ [] = sym (append-nil (map (given_by names) sets)) in
         record {
           gives = given ∙ s.gives ∙ ap (λ l. map Ok rows ++ map (given_by names) l) none_left ∙ append-nil (map Ok rows);
-          none = ap (λ l. first_of_sets (set_cause no_command limits) 0 l) (given ∙ nothing) ∙ cause_behind [];
+          none = ap (λ l. first_of_sets (set_cause no_command limits.places limits.bytes) 0 l) (given ∙ nothing) ∙ cause_behind [];
           fit = s.fit;
         }
 
     -- the set behind them is refused
     pub stopped_behind : (stop : Option SetError) (e : SetError) (refusal : Refusal) (n : ℕ) → stop ≡ Some e → n ≡ i → refusal ≡ refusals.Params n e → RefusesSets no_command limits (given_up_to sets stop names) refusal
     stopped_behind stop e refusal n stops same is =
-        inr (ap (λ o. first_of_sets (set_cause no_command limits) 0 (given_up_to sets o names)) stops ∙ cause_behind (Err e ∷ []) ∙ ap (λ k. Some (refusals.Params k e)) (sym same) ∙ ap (λ r. Some r) (sym is))
+        inr (ap (λ o. first_of_sets (set_cause no_command limits.places limits.bytes) 0 (given_up_to sets o names)) stops ∙ cause_behind (Err e ∷ []) ∙ ap (λ k. Some (refusals.Params k e)) (sym same) ∙ ap (λ r. Some r) (sym is))
 
 -- ---- values as rows
 
@@ -194,4 +194,4 @@ lent_more columns start n values lent new row rows left some enough cut put is b
 
 -- how many first values there are
 pub width_is : (firsts : List (Bor Value)) (columns : ℕ) (rows : List Row) → row_in firsts ≡ first_values columns rows → length firsts ≡ columns
-width_is firsts columns rows is = sym (length-map firsts (λ (v : Bor Value). v.now)) ∙ ap length is ∙ length-map-range_with_len (λ column. first_value column rows) 0 columns
+width_is firsts columns rows is = sym (length-map firsts (λ (v : Bor Value). v.now)) ∙ ap length is ∙ length-map-range_with_len (λ column. first_in_column column rows) 0 columns

@@ -1,7 +1,7 @@
 -- Sets as rows of bulk requests: what the private steps of sending them promise.
 -- MariaDB: Client/Server Protocol, "COM_STMT_BULK_EXECUTE".
 use Rattle.std.specs.Prelude.{◌≡◌, ◌⊎◌, ℕ, Bool, true, false, List, [], ◌∷◌, ◌++◌, map, Some, None, Ok, length}
-use Rattle.std.specs.List.{AllByRecursion, flat_map}
+use Rattle.std.specs.List.{AllByRecursion, flat_map, range_with_len}
 use Rattle.byteorder.specs.Endian.{little_bytes}
 use Rattle.mysql_wire.specs.Stream.{framings}
 use Rattle.mysql_wire.specs.Stream.Numbering.{EachFromZero}
@@ -11,15 +11,15 @@ use Rattle.mysql_bulk.specs.Bulk.{all_values, param_type_bytes, param_value_byte
 use Rattle.mysql_bulk.specs.declared.param_type.StmtBulkExecuteParamType.{StmtBulkExecuteParamType}
 use Rattle.mysql_bulk_builder.specs.Causes.{is_of_other_kind, mixed_kinds, place_where}
 use Rattle.mysql_bulk_builder.specs.Cut.{Row}
-use Rattle.mysql_bulk_builder.specs.TypedCut.{IsTightTyped, Part, placed_from}
+use Rattle.mysql_bulk_builder.specs.TypedCut.{IsTightTyped, Part, Typed, Typing, Untyped, placed_from}
 use Rattle.mysql_bulk_builder.specs.TypedRequests.{typing_of}
-use Rattle.mysql_bulk_builder.specs.ValueTypes.{first_values}
+use Rattle.mysql_bulk_builder.specs.ValueTypes.{first_in_column, first_values}
 use Rattle.mysql_streams.specs.declared.refusal.Refusal.{Refusal}
 use Rattle.mysql_streams.specs.declared.refusal.Refusal.TheVariants as refusals
-use Rattle.mysql_streams.specs.Commands.{bulk_request, request_flags}
+use Rattle.mysql_streams.specs.Commands.{bulk_request}
 use Rattle.mysql_streams.specs.Sets.{Given}
-use Rattle.mysql_senders.specs.OneSet.{RefusesSets}
-use Rattle.mysql_streams.specs.Cause.{Limits, bulk_cause, first_of_sets, set_cause}
+use Rattle.mysql_senders.specs.OneSet.{Limits, RefusesSets}
+use Rattle.mysql_streams.specs.Cause.{bulk_cause, first_of_sets, set_cause}
 
 -- values are those of rows of so many columns, one row after another
 pub record AreRows (columns : ℕ) (values : List Value) (rows : List Row) : Type 0 where
@@ -33,13 +33,13 @@ no_command values = []
 -- a set gives a row against which nothing speaks, and its numbers fit their fields
 pub record GivesRow (limits : Limits) (set : ℕ) (given : Given) (row : Row) : Type 0 where
   pub gives : given ≡ Ok row
-  pub none : set_cause no_command limits set (Ok row) ≡ None
+  pub none : set_cause no_command limits.places limits.bytes set (Ok row) ≡ None
   pub fit : AllByRecursion (λ value. FitsFields value) row
 
 -- sets give rows, and nothing speaks against any
 pub record GivesRows (limits : Limits) (given : List Given) (rows : List Row) : Type 0 where
   pub gives : given ≡ map Ok rows
-  pub none : first_of_sets (set_cause no_command limits) 0 given ≡ None
+  pub none : first_of_sets (set_cause no_command limits.places limits.bytes) 0 given ≡ None
   pub fit : AllByRecursion (λ row. AllByRecursion (λ value. FitsFields value) row) rows
 
 -- the values of a row as they are sent
@@ -49,6 +49,16 @@ row_bytes row = flat_map (λ value. param_value_bytes (param_value_of value)) ro
 -- the types that values are sent by
 abbrev pub types_bytes : List Value → List ℕ
 types_bytes values = flat_map (λ value. param_type_bytes (type_of_value value)) values
+
+-- the flags of a request: that types are sent, or none
+abbrev pub request_flags : Typing → ℕ
+request_flags Typed = 0x80
+request_flags Untyped = 0
+
+-- the types that it carries: of each column by its first value in these rows
+abbrev pub request_types : Typing → ℕ → List Row → List StmtBulkExecuteParamType
+request_types Typed columns rows = map (λ column. type_of_value (first_in_column column rows)) (range_with_len 0 columns)
+request_types Untyped columns rows = []
 
 -- the types that a request carries, by the first values of its columns
 abbrev pub types_by : Bool → List Value → List StmtBulkExecuteParamType
@@ -61,7 +71,7 @@ front_bytes id typed firsts = (250 ∷ []) ++ (little_bytes 4 id ++ (little_byte
 
 -- the requests of the parts of a cut from a row on
 abbrev pub requests_from : ℕ → ℕ → List Row → ℕ → List Part → List (List ℕ)
-requests_from id columns rows start cut = map (λ p. bulk_request id columns rows p.0 p.1) (placed_from start cut)
+requests_from id columns rows start cut = map (λ p. bulk_request id columns rows p.0 p.1.typing p.1.count) (placed_from start cut)
 
 -- the requests of the tight cut are appended, and nothing speaks against the rows
 pub record AppendsRequests (id columns room : ℕ) (rows : List Row) (old new : List ℕ) : Type 0 where

@@ -7,8 +7,7 @@ ghost use Rattle.mysql_buf.specs.Writing.{lenenc_str};
 ghost use Rattle.mysql_bulk.specs.Bulk.{bulk_command, indicator_of, param_value_bytes, param_value_of};
 ghost use Rattle.mysql_bulk_builder.specs.RowLists.{row_in, rows_in};
 ghost use Rattle.mysql_bulk_builder.specs.TypedRequests.{typing_of};
-ghost use Rattle.mysql_streams.specs.Commands.{request_flags};
-ghost use Rattle.mysql_bulk_sender.specs.BulkSets.{front_bytes, row_bytes, types_by, types_bytes};
+ghost use Rattle.mysql_bulk_sender.specs.BulkSets.{front_bytes, request_flags, row_bytes, types_by, types_bytes};
 ghost use Rattle.std.specs.List.{flat_map};
 ghost use Rattle.mysql_bulk.specs.Bulk.{param_type_bytes};
 

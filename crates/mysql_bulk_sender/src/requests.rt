@@ -7,7 +7,7 @@ ghost use Rattle.mysql_wire.specs.Stream.Numbering.{EachFromZero};
 ghost use Rattle.mysql_bulk_builder.specs.Causes.{mixed_kinds as mixed_at, row_too_large};
 ghost use Rattle.mysql_bulk_builder.specs.RowLists.{row_in, rows_in};
 ghost use Rattle.mysql_bulk_builder.specs.TypedCut.{IsTightTyped};
-ghost use Rattle.mysql_bulk_builder.specs.TypedRequests.{view_part, view_parts};
+ghost use Rattle.mysql_bulk_builder.specs.TypedRequests.{typing_of, view_parts};
 ghost use Rattle.mysql_bulk_builder.specs.ValueTypes.{first_values};
 ghost use Rattle.mysql_streams.specs.Commands.{bulk_request};
 ghost use Rattle.mysql_streams.specs.Reading.{SentReadable};
@@ -75,7 +75,7 @@ fn put_part<'a, 'b: 'a>(
     requires arity { All (λ row. length row.now ≡ length firsts.old) rows.now }
     requires firsts { row_in firsts.old ≡ first_values (length firsts.old) (take start (rows_in rows.now)) }
     ensures firsts { row_in firsts.new ≡ first_values (length firsts.old) (take (start + part.count) (rows_in rows.now)) }
-    ensures ok { OnOk result (out.new.items ≡ out.old.items ++ framing (bulk_request id (length firsts.old) (rows_in rows.now) start (view_part part)) 0) }
+    ensures ok { OnOk result (out.new.items ≡ out.old.items ++ framing (bulk_request id (length firsts.old) (rows_in rows.now) start (typing_of part.typed) part.count) 0) }
     ensures kept { OnErr result (out.new.items ≡ out.old.items) }
 {
     let end = start + part.count;

@@ -11,7 +11,7 @@ use Rattle.mysql_buf.specs.FirstBytes.{first-enough}
 use Rattle.mysql_buf.specs.NumberLaws.{bytes_at-append}
 use Rattle.mysql_buf.specs.Reading.{u8_str_at}
 use Rattle.mysql_buf.specs.TextLaws.{lenenc_str-reads_back}
-use Rattle.mysql_raw.specs.Laws.{little_at-back}
+use Rattle.mysql_raw.specs.Laws.{fixed_number_at-back}
 use Rattle.mysql_raw.specs.Wire.{Reading, ◌>>=◌, or_end}
 use Rattle.mysql_cells.specs.CellLaws.{CellLength, CellsReadBack, ReadBackMeansTheSame}
 use Rattle.mysql_cells.specs.Cells.{cell_at, date_of, date_size, time_of, time_size, unsigned_value}
@@ -170,11 +170,11 @@ cells_read_back NULL rest h = refl
 cells_read_back (Bytes bytes) rest h = ap (λ (r : Option (List ℕ × List ℕ)). or_end r >>= (λ (x : List ℕ × List ℕ). Ok (Bytes x.0, x.1))) (lenenc_str-reads_back bytes rest h.1)
 cells_read_back (Int z) rest h =
     let below : cast_unsigned w64 z < 256 ^ 8 = omega (arith, Fits-of_z {w = w64} {z = z} h) in
-    ap (λ (r : Reading ℕ). r >>= (λ (x : ℕ × List ℕ). Ok (Int (cast_signed w64 x.0), x.1))) (little_at-back 8 (cast_unsigned w64 z) rest below)
+    ap (λ (r : Reading ℕ). r >>= (λ (x : ℕ × List ℕ). Ok (Int (cast_signed w64 x.0), x.1))) (fixed_number_at-back 8 (cast_unsigned w64 z) rest below)
     ∙ ap (λ (n : ℤ). Ok (Int n, rest)) (to_z-of_z w64 z h)
-cells_read_back (UInt n) rest h = ap (λ (r : Reading ℕ). r >>= (λ (x : ℕ × List ℕ). Ok (unsigned_value x.0, x.1))) (little_at-back 8 n rest (omega (arith, h)))
-cells_read_back (Float bits) rest h = ap (λ (r : Reading ℕ). r >>= (λ (x : ℕ × List ℕ). Ok (Float x.0, x.1))) (little_at-back 4 bits rest (omega (arith, h)))
-cells_read_back (Double bits) rest h = ap (λ (r : Reading ℕ). r >>= (λ (x : ℕ × List ℕ). Ok (Double x.0, x.1))) (little_at-back 8 bits rest (omega (arith, h)))
+cells_read_back (UInt n) rest h = ap (λ (r : Reading ℕ). r >>= (λ (x : ℕ × List ℕ). Ok (unsigned_value x.0, x.1))) (fixed_number_at-back 8 n rest (omega (arith, h)))
+cells_read_back (Float bits) rest h = ap (λ (r : Reading ℕ). r >>= (λ (x : ℕ × List ℕ). Ok (Float x.0, x.1))) (fixed_number_at-back 4 bits rest (omega (arith, h)))
+cells_read_back (Double bits) rest h = ap (λ (r : Reading ℕ). r >>= (λ (x : ℕ × List ℕ). Ok (Double x.0, x.1))) (fixed_number_at-back 8 bits rest (omega (arith, h)))
 cells_read_back (Date year month day hour minute second micros) rest h =
     ap (λ (r : Reading (List ℕ)). r >>= (λ (x : List ℕ × List ℕ). Ok (date_of x.0, x.1))) (counted_back (date_size year month day hour minute second micros) (take (date_size year month day hour minute second micros) (date_fields year month day hour minute second micros)) rest (date_length year month day hour minute second micros))
     ∙ ap (λ (v : Value). Ok (v, rest)) (date_back year month day hour minute second micros h.0 h.6)

@@ -7,8 +7,8 @@ use Rattle.mysql_const.specs.ColumnTypes.{column_type_named, column_type_number}
 use Rattle.mysql_const.specs.NamedLaws.{column_type-names_back}
 use Rattle.mysql_const.specs.declared.column_type.ColumnType.{ColumnType}
 use Rattle.mysql_const.specs.declared.column_type.ColumnType.TheVariants.{MYSQL_TYPE_DECIMAL, MYSQL_TYPE_TINY, MYSQL_TYPE_SHORT, MYSQL_TYPE_LONG, MYSQL_TYPE_FLOAT, MYSQL_TYPE_DOUBLE, MYSQL_TYPE_NULL, MYSQL_TYPE_TIMESTAMP, MYSQL_TYPE_LONGLONG, MYSQL_TYPE_INT24, MYSQL_TYPE_DATE, MYSQL_TYPE_TIME, MYSQL_TYPE_DATETIME, MYSQL_TYPE_YEAR, MYSQL_TYPE_NEWDATE, MYSQL_TYPE_VARCHAR, MYSQL_TYPE_BIT, MYSQL_TYPE_TIMESTAMP2, MYSQL_TYPE_DATETIME2, MYSQL_TYPE_TIME2, MYSQL_TYPE_TYPED_ARRAY, MYSQL_TYPE_VECTOR, MYSQL_TYPE_UNKNOWN, MYSQL_TYPE_JSON, MYSQL_TYPE_NEWDECIMAL, MYSQL_TYPE_ENUM, MYSQL_TYPE_SET, MYSQL_TYPE_TINY_BLOB, MYSQL_TYPE_MEDIUM_BLOB, MYSQL_TYPE_LONG_BLOB, MYSQL_TYPE_BLOB, MYSQL_TYPE_VAR_STRING, MYSQL_TYPE_STRING, MYSQL_TYPE_GEOMETRY}
-use Rattle.mysql_raw.specs.Forms.{little_at}
-use Rattle.mysql_raw.specs.Laws.{bytes_at-back, little_at-back}
+use Rattle.mysql_raw.specs.Forms.{fixed_number_at}
+use Rattle.mysql_raw.specs.Laws.{bytes_at-back, fixed_number_at-back}
 use Rattle.mysql_raw_bytes.specs.TextLaws.{lenenc_text_at-back}
 use Rattle.mysql_raw_consts.specs.ConstantLaws.{constant_at-back, named_at-back, text_constant_at-back}
 use Rattle.mysql_raw_consts.specs.Constants.{named_at}
@@ -60,10 +60,10 @@ type_number-bound MYSQL_TYPE_VAR_STRING = lit< tt
 type_number-bound MYSQL_TYPE_STRING = lit< tt
 type_number-bound MYSQL_TYPE_GEOMETRY = lit< tt
 
-type-back : (t : ColumnType) (rest : List ℕ) → named_at column_type_named (little_at 1) (little_bytes 1 (column_type_number t) ++ rest) ≡ Ok (t, rest)
+type-back : (t : ColumnType) (rest : List ℕ) → named_at column_type_named (fixed_number_at 1) (little_bytes 1 (column_type_number t) ++ rest) ≡ Ok (t, rest)
 type-back t rest =
-    named_at-back column_type_named column_type_number (little_at 1) (little_bytes 1) t rest (column_type-names_back t)
-    (little_at-back 1 (column_type_number t) rest (type_number-bound t))
+    named_at-back column_type_named column_type_number (fixed_number_at 1) (little_bytes 1) t rest (column_type-names_back t)
+    (fixed_number_at-back 1 (column_type_number t) rest (type_number-bound t))
 
 names-back : (p : ColumnDefinition) (rest : List ℕ) → IsColumn p → column_names_at (column_names (names_in p) ++ rest) ≡ Ok (names_in p, rest)
 unfolding column_names column_names_at
@@ -92,11 +92,11 @@ fields-back p h =
     let set = little_bytes 2 p.character_set ++ len in
     rw (
       constant_at-back 1 12 set (lit< tt),
-      little_at-back 2 p.character_set len h.character_set,
-      little_at-back 4 p.column_length type h.column_length,
+      fixed_number_at-back 2 p.character_set len h.character_set,
+      fixed_number_at-back 4 p.column_length type h.column_length,
       type-back p.column_type flags,
-      little_at-back 2 p.flags.0 decimals h.flags,
-      little_at-back 1 p.decimals filler h.decimals,
+      fixed_number_at-back 2 p.flags.0 decimals h.flags,
+      fixed_number_at-back 1 p.decimals filler h.decimals,
     ) refl
 
 -- there are thirteen bytes

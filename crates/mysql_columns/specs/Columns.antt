@@ -9,7 +9,7 @@ use Rattle.mysql_const.specs.declared.column_flags.ColumnFlags.{ColumnFlags}
 use Rattle.mysql_const.specs.declared.column_type.ColumnType.{ColumnType}
 use Rattle.mysql_const.specs.ColumnTypes.{column_type_named, column_type_number}
 use Rattle.mysql_raw.specs.Wire.{Reading, ◌>>=◌}
-use Rattle.mysql_raw.specs.Forms.{bytes_at, little_at}
+use Rattle.mysql_raw.specs.Forms.{bytes_at, fixed_number_at}
 use Rattle.mysql_raw_bytes.specs.Texts.{lenenc_text_at}
 use Rattle.mysql_raw_consts.specs.Constants.{constant_at, named_at, text_constant_at}
 
@@ -74,11 +74,11 @@ column_fields f =
 unfoldable pub column_fields_at : List ℕ → Reading ColumnFields
 column_fields_at bytes = do
   size ← constant_at 1 12 bytes
-  character_set ← little_at 2 size.1
-  column_length ← little_at 4 character_set.1
-  column_type ← named_at column_type_named (little_at 1) column_length.1
-  flags ← little_at 2 column_type.1
-  decimals ← little_at 1 flags.1
+  character_set ← fixed_number_at 2 size.1
+  column_length ← fixed_number_at 4 character_set.1
+  column_type ← named_at column_type_named (fixed_number_at 1) column_length.1
+  flags ← fixed_number_at 2 column_type.1
+  decimals ← fixed_number_at 1 flags.1
   Ok (
     record {
       character_set = character_set.0;

@@ -8,7 +8,7 @@ use Rattle.std.proofs.Math.ListN.{get_or-append}
 use Rattle.std.proofs.Math.Seq.{take-append-add}
 use Rattle.mysql_commands.specs.declared.fault.StreamFault.{StreamFault}
 use Rattle.mysql_commands.proofs.Readable.{IsReadable}
-use Rattle.mysql_commands.specs.Layout.{Conversation}
+use Rattle.mysql_commands.specs.Query.{Statement}
 use Rattle.mysql_commands.specs.InForce.{StatementState, state_after, is_waiting}
 use Rattle.mysql_commands.specs.Reading.{Set, PayloadReadsAs, PayloadFaulty, ReadsAs, Faulty}
 use Rattle.mysql_wire.specs.Stream.{Rest, IsFault}
@@ -21,21 +21,21 @@ use Rattle.mysql_commands.proofs.Judging.{is_judged}
 
 -- ---- a list behind another
 
-pub reads_from : (c : Conversation) (s : StatementState) (first : ℕ) (xs es : List (List ℕ)) (p : List ℕ) (sets : List Set) → ReadsAs c (state_after c s xs) (first + length xs) es p sets → ReadsAs c s first (xs ++ es) p sets
+pub reads_from : (c : Statement) (s : StatementState) (first : ℕ) (xs es : List (List ℕ)) (p : List ℕ) (sets : List Set) → ReadsAs c (state_after c s xs) (first + length xs) es p sets → ReadsAs c s first (xs ++ es) p sets
 reads_from c s first xs es p sets h =
     (omega (arith, h.0, length-append xs es), subst (λ (st : StatementState). PayloadReadsAs c st p sets) (sym (state_after_append c s xs es)) h.1)
 
-pub reads_to : (c : Conversation) (s : StatementState) (first : ℕ) (xs es : List (List ℕ)) (p : List ℕ) (sets : List Set) → ReadsAs c s first (xs ++ es) p sets → ReadsAs c (state_after c s xs) (first + length xs) es p sets
+pub reads_to : (c : Statement) (s : StatementState) (first : ℕ) (xs es : List (List ℕ)) (p : List ℕ) (sets : List Set) → ReadsAs c s first (xs ++ es) p sets → ReadsAs c (state_after c s xs) (first + length xs) es p sets
 reads_to c s first xs es p sets h =
     (omega (arith, h.0, length-append xs es), subst (λ (st : StatementState). PayloadReadsAs c st p sets) (state_after_append c s xs es) h.1)
 
-pub faulty_from : (c : Conversation) (s : StatementState) (first : ℕ) (xs es : List (List ℕ)) (p : List ℕ) (f : StreamFault) → Faulty c (state_after c s xs) (first + length xs) es p f → Faulty c s first (xs ++ es) p f
+pub faulty_from : (c : Statement) (s : StatementState) (first : ℕ) (xs es : List (List ℕ)) (p : List ℕ) (f : StreamFault) → Faulty c (state_after c s xs) (first + length xs) es p f → Faulty c s first (xs ++ es) p f
 faulty_from c s first xs es p f (inl h) = inl (omega (arith, h.0, length-append xs es), h.1)
 faulty_from c s first xs es p f (inr h) =
     inr (omega (arith, h.0, length-append xs es), subst (λ (st : StatementState). PayloadFaulty c st p f) (sym (state_after_append c s xs es)) h.1)
 
 -- the i-th of two lists of reads
-read_at : (c : Conversation) (s : StatementState) (first : ℕ) (xs ys : List (List ℕ)) (reads more : List (List Set)) → Read c s first xs reads → length reads ≡ length xs → Read c (state_after c s xs) (first + length xs) ys more
+read_at : (c : Statement) (s : StatementState) (first : ℕ) (xs ys : List (List ℕ)) (reads more : List (List Set)) → Read c s first xs reads → length reads ≡ length xs → Read c (state_after c s xs) (first + length xs) ys more
     → (i : ℕ) → i < length (reads ++ more) → ((i < length xs) ⊎ (length xs ≤ i)) → ReadsAs c s first (take i (xs ++ ys)) (get_or (xs ++ ys) i []) (get_or (reads ++ more) i [])
 read_at c s first xs ys reads more r len m i lt (inl front) =
     subst (λ (es : List (List ℕ)). ReadsAs c s first es (get_or (xs ++ ys) i []) (get_or (reads ++ more) i [])) (sym (take-append-le i xs ys (omega arith)))
@@ -54,14 +54,14 @@ read_at c s first xs ys reads more r len m i lt (inr back) =
     (subst (λ (p : List ℕ). ReadsAs c s first (xs ++ take j ys) p (get_or (reads ++ more) (length reads + j) [])) (sym (get_or-append-add xs ys j []))
     (subst (λ (sets : List Set). ReadsAs c s first (xs ++ take j ys) (get_or ys j []) sets) (sym (get_or-append-add reads more j [])) here))))
 
-pub read_append : (c : Conversation) (s : StatementState) (first : ℕ) (xs ys : List (List ℕ)) (reads more : List (List Set)) → Read c s first xs reads → length reads ≡ length xs → Read c (state_after c s xs) (first + length xs) ys more → Read c s first (xs ++ ys) (reads ++ more)
+pub read_append : (c : Statement) (s : StatementState) (first : ℕ) (xs ys : List (List ℕ)) (reads more : List (List Set)) → Read c s first xs reads → length reads ≡ length xs → Read c (state_after c s xs) (first + length xs) ys more → Read c s first (xs ++ ys) (reads ++ more)
 read_append c s first xs ys reads more r len m =
     record {
       within = omega (arith, m.within, length-append xs ys, length-append reads more);
       each = λ i lt. read_at c s first xs ys reads more r len m i lt (cases_lt i (length xs));
     }
 
-ends_append : (c : Conversation) (s : StatementState) (first : ℕ) (xs ys : List (List ℕ)) (kind : Rest) (n : ℕ) (ending : End) → Ends c (state_after c s xs) (first + length xs) ys kind n ending → Ends c s first (xs ++ ys) kind (length xs + n) ending
+ends_append : (c : Statement) (s : StatementState) (first : ℕ) (xs ys : List (List ℕ)) (kind : Rest) (n : ℕ) (ending : End) → Ends c (state_after c s xs) (first + length xs) ys kind n ending → Ends c s first (xs ++ ys) kind (length xs + n) ending
 ends_append c s first xs ys kind n ending (inl h) =
     let f = h.0 in
     let place : (first + length xs) + n ≡ first + (length xs + n) = omega arith in
@@ -75,7 +75,7 @@ ends_append c s first xs ys kind n ending (inr h) =
     inr (omega (arith, h.0, length-append xs ys), h.1 ∙ ap (λ (k : ℕ). end_by_rest c (state_after c (state_after c s xs) ys) k kind) place ∙ ap (λ (st : StatementState). end_by_rest c st (first + (length xs + n)) kind) (sym (state_after_append c s xs ys)))
 
 -- behind payloads that all read, the audit goes on from their statement
-pub audits_append : (c : Conversation) (s : StatementState) (first : ℕ) (xs ys : List (List ℕ)) (kind : Rest) (reads : List (List Set)) (a : Audit) → Read c s first xs reads → length reads ≡ length xs → Audits c (state_after c s xs) (first + length xs) ys kind a → Audits c s first (xs ++ ys) kind (record { sets = flat_map (λ sets. sets) reads ++ a.sets; ending = a.ending })
+pub audits_append : (c : Statement) (s : StatementState) (first : ℕ) (xs ys : List (List ℕ)) (kind : Rest) (reads : List (List Set)) (a : Audit) → Read c s first xs reads → length reads ≡ length xs → Audits c (state_after c s xs) (first + length xs) ys kind a → Audits c s first (xs ++ ys) kind (record { sets = flat_map (λ sets. sets) reads ++ a.sets; ending = a.ending })
 audits_append c s first xs ys kind reads a r len h =
     record {
       reads = reads ++ h.reads;
@@ -85,7 +85,7 @@ audits_append c s first xs ys kind reads a r len h =
     }
 
 -- what the first payloads read as, they read as among more
-pub read_longer : (c : Conversation) (s : StatementState) (first : ℕ) (xs ys : List (List ℕ)) (reads : List (List Set)) → Read c s first xs reads → Read c s first (xs ++ ys) reads
+pub read_longer : (c : Statement) (s : StatementState) (first : ℕ) (xs ys : List (List ℕ)) (reads : List (List Set)) → Read c s first xs reads → Read c s first (xs ++ ys) reads
 read_longer c s first xs ys reads r =
     record {
       within = omega (arith, r.within, length-append xs ys);
@@ -95,7 +95,7 @@ read_longer c s first xs ys reads r =
     }
 
 -- a fault among the first payloads is the fault of all of them
-pub audits_faulty : (c : Conversation) (s : StatementState) (first : ℕ) (xs ys : List (List ℕ)) (kind : Rest) (reads : List (List Set)) (f : StreamFault) → Read c s first xs reads → length reads < length xs → Faulty c s first (take (length reads) xs) (get_or xs (length reads) []) f
+pub audits_faulty : (c : Statement) (s : StatementState) (first : ℕ) (xs ys : List (List ℕ)) (kind : Rest) (reads : List (List Set)) (f : StreamFault) → Read c s first xs reads → length reads < length xs → Faulty c s first (take (length reads) xs) (get_or xs (length reads) []) f
     → Audits c s first (xs ++ ys) kind (record { sets = flat_map (λ sets. sets) reads; ending = ends.Fault (first + length reads) f })
 audits_faulty c s first xs ys kind reads f r lt h =
     record {
@@ -113,7 +113,7 @@ audits_faulty c s first xs ys kind reads f r lt h =
 
 -- ---- there is an audit
 
-pub one_read : (c : Conversation) (s : StatementState) (first : ℕ) (x : List ℕ) (sets : List Set) → ReadsAs c s first [] x sets → Read c s first (x ∷ []) (sets ∷ [])
+pub one_read : (c : Statement) (s : StatementState) (first : ℕ) (x : List ℕ) (sets : List Set) → ReadsAs c s first [] x sets → Read c s first (x ∷ []) (sets ∷ [])
 one_read c s first x sets h =
     record {
       within = omega arith;
@@ -124,7 +124,7 @@ one_read c s first x sets h =
     at zero lt = h
     at (suc i) lt = absurd (omega arith)
 
-pub some_audit : (c : Conversation) → IsReadable c.query → (payloads : List (List ℕ)) (s : StatementState) (first : ℕ) (kind : Rest) → (a : Audit) × Audits c s first payloads kind a
+pub some_audit : (c : Statement) → IsReadable c.query → (payloads : List (List ℕ)) (s : StatementState) (first : ℕ) (kind : Rest) → (a : Audit) × Audits c s first payloads kind a
 some_audit c readable [] s first kind = (
   record { sets = []; ending = end_by_rest c (state_after c s []) (first + 0) kind },
   record { reads = []; each = record { within = omega arith; each = λ i lt. absurd (omega arith) }; sets = refl; ending = inr (refl, refl) },
@@ -151,7 +151,7 @@ same_reads (x ∷ xs) (y ∷ ys) e h =
     let head : x ≡ y = h 0 (omega arith) in
     let tail : xs ≡ ys = same_reads xs ys (omega (arith, e)) (λ k lt. h (suc k) (omega arith)) in cc
 
-module _ (c : Conversation) (readable : IsReadable c.query) (s : StatementState) (first : ℕ) (payloads : List (List ℕ)) (kind : Rest) where
+module _ (c : Statement) (readable : IsReadable c.query) (s : StatementState) (first : ℕ) (payloads : List (List ℕ)) (kind : Rest) where
   -- an audit can't end where another has read on
   no_longer : (n : ℕ) (ending : End) (reads : List (List Set)) → Read c s first payloads reads → Ends c s first payloads kind n ending → n < length reads → ⊥
   no_longer n ending reads r (inl h) lt =
@@ -183,14 +183,14 @@ module _ (c : Conversation) (readable : IsReadable c.query) (s : StatementState)
 
 -- ---- no fault
 
-pub no_fault_by_rest : (c : Conversation) (s : StatementState) (n : ℕ) (rest : Rest) → ¬ IsFault rest → IsNoFault (end_by_rest c s n rest)
+pub no_fault_by_rest : (c : Statement) (s : StatementState) (n : ℕ) (rest : Rest) → ¬ IsFault rest → IsNoFault (end_by_rest c s n rest)
 no_fault_by_rest c s n EmptyRest none = elim (is_waiting c s) as (λ b. IsNoFault (cond b ends.WaitingPieces ends.Whole)) [ true ↦ tt | false ↦ tt ]
 no_fault_by_rest c s n OpenRest none = elim (is_waiting c s) as (λ b. IsNoFault (cond b ends.WaitingPieces ends.UnfinishedPacket)) [ true ↦ tt | false ↦ tt ]
 no_fault_by_rest c s n TooLargeRest none = absurd (none tt)
 no_fault_by_rest c s n OutOfSyncRest none = absurd (none tt)
 
 -- nor has it any over no payloads
-pub no_fault_alone : (c : Conversation) (s : StatementState) (first : ℕ) (rest : Rest) (a : Audit) → ¬ IsFault rest → Audits c s first [] rest a → IsNoFault a.ending
+pub no_fault_alone : (c : Statement) (s : StatementState) (first : ℕ) (rest : Rest) (a : Audit) → ¬ IsFault rest → Audits c s first [] rest a → IsNoFault a.ending
 no_fault_alone c s first rest a none h = by h.ending
   where
     by : Ends c s first [] rest (length h.reads) a.ending → IsNoFault a.ending

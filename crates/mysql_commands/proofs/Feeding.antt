@@ -13,7 +13,7 @@ use Rattle.mysql_wire.specs.Stream.Rest.{Empty as EmptyRest, TooLarge as TooLarg
 use Rattle.mysql_wire.specs.Stream.Numbering.{EachFromZero}
 use Rattle.mysql_wire.specs.GoingOn.{ReaderLaws}
 use Rattle.mysql_commands.proofs.Readable.{IsReadable}
-use Rattle.mysql_commands.specs.Layout.{Conversation}
+use Rattle.mysql_commands.specs.Query.{Statement}
 use Rattle.mysql_commands.specs.InForce.{StatementState, state_after, nothing_yet}
 use Rattle.mysql_commands.specs.Reading.{Set, Faulty}
 use Rattle.mysql_commands.specs.Audit.{Audit, Read, Audits, Audited, end_by_rest}
@@ -22,7 +22,7 @@ use Rattle.mysql_commands.proofs.Splits.{each_stays, split_append, some_split, r
 use Rattle.mysql_commands.proofs.Auditing.{some_audit, one_audit, audits_append, audits_faulty, no_fault_alone, read_append, read_longer}
 use Rattle.mysql_commands.proofs.Looking.{state_after_append}
 
-module _ (wire : ReaderLaws) (c : Conversation) (limit : ℕ) where
+module _ (wire : ReaderLaws) (c : Statement) (limit : ℕ) where
   -- the next bytes go on where all payloads read and the rest is no fault
   on_open : (old new : ReceiverState) (piece z : List ℕ) (a : Audit) (fed : Fed c limit old piece new) → length fed.reads ≡ length fed.split.payloads → new.partial ≡ fed.split.rest_bytes
       → new.statement ≡ state_after c old.statement fed.split.payloads → ReceiverDecidesBy c limit new None z a → ReceiverDecidesBy c limit old None (piece ++ z) a
@@ -190,7 +190,7 @@ module _ (wire : ReaderLaws) (c : Conversation) (limit : ℕ) where
             one_audit c readable nothing_yet 0 s.0.payloads s.0.rest b a.0 (subst (λ (p : Split). Audits c nothing_yet 0 p.payloads p.rest b) same q.2) a.1,
       )
 
-pub start_decides : (c : Conversation) (limit : ℕ) (z : List ℕ) (a : Audit) → (ReceiverDecides c limit fresh_receiver z a → Audited c limit z a) × (Audited c limit z a → ReceiverDecides c limit fresh_receiver z a)
+pub start_decides : (c : Statement) (limit : ℕ) (z : List ℕ) (a : Audit) → (ReceiverDecides c limit fresh_receiver z a → Audited c limit z a) × (Audited c limit z a → ReceiverDecides c limit fresh_receiver z a)
 start_decides c limit z a = (
   λ d. (d.0, d.2, subst (λ (l : List Set). Audits c nothing_yet 0 d.0.payloads d.0.rest (record { sets = l; ending = a.ending })) (sym d.3) d.4),
   λ h. (h.0, a.sets, h.1, refl, h.2),

@@ -8,11 +8,11 @@ use Rattle.std.proofs.lemmas.Bool.{cases_lt, ne_eqb, or_parts, ltb-true}
 use Rattle.std.proofs.lemmas.List.{length-take, get_or-take}
 use Rattle.mysql_commands.specs.declared.fault.StreamFault.{StreamFault}
 use Rattle.mysql_commands.specs.declared.fault.StreamFault.TheVariants.{WrongId, NotPrepared, NoTypes, NoRows, BadBulk, PiecesBeforeBulk, BadPlace}
-use Rattle.mysql_commands.specs.Fields.{must, little_at}
+use Rattle.mysql_commands.specs.Fields.{must, number_or}
 use Rattle.mysql_wire.specs.Wire.{◌>>=◌}
-use Rattle.mysql_commands.specs.Query.{place_count}
+use Rattle.mysql_commands.specs.Query.{Statement, place_count}
 use Rattle.mysql_commands.proofs.Readable.{readable as is_readable}
-use Rattle.mysql_commands.specs.Layout.{Conversation, Command, command_of, Types, Piece, piece_at, id_at, execute_head, bulk_head}
+use Rattle.mysql_commands.specs.Layout.{Command, command_of, Types, Piece, piece_at, id_at, execute_head, bulk_head}
 use Rattle.mysql_commands.specs.Layout as layout
 use Rattle.mysql_commands.specs.InForce.{StatementState, state_after, nothing_yet, last_said, said_by, speaks_of_prepared, speaks_of_types, speaks_of_place, is_end, since, waiting_for, joined, is_waiting}
 use Rattle.mysql_commands.specs.Reading.{Set, ReadsAs, CommandReadsAs, PayloadReadsAs, execute_at, bulk_rows, prepared_piece, long_data_at, statement_alone_at, types_in_force, set_at}
@@ -39,7 +39,7 @@ take_take (suc i) (suc k) [] h = refl
 take_take (suc i) (suc k) (x ∷ xs) h = ap (λ (l : List (List ℕ)). x ∷ l) (take_take i k xs (omega arith))
 
 -- the first payloads read as the first reads
-read_front : (c : Conversation) (s : StatementState) (first : ℕ) (payloads : List (List ℕ)) (reads : List (List Set)) (k : ℕ) → Read c s first payloads reads → length reads ≡ length payloads → Read c s first (take k payloads) (take k reads)
+read_front : (c : Statement) (s : StatementState) (first : ℕ) (payloads : List (List ℕ)) (reads : List (List Set)) (k : ℕ) → Read c s first payloads reads → length reads ≡ length payloads → Read c s first (take k payloads) (take k reads)
 read_front c s first payloads reads k r len =
     record {
       within = omega (arith, length-take k payloads, length-take k reads);
@@ -96,7 +96,7 @@ said_over P same says d e payloads h =
       | inr none ↦ subst (λ l. P (unwrap_or (last_or None l) d) (unwrap_or (last_or None l) e)) (sym none) h
     ]
 
-extends_after : (c : Conversation) (s t : StatementState) (payloads : List (List ℕ)) → Extends s t → Extends (state_after c s payloads) (state_after c t payloads)
+extends_after : (c : Statement) (s t : StatementState) (payloads : List (List ℕ)) → Extends s t → Extends (state_after c s payloads) (state_after c t payloads)
 extends_after c s t payloads h =
     record {
       prepared = said_over (λ (a b : Bool). a ≡ true → b ≡ true) (λ x e. e) (said_by (speaks_of_prepared c)) s.prepared t.prepared payloads h.prepared;
@@ -104,7 +104,7 @@ extends_after c s t payloads h =
       pieces = ap (λ (f : ℕ → Option (List ℕ)). λ place. waiting_for c (f place) payloads place) h.pieces;
     }
 
-types_over : (c : Conversation) (s t : StatementState) (own : Option Types) (types : Types) → Extends s t → types_in_force c s own ≡ Ok types → types_in_force c t own ≡ Ok types
+types_over : (c : Statement) (s t : StatementState) (own : Option Types) (types : Types) → Extends s t → types_in_force c s own ≡ Ok types → types_in_force c t own ≡ Ok types
 types_over c s t own types h e = elim (place_count c.query == 0) as (λ b. cond b (Ok []) (ok_or (option_or own s.types) NoTypes) ≡ Ok types → cond b (Ok []) (ok_or (option_or own t.types) NoTypes) ≡ Ok types) [ true ↦ λ x. x | false ↦ by_own own s.types refl ] e
   where
     by_own : (o : Option Types) (kept : Option Types) → s.types ≡ kept → ok_or (option_or o s.types) NoTypes ≡ Ok types → ok_or (option_or o t.types) NoTypes ≡ Ok types
@@ -115,7 +115,7 @@ types_over c s t own types h e = elim (place_count c.query == 0) as (λ b. cond 
 set_over : (s t : StatementState) (head : layout.ExecuteHead) (types : Types) (set : Set) → t.pieces ≡ s.pieces → set_at s.pieces head.nulls 0 types head.cells ≡ Ok set → set_at t.pieces head.nulls 0 types head.cells ≡ Ok set
 set_over s t head types set h e = ap (λ (f : ℕ → Option (List ℕ)). set_at f head.nulls 0 types head.cells) h ∙ e
 
-execute_over : (c : Conversation) (s t : StatementState) (body : List ℕ) (set : Set) → Extends s t → execute_at c s body ≡ Ok set → execute_at c t body ≡ Ok set
+execute_over : (c : Statement) (s t : StatementState) (body : List ℕ) (set : Set) → Extends s t → execute_at c s body ≡ Ok set → execute_at c t body ≡ Ok set
 unfolding execute_at
 execute_over c s t body set h e =
     let a = bind_ok (must NotPrepared s.prepared) (λ _. execute_head c body >>= λ head. types_in_force c s head.own >>= λ types. set_at s.pieces head.nulls 0 types head.cells) set e in
@@ -126,7 +126,7 @@ execute_over c s t body set h e =
     (bind_from (types_in_force c t b.0.own) (λ types. set_at t.pieces b.0.nulls 0 types b.0.cells) d.0 set (types_over c s t b.0.own d.0 h d.1)
     (set_over s t b.0 d.0 set h.pieces d.2)))
 
-bulk_over : (c : Conversation) (s t : StatementState) (body : List ℕ) (x : Types × List ℕ) → Extends s t → bulk_rows c s body ≡ Ok x → bulk_rows c t body ≡ Ok x
+bulk_over : (c : Statement) (s t : StatementState) (body : List ℕ) (x : Types × List ℕ) → Extends s t → bulk_rows c s body ≡ Ok x → bulk_rows c t body ≡ Ok x
 unfolding bulk_rows
 bulk_over c s t body x h e =
     let after_head : StatementState → layout.BulkHead → Result (Types × List ℕ) StreamFault = λ st head. types_in_force c st head.own >>= λ types. must NoRows (nat_lt 0 (length head.rows)) >>= λ _. Ok (types, head.rows) in
@@ -144,7 +144,7 @@ bulk_over c s t body x h e =
     (bind_from (bulk_head c body) (λ head. after_head t head) g.0 x g.1
     (bind_from (types_in_force c t g.0.own) (λ types. must NoRows (nat_lt 0 (length g.0.rows)) >>= λ _. Ok (types, g.0.rows)) k.0 x (types_over c s t g.0.own k.0 h k.1) k.2))))
 
-long_data_over : (c : Conversation) (s t : StatementState) (body : List ℕ) (sets : List Set) → Extends s t → long_data_at c s body ≡ Ok sets → long_data_at c t body ≡ Ok sets
+long_data_over : (c : Statement) (s t : StatementState) (body : List ℕ) (sets : List Set) → Extends s t → long_data_at c s body ≡ Ok sets → long_data_at c t body ≡ Ok sets
 unfolding long_data_at prepared_piece
 long_data_over c s t body sets h e =
     let a = bind_ok (must NotPrepared s.prepared >>= λ _. piece_at c body) (λ piece. Ok []) sets e in
@@ -152,14 +152,14 @@ long_data_over c s t body sets h e =
     bind_from (must NotPrepared t.prepared >>= λ _. piece_at c body) (λ piece. Ok []) a.0 sets
     (bind_from (must NotPrepared t.prepared) (λ _. piece_at c body) 0 a.0 (must_from NotPrepared t.prepared (h.prepared (must_ok NotPrepared s.prepared b.0 b.1))) b.2) a.2
 
-alone_over : (c : Conversation) (s t : StatementState) (body : List ℕ) (sets : List Set) → Extends s t → statement_alone_at c s body ≡ Ok sets → statement_alone_at c t body ≡ Ok sets
+alone_over : (c : Statement) (s t : StatementState) (body : List ℕ) (sets : List Set) → Extends s t → statement_alone_at c s body ≡ Ok sets → statement_alone_at c t body ≡ Ok sets
 unfolding statement_alone_at
 alone_over c s t body sets h e =
     let a = bind_ok (must NotPrepared s.prepared) (λ _. id_at c body >>= λ rest. must WrongId (length rest == 0) >>= λ _. Ok []) sets e in
     bind_from (must NotPrepared t.prepared) (λ _. id_at c body >>= λ rest. must WrongId (length rest == 0) >>= λ _. Ok []) 0 sets (must_from NotPrepared t.prepared (h.prepared (must_ok NotPrepared s.prepared a.0 a.1))) a.2
 
 -- what reads where less is in force reads where more is
-command_over : (c : Conversation) (s t : StatementState) (command : Command) (body : List ℕ) (sets : List Set) → Extends s t → CommandReadsAs c s command body sets → CommandReadsAs c t command body sets
+command_over : (c : Statement) (s t : StatementState) (command : Command) (body : List ℕ) (sets : List Set) → Extends s t → CommandReadsAs c s command body sets → CommandReadsAs c t command body sets
 command_over c s t layout.Text body sets h r = r
 command_over c s t layout.Prepare body sets h r = r
 command_over c s t layout.LongData body sets h r = long_data_over c s t body sets h r
@@ -169,11 +169,11 @@ command_over c s t layout.Reset body sets h r = alone_over c s t body sets h r
 command_over c s t layout.Close body sets h r = alone_over c s t body sets h r
 command_over c s t layout.Other body sets h r = r
 
-payload_over : (c : Conversation) (s t : StatementState) (payload : List ℕ) (sets : List Set) → Extends s t → PayloadReadsAs c s payload sets → PayloadReadsAs c t payload sets
+payload_over : (c : Statement) (s t : StatementState) (payload : List ℕ) (sets : List Set) → Extends s t → PayloadReadsAs c s payload sets → PayloadReadsAs c t payload sets
 payload_over c s t [] sets h r = r
 payload_over c s t (b ∷ body) sets h r = command_over c s t (command_of b) body sets h r
 
-read_over : (c : Conversation) (s t : StatementState) (first later : ℕ) (payloads : List (List ℕ)) (reads : List (List Set)) → Extends s t → later + length payloads < 2 ^ 64 → Read c s first payloads reads → Read c t later payloads reads
+read_over : (c : Statement) (s t : StatementState) (first later : ℕ) (payloads : List (List ℕ)) (reads : List (List Set)) → Extends s t → later + length payloads < 2 ^ 64 → Read c s first payloads reads → Read c t later payloads reads
 read_over c s t first later payloads reads h few r =
     record {
       within = r.within;
@@ -201,16 +201,16 @@ ok_is : (x y : Piece) → good x ≡ good y → x ≡ y
 ok_is x y h = cc
 
 -- a piece is for a place of the query
-piece_place : (c : Conversation) (body : List ℕ) (p : Piece) → piece_at c body ≡ Ok p → p.place < place_count c.query
+piece_place : (c : Statement) (body : List ℕ) (p : Piece) → piece_at c body ≡ Ok p → p.place < place_count c.query
 piece_place c body p e =
-    let a = bind_ok (id_at c body) (λ rest. little_at BadPlace 2 rest >>= λ place. must BadPlace (nat_lt place.0 (place_count c.query)) >>= λ _. Ok (record { place = place.0; bytes = place.1 })) p e in
-    let b = bind_ok (little_at BadPlace 2 a.0) (λ place. must BadPlace (nat_lt place.0 (place_count c.query)) >>= λ _. Ok (record { place = place.0; bytes = place.1 })) p a.2 in
+    let a = bind_ok (id_at c body) (λ rest. number_or BadPlace 2 rest >>= λ place. must BadPlace (nat_lt place.0 (place_count c.query)) >>= λ _. Ok (record { place = place.0; bytes = place.1 })) p e in
+    let b = bind_ok (number_or BadPlace 2 a.0) (λ place. must BadPlace (nat_lt place.0 (place_count c.query)) >>= λ _. Ok (record { place = place.0; bytes = place.1 })) p a.2 in
     let d = bind_ok (must BadPlace (nat_lt b.0.0 (place_count c.query))) (λ _. Ok (record { place = b.0.0; bytes = b.0.1 })) p b.2 in
     let lt : b.0.0 < place_count c.query = ltb-true b.0.0 (place_count c.query) (must_ok BadPlace (nat_lt b.0.0 (place_count c.query)) d.0 d.1) in
     let same : b.0.0 ≡ p.place = ap (λ (q : Piece). q.place) (ok_is (record { place = b.0.0; bytes = b.0.1 }) p d.2) in
     omega (arith, lt, same)
 
-no_place_past : (c : Conversation) (k : ℕ) → place_count c.query ≤ k → (payload : List ℕ) → said_by (speaks_of_place c k) payload ≡ None
+no_place_past : (c : Statement) (k : ℕ) → place_count c.query ≤ k → (payload : List ℕ) → said_by (speaks_of_place c k) payload ≡ None
 no_place_past c k past [] = refl
 no_place_past c k past (b ∷ body) = by_command (command_of b) body
   where
@@ -232,7 +232,7 @@ is_none : (o : Option (List ℕ)) → is_some o ≡ false → o ≡ None
 is_none None e = refl
 is_none (Some x) e = absurd cc
 
-nothing_waits : (c : Conversation) (payloads : List (List ℕ)) → is_waiting c (state_after c nothing_yet payloads) ≡ false → (k : ℕ) → (state_after c nothing_yet payloads).pieces k ≡ None
+nothing_waits : (c : Statement) (payloads : List (List ℕ)) → is_waiting c (state_after c nothing_yet payloads) ≡ false → (k : ℕ) → (state_after c nothing_yet payloads).pieces k ≡ None
 nothing_waits c payloads none k = by_place (cases_lt k (place_count c.query))
   where
     by_place : ((k < place_count c.query) ⊎ (place_count c.query ≤ k)) → (state_after c nothing_yet payloads).pieces k ≡ None
@@ -243,7 +243,7 @@ nothing_waits c payloads none k = by_place (cases_lt k (place_count c.query))
 
 -- ---- streams that audit whole
 
-whole_by_rest : (c : Conversation) (s : StatementState) (n : ℕ) (rest : Rest) → ends.Whole ≡ end_by_rest c s n rest → (is_waiting c s ≡ false) × (rest ≡ EmptyRest)
+whole_by_rest : (c : Statement) (s : StatementState) (n : ℕ) (rest : Rest) → ends.Whole ≡ end_by_rest c s n rest → (is_waiting c s ≡ false) × (rest ≡ EmptyRest)
 whole_by_rest c s n TooLargeRest e = absurd cc
 whole_by_rest c s n OutOfSyncRest e = absurd cc
 whole_by_rest c s n OpenRest e = absurd (by_waiting (is_waiting c s) e)
@@ -258,7 +258,7 @@ whole_by_rest c s n EmptyRest e = (by_waiting (is_waiting c s) e, refl)
     by_waiting false h = refl
 
 -- all of a whole stream's payloads read, and nothing waits
-whole_reads : (c : Conversation) (s : StatementState) (first : ℕ) (payloads : List (List ℕ)) (rest : Rest) (n : ℕ) (e : End) → Ends c s first payloads rest n e → e ≡ ends.Whole
+whole_reads : (c : Statement) (s : StatementState) (first : ℕ) (payloads : List (List ℕ)) (rest : Rest) (n : ℕ) (e : End) → Ends c s first payloads rest n e → e ≡ ends.Whole
     → (n ≡ length payloads) × (is_waiting c (state_after c s payloads) ≡ false) × (rest ≡ EmptyRest)
 whole_reads c s first payloads rest n e (inl h) w = let bad : ends.Fault (first + n) h.0 ≡ ends.Whole = sym h.3 ∙ w in absurd cc
 whole_reads c s first payloads rest n e (inr h) w = let r = whole_by_rest c (state_after c s payloads) (first + n) rest (sym w ∙ h.1) in (h.0, r.0, r.1)

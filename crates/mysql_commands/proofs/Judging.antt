@@ -3,10 +3,10 @@ use Rattle.std.proofs.Common.{◌≡◌, ◌≢◌, ℕ, ◌+◌, ◌-◌, ◌^�
 use Rattle.std.proofs.lemmas.Bool.{cases_lt, cases_eq, cases_Bool}
 use Rattle.mysql_commands.specs.declared.fault.StreamFault.{StreamFault}
 use Rattle.mysql_commands.specs.declared.fault.StreamFault.TheVariants.{EmptyCommand, OtherCommand, TextMismatch, NotAlone, PrepareMismatch, TooManyPlaces, TooLarge}
-use Rattle.mysql_commands.specs.Query.{place_count, all_alone as is_all_alone}
+use Rattle.mysql_commands.specs.Query.{Statement, all_alone as is_all_alone, place_count}
 use Rattle.mysql_values.specs.Queries.{Slices}
 use Rattle.mysql_commands.proofs.Readable.{IsReadable}
-use Rattle.mysql_commands.specs.Layout.{Conversation, Command, command_of, Types}
+use Rattle.mysql_commands.specs.Layout.{Command, command_of, Types}
 use Rattle.mysql_commands.specs.Layout as layout
 use Rattle.mysql_commands.specs.InForce.{StatementState, state_after}
 use Rattle.mysql_commands.specs.Reading.{TextReadsAs, Set, execute_at, bulk_rows, BulkReadsAs, BulkFaulty, RowsAt, FaultyRow, long_data_at, statement_alone_at, CommandReadsAs, CommandFaulty, PayloadReadsAs, PayloadFaulty, ReadsAs, Faulty}
@@ -40,7 +40,7 @@ err_one r x y p q = cc
 one_set : (x y : Set) (xs ys : List Set) → xs ≡ x ∷ [] → ys ≡ y ∷ [] → x ≡ y → xs ≡ ys
 one_set x y xs ys p q e = cc
 
-module _ (c : Conversation) (s : StatementState) (readable : IsReadable c.query) where
+module _ (c : Statement) (s : StatementState) (readable : IsReadable c.query) where
   abbrev all_alone : Bool
   all_alone = is_all_alone c.query
 
@@ -150,7 +150,7 @@ module _ (c : Conversation) (s : StatementState) (readable : IsReadable c.query)
   payload_fault_one [] f g p q = p ∙ sym q
   payload_fault_one (b ∷ body) f g p q = fault_one (command_of b) body f g p q
 
-module _ (c : Conversation) (s : StatementState) (first : ℕ) (earlier : List (List ℕ)) (payload : List ℕ) (readable : IsReadable c.query) where
+module _ (c : Statement) (s : StatementState) (first : ℕ) (earlier : List (List ℕ)) (payload : List ℕ) (readable : IsReadable c.query) where
   now : StatementState
   now = state_after c s earlier
 

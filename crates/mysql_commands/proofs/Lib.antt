@@ -1,3 +1,4 @@
+pub mod About
 pub mod Readable
 pub mod Looking
 pub mod Judging

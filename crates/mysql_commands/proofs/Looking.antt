@@ -6,7 +6,8 @@ use Rattle.std.specs.Option.{option_to_list}
 use Rattle.std.proofs.lemmas.List.Elements.{filter_map-append, recursion_from_All}
 use Rattle.std.proofs.lemmas.List.Concat.{flat_map-append}
 use Rattle.std.proofs.lemmas.List.{append-nil}
-use Rattle.mysql_commands.specs.Layout.{Conversation, Types}
+use Rattle.mysql_commands.specs.Layout.{Types}
+use Rattle.mysql_commands.specs.Query.{Statement}
 use Rattle.mysql_commands.specs.InForce.{StatementState, said_by, last_said, speaks_of_prepared, speaks_of_types, speaks_of_place, is_end, since, joined, waiting_for, state_after}
 
 last_or-append : {A : Type 0} (o : Option A) (xs ys : List A) → last_or o (xs ++ ys) ≡ last_or (last_or o xs) ys
@@ -71,7 +72,7 @@ joined-append [] qs = refl
 joined-append (p ∷ ps) qs =
     ap (λ l. Some l) (append_assoc p (flat_map (λ part. part) ps) (flat_map (λ part. part) qs) ∙ ap (λ (l : List ℕ). p ++ l) (sym (flat_map-append (λ part. part) ps qs)))
 
-pub waiting_for-append : (c : Conversation) (before : Option (List ℕ)) (xs ys : List (List ℕ)) (place : ℕ) → waiting_for c before (xs ++ ys) place ≡ waiting_for c (waiting_for c before xs place) ys place
+pub waiting_for-append : (c : Statement) (before : Option (List ℕ)) (xs ys : List (List ℕ)) (place : ℕ) → waiting_for c before (xs ++ ys) place ≡ waiting_for c (waiting_for c before xs place) ys place
 waiting_for-append c before xs ys place = by_cases (list_any is_end ys) refl
   where
     data_of : List (List ℕ) → List (List ℕ)
@@ -94,7 +95,7 @@ waiting_for-append c before xs ys place = by_cases (list_any is_end ys) refl
         ∙ sym (ap (λ b. joined (option_to_list (cond b None (waiting_for c before xs place)) ++ data_of (since is_end ys))) h
         ∙ ap (λ l. joined (option_to_list (waiting_for c before xs place) ++ data_of l)) (since-none is_end ys h))
 
-pub state_after_append : (c : Conversation) (s : StatementState) (xs ys : List (List ℕ)) → state_after c s (xs ++ ys) ≡ state_after c (state_after c s xs) ys
+pub state_after_append : (c : Statement) (s : StatementState) (xs ys : List (List ℕ)) → state_after c s (xs ++ ys) ≡ state_after c (state_after c s xs) ys
 state_after_append c s xs ys = λ i. record {
   prepared = last_said-append (said_by (speaks_of_prepared c)) s.prepared xs ys i;
   types = last_said-append (said_by (speaks_of_types c)) s.types xs ys i;
@@ -102,7 +103,7 @@ state_after_append c s xs ys = λ i. record {
 }
 
 -- before any payload what held before is in force
-pub state_after_nil : (c : Conversation) (s : StatementState) → state_after c s [] ≡ s
+pub state_after_nil : (c : Statement) (s : StatementState) → state_after c s [] ≡ s
 state_after_nil c s = λ i. record { prepared = s.prepared; types = s.types; pieces = λ place. one (s.pieces place) i }
   where
     one : (o : Option (List ℕ)) → joined (option_to_list o ++ []) ≡ o

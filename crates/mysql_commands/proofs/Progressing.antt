@@ -19,7 +19,7 @@ use Rattle.mysql_commands.specs.declared.fault.StreamFault.TheVariants.{Memory}
 use Rattle.mysql_commands.specs.declared.refusal.Refusal.{Refusal}
 use Rattle.mysql_commands.specs.declared.refusal.Refusal.TheVariants as refusal
 use Rattle.mysql_commands.specs.declared.progress.Progress.{Progress}
-use Rattle.mysql_commands.specs.Layout.{Conversation}
+use Rattle.mysql_commands.specs.Query.{Statement}
 use Rattle.mysql_commands.specs.InForce.{StatementState, state_after}
 use Rattle.mysql_commands.specs.Reading.{Set, ReadsAs, Faulty, PayloadReadsAs, PayloadFaulty}
 use Rattle.mysql_commands.specs.Audit.{Read}
@@ -31,15 +31,15 @@ use Rattle.mysql_commands.proofs.Looking.{state_after_nil, state_after_append}
 use Rattle.mysql_commands.proofs.Auditing.{read_append, one_read, read_longer, faulty_from}
 use Rattle.mysql_commands.proofs.Splits.{some_split, bytes_behind, each_stays}
 
-pub reads_first : (c : Conversation) (s : StatementState) (n : ℕ) (payload : List ℕ) (sets : List Set) → n < 2 ^ 64 - 1 → PayloadReadsAs c s payload sets → ReadsAs c s n [] payload sets
+pub reads_first : (c : Statement) (s : StatementState) (n : ℕ) (payload : List ℕ) (sets : List Set) → n < 2 ^ 64 - 1 → PayloadReadsAs c s payload sets → ReadsAs c s n [] payload sets
 reads_first c s n payload sets few h = (omega arith, subst (λ (st : StatementState). PayloadReadsAs c st payload sets) (sym (state_after_nil c s)) h)
 
-pub fails_first : (c : Conversation) (old new : Progress) (payload : List ℕ) (r : Refusal) → old.count < 2 ^ 64 - 1 → PayloadJudged c (state_of old.statement) payload (Err r) → OneBy c old payload new (Err r)
+pub fails_first : (c : Statement) (old new : Progress) (payload : List ℕ) (r : Refusal) → old.count < 2 ^ 64 - 1 → PayloadJudged c (state_of old.statement) payload (Err r) → OneBy c old payload new (Err r)
 fails_first c old new payload refusal.Memory few h = tt
 fails_first c old new payload (refusal.Fault f) few h = inr (omega arith, subst (λ (st : StatementState). PayloadFaulty c st payload f) (sym (state_after_nil c (state_of old.statement))) h)
 
 -- so many payloads of the bytes were handed out, and they were read
-pub record Behind (c : Conversation) (limit : ℕ) (old : Progress) (bytes : List ℕ) (codec : Codec) (src packet : List ℕ) (now : Progress) : Type 0 where
+pub record Behind (c : Statement) (limit : ℕ) (old : Progress) (bytes : List ℕ) (codec : Codec) (src packet : List ℕ) (now : Progress) : Type 0 where
   pub payloads : List (List ℕ)
   pub taken : HasRead limit EachFromZero bytes payloads codec src packet
   pub reads : List (List Set)
@@ -49,7 +49,7 @@ pub record Behind (c : Conversation) (limit : ℕ) (old : Progress) (bytes : Lis
   pub count : now.count ≡ old.count + length reads
   pub statement : state_of now.statement ≡ state_after c (state_of old.statement) payloads
 
-module _ (wire : ReaderLaws) (c : Conversation) (limit : ℕ) (old : Progress) (bytes : List ℕ) where
+module _ (wire : ReaderLaws) (c : Statement) (limit : ℕ) (old : Progress) (bytes : List ℕ) where
   pub behind_none : (codec : Codec) (src packet : List ℕ) → HasRead limit EachFromZero bytes [] codec src packet → Behind c limit old bytes codec src packet old
   behind_none codec src packet h =
       record {
@@ -231,5 +231,5 @@ pub piece_reads : ReaderLaws → (r : Incoming) (piece : List ℕ) → IsOpen r 
 piece_reads wire r piece o = wire.feeds r.limit EachFromZero r.bytes [] (codec_by r) r.bytes [] piece o.reading
 
 -- what was held before the piece and the piece are one list of bytes
-pub piece_fed : (c : Conversation) (limit : ℕ) (old : Progress) (bytes piece : List ℕ) (new : ReceiverState) → Fed c limit (state_of_parts old [] None) (bytes ++ piece) new → Fed c limit (state_of_parts old bytes None) piece new
+pub piece_fed : (c : Statement) (limit : ℕ) (old : Progress) (bytes piece : List ℕ) (new : ReceiverState) → Fed c limit (state_of_parts old [] None) (bytes ++ piece) new → Fed c limit (state_of_parts old bytes None) piece new
 piece_fed c limit old bytes piece new h = record { split = h.split; is_split = h.is_split; reads = h.reads; each = h.each; sets = h.sets; count = h.count; stops = h.stops }

@@ -20,12 +20,12 @@ use Rattle.mysql_commands.specs.declared.fault.StreamFault.TheVariants.{Memory}
 use Rattle.mysql_commands.specs.declared.audit.End.{End}
 use Rattle.mysql_commands.specs.declared.audit.End.TheVariants as ends
 use Rattle.mysql_commands.specs.declared.receiver.Receiver.TheInside.{Inside}
-use Rattle.mysql_commands.specs.Layout.{Conversation}
+use Rattle.mysql_commands.specs.Query.{Statement}
 use Rattle.mysql_commands.specs.InForce.{StatementState, is_waiting, state_after, nothing_yet}
 use Rattle.mysql_commands.specs.Audit.{Audit, Audited, OutOfMemory, IsNoFault, end_by_rest}
 use Rattle.mysql_commands.specs.GoingOn.{ReceiverState, fresh_receiver, ReceiverDecidesBy, ReceiverDecides, ReceiverGoesOn, HasFoundNoFault, Fed, Stops, TakesAll, RunsShort, fault_of_rest}
 use Rattle.mysql_commands.specs.Taking.{Feeds}
-use Rattle.mysql_commands.specs.Views.{conversation_of, piece_kept, state_of, sets_of}
+use Rattle.mysql_commands.specs.Views.{statement_view, piece_kept, state_of, sets_of}
 use Rattle.mysql_commands.specs.Receiving.{IsMemory, answer_by}
 use Rattle.mysql_commands.specs.Parts.{IsOpen, state_of_parts, end_by}
 use Rattle.mysql_commands.specs.Received.{Received, piece_in, receiver_state}
@@ -80,7 +80,7 @@ holds_start pieces sets partial p s h = λ i. record {
 }
 
 -- memory ran out over a piece
-pub short_by : (c : Conversation) (limit : ℕ) (old : ReceiverState) (piece : List ℕ) (new : ReceiverState) → new.fault ≡ Some Memory → Fed c limit old piece new → RunsShort c limit old piece new
+pub short_by : (c : Statement) (limit : ℕ) (old : ReceiverState) (piece : List ℕ) (new : ReceiverState) → new.fault ≡ Some Memory → Fed c limit old piece new → RunsShort c limit old piece new
 short_by c limit old piece new memory fed = record { split = fed.split; is_split = fed.is_split; reads = fed.reads; each = fed.each; sets = fed.sets; count = fed.count; fault = memory }
 
 -- ---- an answer, by whether memory ran out
@@ -105,31 +105,31 @@ stays_on v piece f e z a more d =
 
 module _ (r new : Inside) (v : Received) (piece : List ℕ) (o : Option StreamFault) (view : received_of r ≡ v) (is : new.fault ≡ o) where
   -- what is held of the two
-  by_views : (P : Conversation → ℕ → ReceiverState → ReceiverState → Type 0) → r.fault ≡ None
-      → P (conversation_of r.conversation) r.packets.limit (state_of_parts r.progress r.packets.bytes None) (state_of_parts new.progress new.packets.bytes o) → P v.conversation v.limit (receiver_state v) (receiver_state (received_of new))
+  by_views : (P : Statement → ℕ → ReceiverState → ReceiverState → Type 0) → r.fault ≡ None
+      → P (statement_view r.conversation) r.packets.limit (state_of_parts r.progress r.packets.bytes None) (state_of_parts new.progress new.packets.bytes o) → P v.conversation v.limit (receiver_state v) (receiver_state (received_of new))
   by_views P none h =
       let e : receiver_state (received_of r) ≡ state_of_parts r.progress r.packets.bytes None = receiver_state_is r ∙ ap (λ (f : Option StreamFault). state_of_parts r.progress r.packets.bytes f) none in
       let d : receiver_state (received_of new) ≡ state_of_parts new.progress new.packets.bytes o = receiver_state_is new ∙ ap (λ (f : Option StreamFault). state_of_parts new.progress new.packets.bytes f) is in
       subst (λ (x : Received). P x.conversation x.limit (receiver_state x) (receiver_state (received_of new))) view
-      (subst (λ (x : ReceiverState). P (conversation_of r.conversation) r.packets.limit x (receiver_state (received_of new))) (sym e)
-      (subst (λ (x : ReceiverState). P (conversation_of r.conversation) r.packets.limit (state_of_parts r.progress r.packets.bytes None) x) (sym d) h))
+      (subst (λ (x : ReceiverState). P (statement_view r.conversation) r.packets.limit x (receiver_state (received_of new))) (sym e)
+      (subst (λ (x : ReceiverState). P (statement_view r.conversation) r.packets.limit (state_of_parts r.progress r.packets.bytes None) x) (sym d) h))
 
   pub fed_feed : ReaderLaws → IsKept r → r.fault ≡ None → AreBytes piece → (o ≡ Some Memory → ⊥)
-      → Fed (conversation_of r.conversation) r.packets.limit (state_of_parts r.progress r.packets.bytes None) piece (state_of_parts new.progress new.packets.bytes o)
+      → Fed (statement_view r.conversation) r.packets.limit (state_of_parts r.progress r.packets.bytes None) piece (state_of_parts new.progress new.packets.bytes o)
       → ReceiverGoesOn v.conversation v.limit (receiver_state v) piece (receiver_state (received_of new))
   fed_feed wire kept none are no_memory fed =
       by_views (λ c limit old after. ReceiverGoesOn c limit old piece after) none
-      (goes_on wire (conversation_of r.conversation) r.packets.limit (state_of_parts r.progress r.packets.bytes None) (state_of_parts new.progress new.packets.bytes o) piece
+      (goes_on wire (statement_view r.conversation) r.packets.limit (state_of_parts r.progress r.packets.bytes None) (state_of_parts new.progress new.packets.bytes o) piece
       (bytes_append r.packets.bytes piece (kept.stays none).bytes are) refl fed no_memory)
 
   pub fed_short : r.fault ≡ None → o ≡ Some Memory
-      → Fed (conversation_of r.conversation) r.packets.limit (state_of_parts r.progress r.packets.bytes None) piece (state_of_parts new.progress new.packets.bytes o)
+      → Fed (statement_view r.conversation) r.packets.limit (state_of_parts r.progress r.packets.bytes None) piece (state_of_parts new.progress new.packets.bytes o)
       → RunsShort v.conversation v.limit (receiver_state v) piece (receiver_state (received_of new))
   fed_short none memory fed =
-      by_views (λ c limit old after. RunsShort c limit old piece after) none (short_by (conversation_of r.conversation) r.packets.limit _ piece _ memory fed)
+      by_views (λ c limit old after. RunsShort c limit old piece after) none (short_by (statement_view r.conversation) r.packets.limit _ piece _ memory fed)
 
 -- a piece without a fault
-takes_by : (c : Conversation) (limit : ℕ) (old : ReceiverState) (piece : List ℕ) (new : ReceiverState) → new.fault ≡ None → Fed c limit old piece new → TakesAll c limit old piece new
+takes_by : (c : Statement) (limit : ℕ) (old : ReceiverState) (piece : List ℕ) (new : ReceiverState) → new.fault ≡ None → Fed c limit old piece new → TakesAll c limit old piece new
 takes_by c limit old piece new none fed = by fed.stops
   where
     by : Stops c old fed.split (length fed.reads) new → TakesAll c limit old piece new
@@ -149,14 +149,14 @@ takes_by c limit old piece new none fed = by fed.stops
     }
 
 pub fed_takes : (r new : Inside) (v : Received) (piece : List ℕ) → received_of r ≡ v → new.fault ≡ None → r.fault ≡ None
-    → Fed (conversation_of r.conversation) r.packets.limit (state_of_parts r.progress r.packets.bytes None) piece (state_of_parts new.progress new.packets.bytes None)
+    → Fed (statement_view r.conversation) r.packets.limit (state_of_parts r.progress r.packets.bytes None) piece (state_of_parts new.progress new.packets.bytes None)
     → TakesAll v.conversation v.limit (receiver_state v) piece (receiver_state (received_of new))
 fed_takes r new v piece view is none fed =
-    by_views r new v piece None view is (λ c limit old after. TakesAll c limit old piece after) none (takes_by (conversation_of r.conversation) r.packets.limit _ piece _ refl fed)
+    by_views r new v piece None view is (λ c limit old after. TakesAll c limit old piece after) none (takes_by (statement_view r.conversation) r.packets.limit _ piece _ refl fed)
 
 -- a piece without a fault leaves none to be found
-pub found_none : ReaderLaws → (r : Inside) → r.fault ≡ None → IsOpen r.packets → HasFoundNoFault (conversation_of r.conversation) r.packets.limit (receiver_state (received_of r))
-found_none wire r none open_now = none_found wire (conversation_of r.conversation) r.packets.limit (receiver_state (received_of r)) open_now.rest none open_now.bytes open_now.no_fault open_now.is_rest
+pub found_none : ReaderLaws → (r : Inside) → r.fault ≡ None → IsOpen r.packets → HasFoundNoFault (statement_view r.conversation) r.packets.limit (receiver_state (received_of r))
+found_none wire r none open_now = none_found wire (statement_view r.conversation) r.packets.limit (receiver_state (received_of r)) open_now.rest none open_now.bytes open_now.no_fault open_now.is_rest
 
 -- ---- the end
 
@@ -172,7 +172,7 @@ told_begun : (b begun : Bool) → begun ≡ not b → b ≡ not begun
 told_begun true begun e = ap not (sym e)
 told_begun false begun e = ap not (sym e)
 
-ends_now : ReaderLaws → (c : Conversation) (s : StatementState) (n limit : ℕ) (rest : Rest) (begun : Bool) (bytes : List ℕ) → ¬ IsFault rest → IsRest limit 0 bytes rest → (length bytes == 0) ≡ not begun
+ends_now : ReaderLaws → (c : Statement) (s : StatementState) (n limit : ℕ) (rest : Rest) (begun : Bool) (bytes : List ℕ) → ¬ IsFault rest → IsRest limit 0 bytes rest → (length bytes == 0) ≡ not begun
     → (if is_waiting c s then ends.WaitingPieces else if begun then ends.UnfinishedPacket else ends.Whole) ≡ end_by_rest c s n rest
 ends_now wire c s n limit EmptyRest begun bytes none r b =
     let nothing : bytes ≡ [] = ((wire.rests limit 0).1 bytes).0 r in
@@ -185,7 +185,7 @@ ends_now wire c s n limit OpenRest begun bytes none r b =
 ends_now wire c s n limit TooLargeRest begun bytes none r b = absurd (none tt)
 ends_now wire c s n limit OutOfSyncRest begun bytes none r b = absurd (none tt)
 
-decides_now : ReaderLaws → (c : Conversation) (r : Inside) → IsKept r → (begun : Bool) → begun ≡ not (length r.packets.bytes == 0) → (ending : End) → ending ≡ end_by c (state_of_parts r.progress [] r.fault) begun r.fault → (o : Option StreamFault) → r.fault ≡ o
+decides_now : ReaderLaws → (c : Statement) (r : Inside) → IsKept r → (begun : Bool) → begun ≡ not (length r.packets.bytes == 0) → (ending : End) → ending ≡ end_by c (state_of_parts r.progress [] r.fault) begun r.fault → (o : Option StreamFault) → r.fault ≡ o
     → ReceiverDecidesBy c r.packets.limit (state_of_parts r.progress r.packets.bytes r.fault) o [] (record { sets = sets_of r.progress.sets.items; ending = ending })
 decides_now wire c r kept begun b ending is (Some f) e = (refl, is ∙ ap (λ (o : Option StreamFault). end_by c (state_of_parts r.progress [] r.fault) begun o) e)
 decides_now wire c r kept begun b ending is None e =
@@ -205,10 +205,10 @@ decides_now wire c r kept begun b ending is None e =
       record { reads = []; each = record { within = omega arith; each = λ i lt. absurd (omega arith) }; sets = refl; ending = inr (refl, last) },
     )
 
-pub finished : ReaderLaws → (r : Inside) (v : Received) (begun : Bool) (ending : End) → received_of r ≡ v → IsKept r → begun ≡ not (length r.packets.bytes == 0) → ending ≡ end_by (conversation_of r.conversation) (state_of_parts r.progress [] r.fault) begun r.fault
+pub finished : ReaderLaws → (r : Inside) (v : Received) (begun : Bool) (ending : End) → received_of r ≡ v → IsKept r → begun ≡ not (length r.packets.bytes == 0) → ending ≡ end_by (statement_view r.conversation) (state_of_parts r.progress [] r.fault) begun r.fault
     → ReceiverDecides v.conversation v.limit (receiver_state v) [] (record { sets = sets_of r.progress.sets.items; ending = ending })
 finished wire r v begun ending view kept b is =
-    let c = conversation_of r.conversation in
+    let c = statement_view r.conversation in
     let a : Audit = record { sets = sets_of r.progress.sets.items; ending = ending } in
     subst (λ (x : Received). ReceiverDecides x.conversation x.limit (receiver_state x) [] a) view
     (subst (λ (h : ReceiverState). ReceiverDecides c r.packets.limit h [] a) (sym (receiver_state_is r)) (decides_now wire c r kept begun b ending is r.fault refl))
@@ -221,15 +221,15 @@ pieces_more f xs i d h = ap (map f) (take_more xs i d h) ∙ map-append f (take 
 pub pieces_joined : {X : Type 0} (f : X → List ℕ) (xs : List X) → concat (map f xs) ≡ flat_map f xs
 pieces_joined f xs = concat_is (map f xs) ∙ flat_map-map (λ l. l) f xs
 
-pub pieces_on : (c : Conversation) (limit : ℕ) (old mid new : ReceiverState) (front back : List ℕ) → AreBytes back → ReceiverGoesOn c limit old front mid → ReceiverGoesOn c limit mid back new → ReceiverGoesOn c limit old (front ++ back) new
+pub pieces_on : (c : Statement) (limit : ℕ) (old mid new : ReceiverState) (front back : List ℕ) → AreBytes back → ReceiverGoesOn c limit old front mid → ReceiverGoesOn c limit mid back new → ReceiverGoesOn c limit old (front ++ back) new
 pieces_on c limit old mid new front back are p q z a more d =
     subst (λ (l : List ℕ). ReceiverDecides c limit old l a) (sym (append_assoc front back z)) (p (back ++ z) a (bytes_append back z are more) (q z a more d))
 
-pub none_on : (c : Conversation) (limit : ℕ) (state : ReceiverState) → ReceiverGoesOn c limit state [] state
+pub none_on : (c : Statement) (limit : ℕ) (state : ReceiverState) → ReceiverGoesOn c limit state [] state
 none_on c limit state z a more d = d
 
 -- Memory ran out over one of the pieces, and all payloads of those before it were read.
-pub record ShortOver (c : Conversation) (limit : ℕ) (pieces : List (List ℕ)) (state : ReceiverState) : Type 0 where
+pub record ShortOver (c : Statement) (limit : ℕ) (pieces : List (List ℕ)) (state : ReceiverState) : Type 0 where
   pub before : List (List ℕ)
   pub piece : List ℕ
   pub after : List (List ℕ)
@@ -240,13 +240,13 @@ pub record ShortOver (c : Conversation) (limit : ℕ) (pieces : List (List ℕ))
 
 -- What is held once some pieces were fed: all payloads were read that stand whole, and bytes to come go on; or a fault,
 -- and where it is want of memory, the sets of the first payloads.
-pub record SoFar (c : Conversation) (limit : ℕ) (pieces : List (List ℕ)) (state : ReceiverState) : Type 0 where
+pub record SoFar (c : Statement) (limit : ℕ) (pieces : List (List ℕ)) (state : ReceiverState) : Type 0 where
   pub bytes : AreBytes (concat pieces)
   pub takes : state.fault ≡ None → TakesAll c limit fresh_receiver (concat pieces) state
   pub goes_on : (state.fault ≡ Some Memory → ⊥) → ReceiverGoesOn c limit fresh_receiver (concat pieces) state
   pub short : state.fault ≡ Some Memory → ShortOver c limit pieces state
 
-takes_nothing : ReaderLaws → (c : Conversation) (limit : ℕ) → TakesAll c limit fresh_receiver [] fresh_receiver
+takes_nothing : ReaderLaws → (c : Statement) (limit : ℕ) → TakesAll c limit fresh_receiver [] fresh_receiver
 takes_nothing wire c limit = record {
   split = record { payloads = []; rest_bytes = []; rest = EmptyRest };
   is_split = record { joined = refl; within = tt; ends = (wire.rests limit 0).0 };
@@ -260,7 +260,7 @@ takes_nothing wire c limit = record {
   statement = sym (state_after_nil c nothing_yet);
 }
 
-pub so_far_nothing : ReaderLaws → (c : Conversation) (limit : ℕ) → SoFar c limit [] fresh_receiver
+pub so_far_nothing : ReaderLaws → (c : Statement) (limit : ℕ) → SoFar c limit [] fresh_receiver
 so_far_nothing wire c limit = record {
   bytes = no_bytes;
   takes = λ _. takes_nothing wire c limit;
@@ -268,7 +268,7 @@ so_far_nothing wire c limit = record {
   short = λ e. absurd cc;
 }
 
-module _ (wire : ReaderLaws) (c : Conversation) (limit : ℕ) (old new : ReceiverState) (front : List (List ℕ)) (piece : List ℕ) (are : AreBytes piece) (h : SoFar c limit front old) (feeds : Feeds c limit old piece new) where
+module _ (wire : ReaderLaws) (c : Statement) (limit : ℕ) (old new : ReceiverState) (front : List (List ℕ)) (piece : List ℕ) (are : AreBytes piece) (h : SoFar c limit front old) (feeds : Feeds c limit old piece new) where
   -- the bytes of one piece more
   joined : concat front ++ piece ≡ concat (front ++ piece ∷ [])
   joined = ap (λ (l : List ℕ). concat front ++ l) (sym (append-nil piece)) ∙ sym (concat-append front (piece ∷ []))
@@ -332,7 +332,7 @@ no_memory ends.Whole none m = let e = m.1 in absurd cc
 same_fault : (n m : ℕ) (f : StreamFault) → ends.Fault n f ≡ ends.Fault m Memory → Some f ≡ Some Memory
 same_fault n m f e = cc
 
-module _ (wire : ReaderLaws) (c : Conversation) (limit : ℕ) (pieces : List (List ℕ)) (state : ReceiverState) (a : Audit) where
+module _ (wire : ReaderLaws) (c : Statement) (limit : ℕ) (pieces : List (List ℕ)) (state : ReceiverState) (a : Audit) where
   short_audit : (f : StreamFault) → f ≡ Memory → ShortOver c limit pieces state → ReceiverDecidesBy c limit state (Some f) [] a → OutOfMemory c limit pieces a
   short_audit f memory r d =
       let both = short_append wire c limit fresh_receiver r.mid state (concat r.before) r.piece r.takes r.short in
@@ -397,4 +397,4 @@ pub received_next : ReaderLaws → (mid new : Received) (front : List (List ℕ)
 received_next wire mid new front piece next c l are e p q =
     subst (λ (pieces : List (List ℕ)). SoFar new.conversation new.limit pieces (receiver_state new)) (sym e)
     (subst (λ (n : ℕ). SoFar new.conversation n (front ++ piece ∷ []) (receiver_state new)) (sym l)
-    (subst (λ (k : Conversation). SoFar k mid.limit (front ++ piece ∷ []) (receiver_state new)) (sym c) (so_far_next wire mid.conversation mid.limit (receiver_state mid) (receiver_state new) front piece are p q)))
+    (subst (λ (k : Statement). SoFar k mid.limit (front ++ piece ∷ []) (receiver_state new)) (sym c) (so_far_next wire mid.conversation mid.limit (receiver_state mid) (receiver_state new) front piece are p q)))

@@ -20,7 +20,7 @@ use Rattle.mysql_values.specs.Content.TheVariants as content
 use Rattle.mysql_commands.specs.declared.fault.StreamFault.{StreamFault}
 use Rattle.mysql_commands.specs.declared.fault.StreamFault.TheVariants.{Float, Indicator, BadBulk}
 use Rattle.mysql_commands.specs.declared.param_type.ParamType.{ParamType}
-use Rattle.mysql_commands.specs.Fields.{must, little_at}
+use Rattle.mysql_commands.specs.Fields.{must, number_or}
 use Rattle.mysql_commands.specs.Layout.{Types}
 use Rattle.mysql_commands.specs.Reading.{Set, or_cell_fault, content_at, column_at, columns_at, row_at, RowsAt, FaultyRow}
 use Rattle.mysql_commands.specs.declared.refusal.Refusal.{Refusal}
@@ -81,7 +81,7 @@ bytes_left p n bytes e = omega (arith, first_left n (take n) bytes p e)
 
 number_left : (n : ℕ) (made : ℕ → Value) (bytes : List ℕ) (p : Value × List ℕ) → number_value_at n made bytes ≡ Ok p → length p.1 ≤ length bytes
 number_left n made bytes p e =
-    let a = bind_ok (form.little_at n bytes) (λ x. Ok (made x.0, x.1)) p e in
+    let a = bind_ok (form.fixed_number_at n bytes) (λ x. Ok (made x.0, x.1)) p e in
     omega (arith, little_left n bytes a.0 (end_is (buffer.little_at n bytes) a.0 a.1), ap length (same_left {F = WireError} (made a.0.0, a.0.1) p a.2))
 
 counted_left : (r : Option (List ℕ × List ℕ)) (made : List ℕ → Value) (bytes : List ℕ) (p : Value × List ℕ) → ((q : List ℕ × List ℕ) → r ≡ Some q → length q.1 ≤ length bytes)
@@ -123,7 +123,7 @@ content_left short t bytes p e =
 
 column_left : (t : ParamType) (bytes : List ℕ) (p : Content × List ℕ) → column_at t bytes ≡ Ok p → length p.1 < length bytes
 column_left t bytes p e =
-    let a = bind_ok (little_at BadBulk 1 bytes) (λ indicator. must Indicator (nat_le indicator.0 1) >>= λ _. if indicator.0 == 1 then Ok (content.Null, indicator.1) else content_at BadBulk t indicator.1) p e in
+    let a = bind_ok (number_or BadBulk 1 bytes) (λ indicator. must Indicator (nat_le indicator.0 1) >>= λ _. if indicator.0 == 1 then Ok (content.Null, indicator.1) else content_at BadBulk t indicator.1) p e in
     let b = bind_ok (must Indicator (nat_le a.0.0 1)) (λ _. if a.0.0 == 1 then Ok (content.Null, a.0.1) else content_at BadBulk t a.0.1) p a.2 in
     omega (arith, first_left 1 _ bytes a.0 (some_is (buffer.little_at 1 bytes) BadBulk a.0 a.1), by (a.0.0 == 1) a.0.1 b.2)
   where

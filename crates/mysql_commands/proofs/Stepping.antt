@@ -7,7 +7,8 @@ use Rattle.std.specs.Result.{result_ok}
 use Rattle.std.proofs.lemmas.List.{append-nil}
 use Rattle.std.proofs.lemmas.Slice.Eq.{bytes_eq-Decides}
 use Rattle.mysql_commands.specs.declared.fault.StreamFault.{StreamFault}
-use Rattle.mysql_commands.specs.Layout.{Conversation, Types, Piece, piece_at}
+use Rattle.mysql_commands.specs.Layout.{Types, Piece, piece_at}
+use Rattle.mysql_commands.specs.Query.{Statement}
 use Rattle.mysql_commands.specs.InForce.{StatementState, state_after, joined, execute_types, bulk_types}
 use Rattle.mysql_commands.specs.Steps.{with_piece, prepared_anew, after_execute, after_bulk, after_piece, after_reset, closed}
 
@@ -24,27 +25,27 @@ own_or : (own : Option Types) (kept : Option Types) → unwrap_or (last_or None 
 own_or None kept = refl
 own_or (Some ts) kept = refl
 
-pub behind_text : (c : Conversation) (s : StatementState) (body : List ℕ) → state_after c s ((3 ∷ body) ∷ []) ≡ s
+pub behind_text : (c : Statement) (s : StatementState) (body : List ℕ) → state_after c s ((3 ∷ body) ∷ []) ≡ s
 behind_text c s body = λ i. record { prepared = s.prepared; types = s.types; pieces = λ place. still (s.pieces place) i }
 
-pub behind_prepare : (c : Conversation) (s : StatementState) (body : List ℕ) → body ≡ c.query.parsed → state_after c s ((22 ∷ body) ∷ []) ≡ prepared_anew
+pub behind_prepare : (c : Statement) (s : StatementState) (body : List ℕ) → body ≡ c.query.parsed → state_after c s ((22 ∷ body) ∷ []) ≡ prepared_anew
 behind_prepare c s body is =
     let same : bytes_eq body c.query.parsed ≡ true = (bytes_eq-Decides body c.query.parsed).1 is in
     λ i. record { prepared = ap (λ b. unwrap_or (last_or None (cons_option (if b then Some true else None) [])) s.prepared) same i; types = None; pieces = λ place. None }
 
-pub behind_execute : (c : Conversation) (s : StatementState) (body : List ℕ) → state_after c s ((23 ∷ body) ∷ []) ≡ after_execute s (execute_types c body)
+pub behind_execute : (c : Statement) (s : StatementState) (body : List ℕ) → state_after c s ((23 ∷ body) ∷ []) ≡ after_execute s (execute_types c body)
 behind_execute c s body = λ i. record { prepared = s.prepared; types = own_or (execute_types c body) s.types i; pieces = λ place. None }
 
-pub behind_reset : (c : Conversation) (s : StatementState) (body : List ℕ) → state_after c s ((26 ∷ body) ∷ []) ≡ after_reset s
+pub behind_reset : (c : Statement) (s : StatementState) (body : List ℕ) → state_after c s ((26 ∷ body) ∷ []) ≡ after_reset s
 behind_reset c s body = refl
 
-pub behind_close : (c : Conversation) (s : StatementState) (body : List ℕ) → state_after c s ((25 ∷ body) ∷ []) ≡ closed
+pub behind_close : (c : Statement) (s : StatementState) (body : List ℕ) → state_after c s ((25 ∷ body) ∷ []) ≡ closed
 behind_close c s body = refl
 
-pub behind_bulk : (c : Conversation) (s : StatementState) (body : List ℕ) → state_after c s ((250 ∷ body) ∷ []) ≡ after_bulk s (bulk_types c body)
+pub behind_bulk : (c : Statement) (s : StatementState) (body : List ℕ) → state_after c s ((250 ∷ body) ∷ []) ≡ after_bulk s (bulk_types c body)
 behind_bulk c s body = λ i. record { prepared = s.prepared; types = own_or (bulk_types c body) s.types i; pieces = λ place. still (s.pieces place) i }
 
-one_piece : (c : Conversation) (s : StatementState) (piece : Piece) (place : ℕ) (r : Result Piece StreamFault) → r ≡ Ok piece
+one_piece : (c : Statement) (s : StatementState) (piece : Piece) (place : ℕ) (r : Result Piece StreamFault) → r ≡ Ok piece
     → joined (option_to_list (s.pieces place) ++ cons_option (option_and_then (λ piece. if piece.place == place then Some piece.bytes else None) (result_ok r)) []) ≡ with_piece s.pieces piece.place piece.bytes place
 one_piece c s piece place r e =
     ap (λ (q : Result Piece StreamFault). joined (option_to_list (s.pieces place) ++ cons_option (option_and_then (λ piece. if piece.place == place then Some piece.bytes else None) (result_ok q)) [])) e
@@ -54,5 +55,5 @@ one_piece c s piece place r e =
     by_test true = refl
     by_test false = still (s.pieces place)
 
-pub behind_piece : (c : Conversation) (s : StatementState) (body : List ℕ) (piece : Piece) → piece_at c body ≡ Ok piece → state_after c s ((24 ∷ body) ∷ []) ≡ after_piece s piece
+pub behind_piece : (c : Statement) (s : StatementState) (body : List ℕ) (piece : Piece) → piece_at c body ≡ Ok piece → state_after c s ((24 ∷ body) ∷ []) ≡ after_piece s piece
 behind_piece c s body piece e = λ i. record { prepared = s.prepared; types = s.types; pieces = λ place. one_piece c s piece place (piece_at c body) e i }

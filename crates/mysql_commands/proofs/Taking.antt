@@ -1,28 +1,29 @@
 -- Sets that are taken of a receiver: once they are put back, it holds what it would hold had none been taken.
 use Rattle.std.proofs.Common.{◌≡◌, ℕ, List, [], ◌++◌, Option, Some, None, refl, sym, ap, subst, ◌∙◌, append_assoc}
 use Rattle.std.specs.Global.{Vec}
-use Rattle.std.specs.List.{flat_map}
+use Rattle.std.specs.List.{concat, flat_map}
 use Rattle.std.proofs.lemmas.List.{append-nil}
 use Rattle.mysql_wire.specs.GoingOn.{ReaderLaws}
 use Rattle.mysql_values.specs.Content.{Content}
 use Rattle.mysql_commands.specs.declared.fault.StreamFault.{StreamFault}
 use Rattle.mysql_commands.specs.declared.receiver.Receiver.TheInside.{Inside}
-use Rattle.mysql_commands.specs.Layout.{Conversation}
+use Rattle.mysql_commands.specs.Query.{Statement}
 use Rattle.mysql_commands.specs.Reading.{Set}
-use Rattle.mysql_commands.specs.Audit.{Audit}
+use Rattle.mysql_commands.specs.Audit.{Audit, Audited, OutOfMemory}
 use Rattle.mysql_commands.specs.GoingOn.{ReceiverState, ReceiverDecidesBy, ReceiverDecides, ReceiverGoesOn, TakesAll, RunsShort}
 use Rattle.mysql_commands.specs.Taking.{with_sets, HandsOut, TakesSets, Feeds, Run, fresh, feeds, takes}
 use Rattle.mysql_commands.specs.Laws.{TakenSetsAreTheAudit}
 use Rattle.mysql_commands.specs.Views.{sets_of}
 use Rattle.mysql_commands.specs.Received.{Received, receiver_state}
 use Rattle.mysql_commands.specs.Inside.{received_of}
+use Rattle.mysql_commands.proofs.About.{of_tokens}
 use Rattle.mysql_commands.proofs.Receiving.{SoFar, so_far_nothing, so_far_next, audit_so_far, memory_so_far}
 
 -- what is held with these sets before its own
 abbrev pub put_back : List Set → ReceiverState → ReceiverState
 put_back taken s = record s { sets = taken ++ s.sets }
 
-module _ (c : Conversation) (limit : ℕ) (taken : List Set) where
+module _ (c : Statement) (limit : ℕ) (taken : List Set) where
   -- it decides the audits with these sets before their own
   pub decides_more : (s : ReceiverState) (o : Option StreamFault) (z : List ℕ) (a : Audit) → ReceiverDecidesBy c limit s o z a → ReceiverDecidesBy c limit (put_back taken s) o z (with_sets taken a)
   decides_more s (Some f) z a d = (ap (λ (l : List Set). taken ++ l) d.0, d.1)
@@ -92,7 +93,7 @@ taken_back old new taken more t =
     sym (ap (λ (l : List Set). put_back (taken ++ l) new) t.0 ∙ ap (put_back (taken ++ old.sets)) t.1 ∙ all_back old taken)
 
 -- what is decided after a take was decided before it, with the taken sets first
-pub hand_out : (c : Conversation) (limit : ℕ) (old new : ReceiverState) (taken : List Set) → TakesSets old taken new → HandsOut c limit old taken new
+pub hand_out : (c : Statement) (limit : ℕ) (old new : ReceiverState) (taken : List Set) → TakesSets old taken new → HandsOut c limit old taken new
 hand_out c limit old new taken t z a d =
     subst (λ (s : ReceiverState). ReceiverDecides c limit s z (with_sets taken a)) (sym (taken_back old new [] taken t)) (decides_more c limit taken new new.fault z a d)
 
@@ -109,7 +110,7 @@ hand_out_of old new taken e left = hand_out old.conversation old.limit (receiver
 
 -- ---- feeds and takes
 
-so_far_run : ReaderLaws → (c : Conversation) (limit : ℕ) (pieces : List (List ℕ)) (taken : List Set) (state : ReceiverState) → Run c limit pieces taken state → SoFar c limit pieces (put_back taken state)
+so_far_run : ReaderLaws → (c : Statement) (limit : ℕ) (pieces : List (List ℕ)) (taken : List Set) (state : ReceiverState) → Run c limit pieces taken state → SoFar c limit pieces (put_back taken state)
 so_far_run wire c limit pieces taken state fresh = so_far_nothing wire c limit
 so_far_run wire c limit pieces taken state (feeds {pieces = front} {old = old} {piece = piece} run are fed) =
     so_far_next wire c limit (put_back taken old) (put_back taken state) front piece are (so_far_run wire c limit front taken old run) (feeds_more c limit taken old state piece fed)
@@ -120,6 +121,6 @@ pub taken_sets_are_the_audit : ReaderLaws → TakenSetsAreTheAudit
 taken_sets_are_the_audit wire query id c limit pieces taken state a about run d =
     let h = so_far_run wire c limit pieces taken state run in
     let all = decides_more c limit taken state state.fault [] a d in (
-      λ none. (c, about, audit_so_far wire c limit pieces (put_back taken state) (with_sets taken a) h all none),
-      λ memory. (c, about, memory_so_far wire c limit pieces (put_back taken state) (with_sets taken a) h all memory),
+      λ none. of_tokens (λ (s : Statement). Audited s limit (concat pieces) (with_sets taken a)) c query id about (audit_so_far wire c limit pieces (put_back taken state) (with_sets taken a) h all none),
+      λ memory. of_tokens (λ (s : Statement). OutOfMemory s limit pieces (with_sets taken a)) c query id about (memory_so_far wire c limit pieces (put_back taken state) (with_sets taken a) h all memory),
     )

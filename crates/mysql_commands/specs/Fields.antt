@@ -16,9 +16,9 @@ abbrev pub ◌>>◌ : {A B F : Type 0} → Result A F → Result B F → Result 
 first >> next = first >>= λ _. next
 
 -- the first n bytes and the rest, or the fault where fewer are there
-abbrev pub bytes_at : {F : Type 0} → F → ℕ → List ℕ → Result (List ℕ × List ℕ) F
-bytes_at f n bytes = ok_or (buffer.bytes_at n bytes) f
+abbrev pub bytes_or : {F : Type 0} → F → ℕ → List ℕ → Result (List ℕ × List ℕ) F
+bytes_or f n bytes = ok_or (buffer.bytes_at n bytes) f
 
 -- the number in the first n bytes, the lowest first, and the rest
-abbrev pub little_at : {F : Type 0} → F → ℕ → List ℕ → Result (ℕ × List ℕ) F
-little_at f n bytes = ok_or (buffer.little_at n bytes) f
+abbrev pub number_or : {F : Type 0} → F → ℕ → List ℕ → Result (ℕ × List ℕ) F
+number_or f n bytes = ok_or (buffer.little_at n bytes) f

@@ -5,9 +5,9 @@ use Rattle.std.specs.Prelude.{ℕ, Bool, true, false, List, [], ◌∷◌, ◌++
 use Rattle.std.specs.List.{list_any, filter_map, flat_map, last_or, range_with_len}
 use Rattle.std.specs.Option.{option_and_then, option_map, option_to_list}
 use Rattle.std.specs.Result.{result_ok}
-use Rattle.mysql_commands.specs.Layout.{Conversation, Command, command_of, Types, piece_at, execute_head, bulk_head}
+use Rattle.mysql_commands.specs.Layout.{Command, command_of, Types, piece_at, execute_head, bulk_head}
 use Rattle.mysql_commands.specs.Layout as layout
-use Rattle.mysql_commands.specs.Query.{place_count}
+use Rattle.mysql_commands.specs.Query.{Statement, place_count}
 
 -- what is in force at a payload
 pub record StatementState : Type 0 where
@@ -28,21 +28,21 @@ said_by speaks (b ∷ body) = speaks (command_of b) body
 abbrev pub last_said : {A : Type 0} → (List ℕ → Option A) → A → List (List ℕ) → A
 last_said says before payloads = unwrap_or (last_or None (filter_map says payloads)) before
 
--- the prepare of the conversation's query says that the statement is prepared, a close that it isn't, and no other payload speaks of it
-abbrev pub speaks_of_prepared : Conversation → Command → List ℕ → Option Bool
+-- the prepare of the statement's query says that it is prepared, a close that it isn't, and no other payload speaks of it
+abbrev pub speaks_of_prepared : Statement → Command → List ℕ → Option Bool
 speaks_of_prepared c layout.Prepare body = if bytes_eq body c.query.parsed then Some true else None
 speaks_of_prepared c layout.Close body = Some false
 speaks_of_prepared c _ body = None
 
 -- the types that an execute carries, and those that a bulk does
-abbrev pub execute_types : Conversation → List ℕ → Option Types
+abbrev pub execute_types : Statement → List ℕ → Option Types
 execute_types c body = option_and_then (λ head. head.own) (result_ok (execute_head c body))
 
-abbrev pub bulk_types : Conversation → List ℕ → Option Types
+abbrev pub bulk_types : Statement → List ℕ → Option Types
 bulk_types c body = option_and_then (λ head. head.own) (result_ok (bulk_head c body))
 
 -- a prepare and a close say that there are no types; a typed execute or bulk says its own
-abbrev pub speaks_of_types : Conversation → Command → List ℕ → Option (Option Types)
+abbrev pub speaks_of_types : Statement → Command → List ℕ → Option (Option Types)
 speaks_of_types c layout.Prepare body = Some None
 speaks_of_types c layout.Execute body = option_map (λ types. Some types) (execute_types c body)
 speaks_of_types c layout.Bulk body = option_map (λ types. Some types) (bulk_types c body)
@@ -61,7 +61,7 @@ abbrev pub is_end : List ℕ → Bool
 is_end payload = is_some (said_by ends_pieces payload)
 
 -- the data of a piece for this place
-abbrev pub speaks_of_place : Conversation → ℕ → Command → List ℕ → Option (List ℕ)
+abbrev pub speaks_of_place : Statement → ℕ → Command → List ℕ → Option (List ℕ)
 speaks_of_place c place layout.LongData body = option_and_then (λ piece. if piece.place == place then Some piece.bytes else None) (result_ok (piece_at c body))
 speaks_of_place c place _ body = None
 
@@ -76,12 +76,12 @@ joined [] = None
 joined (x ∷ xs) = Some (flat_map (λ part. part) (x ∷ xs))
 
 -- what waits for a place: what waited before, unless an end came, and the data since the last end, in a row
-abbrev pub waiting_for : Conversation → Option (List ℕ) → List (List ℕ) → ℕ → Option (List ℕ)
+abbrev pub waiting_for : Statement → Option (List ℕ) → List (List ℕ) → ℕ → Option (List ℕ)
 waiting_for c before payloads place =
     joined (option_to_list (if list_any is_end payloads then None else before) ++ filter_map (said_by (speaks_of_place c place)) (since is_end payloads))
 
 -- what is in force after these payloads
-abbrev pub state_after : Conversation → StatementState → List (List ℕ) → StatementState
+abbrev pub state_after : Statement → StatementState → List (List ℕ) → StatementState
 state_after c s payloads =
     record {
       prepared = last_said (said_by (speaks_of_prepared c)) s.prepared payloads;
@@ -90,5 +90,5 @@ state_after c s payloads =
     }
 
 -- whether pieces wait for any place
-abbrev pub is_waiting : Conversation → StatementState → Bool
+abbrev pub is_waiting : Statement → StatementState → Bool
 is_waiting c s = list_any (λ place. is_some (s.pieces place)) (range_with_len 0 (place_count c.query))

@@ -5,7 +5,7 @@ use Rattle.std.specs.Global.{Vec}
 use Rattle.std.specs.Option.{IfSome, option_map}
 use Rattle.mysql_commands.specs.declared.receiver.Receiver.TheInside.{Inside}
 use Rattle.mysql_commands.specs.Query.{IsQuery}
-use Rattle.mysql_commands.specs.Views.{conversation_of, types_kept, sets_of}
+use Rattle.mysql_commands.specs.Views.{statement_view, types_kept, sets_of}
 use Rattle.mysql_commands.specs.Parts.{IsOpen}
 use Rattle.mysql_commands.specs.Received.{Received}
 
@@ -15,7 +15,7 @@ pieces_of pieces = map (λ piece. option_map (λ bytes. bytes.items) piece) piec
 abbrev pub received_of : Inside → Received
 received_of r =
     record {
-      conversation = conversation_of r.conversation;
+      conversation = statement_view r.conversation;
       limit = r.packets.limit;
       count = r.progress.count;
       prepared = r.progress.statement.prepared;
@@ -26,9 +26,9 @@ received_of r =
       fault = r.fault;
     }
 
--- the conversation is about its query; where no fault is held, bytes to come can make what is held of a packet whole; after a fault
+-- the statement's query is one; where no fault is held, bytes to come can make what is held of a packet whole; after a fault
 -- no bytes are held
 pub record IsKept (r : Inside) : Type 0 where
-  pub query : IsQuery (conversation_of r.conversation).query
+  pub query : IsQuery (statement_view r.conversation).query
   pub stays : r.fault ≡ None → IsOpen r.packets
   pub stopped : IfSome r.fault (λ _. r.packets.bytes ≡ [])

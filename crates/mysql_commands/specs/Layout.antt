@@ -9,14 +9,9 @@ use Rattle.mysql_const.specs.ColumnTypes.{column_type_named}
 use Rattle.mysql_const.specs.Commands.{command_named}
 use Rattle.mysql_const.specs.declared.command.Command.{Command as Name}
 use Rattle.mysql_const.specs.declared.command.Command.TheVariants.{COM_QUERY, COM_STMT_PREPARE, COM_STMT_SEND_LONG_DATA, COM_STMT_EXECUTE, COM_STMT_BULK_EXECUTE, COM_STMT_RESET, COM_STMT_CLOSE}
-use Rattle.mysql_commands.specs.Fields.{◌>>◌, must, bytes_at, little_at}
+use Rattle.mysql_commands.specs.Fields.{◌>>◌, must, bytes_or, number_or}
 use Rattle.mysql_wire.specs.Wire.{◌>>=◌}
-use Rattle.mysql_commands.specs.Query.{Query, place_count}
-
--- a conversation: its query, and the id that its statement was given
-pub record Conversation : Type 0 where
-  pub query : Query
-  pub id : ℕ
+use Rattle.mysql_commands.specs.Query.{Statement, place_count}
 
 pub data Command : Type 0 where
   Text : Command
@@ -51,19 +46,19 @@ is_type t = is_some (column_type_named t)
 abbrev pub Types : Type 0
 Types = List ParamType
 
--- the conversation's id in four bytes
-abbrev pub id_at : Conversation → List ℕ → Result (List ℕ) StreamFault
+-- the statement's id in four bytes
+abbrev pub id_at : Statement → List ℕ → Result (List ℕ) StreamFault
 id_at c bytes = do
-  id ← little_at WrongId 4 bytes
+  id ← number_or WrongId 4 bytes
   must WrongId (id.0 == c.id)
   Ok id.1
 
 -- a pair of a type and a flag
 abbrev pub type_at : StreamFault → List ℕ → Result (ParamType × List ℕ) StreamFault
 type_at short bytes = do
-  t ← little_at short 1 bytes
+  t ← number_or short 1 bytes
   must BadType (is_type t.0)
-  flags ← little_at short 1 t.1
+  flags ← number_or short 1 t.1
   must BadType (flags.0 == 0 || flags.0 == 128)
   Ok (record { number = t.0; unsigned = flags.0 == 128 }, flags.1)
 
@@ -81,10 +76,10 @@ pub record Piece : Type 0 where
   pub bytes : List ℕ
 
 -- the body of a long data command: the id, a place, bytes to the end
-abbrev pub piece_at : Conversation → List ℕ → Result Piece StreamFault
+abbrev pub piece_at : Statement → List ℕ → Result Piece StreamFault
 piece_at c body = do
   rest ← id_at c body
-  place ← little_at BadPlace 2 rest
+  place ← number_or BadPlace 2 rest
   must BadPlace (nat_lt place.0 (place_count c.query))
   Ok (record { place = place.0; bytes = place.1 })
 
@@ -97,8 +92,8 @@ pub record ExecuteHead : Type 0 where
 -- the bitmap, the bound flag, and behind a 1 the types
 unfoldable pub binding_at : ℕ → List ℕ → Result ExecuteHead StreamFault
 binding_at n bytes = do
-  nulls ← bytes_at BadExecute ((n + 7) / 8) bytes
-  bound ← little_at BadExecute 1 nulls.1
+  nulls ← bytes_or BadExecute ((n + 7) / 8) bytes
+  bound ← number_or BadExecute 1 nulls.1
   must BadExecute (nat_le bound.0 1)
   if bound.0 == 0 then Ok (record { nulls = nulls.0; own = None; cells = bound.1 })
       else do
@@ -106,12 +101,12 @@ binding_at n bytes = do
         Ok (record { nulls = nulls.0; own = Some types.0; cells = types.1 })
 
 -- the id, no cursor, a count of 1, and with places the binding
-unfoldable pub execute_head : Conversation → List ℕ → Result ExecuteHead StreamFault
+unfoldable pub execute_head : Statement → List ℕ → Result ExecuteHead StreamFault
 execute_head c body = do
   rest ← id_at c body
-  cursor ← little_at BadExecute 1 rest
+  cursor ← number_or BadExecute 1 rest
   must BadExecute (cursor.0 == 0)
-  count ← little_at BadExecute 4 cursor.1
+  count ← number_or BadExecute 4 cursor.1
   must BadExecute (count.0 == 1)
   if place_count c.query == 0 then Ok (record { nulls = []; own = None; cells = count.1 })
       else binding_at (place_count c.query) count.1
@@ -122,10 +117,10 @@ pub record BulkHead : Type 0 where
   pub rows : List ℕ
 
 -- the id, the flags, and behind the flag 128 the types
-unfoldable pub bulk_head : Conversation → List ℕ → Result BulkHead StreamFault
+unfoldable pub bulk_head : Statement → List ℕ → Result BulkHead StreamFault
 bulk_head c body = do
   rest ← id_at c body
-  flags ← little_at BadBulk 2 rest
+  flags ← number_or BadBulk 2 rest
   must BadBulk (flags.0 == 0 || flags.0 == 64 || flags.0 == 128 || flags.0 == 192)
   if nat_lt flags.0 128 then Ok (record { own = None; rows = flags.1 })
       else do

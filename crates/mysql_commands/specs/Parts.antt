@@ -16,7 +16,7 @@ use Rattle.mysql_commands.specs.declared.progress.Progress.{Progress}
 use Rattle.mysql_commands.specs.declared.audit.End.{End}
 use Rattle.mysql_commands.specs.declared.audit.End.TheVariants as ends
 use Rattle.mysql_commands.specs.InForce.{is_waiting}
-use Rattle.mysql_commands.specs.Layout.{Conversation}
+use Rattle.mysql_commands.specs.Query.{Statement}
 use Rattle.mysql_commands.specs.GoingOn.{ReceiverState}
 use Rattle.mysql_commands.specs.Views.{state_of, sets_of}
 
@@ -51,6 +51,6 @@ abbrev pub state_of_parts : Progress → List ℕ → Option StreamFault → Rec
 state_of_parts p partial fault = record { count = p.count; statement = state_of p.statement; partial = partial; sets = sets_of p.sets.items; fault = fault }
 
 -- the end as things stand: the fault, else by the pieces that wait and by whether a packet was begun
-abbrev pub end_by : Conversation → ReceiverState → Bool → Option StreamFault → End
+abbrev pub end_by : Statement → ReceiverState → Bool → Option StreamFault → End
 end_by c h begun (Some f) = ends.Fault h.count f
 end_by c h begun None = if is_waiting c h.statement then ends.WaitingPieces else if begun then ends.UnfinishedPacket else ends.Whole

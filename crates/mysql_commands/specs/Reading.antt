@@ -14,10 +14,10 @@ use Rattle.mysql_null_bitmap.specs.NullBitmap.{is_null_at}
 use Rattle.mysql_wire.specs.WireError.{WireError}
 use Rattle.mysql_wire.specs.WireError.TheVariants.{UnsupportedType}
 use Rattle.mysql_commands.specs.declared.param_type.ParamType.{ParamType}
-use Rattle.mysql_commands.specs.Fields.{◌>>◌, must, little_at}
+use Rattle.mysql_commands.specs.Fields.{◌>>◌, must, number_or}
 use Rattle.mysql_wire.specs.Wire.{◌>>=◌}
-use Rattle.mysql_commands.specs.Query.{place_count, all_alone}
-use Rattle.mysql_commands.specs.Layout.{Conversation, Command, command_of, Types, Piece, piece_at, id_at, execute_head, bulk_head}
+use Rattle.mysql_commands.specs.Query.{Statement, all_alone, place_count}
+use Rattle.mysql_commands.specs.Layout.{Command, command_of, Types, Piece, piece_at, id_at, execute_head, bulk_head}
 use Rattle.mysql_commands.specs.Layout as layout
 use Rattle.mysql_commands.specs.InForce.{StatementState, state_after, is_waiting}
 
@@ -43,7 +43,7 @@ content_at short t bytes = do
   Ok (meant, value.1)
 
 -- the types that count: a payload's own, else those in force. Without places there are none
-abbrev pub types_in_force : Conversation → StatementState → Option Types → Result Types StreamFault
+abbrev pub types_in_force : Statement → StatementState → Option Types → Result Types StreamFault
 types_in_force c s own = if place_count c.query == 0 then Ok [] else ok_or (option_or own s.types) NoTypes
 
 -- what a place of an execute holds: its pieces; else nothing, where its bit is set; else the content of the cell that stands first
@@ -62,7 +62,7 @@ set_at pieces nulls place (t ∷ types) bytes = do
   Ok (first.0 ∷ others)
 
 -- an execute, as one set
-unfoldable pub execute_at : Conversation → StatementState → List ℕ → Result Set StreamFault
+unfoldable pub execute_at : Statement → StatementState → List ℕ → Result Set StreamFault
 execute_at c s body = do
   must NotPrepared s.prepared
   head ← execute_head c body
@@ -72,7 +72,7 @@ execute_at c s body = do
 -- a column of a row: an indicator, 0 and a cell or 1 for nothing
 abbrev pub column_at : ParamType → List ℕ → Result (Content × List ℕ) StreamFault
 column_at t bytes = do
-  indicator ← little_at BadBulk 1 bytes
+  indicator ← number_or BadBulk 1 bytes
   must Indicator (nat_le indicator.0 1)
   if indicator.0 == 1 then Ok (content.Null, indicator.1) else content_at BadBulk t indicator.1
 
@@ -103,7 +103,7 @@ pub record FaultyRow (types : Types) (bytes : List ℕ) (f : StreamFault) : Type
   pub fault : row_at types (first ∷ rest) ≡ Err f
 
 -- what stands before a bulk's rows: the types that count, and the bytes of the rows, at least one
-unfoldable pub bulk_rows : Conversation → StatementState → List ℕ → Result (Types × List ℕ) StreamFault
+unfoldable pub bulk_rows : Statement → StatementState → List ℕ → Result (Types × List ℕ) StreamFault
 bulk_rows c s body = do
   must NotPrepared s.prepared
   must PiecesBeforeBulk (not (is_waiting c s))
@@ -114,32 +114,32 @@ bulk_rows c s body = do
   Ok (types, head.rows)
 
 -- a bulk reads as its rows, to the end of its bytes
-pub record BulkReadsAs (c : Conversation) (s : StatementState) (body : List ℕ) (sets : List Set) : Type 0 where
+pub record BulkReadsAs (c : Statement) (s : StatementState) (body : List ℕ) (sets : List Set) : Type 0 where
   pub types : Types
   pub bytes : List ℕ
   pub found : bulk_rows c s body ≡ Ok (types, bytes)
   pub rows : RowsAt types bytes sets []
 
 -- its fault is that of what stands before the rows, else that of the first row that doesn't read
-abbrev pub BulkFaulty : Conversation → StatementState → List ℕ → StreamFault → Type 0
+abbrev pub BulkFaulty : Statement → StatementState → List ℕ → StreamFault → Type 0
 BulkFaulty c s body f =
     (bulk_rows c s body ≡ Err f)
     ⊎ ((types : Types) × (bytes : List ℕ) × (bulk_rows c s body ≡ Ok (types, bytes)) × FaultyRow types bytes f)
 
 -- the piece of a long data command
-unfoldable pub prepared_piece : Conversation → StatementState → List ℕ → Result Piece StreamFault
+unfoldable pub prepared_piece : Statement → StatementState → List ℕ → Result Piece StreamFault
 prepared_piece c s body = do
   must NotPrepared s.prepared
   piece_at c body
 
 -- long data, as no set
-unfoldable pub long_data_at : Conversation → StatementState → List ℕ → Result (List Set) StreamFault
+unfoldable pub long_data_at : Statement → StatementState → List ℕ → Result (List Set) StreamFault
 long_data_at c s body = do
   piece ← prepared_piece c s body
   Ok []
 
 -- a reset and a close: the id and nothing behind it, as no set
-unfoldable pub statement_alone_at : Conversation → StatementState → List ℕ → Result (List Set) StreamFault
+unfoldable pub statement_alone_at : Statement → StatementState → List ℕ → Result (List Set) StreamFault
 statement_alone_at c s body = do
   must NotPrepared s.prepared
   rest ← id_at c body
@@ -151,7 +151,7 @@ abbrev pub TextReadsAs : List ℕ → List ℕ → Set → Type 0
 TextReadsAs query text contents = Slices query text contents × Lexes query text contents
 
 -- The body of a command reads as these sets. A text is one set where each place stands alone.
-abbrev pub CommandReadsAs : Conversation → StatementState → Command → List ℕ → List Set → Type 0
+abbrev pub CommandReadsAs : Statement → StatementState → Command → List ℕ → List Set → Type 0
 CommandReadsAs c s layout.Text body sets = IsTrue (all_alone c.query) × ((contents : Set) × TextReadsAs c.query.text body contents × (sets ≡ contents ∷ []))
 CommandReadsAs c s layout.Prepare body sets = (body ≡ c.query.parsed) × (place_count c.query ≤ 65535) × (sets ≡ [])
 CommandReadsAs c s layout.LongData body sets = long_data_at c s body ≡ Ok sets
@@ -162,7 +162,7 @@ CommandReadsAs c s layout.Close body sets = statement_alone_at c s body ≡ Ok s
 CommandReadsAs c s layout.Other body sets = ⊥
 
 -- This is the body's first fault from the left.
-abbrev pub CommandFaulty : Conversation → StatementState → Command → List ℕ → StreamFault → Type 0
+abbrev pub CommandFaulty : Statement → StatementState → Command → List ℕ → StreamFault → Type 0
 CommandFaulty c s layout.Text body f =
     (IsFalse (all_alone c.query) × (f ≡ NotAlone))
     ⊎ (IsTrue (all_alone c.query) × ((contents : Set) → Slices c.query.text body contents → ⊥) × (f ≡ TextMismatch))
@@ -177,21 +177,21 @@ CommandFaulty c s layout.Close body f = statement_alone_at c s body ≡ Err f
 CommandFaulty c s layout.Other body f = f ≡ OtherCommand
 
 -- a payload reads as these sets where this is in force
-abbrev pub PayloadReadsAs : Conversation → StatementState → List ℕ → List Set → Type 0
+abbrev pub PayloadReadsAs : Statement → StatementState → List ℕ → List Set → Type 0
 PayloadReadsAs c s [] sets = ⊥
 PayloadReadsAs c s (b ∷ body) sets = CommandReadsAs c s (command_of b) body sets
 
 -- a payload is refused by this fault
-abbrev pub PayloadFaulty : Conversation → StatementState → List ℕ → StreamFault → Type 0
+abbrev pub PayloadFaulty : Statement → StatementState → List ℕ → StreamFault → Type 0
 PayloadFaulty c s [] f = f ≡ EmptyCommand
 PayloadFaulty c s (b ∷ body) f = CommandFaulty c s (command_of b) body f
 
 -- The payload after these earlier ones reads as these sets, or has this fault. Numbering goes on from first; the
 -- payload that would have the number 2 ^ 64 - 1 is too large whatever it holds.
-abbrev pub ReadsAs : Conversation → StatementState → ℕ → List (List ℕ) → List ℕ → List Set → Type 0
+abbrev pub ReadsAs : Statement → StatementState → ℕ → List (List ℕ) → List ℕ → List Set → Type 0
 ReadsAs c s first earlier payload sets = (first + length earlier < 2 ^ 64 - 1) × PayloadReadsAs c (state_after c s earlier) payload sets
 
-abbrev pub Faulty : Conversation → StatementState → ℕ → List (List ℕ) → List ℕ → StreamFault → Type 0
+abbrev pub Faulty : Statement → StatementState → ℕ → List (List ℕ) → List ℕ → StreamFault → Type 0
 Faulty c s first earlier payload f =
     ((2 ^ 64 - 1 ≤ first + length earlier) × (f ≡ TooLarge))
     ⊎ ((first + length earlier < 2 ^ 64 - 1) × PayloadFaulty c (state_after c s earlier) payload f)

@@ -3,14 +3,15 @@
 use Rattle.std.specs.Prelude.{ℕ, Bool, List, Option, slice_get}
 use Rattle.std.specs.Option.{option_and_then}
 use Rattle.mysql_commands.specs.declared.fault.StreamFault.{StreamFault}
-use Rattle.mysql_commands.specs.Layout.{Conversation, Types}
+use Rattle.mysql_commands.specs.Layout.{Types}
+use Rattle.mysql_commands.specs.Query.{Statement}
 use Rattle.mysql_commands.specs.Reading.{Set}
 use Rattle.mysql_commands.specs.GoingOn.{ReceiverState}
 
--- the conversation and the limit; the payloads read, what is in force behind them, the bytes of the packet that isn't
+-- the statement and the limit; the payloads read, what is in force behind them, the bytes of the packet that isn't
 -- whole, the sets so far, the fault
 pub record Received : Type 0 where
-  pub conversation : Conversation
+  pub conversation : Statement
   pub limit : ℕ
   pub count : ℕ
   pub prepared : Bool

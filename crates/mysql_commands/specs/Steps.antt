@@ -6,7 +6,8 @@ use Rattle.std.specs.Option.{option_or, option_to_list}
 use Rattle.mysql_commands.specs.declared.refusal.Refusal.{Refusal}
 use Rattle.mysql_commands.specs.declared.refusal.Refusal.TheVariants as refusal
 use Rattle.mysql_commands.specs.declared.progress.Progress.{Progress}
-use Rattle.mysql_commands.specs.Layout.{Conversation, Types, Piece}
+use Rattle.mysql_commands.specs.Layout.{Types, Piece}
+use Rattle.mysql_commands.specs.Query.{Statement}
 use Rattle.mysql_commands.specs.InForce.{StatementState, state_after, joined}
 use Rattle.mysql_commands.specs.Reading.{Set, ReadsAs, Faulty}
 use Rattle.mysql_commands.specs.Views.{state_of, sets_of}
@@ -38,14 +39,14 @@ abbrev pub after_piece : StatementState → Piece → StatementState
 after_piece s piece = record { prepared = s.prepared; types = s.types; pieces = with_piece s.pieces piece.place piece.bytes }
 
 -- behind one payload that reads
-pub record ReadOne (c : Conversation) (old : Progress) (payload : List ℕ) (new : Progress) : Type 0 where
+pub record ReadOne (c : Statement) (old : Progress) (payload : List ℕ) (new : Progress) : Type 0 where
   pub sets : List Set
   pub reads : ReadsAs c (state_of old.statement) old.count [] payload sets
   pub more : sets_of new.sets.items ≡ sets_of old.sets.items ++ sets
   pub count : new.count ≡ old.count + 1
   pub statement : state_of new.statement ≡ state_after c (state_of old.statement) (payload ∷ [])
 
-abbrev pub OneBy : Conversation → Progress → List ℕ → Progress → Result (Unit {0}) Refusal → Type 0
+abbrev pub OneBy : Statement → Progress → List ℕ → Progress → Result (Unit {0}) Refusal → Type 0
 OneBy c old payload new (Ok done) = ReadOne c old payload new
 OneBy c old payload new (Err refusal.Memory) = Unit {0}
 OneBy c old payload new (Err (refusal.Fault f)) = Faulty c (state_of old.statement) old.count [] payload f

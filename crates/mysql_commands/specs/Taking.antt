@@ -5,7 +5,7 @@ use Rattle.mysql_wire.specs.Bytes.{AreBytes}
 use Rattle.mysql_wire.specs.Framing.{max_payload_len}
 use Rattle.mysql_commands.specs.declared.fault.StreamFault.{StreamFault}
 use Rattle.mysql_commands.specs.declared.fault.StreamFault.TheVariants.{Memory}
-use Rattle.mysql_commands.specs.Layout.{Conversation}
+use Rattle.mysql_commands.specs.Query.{Statement}
 use Rattle.mysql_commands.specs.Reading.{Set}
 use Rattle.mysql_commands.specs.Audit.{Audit}
 use Rattle.mysql_commands.specs.GoingOn.{ReceiverState, fresh_receiver, ReceiverDecides, ReceiverGoesOn, TakesAll, RunsShort}
@@ -16,7 +16,7 @@ with_sets taken a = record { sets = taken ++ a.sets; ending = a.ending }
 
 -- What is decided over bytes still to come after sets were taken was decided before with those sets first, and with the same
 -- end, which counts all payloads.
-abbrev pub HandsOut : Conversation → ℕ → ReceiverState → List Set → ReceiverState → Type 0
+abbrev pub HandsOut : Statement → ℕ → ReceiverState → List Set → ReceiverState → Type 0
 HandsOut c limit old taken new = (z : List ℕ) (a : Audit) → ReceiverDecides c limit new z a → ReceiverDecides c limit old z (with_sets taken a)
 
 -- the sets that stood were taken, and nothing else changed
@@ -24,7 +24,7 @@ abbrev pub TakesSets : ReceiverState → List Set → ReceiverState → Type 0
 TakesSets old taken new = (taken ≡ old.sets) × (new ≡ record old { sets = [] })
 
 -- what feeding a piece says of what is held before it and after it
-pub record Feeds (c : Conversation) (limit : ℕ) (old : ReceiverState) (piece : List ℕ) (new : ReceiverState) : Type 0 where
+pub record Feeds (c : Statement) (limit : ℕ) (old : ReceiverState) (piece : List ℕ) (new : ReceiverState) : Type 0 where
   pub goes_on : (new.fault ≡ Some Memory → ⊥) → ReceiverGoesOn c limit old piece new
   pub short : old.fault ≡ None → new.fault ≡ Some Memory → RunsShort c limit old piece new
   pub takes : new.fault ≡ None → TakesAll c limit old piece new
@@ -32,7 +32,7 @@ pub record Feeds (c : Conversation) (limit : ℕ) (old : ReceiverState) (piece :
 
 -- A receiver that was new was fed these pieces, had these sets taken from it, before, between and behind them in any way,
 -- and holds this.
-pub data Run (c : Conversation) (limit : ℕ) : List (List ℕ) → List Set → ReceiverState → Type 0 where
+pub data Run (c : Statement) (limit : ℕ) : List (List ℕ) → List Set → ReceiverState → Type 0 where
   fresh : Run c limit [] [] fresh_receiver
   feeds : {pieces : List (List ℕ)} {taken : List Set} {old new : ReceiverState} {piece : List ℕ} →
       Run c limit pieces taken old → AreBytes piece → Feeds c limit old piece new → Run c limit (pieces ++ piece ∷ []) taken new

@@ -12,13 +12,14 @@ use Rattle.mysql_commands.specs.declared.carried.Carried.TheVariants as carried
 use Rattle.mysql_commands.specs.declared.param_type.ParamType.{ParamType}
 use Rattle.mysql_commands.specs.declared.param_type.OwnTypes.{OwnTypes}
 use Rattle.mysql_commands.specs.declared.param_type.OwnTypes.TheVariants as own_types
-use Rattle.mysql_commands.specs.declared.statement.Conversation.{Conversation as CodeConversation}
+use Rattle.mysql_commands.specs.declared.statement.Statement.{Statement as CodeStatement}
 use Rattle.mysql_commands.specs.declared.statement.StatementState.{StatementState as CodeState}
 use Rattle.mysql_commands.specs.declared.layout.ExecuteHead.{ExecuteHead as CodeExecuteHead}
 use Rattle.mysql_commands.specs.declared.layout.BulkHead.{BulkHead as CodeBulkHead}
 use Rattle.mysql_commands.specs.declared.layout.Piece.{Piece as CodePiece}
 use Rattle.mysql_wire.specs.Wire.{◌>>=◌}
-use Rattle.mysql_commands.specs.Layout.{Conversation, Command, Types, ExecuteHead, BulkHead, Piece}
+use Rattle.mysql_commands.specs.Layout.{Command, Types, ExecuteHead, BulkHead, Piece}
+use Rattle.mysql_commands.specs.Query.{Statement}
 use Rattle.mysql_commands.specs.InForce.{StatementState}
 use Rattle.mysql_commands.specs.Reading.{Set, CommandReadsAs, CommandFaulty, PayloadReadsAs, PayloadFaulty}
 
@@ -53,8 +54,8 @@ bulk_head_of kept h = record { own = types_carried kept h.own; rows = h.rows.now
 abbrev pub piece_of : CodePiece → Piece
 piece_of p = record { place = p.place; bytes = p.bytes.now }
 
-abbrev pub conversation_of : CodeConversation → Conversation
-conversation_of c = record { query = record { text = c.query.items; parsed = c.parsed.items; places = c.places.items }; id = c.id }
+abbrev pub statement_view : CodeStatement → Statement
+statement_view c = record { query = record { text = c.query.items; parsed = c.parsed.items; places = c.places.items }; id = c.id }
 
 abbrev pub piece_kept : List (Option (Vec ℕ)) → ℕ → Option (List ℕ)
 piece_kept pieces place = option_and_then (λ piece. option_map (λ bytes. bytes.items) piece) (slice_get pieces place)
@@ -78,8 +79,8 @@ Finds view (Err refusal.Memory) Reads IsFaulty = Unit {0}
 Finds view (Err (refusal.Fault f)) Reads IsFaulty = IsFaulty f
 
 -- what a command was found to be: the sets that it reads as, or its fault
-abbrev pub Judged : Conversation → StatementState → Command → List ℕ → Result Carried Refusal → Type 0
+abbrev pub Judged : Statement → StatementState → Command → List ℕ → Result Carried Refusal → Type 0
 Judged c s command body result = Finds sets_carried result (CommandReadsAs c s command body) (CommandFaulty c s command body)
 
-abbrev pub PayloadJudged : Conversation → StatementState → List ℕ → Result Carried Refusal → Type 0
+abbrev pub PayloadJudged : Statement → StatementState → List ℕ → Result Carried Refusal → Type 0
 PayloadJudged c s payload result = Finds sets_carried result (PayloadReadsAs c s payload) (PayloadFaulty c s payload)

@@ -1,7 +1,7 @@
 //! Fields of a payload, read from the left.
 
 ghost use Rattle.std.specs.Prelude.{◌≡◌};
-ghost use Rattle.mysql_commands.specs.Fields.{little_at, bytes_at};
+ghost use Rattle.mysql_commands.specs.Fields.{number_or, bytes_or};
 ghost use Rattle.mysql_commands.specs.Layout.{is_type};
 ghost use Rattle.mysql_commands.specs.Views.{Gives};
 
@@ -12,7 +12,7 @@ use mysql_wire::ParseBuf;
 
 /// The first bytes, and the rest.
 pub fn front(fault: StreamFault, n: usize, bytes: &[u8]) -> Result<(&[u8], &[u8]), Refusal>
-    ensures { Gives (λ x. (x.0.now, x.1.now)) result (bytes_at fault n bytes.now) }
+    ensures { Gives (λ x. (x.0.now, x.1.now)) result (bytes_or fault n bytes.now) }
 {
     let mut buf = ParseBuf(bytes);
     match buf.checked_eat(n) {
@@ -23,7 +23,7 @@ pub fn front(fault: StreamFault, n: usize, bytes: &[u8]) -> Result<(&[u8], &[u8]
 
 /// The number in the first byte, and the rest.
 pub fn number1(fault: StreamFault, bytes: &[u8]) -> Result<(u8, &[u8]), Refusal>
-    ensures { Gives (λ x. (x.0, x.1.now)) result (little_at fault 1 bytes.now) }
+    ensures { Gives (λ x. (x.0, x.1.now)) result (number_or fault 1 bytes.now) }
 {
     let mut buf = ParseBuf(bytes);
     match buf.checked_eat_u8() {
@@ -34,7 +34,7 @@ pub fn number1(fault: StreamFault, bytes: &[u8]) -> Result<(u8, &[u8]), Refusal>
 
 /// The number in the first two bytes, and the rest.
 pub fn number2(fault: StreamFault, bytes: &[u8]) -> Result<(u16, &[u8]), Refusal>
-    ensures { Gives (λ x. (x.0, x.1.now)) result (little_at fault 2 bytes.now) }
+    ensures { Gives (λ x. (x.0, x.1.now)) result (number_or fault 2 bytes.now) }
 {
     let mut buf = ParseBuf(bytes);
     match buf.checked_eat_u16_le() {
@@ -45,7 +45,7 @@ pub fn number2(fault: StreamFault, bytes: &[u8]) -> Result<(u16, &[u8]), Refusal
 
 /// The number in the first four bytes, and the rest.
 pub fn number4(fault: StreamFault, bytes: &[u8]) -> Result<(u32, &[u8]), Refusal>
-    ensures { Gives (λ x. (x.0, x.1.now)) result (little_at fault 4 bytes.now) }
+    ensures { Gives (λ x. (x.0, x.1.now)) result (number_or fault 4 bytes.now) }
 {
     let mut buf = ParseBuf(bytes);
     match buf.checked_eat_u32_le() {

@@ -2,14 +2,14 @@
 
 ghost use Rattle.std.specs.Prelude.{◌≡◌, [], OnErr, OnOk, None};
 ghost use Rattle.mysql_commands.specs.Query.{IsQuery};
-ghost use Rattle.mysql_commands.specs.Views.{conversation_of};
+ghost use Rattle.mysql_commands.specs.Views.{statement_view};
 ghost use Rattle.mysql_commands.specs.GoingOn.{Fed};
 ghost use Rattle.mysql_commands.specs.Parts.{state_of_parts, fault_by, refusal_by, IsOpen};
 
 use crate::fault::StreamFault;
 use crate::progress::Progress;
 use crate::refusal::Refusal;
-use crate::statement::Conversation;
+use crate::statement::Statement;
 use mysql_wire::laws::reader_laws;
 use mysql_wire::{PacketCodecError, PacketReader};
 use std::alloc::Global;
@@ -31,13 +31,13 @@ fn refusal_of(error: PacketCodecError) -> Refusal
 fn read_payloads(
     packets: &mut PacketReader,
     alloc: Global,
-    conversation: &Conversation,
+    conversation: &Statement,
     progress: &mut Progress,
     piece: &[u8],
 ) -> Result<(), Refusal>
-    requires query { IsQuery (conversation_of conversation.now).query }
+    requires query { IsQuery (statement_view conversation.now).query }
     requires open { IsOpen packets.old }
-    ensures fed { Fed (conversation_of conversation.now) packets.old.limit (state_of_parts progress.old packets.old.bytes None) piece.now
+    ensures fed { Fed (statement_view conversation.now) packets.old.limit (state_of_parts progress.old packets.old.bytes None) piece.now
         (state_of_parts progress.new packets.new.bytes (fault_by result)) }
     ensures open { OnOk result (IsOpen packets.new) }
     ensures stopped { OnErr result (packets.new.bytes ≡ []) }
@@ -67,13 +67,13 @@ fn read_payloads(
 pub fn read_piece(
     packets: &mut PacketReader,
     alloc: Global,
-    conversation: &Conversation,
+    conversation: &Statement,
     progress: &mut Progress,
     piece: &[u8],
 ) -> Result<(), Refusal>
-    requires query { IsQuery (conversation_of conversation.now).query }
+    requires query { IsQuery (statement_view conversation.now).query }
     requires open { IsOpen packets.old }
-    ensures fed { Fed (conversation_of conversation.now) packets.old.limit (state_of_parts progress.old packets.old.bytes None) piece.now
+    ensures fed { Fed (statement_view conversation.now) packets.old.limit (state_of_parts progress.old packets.old.bytes None) piece.now
         (state_of_parts progress.new packets.new.bytes (fault_by result)) }
     ensures open { OnOk result (IsOpen packets.new) }
     ensures stopped { OnErr result (packets.new.bytes ≡ []) }

@@ -4,13 +4,13 @@ ghost use Rattle.std.specs.Prelude.{◌≡◌, ℕ, ◌+◌, ◌/◌, ◌<◌, �
 ghost use Rattle.std.specs.Option.{option_map};
 ghost use Rattle.mysql_commands.specs.Layout.{type_at, types_at, id_at, piece_at, binding_at, execute_head, bulk_head};
 ghost use Rattle.mysql_commands.specs.Query.{place_count};
-ghost use Rattle.mysql_commands.specs.Views.{Gives, conversation_of, execute_head_of, bulk_head_of, piece_of, types_carried, types_kept, some_types};
+ghost use Rattle.mysql_commands.specs.Views.{Gives, statement_view, execute_head_of, bulk_head_of, piece_of, types_carried, types_kept, some_types};
 
 use crate::fault::StreamFault;
 use crate::fields::{front, is_type_number, number1, number2, number4};
 use crate::param_type::{OwnTypes, ParamType};
 use crate::refusal::Refusal;
-use crate::statement::Conversation;
+use crate::statement::Statement;
 use std::alloc::Global;
 
 /// What stands before an execute's cells.
@@ -109,9 +109,9 @@ fn own_types<'a>(
     Ok((OwnTypes::Anew(anew), rest))
 }
 
-/// The conversation's id.
-pub fn id<'a>(conversation: &Conversation, bytes: &'a [u8]) -> Result<&'a [u8], Refusal>
-    ensures { Gives (λ x. x.now) result (id_at (conversation_of conversation.now) bytes.now) }
+/// The statement's id.
+pub fn id<'a>(conversation: &Statement, bytes: &'a [u8]) -> Result<&'a [u8], Refusal>
+    ensures { Gives (λ x. x.now) result (id_at (statement_view conversation.now) bytes.now) }
 {
     let (id, rest) = number4(StreamFault::WrongId, bytes)?;
     if id == conversation.id {
@@ -122,8 +122,8 @@ pub fn id<'a>(conversation: &Conversation, bytes: &'a [u8]) -> Result<&'a [u8], 
 }
 
 /// The body of a long data command.
-pub fn long_data<'a>(conversation: &Conversation, body: &'a [u8]) -> Result<Piece<'a>, Refusal>
-    ensures { Gives piece_of result (piece_at (conversation_of conversation.now) body.now) }
+pub fn long_data<'a>(conversation: &Statement, body: &'a [u8]) -> Result<Piece<'a>, Refusal>
+    ensures { Gives piece_of result (piece_at (statement_view conversation.now) body.now) }
 {
     let rest = id(conversation, body)?;
     let (place, bytes) = number2(StreamFault::BadPlace, rest)?;
@@ -170,11 +170,11 @@ fn binding<'a>(
 #[tactic(auto, unfolding(crate::specs::Layout::execute_head))]
 pub fn execute_front<'a>(
     alloc: Global,
-    conversation: &Conversation,
+    conversation: &Statement,
     kept: &Option<Vec<ParamType>>,
     body: &'a [u8],
 ) -> Result<ExecuteHead<'a>, Refusal>
-    ensures { Gives (execute_head_of (types_kept kept.now)) result (execute_head (conversation_of conversation.now) body.now) }
+    ensures { Gives (execute_head_of (types_kept kept.now)) result (execute_head (statement_view conversation.now) body.now) }
 {
     let rest = id(conversation, body)?;
     let (cursor, rest) = number1(StreamFault::BadExecute, rest)?;
@@ -200,11 +200,11 @@ pub fn execute_front<'a>(
 #[tactic(auto, unfolding(crate::specs::Layout::bulk_head))]
 pub fn bulk_front<'a>(
     alloc: Global,
-    conversation: &Conversation,
+    conversation: &Statement,
     kept: &Option<Vec<ParamType>>,
     body: &'a [u8],
 ) -> Result<BulkHead<'a>, Refusal>
-    ensures { Gives (bulk_head_of (types_kept kept.now)) result (bulk_head (conversation_of conversation.now) body.now) }
+    ensures { Gives (bulk_head_of (types_kept kept.now)) result (bulk_head (statement_view conversation.now) body.now) }
 {
     let rest = id(conversation, body)?;
     let (flags, rest) = number2(StreamFault::BadBulk, rest)?;

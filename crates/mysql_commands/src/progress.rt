@@ -2,11 +2,11 @@
 
 ghost use Rattle.std.specs.Prelude.{◌≡◌, ◌+◌, ◌<◌, ◌^◌, OnErr};
 ghost use Rattle.mysql_commands.specs.Query.{IsQuery};
-ghost use Rattle.mysql_commands.specs.Views.{conversation_of, sets_of};
+ghost use Rattle.mysql_commands.specs.Views.{statement_view, sets_of};
 
 use crate::fault::StreamFault;
 use crate::refusal::Refusal;
-use crate::statement::{Conversation, StatementState};
+use crate::statement::{Statement, StatementState};
 use crate::step::step;
 use mysql_values::Content;
 use std::alloc::Global;
@@ -26,11 +26,11 @@ impl Progress {
     pub fn read_one(
         &mut self,
         alloc: Global,
-        conversation: &Conversation,
+        conversation: &Statement,
         payload: &[u8],
     ) -> Result<(), Refusal>
-        requires { IsQuery (conversation_of conversation.now).query }
-        ensures by { OneBy (conversation_of conversation.now) self.old payload.now self.new result }
+        requires { IsQuery (statement_view conversation.now).query }
+        ensures by { OneBy (statement_view conversation.now) self.old payload.now self.new result }
         ensures sets { OnErr result (sets_of self.new.sets.items ≡ sets_of self.old.sets.items) }
         ensures count { OnErr result (self.new.count ≡ self.old.count) }
     {

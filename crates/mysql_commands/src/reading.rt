@@ -6,7 +6,7 @@ ghost use Rattle.mysql_null_bitmap.specs.NullBits.{bits_left};
 ghost use Rattle.mysql_commands.specs.Query.{place_count};
 ghost use Rattle.mysql_commands.specs.InForce.{is_waiting, execute_types, bulk_types};
 ghost use Rattle.mysql_commands.specs.Reading.{types_in_force, parameter_at, set_at, execute_at, column_at, columns_at, row_at, RowsAt, FaultyRow, BulkReadsAs, BulkFaulty};
-ghost use Rattle.mysql_commands.specs.Views.{Gives, Finds, sets_of, types_carried, types_kept, piece_kept, conversation_of, state_of};
+ghost use Rattle.mysql_commands.specs.Views.{Gives, Finds, sets_of, types_carried, types_kept, piece_kept, statement_view, state_of};
 
 use crate::cells::cell_content;
 use crate::fault::StreamFault;
@@ -14,18 +14,18 @@ use crate::fields::number1;
 use crate::layout::{BulkHead, ExecuteHead, bulk_front, execute_front};
 use crate::param_type::{OwnTypes, ParamType};
 use crate::refusal::Refusal;
-use crate::statement::{Conversation, StatementState};
+use crate::statement::{Statement, StatementState};
 use mysql_null_bitmap::{ClientSide, NullBitmap, NullBits};
 use mysql_values::{ByteString, Content};
 use std::alloc::Global;
 
 /// The types that count.
 fn counting<'a>(
-    conversation: &Conversation,
+    conversation: &Statement,
     statement: &'a StatementState,
     own: &'a OwnTypes,
 ) -> Result<&'a [ParamType], Refusal>
-    ensures { Gives (λ x. x.now) result (types_in_force (conversation_of conversation.now) (state_of statement.now) (types_carried (types_kept statement.now.types) own.now)) }
+    ensures { Gives (λ x. x.now) result (types_in_force (statement_view conversation.now) (state_of statement.now) (types_carried (types_kept statement.now.types) own.now)) }
 {
     if conversation.places.len() == 0 {
         return Ok(&[]);
@@ -169,12 +169,12 @@ fn rows(alloc: Global, types: &[ParamType], bytes: &[u8]) -> Result<Vec<Vec<Cont
 #[tactic(auto, unfolding(crate::specs::Reading::execute_at))]
 pub fn execute(
     alloc: Global,
-    conversation: &Conversation,
+    conversation: &Statement,
     statement: &StatementState,
     body: &[u8],
 ) -> Result<(Vec<Content>, OwnTypes), Refusal>
-    ensures set { Gives (λ x. x.0.items) result (execute_at (conversation_of conversation.now) (state_of statement.now) body.now) }
-    ensures own { IfOk result (λ x. types_carried (types_kept statement.now.types) x.1 ≡ execute_types (conversation_of conversation.now) body.now) }
+    ensures set { Gives (λ x. x.0.items) result (execute_at (statement_view conversation.now) (state_of statement.now) body.now) }
+    ensures own { IfOk result (λ x. types_carried (types_kept statement.now.types) x.1 ≡ execute_types (statement_view conversation.now) body.now) }
 {
     if !statement.prepared {
         return Err(Refusal::Fault(StreamFault::NotPrepared));
@@ -194,13 +194,13 @@ pub fn execute(
 #[tactic(auto, unfolding(crate::specs::Reading::bulk_rows))]
 pub fn bulk(
     alloc: Global,
-    conversation: &Conversation,
+    conversation: &Statement,
     statement: &StatementState,
     body: &[u8],
 ) -> Result<(Vec<Vec<Content>>, OwnTypes), Refusal>
-    ensures sets { Finds (λ x. sets_of x.0.items) result (BulkReadsAs (conversation_of conversation.now) (state_of statement.now) body.now)
-        (BulkFaulty (conversation_of conversation.now) (state_of statement.now) body.now) }
-    ensures own { IfOk result (λ x. types_carried (types_kept statement.now.types) x.1 ≡ bulk_types (conversation_of conversation.now) body.now) }
+    ensures sets { Finds (λ x. sets_of x.0.items) result (BulkReadsAs (statement_view conversation.now) (state_of statement.now) body.now)
+        (BulkFaulty (statement_view conversation.now) (state_of statement.now) body.now) }
+    ensures own { IfOk result (λ x. types_carried (types_kept statement.now.types) x.1 ≡ bulk_types (statement_view conversation.now) body.now) }
 {
     if !statement.prepared {
         return Err(Refusal::Fault(StreamFault::NotPrepared));
@@ -222,8 +222,8 @@ pub fn bulk(
 }
 
 /// Whether pieces wait for any place.
-pub fn waits(conversation: &Conversation, statement: &StatementState) -> bool
-    ensures { result ≡ is_waiting (conversation_of conversation.now) (state_of statement.now) }
+pub fn waits(conversation: &Statement, statement: &StatementState) -> bool
+    ensures { result ≡ is_waiting (statement_view conversation.now) (state_of statement.now) }
 {
     for place in 0..conversation.places.len() {
         if has_pieces(statement, place) {

@@ -13,7 +13,7 @@ ghost use Rattle.mysql_commands.specs.Receiving.{answer_by, audit_of};
 ghost use Rattle.mysql_commands.specs.Parts.{end_by, fault_from, state_of_parts};
 ghost use Rattle.mysql_commands.specs.Received.{receiver_state};
 ghost use Rattle.mysql_commands.specs.Taking.{HandsOut, most_kept};
-ghost use Rattle.mysql_commands.specs.Views.{conversation_of, sets_of};
+ghost use Rattle.mysql_commands.specs.Views.{statement_view, sets_of};
 
 use crate::audit::{Audit, End};
 use crate::fault::StreamFault;
@@ -21,7 +21,8 @@ use crate::incoming::read_piece;
 use crate::progress::Progress;
 use crate::reading::waits;
 use crate::refusal::Refusal;
-use crate::statement::{Conversation, StatementState};
+use crate::statement::{Statement, StatementState};
+use mysql_values::laws::tokens_of_a_text;
 use mysql_values::{Content, NamedParamsError, ParsedNamedParams, Place, places};
 use mysql_wire::laws::reader_laws;
 use mysql_wire::{PacketReader, WireError};
@@ -76,15 +77,17 @@ fn parsed<'a>(
     }
 }
 
-/// The conversation about a query.
-fn conversation(alloc: Global, query: &[u8], stmt_id: u32) -> Result<Conversation, ReceiverError>
-    ensures about { IfOk result (λ c. IsAbout (conversation_of c) query.now stmt_id) }
+/// The statement of a query, with this id.
+fn conversation(alloc: Global, query: &[u8], stmt_id: u32) -> Result<Statement, ReceiverError>
+    ensures query { IfOk result (λ c. IsQuery (statement_view c).query) }
+    ensures about { IfOk result (λ c. IsAbout (statement_view c) query.now stmt_id) }
     ensures one_kind { OnOk result (HasMixed query.now false) }
     ensures mixed { IfErr result (λ e. (e ≡ receiver_error.Memory) ⊎ ((e ≡ receiver_error.Mixed) × HasMixed query.now true)) }
 {
+    tokens_of_a_text();
     let places = places(alloc, query)?;
     let parsed = parsed(alloc, query, &places)?;
-    Ok(Conversation {
+    Ok(Statement {
         query: Vec::from_slice(alloc, query)?,
         parsed: Vec::from_slice(alloc, parsed.query())?,
         places,
@@ -99,7 +102,7 @@ fn conversation(alloc: Global, query: &[u8], stmt_id: u32) -> Result<Conversatio
 #[derive(Drop)]
 pub struct Receiver {
     alloc: Global,
-    conversation: Conversation,
+    conversation: Statement,
     packets: PacketReader,
     progress: Progress,
     fault: Option<StreamFault>,
@@ -129,12 +132,12 @@ fn fault_of(refusal: Refusal) -> StreamFault
 
 /// How a stream ends as things stand.
 fn end_now(
-    conversation: &Conversation,
+    conversation: &Statement,
     progress: &Progress,
     begun: bool,
     fault: Option<StreamFault>,
 ) -> End
-    ensures { result ≡ end_by (conversation_of conversation.now) (state_of_parts progress.now [] fault) begun fault }
+    ensures { result ≡ end_by (statement_view conversation.now) (state_of_parts progress.now [] fault) begun fault }
 {
     if let Some(fault) = fault {
         return End::Fault(progress.count, fault);
@@ -175,10 +178,10 @@ impl Receiver {
     }
 
     /// A receiver that was fed nothing.
-    fn over(alloc: Global, conversation: Conversation, limit: usize) -> Receiver
-        requires { IsQuery (conversation_of conversation).query }
+    fn over(alloc: Global, conversation: Statement, limit: usize) -> Receiver
+        requires { IsQuery (statement_view conversation).query }
         ensures fresh { receiver_state result ≡ fresh_receiver }
-        ensures conversation { result.conversation ≡ conversation_of conversation }
+        ensures conversation { result.conversation ≡ statement_view conversation }
         ensures limit { result.limit ≡ limit }
     {
         reader_laws();

@@ -1,11 +1,11 @@
-//! What a conversation is about, and what is in force in it.
+//! A statement, and what is in force of it.
 
 use crate::param_type::ParamType;
 use mysql_values::Place;
 
 /// A query with its placeholders, and the id that its statement was given.
 #[derive(Drop)]
-pub struct Conversation {
+pub struct Statement {
     pub query: Vec<u8>,
     pub parsed: Vec<u8>,
     pub places: Vec<Place>,

@@ -6,7 +6,7 @@ ghost use Rattle.mysql_commands.specs.Layout.{Prepare, Text, Execute, Bulk, Long
 ghost use Rattle.mysql_commands.specs.InForce.{StatementState as InForce, state_after, execute_types, bulk_types};
 ghost use Rattle.mysql_commands.specs.Steps.{prepared_anew, after_execute, after_bulk, after_piece, after_reset, closed, with_piece};
 ghost use Rattle.mysql_commands.specs.Reading.{prepared_piece, statement_alone_at};
-ghost use Rattle.mysql_commands.specs.Views.{Gives, piece_of, Judged, PayloadJudged, types_carried, types_kept, conversation_of, state_of, piece_kept};
+ghost use Rattle.mysql_commands.specs.Views.{Gives, piece_of, Judged, PayloadJudged, types_carried, types_kept, statement_view, state_of, piece_kept};
 
 use crate::carried::Carried;
 use crate::fault::StreamFault;
@@ -14,7 +14,7 @@ use crate::layout::{Piece, id, long_data};
 use crate::param_type::OwnTypes;
 use crate::reading::{bulk, execute};
 use crate::refusal::Refusal;
-use crate::statement::{Conversation, StatementState};
+use crate::statement::{Statement, StatementState};
 use mysql_const::Command;
 use mysql_values::read_text;
 use std::alloc::{AllocError, Global};
@@ -65,16 +65,16 @@ impl StatementState {
 }
 
 /// Whether each place stands alone.
-fn all_alone(conversation: &Conversation) -> bool
-    ensures { result ≡ is_all_alone (conversation_of conversation.now).query }
+fn all_alone(conversation: &Statement) -> bool
+    ensures { result ≡ is_all_alone (statement_view conversation.now).query }
 {
     conversation.places.iter().all(|place| place.alone)
 }
 
 /// A text.
-fn text(alloc: Global, conversation: &Conversation, body: &[u8]) -> Result<Carried, Refusal>
-    requires { IsQuery (conversation_of conversation.now).query }
-    ensures { (s : InForce) → Judged (conversation_of conversation.now) s Text body.now result }
+fn text(alloc: Global, conversation: &Statement, body: &[u8]) -> Result<Carried, Refusal>
+    requires { IsQuery (statement_view conversation.now).query }
+    ensures { (s : InForce) → Judged (statement_view conversation.now) s Text body.now result }
 {
     if !all_alone(conversation) {
         return Err(Refusal::Fault(StreamFault::NotAlone));
@@ -86,8 +86,8 @@ fn text(alloc: Global, conversation: &Conversation, body: &[u8]) -> Result<Carri
 }
 
 /// A prepare.
-fn prepare(conversation: &Conversation, body: &[u8]) -> Result<Carried, Refusal>
-    ensures { (s : InForce) → Judged (conversation_of conversation.now) s Prepare body.now result }
+fn prepare(conversation: &Statement, body: &[u8]) -> Result<Carried, Refusal>
+    ensures { (s : InForce) → Judged (statement_view conversation.now) s Prepare body.now result }
 {
     if body != conversation.parsed.as_slice() {
         return Err(Refusal::Fault(StreamFault::PrepareMismatch));
@@ -145,12 +145,12 @@ fn append(
 
 /// Reads a prepare. A refusal changes nothing, here and below.
 fn on_prepare(
-    conversation: &Conversation,
+    conversation: &Statement,
     statement: &mut StatementState,
     body: &[u8],
 ) -> Result<Carried, Refusal>
-    ensures judged { Judged (conversation_of conversation.now) (state_of statement.old) Prepare body.now result }
-    ensures ok { OnOk result (state_of statement.new ≡ state_after (conversation_of conversation.now) (state_of statement.old) ((22 ∷ body.now) ∷ [])) }
+    ensures judged { Judged (statement_view conversation.now) (state_of statement.old) Prepare body.now result }
+    ensures ok { OnOk result (state_of statement.new ≡ state_after (statement_view conversation.now) (state_of statement.old) ((22 ∷ body.now) ∷ [])) }
     ensures err { OnErr result (state_of statement.new ≡ state_of statement.old) }
 {
     let sets = prepare(conversation, body)?;
@@ -161,12 +161,12 @@ fn on_prepare(
 /// Reads an execute.
 fn on_execute(
     alloc: Global,
-    conversation: &Conversation,
+    conversation: &Statement,
     statement: &mut StatementState,
     body: &[u8],
 ) -> Result<Carried, Refusal>
-    ensures judged { Judged (conversation_of conversation.now) (state_of statement.old) Execute body.now result }
-    ensures ok { OnOk result (state_of statement.new ≡ after_execute (state_of statement.old) (execute_types (conversation_of conversation.now) body.now)) }
+    ensures judged { Judged (statement_view conversation.now) (state_of statement.old) Execute body.now result }
+    ensures ok { OnOk result (state_of statement.new ≡ after_execute (state_of statement.old) (execute_types (statement_view conversation.now) body.now)) }
     ensures err { OnErr result (state_of statement.new ≡ state_of statement.old) }
 {
     let (set, own) = execute(alloc, conversation, statement, body)?;
@@ -177,12 +177,12 @@ fn on_execute(
 /// Reads a bulk.
 fn on_bulk(
     alloc: Global,
-    conversation: &Conversation,
+    conversation: &Statement,
     statement: &mut StatementState,
     body: &[u8],
 ) -> Result<Carried, Refusal>
-    ensures judged { Judged (conversation_of conversation.now) (state_of statement.old) Bulk body.now result }
-    ensures ok { OnOk result (state_of statement.new ≡ after_bulk (state_of statement.old) (bulk_types (conversation_of conversation.now) body.now)) }
+    ensures judged { Judged (statement_view conversation.now) (state_of statement.old) Bulk body.now result }
+    ensures ok { OnOk result (state_of statement.new ≡ after_bulk (state_of statement.old) (bulk_types (statement_view conversation.now) body.now)) }
     ensures err { OnErr result (state_of statement.new ≡ state_of statement.old) }
 {
     let (sets, own) = bulk(alloc, conversation, statement, body)?;
@@ -193,11 +193,11 @@ fn on_bulk(
 /// Reads the body of a long data command.
 #[tactic(auto, unfolding(crate::specs::Reading::prepared_piece))]
 fn expected_piece<'a>(
-    conversation: &Conversation,
+    conversation: &Statement,
     statement: &StatementState,
     body: &'a [u8],
 ) -> Result<Piece<'a>, Refusal>
-    ensures { Gives piece_of result (prepared_piece (conversation_of conversation.now) (state_of statement.now) body.now) }
+    ensures { Gives piece_of result (prepared_piece (statement_view conversation.now) (state_of statement.now) body.now) }
 {
     if !statement.prepared {
         return Err(Refusal::Fault(StreamFault::NotPrepared));
@@ -209,12 +209,12 @@ fn expected_piece<'a>(
 #[tactic(auto, unfolding(crate::specs::Reading::prepared_piece, crate::specs::Reading::long_data_at))]
 fn on_long_data(
     alloc: Global,
-    conversation: &Conversation,
+    conversation: &Statement,
     statement: &mut StatementState,
     body: &[u8],
 ) -> Result<Carried, Refusal>
-    ensures judged { Judged (conversation_of conversation.now) (state_of statement.old) LongData body.now result }
-    ensures ok { OnOk result (state_of statement.new ≡ state_after (conversation_of conversation.now) (state_of statement.old) ((24 ∷ body.now) ∷ [])) }
+    ensures judged { Judged (statement_view conversation.now) (state_of statement.old) LongData body.now result }
+    ensures ok { OnOk result (state_of statement.new ≡ state_after (statement_view conversation.now) (state_of statement.old) ((24 ∷ body.now) ∷ [])) }
     ensures err { OnErr result (state_of statement.new ≡ state_of statement.old) }
 {
     let Piece { place, bytes } = expected_piece(conversation, statement, body)?;
@@ -225,11 +225,11 @@ fn on_long_data(
 /// Reads the body of a reset or a close.
 #[tactic(auto, unfolding(crate::specs::Reading::statement_alone_at))]
 fn statement_alone(
-    conversation: &Conversation,
+    conversation: &Statement,
     statement: &StatementState,
     body: &[u8],
 ) -> Result<(), Refusal>
-    ensures { Gives (λ _. []) result (statement_alone_at (conversation_of conversation.now) (state_of statement.now) body.now) }
+    ensures { Gives (λ _. []) result (statement_alone_at (statement_view conversation.now) (state_of statement.now) body.now) }
 {
     if !statement.prepared {
         return Err(Refusal::Fault(StreamFault::NotPrepared));
@@ -243,12 +243,12 @@ fn statement_alone(
 
 /// Reads a reset.
 fn on_reset(
-    conversation: &Conversation,
+    conversation: &Statement,
     statement: &mut StatementState,
     body: &[u8],
 ) -> Result<Carried, Refusal>
-    ensures judged { Judged (conversation_of conversation.now) (state_of statement.old) Reset body.now result }
-    ensures ok { OnOk result (state_of statement.new ≡ state_after (conversation_of conversation.now) (state_of statement.old) ((26 ∷ body.now) ∷ [])) }
+    ensures judged { Judged (statement_view conversation.now) (state_of statement.old) Reset body.now result }
+    ensures ok { OnOk result (state_of statement.new ≡ state_after (statement_view conversation.now) (state_of statement.old) ((26 ∷ body.now) ∷ [])) }
     ensures err { OnErr result (state_of statement.new ≡ state_of statement.old) }
 {
     statement_alone(conversation, statement, body)?;
@@ -258,12 +258,12 @@ fn on_reset(
 
 /// Reads a close.
 fn on_close(
-    conversation: &Conversation,
+    conversation: &Statement,
     statement: &mut StatementState,
     body: &[u8],
 ) -> Result<Carried, Refusal>
-    ensures judged { Judged (conversation_of conversation.now) (state_of statement.old) Close body.now result }
-    ensures ok { OnOk result (state_of statement.new ≡ state_after (conversation_of conversation.now) (state_of statement.old) ((25 ∷ body.now) ∷ [])) }
+    ensures judged { Judged (statement_view conversation.now) (state_of statement.old) Close body.now result }
+    ensures ok { OnOk result (state_of statement.new ≡ state_after (statement_view conversation.now) (state_of statement.old) ((25 ∷ body.now) ∷ [])) }
     ensures err { OnErr result (state_of statement.new ≡ state_of statement.old) }
 {
     statement_alone(conversation, statement, body)?;
@@ -289,14 +289,14 @@ const COM_STMT_BULK_EXECUTE: u8 = Command::COM_STMT_BULK_EXECUTE as u8;
 /// Reads the body of a command.
 fn on_command(
     alloc: Global,
-    conversation: &Conversation,
+    conversation: &Statement,
     statement: &mut StatementState,
     command: u8,
     body: &[u8],
 ) -> Result<Carried, Refusal>
-    requires { IsQuery (conversation_of conversation.now).query }
-    ensures judged { Judged (conversation_of conversation.now) (state_of statement.old) (command_of command) body.now result }
-    ensures ok { OnOk result (state_of statement.new ≡ state_after (conversation_of conversation.now) (state_of statement.old) ((command ∷ body.now) ∷ [])) }
+    requires { IsQuery (statement_view conversation.now).query }
+    ensures judged { Judged (statement_view conversation.now) (state_of statement.old) (command_of command) body.now result }
+    ensures ok { OnOk result (state_of statement.new ≡ state_after (statement_view conversation.now) (state_of statement.old) ((command ∷ body.now) ∷ [])) }
     ensures err { OnErr result (state_of statement.new ≡ state_of statement.old) }
 {
     match command {
@@ -314,13 +314,13 @@ fn on_command(
 /// Reads one payload, and what is in force becomes that behind it. A refusal changes nothing.
 pub fn step(
     alloc: Global,
-    conversation: &Conversation,
+    conversation: &Statement,
     statement: &mut StatementState,
     payload: &[u8],
 ) -> Result<Carried, Refusal>
-    requires { IsQuery (conversation_of conversation.now).query }
-    ensures judged { PayloadJudged (conversation_of conversation.now) (state_of statement.old) payload.now result }
-    ensures ok { OnOk result (state_of statement.new ≡ state_after (conversation_of conversation.now) (state_of statement.old) (payload.now ∷ [])) }
+    requires { IsQuery (statement_view conversation.now).query }
+    ensures judged { PayloadJudged (statement_view conversation.now) (state_of statement.old) payload.now result }
+    ensures ok { OnOk result (state_of statement.new ≡ state_after (statement_view conversation.now) (state_of statement.old) (payload.now ∷ [])) }
     ensures err { OnErr result (state_of statement.new ≡ state_of statement.old) }
 {
     match payload {

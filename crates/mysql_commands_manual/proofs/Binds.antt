@@ -5,7 +5,7 @@ use Rattle.std.specs.Option.{ok_or}
 use Rattle.mysql_wire.specs.Wire.{◌>>=◌, or_end}
 use Rattle.mysql_wire.specs.Reading as buffer
 use Rattle.mysql_commands.specs.declared.fault.StreamFault.{StreamFault}
-use Rattle.mysql_commands.specs.Fields.{◌>>◌, little_at, must}
+use Rattle.mysql_commands.specs.Fields.{◌>>◌, number_or, must}
 
 pub bind_ok : {A B F : Type 0} (r : Result A F) (f : A → Result B F) (y : B) → (r >>= f) ≡ Ok y → (x : A) × (r ≡ Ok x) × (f x ≡ Ok y)
 bind_ok (Ok x) f y e = (x, refl, e)
@@ -33,8 +33,8 @@ if_then false x y r p q e = q refl e
 
 -- a number that passes a test, and what is read behind it
 pub number_behind : {B : Type 0} (short wrong : StreamFault) (n : ℕ) (test : ℕ → Bool) (bytes : List ℕ) (after : ℕ × List ℕ → Result B StreamFault) (y : B) →
-    (little_at short n bytes >>= λ x. must wrong (test x.0) >> after x) ≡ Ok y → (x : ℕ × List ℕ) × (buffer.little_at n bytes ≡ Some x) × (test x.0 ≡ true) × (after x ≡ Ok y)
+    (number_or short n bytes >>= λ x. must wrong (test x.0) >> after x) ≡ Ok y → (x : ℕ × List ℕ) × (buffer.little_at n bytes ≡ Some x) × (test x.0 ≡ true) × (after x ≡ Ok y)
 number_behind short wrong n test bytes after y e =
-    let a = bind_ok (little_at short n bytes) (λ x. must wrong (test x.0) >> after x) y e in
+    let a = bind_ok (number_or short n bytes) (λ x. must wrong (test x.0) >> after x) y e in
     let b = bind_ok (must wrong (test a.0.0)) (λ _. after a.0) y a.2 in
     (a.0, some_is (buffer.little_at n bytes) short a.0 a.1, must_ok wrong (test a.0.0) b.0 b.1, b.2)

@@ -14,8 +14,8 @@ use Rattle.mysql_commands.specs.declared.fault.StreamFault.{StreamFault}
 use Rattle.mysql_commands.specs.declared.fault.StreamFault.TheVariants.{NotPrepared, BadBulk, Indicator, NoRows, PiecesBeforeBulk}
 use Rattle.mysql_commands.specs.declared.param_type.ParamType.{ParamType}
 use Rattle.mysql_commands.specs.Fields.{must}
-use Rattle.mysql_commands.specs.Query.{place_count}
-use Rattle.mysql_commands.specs.Layout.{Conversation, Types, BulkHead, id_at, types_at, bulk_head}
+use Rattle.mysql_commands.specs.Query.{Statement, place_count}
+use Rattle.mysql_commands.specs.Layout.{Types, BulkHead, id_at, types_at, bulk_head}
 use Rattle.mysql_commands.specs.InForce.{StatementState, is_waiting}
 use Rattle.mysql_commands.specs.Reading.{Set, content_at, types_in_force, column_at, columns_at, row_at, RowsAt, bulk_rows, BulkReadsAs}
 use Rattle.mysql_commands_manual.specs.Manual as manual
@@ -167,7 +167,7 @@ flag_cases f test = elim (or_cases (f == 0 || f == 64 || f == 128) (f == 192) te
 ]
 
 -- the flags and the types
-record HasBound (c : Conversation) (body : List ℕ) (head : BulkHead) : Type 0 where
+record HasBound (c : Statement) (body : List ℕ) (head : BulkHead) : Type 0 where
   bound : List ℕ
   joined : body ≡ little_bytes 4 c.id ++ (bound ++ head.rows)
   is : (s : StatementState) (types : Types) → option_or head.own s.types ≡ Some types → AreBulkBound c s bound types
@@ -176,19 +176,19 @@ abbrev found : BulkHead → Result BulkHead StreamFault
 found head = Ok head
 
 -- behind the flags
-abbrev behind_flags : Conversation → ℕ → List ℕ → Result BulkHead StreamFault
+abbrev behind_flags : Statement → ℕ → List ℕ → Result BulkHead StreamFault
 behind_flags c f rest =
     if nat_lt f 128 then found (record { own = None; rows = rest })
     else (types_at BadBulk (place_count c.query) rest >>= λ types. found (record { own = Some types.0; rows = types.1 }))
 
-old_bound : (c : Conversation) (body rest : List ℕ) (head : BulkHead) (results : Bool) → body ≡ little_bytes 4 c.id ++ (little_bytes 2 (if results then 64 else 0) ++ rest) →
+old_bound : (c : Statement) (body rest : List ℕ) (head : BulkHead) (results : Bool) → body ≡ little_bytes 4 c.id ++ (little_bytes 2 (if results then 64 else 0) ++ rest) →
     found (record { own = None; rows = rest }) ≡ found head → HasBound c body head
 old_bound c body rest head results joined e =
     let made : BulkHead = record { own = None; rows = rest } in
     let same : made ≡ head = cc in
     subst (λ (h : BulkHead). HasBound c body h) same (record { bound = little_bytes 2 (if results then 64 else 0); joined = joined; is = λ s types is. manual.kept results types is })
 
-new_bound : (c : Conversation) (body rest : List ℕ) (head : BulkHead) (results : Bool) → body ≡ little_bytes 4 c.id ++ (little_bytes 2 (if results then 192 else 128) ++ rest) →
+new_bound : (c : Statement) (body rest : List ℕ) (head : BulkHead) (results : Bool) → body ≡ little_bytes 4 c.id ++ (little_bytes 2 (if results then 192 else 128) ++ rest) →
     (types_at BadBulk (place_count c.query) rest >>= λ types. found (record { own = Some types.0; rows = types.1 })) ≡ found head → HasBound c body head
 new_bound c body rest head results joined e =
     let a = bind_ok (types_at BadBulk (place_count c.query) rest) _ head e in
@@ -202,7 +202,7 @@ new_bound c body rest head results joined e =
           subst (λ (ts : Types). AreBulkBound c s (little_bytes 2 (if results then 192 else 128) ++ type_bytes a.0.0) ts) one (manual.anew results a.0.0 taken.is.are);
     })
 
-bound_taken : (c : Conversation) (body : List ℕ) (head : BulkHead) → AreBytes body → bulk_head c body ≡ Ok head → (c.id < 2 ^ 32) × HasBound c body head
+bound_taken : (c : Statement) (body : List ℕ) (head : BulkHead) → AreBytes body → bulk_head c body ≡ Ok head → (c.id < 2 ^ 32) × HasBound c body head
 unfolding bulk_head
 bound_taken c body head are e =
     let a = bind_ok (id_at c body) _ head e in
@@ -223,30 +223,30 @@ bound_taken c body head are e =
         new_bound c body rest head true (joined ∙ ap (λ (g : ℕ). little_bytes 4 c.id ++ (little_bytes 2 g ++ rest)) is) (ap (λ (g : ℕ). behind_flags c g rest) (sym is) ∙ e)
 
 -- the head that is read where these types count
-record GivesHead (c : Conversation) (s : StatementState) (body rows : List ℕ) (types : Types) : Type 0 where
+record GivesHead (c : Statement) (s : StatementState) (body rows : List ℕ) (types : Types) : Type 0 where
   own : Option Types
   head : bulk_head c body ≡ Ok (record { own = own; rows = rows })
   types_count : option_or own s.types ≡ Some types
 
-kept_given : (c : Conversation) (results : Bool) (rows : List ℕ) → c.id < 2 ^ 32 → bulk_head c (little_bytes 4 c.id ++ (little_bytes 2 (if results then 64 else 0) ++ rows)) ≡ found (record { own = None; rows = rows })
+kept_given : (c : Statement) (results : Bool) (rows : List ℕ) → c.id < 2 ^ 32 → bulk_head c (little_bytes 4 c.id ++ (little_bytes 2 (if results then 64 else 0) ++ rows)) ≡ found (record { own = None; rows = rows })
 unfolding bulk_head
 kept_given c true rows lt = rw (id_given c (little_bytes 2 64 ++ rows) lt, little-reads_back 2 64 rows (omega arith)) refl
 kept_given c false rows lt = rw (id_given c (little_bytes 2 0 ++ rows) lt, little-reads_back 2 0 rows (omega arith)) refl
 
-anew_given : (c : Conversation) (results : Bool) (types : Types) (rows : List ℕ) → c.id < 2 ^ 32 → AreTypes (place_count c.query) types →
+anew_given : (c : Statement) (results : Bool) (types : Types) (rows : List ℕ) → c.id < 2 ^ 32 → AreTypes (place_count c.query) types →
     bulk_head c (little_bytes 4 c.id ++ (little_bytes 2 (if results then 192 else 128) ++ (type_bytes types ++ rows))) ≡ found (record { own = Some types; rows = rows })
 unfolding bulk_head
 anew_given c true types rows lt are = rw (id_given c (little_bytes 2 192 ++ (type_bytes types ++ rows)) lt, little-reads_back 2 192 (type_bytes types ++ rows) (omega arith), types_given BadBulk (place_count c.query) types rows are) refl
 anew_given c false types rows lt are = rw (id_given c (little_bytes 2 128 ++ (type_bytes types ++ rows)) lt, little-reads_back 2 128 (type_bytes types ++ rows) (omega arith), types_given BadBulk (place_count c.query) types rows are) refl
 
-bound_given : (c : Conversation) (s : StatementState) (bound rows : List ℕ) (types : Types) → c.id < 2 ^ 32 → AreBulkBound c s bound types → GivesHead c s (little_bytes 4 c.id ++ (bound ++ rows)) rows types
+bound_given : (c : Statement) (s : StatementState) (bound rows : List ℕ) (types : Types) → c.id < 2 ^ 32 → AreBulkBound c s bound types → GivesHead c s (little_bytes 4 c.id ++ (bound ++ rows)) rows types
 bound_given c s bound rows types lt (manual.anew results own are) = record { own = Some own; head = anew_given c results own rows lt are; types_count = refl }
 bound_given c s bound rows types lt (manual.kept results old is) = record { own = None; head = kept_given c results rows lt; types_count = is }
 
 -- ---- bulks
 
 -- what a bulk's payload is behind its first byte
-pub record HasRows (c : Conversation) (s : StatementState) (body : List ℕ) (sets : List Set) : Type 0 where
+pub record HasRows (c : Statement) (s : StatementState) (body : List ℕ) (sets : List Set) : Type 0 where
   pub prepared : IsPrepared c s
   pub none_waits : is_waiting c s ≡ false
   pub places : 0 < place_count c.query
@@ -258,7 +258,7 @@ pub record HasRows (c : Conversation) (s : StatementState) (body : List ℕ) (se
   pub are_rows : AllZip (IsRow types) rows sets
   pub joined : body ≡ little_bytes 4 c.id ++ (bound ++ concat rows)
 
-pub bulk_taken : (c : Conversation) (s : StatementState) (body : List ℕ) (sets : List Set) → AreBytes body → BulkReadsAs c s body sets → HasRows c s body sets
+pub bulk_taken : (c : Statement) (s : StatementState) (body : List ℕ) (sets : List Set) → AreBytes body → BulkReadsAs c s body sets → HasRows c s body sets
 unfolding bulk_rows
 bulk_taken c s body sets are reads =
     let both : Types × List ℕ = (reads.types, reads.bytes) in
@@ -290,13 +290,13 @@ bulk_taken c s body sets are reads =
     }
 
 -- what is read of a bulk that is laid out: its sets, and its head by which types are in force
-pub record BulkReads (c : Conversation) (s : StatementState) (body : List ℕ) (sets : List Set) (types : Types) : Type 0 where
+pub record BulkReads (c : Statement) (s : StatementState) (body : List ℕ) (sets : List Set) (types : Types) : Type 0 where
   pub reads : BulkReadsAs c s body sets
   pub own : Option Types
   pub head : (rows : List ℕ) × (bulk_head c body ≡ Ok (record { own = own; rows = rows }))
   pub types_count : option_or own s.types ≡ Some types
 
-pub bulk_given : (c : Conversation) (s : StatementState) (bound : List ℕ) (rows : List (List ℕ)) (types : Types) (sets : List Set) → IsPrepared c s → is_waiting c s ≡ false →
+pub bulk_given : (c : Statement) (s : StatementState) (bound : List ℕ) (rows : List (List ℕ)) (types : Types) (sets : List Set) → IsPrepared c s → is_waiting c s ≡ false →
     0 < place_count c.query → 0 < length rows → AreBulkBound c s bound types → AllZip (IsRow types) rows sets → BulkReads c s (little_bytes 4 c.id ++ (bound ++ concat rows)) sets types
 unfolding bulk_rows
 bulk_given c s bound rows types sets is waits there some are all =

@@ -12,8 +12,8 @@ use Rattle.mysql_wire.specs.Bytes.{AreBytes}
 use Rattle.mysql_buf.specs.NumberLaws.{little-reads_back}
 use Rattle.mysql_commands.specs.declared.fault.StreamFault.TheVariants.{NotPrepared, WrongId, BadPlace}
 use Rattle.mysql_commands.specs.Fields.{must}
-use Rattle.mysql_commands.specs.Query.{IsQuery, place_count}
-use Rattle.mysql_commands.specs.Layout.{Conversation, Piece, command_by, id_at, piece_at}
+use Rattle.mysql_commands.specs.Query.{IsQuery, Statement, place_count}
+use Rattle.mysql_commands.specs.Layout.{Piece, command_by, id_at, piece_at}
 use Rattle.mysql_commands.specs.InForce.{StatementState, nothing_yet, state_after}
 use Rattle.mysql_commands.specs.Reading.{Set, CommandReadsAs, PayloadReadsAs, prepared_piece, long_data_at, statement_alone_at}
 use Rattle.mysql_commands_manual.specs.Manual as manual
@@ -27,7 +27,7 @@ use Rattle.mysql_commands_manual.proofs.Fillings.{QueryLaws, filled_of, text_of,
 
 -- ---- long data
 
-record HasPiece (c : Conversation) (s : StatementState) (body : List ℕ) : Type 0 where
+record HasPiece (c : Statement) (s : StatementState) (body : List ℕ) : Type 0 where
   prepared : IsPrepared c s
   place : ℕ
   bytes : List ℕ
@@ -35,7 +35,7 @@ record HasPiece (c : Conversation) (s : StatementState) (body : List ℕ) : Type
   fits : place < 2 ^ 16
   joined : body ≡ little_bytes 4 c.id ++ (little_bytes 2 place ++ bytes)
 
-piece_taken : (c : Conversation) (s : StatementState) (body : List ℕ) (piece : Piece) → AreBytes body → s.prepared ≡ true → piece_at c body ≡ Ok piece → HasPiece c s body
+piece_taken : (c : Statement) (s : StatementState) (body : List ℕ) (piece : Piece) → AreBytes body → s.prepared ≡ true → piece_at c body ≡ Ok piece → HasPiece c s body
 piece_taken c s body piece are prepared e =
     let a = bind_ok (id_at c body) _ piece e in
     let b = number_behind BadPlace BadPlace 2 (λ n. nat_lt n (place_count c.query)) a.0 (λ place. Ok (record { place = place.0; bytes = place.1 })) piece a.2 in
@@ -50,19 +50,19 @@ piece_taken c s body piece are prepared e =
       joined = id.joined ∙ ap (λ (l : List ℕ). little_bytes 4 c.id ++ l) place.1;
     }
 
-long_data_taken : (c : Conversation) (s : StatementState) (body : List ℕ) (sets : List Set) → AreBytes body → long_data_at c s body ≡ Ok sets → HasPiece c s body × (sets ≡ [])
+long_data_taken : (c : Statement) (s : StatementState) (body : List ℕ) (sets : List Set) → AreBytes body → long_data_at c s body ≡ Ok sets → HasPiece c s body × (sets ≡ [])
 unfolding long_data_at prepared_piece
 long_data_taken c s body sets are e =
     let a = bind_ok (prepared_piece c s body) _ sets e in
     let b = bind_ok (must NotPrepared s.prepared) _ a.0 a.1 in
     (piece_taken c s body a.0 are (must_ok NotPrepared s.prepared b.0 b.1) b.2, cc)
 
-piece_given : (c : Conversation) (place : ℕ) (bytes : List ℕ) → c.id < 2 ^ 32 → place < place_count c.query → place < 2 ^ 16 →
+piece_given : (c : Statement) (place : ℕ) (bytes : List ℕ) → c.id < 2 ^ 32 → place < place_count c.query → place < 2 ^ 16 →
     piece_at c (little_bytes 4 c.id ++ (little_bytes 2 place ++ bytes)) ≡ Ok (record { place = place; bytes = bytes })
 piece_given c place bytes lt known fits =
     rw (id_given c (little_bytes 2 place ++ bytes) lt, little-reads_back 2 place bytes fits, lt-ltb place (place_count c.query) known) refl
 
-long_data_given : (c : Conversation) (s : StatementState) (place : ℕ) (bytes : List ℕ) → IsPrepared c s → place < place_count c.query → place < 2 ^ 16 →
+long_data_given : (c : Statement) (s : StatementState) (place : ℕ) (bytes : List ℕ) → IsPrepared c s → place < place_count c.query → place < 2 ^ 16 →
     long_data_at c s (little_bytes 4 c.id ++ (little_bytes 2 place ++ bytes)) ≡ Ok []
 unfolding long_data_at prepared_piece
 long_data_given c s place bytes is known fits =
@@ -75,7 +75,7 @@ none_left : (rest : List ℕ) → (length rest == 0) ≡ true → rest ≡ []
 none_left [] e = refl
 none_left (b ∷ rest) e = absurd (omega (arith, eqb-true (length (b ∷ rest)) 0 e))
 
-alone_taken : (c : Conversation) (s : StatementState) (body : List ℕ) (sets : List Set) → AreBytes body → statement_alone_at c s body ≡ Ok sets → IsPrepared c s × (body ≡ little_bytes 4 c.id) × (sets ≡ [])
+alone_taken : (c : Statement) (s : StatementState) (body : List ℕ) (sets : List Set) → AreBytes body → statement_alone_at c s body ≡ Ok sets → IsPrepared c s × (body ≡ little_bytes 4 c.id) × (sets ≡ [])
 unfolding statement_alone_at
 alone_taken c s body sets are e =
     let a = bind_ok (must NotPrepared s.prepared) _ sets e in
@@ -87,13 +87,13 @@ alone_taken c s body sets are e =
       cc,
     )
 
-alone_given : (c : Conversation) (s : StatementState) → IsPrepared c s → statement_alone_at c s (little_bytes 4 c.id) ≡ Ok []
+alone_given : (c : Statement) (s : StatementState) → IsPrepared c s → statement_alone_at c s (little_bytes 4 c.id) ≡ Ok []
 unfolding statement_alone_at
 alone_given c s is = let prepared = is.prepared in rw (prepared, id_given c [] is.id) refl
 
 -- ---- each command that is laid out reads, and leaves in force what it says
 
-pub each_reads : QueryLaws → (c : Conversation) (s : StatementState) (payload : List ℕ) (sets : List Set) (behind : StatementState) → IsQuery c.query → IsCommand c s payload sets behind →
+pub each_reads : QueryLaws → (c : Statement) (s : StatementState) (payload : List ℕ) (sets : List Set) (behind : StatementState) → IsQuery c.query → IsCommand c s payload sets behind →
     PayloadReadsAs c s payload sets × (state_after c s (payload ∷ []) ≡ behind)
 each_reads laws c s payload sets behind is (manual.query text {set = set} filled) = ((filled.alone, (set, text_of laws c.query text set is filled, refl)), behind_query c s text)
 each_reads laws c s payload sets behind is (manual.prepare few) =
@@ -117,10 +117,10 @@ each_reads laws c s payload sets behind is (manual.close prepared) = (alone_give
 -- ---- and no other payload
 
 -- the payload is laid out as a command, whatever it leaves in force
-abbrev Laid : Conversation → StatementState → List ℕ → List Set → Type 0
+abbrev Laid : Statement → StatementState → List ℕ → List Set → Type 0
 Laid c s payload sets = (behind : StatementState) × IsCommand c s payload sets behind
 
-module _ (laws : QueryLaws) (c : Conversation) (s : StatementState) (is : IsQuery c.query) where
+module _ (laws : QueryLaws) (c : Statement) (s : StatementState) (is : IsQuery c.query) where
   query_laid : (text : List ℕ) (sets : List Set) → CommandReadsAs c s (command_by (Some COM_QUERY)) text sets → Laid c s (command_number COM_QUERY ∷ text) sets
   query_laid text sets h = subst (λ (xs : List Set). Laid c s (command_number COM_QUERY ∷ text) xs) (sym h.1.2) (s, manual.query text (filled_of laws c.query text h.1.0 is h.0 h.1.1))
 

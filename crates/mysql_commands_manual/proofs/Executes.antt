@@ -15,9 +15,9 @@ use Rattle.mysql_values.specs.Content.TheVariants as content
 use Rattle.mysql_commands.specs.declared.fault.StreamFault.{StreamFault}
 use Rattle.mysql_commands.specs.declared.fault.StreamFault.TheVariants.{NotPrepared, WrongId, BadExecute, NoTypes}
 use Rattle.mysql_commands.specs.declared.param_type.ParamType.{ParamType}
-use Rattle.mysql_commands.specs.Fields.{◌>>◌, must, bytes_at, little_at}
-use Rattle.mysql_commands.specs.Query.{place_count}
-use Rattle.mysql_commands.specs.Layout.{Conversation, Types, ExecuteHead, id_at, types_at, binding_at, execute_head}
+use Rattle.mysql_commands.specs.Fields.{◌>>◌, must, bytes_or, number_or}
+use Rattle.mysql_commands.specs.Query.{Statement, place_count}
+use Rattle.mysql_commands.specs.Layout.{Types, ExecuteHead, id_at, types_at, binding_at, execute_head}
 use Rattle.mysql_commands.specs.InForce.{StatementState}
 use Rattle.mysql_commands.specs.Reading.{Set, types_in_force, parameter_at, set_at, execute_at}
 use Rattle.mysql_commands_manual.specs.Manual.{SideBySide, IsParameter, AreBound, anew, kept, AreParameters, without, with_places, type_bytes, IsPrepared}
@@ -30,11 +30,11 @@ use Rattle.mysql_commands_manual.proofs.Types.{types_taken, types_given}
 -- ---- the statement's id
 
 -- it stands in four bytes
-pub record HasId (c : Conversation) (bytes rest : List ℕ) : Type 0 where
+pub record HasId (c : Statement) (bytes rest : List ℕ) : Type 0 where
   pub fits : c.id < 2 ^ 32
   pub joined : bytes ≡ little_bytes 4 c.id ++ rest
 
-pub id_taken : (c : Conversation) (bytes rest : List ℕ) → AreBytes bytes → id_at c bytes ≡ Ok rest → HasId c bytes rest
+pub id_taken : (c : Statement) (bytes rest : List ℕ) → AreBytes bytes → id_at c bytes ≡ Ok rest → HasId c bytes rest
 id_taken c bytes rest are e =
     let a = number_behind WrongId WrongId 4 (λ n. n == c.id) bytes (λ id. Ok id.1) rest e in
     let taken = little_taken 4 bytes a.0 are a.1 in
@@ -45,7 +45,7 @@ id_taken c bytes rest are e =
       joined = taken.1 ∙ ap (λ (n : ℕ). little_bytes 4 n ++ a.0.1) id ∙ ap (λ (l : List ℕ). little_bytes 4 c.id ++ l) left;
     }
 
-pub id_given : (c : Conversation) (rest : List ℕ) → c.id < 2 ^ 32 → id_at c (little_bytes 4 c.id ++ rest) ≡ Ok rest
+pub id_given : (c : Statement) (rest : List ℕ) → c.id < 2 ^ 32 → id_at c (little_bytes 4 c.id ++ rest) ≡ Ok rest
 id_given c rest lt = rw (little-reads_back 4 c.id rest lt, eq-eqb c.id c.id refl) refl
 
 -- ---- what a place holds
@@ -113,21 +113,21 @@ module _ (pieces : ℕ → Option (List ℕ)) (nulls : List ℕ) where
 -- ---- the head
 
 -- behind the iteration count
-abbrev binding_of : Conversation → List ℕ → Result ExecuteHead StreamFault
+abbrev binding_of : Statement → List ℕ → Result ExecuteHead StreamFault
 binding_of c rest = if place_count c.query == 0 then Ok (record { nulls = []; own = None; cells = rest }) else binding_at (place_count c.query) rest
 
 -- behind the cursor
-abbrev count_behind : Conversation → List ℕ → Result ExecuteHead StreamFault
-count_behind c rest = little_at BadExecute 4 rest >>= λ count. must BadExecute (count.0 == 1) >> binding_of c count.1
+abbrev count_behind : Statement → List ℕ → Result ExecuteHead StreamFault
+count_behind c rest = number_or BadExecute 4 rest >>= λ count. must BadExecute (count.0 == 1) >> binding_of c count.1
 
-record HasFields (c : Conversation) (body : List ℕ) (head : ExecuteHead) : Type 0 where
+record HasFields (c : Statement) (body : List ℕ) (head : ExecuteHead) : Type 0 where
   fits : c.id < 2 ^ 32
   rest : List ℕ
   joined : body ≡ little_bytes 4 c.id ++ (0 ∷ (little_bytes 4 1 ++ rest))
   binding : binding_of c rest ≡ Ok head
   bytes : AreBytes rest
 
-fields_taken : (c : Conversation) (body : List ℕ) (head : ExecuteHead) → AreBytes body → execute_head c body ≡ Ok head → HasFields c body head
+fields_taken : (c : Statement) (body : List ℕ) (head : ExecuteHead) → AreBytes body → execute_head c body ≡ Ok head → HasFields c body head
 unfolding execute_head
 fields_taken c body head are e =
     let a = bind_ok (id_at c body) _ head e in
@@ -145,7 +145,7 @@ fields_taken c body head are e =
       bytes = bytes_behind (little_bytes 4 1) g.0.1 b.0.1 one behind;
     }
 
-fields_given : (c : Conversation) (rest : List ℕ) → c.id < 2 ^ 32 → execute_head c (little_bytes 4 c.id ++ (0 ∷ (little_bytes 4 1 ++ rest))) ≡ binding_of c rest
+fields_given : (c : Statement) (rest : List ℕ) → c.id < 2 ^ 32 → execute_head c (little_bytes 4 c.id ++ (0 ∷ (little_bytes 4 1 ++ rest))) ≡ binding_of c rest
 unfolding execute_head
 fields_given c rest lt =
     bind_from (id_at c (little_bytes 4 c.id ++ (0 ∷ (little_bytes 4 1 ++ rest)))) _ (0 ∷ (little_bytes 4 1 ++ rest)) (binding_of c rest) (id_given c (0 ∷ (little_bytes 4 1 ++ rest)) lt)
@@ -158,23 +158,23 @@ abbrev ok_types : Types → Result Types StreamFault
 ok_types types = Ok types
 
 -- the bitmap, the flag and the types
-record HasBinding (c : Conversation) (rest : List ℕ) (head : ExecuteHead) : Type 0 where
+record HasBinding (c : Statement) (rest : List ℕ) (head : ExecuteHead) : Type 0 where
   bound : List ℕ
   bitmap : length head.nulls ≡ (place_count c.query + 7) / 8
   joined : rest ≡ head.nulls ++ (bound ++ head.cells)
   is : (s : StatementState) (types : Types) → option_or head.own s.types ≡ Some types → AreBound c s bound types
 
 -- behind the flag
-abbrev types_behind : Conversation → List ℕ → ℕ × List ℕ → Result ExecuteHead StreamFault
+abbrev types_behind : Statement → List ℕ → ℕ × List ℕ → Result ExecuteHead StreamFault
 types_behind c nulls bound =
     if bound.0 == 0 then found (record { nulls = nulls; own = None; cells = bound.1 })
     else (types_at BadExecute (place_count c.query) bound.1 >>= λ types. found (record { nulls = nulls; own = Some types.0; cells = types.1 }))
 
-binding_taken : (c : Conversation) (rest : List ℕ) (head : ExecuteHead) → binding_at (place_count c.query) rest ≡ Ok head → HasBinding c rest head
+binding_taken : (c : Statement) (rest : List ℕ) (head : ExecuteHead) → binding_at (place_count c.query) rest ≡ Ok head → HasBinding c rest head
 unfolding binding_at
 binding_taken c rest head e =
     let count : ℕ = place_count c.query in
-    let a = bind_ok (bytes_at BadExecute ((count + 7) / 8) rest) _ head e in
+    let a = bind_ok (bytes_or BadExecute ((count + 7) / 8) rest) _ head e in
     let b = number_behind BadExecute BadExecute 1 (λ n. nat_le n 1) a.0.1 (λ bound. types_behind c a.0.0 bound) head a.2 in
     let nulls = bytes_taken ((count + 7) / 8) rest a.0 (some_is (buffer.bytes_at ((count + 7) / 8) rest) BadExecute a.0 a.1) in
     let flag = byte_taken a.0.1 b.0 b.1 in
@@ -188,14 +188,14 @@ binding_taken c rest head e =
     new c rest head a.0.0 b.0.1 nulls.0 (nulls.1 ∙ ap (λ (l : List ℕ). a.0.0 ++ l) (flag ∙ ap (λ (n : ℕ). n ∷ b.0.1) one)) h)
     b.3
   where
-    old : (c : Conversation) (rest : List ℕ) (head : ExecuteHead) (nulls cells : List ℕ) → length nulls ≡ (place_count c.query + 7) / 8 → rest ≡ nulls ++ (0 ∷ cells) →
+    old : (c : Statement) (rest : List ℕ) (head : ExecuteHead) (nulls cells : List ℕ) → length nulls ≡ (place_count c.query + 7) / 8 → rest ≡ nulls ++ (0 ∷ cells) →
         found (record { nulls = nulls; own = None; cells = cells }) ≡ found head → HasBinding c rest head
     old c rest head nulls cells len joined e =
         let made : ExecuteHead = record { nulls = nulls; own = None; cells = cells } in
         let same : made ≡ head = cc in
         subst (λ (h : ExecuteHead). HasBinding c rest h) same (record { bound = 0 ∷ []; bitmap = len; joined = joined; is = λ s types is. kept types is })
 
-    new : (c : Conversation) (rest : List ℕ) (head : ExecuteHead) (nulls cells : List ℕ) → length nulls ≡ (place_count c.query + 7) / 8 → rest ≡ nulls ++ (1 ∷ cells) →
+    new : (c : Statement) (rest : List ℕ) (head : ExecuteHead) (nulls cells : List ℕ) → length nulls ≡ (place_count c.query + 7) / 8 → rest ≡ nulls ++ (1 ∷ cells) →
         (types_at BadExecute (place_count c.query) cells >>= λ types. Ok (record { nulls = nulls; own = Some types.0; cells = types.1 })) ≡ Ok head → HasBinding c rest head
     new c rest head nulls cells len joined e =
         let a = bind_ok (types_at BadExecute (place_count c.query) cells) _ head e in
@@ -212,15 +212,15 @@ binding_taken c rest head e =
 -- ---- the parameters
 
 -- the types that count, where there are places
-pub counted_types : (c : Conversation) (s : StatementState) (own : Option Types) (types : Types) → (place_count c.query == 0) ≡ false → types_in_force c s own ≡ Ok types → option_or own s.types ≡ Some types
+pub counted_types : (c : Statement) (s : StatementState) (own : Option Types) (types : Types) → (place_count c.query == 0) ≡ false → types_in_force c s own ≡ Ok types → option_or own s.types ≡ Some types
 counted_types c s own types some e =
     some_is (option_or own s.types) NoTypes types (ap (λ (b : Bool). if b then Ok [] else ok_or (option_or own s.types) NoTypes) (sym some) ∙ e)
 
 -- the parameters, with whichever types in force behind them
-abbrev SomeParameters : Conversation → StatementState → List ℕ → Set → Type 0
+abbrev SomeParameters : Statement → StatementState → List ℕ → Set → Type 0
 SomeParameters c s rest set = (types : Option Types) × AreParameters c s rest set types
 
-parameters_taken : (c : Conversation) (s : StatementState) (rest : List ℕ) (head : ExecuteHead) (types : Types) (set : Set) → AreBytes rest →
+parameters_taken : (c : Statement) (s : StatementState) (rest : List ℕ) (head : ExecuteHead) (types : Types) (set : Set) → AreBytes rest →
     binding_of c rest ≡ Ok head → types_in_force c s head.own ≡ Ok types → set_at s.pieces head.nulls 0 types head.cells ≡ Ok set → SomeParameters c s rest set
 unfolding set_at
 parameters_taken c s rest head types set are is_head are_types is_set = by (cases_Bool (place_count c.query == 0))
@@ -259,14 +259,14 @@ parameters_taken c s rest head types set are is_head are_types is_set = by (case
     by (inr there) = some there (binding_taken c rest head (ap (λ (b : Bool). if b then found (record { nulls = []; own = None; cells = rest }) else binding_at (place_count c.query) rest) (sym there) ∙ is_head))
 
 -- what an execute's payload is behind its first byte
-pub record HasParameters (c : Conversation) (s : StatementState) (body : List ℕ) (set : Set) : Type 0 where
+pub record HasParameters (c : Statement) (s : StatementState) (body : List ℕ) (set : Set) : Type 0 where
   pub prepared : IsPrepared c s
   pub parameters : List ℕ
   pub types : Option Types
   pub joined : body ≡ little_bytes 4 c.id ++ (0 ∷ (little_bytes 4 1 ++ parameters))
   pub are : AreParameters c s parameters set types
 
-pub execute_taken : (c : Conversation) (s : StatementState) (body : List ℕ) (set : Set) → AreBytes body → execute_at c s body ≡ Ok set → HasParameters c s body set
+pub execute_taken : (c : Statement) (s : StatementState) (body : List ℕ) (set : Set) → AreBytes body → execute_at c s body ≡ Ok set → HasParameters c s body set
 unfolding execute_at
 execute_taken c s body set are e =
     let a = bind_ok (must NotPrepared s.prepared) _ set e in
@@ -285,12 +285,12 @@ execute_taken c s body set are e =
 -- ---- and back
 
 -- the head that is read where these types count
-record GivesHead (c : Conversation) (s : StatementState) (rest bitmap cells : List ℕ) (types : Types) : Type 0 where
+record GivesHead (c : Statement) (s : StatementState) (rest bitmap cells : List ℕ) (types : Types) : Type 0 where
   own : Option Types
   binding : binding_at (place_count c.query) rest ≡ Ok (record { nulls = bitmap; own = own; cells = cells })
   types_count : option_or own s.types ≡ Some types
 
-bound_given : (c : Conversation) (s : StatementState) (bitmap bound cells : List ℕ) (types : Types) → length bitmap ≡ (place_count c.query + 7) / 8 → AreBound c s bound types → GivesHead c s (bitmap ++ (bound ++ cells)) bitmap cells types
+bound_given : (c : Statement) (s : StatementState) (bitmap bound cells : List ℕ) (types : Types) → length bitmap ≡ (place_count c.query + 7) / 8 → AreBound c s bound types → GivesHead c s (bitmap ++ (bound ++ cells)) bitmap cells types
 unfolding binding_at
 bound_given c s bitmap bound cells types len (anew own are) = record {
   own = Some own;
@@ -304,13 +304,13 @@ bound_given c s bitmap bound cells types len (kept old is) = record {
 }
 
 -- what is read of an execute that is laid out: its set, and its head by which types are in force
-pub record ExecuteReads (c : Conversation) (s : StatementState) (body : List ℕ) (set : Set) (types : Option Types) : Type 0 where
+pub record ExecuteReads (c : Statement) (s : StatementState) (body : List ℕ) (set : Set) (types : Option Types) : Type 0 where
   pub reads : execute_at c s body ≡ Ok set
   pub own : Option Types
   pub head : (nulls : List ℕ) × (cells : List ℕ) × (execute_head c body ≡ Ok (record { nulls = nulls; own = own; cells = cells }))
   pub types_count : option_or own s.types ≡ types
 
-pub execute_given : (c : Conversation) (s : StatementState) (parameters : List ℕ) (set : Set) (types : Option Types) → IsPrepared c s → AreParameters c s parameters set types →
+pub execute_given : (c : Statement) (s : StatementState) (parameters : List ℕ) (set : Set) (types : Option Types) → IsPrepared c s → AreParameters c s parameters set types →
     ExecuteReads c s (little_bytes 4 c.id ++ (0 ∷ (little_bytes 4 1 ++ parameters))) set types
 unfolding execute_at set_at
 execute_given c s parameters set types is (without no_place) =

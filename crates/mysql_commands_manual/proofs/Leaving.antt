@@ -10,9 +10,9 @@ use Rattle.std.proofs.lemmas.Slice.Eq.{bytes_eq-Decides}
 use Rattle.mysql_const.specs.Commands.{command_number}
 use Rattle.mysql_const.specs.declared.command.Command.TheVariants.{COM_QUERY, COM_STMT_PREPARE, COM_STMT_SEND_LONG_DATA, COM_STMT_EXECUTE, COM_STMT_BULK_EXECUTE, COM_STMT_RESET, COM_STMT_CLOSE}
 use Rattle.mysql_commands.specs.declared.fault.StreamFault.{StreamFault}
-use Rattle.mysql_commands.specs.Layout.{Conversation, Types, Piece, ExecuteHead, BulkHead, piece_at, execute_head, bulk_head}
+use Rattle.mysql_commands.specs.Layout.{Types, Piece, ExecuteHead, BulkHead, piece_at, execute_head, bulk_head}
 use Rattle.mysql_commands.specs.InForce.{StatementState, nothing_yet, state_after, joined, execute_types, bulk_types, is_waiting}
-use Rattle.mysql_commands.specs.Query.{place_count}
+use Rattle.mysql_commands.specs.Query.{Statement, place_count}
 use Rattle.mysql_commands_manual.specs.Manual.{freshly_prepared, with_types, with_data, without_data, more_data, NoneWaits}
 
 -- what waited is still what waits
@@ -25,32 +25,32 @@ own_or None kept = refl
 own_or (Some ts) kept = refl
 
 -- without a payload all stays
-pub behind_none : (c : Conversation) (s : StatementState) → state_after c s [] ≡ s
+pub behind_none : (c : Statement) (s : StatementState) → state_after c s [] ≡ s
 behind_none c s = λ i. record { prepared = s.prepared; types = s.types; pieces = λ place. still (s.pieces place) i }
 
-pub behind_query : (c : Conversation) (s : StatementState) (body : List ℕ) → state_after c s ((command_number COM_QUERY ∷ body) ∷ []) ≡ s
+pub behind_query : (c : Statement) (s : StatementState) (body : List ℕ) → state_after c s ((command_number COM_QUERY ∷ body) ∷ []) ≡ s
 behind_query c s body = λ i. record { prepared = s.prepared; types = s.types; pieces = λ place. still (s.pieces place) i }
 
-pub behind_prepare : (c : Conversation) (s : StatementState) (body : List ℕ) → body ≡ c.query.parsed → state_after c s ((command_number COM_STMT_PREPARE ∷ body) ∷ []) ≡ freshly_prepared
+pub behind_prepare : (c : Statement) (s : StatementState) (body : List ℕ) → body ≡ c.query.parsed → state_after c s ((command_number COM_STMT_PREPARE ∷ body) ∷ []) ≡ freshly_prepared
 behind_prepare c s body is =
     let same : bytes_eq body c.query.parsed ≡ true = (bytes_eq-Decides body c.query.parsed).1 is in
     λ i. record { prepared = ap (λ b. unwrap_or (last_or None (cons_option (if b then Some true else None) [])) s.prepared) same i; types = None; pieces = λ place. None }
 
-pub behind_reset : (c : Conversation) (s : StatementState) (body : List ℕ) → state_after c s ((command_number COM_STMT_RESET ∷ body) ∷ []) ≡ without_data s
+pub behind_reset : (c : Statement) (s : StatementState) (body : List ℕ) → state_after c s ((command_number COM_STMT_RESET ∷ body) ∷ []) ≡ without_data s
 behind_reset c s body = refl
 
-pub behind_close : (c : Conversation) (s : StatementState) (body : List ℕ) → state_after c s ((command_number COM_STMT_CLOSE ∷ body) ∷ []) ≡ nothing_yet
+pub behind_close : (c : Statement) (s : StatementState) (body : List ℕ) → state_after c s ((command_number COM_STMT_CLOSE ∷ body) ∷ []) ≡ nothing_yet
 behind_close c s body = refl
 
 -- the payload's own types, else those in force
-pub behind_execute : (c : Conversation) (s : StatementState) (body : List ℕ) (head : ExecuteHead) (types : Option Types) → execute_head c body ≡ Ok head → option_or head.own s.types ≡ types →
+pub behind_execute : (c : Statement) (s : StatementState) (body : List ℕ) (head : ExecuteHead) (types : Option Types) → execute_head c body ≡ Ok head → option_or head.own s.types ≡ types →
     state_after c s ((command_number COM_STMT_EXECUTE ∷ body) ∷ []) ≡ without_data (with_types s types)
 behind_execute c s body head types is count =
     let own : execute_types c body ≡ head.own = ap (λ (r : Result ExecuteHead StreamFault). option_and_then (λ head. head.own) (result_ok r)) is in
     let all = own_or (execute_types c body) s.types ∙ ap (λ (o : Option Types). option_or o s.types) own ∙ count in
     λ i. record { prepared = s.prepared; types = all i; pieces = λ place. None }
 
-pub behind_bulk : (c : Conversation) (s : StatementState) (body : List ℕ) (head : BulkHead) (types : Option Types) → bulk_head c body ≡ Ok head → option_or head.own s.types ≡ types →
+pub behind_bulk : (c : Statement) (s : StatementState) (body : List ℕ) (head : BulkHead) (types : Option Types) → bulk_head c body ≡ Ok head → option_or head.own s.types ≡ types →
     state_after c s ((command_number COM_STMT_BULK_EXECUTE ∷ body) ∷ []) ≡ with_types s types
 behind_bulk c s body head types is count =
     let own : bulk_types c body ≡ head.own = ap (λ (r : Result BulkHead StreamFault). option_and_then (λ head. head.own) (result_ok r)) is in
@@ -72,7 +72,7 @@ one_piece s piece place r e =
     by_test true = data_behind (s.pieces place) piece.bytes
     by_test false = still (s.pieces place)
 
-pub behind_data : (c : Conversation) (s : StatementState) (body : List ℕ) (piece : Piece) → piece_at c body ≡ Ok piece →
+pub behind_data : (c : Statement) (s : StatementState) (body : List ℕ) (piece : Piece) → piece_at c body ≡ Ok piece →
     state_after c s ((command_number COM_STMT_SEND_LONG_DATA ∷ body) ∷ []) ≡ with_data s (more_data s.pieces piece.place piece.bytes)
 behind_data c s body piece e = λ i. record { prepared = s.prepared; types = s.types; pieces = λ place. one_piece s piece place (piece_at c body) e i }
 
@@ -96,8 +96,8 @@ waits_none f a (suc n) e zero below =
 waits_none f a (suc n) e (suc i) below =
     ap (λ (k : ℕ). f k) (omega arith) ∙ waits_none f (a + 1) n (or_parts (is_some (f a)) (list_any (λ place. is_some (f place)) (range_with_len (a + 1) n)) e).1 i (omega (arith, below))
 
-pub is_not_waiting : (c : Conversation) (s : StatementState) → NoneWaits c s → is_waiting c s ≡ false
+pub is_not_waiting : (c : Statement) (s : StatementState) → NoneWaits c s → is_waiting c s ≡ false
 is_not_waiting c s each = any_waits s.pieces 0 (place_count c.query) (λ i below. ap (λ (k : ℕ). s.pieces k) (omega arith) ∙ each i below)
 
-pub none_waits : (c : Conversation) (s : StatementState) → is_waiting c s ≡ false → NoneWaits c s
+pub none_waits : (c : Statement) (s : StatementState) → is_waiting c s ≡ false → NoneWaits c s
 none_waits c s e place below = ap (λ (k : ℕ). s.pieces k) (omega arith) ∙ waits_none s.pieces 0 (place_count c.query) e place below

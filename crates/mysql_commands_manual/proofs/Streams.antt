@@ -15,8 +15,7 @@ use Rattle.mysql_wire.specs.Stream.Rest.{Empty, TooLarge, OutOfSync, Open}
 use Rattle.byteorder.specs.Endian.{little_bytes}
 use Rattle.mysql_commands.specs.declared.audit.End.{End}
 use Rattle.mysql_commands.specs.declared.audit.End.TheVariants.{Fault, WaitingPieces, UnfinishedPacket, Whole}
-use Rattle.mysql_commands.specs.Query.{IsQuery}
-use Rattle.mysql_commands.specs.Layout.{Conversation}
+use Rattle.mysql_commands.specs.Query.{IsQuery, Statement}
 use Rattle.mysql_commands.specs.InForce.{StatementState, nothing_yet, state_after, is_waiting}
 use Rattle.mysql_commands.specs.Reading.{Set, PayloadReadsAs}
 use Rattle.mysql_commands.specs.Laws.{LookingBackGoesOn}
@@ -94,7 +93,7 @@ record EndsWhole (rest : Rest) (waits : Bool) : Type 0 where
   empty : rest ≡ Empty
   no_wait : waits ≡ false
 
-whole_by : (rest : Rest) (count : ℕ) (c : Conversation) (s : StatementState) → IsWhole (end_by_rest c s count rest) → EndsWhole rest (is_waiting c s)
+whole_by : (rest : Rest) (count : ℕ) (c : Statement) (s : StatementState) → IsWhole (end_by_rest c s count rest) → EndsWhole rest (is_waiting c s)
 whole_by rest count c s whole = by rest (is_waiting c s) refl whole
   where
     by : (rest : Rest) (waits : Bool) → is_waiting c s ≡ waits → IsWhole (end_by_rest c s count rest) → EndsWhole rest waits
@@ -108,18 +107,18 @@ whole_by rest count c s whole = by rest (is_waiting c s) refl whole
 -- ---- commands one after another
 
 -- each payload reads by what those before it leave in force
-abbrev EachReads : Conversation → StatementState → List (List ℕ) → List (List Set) → Type 0
+abbrev EachReads : Statement → StatementState → List (List ℕ) → List (List Set) → Type 0
 EachReads c s payloads reads = (i : ℕ) → i < length payloads → PayloadReadsAs c (state_after c s (take i payloads)) (slice_index_or payloads i []) (slice_index_or reads i [])
 
 -- commands, as they read
-record CommandsRead (c : Conversation) (s : StatementState) (payloads : List (List ℕ)) (sets : List Set) (last : StatementState) : Type 0 where
+record CommandsRead (c : Statement) (s : StatementState) (payloads : List (List ℕ)) (sets : List Set) (last : StatementState) : Type 0 where
   reads : List (List Set)
   count : length reads ≡ length payloads
   each : EachReads c s payloads reads
   joined : sets ≡ flat_map (λ sets. sets) reads
   leaves : state_after c s payloads ≡ last
 
-module _ (laws : QueryLaws) (goes_on : LookingBackGoesOn) (c : Conversation) (is : IsQuery c.query) where
+module _ (laws : QueryLaws) (goes_on : LookingBackGoesOn) (c : Statement) (is : IsQuery c.query) where
   commands_read : (s : StatementState) (payloads : List (List ℕ)) (sets : List Set) (last : StatementState) → AreCommands c s payloads sets last → CommandsRead c s payloads sets last
   commands_read s payloads sets last none = record { reads = []; count = refl; each = λ i below. absurd (omega (arith, below)); joined = refl; leaves = behind_none c s }
   commands_read s all sets last (next {between = between} {payload = payload} {payloads = payloads} held more command commands) =
@@ -156,7 +155,7 @@ module _ (laws : QueryLaws) (goes_on : LookingBackGoesOn) (c : Conversation) (is
 
 -- ---- whole streams
 
-module _ (laws : QueryLaws) (goes_on : LookingBackGoesOn) (told : RestsAreTold) (c : Conversation) (limit : ℕ) (is : IsQuery c.query) where
+module _ (laws : QueryLaws) (goes_on : LookingBackGoesOn) (told : RestsAreTold) (c : Statement) (limit : ℕ) (is : IsQuery c.query) where
   pub each_framed : (bytes : List ℕ) (sets : List Set) → IsFramed c limit bytes sets → Audited c limit bytes (record { sets = sets; ending = Whole })
   each_framed bytes sets framed =
       let read = commands_read laws goes_on c is nothing_yet framed.payloads sets framed.last framed.commands in

@@ -6,7 +6,7 @@ use Rattle.std.proofs.lemmas.Bool.{eqb-true, or_cases}
 use Rattle.mysql_commands.specs.declared.fault.StreamFault.{StreamFault}
 use Rattle.mysql_commands.specs.declared.fault.StreamFault.TheVariants.{BadType}
 use Rattle.mysql_commands.specs.declared.param_type.ParamType.{ParamType}
-use Rattle.mysql_commands.specs.Fields.{◌>>◌, must, little_at}
+use Rattle.mysql_commands.specs.Fields.{◌>>◌, must, number_or}
 use Rattle.mysql_wire.specs.Wire.{◌>>=◌}
 use Rattle.mysql_commands.specs.Layout.{Types, is_type, type_at, types_at}
 use Rattle.mysql_commands_manual.specs.Manual.{AreTypes, type_bytes}
@@ -26,7 +26,7 @@ flag_is f test = elim (or_cases (f == 0) (f == 128) test) [
 
 -- behind the type's number
 abbrev flags_behind : StreamFault → ℕ × List ℕ → Result (ParamType × List ℕ) StreamFault
-flags_behind short t = little_at short 1 t.1 >>= λ flags. must BadType (flags.0 == 0 || flags.0 == 128) >> Ok (record { number = t.0; unsigned = flags.0 == 128 }, flags.1)
+flags_behind short t = number_or short 1 t.1 >>= λ flags. must BadType (flags.0 == 0 || flags.0 == 128) >> Ok (record { number = t.0; unsigned = flags.0 == 128 }, flags.1)
 
 type_taken : (short : StreamFault) (bytes : List ℕ) (p : ParamType × List ℕ) → type_at short bytes ≡ Ok p → Taken IsType bytes p
 type_taken short bytes p e =

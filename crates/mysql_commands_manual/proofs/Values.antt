@@ -32,7 +32,7 @@ use Rattle.mysql_commands_manual.proofs.Lengths.{text_taken, text_given, short_t
 
 number_taken : (n : ℕ) (made : ℕ → Value) (bytes : List ℕ) (p : Value × List ℕ) → AreBytes bytes → number_value_at n made bytes ≡ Ok p → Taken (IsNumber n made) bytes p
 number_taken n made bytes p are e =
-    let a = bind_ok (form.little_at n bytes) (λ x. Ok (made x.0, x.1)) p e in
+    let a = bind_ok (form.fixed_number_at n bytes) (λ x. Ok (made x.0, x.1)) p e in
     let taken = little_taken n bytes a.0 are (end_is (buffer.little_at n bytes) a.0 a.1) in
     let same : (made a.0.0, a.0.1) ≡ p = cc in
     taken_as (IsNumber n made) bytes (made a.0.0, a.0.1) p same (record { part = little_bytes n a.0.0; joined = taken.1; is = (a.0.0, taken.0, refl, refl) })

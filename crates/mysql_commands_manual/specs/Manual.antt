@@ -16,8 +16,8 @@ use Rattle.mysql_values.specs.Tokens.{question}
 use Rattle.mysql_wire.specs.Stream.{framings}
 use Rattle.mysql_wire.specs.Stream.Numbering.{EachFromZero}
 use Rattle.mysql_commands.specs.declared.param_type.ParamType.{ParamType}
-use Rattle.mysql_commands.specs.Query.{Query, place_count, all_alone}
-use Rattle.mysql_commands.specs.Layout.{Conversation, Types, is_type}
+use Rattle.mysql_commands.specs.Query.{Query, Statement, all_alone, place_count}
+use Rattle.mysql_commands.specs.Layout.{Types, is_type}
 use Rattle.mysql_commands.specs.InForce.{StatementState, nothing_yet}
 use Rattle.mysql_commands.specs.Reading.{Set}
 use Rattle.mysql_commands_manual.specs.Cells.{IsContent}
@@ -79,13 +79,13 @@ IsParameter None true t cell held = (cell ≡ []) × (held ≡ content.Null)
 IsParameter None false t cell held = IsContent t cell held
 
 -- new_params_bind_flag, and the types that count: behind a 1 the payload's own, behind a 0 those in force
-pub data AreBound (c : Conversation) (s : StatementState) : List ℕ → Types → Type 0 where
+pub data AreBound (c : Statement) (s : StatementState) : List ℕ → Types → Type 0 where
   anew : (types : Types) → AreTypes (place_count c.query) types → AreBound c s (1 ∷ type_bytes types) types
   kept : (types : Types) → s.types ≡ Some types → AreBound c s (0 ∷ []) types
 
 -- The parameters of an execute, and the types in force behind it: no byte where the query has no placeholder; else the null bitmap, the
 -- types, and a cell for each place.
-pub data AreParameters (c : Conversation) (s : StatementState) : List ℕ → Set → Option Types → Type 0 where
+pub data AreParameters (c : Statement) (s : StatementState) : List ℕ → Set → Option Types → Type 0 where
   without : place_count c.query ≡ 0 → AreParameters c s [] [] s.types
   with_places : (bitmap bound : List ℕ) (cells : List (List ℕ)) {types : Types} {set : Set} → 0 < place_count c.query →
       length bitmap ≡ (place_count c.query + 7) / 8 → AreBound c s bound types →
@@ -95,7 +95,7 @@ pub data AreParameters (c : Conversation) (s : StatementState) : List ℕ → Se
 -- COM_STMT_BULK_EXECUTE
 
 -- bulk_flags, 128 for types that are sent and 64 for results of each row, and the types that count
-pub data AreBulkBound (c : Conversation) (s : StatementState) : List ℕ → Types → Type 0 where
+pub data AreBulkBound (c : Statement) (s : StatementState) : List ℕ → Types → Type 0 where
   anew : (results : Bool) (types : Types) → AreTypes (place_count c.query) types →
       AreBulkBound c s (little_bytes 2 (if results then 192 else 128) ++ type_bytes types) types
   kept : (results : Bool) (types : Types) → s.types ≡ Some types → AreBulkBound c s (little_bytes 2 (if results then 64 else 0)) types
@@ -115,12 +115,12 @@ pub record IsRow (types : Types) (row : List ℕ) (set : Set) : Type 0 where
 -- WHAT IS IN FORCE
 
 -- the statement is prepared, and its id has four bytes
-pub record IsPrepared (c : Conversation) (s : StatementState) : Type 0 where
+pub record IsPrepared (c : Statement) (s : StatementState) : Type 0 where
   pub prepared : s.prepared ≡ true
   pub id : c.id < 2 ^ 32
 
 -- no data waits for any place
-abbrev pub NoneWaits : Conversation → StatementState → Type 0
+abbrev pub NoneWaits : Statement → StatementState → Type 0
 NoneWaits c s = (place : ℕ) → place < place_count c.query → s.pieces place ≡ None
 
 -- behind a prepare: no types, and no data that waits
@@ -146,7 +146,7 @@ more_data pieces place bytes other = if place == other then Some (unwrap_or (pie
 
 -- A command by what is in force before it, the sets that it carries, and what is in force behind it. But for a query and a prepare, it
 -- names the prepared statement, by its id in four bytes.
-pub data IsCommand (c : Conversation) (s : StatementState) : List ℕ → List Set → StatementState → Type 0 where
+pub data IsCommand (c : Statement) (s : StatementState) : List ℕ → List Set → StatementState → Type 0 where
   -- COM_QUERY: the text
   query : (text : List ℕ) {set : Set} → IsFilled c.query text set → IsCommand c s (command_number COM_QUERY ∷ text) (set ∷ []) s
   -- COM_STMT_PREPARE: the query with a question mark for each placeholder, of which there are at most 65535
@@ -169,14 +169,14 @@ pub data IsCommand (c : Conversation) (s : StatementState) : List ℕ → List S
   close : IsPrepared c s → IsCommand c s (command_number COM_STMT_CLOSE ∷ little_bytes 4 c.id) [] nothing_yet
 
 -- Commands one after another, the sets that they carry, and what is in force behind the last.
-pub data AreCommands (c : Conversation) : StatementState → List (List ℕ) → List Set → StatementState → Type 0 where
+pub data AreCommands (c : Statement) : StatementState → List (List ℕ) → List Set → StatementState → Type 0 where
   none : {s : StatementState} → AreCommands c s [] [] s
   next : {s between last : StatementState} {payload : List ℕ} {payloads : List (List ℕ)} (sets more : List Set) →
       IsCommand c s payload sets between → AreCommands c between payloads more last →
       AreCommands c s (payload ∷ payloads) (sets ++ more) last
 
 -- A whole stream: the framings of commands one after another, fewer than 2^64 and each within the limit, and no data waits at the end.
-pub record IsFramed (c : Conversation) (limit : ℕ) (bytes : List ℕ) (sets : List Set) : Type 0 where
+pub record IsFramed (c : Statement) (limit : ℕ) (bytes : List ℕ) (sets : List Set) : Type 0 where
   pub payloads : List (List ℕ)
   pub last : StatementState
   pub commands : AreCommands c nothing_yet payloads sets last

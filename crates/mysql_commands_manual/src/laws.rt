@@ -7,7 +7,7 @@ use mysql_const::laws::names_are_read_back;
 use mysql_values::laws::{one_reading, pieces_of_a_query, tokens_of_a_text};
 use mysql_wire::laws::reader_laws;
 
-/// In a conversation about a query, a payload reads as these sets by what is in force exactly where the manual lays it
+/// Of a statement of a query, a payload reads as these sets by what is in force exactly where the manual lays it
 /// out as a command that carries them; and what it leaves in force is what that command does.
 ///
 /// Follows the MySQL Client/Server Protocol, "Command Phase", and MariaDB's "COM_STMT_BULK_EXECUTE".

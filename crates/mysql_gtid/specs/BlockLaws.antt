@@ -10,8 +10,8 @@ use Rattle.byteorder.specs.Endian.{little_bytes, little_number}
 use Rattle.mysql_buf.specs.FirstBytes.{first-enough, first-short}
 use Rattle.mysql_buf.specs.Reading.{first}
 use Rattle.mysql_buf.specs.Writing.{front}
-use Rattle.mysql_raw.specs.Forms.{little_at}
-use Rattle.mysql_raw.specs.Laws.{little_at-back, ok_same, size_is, bytes-back}
+use Rattle.mysql_raw.specs.Forms.{fixed_number_at}
+use Rattle.mysql_raw.specs.Laws.{fixed_number_at-back, ok_same, size_is, bytes-back}
 use Rattle.mysql_raw.specs.Wire.{IsSized, Reading, or_end, ◌>>=◌}
 use Rattle.mysql_raw.specs.WireError.TheVariants.{UnexpectedEof}
 use Rattle.mysql_raw_bytes.specs.TextLaws.{varlen_text_at-back}
@@ -74,7 +74,7 @@ pub interval_at-back : (interval : GnoInterval) (rest : List ℕ) → IsInterval
 unfolding interval_at interval_bytes
 interval_at-back interval rest h =
     let later = little_bytes 8 interval.end ++ rest in
-    rw (little_at-back 8 interval.start later h.start, little_at-back 8 interval.end rest h.end) refl
+    rw (fixed_number_at-back 8 interval.start later h.start, fixed_number_at-back 8 interval.end rest h.end) refl
 
 short_text : (a b u : Bool) (x y : InvalidTag) (r : Option InvalidTag) → is_none (cond a (Some x) (cond b (Some y) r)) && u ≡ true → (b ≡ false) × (a ≡ false)
 short_text true b u x y r e = absurd (true≢false (sym e))
@@ -111,11 +111,11 @@ tag_at-back true None rest h k = rw (text-back [] rest (omega arith)) refl
 tag_at-back true (Some text) rest h k = rw (text-back text rest (tag_is_short text h), named-back text h) refl
 
 counted-back : (intervals : List GnoInterval) (rest : List ℕ) → length intervals < 2 ^ 64 → AllByRecursion IsInterval intervals
-    → counted_at (little_at 8) interval_at ((little_bytes 8 (length intervals) ++ flat_map interval_bytes intervals) ++ rest) ≡ Ok (intervals, rest)
+    → counted_at (fixed_number_at 8) interval_at ((little_bytes 8 (length intervals) ++ flat_map interval_bytes intervals) ++ rest) ≡ Ok (intervals, rest)
 counted-back intervals rest few h =
     let all : take (length intervals) intervals ≡ intervals = take-length intervals in
-    rw all at (counted_numbers_at-back IsInterval interval_bytes interval_at interval_at-back (little_bytes 8) (little_at 8) (length intervals) intervals rest
-    (λ n after small is. little_at-back 8 n after (omega arith)) (rw all h))
+    rw all at (counted_numbers_at-back IsInterval interval_bytes interval_at interval_at-back (little_bytes 8) (fixed_number_at 8) (length intervals) intervals rest
+    (λ n after small is. fixed_number_at-back 8 n after (omega arith)) (rw all h))
 
 pub sid_at-back : (tagged : Bool) (sid : SidParts) (rest : List ℕ) → IsSid sid → Keeps tagged sid.tag → sid_at tagged (sid_bytes tagged sid ++ rest) ≡ Ok (sid, rest)
 unfolding sid_at sid_bytes
@@ -191,7 +191,7 @@ says false count few =
     record { small = omega arith; tag = tag; sets = rw tag sets }
 
 -- a block behind its number
-behind_number : (front sets : List ℕ) (number : ℕ) (tagged : Bool) (count : ℕ) → little_at 8 (front ++ sets) ≡ Ok (number, sets) → Says tagged count number
+behind_number : (front sets : List ℕ) (number : ℕ) (tagged : Bool) (count : ℕ) → fixed_number_at 8 (front ++ sets) ≡ Ok (number, sets) → Says tagged count number
     → block_at (front ++ sets) ≡ elements_at (sid_at tagged) count sets
 unfolding block_at
 behind_number front sets number tagged count h s = rw (h, s.sets, s.tag) refl
@@ -207,6 +207,6 @@ block_at-back sids rest h =
     let front = says tagged count short in
     let all = all_kept tagged sids refl h.sets in
     ap block_at (append_assoc (little_bytes 8 number) sets rest)
-    ∙ behind_number (little_bytes 8 number) (sets ++ rest) number tagged count (little_at-back 8 number (sets ++ rest) front.small) front
+    ∙ behind_number (little_bytes 8 number) (sets ++ rest) number tagged count (fixed_number_at-back 8 number (sets ++ rest) front.small) front
     ∙ elements_at-back (λ sid after. IsSid sid × Keeps tagged sid.tag) (sid_bytes tagged) (sid_at tagged) (λ sid. sid) (λ sid after k. sid_at-back tagged sid after k.0 k.1) sids rest all
     ∙ ap (λ (all : List SidParts). Ok (all, rest)) (map-id sids)

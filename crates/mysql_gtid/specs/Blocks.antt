@@ -5,7 +5,7 @@ use Rattle.std.specs.Prelude.{◌≡◌, ℕ, ◌+◌, ◌*◌, ◌/◌, ◌%◌
 use Rattle.std.specs.List.{AllByRecursion, flat_map, list_any}
 use Rattle.std.specs.Str.{is_utf8}
 use Rattle.byteorder.specs.Endian.{little_bytes}
-use Rattle.mysql_raw.specs.Forms.{bytes_at, little_at}
+use Rattle.mysql_raw.specs.Forms.{bytes_at, fixed_number_at}
 use Rattle.mysql_raw.specs.Wire.{Reading, ◌>>=◌}
 use Rattle.mysql_raw.specs.WireError.{WireError}
 use Rattle.mysql_raw.specs.WireError.TheVariants.{UnknownValue}
@@ -21,8 +21,8 @@ interval_bytes interval = little_bytes 8 interval.start ++ little_bytes 8 interv
 
 unfoldable pub interval_at : List ℕ → Reading GnoInterval
 interval_at bytes = do
-  start ← little_at 8 bytes
-  end ← little_at 8 start.1
+  start ← fixed_number_at 8 bytes
+  end ← fixed_number_at 8 start.1
   Ok (record { start = start.0; end = end.0 }, end.1)
 
 -- These bytes are a tag's text.
@@ -54,7 +54,7 @@ unfoldable pub sid_at : Bool → List ℕ → Reading SidParts
 sid_at tagged bytes = do
   uuid ← bytes_at 16 bytes
   tag ← tag_at tagged uuid.1
-  intervals ← counted_at (little_at 8) interval_at tag.1
+  intervals ← counted_at (fixed_number_at 8) interval_at tag.1
   Ok (record { uuid = uuid.0; tag = tag.0; intervals = intervals.0 }, intervals.1)
 
 -- A block is tagged where one of its sets has a tag.
@@ -77,7 +77,7 @@ block_bytes sids = little_bytes 8 (block_number (any_tag sids) (length sids)) ++
 
 unfoldable pub block_at : List ℕ → Reading (List SidParts)
 block_at bytes = do
-  number ← little_at 8 bytes
+  number ← fixed_number_at 8 bytes
   elements_at (sid_at (says_tagged number.0)) (count_said number.0) number.1
 
 -- An interval of numbers below 2^64, as each is.

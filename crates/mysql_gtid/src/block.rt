@@ -3,7 +3,7 @@
 ghost use Rattle.std.specs.Prelude.{◌≡◌, ◌^◌, ◌-◌, ◌<◌, ◌≤◌, List, None, Option, Some, [], false, length, map, min, unwrap_or, ℕ};
 ghost use Rattle.std.specs.Cow.{cow_slice_items};
 ghost use Rattle.std.specs.List.{flat_map};
-ghost use Rattle.mysql_raw.specs.Forms.{bytes_at, little_at};
+ghost use Rattle.mysql_raw.specs.Forms.{bytes_at, fixed_number_at};
 ghost use Rattle.mysql_raw.specs.Laws.{unsized};
 ghost use Rattle.mysql_raw.specs.Wire.{Appends, GivesPart, TellsPart};
 ghost use Rattle.mysql_raw_bytes.specs.Texts.{varlen_text_at};
@@ -172,7 +172,7 @@ fn tag_from<'de>(tagged: bool, rest: &mut ParseBuf<'de>) -> Result<Option<Tag<'d
 // Intervals after their count; the list grows as they come.
 #[tactic(auto, unfolding(mysql_raw_lists::specs::Lists::counted_at))]
 fn intervals_from(alloc: Global, rest: &mut ParseBuf) -> Result<Vec<GnoInterval>, WireError>
-    ensures { GivesPart (λ intervals. intervals.items) rest.new.0.now result (counted_at (little_at 8) interval_at rest.old.0.now) }
+    ensures { GivesPart (λ intervals. intervals.items) rest.new.0.now result (counted_at (fixed_number_at 8) interval_at rest.old.0.now) }
 {
     let count: RawInt<LeU64> = rest.parse(alloc, ())?;
     some_intervals(alloc, count.0, rest)

@@ -10,7 +10,7 @@ use Rattle.mysql_auth.specs.Plugins.{without_zero}
 use Rattle.mysql_buf.specs.Writing.{front}
 use Rattle.mysql_const.specs.MariadbCapabilities.{mariadb_capabilities}
 use Rattle.mysql_handshake.specs.Capabilities.{plugin_auth, secure_connection}
-use Rattle.mysql_raw.specs.Forms.{bytes_at, little_at, upper_half, upper_half_at}
+use Rattle.mysql_raw.specs.Forms.{bytes_at, fixed_number_at, upper_half, upper_half_at}
 use Rattle.mysql_raw.specs.Wire.{Reading, ◌>>=◌}
 use Rattle.mysql_raw_bytes.specs.Texts.{bare_at, fixed_text, null_text, null_text_at}
 use Rattle.mysql_raw_consts.specs.Constants.{named_at, skipped_at}
@@ -91,22 +91,22 @@ handshake p = concat (
 -- refused.
 unfoldable pub flags_at : List ℕ → Reading (ℕ × ℕ × ℕ)
 flags_at bytes = do
-  low ← little_at 2 bytes
-  collation ← little_at 1 low.1
-  status ← named_at status_named (little_at 2) collation.1
+  low ← fixed_number_at 2 bytes
+  collation ← fixed_number_at 1 low.1
+  status ← named_at status_named (fixed_number_at 2) collation.1
   high ← upper_half_at status.1
   Ok ((bit_or low.0 high.0, collation.0, status.0.0), high.1)
 
 -- the fields of fixed length in their order; of MariaDB's own capabilities, bits without a name are dropped
 unfoldable pub fixed_at : List ℕ → Reading FixedFields
 fixed_at bytes = do
-  id ← little_at 4 bytes
+  id ← fixed_number_at 4 bytes
   scramble ← bytes_at 8 id.1
   filler ← skipped_at 1 scramble.1
   flags ← flags_at filler.1
-  len ← little_at 1 flags.1
+  len ← fixed_number_at 1 flags.1
   reserved ← skipped_at 6 len.1
-  mariadb ← little_at 4 reserved.1
+  mariadb ← fixed_number_at 4 reserved.1
   Ok (
     record {
       connection_id = id.0;
@@ -142,7 +142,7 @@ name_at capabilities bytes = if contains capabilities plugin_auth then Ok (Some 
 -- a version byte, the server's version to a zero, the fields of fixed length, the second scramble and the plugin's name
 unfoldable pub handshake_at : List ℕ → Reading HandshakeFields
 handshake_at bytes = do
-  protocol ← little_at 1 bytes
+  protocol ← fixed_number_at 1 bytes
   server ← null_text_at protocol.1
   fixed ← block_at server.1
   scramble ← scramble_at fixed.0.capabilities fixed.0.data_length fixed.1

@@ -8,7 +8,7 @@ use Rattle.byteorder.specs.Endian.{little_bytes}
 use Rattle.bitflags.specs.Sets.{known_bits}
 use Rattle.mysql_const.specs.CapabilityFlags.{capability_flags}
 use Rattle.mysql_const.specs.MariadbCapabilities.{mariadb_capabilities}
-use Rattle.mysql_raw.specs.Forms.{little_at}
+use Rattle.mysql_raw.specs.Forms.{fixed_number_at}
 use Rattle.mysql_raw.specs.Wire.{Reading, from_block, ◌>>=◌}
 use Rattle.mysql_raw_consts.specs.Constants.{skipped_at}
 
@@ -36,11 +36,11 @@ ssl_request p = concat (
 -- the fields that stand first; bits without a name are dropped
 unfoldable pub ssl_fields_at : List ℕ → Reading SslRequestFields
 ssl_fields_at bytes = do
-  capabilities ← little_at 4 bytes
-  size ← little_at 4 capabilities.1
-  set ← little_at 1 size.1
+  capabilities ← fixed_number_at 4 bytes
+  size ← fixed_number_at 4 capabilities.1
+  set ← fixed_number_at 1 size.1
   filler ← skipped_at 19 set.1
-  mariadb ← little_at 4 filler.1
+  mariadb ← fixed_number_at 4 filler.1
   Ok (
     record {
       capabilities = bit_and capabilities.0 capability_bits;

@@ -8,7 +8,7 @@ use Rattle.mysql_auth.specs.Plugins.{Plugin}
 use Rattle.mysql_buf.specs.Writing.{u8_str}
 use Rattle.mysql_const.specs.Commands.{command_number}
 use Rattle.mysql_const.specs.declared.command.Command.TheVariants.{COM_CHANGE_USER}
-use Rattle.mysql_raw.specs.Forms.{little_at}
+use Rattle.mysql_raw.specs.Forms.{fixed_number_at}
 use Rattle.mysql_raw.specs.Wire.{Reading, ◌>>=◌}
 use Rattle.mysql_raw_bytes.specs.Texts.{null_text, null_text_at, u8_text_at}
 use Rattle.mysql_raw_consts.specs.Constants.{constant_at}
@@ -35,7 +35,7 @@ more_data p = concat (little_bytes 2 p.character_set ∷ if_held plugin_text p.p
 -- the fields that stand first; the capabilities say which of the last two do
 unfoldable pub more_data_at : ℕ → List ℕ → Reading MoreFields
 more_data_at capabilities bytes = do
-  set ← little_at 2 bytes
+  set ← fixed_number_at 2 bytes
   plugin ← if_there (contains capabilities plugin_auth) plugin_before_zero_at set.1
   attributes ← if_there (contains capabilities connect_attrs) attributes_at plugin.1
   Ok (record { character_set = set.0; plugin = plugin.0; attributes = attributes.0 }, attributes.1)

@@ -8,8 +8,8 @@ use Rattle.mysql_buf.specs.Varlen.{varlen_at}
 use Rattle.mysql_raw.specs.Wire.{Reading, or_end, ◌>>=◌}
 
 -- a number of n bytes, lowest first
-abbrev pub little_at : ℕ → List ℕ → Reading ℕ
-little_at n bytes = or_end (buffer.little_at n bytes)
+abbrev pub fixed_number_at : ℕ → List ℕ → Reading ℕ
+fixed_number_at n bytes = or_end (buffer.little_at n bytes)
 
 -- a signed number of n bytes, lowest first
 abbrev pub signed_at : ℕ → List ℕ → Reading ℤ
@@ -32,7 +32,7 @@ abbrev pub raised : ℕ × List ℕ → Reading ℕ
 raised p = Ok (p.0 * 2 ^ 16, p.1)
 
 abbrev pub upper_half_at : List ℕ → Reading ℕ
-upper_half_at bytes = little_at 2 bytes >>= raised
+upper_half_at bytes = fixed_number_at 2 bytes >>= raised
 
 -- n bytes as they stand
 abbrev pub bytes_at : ℕ → List ℕ → Reading (List ℕ)

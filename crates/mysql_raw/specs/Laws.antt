@@ -13,7 +13,7 @@ use Rattle.mysql_buf.specs.TextLaws.{lenenc_int-reads_back}
 use Rattle.mysql_buf.specs.VarlenLaws.{varlen-reads_back}
 use Rattle.mysql_buf.specs.Varlen.{varlen}
 use Rattle.mysql_buf.specs.Writing.{lenenc_int}
-use Rattle.mysql_raw.specs.Forms.{bytes_at, lenenc_number_at, little_at, raised, signed_at, upper_half, upper_half_at, varlen_number_at}
+use Rattle.mysql_raw.specs.Forms.{bytes_at, lenenc_number_at, fixed_number_at, raised, signed_at, upper_half, upper_half_at, varlen_number_at}
 use Rattle.mysql_raw.specs.Wire.{Answers, Gives, IsSized, Reading, from_block, or_end, ◌>>=◌}
 use Rattle.mysql_error.specs.declared.error.WireError.{WireError}
 use Rattle.mysql_error.specs.declared.error.WireError.TheVariants.{UnexpectedEof}
@@ -49,8 +49,8 @@ first-sized n value = record {
   eaten = λ m bytes rest x e h. let same = size_is m n e in eats n value bytes rest x h ∙ ap (λ (k : ℕ). drop k bytes) same;
 }
 
-pub little_at-sized : (n : ℕ) → IsSized (Some n) (little_at n)
-little_at-sized n = first-sized n (little_number n)
+pub fixed_number_at-sized : (n : ℕ) → IsSized (Some n) (fixed_number_at n)
+fixed_number_at-sized n = first-sized n (little_number n)
 
 pub signed_at-sized : (n : ℕ) → IsSized (Some n) (signed_at n)
 signed_at-sized n = first-sized n (λ b. twos_complement n (little_number n b))
@@ -115,7 +115,7 @@ raised_rest : (x y : ℕ × List ℕ) → raised x ≡ Ok y → y.1 ≡ x.1
 raised_rest x y e = sym (ap (λ (z : ℕ × List ℕ). z.1) (ok_same (x.0 * 2 ^ 16, x.1) y e))
 
 pub upper_half_at-sized : IsSized (Some 2) upper_half_at
-upper_half_at-sized = sized-then (Some 2) (little_at 2) raised (little_at-sized 2) raised_rest
+upper_half_at-sized = sized-then (Some 2) (fixed_number_at 2) raised (fixed_number_at-sized 2) raised_rest
 
 -- the slice of a text's length is the text
 pub bytes-back : (n : ℕ) (text rest : List ℕ) → n ≡ length text → buffer.bytes_at n (text ++ rest) ≡ Some (text, rest)
@@ -128,8 +128,8 @@ gives false view old new (Ok x) reading h = h
 gives false view old new (Err e) reading h = (λ _. h.0, h.1)
 
 -- a number that was written is read again, whatever follows
-pub little_at-back : (n x : ℕ) (rest : List ℕ) → x < 256 ^ n → little_at n (little_bytes n x ++ rest) ≡ Ok (x, rest)
-little_at-back n x rest h = ap or_end (little-reads_back n x rest h)
+pub fixed_number_at-back : (n x : ℕ) (rest : List ℕ) → x < 256 ^ n → fixed_number_at n (little_bytes n x ++ rest) ≡ Ok (x, rest)
+fixed_number_at-back n x rest h = ap or_end (little-reads_back n x rest h)
 
 pub signed_at-back : (w : Width) (n : ℕ) (z : ℤ) (rest : List ℕ) → 1 ≤ n → n ≤ byte_len w → FitsBytes n z → signed_at n (little_bytes n (cast_unsigned w z) ++ rest) ≡ Ok (z, rest)
 signed_at-back w n z rest low high fits = ap or_end (little-signed-reads_back w n z rest low high fits)
@@ -162,7 +162,7 @@ varlen_number_at-back n rest h = ap or_end (varlen-reads_back n rest h)
 pub upper_half_at-back : (n : ℕ) (rest : List ℕ) → (n < 2 ^ 32) × (n % 2 ^ 16 ≡ 0) → upper_half_at (upper_half n ++ rest) ≡ Ok (n, rest)
 upper_half_at-back n rest h =
     let whole : n / 2 ^ 16 * 2 ^ 16 ≡ n = omega (arith, h.1) in
-    rw (little_at-back 2 (n / 2 ^ 16) rest (omega (arith, h.0))) (ap (λ (k : ℕ). Ok (k, rest)) whole)
+    rw (fixed_number_at-back 2 (n / 2 ^ 16) rest (omega (arith, h.0))) (ap (λ (k : ℕ). Ok (k, rest)) whole)
 
 pub bytes_at-back : (n : ℕ) (bytes rest : List ℕ) → length bytes ≡ n → bytes_at n (bytes ++ rest) ≡ Ok (bytes, rest)
 bytes_at-back n bytes rest len = ap or_end (bytes-back n bytes rest (sym len))

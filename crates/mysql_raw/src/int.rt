@@ -6,8 +6,8 @@ ghost use Rattle.byteorder.specs.Endian.{little_bytes};
 ghost use Rattle.mysql_buf.specs.Laws.{FitsBytes};
 ghost use Rattle.mysql_buf.specs.Varlen.{varlen};
 ghost use Rattle.mysql_buf.specs.Writing.{lenenc_int};
-ghost use Rattle.mysql_raw.specs.Forms.{lenenc_number_at, little_at, signed_at, upper_half, upper_half_at, varlen_number_at};
-ghost use Rattle.mysql_raw.specs.Laws.{lenenc_number_at-back, little_at-back, little_at-sized, signed_16-back, signed_24-back, signed_32-back, signed_56-back, signed_64-back, signed_8-back, signed_at-sized, unsized, upper_half_at-back, upper_half_at-sized, varlen_number_at-back};
+ghost use Rattle.mysql_raw.specs.Forms.{lenenc_number_at, fixed_number_at, signed_at, upper_half, upper_half_at, varlen_number_at};
+ghost use Rattle.mysql_raw.specs.Laws.{lenenc_number_at-back, fixed_number_at-back, fixed_number_at-sized, signed_16-back, signed_24-back, signed_32-back, signed_56-back, signed_64-back, signed_8-back, signed_at-sized, unsized, upper_half_at-back, upper_half_at-sized, varlen_number_at-back};
 ghost use Rattle.mysql_raw.specs.Wire.{Appends, IsSized, Reading, Suffices, Tells};
 
 use crate::io::{MyDeserialize, MySerialize, Readable, ReadsBack};
@@ -145,11 +145,11 @@ impl IntRepr for u8 {
 
     ghost written = { little_bytes 1 };
 
-    ghost read_at = { little_at 1 };
+    ghost read_at = { fixed_number_at 1 };
 
-    ghost sized = { little_at-sized 1 };
+    ghost sized = { fixed_number_at-sized 1 };
 
-    ghost reads_back = { little_at-back 1 };
+    ghost reads_back = { fixed_number_at-back 1 };
 
     fn serialize(number: u8, buf: &mut Vec<u8>) -> Result<(), AllocError> {
         buf.put_u8(number)
@@ -202,11 +202,11 @@ impl IntRepr for LeU16 {
 
     ghost written = { little_bytes 2 };
 
-    ghost read_at = { little_at 2 };
+    ghost read_at = { fixed_number_at 2 };
 
-    ghost sized = { little_at-sized 2 };
+    ghost sized = { fixed_number_at-sized 2 };
 
-    ghost reads_back = { little_at-back 2 };
+    ghost reads_back = { fixed_number_at-back 2 };
 
     fn serialize(number: u16, buf: &mut Vec<u8>) -> Result<(), AllocError> {
         buf.put_u16_le(number)
@@ -262,11 +262,11 @@ impl IntRepr for LeU24 {
 
     ghost written = { little_bytes 3 };
 
-    ghost read_at = { little_at 3 };
+    ghost read_at = { fixed_number_at 3 };
 
-    ghost sized = { little_at-sized 3 };
+    ghost sized = { fixed_number_at-sized 3 };
 
-    ghost reads_back = { little_at-back 3 };
+    ghost reads_back = { fixed_number_at-back 3 };
 
     fn serialize(number: u32, buf: &mut Vec<u8>) -> Result<(), AllocError> {
         buf.put_u24_le(number)
@@ -322,11 +322,11 @@ impl IntRepr for LeU32 {
 
     ghost written = { little_bytes 4 };
 
-    ghost read_at = { little_at 4 };
+    ghost read_at = { fixed_number_at 4 };
 
-    ghost sized = { little_at-sized 4 };
+    ghost sized = { fixed_number_at-sized 4 };
 
-    ghost reads_back = { little_at-back 4 };
+    ghost reads_back = { fixed_number_at-back 4 };
 
     fn serialize(number: u32, buf: &mut Vec<u8>) -> Result<(), AllocError> {
         buf.put_u32_le(number)
@@ -382,11 +382,11 @@ impl IntRepr for LeU48 {
 
     ghost written = { little_bytes 6 };
 
-    ghost read_at = { little_at 6 };
+    ghost read_at = { fixed_number_at 6 };
 
-    ghost sized = { little_at-sized 6 };
+    ghost sized = { fixed_number_at-sized 6 };
 
-    ghost reads_back = { little_at-back 6 };
+    ghost reads_back = { fixed_number_at-back 6 };
 
     fn serialize(number: u64, buf: &mut Vec<u8>) -> Result<(), AllocError> {
         buf.put_u48_le(number)
@@ -412,11 +412,11 @@ impl IntRepr for LeU56 {
 
     ghost written = { little_bytes 7 };
 
-    ghost read_at = { little_at 7 };
+    ghost read_at = { fixed_number_at 7 };
 
-    ghost sized = { little_at-sized 7 };
+    ghost sized = { fixed_number_at-sized 7 };
 
-    ghost reads_back = { little_at-back 7 };
+    ghost reads_back = { fixed_number_at-back 7 };
 
     fn serialize(number: u64, buf: &mut Vec<u8>) -> Result<(), AllocError> {
         buf.put_u56_le(number)
@@ -472,11 +472,11 @@ impl IntRepr for LeU64 {
 
     ghost written = { little_bytes 8 };
 
-    ghost read_at = { little_at 8 };
+    ghost read_at = { fixed_number_at 8 };
 
-    ghost sized = { little_at-sized 8 };
+    ghost sized = { fixed_number_at-sized 8 };
 
-    ghost reads_back = { little_at-back 8 };
+    ghost reads_back = { fixed_number_at-back 8 };
 
     fn serialize(number: u64, buf: &mut Vec<u8>) -> Result<(), AllocError> {
         buf.put_u64_le(number)
@@ -532,11 +532,11 @@ impl IntRepr for LeU32LowerHalf {
 
     ghost written = { little_bytes 2 };
 
-    ghost read_at = { little_at 2 };
+    ghost read_at = { fixed_number_at 2 };
 
-    ghost sized = { little_at-sized 2 };
+    ghost sized = { fixed_number_at-sized 2 };
 
-    ghost reads_back = { little_at-back 2 };
+    ghost reads_back = { fixed_number_at-back 2 };
 
     fn serialize(number: u32, buf: &mut Vec<u8>) -> Result<(), AllocError> {
         buf.put_u16_le((number & 0xffff) as u16)

@@ -4,8 +4,8 @@ use Rattle.std.proofs.lemmas.List.{length-replicate}
 use Rattle.std.specs.Str.{bytes_eq}
 use Rattle.byteorder.specs.Endian.{little_bytes}
 use Rattle.mysql_raw_consts.specs.Constants.{constant_at, ignored, is_constant, is_text, named_at, or_unknown, text_constant_at, skipped_at}
-use Rattle.mysql_raw.specs.Forms.{bytes_at, little_at}
-use Rattle.mysql_raw.specs.Laws.{done, first-sized, little_at-back, little_at-sized, ok_same, sized-then, bytes-back}
+use Rattle.mysql_raw.specs.Forms.{bytes_at, fixed_number_at}
+use Rattle.mysql_raw.specs.Laws.{done, first-sized, fixed_number_at-back, fixed_number_at-sized, ok_same, sized-then, bytes-back}
 use Rattle.mysql_raw.specs.Wire.{IsSized, Reading, or_end}
 use Rattle.mysql_raw.specs.WireError.TheVariants.{BadConstant}
 
@@ -16,10 +16,10 @@ constant_rest n x y e = go (x.0 == n) e where
   go false e = absurd cc
 
 pub constant_at-sized : (size n : ℕ) → IsSized (Some size) (constant_at size n)
-constant_at-sized size n = sized-then (Some size) (little_at size) (is_constant n) (little_at-sized size) (constant_rest n)
+constant_at-sized size n = sized-then (Some size) (fixed_number_at size) (is_constant n) (fixed_number_at-sized size) (constant_rest n)
 
 pub constant_at-back : (size n : ℕ) (rest : List ℕ) → n < 256 ^ size → constant_at size n (little_bytes size n ++ rest) ≡ Ok (n, rest)
-constant_at-back size n rest h = rw (little_at-back size n rest h, eq-eqb n n refl) refl
+constant_at-back size n rest h = rw (fixed_number_at-back size n rest h, eq-eqb n n refl) refl
 
 ignored_rest : (x : List ℕ × List ℕ) (y : Unit {0} × List ℕ) → ignored x ≡ Ok y → y.1 ≡ x.1
 ignored_rest x y e = sym (ap (λ (z : Unit {0} × List ℕ). z.1) (ok_same (tt, x.1) y e))

@@ -3,7 +3,7 @@
 -- A reading takes bytes from the front: x.0 is what was read and x.1 the bytes left; the first refusal counts.
 use Rattle.std.specs.Prelude.{◌==◌, ℕ, if◌then◌else◌, List, Option, Some, None, Result, Ok, Err}
 use Rattle.std.specs.Str.{bytes_eq}
-use Rattle.mysql_raw.specs.Forms.{bytes_at, little_at}
+use Rattle.mysql_raw.specs.Forms.{bytes_at, fixed_number_at}
 use Rattle.mysql_raw.specs.Wire.{Reading, ◌>>=◌}
 use Rattle.mysql_raw.specs.WireError.{WireError}
 use Rattle.mysql_raw.specs.WireError.TheVariants.{BadConstant, UnknownValue}
@@ -14,7 +14,7 @@ is_constant n x = if x.0 == n then Ok x else Err BadConstant
 
 -- a constant of so many bytes
 abbrev pub constant_at : ℕ → ℕ → List ℕ → Reading ℕ
-constant_at size n bytes = little_at size bytes >>= is_constant n
+constant_at size n bytes = fixed_number_at size bytes >>= is_constant n
 
 -- bytes of any value
 abbrev pub ignored : List ℕ × List ℕ → Reading (Unit {0})

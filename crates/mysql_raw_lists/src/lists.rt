@@ -6,8 +6,8 @@ ghost use Rattle.std.specs.Cow.{IsOwnedSlice, cow_slice_items};
 ghost use Rattle.std.specs.List.{AllByRecursion, AllZip, flat_map};
 ghost use Rattle.byteorder.specs.Endian.{little_bytes};
 ghost use Rattle.mysql_buf.specs.Writing.{lenenc_int};
-ghost use Rattle.mysql_raw.specs.Forms.{lenenc_number_at, little_at};
-ghost use Rattle.mysql_raw.specs.Laws.{lenenc_number_at-back, little_at-back, unsized};
+ghost use Rattle.mysql_raw.specs.Forms.{lenenc_number_at, fixed_number_at};
+ghost use Rattle.mysql_raw.specs.Laws.{lenenc_number_at-back, fixed_number_at-back, unsized};
 ghost use Rattle.mysql_raw_lists.specs.Lists.{IsCopied, IsGrown, counted_at, elements_at};
 ghost use Rattle.mysql_raw_lists.specs.ListLaws.{counted, counted_at-back};
 ghost use Rattle.mysql_raw.specs.Wire.{Appends, GivesPart, IsSized, Reading, Suffices, Tells};
@@ -90,11 +90,11 @@ impl SeqRepr for u8 {
 
     ghost written = { little_bytes 1 };
 
-    ghost read_at = { λ _ bytes. little_at 1 bytes };
+    ghost read_at = { λ _ bytes. fixed_number_at 1 bytes };
 
     ghost IsReadBack = { λ _ count. count < 2 ^ 8 };
 
-    ghost reads_back = { λ _ count rest _ h. little_at-back 1 count rest h };
+    ghost reads_back = { λ _ count rest _ h. fixed_number_at-back 1 count rest h };
 
     fn serialize_count(count: usize, buf: &mut Vec<u8>) -> Result<(), AllocError> {
         buf.put_u8(count as u8)
@@ -118,11 +118,11 @@ impl SeqRepr for LeU16 {
 
     ghost written = { little_bytes 2 };
 
-    ghost read_at = { λ _ bytes. little_at 2 bytes };
+    ghost read_at = { λ _ bytes. fixed_number_at 2 bytes };
 
     ghost IsReadBack = { λ _ count. count < 2 ^ 16 };
 
-    ghost reads_back = { λ _ count rest _ h. little_at-back 2 count rest h };
+    ghost reads_back = { λ _ count rest _ h. fixed_number_at-back 2 count rest h };
 
     fn serialize_count(count: usize, buf: &mut Vec<u8>) -> Result<(), AllocError> {
         buf.put_u16_le(count as u16)
@@ -146,11 +146,11 @@ impl SeqRepr for LeU32 {
 
     ghost written = { little_bytes 4 };
 
-    ghost read_at = { λ _ bytes. little_at 4 bytes };
+    ghost read_at = { λ _ bytes. fixed_number_at 4 bytes };
 
     ghost IsReadBack = { λ _ count. count < 2 ^ 32 };
 
-    ghost reads_back = { λ _ count rest _ h. little_at-back 4 count rest h };
+    ghost reads_back = { λ _ count rest _ h. fixed_number_at-back 4 count rest h };
 
     fn serialize_count(count: usize, buf: &mut Vec<u8>) -> Result<(), AllocError> {
         buf.put_u32_le(count as u32)
@@ -174,11 +174,11 @@ impl SeqRepr for LeU64 {
 
     ghost written = { little_bytes 8 };
 
-    ghost read_at = { λ _ bytes. little_at 8 bytes };
+    ghost read_at = { λ _ bytes. fixed_number_at 8 bytes };
 
     ghost IsReadBack = { λ _ count. count < 2 ^ 64 };
 
-    ghost reads_back = { λ _ count rest _ h. little_at-back 8 count rest h };
+    ghost reads_back = { λ _ count rest _ h. fixed_number_at-back 8 count rest h };
 
     fn serialize_count(count: usize, buf: &mut Vec<u8>) -> Result<(), AllocError> {
         buf.put_u64_le(count as u64)

@@ -5,10 +5,9 @@ use Rattle.mysql_wire.specs.Bytes.{AreBytes}
 use Rattle.mysql_values.specs.Laws.{OneTokens}
 use Rattle.mysql_values.specs.Queries.{places_from}
 use Rattle.mysql_values.specs.Tokens.{HasTokens}
-use Rattle.mysql_commands.specs.Audit.{IsAbout, Read}
+use Rattle.mysql_commands.specs.Audit.{Read}
 use Rattle.mysql_commands.specs.InForce.{StatementState, nothing_yet, state_after}
-use Rattle.mysql_commands.specs.Layout.{Conversation}
-use Rattle.mysql_commands.specs.Query.{place_count}
+use Rattle.mysql_commands.specs.Query.{Statement, place_count, statement_of}
 use Rattle.mysql_commands.specs.Reading.{Set}
 use Rattle.mysql_streams.specs.declared.refusal.Refusal.TheVariants as refusals
 use Rattle.mysql_recoding.specs.Laws.{CarriedSetsFillPlaces, FillsPlaces}
@@ -39,7 +38,7 @@ all_mapped P Q (x ∷ xs) f h = (f x h.0, all_mapped P Q xs f h.1)
 
 -- ---- payloads
 
-reads_carried : (c : Conversation) (s : StatementState) (first : ℕ) (payloads : List (List ℕ)) (reads : List (List Set)) → CountsPlaces c → IsInForce c s → AllByRecursion AreBytes payloads
+reads_carried : (c : Statement) (s : StatementState) (first : ℕ) (payloads : List (List ℕ)) (reads : List (List Set)) → CountsPlaces c → IsInForce c s → AllByRecursion AreBytes payloads
     → Read c s first payloads reads → AllByRecursion (Fills (place_count c.query)) (flat_map (λ sets. sets) reads)
 reads_carried c s first payloads reads counts is h read = all_joined (Fills (place_count c.query)) reads (λ i l.
     let within = read.within in
@@ -48,23 +47,19 @@ reads_carried c s first payloads reads counts is h read = all_joined (Fills (pla
 
 -- ---- streams
 
-counts_places : OneTokens → (c : Conversation) (query : List ℕ) (id : ℕ) → IsAbout c query id → CountsPlaces c
-counts_places one c query id about tokens has =
-    let places = about.is_query.places in
-    ap (λ ts. length (places_from c.query.text 0 ts)) (one c.query.text tokens places.0 has places.1) ∙ ap length (sym places.2)
+counts_places : OneTokens → (query : List ℕ) (tokens : List (List ℕ)) (id : ℕ) → HasTokens query tokens → CountsPlaces (statement_of query tokens id)
+counts_places one query tokens id has others also = ap (λ ts. length (places_from query 0 ts)) (one query others tokens also has)
 
 pub carried_sets_fill : OneTokens → CarriedSetsFillPlaces
 carried_sets_fill one query tokens id limit stream audit has bytes says =
-    let c : Conversation = says.0 in
-    let counts : CountsPlaces c = counts_places one c query id says.1 in
+    let c : Statement = statement_of query says.0 id in
+    let counts : CountsPlaces c = counts_places one query says.0 id says.1 in
     let payloads = payloads_are_bytes limit stream says.2.0 says.2.1 bytes in
     let reads = reads_carried c nothing_yet 0 says.2.0.payloads says.2.2.reads counts (nothing_in_force c) payloads says.2.2.each in
-    let text : c.query.text ≡ query = says.1.text in
-    let places : place_count c.query ≡ length (places_from query 0 tokens) =
-    sym (counts tokens (subst (λ (t : List ℕ). HasTokens t tokens) (sym text) has)) ∙ ap (λ (t : List ℕ). length (places_from t 0 tokens)) text in
+    let places : place_count c.query ≡ length (places_from query 0 tokens) = sym (counts tokens has) in
     all_mapped (Fills (place_count c.query)) (FillsPlaces (places_from query 0 tokens)) audit.sets (λ set fills. record {
       count = fills.0 ∙ places;
       each = fills.1;
-      right = λ limit number. values_are_right (refusals.WrongCount number) (λ place. refusals.Float number place) (length (places_from query 0 tokens)) set (fills.0 ∙ places);
+      right = λ number. values_are_right (refusals.WrongCount number) (λ place. refusals.Float number place) (length (places_from query 0 tokens)) set (fills.0 ∙ places);
     })
     (subst (AllByRecursion (Fills (place_count c.query))) (sym says.2.2.sets) reads)

@@ -27,7 +27,7 @@ use Rattle.mysql_values.specs.Values.{clock_text, content_of, date_text, day_tex
 use Rattle.mysql_commands.specs.declared.fault.StreamFault.{StreamFault}
 use Rattle.mysql_commands.specs.declared.fault.StreamFault.TheVariants.{BadBulk, Float, Indicator}
 use Rattle.mysql_commands.specs.declared.param_type.ParamType.{ParamType}
-use Rattle.mysql_commands.specs.Fields.{little_at, must}
+use Rattle.mysql_commands.specs.Fields.{number_or, must}
 use Rattle.mysql_commands.specs.Reading.{column_at, content_at, or_cell_fault}
 use Rattle.mysql_recoding.specs.Laws.{IsCarried}
 use Rattle.mysql_recoding.proofs.ByteLists.{ascii_bytes, bytes_append, bytes_cons, bytes_drop, bytes_if, bytes_replicate, bytes_tail, bytes_take, no_bytes, one_byte}
@@ -157,7 +157,7 @@ time_held held h = (
 
 number_held : (n : ℕ) (made : ℕ → Value) (bytes : List ℕ) (p : Value × List ℕ) → AreBytes bytes → ((x : ℕ) → x < 256 ^ n → IsHeld (made x)) → number_value_at n made bytes ≡ Ok p → Leaves IsHeld p
 number_held n made bytes p h each e =
-    let a = bind_ok (form.little_at n bytes) (λ x. Ok (made x.0, x.1)) p e in
+    let a = bind_ok (form.fixed_number_at n bytes) (λ x. Ok (made x.0, x.1)) p e in
     let b = number_leaves n bytes a.0 h (end_is (buffer.little_at n bytes) a.0 a.1) in
     leaves {F = WireError} IsHeld (made a.0.0) a.0.1 p (each a.0.0 b.0) b.1 a.2
 
@@ -256,7 +256,7 @@ content_carried short t bytes p h e =
 
 pub column_carried : (t : ParamType) (bytes : List ℕ) (p : Content × List ℕ) → AreBytes bytes → column_at t bytes ≡ Ok p → Leaves IsCarried p
 column_carried t bytes p h e =
-    let a = bind_ok (little_at BadBulk 1 bytes) (λ indicator. must Indicator (nat_le indicator.0 1) >>= λ _. if indicator.0 == 1 then Ok (content.Null, indicator.1) else content_at BadBulk t indicator.1) p e in
+    let a = bind_ok (number_or BadBulk 1 bytes) (λ indicator. must Indicator (nat_le indicator.0 1) >>= λ _. if indicator.0 == 1 then Ok (content.Null, indicator.1) else content_at BadBulk t indicator.1) p e in
     let b = bind_ok (must Indicator (nat_le a.0.0 1)) (λ _. if a.0.0 == 1 then Ok (content.Null, a.0.1) else content_at BadBulk t a.0.1) p a.2 in
     let rest = (number_leaves 1 bytes a.0 h (some_is (buffer.little_at 1 bytes) BadBulk a.0 a.1)).1 in
     by (a.0.0 == 1) a.0.1 rest b.2

@@ -14,8 +14,8 @@ use Rattle.mysql_commands.specs.declared.fault.StreamFault.{StreamFault}
 use Rattle.mysql_commands.specs.declared.fault.StreamFault.TheVariants.{BadBulk, BadExecute, NoRows, NoTypes, NotPrepared, PiecesBeforeBulk, WrongId}
 use Rattle.mysql_commands.specs.declared.param_type.ParamType.{ParamType}
 use Rattle.mysql_commands.specs.Fields.{must}
-use Rattle.mysql_commands.specs.Query.{place_count}
-use Rattle.mysql_commands.specs.Layout.{BulkHead, Command, Conversation, Types, bulk_head, command_of, execute_head, id_at}
+use Rattle.mysql_commands.specs.Query.{Statement, place_count}
+use Rattle.mysql_commands.specs.Layout.{BulkHead, Command, Types, bulk_head, command_of, execute_head, id_at}
 use Rattle.mysql_commands.specs.Layout as layout
 use Rattle.mysql_commands.specs.InForce.{StatementState, is_waiting}
 use Rattle.mysql_commands.specs.Reading.{BulkReadsAs, CommandReadsAs, PayloadReadsAs, RowsAt, Set, TextReadsAs, bulk_rows, column_at, columns_at, execute_at, long_data_at, parameter_at, prepared_piece, row_at, set_at, statement_alone_at, types_in_force}
@@ -53,7 +53,7 @@ set_carried pieces nulls place (t ∷ types) bytes set held h e =
     subst (Fills (length (t ∷ types))) (ok_same {F = StreamFault} (a.0.0 ∷ b.0) set b.2) (ap (λ n. suc n) others.0, (first.0, others.1))
 
 -- the types that count are as many as the placeholders
-types_counted : (c : Conversation) (s : StatementState) (own : Option Types) (types : Types) → OwnCount (place_count c.query) own → IsInForce c s → types_in_force c s own ≡ Ok types → HasCount (place_count c.query) types
+types_counted : (c : Statement) (s : StatementState) (own : Option Types) (types : Types) → OwnCount (place_count c.query) own → IsInForce c s → types_in_force c s own ≡ Ok types → HasCount (place_count c.query) types
 types_counted c s own types counts is e = by (place_count c.query == 0) refl e
   where
     either : (o : Option Types) → OwnCount (place_count c.query) o → option_or o s.types ≡ Some types → HasCount (place_count c.query) types
@@ -64,7 +64,7 @@ types_counted c s own types counts is e = by (place_count c.query == 0) refl e
     by true zero_places f = subst (HasCount (place_count c.query)) (ok_same {F = StreamFault} [] types f) (sym (eqb-true (place_count c.query) 0 zero_places))
     by false some_places f = either own counts (some_is (option_or own s.types) NoTypes types f)
 
-execute_carried : (c : Conversation) (s : StatementState) (body : List ℕ) (set : Set) → IsInForce c s → AreBytes body → execute_at c s body ≡ Ok set → Fills (place_count c.query) set
+execute_carried : (c : Statement) (s : StatementState) (body : List ℕ) (set : Set) → IsInForce c s → AreBytes body → execute_at c s body ≡ Ok set → Fills (place_count c.query) set
 unfolding execute_at
 execute_carried c s body set is h e =
     let a = bind_ok (must NotPrepared s.prepared) (λ _. execute_head c body >>= λ head. types_in_force c s head.own >>= λ types. set_at s.pieces head.nulls 0 types head.cells) set e in
@@ -97,7 +97,7 @@ rows_carried types bytes (set ∷ sets) left h rows =
     (first.0, rows_carried types rows.0 sets left first.1 rows.2)
 
 -- what stands before the rows says a type for each placeholder, and the rows are bytes
-bulk_leaves : (c : Conversation) (s : StatementState) (body : List ℕ) (p : Types × List ℕ) → IsInForce c s → AreBytes body → bulk_rows c s body ≡ Ok p → Leaves (HasCount (place_count c.query)) p
+bulk_leaves : (c : Statement) (s : StatementState) (body : List ℕ) (p : Types × List ℕ) → IsInForce c s → AreBytes body → bulk_rows c s body ≡ Ok p → Leaves (HasCount (place_count c.query)) p
 unfolding bulk_rows
 bulk_leaves c s body p is h e =
     let a = bind_ok (must NotPrepared s.prepared) (λ _. must PiecesBeforeBulk (not (is_waiting c s)) >>= λ _. must BadBulk (nat_lt 0 (place_count c.query)) >>= λ _. headed) p e in
@@ -115,18 +115,18 @@ bulk_leaves c s body p is h e =
     headed : Result (Types × List ℕ) StreamFault
     headed = bulk_head c body >>= λ head. after_head head
 
-bulk_carried : (c : Conversation) (s : StatementState) (body : List ℕ) (sets : List Set) → IsInForce c s → AreBytes body → BulkReadsAs c s body sets → AllByRecursion (Fills (place_count c.query)) sets
+bulk_carried : (c : Statement) (s : StatementState) (body : List ℕ) (sets : List Set) → IsInForce c s → AreBytes body → BulkReadsAs c s body sets → AllByRecursion (Fills (place_count c.query)) sets
 bulk_carried c s body sets is h reads =
     let before = bulk_leaves c s body (reads.types, reads.bytes) is h reads.found in
     subst (λ (n : ℕ). AllByRecursion (Fills n) sets) before.0 (rows_carried reads.types reads.bytes sets [] before.1 reads.rows)
 
 -- ---- commands without sets
 
-data_without_sets : (c : Conversation) (s : StatementState) (body : List ℕ) (sets : List Set) → long_data_at c s body ≡ Ok sets → AllByRecursion (Fills (place_count c.query)) sets
+data_without_sets : (c : Statement) (s : StatementState) (body : List ℕ) (sets : List Set) → long_data_at c s body ≡ Ok sets → AllByRecursion (Fills (place_count c.query)) sets
 unfolding long_data_at
 data_without_sets c s body sets e = no_sets (place_count c.query) sets (bind_ok (prepared_piece c s body) (λ piece. Ok []) sets e).2
 
-alone_without_sets : (c : Conversation) (s : StatementState) (body : List ℕ) (sets : List Set) → statement_alone_at c s body ≡ Ok sets → AllByRecursion (Fills (place_count c.query)) sets
+alone_without_sets : (c : Statement) (s : StatementState) (body : List ℕ) (sets : List Set) → statement_alone_at c s body ≡ Ok sets → AllByRecursion (Fills (place_count c.query)) sets
 unfolding statement_alone_at
 alone_without_sets c s body sets e =
     let a = bind_ok (must NotPrepared s.prepared) (λ _. id_at c body >>= λ rest. must WrongId (length rest == 0) >>= λ _. Ok []) sets e in
@@ -136,10 +136,10 @@ alone_without_sets c s body sets e =
 -- ---- a text
 
 -- the placeholders are as many by any tokens of the query
-abbrev pub CountsPlaces : Conversation → Type 0
+abbrev pub CountsPlaces : Statement → Type 0
 CountsPlaces c = (tokens : List (List ℕ)) → HasTokens c.query.text tokens → length (places_from c.query.text 0 tokens) ≡ place_count c.query
 
-contents_carried : (c : Conversation) (body : List ℕ) (contents : Set) → CountsPlaces c → AreBytes body → TextReadsAs c.query.text body contents → Fills (place_count c.query) contents
+contents_carried : (c : Statement) (body : List ℕ) (contents : Set) → CountsPlaces c → AreBytes body → TextReadsAs c.query.text body contents → Fills (place_count c.query) contents
 contents_carried c body contents counts h reads =
     let slices = reads.0 in
     let carried = text_carried (pieces_of slices.tokens) contents body h slices.alternates in
@@ -149,7 +149,7 @@ contents_carried c body contents counts h reads =
 
 -- ---- payloads
 
-command_carried : (c : Conversation) (s : StatementState) (k : Command) (body : List ℕ) (sets : List Set) → CountsPlaces c → IsInForce c s → AreBytes body → CommandReadsAs c s k body sets → AllByRecursion (Fills (place_count c.query)) sets
+command_carried : (c : Statement) (s : StatementState) (k : Command) (body : List ℕ) (sets : List Set) → CountsPlaces c → IsInForce c s → AreBytes body → CommandReadsAs c s k body sets → AllByRecursion (Fills (place_count c.query)) sets
 command_carried c s layout.Text body sets counts is h reads =
     subst (AllByRecursion (Fills (place_count c.query))) (sym reads.1.2) (contents_carried c body reads.1.0 counts h reads.1.1, tt)
 command_carried c s layout.Prepare body sets counts is h reads = subst (AllByRecursion (Fills (place_count c.query))) (sym reads.2) tt
@@ -161,6 +161,6 @@ command_carried c s layout.Reset body sets counts is h reads = alone_without_set
 command_carried c s layout.Close body sets counts is h reads = alone_without_sets c s body sets reads
 command_carried c s layout.Other body sets counts is h reads = elim reads [ ]
 
-pub payload_carried : (c : Conversation) (s : StatementState) (payload : List ℕ) (sets : List Set) → CountsPlaces c → IsInForce c s → AreBytes payload → PayloadReadsAs c s payload sets → AllByRecursion (Fills (place_count c.query)) sets
+pub payload_carried : (c : Statement) (s : StatementState) (payload : List ℕ) (sets : List Set) → CountsPlaces c → IsInForce c s → AreBytes payload → PayloadReadsAs c s payload sets → AllByRecursion (Fills (place_count c.query)) sets
 payload_carried c s [] sets counts is h reads = elim reads [ ]
 payload_carried c s (b ∷ body) sets counts is h reads = command_carried c s (command_of b) body sets counts is (bytes_tail b body h) reads

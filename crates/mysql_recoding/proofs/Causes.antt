@@ -11,12 +11,12 @@ use Rattle.mysql_bulk_builder.specs.Causes.{first_some}
 use Rattle.mysql_commands.specs.Audit.{Audit}
 use Rattle.mysql_commands.specs.declared.audit.End.{End}
 use Rattle.mysql_commands.specs.declared.audit.End.TheVariants.{Fault, UnfinishedPacket, WaitingPieces, Whole}
+use Rattle.mysql_commands.specs.Query.{Statement, place_count}
 use Rattle.mysql_streams.specs.declared.refusal.Refusal.{Refusal}
 use Rattle.mysql_streams.specs.declared.refusal.Refusal.TheVariants as refusals
 use Rattle.mysql_streams.specs.declared.road.Road.TheVariants.{Execute}
-use Rattle.mysql_streams.specs.Cause.{Limits, cause_if, cause_of, first_of_sets, max_places, query_cause, set_cause}
+use Rattle.mysql_streams.specs.Cause.{cause_if, cause_of, first_of_sets, max_places, query_cause, set_cause}
 use Rattle.mysql_streams.specs.Commands.{prepare_command}
-use Rattle.mysql_streams.specs.Sent.{Statement, parsed_of}
 use Rattle.mysql_recoding.specs.declared.errors.RecodeError.TheVariants as errors
 use Rattle.mysql_recoding.specs.Causes.{ending_cause, error_for, recoding_cause, values_of_sets}
 
@@ -46,12 +46,12 @@ pub whole_cause : (statement : Statement) (limit : ℕ) (audit : Audit) → audi
     → recoding_cause statement limit audit ≡ option_map error_for (cause_of Execute statement limit (map Ok (values_of_sets audit.sets)))
 whole_cause statement limit audit whole =
     ap (λ ending. first_some (
-    (if is_mixed statement.places then Some errors.Mixed else None)
+    (if is_mixed statement.query.places then Some errors.Mixed else None)
     ∷ ending_cause ending
     ∷ option_map error_for (cause_of Execute statement limit (map Ok (values_of_sets audit.sets))) ∷ [])) whole
-    ∙ mixed_first (is_mixed statement.places) (cause_if (nat_lt max_places (length statement.places)) refusals.TooManyPlaces)
-    (cause_if (nat_lt (limit - 4) (length (prepare_command (parsed_of statement.tokens)))) refusals.PrepareTooLarge)
-    (first_of_sets (set_cause (λ values. execute_command statement.id values false) (record { places = length statement.places; bytes = limit - 4 })) 0 (map Ok (values_of_sets audit.sets)))
+    ∙ mixed_first (is_mixed statement.query.places) (cause_if (nat_lt max_places (place_count statement.query)) refusals.TooManyPlaces)
+    (cause_if (nat_lt (limit - 4) (length (prepare_command statement.query.parsed))) refusals.PrepareTooLarge)
+    (first_of_sets (set_cause (λ values. execute_command statement.id values false) (place_count statement.query) (limit - 4)) 0 (map Ok (values_of_sets audit.sets)))
 
 pub is_whole : (ending : End) → ending_cause ending ≡ None → ending ≡ Whole
 is_whole (Fault payload fault) none = cc
@@ -67,7 +67,7 @@ no_error (Some refusal) none = absurd (cc)
 pub recodable : (statement : Statement) (limit : ℕ) (audit : Audit) → recoding_cause statement limit audit ≡ None
     → (audit.ending ≡ Whole) × (cause_of Execute statement limit (map Ok (values_of_sets audit.sets)) ≡ None)
 recodable statement limit audit none =
-    let mixed = neither (if is_mixed statement.places then Some errors.Mixed else None) _ none in
+    let mixed = neither (if is_mixed statement.query.places then Some errors.Mixed else None) _ none in
     let ending = neither (ending_cause audit.ending) _ mixed.1 in
     let whole : audit.ending ≡ Whole = is_whole audit.ending ending.0 in
     (whole, no_error _ (sym (whole_cause statement limit audit whole) ∙ none))
@@ -96,15 +96,11 @@ none_where_tests_fail : (counted large : Bool) (float : Option ℕ) (number : �
     → option_or (if counted then option_map (λ place. refusals.Float number place) float else Some (refusals.WrongCount number)) (cause_if large (refusals.PacketTooLarge number)) ≡ None
 none_where_tests_fail counted large float number is_counted no_float not_large = rw (is_counted, no_float, not_large) refl
 
--- what a set has to meet: so many values, and so many bytes
-abbrev limits : ℕ → ℕ → Limits
-limits places room = record { places = places; bytes = room }
-
 abbrev one_cause : ℕ → ℕ → ℕ → ℕ → List Value → Option Refusal
-one_cause id places room number values = set_cause (λ values. execute_command id values false) (limits places room) number (Ok values)
+one_cause id places room number values = set_cause (λ values. execute_command id values false) places room number (Ok values)
 
 abbrev causes : ℕ → ℕ → ℕ → ℕ → List (List Value) → Option Refusal
-causes id places room number sets = first_of_sets (set_cause (λ values. execute_command id values false) (limits places room)) number (map Ok sets)
+causes id places room number sets = first_of_sets (set_cause (λ values. execute_command id values false) places room) number (map Ok sets)
 
 each_free : (id places room number : ℕ) (sets : List (List Value)) → causes id places room number sets ≡ None → AllByRecursion (IsFree id places room) sets
 each_free id places room number [] none = tt
@@ -122,14 +118,14 @@ none_of_free id places room number (values ∷ sets) each =
 
 -- what can be sent: nothing speaks against the query, nor against a set
 pub free_of_causes : (statement : Statement) (limit : ℕ) (sets : List (List Value)) → cause_of Execute statement limit (map Ok sets) ≡ None
-    → (query_cause Execute statement (limit - 4) ≡ None) × AllByRecursion (IsFree statement.id (length statement.places) (limit - 4)) sets
+    → (query_cause Execute statement (limit - 4) ≡ None) × AllByRecursion (IsFree statement.id (place_count statement.query) (limit - 4)) sets
 free_of_causes statement limit sets none =
     let query = neither (query_cause Execute statement (limit - 4)) _ none in
-    let others = neither (causes statement.id (length statement.places) (limit - 4) 0 sets) _ query.1 in
-    (query.0, each_free statement.id (length statement.places) (limit - 4) 0 sets others.0)
+    let others = neither (causes statement.id (place_count statement.query) (limit - 4) 0 sets) _ query.1 in
+    (query.0, each_free statement.id (place_count statement.query) (limit - 4) 0 sets others.0)
 
 pub no_cause_of_free : (statement : Statement) (limit : ℕ) (sets : List (List Value)) → query_cause Execute statement (limit - 4) ≡ None
-    → AllByRecursion (IsFree statement.id (length statement.places) (limit - 4)) sets → cause_of Execute statement limit (map Ok sets) ≡ None
+    → AllByRecursion (IsFree statement.id (place_count statement.query) (limit - 4)) sets → cause_of Execute statement limit (map Ok sets) ≡ None
 no_cause_of_free statement limit sets query each =
-    ap (λ cause. option_or cause (option_or (causes statement.id (length statement.places) (limit - 4) 0 sets) None)) query
-    ∙ ap (λ cause. option_or cause None) (none_of_free statement.id (length statement.places) (limit - 4) 0 sets each)
+    ap (λ cause. option_or cause (option_or (causes statement.id (place_count statement.query) (limit - 4) 0 sets) None)) query
+    ∙ ap (λ cause. option_or cause None) (none_of_free statement.id (place_count statement.query) (limit - 4) 0 sets each)

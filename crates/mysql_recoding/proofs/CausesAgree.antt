@@ -5,14 +5,13 @@ use Rattle.std.specs.Option.{option_map, option_or}
 use Rattle.mysql_wire.specs.Bytes.{AreBytes}
 use Rattle.mysql_values.specs.Queries.{is_mixed}
 use Rattle.mysql_bulk_builder.specs.Causes.{first_some}
-use Rattle.mysql_commands.specs.Audit.{Audit, IsAbout}
+use Rattle.mysql_commands.specs.Audit.{Audit}
 use Rattle.mysql_commands.specs.Laws.{StreamHasOneAudit}
+use Rattle.mysql_commands.specs.Query.{Statement, statement_of}
 use Rattle.mysql_streams.specs.declared.refusal.Refusal.{Refusal}
 use Rattle.mysql_streams.specs.declared.road.Road.TheVariants.{Execute}
-use Rattle.mysql_streams.specs.Laws.{OneConversation}
 use Rattle.mysql_streams.specs.Cause.{cause_of, query_cause}
 use Rattle.mysql_values.specs.Laws.{OneTokens}
-use Rattle.mysql_streams.specs.Sent.{Statement, statement_of}
 use Rattle.mysql_recoding.specs.declared.errors.RecodeError.{RecodeError}
 use Rattle.mysql_recoding.specs.declared.errors.RecodeError.TheVariants as errors
 use Rattle.mysql_recoding.specs.AsItComes.{CausesAgree, IsCauseAsItComes, RefusesQuery, cause_as_it_comes}
@@ -20,8 +19,7 @@ use Rattle.mysql_recoding.specs.Recoding.{Recodes}
 use Rattle.mysql_recoding.specs.Causes.{ending_cause, error_for, recoding_cause, values_of_sets}
 use Rattle.mysql_recoding.proofs.Causes.{is_whole, neither, no_cause, no_error, or_none, recodable, whole_cause}
 use Rattle.mysql_recoding.proofs.OneRecoding.{one_audit}
-use Rattle.mysql_recoding.proofs.QueryCauses.{not_mixed}
-use Rattle.mysql_recoding.proofs.Recodings.{conversation_of, is_about}
+use Rattle.mysql_recoding.proofs.QueryCauses.{not_mixed, query_is}
 
 -- the cause against sending the sets of a stream
 abbrev pub sets_refused : Statement → ℕ → Audit → Option Refusal
@@ -37,7 +35,7 @@ by_ending statement limit audit none = ap (λ (c : Option Refusal). first_some (
 
 pub recoding_by_ending : (statement : Statement) (limit : ℕ) (audit : Audit) → sets_refused statement limit audit ≡ None → recoding_cause statement limit audit ≡ ending_cause audit.ending
 recoding_by_ending statement limit audit none =
-    ap (λ (c : Option Refusal). first_some ((if is_mixed statement.places then Some errors.Mixed else None) ∷ ending_cause audit.ending ∷ option_map error_for c ∷ [])) none
+    ap (λ (c : Option Refusal). first_some ((if is_mixed statement.query.places then Some errors.Mixed else None) ∷ ending_cause audit.ending ∷ option_map error_for c ∷ [])) none
     ∙ ap (λ mixed. first_some ((if mixed then Some errors.Mixed else None) ∷ ending_cause audit.ending ∷ None ∷ [])) (not_mixed statement (limit - 4) (query_free statement limit audit none))
     ∙ or_none (ending_cause audit.ending)
 
@@ -69,24 +67,23 @@ pub query_refused : StreamHasOneAudit → (query : List ℕ) (id limit : ℕ) (s
     → (error ≡ errors.Memory) ⊎ IsCauseAsItComes query id limit stream error
 query_refused one_audit query id limit stream error bytes (inl memory) = inl memory
 query_refused one_audit query id limit stream error bytes (inr why) =
-    let about : IsAbout (conversation_of query why.tokens id) query id = is_about query why.tokens id why.has in
-    let found = one_audit (conversation_of query why.tokens id) limit stream about.is_query bytes in
+    let found = one_audit (statement_of query why.tokens id) limit stream (query_is query why.tokens id why.has) bytes in
     inr (record {
       tokens = why.tokens;
       has = why.has;
       audit = found.0;
-      says = (conversation_of query why.tokens id, about, found.1);
+      says = (why.tokens, why.has, found.1);
       first = first_speaks (query_cause Execute (statement_of query why.tokens id) (limit - 4)) _ (option_or (ending_cause found.0.ending) None) error why.first;
     })
 
 -- ---- streams that are recoded
 
 -- against one that is recoded there is no cause
-pub recoded_passes : StreamHasOneAudit → OneConversation → OneTokens → (query : List ℕ) (id limit : ℕ) (stream old new : List ℕ) (error : RecodeError) → AreBytes stream
+pub recoded_passes : StreamHasOneAudit → OneTokens → (query : List ℕ) (id limit : ℕ) (stream old new : List ℕ) (error : RecodeError) → AreBytes stream
     → Recodes query id limit stream old new → IsCauseAsItComes query id limit stream error → ⊥
-recoded_passes once one tokens_once query id limit stream old new error bytes first second =
+recoded_passes once tokens_once query id limit stream old new error bytes first second =
     let tokens : second.tokens ≡ first.tokens = tokens_once query second.tokens first.tokens second.has first.has in
-    let audit : second.audit ≡ first.audit = one_audit once one query id limit stream second.audit first.audit bytes second.says first.says in
+    let audit : second.audit ≡ first.audit = one_audit once tokens_once query id limit stream second.audit first.audit bytes second.says first.says in
     let none : cause_as_it_comes (statement_of query first.tokens id) limit first.audit ≡ None = (agree (statement_of query first.tokens id) limit first.audit).none first.none in
     let same : cause_as_it_comes (statement_of query second.tokens id) limit second.audit ≡ cause_as_it_comes (statement_of query first.tokens id) limit first.audit =
     ap (λ (t : List (List ℕ)). cause_as_it_comes (statement_of query t id) limit second.audit) tokens

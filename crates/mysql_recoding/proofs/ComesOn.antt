@@ -17,11 +17,12 @@ use Rattle.mysql_commands.specs.Laws.{StartDecidesTheAudit, ThereIsOneAudit}
 use Rattle.mysql_commands.specs.Reading.{Set}
 use Rattle.mysql_commands.specs.Taking.{with_sets}
 use Rattle.mysql_commands.specs.declared.audit.End.{End}
+use Rattle.mysql_commands.specs.Query.{IsQuery, Statement, statement_of}
 use Rattle.mysql_streams.specs.declared.refusal.Refusal.{Refusal}
 use Rattle.mysql_streams.specs.declared.road.Road.TheVariants.{Execute}
 use Rattle.mysql_streams.specs.Cause.{cause_of}
 use Rattle.mysql_streams.specs.Commands.{prepare_command}
-use Rattle.mysql_streams.specs.Sent.{Statement, as_execution, parsed_of, payloads_of, prepare_of, statement_of}
+use Rattle.mysql_streams.specs.Sent.{as_execution, payloads_of, prepare_of}
 use Rattle.mysql_recoding.specs.declared.errors.RecodeError.{RecodeError}
 use Rattle.mysql_recoding.specs.declared.errors.RecodeError.TheVariants as errors
 use Rattle.mysql_recoding.specs.AsItComes.{Decides, Finishes, IsCauseAsItComes, IsNewRecoder, RecoderState, RecodesPiece, RecodesPieces, RecodesTheSame, RefusesEnd, RefusesPiece, Terms, appended_of, executions, executions_cause, prepare_behind, recoded_front, sets_cause, with_taken}
@@ -32,6 +33,7 @@ use Rattle.mysql_recoding.proofs.Causes.{no_cause, or_none}
 use Rattle.mysql_recoding.proofs.CausesAgree.{recoding_by_ending, sets_refused}
 use Rattle.mysql_recoding.proofs.Deciding.{AtRest, Decision, bytes_left, no_sets, rest_behind, rest_of_nothing, some_decision}
 use Rattle.mysql_recoding.proofs.MoreSets.{canonical_parts, cause_joined, executions_joined}
+use Rattle.mysql_recoding.proofs.QueryCauses.{query_is}
 
 -- what sets append behind a prepare, and what is left of the prepare behind them
 abbrev front : ℕ → List ℕ → List Set → List ℕ
@@ -124,7 +126,7 @@ all_pieces terms prepare bytes sets appended old now (piece ∷ pieces) rest s a
 
 -- a new recoder has recoded nothing
 at_start : StartDecidesTheAudit → RestsAreTold → (query : List ℕ) (id limit : ℕ) (start : RecoderState) (n : IsNewRecoder query id limit start)
-    → Sofar start.terms (framing (prepare_command (parsed_of n.tokens)) 0) [] [] [] start
+    → Sofar start.terms (framing (prepare_command (statement_of query n.tokens id).query.parsed) 0) [] [] [] start
 at_start start_decides told query id limit start n = record {
   terms_are = refl;
   decides = λ z audit z_bytes decided.
@@ -140,29 +142,35 @@ at_start start_decides told query id limit start n = record {
 }
 
 -- what was appended, and what is left of the prepare, are what is sent of the sets
-front_is : (statement : Statement) (sets : List Set) → front statement.id (framing (prepare_command (parsed_of statement.tokens)) 0) sets ≡ recoded_front statement sets
+front_is : (statement : Statement) (sets : List Set) → front statement.id (framing (prepare_command statement.query.parsed) 0) sets ≡ recoded_front statement sets
 front_is statement [] = refl
 front_is statement (set ∷ sets) = sym (canonical_parts statement (set ∷ sets))
 
 all_of_it : (statement : Statement) (sets : List Set)
-    → front statement.id (framing (prepare_command (parsed_of statement.tokens)) 0) sets ++ left (framing (prepare_command (parsed_of statement.tokens)) 0) sets
+    → front statement.id (framing (prepare_command statement.query.parsed) 0) sets ++ left (framing (prepare_command statement.query.parsed) 0) sets
     ≡ framings (payloads_of (prepare_of statement ∷ flat_map (as_execution statement) (values_of_sets sets))) EachFromZero
-all_of_it statement [] = sym (append-nil (framing (prepare_command (parsed_of statement.tokens)) 0))
+all_of_it statement [] = sym (append-nil (framing (prepare_command statement.query.parsed) 0))
 all_of_it statement (set ∷ sets) = append-nil _ ∙ sym (canonical_parts statement (set ∷ sets))
 
 module _ (one_split : HasOneSplit) (one_audit : ThereIsOneAudit) (query : List ℕ) (id limit : ℕ) (start now : RecoderState) (n : IsNewRecoder query id limit start) (bytes appended : List ℕ) (are : AreBytes bytes)
-    (sets : List Set) (s : Sofar start.terms (framing (prepare_command (parsed_of n.tokens)) 0) bytes sets appended now) where
+    (sets : List Set) (s : Sofar start.terms (framing (prepare_command (statement_of query n.tokens id).query.parsed) 0) bytes sets appended now) where
+  -- the recoder's statement has the id
+  id_is : start.terms.conversation.id ≡ id
+  id_is = ap (λ (statement : Statement). statement.id) n.about.2
+
   -- what was said over the recoder's terms is said over the query's
   over_query : (P : ℕ → ℕ → ℕ → Type 0) → P start.terms.conversation.id start.terms.places start.terms.limit → P id (length (places_from query 0 n.tokens)) limit
   over_query P holds =
       subst (λ (l : ℕ). P id (length (places_from query 0 n.tokens)) l) n.limit_is
       (subst (λ (places : ℕ). P id places start.terms.limit) n.places
-      (subst (λ (i : ℕ). P i start.terms.places start.terms.limit) n.about.id_is holds))
+      (subst (λ (i : ℕ). P i start.terms.places start.terms.limit) id_is holds))
 
   -- what the stream says, with bytes behind it
   says : (z : List ℕ) (audit : Audit) → AreBytes z → Decides start.terms now.received z audit → AuditOf query id limit (bytes ++ z) (with_sets sets audit)
   says z audit z_bytes decided =
-      (start.terms.conversation, n.about, subst (λ (l : ℕ). Audited start.terms.conversation l (bytes ++ z) (with_sets sets audit)) n.limit_is (s.decides z audit z_bytes decided))
+      let all : Audited start.terms.conversation limit (bytes ++ z) (with_sets sets audit) =
+      subst (λ (l : ℕ). Audited start.terms.conversation l (bytes ++ z) (with_sets sets audit)) n.limit_is (s.decides z audit z_bytes decided) in
+      (n.about.0, n.about.1, subst (λ (c : Statement). Audited c limit (bytes ++ z) (with_sets sets audit)) n.about.2 all)
 
   -- and without
   says_here : (audit : Audit) → Decides start.terms now.received [] audit → AuditOf query id limit bytes (record { sets = sets; ending = audit.ending })
@@ -185,8 +193,8 @@ module _ (one_split : HasOneSplit) (one_audit : ThereIsOneAudit) (query : List �
   free ending =
       subst (λ (l : List Set). cause_of Execute (statement_of query n.tokens id) limit (map Ok (values_of_sets l)) ≡ None) (append-nil sets) (cause_on [])
 
-  front_here : appended ≡ front id (framing (prepare_command (parsed_of n.tokens)) 0) sets
-  front_here = s.appended_is ∙ ap (λ (i : ℕ). front i (framing (prepare_command (parsed_of n.tokens)) 0) sets) n.about.id_is
+  front_here : appended ≡ front id (framing (prepare_command (statement_of query n.tokens id).query.parsed) 0) sets
+  front_here = s.appended_is ∙ ap (λ (i : ℕ). front i (framing (prepare_command (statement_of query n.tokens id).query.parsed) 0) sets) id_is
 
   whole_here : (last old : List ℕ) → Finishes now last → Recodes query id limit bytes old (old ++ (appended ++ last))
   whole_here last old f =
@@ -200,7 +208,7 @@ module _ (one_split : HasOneSplit) (one_audit : ThereIsOneAudit) (query : List �
         sent = prepare_of (statement_of query n.tokens id) ∷ flat_map (as_execution (statement_of query n.tokens id)) (values_of_sets sets);
         are_sent = refl;
         appended = ap (λ l. old ++ (l ++ last)) front_here
-            ∙ ap (λ l. old ++ (front id (framing (prepare_command (parsed_of n.tokens)) 0) sets ++ l)) (f.appended_is ∙ s.prepare_is)
+            ∙ ap (λ l. old ++ (front id (framing (prepare_command (statement_of query n.tokens id).query.parsed) 0) sets ++ l)) (f.appended_is ∙ s.prepare_is)
             ∙ ap (λ l. old ++ l) (all_of_it (statement_of query n.tokens id) sets);
       }
 
@@ -233,8 +241,9 @@ module _ (one_split : HasOneSplit) (one_audit : ThereIsOneAudit) (query : List �
 
   recodes_here : (pieces : List (List ℕ)) → bytes ≡ concat pieces → RecodesTheSame query id limit pieces appended now
   recodes_here pieces joined =
+      let is_query : IsQuery start.terms.conversation.query = subst (λ (c : Statement). IsQuery c.query) (sym n.about.2) (query_is query n.about.0 id n.about.1) in
       let some : Decision start.terms.conversation start.terms.limit now.received [] =
-      some_decision one_split one_audit start.terms.conversation start.terms.limit now.received [] n.about.is_query s.partial no_bytes s.no_fault in
+      some_decision one_split one_audit start.terms.conversation start.terms.limit now.received [] is_query s.partial no_bytes s.no_fault in
       record {
         tokens = n.tokens;
         has = n.has;
@@ -250,5 +259,5 @@ module _ (one_split : HasOneSplit) (one_audit : ThereIsOneAudit) (query : List �
 pub pieces_recode : HasOneSplit → RestsAreTold → ThereIsOneAudit → StartDecidesTheAudit → (query : List ℕ) (id limit : ℕ) (start now : RecoderState) (pieces : List (List ℕ)) (appended : List ℕ)
     → IsNewRecoder query id limit start → AreBytes (concat pieces) → RecodesPieces start pieces appended now → RecodesTheSame query id limit pieces appended now
 pieces_recode one_split told one_audit start_decides query id limit start now pieces appended n are recoded =
-    let all = all_pieces start.terms (framing (prepare_command (parsed_of n.tokens)) 0) [] [] [] start now pieces appended (at_start start_decides told query id limit start n) are recoded in
+    let all = all_pieces start.terms (framing (prepare_command (statement_of query n.tokens id).query.parsed) 0) [] [] [] start now pieces appended (at_start start_decides told query id limit start n) are recoded in
     recodes_here one_split one_audit query id limit start now n (concat pieces) appended are all.0 all.1 pieces refl

@@ -11,19 +11,18 @@ use Rattle.mysql_wire.specs.Stream.Numbering.{EachFromZero}
 use Rattle.mysql_commands.specs.Audit.{Audit}
 use Rattle.mysql_commands.specs.GoingOn.{ReceiverDecides, ReceiverDecidesBy, ReceiverState, TakesAll}
 use Rattle.mysql_commands.specs.Laws.{ThereIsOneAudit}
-use Rattle.mysql_commands.specs.Layout.{Conversation}
-use Rattle.mysql_commands.specs.Query.{IsQuery}
+use Rattle.mysql_commands.specs.Query.{IsQuery, Statement}
 use Rattle.mysql_commands.specs.Reading.{Set}
 use Rattle.mysql_recoding.proofs.ByteLists.{bytes_append, bytes_behind}
 
 -- something is decided of any bytes to come, with the sets that are held in front
-pub record Decision (c : Conversation) (limit : ℕ) (state : ReceiverState) (z : List ℕ) : Type 0 where
+pub record Decision (c : Statement) (limit : ℕ) (state : ReceiverState) (z : List ℕ) : Type 0 where
   pub audit : Audit
   pub decided : ReceiverDecides c limit state z audit
   pub more : List Set
   pub sets : audit.sets ≡ state.sets ++ more
 
-pub some_decision : HasOneSplit → ThereIsOneAudit → (c : Conversation) (limit : ℕ) (state : ReceiverState) (z : List ℕ) → IsQuery c.query → AreBytes state.partial → AreBytes z → state.fault ≡ None
+pub some_decision : HasOneSplit → ThereIsOneAudit → (c : Statement) (limit : ℕ) (state : ReceiverState) (z : List ℕ) → IsQuery c.query → AreBytes state.partial → AreBytes z → state.fault ≡ None
     → Decision c limit state z
 some_decision one_split one_audit c limit state z query partial bytes none =
     let found = one_split limit EachFromZero (state.partial ++ z) (bytes_append state.partial z partial bytes) in
@@ -49,7 +48,7 @@ each_from_zero [] = refl
 each_from_zero (payload ∷ payloads) = each_from_zero payloads
 
 -- none stands in what is left behind a piece
-pub rest_behind : (c : Conversation) (limit : ℕ) (old new : ReceiverState) (piece : List ℕ) → TakesAll c limit old piece new → AtRest limit new.partial
+pub rest_behind : (c : Statement) (limit : ℕ) (old new : ReceiverState) (piece : List ℕ) → TakesAll c limit old piece new → AtRest limit new.partial
 rest_behind c limit old new piece takes =
     let split : Split = takes.split in
     let ends : IsRest limit 0 split.rest_bytes split.rest =
@@ -61,7 +60,7 @@ pub rest_of_nothing : RestsAreTold → (limit : ℕ) → AtRest limit []
 rest_of_nothing told limit = record { rest = Empty; is = record { joined = refl; within = tt; ends = (told limit 0).0 } }
 
 -- what is left behind a piece are bytes
-pub bytes_left : (c : Conversation) (limit : ℕ) (old new : ReceiverState) (piece : List ℕ) → TakesAll c limit old piece new → AreBytes old.partial → AreBytes piece → AreBytes new.partial
+pub bytes_left : (c : Statement) (limit : ℕ) (old new : ReceiverState) (piece : List ℕ) → TakesAll c limit old piece new → AreBytes old.partial → AreBytes piece → AreBytes new.partial
 bytes_left c limit old new piece takes partial bytes =
     let all : AreBytes (_ ++ takes.split.rest_bytes) = subst AreBytes takes.is_split.joined (bytes_append old.partial piece partial bytes) in
     subst AreBytes (sym takes.partial) (bytes_behind _ takes.split.rest_bytes all)
@@ -71,7 +70,7 @@ no_reads [] none = refl
 no_reads (sets ∷ reads) none = absurd (omega (arith, none))
 
 -- so no sets are decided of no bytes
-pub no_sets : HasOneSplit → (c : Conversation) (limit : ℕ) (state : ReceiverState) (audit : Audit) → AtRest limit state.partial → AreBytes state.partial → state.fault ≡ None → state.sets ≡ []
+pub no_sets : HasOneSplit → (c : Statement) (limit : ℕ) (state : ReceiverState) (audit : Audit) → AtRest limit state.partial → AreBytes state.partial → state.fault ≡ None → state.sets ≡ []
     → ReceiverDecides c limit state [] audit → audit.sets ≡ []
 no_sets one_split c limit state audit rest partial none held decided =
     let by : ReceiverDecidesBy c limit state None [] audit = subst (λ fault. ReceiverDecidesBy c limit state fault [] audit) none decided in

@@ -10,12 +10,12 @@ use Rattle.mysql_wire.specs.Stream.Numbering.{EachFromZero}
 use Rattle.mysql_values.specs.Value.{Value}
 use Rattle.mysql_commands.specs.Audit.{Audit, Audited}
 use Rattle.mysql_commands.specs.Laws.{WholeStreamsJoin}
-use Rattle.mysql_commands.specs.Layout.{Conversation}
+use Rattle.mysql_commands.specs.Query.{Statement, place_count, statement_of}
 use Rattle.mysql_commands.specs.Reading.{Set}
 use Rattle.mysql_commands.specs.declared.audit.End.TheVariants.{Whole}
-use Rattle.mysql_streams.specs.Laws.{OneConversation}
+use Rattle.mysql_values.specs.Laws.{OneTokens}
 use Rattle.mysql_streams.specs.Cause.{query_cause}
-use Rattle.mysql_streams.specs.Sent.{AreSent, SentPayload, Statement, as_execution, payloads_of, prepare_of, statement_of}
+use Rattle.mysql_streams.specs.Sent.{AreSent, SentPayload, as_execution, payloads_of, prepare_of}
 use Rattle.mysql_streams.specs.declared.road.Road.TheVariants.{Execute}
 use Rattle.mysql_values.specs.Contents.{content_value}
 use Rattle.mysql_recoding.specs.Causes.{recoding_cause, values_of_sets}
@@ -77,7 +77,7 @@ framed_joined sent more =
 
 -- nothing speaks against the values of sets
 abbrev AreFree : Statement → ℕ → List (List Value) → Type 0
-AreFree statement limit sets = AllByRecursion (IsFree statement.id (length statement.places) (limit - 4)) sets
+AreFree statement limit sets = AllByRecursion (IsFree statement.id (place_count statement.query) (limit - 4)) sets
 
 free_of_each : (statement : Statement) (limit : ℕ) (first second : Audit) → recoding_cause statement limit first ≡ None → recoding_cause statement limit second ≡ None → recoding_cause statement limit (both first second) ≡ None
 free_of_each statement limit first second first_none second_none =
@@ -104,17 +104,17 @@ none_to_second statement limit first second whole none =
     let parts = free_of_both statement limit first second none in
     no_cause statement limit second whole (no_cause_of_free statement limit (values_of_sets second.sets) parts.0 (back_holds _ (values_of_sets first.sets) (values_of_sets second.sets) parts.1))
 
-pub joined : WholeStreamsJoin → OneConversation → FramedComeFirst → JoinedStreamsRecode
+pub joined : WholeStreamsJoin → OneTokens → FramedComeFirst → JoinedStreamsRecode
 joined join one come_first query tokens id limit stream behind front back first second has front_split back_split few first_says second_says first_whole second_whole =
     let statement : Statement = statement_of query tokens id in
-    let c : Conversation = first_says.0 in
-    let same : second_says.0 ≡ c = one query id second_says.0 c second_says.1 first_says.1 in
+    let c : Statement = statement_of query first_says.0 id in
+    let same : second_says.0 ≡ first_says.0 = one query second_says.0 first_says.0 second_says.1 first_says.1 in
     let here : Audited c limit stream first = first_says.2 in
-    let there : Audited c limit behind second = subst (λ (d : Conversation). Audited d limit behind second) same second_says.2 in
+    let there : Audited c limit behind second = subst (λ (t : List (List ℕ)). Audited (statement_of query t id) limit behind second) same second_says.2 in
     let payloads : length here.0.payloads + length there.0.payloads < 2 ^ 64 =
     omega (arith, few, as_many come_first limit stream here.0 front here.1 front_split, as_many come_first limit behind there.0 back there.1 back_split) in
     record {
-      says = (c, first_says.1, join c limit stream behind here.0 there.0 first second here.1 there.1 here.2 there.2 payloads first_whole second_whole);
+      says = (first_says.0, first_says.1, join c limit stream behind here.0 there.0 first second here.1 there.1 here.2 there.2 payloads first_whole second_whole);
       from_each = free_of_each statement limit first second;
       to_first = none_to_first statement limit first second first_whole;
       to_second = none_to_second statement limit first second second_whole;

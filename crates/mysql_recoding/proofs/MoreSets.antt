@@ -10,10 +10,11 @@ use Rattle.mysql_wire.specs.Stream.Numbering.{EachFromZero}
 use Rattle.mysql_values.specs.Contents.{content_value}
 use Rattle.mysql_values.specs.Value.{Value}
 use Rattle.mysql_commands.specs.Reading.{Set}
+use Rattle.mysql_commands.specs.Query.{Statement}
 use Rattle.mysql_streams.specs.declared.refusal.Refusal.{Refusal}
 use Rattle.mysql_streams.specs.Cause.{first_of_sets, set_cause}
 use Rattle.mysql_streams.specs.Commands.{prepare_command}
-use Rattle.mysql_streams.specs.Sent.{SentPayload, Statement, as_execution, on_the_way, parsed_of, payloads_of, prepare_of}
+use Rattle.mysql_streams.specs.Sent.{SentPayload, as_execution, on_the_way, payloads_of, prepare_of}
 use Rattle.mysql_streams.specs.Sets.{Given}
 use Rattle.mysql_senders.specs.OneSet.{execution_payloads, whole_execution}
 use Rattle.mysql_recoding.specs.AsItComes.{executions, executions_cause}
@@ -49,7 +50,7 @@ given_count sets = length-map (values_of_sets sets) given ∙ length-map sets (m
 pub cause_joined : (id places limit number : ℕ) (sets others : List Set)
     → executions_cause id places limit number (sets ++ others) ≡ option_or (executions_cause id places limit number sets) (executions_cause id places limit (number + length sets) others)
 cause_joined id places limit number sets others =
-    let cause : ℕ → Given → Option Refusal = set_cause (whole_execution id) (record { places = places; bytes = limit - 4 }) in
+    let cause : ℕ → Given → Option Refusal = set_cause (whole_execution id) places (limit - 4) in
     ap (λ l. first_of_sets cause number l) (given_joined sets others)
     ∙ first_of_joined cause number (map given (values_of_sets sets)) (map given (values_of_sets others))
     ∙ ap (λ (n : ℕ). option_or (first_of_sets cause number (map given (values_of_sets sets))) (first_of_sets cause (number + n) (map given (values_of_sets others)))) (given_count sets)
@@ -86,6 +87,6 @@ execution_payloads_of statement (values ∷ sets) =
 
 -- the framings of the prepare and of the executions of sets
 pub canonical_parts : (statement : Statement) (sets : List Set)
-    → framings (payloads_of (prepare_of statement ∷ flat_map (as_execution statement) (values_of_sets sets))) EachFromZero ≡ framing (prepare_command (parsed_of statement.tokens)) 0 ++ executions statement.id sets
+    → framings (payloads_of (prepare_of statement ∷ flat_map (as_execution statement) (values_of_sets sets))) EachFromZero ≡ framing (prepare_command statement.query.parsed) 0 ++ executions statement.id sets
 canonical_parts statement sets =
-    ap (λ l. framing (prepare_command (parsed_of statement.tokens)) 0 ++ framings l EachFromZero) (execution_payloads_of statement (values_of_sets sets))
+    ap (λ l. framing (prepare_command statement.query.parsed) 0 ++ framings l EachFromZero) (execution_payloads_of statement (values_of_sets sets))

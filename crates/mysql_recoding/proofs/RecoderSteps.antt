@@ -9,8 +9,7 @@ use Rattle.mysql_commands.specs.declared.fault.StreamFault.{StreamFault}
 use Rattle.mysql_commands.specs.Audit.{Audit}
 use Rattle.mysql_commands.specs.GoingOn.{ReceiverDecidesBy, ReceiverState, TakesAll}
 use Rattle.mysql_commands.specs.Laws.{ThereIsOneAudit}
-use Rattle.mysql_commands.specs.Layout.{Conversation}
-use Rattle.mysql_commands.specs.Query.{IsQuery}
+use Rattle.mysql_commands.specs.Query.{IsQuery, Statement}
 use Rattle.mysql_commands.specs.Reading.{Set}
 use Rattle.mysql_commands.specs.Received.{Received, receiver_state}
 use Rattle.mysql_commands.specs.Receiving.{IsMemory}
@@ -30,7 +29,7 @@ use Rattle.mysql_recoding.proofs.MoreSets.{cause_joined}
 -- a recoder whose receiver read a piece recodes by the same terms
 terms_same : (old : Recoded) (to : Received) → to.conversation ≡ old.receiver.conversation → to.limit ≡ old.receiver.limit → (recoder_state (record old { receiver = to })).terms ≡ (recoder_state old).terms
 terms_same old to conversation limit =
-    ap (λ (c : Conversation). record { conversation = c; limit = to.limit; places = old.places }) conversation
+    ap (λ (c : Statement). record { conversation = c; limit = to.limit; places = old.places }) conversation
     ∙ ap (λ (l : ℕ). record { conversation = old.receiver.conversation; limit = l; places = old.places }) limit
 
 module _ (old : Recoded) (to : Received) (piece : List ℕ) (sets : List Set) where
@@ -63,7 +62,7 @@ module _ (old : Recoded) (to : Received) (piece : List ℕ) (sets : List Set) wh
     where
       appended_same : to.conversation ≡ old.receiver.conversation → (l : List Set) → appended_of (recoder_state (record old { receiver = to })) l ≡ appended_of (recoder_state old) l
       appended_same conversation [] = refl
-      appended_same conversation (set ∷ l) = ap (λ (c : Conversation). old.prepare ++ executions c.id (set ∷ l)) conversation
+      appended_same conversation (set ∷ l) = ap (λ (c : Statement). old.prepare ++ executions c.id (set ∷ l)) conversation
 
       left_is : (l : List Set) → prepare_behind (recoder_state (record old { receiver = to })) l ≡ prepare_behind (recoder_state old) l
       left_is [] = refl

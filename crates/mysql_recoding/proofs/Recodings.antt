@@ -13,10 +13,9 @@ use Rattle.mysql_values.specs.Place.{Place}
 use Rattle.mysql_values.specs.Queries.{HasMixed, is_mixed, places_from}
 use Rattle.mysql_values.specs.Tokens.{HasTokens}
 use Rattle.mysql_values.specs.Value.{Value}
-use Rattle.mysql_commands.specs.Audit.{Audit, AuditOf, IsAbout}
+use Rattle.mysql_commands.specs.Audit.{Audit, AuditOf}
 use Rattle.mysql_commands.specs.Laws.{StreamHasOneAudit}
-use Rattle.mysql_commands.specs.Layout.{Conversation}
-use Rattle.mysql_commands.specs.Query.{IsQuery}
+use Rattle.mysql_commands.specs.Query.{statement_of}
 use Rattle.mysql_commands.specs.Receiving.{IsMemory, IsReceived}
 use Rattle.mysql_commands.specs.declared.audit.End.{End}
 use Rattle.mysql_commands.specs.declared.audit.End.TheVariants as ends
@@ -28,22 +27,14 @@ use Rattle.mysql_streams.specs.declared.road.Road.TheVariants.{Execute}
 use Rattle.mysql_bulk_builder.specs.Causes.{first_some}
 use Rattle.mysql_streams.specs.Cause.{cause_of}
 use Rattle.mysql_streams.specs.Sending.{RefusesGiven, SendsGiven}
-use Rattle.mysql_streams.specs.Sent.{AreSent, parsed_of, statement_of}
+use Rattle.mysql_streams.specs.Sent.{AreSent}
 use Rattle.mysql_streams.specs.Sets.{Given, all_given_in_places}
 use Rattle.mysql_recoding.specs.declared.errors.RecodeError.{RecodeError}
 use Rattle.mysql_recoding.specs.declared.errors.RecodeError.TheVariants as errors
 use Rattle.mysql_recoding.specs.Causes.{ending_cause, error_for, recoding_cause, values_of_sets}
 use Rattle.mysql_recoding.specs.Recoding.{IsRecodingCause, Recodes, RefusesRecoding}
 use Rattle.mysql_recoding.proofs.Causes.{no_cause, whole_cause}
-
--- the conversation about a query with these tokens
-pub conversation_of : List ℕ → List (List ℕ) → ℕ → Conversation
-conversation_of query tokens id = record { query = record { text = query; parsed = parsed_of tokens; places = places_from query 0 tokens }; id = id }
-
--- it is about the query
-pub is_about : (query : List ℕ) (tokens : List (List ℕ)) (id : ℕ) → HasTokens query tokens → IsAbout (conversation_of query tokens id) query id
-unfolding conversation_of
-is_about query tokens id has = record { is_query = record { parsed = (tokens, has, refl); places = (tokens, has, refl) }; text = refl; id_is = refl }
+use Rattle.mysql_recoding.proofs.QueryCauses.{query_is}
 
 -- bytes and bytes behind them are bytes
 pub bytes_append : (front back : List ℕ) → AreBytes front → AreBytes back → AreBytes (front ++ back)
@@ -64,13 +55,12 @@ pub mixed_is_cause : StreamHasOneAudit → (query : List ℕ) (id limit : ℕ) (
 mixed_is_cause one_audit query id limit stream bytes mixed =
     let tokens : List (List ℕ) = mixed.1.0 in
     let has : HasTokens query tokens = mixed.1.1 in
-    let about : IsAbout (conversation_of query tokens id) query id = is_about query tokens id has in
-    let found = one_audit (conversation_of query tokens id) limit stream about.is_query bytes in
+    let found = one_audit (statement_of query tokens id) limit stream (query_is query tokens id has) bytes in
     record {
       tokens = tokens;
       has = has;
       audit = found.0;
-      says = (conversation_of query tokens id, about, found.1);
+      says = (tokens, has, found.1);
       first = first found.0 (mixed.2 ∙ ap is_mixed mixed.1.2);
     }
   where

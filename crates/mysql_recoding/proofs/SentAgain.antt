@@ -1,15 +1,18 @@
 -- What recoding appends carries the same sets, and recodes to the same bytes.
 use Rattle.std.proofs.Common.{◌≡◌, ℕ, ◌-◌, ◌<◌, ◌^◌, List, [], ◌++◌, map, None, Ok, refl, sym, ◌∙◌, ap, subst, arith}
 use Rattle.std.specs.List.{AllByRecursion}
+use Rattle.mysql_wire.specs.Stream.{framings}
+use Rattle.mysql_wire.specs.Stream.Numbering.{EachFromZero}
 use Rattle.mysql_values.specs.Queries.{places_from}
 use Rattle.mysql_commands.specs.Audit.{Audit, AuditOf}
 use Rattle.mysql_commands.specs.Reading.{Set}
 use Rattle.mysql_commands.specs.declared.audit.End.TheVariants.{Whole}
 use Rattle.mysql_stmt.specs.Statements.{ExecutionsHaveSizes}
+use Rattle.mysql_commands.specs.Query.{Statement, statement_of}
 use Rattle.mysql_streams.specs.Laws.{CarriesValues, SentValuesAreCarried}
 use Rattle.mysql_streams.specs.Reading.{SentReadable}
 use Rattle.mysql_streams.specs.Cause.{cause_of}
-use Rattle.mysql_streams.specs.Sent.{Statement, statement_of}
+use Rattle.mysql_streams.specs.Sent.{payloads_of}
 use Rattle.mysql_streams.specs.Sets.{all_given_in_places}
 use Rattle.mysql_streams.specs.declared.road.Road.TheVariants.{Execute}
 use Rattle.mysql_recoding.specs.Causes.{values_of_sets}
@@ -19,57 +22,42 @@ use Rattle.mysql_recoding.proofs.Canonical.{appended}
 use Rattle.mysql_recoding.proofs.Causes.{free_of_causes, no_cause, recodable}
 use Rattle.mysql_recoding.proofs.SentContents.{one_contents, sets_fit, sets_held}
 
--- what is appended is what execute sends of the sets, and can be read back
+-- wherever what is sent of them stands, the sets are sent by execute, and can be read back
+sent_where : ExecutionsHaveSizes → (query : List ℕ) (id limit : ℕ) (stream old new : List ℕ) → limit < 2 ^ 64 → (is : Recodes query id limit stream old new)
+    → AllByRecursion (FillsPlaces (places_from query 0 is.tokens)) is.audit.sets → (before behind : List ℕ) → behind ≡ before ++ framings (payloads_of is.sent) EachFromZero
+    → SentReadable Execute query (all_given_in_places (values_of_sets is.audit.sets)) id limit before behind
+sent_where sizes query id limit stream old new small is fill before behind there =
+    let statement : Statement = statement_of query is.tokens id in
+    let sets : List Set = is.audit.sets in
+    let none : cause_of Execute statement limit (map Ok (values_of_sets sets)) ≡ None = (recodable statement limit is.audit is.none).1 in
+    let room : limit - 4 < 2 ^ 64 = omega arith in
+    record {
+      sends = record {
+        tokens = is.tokens;
+        has = is.has;
+        values = values_of_sets sets;
+        given = refl;
+        none = none;
+        sent = is.sent;
+        are_sent = is.are_sent;
+        appended = there;
+      };
+      readable = sets_fit sizes id (limit - 4) statement.query.places sets room fill (free_of_causes statement limit (values_of_sets sets) none).1;
+    }
+
+-- what is appended is what execute sends of the sets
 pub are_sent : CarriedSetsFillPlaces → ExecutionsHaveSizes → RecodingsAreSent
 are_sent fill_places sizes query id limit stream old new small bytes is =
-    let statement : Statement = statement_of query is.tokens id in
-    let sets : List Set = is.audit.sets in
-    let none : cause_of Execute statement limit (map Ok (values_of_sets sets)) ≡ None = (recodable statement limit is.audit is.none).1 in
-    let room : limit - 4 < 2 ^ 64 = omega arith in
-    let fill = fill_places query is.tokens id limit stream is.audit is.has bytes is.says in
-    record {
-      sends = record {
-        tokens = is.tokens;
-        has = is.has;
-        values = values_of_sets sets;
-        given = refl;
-        none = none;
-        sent = is.sent;
-        are_sent = is.are_sent;
-        appended = is.appended;
-      };
-      readable = sets_fit sizes id (limit - 4) statement.places sets room fill (free_of_causes statement limit (values_of_sets sets) none).1;
-    }
-
--- the sets are sent by execute, and can be read back
-sent_again : ExecutionsHaveSizes → (query : List ℕ) (id limit : ℕ) (stream old recoded : List ℕ) → limit < 2 ^ 64 → (is : Recodes query id limit stream old (old ++ recoded))
-    → AllByRecursion (FillsPlaces (places_from query 0 is.tokens)) is.audit.sets → SentReadable Execute query (all_given_in_places (values_of_sets is.audit.sets)) id limit [] recoded
-sent_again sizes query id limit stream old recoded small is fill =
-    let statement : Statement = statement_of query is.tokens id in
-    let sets : List Set = is.audit.sets in
-    let none : cause_of Execute statement limit (map Ok (values_of_sets sets)) ≡ None = (recodable statement limit is.audit is.none).1 in
-    let room : limit - 4 < 2 ^ 64 = omega arith in
-    record {
-      sends = record {
-        tokens = is.tokens;
-        has = is.has;
-        values = values_of_sets sets;
-        given = refl;
-        none = none;
-        sent = is.sent;
-        are_sent = is.are_sent;
-        appended = appended query id limit stream old recoded is;
-      };
-      readable = sets_fit sizes id (limit - 4) statement.places sets room fill (free_of_causes statement limit (values_of_sets sets) none).1;
-    }
+    sent_where sizes query id limit stream old new small is (fill_places query is.tokens id limit stream is.audit is.has bytes is.says) old new is.appended
 
 pub carry_the_same : CarriedSetsFillPlaces → SentValuesAreCarried → ExecutionsHaveSizes → RecodingsCarryTheSame
-unfolding sent_again
+unfolding sent_where
 carry_the_same fill_places are_carried sizes query id limit stream old recoded few room small short bytes is =
     let sets : List Set = is.audit.sets in
     let fill = fill_places query is.tokens id limit stream is.audit is.has bytes is.says in
     let carried : CarriesValues query (values_of_sets sets) id limit [] recoded =
-    are_carried Execute query (all_given_in_places (values_of_sets sets)) id limit [] recoded few room short (sent_again sizes query id limit stream old recoded small is fill) in
+    are_carried Execute query (all_given_in_places (values_of_sets sets)) id limit [] recoded few room short
+    (sent_where sizes query id limit stream old (old ++ recoded) small is fill [] recoded (appended query id limit stream old recoded is)) in
     let audit : AuditOf query id limit recoded (record { sets = carried.contents; ending = Whole }) =
     subst (λ (bytes : List ℕ). AuditOf query id limit bytes (record { sets = carried.contents; ending = Whole })) (sym carried.appended) carried.audit in
     let same : carried.contents ≡ sets = one_contents carried.contents sets (sym carried.each ∙ sets_held (places_from query 0 is.tokens) sets fill) in

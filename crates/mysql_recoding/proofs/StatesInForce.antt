@@ -10,9 +10,9 @@ use Rattle.mysql_wire.specs.Wire.{◌>>=◌}
 use Rattle.mysql_commands.specs.declared.fault.StreamFault.{StreamFault}
 use Rattle.mysql_commands.specs.declared.fault.StreamFault.TheVariants.{BadBulk, BadExecute, BadPlace, BadType, WrongId}
 use Rattle.mysql_commands.specs.declared.param_type.ParamType.{ParamType}
-use Rattle.mysql_commands.specs.Fields.{bytes_at, little_at, must}
-use Rattle.mysql_commands.specs.Query.{place_count}
-use Rattle.mysql_commands.specs.Layout.{BulkHead, Command, Conversation, ExecuteHead, Piece, Types, binding_at, bulk_head, command_of, execute_head, id_at, is_type, piece_at, type_at, types_at}
+use Rattle.mysql_commands.specs.Fields.{bytes_or, number_or, must}
+use Rattle.mysql_commands.specs.Query.{Statement, place_count}
+use Rattle.mysql_commands.specs.Layout.{BulkHead, Command, ExecuteHead, Piece, Types, binding_at, bulk_head, command_of, execute_head, id_at, is_type, piece_at, type_at, types_at}
 use Rattle.mysql_commands.specs.Layout as layout
 use Rattle.mysql_commands.specs.InForce.{StatementState, is_end, joined, nothing_yet, said_by, since, speaks_of_place, speaks_of_types, state_after, waiting_for}
 use Rattle.mysql_recoding.proofs.ByteLists.{bytes_flat_map, bytes_tail}
@@ -20,15 +20,15 @@ use Rattle.mysql_recoding.proofs.CarriedCells.{Leaves, bind_ok, bytes_leave, lea
 
 -- ---- fields
 
-pub number_rest : (f : StreamFault) (n : ℕ) (bytes : List ℕ) (p : ℕ × List ℕ) → AreBytes bytes → little_at f n bytes ≡ Ok p → AreBytes p.1
+pub number_rest : (f : StreamFault) (n : ℕ) (bytes : List ℕ) (p : ℕ × List ℕ) → AreBytes bytes → number_or f n bytes ≡ Ok p → AreBytes p.1
 number_rest f n bytes p h e = (number_leaves n bytes p h (some_is (buffer.little_at n bytes) f p e)).1
 
-bytes_rest : (f : StreamFault) (n : ℕ) (bytes : List ℕ) (p : List ℕ × List ℕ) → AreBytes bytes → bytes_at f n bytes ≡ Ok p → AreBytes p.1
+bytes_rest : (f : StreamFault) (n : ℕ) (bytes : List ℕ) (p : List ℕ × List ℕ) → AreBytes bytes → bytes_or f n bytes ≡ Ok p → AreBytes p.1
 bytes_rest f n bytes p h e = (bytes_leave n bytes p h (some_is (buffer.bytes_at n bytes) f p e)).1
 
-id_rest : (c : Conversation) (bytes rest : List ℕ) → AreBytes bytes → id_at c bytes ≡ Ok rest → AreBytes rest
+id_rest : (c : Statement) (bytes rest : List ℕ) → AreBytes bytes → id_at c bytes ≡ Ok rest → AreBytes rest
 id_rest c bytes rest h e =
-    let a = bind_ok (little_at WrongId 4 bytes) (λ id. must WrongId (id.0 == c.id) >>= λ _. Ok id.1) rest e in
+    let a = bind_ok (number_or WrongId 4 bytes) (λ id. must WrongId (id.0 == c.id) >>= λ _. Ok id.1) rest e in
     let b = bind_ok (must WrongId (a.0.0 == c.id)) (λ _. Ok a.0.1) rest a.2 in
     subst AreBytes (ok_same {F = StreamFault} a.0.1 rest b.2) (number_rest WrongId 4 bytes a.0 h a.1)
 
@@ -43,9 +43,9 @@ left_bytes t rest p h e = subst (λ (q : ParamType × List ℕ). AreBytes q.1) (
 
 type_rest : (short : StreamFault) (bytes : List ℕ) (p : ParamType × List ℕ) → AreBytes bytes → type_at short bytes ≡ Ok p → AreBytes p.1
 type_rest short bytes p h e =
-    let a = bind_ok (little_at short 1 bytes) (λ t. must BadType (is_type t.0) >>= λ _. little_at short 1 t.1 >>= λ flags. flagged t.0 flags) p e in
-    let b = bind_ok (must BadType (is_type a.0.0)) (λ _. little_at short 1 a.0.1 >>= λ flags. flagged a.0.0 flags) p a.2 in
-    let d = bind_ok (little_at short 1 a.0.1) (λ flags. flagged a.0.0 flags) p b.2 in
+    let a = bind_ok (number_or short 1 bytes) (λ t. must BadType (is_type t.0) >>= λ _. number_or short 1 t.1 >>= λ flags. flagged t.0 flags) p e in
+    let b = bind_ok (must BadType (is_type a.0.0)) (λ _. number_or short 1 a.0.1 >>= λ flags. flagged a.0.0 flags) p a.2 in
+    let d = bind_ok (number_or short 1 a.0.1) (λ flags. flagged a.0.0 flags) p b.2 in
     let g = bind_ok (must BadType (d.0.0 == 0 || d.0.0 == 128)) (λ _. Ok (record { number = a.0.0; unsigned = d.0.0 == 128 }, d.0.1)) p d.2 in
     left_bytes (record { number = a.0.0; unsigned = d.0.0 == 128 }) d.0.1 p (number_rest short 1 a.0.1 d.0 (number_rest short 1 bytes a.0 h a.1) d.1) g.2
   where
@@ -80,8 +80,8 @@ pub record IsHead (n : ℕ) (own : Option Types) (rest : List ℕ) : Type 0 wher
 binding_head : (n : ℕ) (bytes : List ℕ) (head : ExecuteHead) → AreBytes bytes → binding_at n bytes ≡ Ok head → IsHead n head.own head.cells
 unfolding binding_at
 binding_head n bytes head h e =
-    let a = bind_ok (bytes_at BadExecute ((n + 7) / 8) bytes) (λ nulls. little_at BadExecute 1 nulls.1 >>= λ bound. must BadExecute (nat_le bound.0 1) >>= λ _. bound_as nulls.0 (bound.0 == 0) bound.1) head e in
-    let b = bind_ok (little_at BadExecute 1 a.0.1) (λ bound. must BadExecute (nat_le bound.0 1) >>= λ _. bound_as a.0.0 (bound.0 == 0) bound.1) head a.2 in
+    let a = bind_ok (bytes_or BadExecute ((n + 7) / 8) bytes) (λ nulls. number_or BadExecute 1 nulls.1 >>= λ bound. must BadExecute (nat_le bound.0 1) >>= λ _. bound_as nulls.0 (bound.0 == 0) bound.1) head e in
+    let b = bind_ok (number_or BadExecute 1 a.0.1) (λ bound. must BadExecute (nat_le bound.0 1) >>= λ _. bound_as a.0.0 (bound.0 == 0) bound.1) head a.2 in
     let d = bind_ok (must BadExecute (nat_le b.0.0 1)) (λ _. bound_as a.0.0 (b.0.0 == 0) b.0.1) head b.2 in
     by a.0.0 (b.0.0 == 0) b.0.1 (number_rest BadExecute 1 a.0.1 b.0 (bytes_rest BadExecute ((n + 7) / 8) bytes a.0 h a.1) b.1) d.2
   where
@@ -96,13 +96,13 @@ binding_head n bytes head h e =
         let b = types_leave BadExecute n rest a.0 k a.1 in
         subst (λ (x : ExecuteHead). IsHead n x.own x.cells) (ok_same {F = StreamFault} (record { nulls = nulls; own = Some a.0.0; cells = a.0.1 }) head a.2) (record { own_count = some_own n a.0.0 b.0; rest_bytes = b.1 })
 
-pub execute_is_head : (c : Conversation) (body : List ℕ) (head : ExecuteHead) → AreBytes body → execute_head c body ≡ Ok head → IsHead (place_count c.query) head.own head.cells
+pub execute_is_head : (c : Statement) (body : List ℕ) (head : ExecuteHead) → AreBytes body → execute_head c body ≡ Ok head → IsHead (place_count c.query) head.own head.cells
 unfolding execute_head
 execute_is_head c body head h e =
-    let a = bind_ok (id_at c body) (λ rest. little_at BadExecute 1 rest >>= λ cursor. must BadExecute (cursor.0 == 0) >>= λ _. little_at BadExecute 4 cursor.1 >>= λ count. counted count) head e in
-    let b = bind_ok (little_at BadExecute 1 a.0) (λ cursor. must BadExecute (cursor.0 == 0) >>= λ _. little_at BadExecute 4 cursor.1 >>= λ count. counted count) head a.2 in
-    let d = bind_ok (must BadExecute (b.0.0 == 0)) (λ _. little_at BadExecute 4 b.0.1 >>= λ count. counted count) head b.2 in
-    let g = bind_ok (little_at BadExecute 4 b.0.1) (λ count. counted count) head d.2 in
+    let a = bind_ok (id_at c body) (λ rest. number_or BadExecute 1 rest >>= λ cursor. must BadExecute (cursor.0 == 0) >>= λ _. number_or BadExecute 4 cursor.1 >>= λ count. counted count) head e in
+    let b = bind_ok (number_or BadExecute 1 a.0) (λ cursor. must BadExecute (cursor.0 == 0) >>= λ _. number_or BadExecute 4 cursor.1 >>= λ count. counted count) head a.2 in
+    let d = bind_ok (must BadExecute (b.0.0 == 0)) (λ _. number_or BadExecute 4 b.0.1 >>= λ count. counted count) head b.2 in
+    let g = bind_ok (number_or BadExecute 4 b.0.1) (λ count. counted count) head d.2 in
     let k = bind_ok (must BadExecute (g.0.0 == 1)) (λ _. bound (place_count c.query == 0) g.0.1) head g.2 in
     let cursor = number_rest BadExecute 1 a.0 b.0 (id_rest c body a.0 h a.1) b.1 in
     by (place_count c.query == 0) g.0.1 (number_rest BadExecute 4 b.0.1 g.0 cursor g.1) k.2
@@ -119,11 +119,11 @@ execute_is_head c body head h e =
         (record { own_count = none_own (place_count c.query); rest_bytes = k })
     by false rest k f = binding_head (place_count c.query) rest head k f
 
-pub bulk_is_head : (c : Conversation) (body : List ℕ) (head : BulkHead) → AreBytes body → bulk_head c body ≡ Ok head → IsHead (place_count c.query) head.own head.rows
+pub bulk_is_head : (c : Statement) (body : List ℕ) (head : BulkHead) → AreBytes body → bulk_head c body ≡ Ok head → IsHead (place_count c.query) head.own head.rows
 unfolding bulk_head
 bulk_is_head c body head h e =
-    let a = bind_ok (id_at c body) (λ rest. little_at BadBulk 2 rest >>= λ flags. flagged flags) head e in
-    let b = bind_ok (little_at BadBulk 2 a.0) (λ flags. flagged flags) head a.2 in
+    let a = bind_ok (id_at c body) (λ rest. number_or BadBulk 2 rest >>= λ flags. flagged flags) head e in
+    let b = bind_ok (number_or BadBulk 2 a.0) (λ flags. flagged flags) head a.2 in
     let d = bind_ok (must BadBulk (b.0.0 == 0 || b.0.0 == 64 || b.0.0 == 128 || b.0.0 == 192)) (λ _. typed (nat_lt b.0.0 128) b.0.1) head b.2 in
     by (nat_lt b.0.0 128) b.0.1 (number_rest BadBulk 2 a.0 b.0 (id_rest c body a.0 h a.1) b.1) d.2
   where
@@ -155,7 +155,7 @@ said_types n own (Ok head) word each e = by (own head) (each head refl) e
     by None k f = absurd cc
     by (Some types) k f = subst (OwnCount n) (some_same (Some types) word f) k
 
-types_said : (c : Conversation) (k : Command) (body : List ℕ) (word : Option Types) → AreBytes body → speaks_of_types c k body ≡ Some word → OwnCount (place_count c.query) word
+types_said : (c : Statement) (k : Command) (body : List ℕ) (word : Option Types) → AreBytes body → speaks_of_types c k body ≡ Some word → OwnCount (place_count c.query) word
 types_said c layout.Text body word h e = absurd cc
 types_said c layout.Prepare body word h e = subst (OwnCount (place_count c.query)) (some_same None word e) (none_own (place_count c.query))
 types_said c layout.LongData body word h e = absurd cc
@@ -166,14 +166,14 @@ types_said c layout.Close body word h e = subst (OwnCount (place_count c.query))
 types_said c layout.Other body word h e = absurd cc
 
 -- the data of a piece are bytes
-piece_bytes : (c : Conversation) (body : List ℕ) (piece : Piece) → AreBytes body → piece_at c body ≡ Ok piece → AreBytes piece.bytes
+piece_bytes : (c : Statement) (body : List ℕ) (piece : Piece) → AreBytes body → piece_at c body ≡ Ok piece → AreBytes piece.bytes
 piece_bytes c body piece h e =
-    let a = bind_ok (id_at c body) (λ rest. little_at BadPlace 2 rest >>= λ place. must BadPlace (nat_lt place.0 (place_count c.query)) >>= λ _. Ok (record { place = place.0; bytes = place.1 })) piece e in
-    let b = bind_ok (little_at BadPlace 2 a.0) (λ place. must BadPlace (nat_lt place.0 (place_count c.query)) >>= λ _. Ok (record { place = place.0; bytes = place.1 })) piece a.2 in
+    let a = bind_ok (id_at c body) (λ rest. number_or BadPlace 2 rest >>= λ place. must BadPlace (nat_lt place.0 (place_count c.query)) >>= λ _. Ok (record { place = place.0; bytes = place.1 })) piece e in
+    let b = bind_ok (number_or BadPlace 2 a.0) (λ place. must BadPlace (nat_lt place.0 (place_count c.query)) >>= λ _. Ok (record { place = place.0; bytes = place.1 })) piece a.2 in
     let d = bind_ok (must BadPlace (nat_lt b.0.0 (place_count c.query))) (λ _. Ok (record { place = b.0.0; bytes = b.0.1 })) piece b.2 in
     subst (λ (x : Piece). AreBytes x.bytes) (ok_same {F = StreamFault} (record { place = b.0.0; bytes = b.0.1 }) piece d.2) (number_rest BadPlace 2 a.0 b.0 (id_rest c body a.0 h a.1) b.1)
 
-piece_said : (c : Conversation) (place : ℕ) (k : Command) (body data_bytes : List ℕ) → AreBytes body → speaks_of_place c place k body ≡ Some data_bytes → AreBytes data_bytes
+piece_said : (c : Statement) (place : ℕ) (k : Command) (body data_bytes : List ℕ) → AreBytes body → speaks_of_place c place k body ≡ Some data_bytes → AreBytes data_bytes
 piece_said c place layout.Text body data_bytes h e = absurd cc
 piece_said c place layout.Prepare body data_bytes h e = absurd cc
 piece_said c place layout.LongData body data_bytes h e = by (piece_at c body) refl e
@@ -191,11 +191,11 @@ piece_said c place layout.Reset body data_bytes h e = absurd cc
 piece_said c place layout.Close body data_bytes h e = absurd cc
 piece_said c place layout.Other body data_bytes h e = absurd cc
 
-payload_types : (c : Conversation) (payload : List ℕ) → AreBytes payload → (word : Option Types) → said_by (speaks_of_types c) payload ≡ Some word → OwnCount (place_count c.query) word
+payload_types : (c : Statement) (payload : List ℕ) → AreBytes payload → (word : Option Types) → said_by (speaks_of_types c) payload ≡ Some word → OwnCount (place_count c.query) word
 payload_types c [] h word e = absurd cc
 payload_types c (b ∷ body) h word e = types_said c (command_of b) body word (bytes_tail b body h) e
 
-payload_piece : (c : Conversation) (place : ℕ) (payload : List ℕ) → AreBytes payload → (data_bytes : List ℕ) → said_by (speaks_of_place c place) payload ≡ Some data_bytes → AreBytes data_bytes
+payload_piece : (c : Statement) (place : ℕ) (payload : List ℕ) → AreBytes payload → (data_bytes : List ℕ) → said_by (speaks_of_place c place) payload ≡ Some data_bytes → AreBytes data_bytes
 payload_piece c place [] h data_bytes e = absurd cc
 payload_piece c place (b ∷ body) h data_bytes e = piece_said c place (command_of b) body data_bytes (bytes_tail b body h) e
 
@@ -238,14 +238,14 @@ joined_bytes [] data_bytes h e = absurd cc
 joined_bytes (x ∷ xs) data_bytes h e = subst AreBytes (some_same (flat_map (λ part. part) (x ∷ xs)) data_bytes e) (bytes_flat_map (λ part. part) (x ∷ xs) h)
 
 -- the types in force are as many as the placeholders, and the pieces that wait are bytes
-pub record IsInForce (c : Conversation) (s : StatementState) : Type 0 where
+pub record IsInForce (c : Statement) (s : StatementState) : Type 0 where
   pub types : OwnCount (place_count c.query) s.types
   pub pieces : (place : ℕ) (data_bytes : List ℕ) → s.pieces place ≡ Some data_bytes → AreBytes data_bytes
 
-pub nothing_in_force : (c : Conversation) → IsInForce c nothing_yet
+pub nothing_in_force : (c : Statement) → IsInForce c nothing_yet
 nothing_in_force c = record { types = none_own (place_count c.query); pieces = λ place data_bytes e. absurd cc }
 
-waiting_bytes : (c : Conversation) (before : Option (List ℕ)) (payloads : List (List ℕ)) (place : ℕ) (data_bytes : List ℕ) → ((other : List ℕ) → before ≡ Some other → AreBytes other)
+waiting_bytes : (c : Statement) (before : Option (List ℕ)) (payloads : List (List ℕ)) (place : ℕ) (data_bytes : List ℕ) → ((other : List ℕ) → before ≡ Some other → AreBytes other)
     → AllByRecursion AreBytes payloads → waiting_for c before payloads place ≡ Some data_bytes → AreBytes data_bytes
 waiting_bytes c before payloads place data_bytes held h e =
     let later = all_said (said_by (speaks_of_place c place)) (since is_end payloads) (payload_piece c place) (all_since AreBytes is_end payloads h) in
@@ -259,7 +259,7 @@ waiting_bytes c before payloads place data_bytes held h e =
     kept false (Some x) k = (k x refl, tt)
 
 -- payloads of bytes keep it so
-pub stays_in_force : (c : Conversation) (s : StatementState) (payloads : List (List ℕ)) → AllByRecursion AreBytes payloads → IsInForce c s → IsInForce c (state_after c s payloads)
+pub stays_in_force : (c : Statement) (s : StatementState) (payloads : List (List ℕ)) → AllByRecursion AreBytes payloads → IsInForce c s → IsInForce c (state_after c s payloads)
 stays_in_force c s payloads h is = record {
   types = said_from (OwnCount (place_count c.query)) (said_by (speaks_of_types c)) s.types None payloads (payload_types c) h is.types;
   pieces = λ place data_bytes e. waiting_bytes c (s.pieces place) payloads place data_bytes (is.pieces place) h e;

@@ -13,13 +13,13 @@ use Rattle.mysql_bulk_builder.specs.Causes.{first_some}
 use Rattle.mysql_commands.specs.declared.audit.End.TheVariants.{Whole}
 use Rattle.mysql_commands.specs.Audit.{Audit, AuditOf, IsAbout}
 use Rattle.mysql_commands.specs.GoingOn.{ReceiverDecides, ReceiverState, TakesAll, fresh_receiver}
-use Rattle.mysql_commands.specs.Layout.{Conversation}
+use Rattle.mysql_commands.specs.Query.{Statement, statement_of}
 use Rattle.mysql_commands.specs.Reading.{Set}
 use Rattle.mysql_commands.specs.Received.{Received, receiver_state}
 use Rattle.mysql_commands.specs.Taking.{with_sets}
 use Rattle.mysql_streams.specs.Cause.{cause_of, first_of_sets, query_cause, set_cause}
 use Rattle.mysql_streams.specs.Commands.{prepare_command}
-use Rattle.mysql_streams.specs.Sent.{Statement, as_execution, parsed_of, payloads_of, prepare_of, statement_of}
+use Rattle.mysql_streams.specs.Sent.{as_execution, payloads_of, prepare_of}
 use Rattle.mysql_streams.specs.declared.refusal.Refusal.{Refusal}
 use Rattle.mysql_streams.specs.declared.road.Road.TheVariants.{Execute}
 use Rattle.mysql_senders.specs.OneSet.{execution_payloads, whole_execution}
@@ -30,9 +30,9 @@ use Rattle.mysql_recoding.specs.Recoding.{Recodes, RefusesRecoding}
 
 -- ---- what a recoder holds
 
--- what it recodes by: the conversation, the limit of payloads, and how many placeholders the statement has
+-- what it recodes by: the statement, the limit of payloads, and how many placeholders the statement has
 pub record Terms : Type 0 where
-  pub conversation : Conversation
+  pub conversation : Statement
   pub limit : ℕ
   pub places : ℕ
 
@@ -83,7 +83,7 @@ pub record IsNewRecoder (query : List ℕ) (id limit : ℕ) (r : RecoderState) :
   pub none : query_cause Execute (statement_of query tokens id) (limit - 4) ≡ None
   pub received : r.received ≡ fresh_receiver
   pub count : r.count ≡ 0
-  pub prepare : r.prepare ≡ framing (prepare_command (parsed_of tokens)) 0
+  pub prepare : r.prepare ≡ framing (prepare_command (statement_of query tokens id).query.parsed) 0
   pub refused : r.refused ≡ None
 
 -- the error for the first cause for which the query can't be prepared
@@ -115,7 +115,7 @@ prepare_behind r (set ∷ sets) = []
 -- the first cause against the executions of sets by a statement with this id and so many placeholders, of which the first has this number
 abbrev pub executions_cause : ℕ → ℕ → ℕ → ℕ → List Set → Option Refusal
 executions_cause id places limit number sets =
-    first_of_sets (set_cause (whole_execution id) (record { places = places; bytes = limit - 4 })) number (map Ok (values_of_sets sets))
+    first_of_sets (set_cause (whole_execution id) places (limit - 4)) number (map Ok (values_of_sets sets))
 
 abbrev pub sets_cause : Terms → ℕ → List Set → Option Refusal
 sets_cause terms number sets = executions_cause terms.conversation.id terms.places terms.limit number sets

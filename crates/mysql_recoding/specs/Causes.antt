@@ -10,8 +10,8 @@ use Rattle.mysql_commands.specs.Audit.{Audit}
 use Rattle.mysql_commands.specs.Reading.{Set}
 use Rattle.mysql_commands.specs.declared.audit.End.{End}
 use Rattle.mysql_commands.specs.declared.audit.End.TheVariants as ends
+use Rattle.mysql_commands.specs.Query.{Statement}
 use Rattle.mysql_streams.specs.Cause.{cause_of}
-use Rattle.mysql_streams.specs.Sent.{Statement}
 use Rattle.mysql_streams.specs.declared.refusal.Refusal.{Refusal}
 use Rattle.mysql_streams.specs.declared.refusal.Refusal.TheVariants as refusals
 use Rattle.mysql_streams.specs.declared.road.Road.TheVariants.{Execute}
@@ -42,6 +42,6 @@ error_for _ = Memory
 -- cause for which its sets are not sent by execute.
 abbrev pub recoding_cause : Statement → ℕ → Audit → Option RecodeError
 recoding_cause statement limit audit = first_some (
-    (if is_mixed statement.places then Some Mixed else None) ∷
+    (if is_mixed statement.query.places then Some Mixed else None) ∷
     ending_cause audit.ending ∷
     option_map error_for (cause_of Execute statement limit (map Ok (values_of_sets audit.sets))) ∷ [])

@@ -8,7 +8,7 @@ use Rattle.mysql_recoding.specs.AsItComes.{Recoded}
 abbrev pub recoder_of : Inside → Recoded
 recoder_of r = record { receiver = r.receiver; places = r.places; count = r.count; prepare = r.prepare.items; refused = r.refused }
 
--- it sends by its receiver's conversation and limit, and its statement can be prepared
+-- it sends by its receiver's statement and limit, and that statement can be prepared
 pub record IsKept (r : Inside) : Type 0 where
   pub query : IsQuery r.receiver.conversation.query
   pub id_is : r.stmt_id ≡ r.receiver.conversation.id

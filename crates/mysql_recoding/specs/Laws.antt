@@ -1,6 +1,6 @@
 -- The laws of recoding: what was recoded carries the same sets, and there is one form for the same sets.
 -- MySQL: Client/Server Protocol, "Command Phase".
-use Rattle.std.specs.Prelude.{◌≡◌, ◌⊎◌, ℕ, ◌+◌, ◌-◌, ◌<◌, ◌≤◌, ◌^◌, pos, FitsSigned, List, ◌∷◌, ◌++◌, length, map, None, Ok}
+use Rattle.std.specs.Prelude.{◌≡◌, ◌⊎◌, ℕ, ◌+◌, ◌-◌, ◌<◌, ◌≤◌, ◌^◌, pos, FitsSigned, List, ◌∷◌, ◌++◌, length, map, None}
 use Rattle.std.specs.List.{AllByRecursion}
 use Rattle.std.specs.Int.{w64}
 use Rattle.mysql_wire.specs.Bytes.{AreBytes}
@@ -15,9 +15,11 @@ use Rattle.mysql_values.specs.Tokens.{HasTokens}
 use Rattle.mysql_commands.specs.declared.audit.End.TheVariants.{Whole}
 use Rattle.mysql_commands.specs.Audit.{Audit, AuditOf}
 use Rattle.mysql_commands.specs.Reading.{Set}
-use Rattle.mysql_streams.specs.Cause.{given_cause, limits_of}
+use Rattle.mysql_values.specs.Binding.{values_cause}
+use Rattle.mysql_streams.specs.declared.refusal.Refusal.TheVariants as refusals
+use Rattle.mysql_commands.specs.Query.{Statement, statement_of}
 use Rattle.mysql_streams.specs.Reading.{SentReadable}
-use Rattle.mysql_streams.specs.Sent.{AreSent, SentPayload, Statement, payloads_of, prepare_of, statement_of}
+use Rattle.mysql_streams.specs.Sent.{AreSent, SentPayload, payloads_of, prepare_of}
 use Rattle.mysql_streams.specs.Sets.{all_given_in_places}
 use Rattle.mysql_streams.specs.declared.road.Road.TheVariants.{Execute}
 use Rattle.mysql_recoding.specs.declared.errors.RecodeError.{RecodeError}
@@ -34,7 +36,7 @@ IsCarried (content.Bytes bytes) = AreBytes bytes
 pub record FillsPlaces (places : List Place) (set : Set) : Type 0 where
   pub count : length set ≡ length places
   pub each : AllByRecursion IsCarried set
-  pub right : (limit number : ℕ) → given_cause (limits_of places limit) number (Ok (map content_value set)) ≡ None
+  pub right : (number : ℕ) → values_cause (refusals.WrongCount number) (λ place. refusals.Float number place) (length places) (map content_value set) ≡ None
 
 -- Each set that a stream carries fills the query's placeholders.
 abbrev pub CarriedSetsFillPlaces : Type 0

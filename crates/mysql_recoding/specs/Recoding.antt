@@ -5,7 +5,8 @@ use Rattle.mysql_wire.specs.Stream.{framings}
 use Rattle.mysql_wire.specs.Stream.Numbering.{EachFromZero}
 use Rattle.mysql_values.specs.Tokens.{HasTokens}
 use Rattle.mysql_commands.specs.Audit.{Audit, AuditOf}
-use Rattle.mysql_streams.specs.Sent.{AreSent, SentPayload, payloads_of, statement_of}
+use Rattle.mysql_commands.specs.Query.{statement_of}
+use Rattle.mysql_streams.specs.Sent.{AreSent, SentPayload, payloads_of}
 use Rattle.mysql_streams.specs.declared.road.Road.TheVariants.{Execute}
 use Rattle.mysql_recoding.specs.declared.errors.RecodeError.{RecodeError}
 use Rattle.mysql_recoding.specs.declared.errors.RecodeError.TheVariants as recode_error

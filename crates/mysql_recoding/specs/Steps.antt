@@ -12,9 +12,9 @@ use Rattle.mysql_commands.specs.GoingOn.{ReceiverDecides, TakesAll}
 use Rattle.mysql_commands.specs.Reading.{Set}
 use Rattle.mysql_commands.specs.Received.{Received, receiver_state}
 use Rattle.mysql_commands.specs.Taking.{with_sets}
+use Rattle.mysql_commands.specs.Query.{statement_of}
 use Rattle.mysql_streams.specs.Cause.{query_cause}
 use Rattle.mysql_streams.specs.Commands.{prepare_command}
-use Rattle.mysql_streams.specs.Sent.{parsed_of, statement_of}
 use Rattle.mysql_streams.specs.declared.road.Road.TheVariants.{Execute}
 use Rattle.mysql_recoding.specs.declared.errors.RecodeError.{RecodeError}
 use Rattle.mysql_recoding.specs.declared.errors.RecodeError.TheVariants as recode_error
@@ -27,7 +27,7 @@ pub record CanBePrepared (query : List ℕ) (id limit places : ℕ) (prepare : L
   pub has : HasTokens query tokens
   pub places_are : places ≡ length (places_from query 0 tokens)
   pub none : query_cause Execute (statement_of query tokens id) (limit - 4) ≡ None
-  pub prepare_is : prepare ≡ framing (prepare_command (parsed_of tokens)) 0
+  pub prepare_is : prepare ≡ framing (prepare_command (statement_of query tokens id).query.parsed) 0
 
 -- what a receiver holds behind a piece whose sets were taken: each payload that stands whole was read, or this is the error for its fault
 abbrev pub EndsPiece : Received → List ℕ → List Set → Received → Option RecodeError → Type 0

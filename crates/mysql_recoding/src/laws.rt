@@ -7,7 +7,7 @@ use mysql_commands::laws::{
     start_decides_the_audit, stream_has_one_audit, there_is_one_audit, whole_streams_join,
 };
 use mysql_stmt::laws::executions_have_sizes;
-use mysql_streams::laws::{conversations_are_one, sent_values_are_carried};
+use mysql_streams::laws::sent_values_are_carried;
 use mysql_values::laws::tokens_of_a_text;
 use mysql_wire::laws::{framed_come_first, reader_laws};
 
@@ -49,7 +49,6 @@ pub fn equal_sets_recode_equally()
 {
     recodings_carry_the_same();
     stream_has_one_audit();
-    conversations_are_one();
     tokens_of_a_text();
 }
 
@@ -58,7 +57,6 @@ pub fn recodings_are_decided()
     ensures { RecodingsAreDecided }
 {
     stream_has_one_audit();
-    conversations_are_one();
     tokens_of_a_text();
 }
 
@@ -67,7 +65,7 @@ pub fn joined_streams_recode()
     ensures { JoinedStreamsRecode }
 {
     whole_streams_join();
-    conversations_are_one();
+    tokens_of_a_text();
     framed_come_first();
 }
 
@@ -77,7 +75,6 @@ pub fn recoded_as_it_comes()
     ensures { RecodedAsItComes }
 {
     stream_has_one_audit();
-    conversations_are_one();
     tokens_of_a_text();
     start_decides_the_audit();
     there_is_one_audit();

@@ -9,8 +9,8 @@ use Rattle.mysql_const.specs.Commands.{command_number}
 use Rattle.mysql_const.specs.declared.command.Command.TheVariants.{COM_REGISTER_SLAVE, COM_TABLE_DUMP, COM_BINLOG_DUMP, COM_BINLOG_DUMP_GTID}
 use Rattle.mysql_gtid.specs.BlockLaws.{block_at-back}
 use Rattle.mysql_gtid.specs.Blocks.{block_at, block_bytes}
-use Rattle.mysql_raw.specs.Forms.{little_at}
-use Rattle.mysql_raw.specs.Laws.{from_block-enough, little_at-back}
+use Rattle.mysql_raw.specs.Forms.{fixed_number_at}
+use Rattle.mysql_raw.specs.Laws.{from_block-enough, fixed_number_at-back}
 use Rattle.mysql_raw_bytes.specs.TextLaws.{u8_text_at-back, u32_text_at-back}
 use Rattle.mysql_raw_bytes.specs.Texts.{u8_text_at, u32_text_at}
 use Rattle.mysql_raw_consts.specs.ConstantLaws.{constant_at-back}
@@ -41,7 +41,7 @@ semi_sync_ack_fields_at-back p rest h none =
     let name = p.filename ++ rest in
     let position = little_bytes 8 p.position ++ name in
     ap semi_sync_ack_fields_at (joined_before (little_bytes 1 239 ∷ little_bytes 8 p.position ∷ p.filename ∷ []) rest)
-    ∙ rw (constant_at-back 1 239 position (lit< tt), little_at-back 8 p.position name h.position, none, append-nil p.filename) refl
+    ∙ rw (constant_at-back 1 239 position (lit< tt), fixed_number_at-back 8 p.position name h.position, none, append-nil p.filename) refl
 
 pub semi_sync_ack_at-back : (p : SemiSyncAck) (rest : List ℕ) → IsSemiSyncAck p → rest ≡ [] → semi_sync_ack_at (semi_sync_ack p ++ rest) ≡ Ok (p, rest)
 unfolding semi_sync_ack semi_sync_ack_at
@@ -73,13 +73,13 @@ register_slave_fields_at-back p rest h =
     ∷ little_bytes 2 p.port ∷ little_bytes 4 p.replication_rank ∷ little_bytes 4 p.master_id ∷ [] in
     ap register_slave_fields_at (joined_before fields rest) ∙ rw (
       constant_at-back 1 (command_number COM_REGISTER_SLAVE) id (lit< tt),
-      little_at-back 4 p.server_id host h.server_id,
+      fixed_number_at-back 4 p.server_id host h.server_id,
       name-back p.hostname user h.hostname,
       name-back p.user password h.user,
       name-back p.password port h.password,
-      little_at-back 2 p.port rank h.port,
-      little_at-back 4 p.replication_rank master h.replication_rank,
-      little_at-back 4 p.master_id rest h.master_id,
+      fixed_number_at-back 2 p.port rank h.port,
+      fixed_number_at-back 4 p.replication_rank master h.replication_rank,
+      fixed_number_at-back 4 p.master_id rest h.master_id,
     ) refl
 
 pub register_slave_at-back : (p : RegisterSlave) (rest : List ℕ) → IsRegisterSlave p → register_slave_at (register_slave p ++ rest) ≡ Ok (p, rest)
@@ -88,8 +88,8 @@ register_slave_at-back p rest h = from_block-enough 5 register_slave_fields_at (
 
 -- named flags that were written are read again
 flags-back : (flags : ℕ) (rest : List ℕ) → flags < 2 ^ 16 → are_named binlog_dump_flags flags ≡ true
-    → named_at binlog_dump_named (little_at 2) (little_bytes 2 flags ++ rest) ≡ Ok (record { 0 = flags }, rest)
-flags-back flags rest h named = rw (little_at-back 2 flags rest h, named) refl
+    → named_at binlog_dump_named (fixed_number_at 2) (little_bytes 2 flags ++ rest) ≡ Ok (record { 0 = flags }, rest)
+flags-back flags rest h named = rw (fixed_number_at-back 2 flags rest h, named) refl
 
 binlog_dump_fields_at-back : (p : BinlogDump) (rest : List ℕ) → IsBinlogDump p → rest ≡ [] → binlog_dump_fields_at (binlog_dump p ++ rest) ≡ Ok (p, rest)
 unfolding binlog_dump binlog_dump_fields_at
@@ -101,9 +101,9 @@ binlog_dump_fields_at-back p rest h none =
     let fields = little_bytes 1 (command_number COM_BINLOG_DUMP) ∷ little_bytes 4 p.pos ∷ little_bytes 2 p.flags ∷ little_bytes 4 p.server_id ∷ p.filename ∷ [] in
     ap binlog_dump_fields_at (joined_before fields rest) ∙ rw (
       constant_at-back 1 (command_number COM_BINLOG_DUMP) pos (lit< tt),
-      little_at-back 4 p.pos flags h.pos,
+      fixed_number_at-back 4 p.pos flags h.pos,
       flags-back p.flags id h.flags h.named,
-      little_at-back 4 p.server_id name h.server_id,
+      fixed_number_at-back 4 p.server_id name h.server_id,
       none,
       append-nil p.filename,
     ) refl
@@ -146,9 +146,9 @@ binlog_dump_gtid_fields_at-back p rest h =
     ap binlog_dump_gtid_fields_at (joined_before fields rest) ∙ rw (
       constant_at-back 1 (command_number COM_BINLOG_DUMP_GTID) flags (lit< tt),
       flags-back p.flags id h.flags h.named,
-      little_at-back 4 p.server_id name h.server_id,
+      fixed_number_at-back 4 p.server_id name h.server_id,
       long_text-back p.filename pos h.filename,
-      little_at-back 8 p.pos block h.pos,
+      fixed_number_at-back 8 p.pos block h.pos,
       block-back bytes rest h.sids.short,
       block_alone p h,
     ) refl

@@ -14,7 +14,7 @@ use Rattle.mysql_const.specs.Commands.{command_number}
 use Rattle.mysql_const.specs.declared.command.Command.TheVariants.{COM_REGISTER_SLAVE, COM_TABLE_DUMP, COM_BINLOG_DUMP, COM_BINLOG_DUMP_GTID}
 use Rattle.mysql_gtid.specs.Blocks.{IsBlock, block_at, block_bytes}
 use Rattle.mysql_gtid.specs.Sids.{SidParts}
-use Rattle.mysql_raw.specs.Forms.{little_at}
+use Rattle.mysql_raw.specs.Forms.{fixed_number_at}
 use Rattle.mysql_raw.specs.Wire.{Reading, from_block, ◌>>=◌}
 use Rattle.mysql_raw_bytes.specs.Texts.{u8_text_at, u32_text_at}
 use Rattle.mysql_raw_consts.specs.Constants.{constant_at, named_at}
@@ -35,7 +35,7 @@ semi_sync_ack p = concat (little_bytes 1 239 ∷ little_bytes 8 p.position ∷ p
 unfoldable pub semi_sync_ack_fields_at : List ℕ → Reading SemiSyncAck
 semi_sync_ack_fields_at bytes = do
   header ← constant_at 1 239 bytes
-  position ← little_at 8 header.1
+  position ← fixed_number_at 8 header.1
   filename ← all_at position.1
   Ok (record { position = position.0; filename = filename.0 }, filename.1)
 
@@ -102,15 +102,15 @@ pub record ReplicaNumbers : Type 0 where
 
 unfoldable pub replica_numbers_at : List ℕ → Reading ReplicaNumbers
 replica_numbers_at bytes = do
-  port ← little_at 2 bytes
-  replication_rank ← little_at 4 port.1
-  master_id ← little_at 4 replication_rank.1
+  port ← fixed_number_at 2 bytes
+  replication_rank ← fixed_number_at 4 port.1
+  master_id ← fixed_number_at 4 replication_rank.1
   Ok (record { port = port.0; replication_rank = replication_rank.0; master_id = master_id.0 }, master_id.1)
 
 unfoldable pub register_slave_fields_at : List ℕ → Reading RegisterSlave
 register_slave_fields_at bytes = do
   header ← constant_at 1 (command_number COM_REGISTER_SLAVE) bytes
-  server_id ← little_at 4 header.1
+  server_id ← fixed_number_at 4 header.1
   names ← replica_names_at server_id.1
   numbers ← replica_numbers_at names.1
   Ok (
@@ -151,9 +151,9 @@ binlog_dump p = concat (little_bytes 1 (command_number COM_BINLOG_DUMP) ∷ litt
 unfoldable pub binlog_dump_fields_at : List ℕ → Reading BinlogDump
 binlog_dump_fields_at bytes = do
   header ← constant_at 1 (command_number COM_BINLOG_DUMP) bytes
-  pos ← little_at 4 header.1
-  flags ← named_at binlog_dump_named (little_at 2) pos.1
-  server_id ← little_at 4 flags.1
+  pos ← fixed_number_at 4 header.1
+  flags ← named_at binlog_dump_named (fixed_number_at 2) pos.1
+  server_id ← fixed_number_at 4 flags.1
   filename ← all_at server_id.1
   Ok (record { pos = pos.0; flags = flags.0.0; server_id = server_id.0; filename = filename.0 }, filename.1)
 
@@ -185,8 +185,8 @@ binlog_dump_gtid p = concat (
 unfoldable pub binlog_dump_gtid_front_at : List ℕ → Reading (ℕ × ℕ)
 binlog_dump_gtid_front_at bytes = do
   header ← constant_at 1 (command_number COM_BINLOG_DUMP_GTID) bytes
-  flags ← named_at binlog_dump_named (little_at 2) header.1
-  server_id ← little_at 4 flags.1
+  flags ← named_at binlog_dump_named (fixed_number_at 2) header.1
+  server_id ← fixed_number_at 4 flags.1
   Ok ((flags.0.0, server_id.0), server_id.1)
 
 -- Where the log is to start: the file's name, the position and the block of the sets that are known.
@@ -198,7 +198,7 @@ pub record BinlogDumpGtidStart : Type 0 where
 unfoldable pub binlog_dump_gtid_start_at : List ℕ → Reading BinlogDumpGtidStart
 binlog_dump_gtid_start_at bytes = do
   filename ← u32_text_at bytes
-  pos ← little_at 8 filename.1
+  pos ← fixed_number_at 8 filename.1
   block ← u32_text_at pos.1
   Ok (record { filename = filename.0; pos = pos.0; block = block.0 }, block.1)
 

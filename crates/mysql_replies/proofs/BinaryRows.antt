@@ -3,7 +3,7 @@ use Rattle.std.proofs.Common.{◌≡◌, ℕ, List, [], ◌∷◌, take, ◌==�
 use Rattle.byteorder.specs.Endian.{little_number}
 use Rattle.mysql_buf.specs.FirstBytes.{first-enough, first-short}
 use Rattle.mysql_columns.specs.Columns.{ColumnDefinition}
-use Rattle.mysql_raw.specs.Forms.{bytes_at, little_at}
+use Rattle.mysql_raw.specs.Forms.{bytes_at, fixed_number_at}
 use Rattle.mysql_raw.specs.Laws.{ok_same}
 use Rattle.mysql_raw.specs.WireError.TheVariants.{BadConstant}
 use Rattle.mysql_rows.specs.Rows.{binary_row_at, binary_row_body_at, binary_resultset_row_at}
@@ -22,7 +22,7 @@ pub zero_begins : (columns : List ColumnDefinition) (bytes : List ℕ) (header :
 unfolding binary_resultset_row_at binary_row_at
 zero_begins columns [] header h = absurd (let none = ap or_end (first-short 1 (little_number 1) [] (omega arith)) in cc)
 zero_begins columns (b ∷ rest) header h =
-    let number : little_at 1 (b ∷ rest) ≡ Ok (little_number 1 (b ∷ rest), rest) = ap or_end (first-enough 1 (little_number 1) (b ∷ rest) (omega arith)) in
+    let number : fixed_number_at 1 (b ∷ rest) ≡ Ok (little_number 1 (b ∷ rest), rest) = ap or_end (first-enough 1 (little_number 1) (b ∷ rest) (omega arith)) in
     let byte : bytes_at 1 (b ∷ rest) ≡ Ok (take 1 (b ∷ rest), rest) = ap or_end (first-enough 1 (take 1) (b ∷ rest) (omega arith)) in
     let after : header.1 ≡ rest = after_constant 0 (little_number 1 (b ∷ rest), rest) header (sym (ap (λ (r : Reading ℕ). r >>= is_constant 0) number) ∙ h) in
     ap (λ (r : Reading ℕ). r >>= λ x. binary_row_body_at 2 columns x.1) h ∙ ap (binary_row_body_at 2 columns) after

@@ -7,9 +7,9 @@ use Rattle.mysql_wire.specs.Stream.{framings}
 use Rattle.mysql_wire.specs.Stream.Numbering.{EachFromZero}
 use Rattle.mysql_values.specs.Value.{Value}
 use Rattle.mysql_streams.specs.declared.refusal.Refusal.{Refusal}
-use Rattle.mysql_streams.specs.Cause.{Limits, first_of_sets, set_cause}
+use Rattle.mysql_streams.specs.Cause.{first_of_sets, set_cause}
 use Rattle.mysql_streams.specs.Sets.{Given}
-use Rattle.mysql_senders.specs.OneSet.{AppendsExecution, AppendsExecutions, AppendsMore, RefusesMore, RefusesSet, execution_payloads, whole_execution}
+use Rattle.mysql_senders.specs.OneSet.{AppendsExecution, AppendsExecutions, AppendsMore, Limits, RefusesMore, RefusesSet, execution_payloads, whole_execution}
 use Rattle.mysql_senders.proofs.Contents.{gives_one}
 use Rattle.mysql_senders.proofs.SentSets.{first_is, framings-append, front_length}
 use Rattle.mysql_senders.proofs.StatementSets.{Fit}
@@ -20,7 +20,7 @@ given values = Ok values
 
 -- the first cause of sets of values that are numbered on from here
 abbrev causes_from : ℕ → Limits → ℕ → List (List Value) → Option Refusal
-causes_from id limits number sets = first_of_sets (set_cause (whole_execution id) limits) number (map given sets)
+causes_from id limits number sets = first_of_sets (set_cause (whole_execution id) limits.places limits.bytes) number (map given sets)
 
 -- the framings of their executions
 abbrev framed : ℕ → List (List Value) → List ℕ
@@ -53,16 +53,16 @@ values_here sets i set here =
 module _ (id : ℕ) (limits : Limits) (first : ℕ) (sets : List (List Value)) (old out : List ℕ) (i : ℕ) (s : MoreSent id limits first sets old out i) where
   module _ (set : List Value) (here : drop i sets ≡ set ∷ drop (i + 1) sets) where
     -- the first cause from this set on
-    from_here : causes_from id limits first sets ≡ option_or (set_cause (whole_execution id) limits (first + i) (Ok set)) (causes_from id limits (first + (i + 1)) (drop (i + 1) sets))
+    from_here : causes_from id limits first sets ≡ option_or (set_cause (whole_execution id) limits.places limits.bytes (first + i) (Ok set)) (causes_from id limits (first + (i + 1)) (drop (i + 1) sets))
     from_here =
         sym s.causes ∙ ap (λ l. causes_from id limits (first + i) l) here
-        ∙ ap (λ (number : ℕ). option_or (set_cause (whole_execution id) limits (first + i) (Ok set)) (causes_from id limits number (drop (i + 1) sets))) (omega arith)
+        ∙ ap (λ (number : ℕ). option_or (set_cause (whole_execution id) limits.places limits.bytes (first + i) (Ok set)) (causes_from id limits number (drop (i + 1) sets))) (omega arith)
 
     -- one more set was sent
     pub sent_next : (new : List ℕ) → AppendsExecution id limits (first + i) (Ok set) out new → MoreSent id limits first sets old new (i + 1)
     sent_next new a =
         let values : set ≡ a.appends.values = gives_one (Ok set) set a.appends.values refl a.appends.gives in
-        let none : set_cause (whole_execution id) limits (first + i) (Ok set) ≡ None = ap (λ g. set_cause (whole_execution id) limits (first + i) g) a.appends.gives ∙ a.appends.none in
+        let none : set_cause (whole_execution id) limits.places limits.bytes (first + i) (Ok set) ≡ None = ap (λ g. set_cause (whole_execution id) limits.places limits.bytes (first + i) g) a.appends.gives ∙ a.appends.none in
         let put : new ≡ out ++ framings (execution_payloads id set) EachFromZero = a.appends.appended ∙ ap (λ l. out ++ framings (execution_payloads id l) EachFromZero) (sym values) in
         record {
           causes = sym (from_here ∙ ap (λ c. option_or c (causes_from id limits (first + (i + 1)) (drop (i + 1) sets))) none);

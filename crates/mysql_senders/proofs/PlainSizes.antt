@@ -45,7 +45,7 @@ none_of_three : (same long : Bool) (float : Option ℕ) (wrong large : Refusal) 
 none_of_three same long float wrong large at counted exact short = rw (counted, exact, short) refl
 
 pub no_cause : (values : List (Bor Value)) (places room set : ℕ) → length values ≡ places → first_float (referred values) ≡ None → ((id : ℕ) → nat_lt room (length (whole_execution id (referred values))) ≡ false)
-    → (id : ℕ) → set_cause (whole_execution id) (record { places = places; bytes = room }) set (Ok (referred values)) ≡ None
+    → (id : ℕ) → set_cause (whole_execution id) places room set (Ok (referred values)) ≡ None
 no_cause values places room set count exact fits id =
     none_of_three (length (referred values) == places) (nat_lt room (length (whole_execution id (referred values)))) (first_float (referred values)) (refusals.WrongCount set) (refusals.PacketTooLarge set)
     (λ place. refusals.Float set place) (eq-eqb (length (referred values)) places (length-map values (λ (value : Bor Value). value.now) ∙ count)) exact (fits id)

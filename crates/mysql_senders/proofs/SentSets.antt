@@ -10,8 +10,8 @@ use Rattle.mysql_wire.specs.Stream.Numbering.{EachFromZero}
 use Rattle.mysql_values.specs.Value.{Value}
 use Rattle.mysql_streams.specs.declared.refusal.Refusal.{Refusal}
 use Rattle.mysql_streams.specs.Sets.{Given}
-use Rattle.mysql_streams.specs.Cause.{Limits, first_of_sets, set_cause}
-use Rattle.mysql_senders.specs.OneSet.{AppendsSet}
+use Rattle.mysql_streams.specs.Cause.{first_of_sets, set_cause}
+use Rattle.mysql_senders.specs.OneSet.{AppendsSet, Limits}
 
 -- framings that are each numbered from 0 stand apart
 pub framings-append : (ps qs : List (List ℕ)) → framings (ps ++ qs) EachFromZero ≡ framings ps EachFromZero ++ framings qs EachFromZero
@@ -31,7 +31,7 @@ pub record AllSent (Readable : List Value → Type 0) (payloads : List Value →
 
 -- so many sets were sent, each with no cause: what is left to send goes on from what stands; behind all sets stand others that are not sent
 pub record SetsSent {S : Type 0} (Readable : List Value → Type 0) (command : List Value → List ℕ) (payloads : List Value → List (List ℕ)) (limits : Limits) (give : S → Given) (sets : List S) (others : List Given) (start out : List ℕ) (i : ℕ) : Type 0 where
-  pub causes : first_of_sets (set_cause command limits) i (map give (drop i sets) ++ others) ≡ first_of_sets (set_cause command limits) 0 (map give sets ++ others)
+  pub causes : first_of_sets (set_cause command limits.places limits.bytes) i (map give (drop i sets) ++ others) ≡ first_of_sets (set_cause command limits.places limits.bytes) 0 (map give sets ++ others)
   pub rest : (later : List (List Value)) → map give (drop i sets) ≡ map Ok later → AllByRecursion Readable later → AllSent Readable payloads (map give sets) start later out
 
 -- before the first set none was sent
@@ -46,15 +46,15 @@ module _ {S : Type 0} (Readable : List Value → Type 0) (command : List Value �
     (s : SetsSent Readable command payloads limits give sets others start out i) where
   module _ (set : S) (here : drop i sets ≡ set ∷ drop (i + 1) sets) where
     -- the first cause from this set on
-    from_here : first_of_sets (set_cause command limits) 0 (map give sets ++ others) ≡ option_or (set_cause command limits i (give set)) (first_of_sets (set_cause command limits) (i + 1) (map give (drop (i + 1) sets) ++ others))
-    from_here = sym s.causes ∙ ap (λ l. first_of_sets (set_cause command limits) i (map give l ++ others)) here
+    from_here : first_of_sets (set_cause command limits.places limits.bytes) 0 (map give sets ++ others) ≡ option_or (set_cause command limits.places limits.bytes i (give set)) (first_of_sets (set_cause command limits.places limits.bytes) (i + 1) (map give (drop (i + 1) sets) ++ others))
+    from_here = sym s.causes ∙ ap (λ l. first_of_sets (set_cause command limits.places limits.bytes) i (map give l ++ others)) here
 
     -- one more set was sent
     pub one_more : (new : List ℕ) → (a : AppendsSet command payloads limits i (give set) out new) → Readable a.values → SetsSent Readable command payloads limits give sets others start new (i + 1)
     one_more new a readable =
-        let none : set_cause command limits i (give set) ≡ None = ap (λ g. set_cause command limits i g) a.gives ∙ a.none in
+        let none : set_cause command limits.places limits.bytes i (give set) ≡ None = ap (λ g. set_cause command limits.places limits.bytes i g) a.gives ∙ a.none in
         record {
-          causes = sym (from_here ∙ ap (λ c. option_or c (first_of_sets (set_cause command limits) (i + 1) (map give (drop (i + 1) sets) ++ others))) none);
+          causes = sym (from_here ∙ ap (λ c. option_or c (first_of_sets (set_cause command limits.places limits.bytes) (i + 1) (map give (drop (i + 1) sets) ++ others))) none);
           rest = λ later gives readings. one_rest later gives readings;
         }
       where
@@ -73,8 +73,8 @@ module _ {S : Type 0} (Readable : List Value → Type 0) (command : List Value �
             }
 
     -- a set that is refused is the first
-    pub first_refused : (refusal : Refusal) → set_cause command limits i (give set) ≡ Some refusal → first_of_sets (set_cause command limits) 0 (map give sets ++ others) ≡ Some refusal
-    first_refused refusal this = from_here ∙ ap (λ c. option_or c (first_of_sets (set_cause command limits) (i + 1) (map give (drop (i + 1) sets) ++ others))) this
+    pub first_refused : (refusal : Refusal) → set_cause command limits.places limits.bytes i (give set) ≡ Some refusal → first_of_sets (set_cause command limits.places limits.bytes) 0 (map give sets ++ others) ≡ Some refusal
+    first_refused refusal this = from_here ∙ ap (λ c. option_or c (first_of_sets (set_cause command limits.places limits.bytes) (i + 1) (map give (drop (i + 1) sets) ++ others))) this
 
   module _ (passed : length sets ≤ i) where
     none_left : drop i sets ≡ []
@@ -85,8 +85,8 @@ module _ {S : Type 0} (Readable : List Value → Type 0) (command : List Value �
     all_sent = s.rest [] (ap (λ l. map give l) none_left) tt
 
     -- the first cause is that of those behind them
-    pub cause_behind : first_of_sets (set_cause command limits) 0 (map give sets ++ others) ≡ first_of_sets (set_cause command limits) i others
-    cause_behind = sym s.causes ∙ ap (λ l. first_of_sets (set_cause command limits) i (map give l ++ others)) none_left
+    pub cause_behind : first_of_sets (set_cause command limits.places limits.bytes) 0 (map give sets ++ others) ≡ first_of_sets (set_cause command limits.places limits.bytes) i others
+    cause_behind = sym s.causes ∙ ap (λ l. first_of_sets (set_cause command limits.places limits.bytes) i (map give l ++ others)) none_left
 
 -- the first of causes is one
 pub first_is : (first rest : Option Refusal) (refusal : Refusal) → first ≡ Some refusal → option_or first rest ≡ Some refusal

@@ -13,16 +13,17 @@ use Rattle.mysql_values.specs.Value.{Value}
 use Rattle.mysql_values.specs.Params.{values_over}
 use Rattle.mysql_values.specs.Parsed.{Parsed, names_of}
 use Rattle.mysql_values.specs.Queries.{is_mixed, places_from}
+use Rattle.mysql_commands.specs.Query.{Statement, statement_of}
 use Rattle.mysql_streams.specs.declared.refusal.Refusal.{Refusal}
 use Rattle.mysql_streams.specs.declared.refusal.Refusal.TheVariants as refusals
 use Rattle.mysql_streams.specs.declared.road.Road.TheVariants.{Execute}
 use Rattle.mysql_streams.specs.Commands.{prepare_command}
 use Rattle.mysql_streams.specs.Sets.{Given, given_by}
-use Rattle.mysql_streams.specs.Sent.{SentPayload, Statement, as_execution, on_the_way, parsed_of, payloads_of, prepare_of, statement_of}
-use Rattle.mysql_streams.specs.Cause.{Limits, cause_if, first_of_sets, limits_of, max_places, prepare_cause, set_cause}
+use Rattle.mysql_streams.specs.Sent.{SentPayload, as_execution, on_the_way, payloads_of, prepare_of}
+use Rattle.mysql_streams.specs.Cause.{cause_if, first_of_sets, max_places, prepare_cause, set_cause}
 use Rattle.mysql_streams.specs.Reading.{SentReadable}
 use Rattle.mysql_streams.specs.Sending.{RefusesGiven}
-use Rattle.mysql_senders.specs.OneSet.{AppendsExecution, AppendsExecutions, IsPreparable, RefusesSet, RefusesSets, execution_payloads, whole_execution}
+use Rattle.mysql_senders.specs.OneSet.{AppendsExecution, AppendsExecutions, IsPreparable, Limits, RefusesSet, RefusesSets, execution_payloads, limits_of, whole_execution}
 use Rattle.mysql_senders.proofs.Contents.{gives_values}
 use Rattle.mysql_senders.proofs.SentSets.{AllSent, SetsSent, all_sent as all_of, cause_behind, first_of_two, first_refused, front_length, none_of_two, none_sent as none_of, one_more}
 
@@ -48,8 +49,8 @@ none_sent id limits given give sets others old is = record {
 
 module _ {S : Type 0} (id : ℕ) (limits : Limits) (given : List Given) (give : S → Given) (sets : List S) (others : List Given) (old out : List ℕ) (i : ℕ) (s : ExecutionsSent id limits given give sets others old out i) where
   -- what is given is refused for the first cause of the sets and the others
-  refused : (refusal : Refusal) → first_of_sets (set_cause (whole_execution id) limits) 0 (map give sets ++ others) ≡ Some refusal → RefusesSets (whole_execution id) limits given refusal
-  refused refusal this = inr (ap (λ g. first_of_sets (set_cause (whole_execution id) limits) 0 g) s.given_is ∙ this)
+  refused : (refusal : Refusal) → first_of_sets (set_cause (whole_execution id) limits.places limits.bytes) 0 (map give sets ++ others) ≡ Some refusal → RefusesSets (whole_execution id) limits given refusal
+  refused refusal this = inr (ap (λ g. first_of_sets (set_cause (whole_execution id) limits.places limits.bytes) 0 g) s.given_is ∙ this)
 
   -- one more set was sent
   pub sent_next : (set : S) → drop i sets ≡ set ∷ drop (i + 1) sets → (new : List ℕ) → AppendsExecution id limits i (give set) out new → ExecutionsSent id limits given give sets others old new (i + 1)
@@ -65,7 +66,7 @@ module _ {S : Type 0} (id : ℕ) (limits : Limits) (given : List Given) (give : 
   refused_at set here refusal (inr this) = refused refusal (first_refused Fit (whole_execution id) (execution_payloads id) limits give sets others old out i s.sent set here refusal this)
 
   -- the first cause behind all sets is that of the others
-  cause_at_end : length sets ≤ i → first_of_sets (set_cause (whole_execution id) limits) 0 (map give sets ++ others) ≡ first_of_sets (set_cause (whole_execution id) limits) i others
+  cause_at_end : length sets ≤ i → first_of_sets (set_cause (whole_execution id) limits.places limits.bytes) 0 (map give sets ++ others) ≡ first_of_sets (set_cause (whole_execution id) limits.places limits.bytes) i others
   cause_at_end passed = cause_behind Fit (whole_execution id) (execution_payloads id) limits give sets others old out i s.sent passed
 
   -- all sets were sent, and no set stands behind them
@@ -75,7 +76,7 @@ module _ {S : Type 0} (id : ℕ) (limits : Limits) (given : List Given) (give : 
       record {
         values = all.values;
         gives = s.given_is ∙ ap (λ l. map give sets ++ l) none ∙ append-nil (map give sets) ∙ all.gives;
-        none = ap (λ g. first_of_sets (set_cause (whole_execution id) limits) 0 g) s.given_is ∙ cause_at_end passed ∙ ap (λ l. first_of_sets (set_cause (whole_execution id) limits) i l) none;
+        none = ap (λ g. first_of_sets (set_cause (whole_execution id) limits.places limits.bytes) 0 g) s.given_is ∙ cause_at_end passed ∙ ap (λ l. first_of_sets (set_cause (whole_execution id) limits.places limits.bytes) i l) none;
         fit = all.readable;
         appended = sym (append-nil out) ∙ sym all.bytes;
       }
@@ -127,21 +128,21 @@ module _ (query : List ℕ) (parsed : Parsed) (places : ℕ) (s : IsPreparable q
       (subst (λ (n : ℕ). P n (record { places = places; bytes = limit - 4 }) (sets parsed.names)) same holds))
 
   module _ (short : length (prepare_command parsed.query) ≤ limit - 4) where
-    prepared : prepare_cause (places_from query 0 s.tokens) (parsed_of s.tokens) (limit - 4) ≡ None
+    prepared : prepare_cause (statement_of query s.tokens id).query (limit - 4) ≡ None
     prepared =
-        prepare_none (is_mixed (places_from query 0 s.tokens)) (nat_lt max_places (length (places_from query 0 s.tokens))) (nat_lt (limit - 4) (length (prepare_command (parsed_of s.tokens)))) s.one_kind few
+        prepare_none (is_mixed (places_from query 0 s.tokens)) (nat_lt max_places (length (places_from query 0 s.tokens))) (nat_lt (limit - 4) (length (prepare_command (statement_of query s.tokens id).query.parsed))) s.one_kind few
         (subst (λ (l : List ℕ). nat_lt (limit - 4) (length (prepare_command l)) ≡ false) s.query_is (le-ltb (limit - 4) (length (prepare_command parsed.query)) short))
 
     -- a set is refused behind the prepare
     pub refused_sets : (refusal : Refusal) → RefusesSets (whole_execution number) (record { places = places; bytes = limit - 4 }) (sets parsed.names) refusal → RefusesGiven Execute query sets id limit refusal
     refused_sets refusal (inl memory) = inl memory
     refused_sets refusal (inr this) =
-        let cause : first_of_sets (set_cause (whole_execution id) (limits_of (places_from query 0 s.tokens) limit)) 0 (sets (names_of s.tokens)) ≡ Some refusal =
-        over_tokens (λ n limits given. first_of_sets (set_cause (whole_execution n) limits) 0 given ≡ Some refusal) this in
+        let cause : first_of_sets (set_cause (whole_execution id) (length (places_from query 0 s.tokens)) (limit - 4)) 0 (sets (names_of s.tokens)) ≡ Some refusal =
+        over_tokens (λ n limits given. first_of_sets (set_cause (whole_execution n) limits.places limits.bytes) 0 given ≡ Some refusal) this in
         inr (record {
           tokens = s.tokens;
           has = s.has;
-          first = first_of_two (prepare_cause (places_from query 0 s.tokens) (parsed_of s.tokens) (limit - 4)) _ refusal prepared cause;
+          first = first_of_two (prepare_cause (statement_of query s.tokens id).query (limit - 4)) _ refusal prepared cause;
         })
 
     -- the prepare and all sets were sent
@@ -149,7 +150,7 @@ module _ (query : List ℕ) (parsed : Parsed) (places : ℕ) (s : IsPreparable q
         SentReadable Execute query sets id limit old new
     all_executed old mid new put sent =
         let a : AppendsExecutions id (limits_of (places_from query 0 s.tokens) limit) (sets (names_of s.tokens)) mid new = over_tokens (λ n limits given. AppendsExecutions n limits given mid new) sent in
-        let prepare : mid ≡ old ++ framing (prepare_command (parsed_of s.tokens)) 0 = put ∙ ap (λ l. old ++ framing (prepare_command l) 0) s.query_is in
+        let prepare : mid ≡ old ++ framing (prepare_command (statement_of query s.tokens id).query.parsed) 0 = put ∙ ap (λ l. old ++ framing (prepare_command l) 0) s.query_is in
         let statement : Statement = statement_of query s.tokens id in
         record {
           sends = record {
@@ -157,12 +158,12 @@ module _ (query : List ℕ) (parsed : Parsed) (places : ℕ) (s : IsPreparable q
             has = s.has;
             values = a.values;
             given = a.gives;
-            none = none_of_two (prepare_cause (places_from query 0 s.tokens) (parsed_of s.tokens) (limit - 4)) _ prepared a.none;
+            none = none_of_two (prepare_cause (statement_of query s.tokens id).query (limit - 4)) _ prepared a.none;
             sent = prepare_of statement ∷ flat_map (as_execution statement) a.values;
             are_sent = refl;
             appended = a.appended ∙ ap (λ l. l ++ framings (flat_map (execution_payloads id) a.values) EachFromZero) prepare
-                ∙ append_assoc old (framing (prepare_command (parsed_of s.tokens)) 0) (framings (flat_map (execution_payloads id) a.values) EachFromZero)
-                ∙ ap (λ l. old ++ (framing (prepare_command (parsed_of s.tokens)) 0 ++ framings l EachFromZero)) (sym (execution_payloads_of statement a.values));
+                ∙ append_assoc old (framing (prepare_command (statement_of query s.tokens id).query.parsed) 0) (framings (flat_map (execution_payloads id) a.values) EachFromZero)
+                ∙ ap (λ l. old ++ (framing (prepare_command (statement_of query s.tokens id).query.parsed) 0 ++ framings l EachFromZero)) (sym (execution_payloads_of statement a.values));
           };
           readable = a.fit;
         }
@@ -174,6 +175,6 @@ pub over_given : (P : Given → Type 0) (names : List (List ℕ)) (params : Para
 over_given P names params values over holds = subst P (sym (gives_values names params values over)) holds
 
 -- an execution against which nothing speaks
-pub appended_set : (id : ℕ) (limits : Limits) (set : ℕ) (values : List Value) (old new : List ℕ) → ((id : ℕ) → set_cause (whole_execution id) limits set (Ok values) ≡ None) → Fit values →
+pub appended_set : (id : ℕ) (limits : Limits) (set : ℕ) (values : List Value) (old new : List ℕ) → ((id : ℕ) → set_cause (whole_execution id) limits.places limits.bytes set (Ok values) ≡ None) → Fit values →
     new ≡ old ++ framings (execution_payloads id values) EachFromZero → AppendsExecution id limits set (Ok values) old new
 appended_set id limits set values old new none fit put = record { appends = record { values = values; gives = refl; none = none id; appended = put }; fit = fit }

@@ -14,30 +14,32 @@ use Rattle.mysql_values.specs.declared.bind.BindError.{BindError}
 use Rattle.mysql_values.specs.declared.bind.BindError.TheVariants as bind_error
 use Rattle.mysql_values.specs.Tokens.{HasTokens}
 use Rattle.mysql_values.specs.Queries.{Lexes, Slices, first_not_alone, interleaved, is_mixed, pieces_of, places_from}
+use Rattle.mysql_values.specs.Laws.{PiecesAreSlices}
 use Rattle.mysql_values.specs.Params.{IsMeaning, values_over}
 use Rattle.mysql_values.specs.Parsed.{names_of}
 use Rattle.mysql_values.specs.Binding.{IsBound, IsBindCause, alone_cause, given_cause as bound_cause, values_cause}
 use Rattle.mysql_commands.specs.Reading.{TextReadsAs}
+use Rattle.mysql_commands.specs.Query.{statement_of}
 use Rattle.mysql_streams.specs.declared.refusal.Refusal.{Refusal}
 use Rattle.mysql_streams.specs.declared.refusal.Refusal.TheVariants as refusals
 use Rattle.mysql_streams.specs.Commands.{query_command}
 use Rattle.mysql_streams.specs.Sets.{given_by}
-use Rattle.mysql_streams.specs.Sent.{literal_text, query_text_of}
-use Rattle.mysql_streams.specs.Cause.{Limits, cause_if, limits_of, set_cause, size_cause}
-use Rattle.mysql_senders.specs.OneSet.{AppendsQuery, RefusesQuery, refusal_by, text_command}
+use Rattle.mysql_streams.specs.Sent.{query_text_of}
+use Rattle.mysql_streams.specs.Cause.{cause_if, set_cause}
+use Rattle.mysql_senders.specs.OneSet.{AppendsQuery, Limits, RefusesQuery, limits_of, refusal_by, text_command}
 use Rattle.mysql_senders.proofs.Contents.{gives_values}
 use Rattle.mysql_senders.proofs.SentSets.{first_is, one_framed}
 
 -- values that all have literals have these texts
-literal_texts : (values : List Value) (literals : List (List ℕ)) → map literal_of values ≡ map Some literals → map literal_text values ≡ literals
+literal_texts : (values : List Value) (literals : List (List ℕ)) → map literal_of values ≡ map Some literals → map (λ value. unwrap_or (literal_of value) []) values ≡ literals
 literal_texts [] [] same = refl
 literal_texts [] (literal ∷ literals) same = cc
 literal_texts (value ∷ values) [] same = cc
 literal_texts (value ∷ values) (literal ∷ literals) same =
     let first : literal_of value ≡ Some literal = cc in
     let others : map literal_of values ≡ map Some literals = cc in
-    let here : literal_text value ≡ literal = ap (λ l. unwrap_or l []) first in
-    let rest : map literal_text values ≡ literals = literal_texts values literals others in
+    let here : unwrap_or (literal_of value) [] ≡ literal = ap (λ l. unwrap_or l []) first in
+    let rest : map (λ value. unwrap_or (literal_of value) []) values ≡ literals = literal_texts values literals others in
     cc
 
 -- what is wrong with values, by the refusals of sending
@@ -59,7 +61,7 @@ no_bind_cause false None behind none = (refl, refl, none)
 -- the refusal of a set in place of the error of binding it
 bind_refusal : (mixed : Bool) (alone : Option ℕ) (command : List Value → List ℕ) (limits : Limits) (set : ℕ) (over : Result (List Value) ParamsError) (error : BindError) →
     (if mixed then Some bind_error.Mixed else alone_cause alone (bound_cause limits.places over)) ≡ Some error →
-    option_or (option_or (cause_if mixed refusals.Mixed) (option_map (λ place. refusals.NotAlone place) alone)) (set_cause command limits set (result_map_both (λ (v : List Value). v) (λ error. set_error.Params error) over)) ≡ Some (refusal_by set error)
+    option_or (option_or (cause_if mixed refusals.Mixed) (option_map (λ place. refusals.NotAlone place) alone)) (set_cause command limits.places limits.bytes set (result_map_both (λ (v : List Value). v) (λ error. set_error.Params error) over)) ≡ Some (refusal_by set error)
 bind_refusal true alone command limits set over error is =
     let e : bind_error.Mixed ≡ error = cc in ap (λ x. Some (refusal_by set x)) e
 bind_refusal false (Some place) command limits set over error is =
@@ -67,7 +69,7 @@ bind_refusal false (Some place) command limits set over error is =
 bind_refusal false None command limits set (Err fault) error is =
     let e : bind_error.Params fault ≡ error = cc in ap (λ x. Some (refusal_by set x)) e
 bind_refusal false None command limits set (Ok values) error is =
-    first_is (values_cause (refusals.WrongCount set) (λ place. refusals.Float set place) limits.places values) (size_cause command limits set (Ok values)) (refusal_by set error)
+    first_is (values_cause (refusals.WrongCount set) (λ place. refusals.Float set place) limits.places values) (cause_if (nat_lt limits.bytes (length (command values))) (refusals.PacketTooLarge set)) (refusal_by set error)
     (as_refusal set limits.places values ∙ ap (λ c. option_map (λ error. refusal_by set error) c) is)
 
 -- where the placeholders are no cause, what is behind them counts
@@ -79,40 +81,42 @@ places_then mixed alone behind one none = rw (one, none) refl
 by_size : (first : Option Refusal) (long : Bool) (refusal : Refusal) → first ≡ None → option_or first (cause_if long refusal) ≡ cause_if long refusal
 by_size first long refusal none = rw none refl
 
-module _ (query : List ℕ) (params : Params) (text : List ℕ) (set limit : ℕ) (b : IsBound query params text) where
+module _ (slices : PiecesAreSlices) (query : List ℕ) (params : Params) (text : List ℕ) (set limit : ℕ) (b : IsBound query params text) where
   good : (is_mixed (places_from query 0 b.tokens) ≡ false) × (first_not_alone (places_from query 0 b.tokens) ≡ None) × (bound_cause (length (places_from query 0 b.tokens)) (Ok b.values) ≡ None)
   good = no_bind_cause (is_mixed (places_from query 0 b.tokens)) (first_not_alone (places_from query 0 b.tokens)) (bound_cause (length (places_from query 0 b.tokens)) (Ok b.values)) b.none
 
   -- the text that was bound is the text of the query with the set's values
-  same_text : text ≡ query_text_of b.tokens b.values
-  same_text = b.spelled ∙ ap (λ l. interleaved (pieces_of b.tokens) l) (sym (literal_texts b.values b.literals b.each))
+  same_text : text ≡ query_text_of (statement_of query b.tokens 0).query b.values
+  same_text =
+      b.spelled ∙ ap (λ l. interleaved (pieces_of b.tokens) l) (sym (literal_texts b.values b.literals b.each))
+      ∙ ap (λ pieces. interleaved pieces (map (λ value. unwrap_or (literal_of value) []) b.values)) (slices query b.tokens b.has)
 
   gives : given_by (names_of b.tokens) params ≡ Ok b.values
   gives = gives_values (names_of b.tokens) params b.values b.over
 
   -- its size alone can be a cause
-  set_by_size : set_cause (text_command b.tokens) (limits_of (places_from query 0 b.tokens) limit) set (Ok b.values)
-      ≡ cause_if (nat_lt (limit - 4) (length (text_command b.tokens b.values))) (refusals.PacketTooLarge set)
+  set_by_size : set_cause (text_command query b.tokens) (length (places_from query 0 b.tokens)) (limit - 4) set (Ok b.values)
+      ≡ cause_if (nat_lt (limit - 4) (length (text_command query b.tokens b.values))) (refusals.PacketTooLarge set)
   set_by_size =
       by_size (values_cause (refusals.WrongCount set) (λ place. refusals.Float set place) (length (places_from query 0 b.tokens)) b.values)
-      (nat_lt (limit - 4) (length (text_command b.tokens b.values))) (refusals.PacketTooLarge set)
+      (nat_lt (limit - 4) (length (text_command query b.tokens b.values))) (refusals.PacketTooLarge set)
       (as_refusal set (length (places_from query 0 b.tokens)) b.values ∙ ap (λ c. option_map (λ error. refusal_by set error) c) good.2)
 
   -- a command within the limit has no cause
-  set_none : length (query_command text) ≤ limit - 4 → set_cause (text_command b.tokens) (limits_of (places_from query 0 b.tokens) limit) set (Ok b.values) ≡ None
+  set_none : length (query_command text) ≤ limit - 4 → set_cause (text_command query b.tokens) (length (places_from query 0 b.tokens)) (limit - 4) set (Ok b.values) ≡ None
   set_none short =
-      let fits : nat_lt (limit - 4) (length (text_command b.tokens b.values)) ≡ false = subst (λ (t : List ℕ). nat_lt (limit - 4) (length (query_command t)) ≡ false) same_text (le-ltb _ _ short) in
+      let fits : nat_lt (limit - 4) (length (text_command query b.tokens b.values)) ≡ false = subst (λ (t : List ℕ). nat_lt (limit - 4) (length (query_command t)) ≡ false) same_text (le-ltb _ _ short) in
       set_by_size ∙ ap (λ long. cause_if long (refusals.PacketTooLarge set)) fits
 
   -- and one past it is too large
   too_large : limit - 4 < length (query_command text) → RefusesQuery query params set limit (refusals.PacketTooLarge set)
   too_large long =
-      let passes : nat_lt (limit - 4) (length (text_command b.tokens b.values)) ≡ true = subst (λ (t : List ℕ). nat_lt (limit - 4) (length (query_command t)) ≡ true) same_text (lt-ltb _ _ long) in
+      let passes : nat_lt (limit - 4) (length (text_command query b.tokens b.values)) ≡ true = subst (λ (t : List ℕ). nat_lt (limit - 4) (length (query_command t)) ≡ true) same_text (lt-ltb _ _ long) in
       inr (
         b.tokens,
         b.has,
         places_then (is_mixed (places_from query 0 b.tokens)) (first_not_alone (places_from query 0 b.tokens)) _ good.0 good.1
-            ∙ ap (λ g. set_cause (text_command b.tokens) (limits_of (places_from query 0 b.tokens) limit) set g) gives
+            ∙ ap (λ g. set_cause (text_command query b.tokens) (length (places_from query 0 b.tokens)) (limit - 4) set g) gives
             ∙ set_by_size ∙ ap (λ long. cause_if long (refusals.PacketTooLarge set)) passes,
       )
 
@@ -122,7 +126,7 @@ refused query params set limit error (inl memory) = inl (ap (λ e. refusal_by se
 refused query params set limit error (inr b) = inr (
   b.0,
   b.1,
-  bind_refusal (is_mixed (places_from query 0 b.0)) (first_not_alone (places_from query 0 b.0)) (text_command b.0) (limits_of (places_from query 0 b.0) limit) set (values_over (names_of b.0) params) error b.2,
+  bind_refusal (is_mixed (places_from query 0 b.0)) (first_not_alone (places_from query 0 b.0)) (text_command query b.0) (limits_of (places_from query 0 b.0) limit) set (values_over (names_of b.0) params) error b.2,
 )
 
 -- what binding a set's text appends
@@ -140,19 +144,19 @@ pub bound_to : (query : List ℕ) (params : Params) (old new : List ℕ) →
 bound_to query params old new b = record { text = b.0; appended = b.2; bound = b.3; contents = b.1; meant = b.4; reads = (b.5, b.6) }
 
 -- the query of a set, where its command begins a buffer that the text is bound to
-pub sent_query : (query : List ℕ) (params : Params) (set limit : ℕ) (start command old new : List ℕ) → start ≡ 3 ∷ [] → BoundTo query params start command → length command ≤ limit - 4 →
+pub sent_query : PiecesAreSlices → (query : List ℕ) (params : Params) (set limit : ℕ) (start command old new : List ℕ) → start ≡ 3 ∷ [] → BoundTo query params start command → length command ≤ limit - 4 →
     new ≡ old ++ framing command 0 → (tokens : List (List ℕ)) × HasTokens query tokens × AppendsQuery query tokens params set limit old new
-sent_query query params set limit start command old new begins b short put =
+sent_query slices query params set limit start command old new begins b short put =
     let whole : command ≡ query_command b.text = b.appended ∙ ap (λ front. front ++ b.text) begins in
-    let same : b.text ≡ query_text_of b.bound.tokens b.bound.values = same_text query params b.text set limit b.bound in (
+    let same : b.text ≡ query_text_of (statement_of query b.bound.tokens 0).query b.bound.values = same_text slices query params b.text set limit b.bound in (
       b.bound.tokens,
       b.bound.has,
       record {
         appends = record {
           values = b.bound.values;
-          gives = gives query params b.text set limit b.bound;
-          none = set_none query params b.text set limit b.bound (subst (λ (l : List ℕ). length l ≤ limit - 4) whole short);
-          appended = one_framed old new (text_command b.bound.tokens b.bound.values) (put ∙ ap (λ l. old ++ framing l 0) whole ∙ ap (λ l. old ++ framing (query_command l) 0) same);
+          gives = gives slices query params b.text set limit b.bound;
+          none = set_none slices query params b.text set limit b.bound (subst (λ (l : List ℕ). length l ≤ limit - 4) whole short);
+          appended = one_framed old new (text_command query b.bound.tokens b.bound.values) (put ∙ ap (λ l. old ++ framing l 0) whole ∙ ap (λ l. old ++ framing (query_command l) 0) same);
         };
         contents = b.contents;
         meant = b.meant;
@@ -161,8 +165,8 @@ sent_query query params set limit start command old new begins b short put =
     )
 
 -- a set whose command is too long
-pub refused_long : (query : List ℕ) (params : Params) (set limit : ℕ) (start command : List ℕ) → start ≡ 3 ∷ [] → BoundTo query params start command → limit - 4 < length command →
+pub refused_long : PiecesAreSlices → (query : List ℕ) (params : Params) (set limit : ℕ) (start command : List ℕ) → start ≡ 3 ∷ [] → BoundTo query params start command → limit - 4 < length command →
     RefusesQuery query params set limit (refusals.PacketTooLarge set)
-refused_long query params set limit start command begins b long =
+refused_long slices query params set limit start command begins b long =
     let whole : command ≡ query_command b.text = b.appended ∙ ap (λ front. front ++ b.text) begins in
-    too_large query params b.text set limit b.bound (subst (λ (l : List ℕ). limit - 4 < length l) whole long)
+    too_large slices query params b.text set limit b.bound (subst (λ (l : List ℕ). limit - 4 < length l) whole long)

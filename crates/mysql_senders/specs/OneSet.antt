@@ -1,7 +1,7 @@
 -- One set at a time: what the steps of sending promise.
 -- MySQL: Client/Server Protocol, "COM_QUERY", "COM_STMT_PREPARE", "COM_STMT_EXECUTE".
-use Rattle.std.specs.Prelude.{◌≡◌, ◌⊎◌, ◌≤◌, ℕ, false, List, [], ◌∷◌, ◌++◌, length, map, nat_lt, Option, Some, None, Ok, Err, if◌then◌else◌}
-use Rattle.std.specs.List.{AllByRecursion, flat_map}
+use Rattle.std.specs.Prelude.{◌≡◌, ◌⊎◌, ◌≤◌, ◌-◌, ℕ, false, List, [], ◌∷◌, ◌++◌, length, map, nat_lt, Option, Some, None, Ok, Err, if◌then◌else◌}
+use Rattle.std.specs.List.{AllByRecursion, flat_map, join_with_byte}
 use Rattle.std.specs.Option.{option_or}
 use Rattle.mysql_wire.specs.Stream.{framings}
 use Rattle.mysql_wire.specs.Stream.Numbering.{EachFromZero}
@@ -15,19 +15,20 @@ use Rattle.mysql_values.specs.declared.params.SetError.{SetError}
 use Rattle.mysql_values.specs.declared.params.SetError.TheVariants as set_error
 use Rattle.mysql_values.specs.declared.bind.BindError.{BindError}
 use Rattle.mysql_values.specs.declared.bind.BindError.TheVariants as bind_error
-use Rattle.mysql_values.specs.Tokens.{HasTokens}
+use Rattle.mysql_values.specs.Tokens.{HasTokens, question}
 use Rattle.mysql_values.specs.Place.{Place}
-use Rattle.mysql_values.specs.Queries.{is_mixed, places_from}
+use Rattle.mysql_values.specs.Queries.{is_mixed, pieces_of, places_from}
 use Rattle.mysql_values.specs.Params.{IsMeaning}
 use Rattle.mysql_values.specs.Parsed.{Parsed, names_of}
+use Rattle.mysql_commands.specs.Query.{statement_of}
 use Rattle.mysql_commands.specs.Reading.{TextReadsAs}
 use Rattle.mysql_stmt.specs.Executions.{execute_command, needs_long_data}
 use Rattle.mysql_streams.specs.declared.refusal.Refusal.{Refusal}
 use Rattle.mysql_streams.specs.declared.refusal.Refusal.TheVariants as refusals
 use Rattle.mysql_streams.specs.Commands.{pieces_from, query_command}
 use Rattle.mysql_streams.specs.Sets.{Given, given_by}
-use Rattle.mysql_streams.specs.Sent.{parsed_of, query_text_of}
-use Rattle.mysql_streams.specs.Cause.{Limits, cause_if, first_of_sets, limits_of, max_places, places_cause, set_cause}
+use Rattle.mysql_streams.specs.Sent.{query_text_of}
+use Rattle.mysql_streams.specs.Cause.{cause_if, first_of_sets, max_places, places_cause, set_cause}
 
 -- the refusal of a set that gives no values
 abbrev pub refusal_of : ℕ → ParamsError → Refusal
@@ -49,37 +50,46 @@ abbrev pub behind : Option SetError → List Given
 behind None = []
 behind (Some error) = Err error ∷ []
 
+-- what a set has to meet: so many placeholders, and payloads of at most so many bytes
+pub record Limits : Type 0 where
+  pub places : ℕ
+  pub bytes : ℕ
+
+-- the limits for a query with these placeholders: a packet has four bytes beside its payload
+abbrev pub limits_of : List Place → ℕ → Limits
+limits_of places limit = record { places = length places; bytes = limit - 4 }
+
 -- a set's payloads are appended: the set gives values, and nothing speaks against them, by the size of the command that carries all of them
 pub record AppendsSet (command : List Value → List ℕ) (payloads : List Value → List (List ℕ)) (limits : Limits) (set : ℕ) (given : Given) (old new : List ℕ) : Type 0 where
   pub values : List Value
   pub gives : given ≡ Ok values
-  pub none : set_cause command limits set (Ok values) ≡ None
+  pub none : set_cause command limits.places limits.bytes set (Ok values) ≡ None
   pub appended : new ≡ old ++ framings (payloads values) EachFromZero
 
 -- Memory, or the cause that speaks against the set
 abbrev pub RefusesSet : (List Value → List ℕ) → Limits → ℕ → Given → Refusal → Type 0
-RefusesSet command limits set given refusal = (refusal ≡ refusals.Memory) ⊎ (set_cause command limits set given ≡ Some refusal)
+RefusesSet command limits set given refusal = (refusal ≡ refusals.Memory) ⊎ (set_cause command limits.places limits.bytes set given ≡ Some refusal)
 
 -- a set's query by text
-abbrev pub text_command : List (List ℕ) → List Value → List ℕ
-text_command tokens values = query_command (query_text_of tokens values)
+abbrev pub text_command : List ℕ → List (List ℕ) → List Value → List ℕ
+text_command query tokens values = query_command (query_text_of (statement_of query tokens 0).query values)
 
 -- it is all that is sent of the set
-abbrev pub text_payloads : List (List ℕ) → List Value → List (List ℕ)
-text_payloads tokens values = text_command tokens values ∷ []
+abbrev pub text_payloads : List ℕ → List (List ℕ) → List Value → List (List ℕ)
+text_payloads query tokens values = text_command query tokens values ∷ []
 
 -- a set's query is appended, and reads as the set's meaning
 pub record AppendsQuery (query : List ℕ) (tokens : List (List ℕ)) (params : Params) (set limit : ℕ) (old new : List ℕ) : Type 0 where
-  pub appends : AppendsSet (text_command tokens) (text_payloads tokens) (limits_of (places_from query 0 tokens) limit) set (given_by (names_of tokens) params) old new
+  pub appends : AppendsSet (text_command query tokens) (text_payloads query tokens) (limits_of (places_from query 0 tokens) limit) set (given_by (names_of tokens) params) old new
   pub contents : List Content
   pub meant : IsMeaning query params contents
-  pub reads : TextReadsAs query (query_text_of tokens appends.values) contents
+  pub reads : TextReadsAs query (query_text_of (statement_of query tokens 0).query appends.values) contents
 
 -- the first cause of the query's placeholders and one set, by text
 abbrev pub query_and_set_cause : List ℕ → List (List ℕ) → ℕ → ℕ → Params → Option Refusal
 query_and_set_cause query tokens limit set params =
     option_or (places_cause (places_from query 0 tokens))
-    (set_cause (text_command tokens) (limits_of (places_from query 0 tokens) limit) set (given_by (names_of tokens) params))
+    (set_cause (text_command query tokens) (length (places_from query 0 tokens)) (limit - 4) set (given_by (names_of tokens) params))
 
 -- Memory, or that cause
 abbrev pub RefusesQuery : List ℕ → Params → ℕ → ℕ → Refusal → Type 0
@@ -103,29 +113,29 @@ pub record AppendsExecution (id : ℕ) (limits : Limits) (set : ℕ) (given : Gi
 pub record AppendsExecutions (id : ℕ) (limits : Limits) (given : List Given) (old new : List ℕ) : Type 0 where
   pub values : List (List Value)
   pub gives : given ≡ map Ok values
-  pub none : first_of_sets (set_cause (whole_execution id) limits) 0 given ≡ None
+  pub none : first_of_sets (set_cause (whole_execution id) limits.places limits.bytes) 0 given ≡ None
   pub fit : AllByRecursion (λ set. AllByRecursion (λ value. FitsFields value) set) values
   pub appended : new ≡ old ++ framings (flat_map (execution_payloads id) values) EachFromZero
 
 -- Memory, or the first cause that speaks against one of the sets
 abbrev pub RefusesSets : (List Value → List ℕ) → Limits → List Given → Refusal → Type 0
-RefusesSets command limits given refusal = (refusal ≡ refusals.Memory) ⊎ (first_of_sets (set_cause command limits) 0 given ≡ Some refusal)
+RefusesSets command limits given refusal = (refusal ≡ refusals.Memory) ⊎ (first_of_sets (set_cause command limits.places limits.bytes) 0 given ≡ Some refusal)
 
 -- the executions of sets of values are appended, of which the first has this number: nothing speaks against any, and the numbers of all values fit their fields
 pub record AppendsMore (id : ℕ) (limits : Limits) (first : ℕ) (sets : List (List Value)) (old new : List ℕ) : Type 0 where
-  pub none : first_of_sets (set_cause (whole_execution id) limits) first (map Ok sets) ≡ None
+  pub none : first_of_sets (set_cause (whole_execution id) limits.places limits.bytes) first (map Ok sets) ≡ None
   pub fit : AllByRecursion (λ set. AllByRecursion (λ value. FitsFields value) set) sets
   pub appended : new ≡ old ++ framings (flat_map (execution_payloads id) sets) EachFromZero
 
 -- Memory, or the first cause that speaks against one of them
 abbrev pub RefusesMore : ℕ → Limits → ℕ → List (List Value) → Refusal → Type 0
-RefusesMore id limits first sets refusal = (refusal ≡ refusals.Memory) ⊎ (first_of_sets (set_cause (whole_execution id) limits) first (map Ok sets) ≡ Some refusal)
+RefusesMore id limits first sets refusal = (refusal ≡ refusals.Memory) ⊎ (first_of_sets (set_cause (whole_execution id) limits.places limits.bytes) first (map Ok sets) ≡ Some refusal)
 
 -- a query that can be prepared: with a question mark for each placeholder, its names, and how many placeholders it has
 pub record IsPreparable (query : List ℕ) (parsed : Parsed) (places : ℕ) : Type 0 where
   pub tokens : List (List ℕ)
   pub has : HasTokens query tokens
-  pub query_is : parsed.query ≡ parsed_of tokens
+  pub query_is : parsed.query ≡ join_with_byte question (pieces_of tokens)
   pub names_are : parsed.names ≡ names_of tokens
   pub count : places ≡ length (places_from query 0 tokens)
   pub one_kind : is_mixed (places_from query 0 tokens) ≡ false

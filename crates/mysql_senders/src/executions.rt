@@ -214,8 +214,8 @@ fn size_or_cause(
     requires { places ≤ 65535 }
     ensures count { OnOk result (length values.now ≤ 65535) }
     ensures size { IfOk result (λ size. (id : ℕ) → length (whole_execution id (map (λ value. value.now) values.now)) ≡ size) }
-    ensures ok { OnOk result ((id : ℕ) → set_cause (whole_execution id) (record { places = places; bytes = room }) set (Ok (map (λ value. value.now) values.now)) ≡ None) }
-    ensures err { IfErr result (λ refusal. (id : ℕ) → set_cause (whole_execution id) (record { places = places; bytes = room }) set (Ok (map (λ value. value.now) values.now)) ≡ Some refusal) }
+    ensures ok { OnOk result ((id : ℕ) → set_cause (whole_execution id) places room set (Ok (map (λ value. value.now) values.now)) ≡ None) }
+    ensures err { IfErr result (λ refusal. (id : ℕ) → set_cause (whole_execution id) places room set (Ok (map (λ value. value.now) values.now)) ≡ Some refusal) }
 {
     check_values(values, places, set)?;
     match size_in(values, room) {
@@ -229,8 +229,8 @@ fn checked_size(values: &[&Value], places: usize, room: usize, set: usize) -> Re
     requires { places ≤ 65535 }
     ensures count { OnOk result (length values.now ≤ 65535) }
     ensures size { IfOk result (λ size. (id : ℕ) → length (whole_execution id (map (λ value. value.now) values.now)) ≡ size) }
-    ensures ok { OnOk result ((id : ℕ) → set_cause (whole_execution id) (record { places = places; bytes = room }) set (Ok (map (λ value. value.now) values.now)) ≡ None) }
-    ensures err { IfErr result (λ refusal. (id : ℕ) → set_cause (whole_execution id) (record { places = places; bytes = room }) set (Ok (map (λ value. value.now) values.now)) ≡ Some refusal) }
+    ensures ok { OnOk result ((id : ℕ) → set_cause (whole_execution id) places room set (Ok (map (λ value. value.now) values.now)) ≡ None) }
+    ensures err { IfErr result (λ refusal. (id : ℕ) → set_cause (whole_execution id) places room set (Ok (map (λ value. value.now) values.now)) ≡ Some refusal) }
 {
     match size_of_plain(values, places, room) {
         Some(size) => Ok(size),

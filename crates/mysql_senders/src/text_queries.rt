@@ -16,7 +16,7 @@ ghost use Rattle.mysql_streams.specs.declared.road.Road.TheVariants as roads;
 use mysql_const::Command;
 use mysql_streams::Refusal;
 use mysql_values::bind::{bind_text_over, names_among};
-use mysql_values::laws::tokens_of_a_text;
+use mysql_values::laws::{pieces_of_a_query, tokens_of_a_text};
 use mysql_values::{BindError, Params, Place, SetError, Value, first_not_alone, is_mixed, places};
 use mysql_wire::packet_to_chunks;
 use std::alloc::Global;
@@ -89,6 +89,7 @@ pub(crate) fn put_query<'a>(
     ensures err { IfErr result (RefusesQuery query.now params.entry.now set limit) }
     ensures kept { OnErr result (out.new.items ≡ out.old.items) }
 {
+    pieces_of_a_query();
     command.clear();
     command.push(Command::COM_QUERY as u8)?;
     if let Err(error) = bind_text_over(query, places, names, params, values, command) {

@@ -7,22 +7,28 @@ use Rattle.mysql_values.specs.Laws.{OneTokens}
 use Rattle.mysql_values.specs.Parsed.{names_of}
 use Rattle.mysql_values.specs.Queries.{is_place}
 use Rattle.mysql_values.specs.Value.{Value}
+use Rattle.mysql_commands.specs.declared.audit.End.TheVariants.{Whole}
 use Rattle.mysql_commands.specs.Audit.{Audit, AuditOf}
 use Rattle.mysql_commands.specs.Laws.{CuttingsAgree}
 use Rattle.mysql_commands.specs.Reading.{Set}
+use Rattle.mysql_commands.specs.Query.{statement_of}
 use Rattle.mysql_streams.specs.Cause.{cause_of}
 use Rattle.mysql_streams.specs.Laws.{IsDelivered, SentSetsAreDelivered}
 use Rattle.mysql_streams.specs.Reading.{AreMeanings, HaveContents}
 use Rattle.mysql_streams.specs.Sending.{SendsGiven}
-use Rattle.mysql_streams.specs.Sent.{statement_of}
+use Rattle.mysql_streams.specs.Sent.{stream_of}
 use Rattle.mysql_streams.specs.Sets.{Given, all_given_in_places}
 use Rattle.mysql_streams.specs.declared.road.Road.TheVariants.{Execute}
 use Rattle.mysql_recoding.specs.Causes.{values_of_sets}
 use Rattle.mysql_recoding.specs.Laws.{RecodingsAreSent}
-use Rattle.mysql_session.specs.Delivery.{Delivers, ReadsWholeAs, stream_of, whole_of}
+use Rattle.mysql_session.specs.Delivery.{ReadsWholeAs}
 use Rattle.mysql_session.specs.Laws.{DeliveriesAreReadBack, DeliveriesAreReceived, ReadableSetsAreDelivered, RecodingsAreDelivered}
 
 -- ---- one audit
+
+-- the audit of a stream that carries these contents and is whole
+abbrev whole_of : List Set → Audit
+whole_of contents = record { sets = contents; ending = Whole }
 
 -- bytes behind others are bytes
 bytes_behind : (front back : List ℕ) → AreBytes (front ++ back) → AreBytes back

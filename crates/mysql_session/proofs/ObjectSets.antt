@@ -15,14 +15,15 @@ use Rattle.mysql_values.specs.declared.params.SetError.TheVariants as set_error
 use Rattle.mysql_values.specs.Parsed.{names_of}
 use Rattle.mysql_convert.specs.Sets.{IsMadeOf, too_long}
 use Rattle.mysql_convert.specs.Sets.Parts.{InOrder}
+use Rattle.mysql_commands.specs.Query.{Statement, place_count, statement_of}
 use Rattle.mysql_streams.specs.declared.refusal.Refusal.{Refusal}
 use Rattle.mysql_streams.specs.declared.refusal.Refusal.TheVariants as refusals
 use Rattle.mysql_streams.specs.declared.road.Road.{Road}
 use Rattle.mysql_session.specs.Objects.{AreMade, all_given_by_objects, given_by_objects, given_in_order, unless_refused}
 use Rattle.mysql_session.specs.Laws.{MadeSetsGiveTheSame}
 use Rattle.mysql_streams.specs.Sets.{Given, all_given, given_by, given_up_to, values_of}
-use Rattle.mysql_streams.specs.Sent.{Statement, statement_of, whole_command}
-use Rattle.mysql_streams.specs.Cause.{cause_of, first_of_sets, limits_of, query_cause, set_cause, sets_cause}
+use Rattle.mysql_streams.specs.Sent.{whole_command}
+use Rattle.mysql_streams.specs.Cause.{cause_of, first_of_sets, query_cause, set_cause, sets_cause}
 use Rattle.mysql_streams.specs.Reading.{SentReadable}
 use Rattle.mysql_streams.specs.Sending.{RefusesGiven, SendsGiven}
 use Rattle.mysql_senders.specs.MadeSets.{IsSetAt, given_by_made}
@@ -203,7 +204,7 @@ module _ (road : Road) (query : List ℕ) (lists : List (List (Option Value))) (
           → cause_of road statement limit (given_up_to sets (Some error) names) ≡ cause_of road statement limit (all_given_by_objects lists names)
       by [] rest parts = absurd rest
       by (objects ∷ left) rest parts =
-          let cause : ℕ → Given → Option Refusal = set_cause (whole_command road statement) (limits_of statement.places limit) in
+          let cause : ℕ → Given → Option Refusal = set_cause (whole_command road statement) (place_count statement.query) (limit - 4) in
           let whole : all_given_by_objects lists names ≡ all_given sets names ++ Err error ∷ map (given_by_objects names) left =
           parts ∙ ap (λ (g : Given). all_given sets names ++ g ∷ map (given_by_objects names) left) (refused_give names objects error rest) in
           let first = first_refused cause error (λ k. refusals.Params k error) (λ k. refl) 0 (all_given sets names) in

@@ -2,34 +2,25 @@
 -- MySQL: Client/Server Protocol, "Protocol Basics: MySQL Packets", "Command Phase".
 use Rattle.std.specs.Prelude.{◌≡◌, ◌↔◌, ◌-◌, ℕ, List, ◌++◌, filter, length, map, None, Ok}
 use Rattle.std.specs.List.{AllByRecursion, concat}
-use Rattle.mysql_wire.specs.Stream.{framings}
-use Rattle.mysql_wire.specs.Stream.Numbering.{EachFromZero}
 use Rattle.mysql_values.specs.Parsed.{names_of}
 use Rattle.mysql_values.specs.Queries.{is_place}
 use Rattle.mysql_values.specs.Tokens.{HasTokens}
 use Rattle.mysql_values.specs.Value.{Value}
 use Rattle.mysql_commands.specs.declared.audit.End.TheVariants.{Whole}
 use Rattle.mysql_commands.specs.Audit.{Audit, AuditOf}
+use Rattle.mysql_commands.specs.Query.{statement_of}
 use Rattle.mysql_commands.specs.Reading.{Set}
 use Rattle.mysql_streams.specs.declared.road.Road.{Road}
 use Rattle.mysql_streams.specs.Cause.{cause_of}
 use Rattle.mysql_streams.specs.Reading.{FrontsRead, HaveContents}
 use Rattle.mysql_streams.specs.Sending.{HasFewest}
-use Rattle.mysql_streams.specs.Sent.{AreSent, SentPayload, payloads_of, statement_of}
+use Rattle.mysql_streams.specs.Sent.{AreSent, SentPayload, stream_of}
 use Rattle.mysql_streams.specs.Sets.{Given}
-
--- the bytes of payloads that are sent: the framing of each, whose packets are numbered from 0, one after another
-abbrev pub stream_of : List SentPayload → List ℕ
-stream_of sent = framings (payloads_of sent) EachFromZero
-
--- the audit of a stream that carries these contents and is whole
-abbrev pub whole_of : List Set → Audit
-whole_of contents = record { sets = contents; ending = Whole }
 
 -- A stream, in whichever pieces it comes, has one audit: these contents, and Whole.
 abbrev pub ReadsWholeAs : List ℕ → ℕ → ℕ → List ℕ → List Set → Type 0
 ReadsWholeAs query id limit stream contents =
-    (pieces : List (List ℕ)) (audit : Audit) → concat pieces ≡ stream → AuditOf query id limit (concat pieces) audit ↔ (audit ≡ whole_of contents)
+    (pieces : List (List ℕ)) (audit : Audit) → concat pieces ≡ stream → AuditOf query id limit (concat pieces) audit ↔ (audit ≡ record { sets = contents; ending = Whole })
 
 -- Sets that give this for the query's names are delivered by what was appended.
 pub record Delivers (road : Road) (query : List ℕ) (sets : List (List ℕ) → List Given) (id limit : ℕ) (old new : List ℕ) : Type 0 where

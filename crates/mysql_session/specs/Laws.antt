@@ -5,6 +5,7 @@ use Rattle.std.specs.List.{concat}
 use Rattle.mysql_wire.specs.Bytes.{AreBytes}
 use Rattle.mysql_values.specs.Value.{Value}
 use Rattle.mysql_values.specs.declared.params.Params.{Params}
+use Rattle.mysql_commands.specs.declared.audit.End.TheVariants.{Whole}
 use Rattle.mysql_commands.specs.Audit.{Audit}
 use Rattle.mysql_commands.specs.Receiving.{IsMemory, IsReceived}
 use Rattle.mysql_streams.specs.declared.road.Road.{Road}
@@ -14,7 +15,7 @@ use Rattle.mysql_streams.specs.Reading.{SentReadable}
 use Rattle.mysql_streams.specs.Sets.{GiveTheSame, Given, all_given, all_given_in_places}
 use Rattle.mysql_recoding.specs.Causes.{values_of_sets}
 use Rattle.mysql_recoding.specs.Recoding.{Recodes}
-use Rattle.mysql_session.specs.Delivery.{Delivers, whole_of}
+use Rattle.mysql_session.specs.Delivery.{Delivers}
 use Rattle.mysql_session.specs.Objects.{AreMade, all_given_by_objects}
 
 -- Sets that were sent in a form that can be read back, in fewer than 2 ^ 64 bytes, are delivered.
@@ -34,7 +35,7 @@ abbrev pub DeliveriesAreReceived : Type 0
 DeliveriesAreReceived =
     (road : Road) (query : List ℕ) (sets : List (List ℕ) → List Given) (id limit : ℕ) (old new : List ℕ) (pieces : List (List ℕ)) (answer : Audit)
     → (delivery : Delivers road query sets id limit old new) → new ≡ old ++ concat pieces → IsReceived query id limit pieces answer
-    → (IsMemory answer.ending → ⊥) → answer ≡ whole_of delivery.contents
+    → (IsMemory answer.ending → ⊥) → answer ≡ record { sets = delivery.contents; ending = Whole }
 
 -- What recoding appends, in fewer than 2 ^ 64 bytes, delivers by execute the values of the stream's contents.
 abbrev pub RecodingsAreDelivered : Type 0

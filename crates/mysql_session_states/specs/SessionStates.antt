@@ -9,7 +9,7 @@ use Rattle.mysql_buf.specs.Writing.{lenenc_str}
 use Rattle.mysql_const.specs.SessionStates.{session_state_named, session_state_number}
 use Rattle.mysql_const.specs.declared.session_state.SessionStateType.{SessionStateType}
 use Rattle.mysql_const.specs.declared.session_state.SessionStateType.TheVariants.{SESSION_TRACK_SYSTEM_VARIABLES, SESSION_TRACK_SCHEMA, SESSION_TRACK_STATE_CHANGE, SESSION_TRACK_GTIDS, SESSION_TRACK_TRANSACTION_CHARACTERISTICS, SESSION_TRACK_TRANSACTION_STATE}
-use Rattle.mysql_raw.specs.Forms.{little_at}
+use Rattle.mysql_raw.specs.Forms.{fixed_number_at}
 use Rattle.mysql_raw.specs.Wire.{Reading, ◌>>=◌}
 use Rattle.mysql_raw_bytes.specs.Texts.{lenenc_text_at}
 use Rattle.mysql_raw_consts.specs.Constants.{named_at}
@@ -105,7 +105,7 @@ state s = little_bytes 1 (session_state_number s.data_type) ++ lenenc_str s.cont
 
 unfoldable pub state_at : List ℕ → Reading State
 state_at bytes = do
-  data_type ← named_at session_state_named (little_at 1) bytes
+  data_type ← named_at session_state_named (fixed_number_at 1) bytes
   content ← lenenc_text_at data_type.1
   Ok (record { data_type = data_type.0; content = content.0 }, content.1)
 

@@ -8,8 +8,8 @@ use Rattle.mysql_const.specs.NamedLaws.{session_state-names_back}
 use Rattle.mysql_const.specs.SessionStates.{session_state_named, session_state_number}
 use Rattle.mysql_const.specs.declared.session_state.SessionStateType.{SessionStateType}
 use Rattle.mysql_const.specs.declared.session_state.SessionStateType.TheVariants.{SESSION_TRACK_SYSTEM_VARIABLES, SESSION_TRACK_SCHEMA, SESSION_TRACK_STATE_CHANGE, SESSION_TRACK_GTIDS, SESSION_TRACK_TRANSACTION_CHARACTERISTICS, SESSION_TRACK_TRANSACTION_STATE}
-use Rattle.mysql_raw.specs.Forms.{little_at}
-use Rattle.mysql_raw.specs.Laws.{bind_ok, done, little_at-back, little_at-sized, eaten_first}
+use Rattle.mysql_raw.specs.Forms.{fixed_number_at}
+use Rattle.mysql_raw.specs.Laws.{bind_ok, done, fixed_number_at-back, fixed_number_at-sized, eaten_first}
 use Rattle.mysql_raw.specs.Wire.{Reading, ◌>>=◌}
 use Rattle.mysql_raw_bytes.specs.TextLaws.{lenenc_text_at-back}
 use Rattle.mysql_raw_bytes.specs.Texts.{lenenc_text_at}
@@ -90,9 +90,9 @@ change_at-back type (Unsupported bytes) rest h = absurd (let no = h.0 in cc)
 pub state_at-eats : EatsBytes state_at
 unfolding state_at
 state_at-eats bytes p h =
-    let type = bind_ok (named_at session_state_named (little_at 1) bytes) _ p h in
+    let type = bind_ok (named_at session_state_named (fixed_number_at 1) bytes) _ p h in
     let text = bind_ok (lenenc_text_at type.0.1) _ p type.2 in
-    let one = eaten_first 1 (named_at session_state_named (little_at 1)) bytes (named_at-sized (Some 1) session_state_named (little_at 1) (little_at-sized 1)) type.0.0 type.0.1 type.1 in
+    let one = eaten_first 1 (named_at session_state_named (fixed_number_at 1)) bytes (named_at-sized (Some 1) session_state_named (fixed_number_at 1) (fixed_number_at-sized 1)) type.0.0 type.0.1 type.1 in
     let less = ap (λ (b : List ℕ). length b) one in
     let two = text-shorter type.0.1 text.0 text.1 in
     let s : State = record { data_type = type.0.0; content = text.0.0 } in
@@ -108,9 +108,9 @@ small_type SESSION_TRACK_GTIDS = lit< tt
 small_type SESSION_TRACK_TRANSACTION_CHARACTERISTICS = lit< tt
 small_type SESSION_TRACK_TRANSACTION_STATE = lit< tt
 
-session_state-back : (type : SessionStateType) (rest : List ℕ) → named_at session_state_named (little_at 1) (little_bytes 1 (session_state_number type) ++ rest) ≡ Ok (type, rest)
-session_state-back type rest = named_at-back session_state_named session_state_number (little_at 1) (little_bytes 1) type rest (session_state-names_back type)
-    (little_at-back 1 (session_state_number type) rest (small_type type))
+session_state-back : (type : SessionStateType) (rest : List ℕ) → named_at session_state_named (fixed_number_at 1) (little_bytes 1 (session_state_number type) ++ rest) ≡ Ok (type, rest)
+session_state-back type rest = named_at-back session_state_named session_state_number (fixed_number_at 1) (little_bytes 1) type rest (session_state-names_back type)
+    (fixed_number_at-back 1 (session_state_number type) rest (small_type type))
 
 pub state_at-back : (s : State) (rest : List ℕ) → IsState s → state_at (state s ++ rest) ≡ Ok (s, rest)
 unfolding state state_at

@@ -5,8 +5,8 @@ use Rattle.byteorder.specs.Endian.{little_bytes}
 use Rattle.mysql_const.specs.Commands.{command_number}
 use Rattle.mysql_const.specs.declared.command.Command.{Command}
 use Rattle.mysql_const.specs.declared.command.Command.TheVariants.{COM_STMT_CLOSE, COM_STMT_RESET}
-use Rattle.mysql_raw.specs.Forms.{little_at}
-use Rattle.mysql_raw.specs.Laws.{done_rest, eaten_first, eats-then, from_block-enough, from_block-sized, little_at-back, little_at-sized}
+use Rattle.mysql_raw.specs.Forms.{fixed_number_at}
+use Rattle.mysql_raw.specs.Laws.{done_rest, eaten_first, eats-then, from_block-enough, from_block-sized, fixed_number_at-back, fixed_number_at-sized}
 use Rattle.mysql_raw.specs.Wire.{IsSized, ◌>>=◌}
 use Rattle.mysql_raw_consts.specs.ConstantLaws.{constant_at-back, constant_at-sized}
 use Rattle.mysql_raw_consts.specs.Constants.{constant_at}
@@ -26,7 +26,7 @@ unfolding by_id by_id_fields_at
 by_id_fields_at-back command id rest small h =
     let after = little_bytes 4 id ++ rest in
     ap (by_id_fields_at command) (joined_before (little_bytes 1 (command_number command) ∷ little_bytes 4 id ∷ []) rest)
-    ∙ rw (constant_at-back 1 (command_number command) after small, little_at-back 4 id rest h) refl
+    ∙ rw (constant_at-back 1 (command_number command) after small, fixed_number_at-back 4 id rest h) refl
 
 by_id_at-back : (command : Command) (id : ℕ) (rest : List ℕ) → command_number command < 256 ^ 1 → IsId id → by_id_at command (by_id command id ++ rest) ≡ Ok (id, rest)
 unfolding by_id by_id_at
@@ -41,9 +41,9 @@ reset_at-back id rest = by_id_at-back COM_STMT_RESET id rest (lit< tt)
 by_id_eats : (command : Command) (bytes rest : List ℕ) (id : ℕ) → by_id_fields_at command bytes ≡ Ok (id, rest) → rest ≡ drop 5 bytes
 unfolding by_id_fields_at
 by_id_eats command bytes rest id =
-    eats-then 1 4 bytes (constant_at 1 (command_number command) bytes) (λ header. little_at 4 header.1 >>= λ found. Ok (found.0, found.1)) rest id
+    eats-then 1 4 bytes (constant_at 1 (command_number command) bytes) (λ header. fixed_number_at 4 header.1 >>= λ found. Ok (found.0, found.1)) rest id
     (eaten_first 1 (constant_at 1 (command_number command)) bytes (constant_at-sized 1 (command_number command)))
-    (λ x b. eats-then 4 0 b (little_at 4 b) (λ found. Ok (found.0, found.1)) rest id (eaten_first 4 (little_at 4) b (little_at-sized 4)) (λ y c. done_rest y id c rest))
+    (λ x b. eats-then 4 0 b (fixed_number_at 4 b) (λ found. Ok (found.0, found.1)) rest id (eaten_first 4 (fixed_number_at 4) b (fixed_number_at-sized 4)) (λ y c. done_rest y id c rest))
 
 pub by_id_at-sized : (command : Command) → IsSized (Some 5) (by_id_at command)
 unfolding by_id_at

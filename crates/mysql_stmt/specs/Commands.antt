@@ -7,7 +7,7 @@ use Rattle.byteorder.specs.Endian.{little_bytes}
 use Rattle.mysql_const.specs.Commands.{command_number}
 use Rattle.mysql_const.specs.declared.command.Command.{Command}
 use Rattle.mysql_const.specs.declared.command.Command.TheVariants.{COM_STMT_SEND_LONG_DATA}
-use Rattle.mysql_raw.specs.Forms.{little_at}
+use Rattle.mysql_raw.specs.Forms.{fixed_number_at}
 use Rattle.mysql_raw.specs.Wire.{Reading, from_block, ◌>>=◌}
 use Rattle.mysql_raw_consts.specs.Constants.{constant_at}
 
@@ -18,7 +18,7 @@ by_id command id = concat (little_bytes 1 (command_number command) ∷ little_by
 unfoldable pub by_id_fields_at : Command → List ℕ → Reading ℕ
 by_id_fields_at command bytes = do
   header ← constant_at 1 (command_number command) bytes
-  id ← little_at 4 header.1
+  id ← fixed_number_at 4 header.1
   Ok (id.0, id.1)
 
 -- all five bytes are asked for first

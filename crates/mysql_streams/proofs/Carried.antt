@@ -10,7 +10,7 @@ use Rattle.mysql_wire.specs.Stream.Numbering.{EachFromZero}
 use Rattle.mysql_values.specs.Value.{Value}
 use Rattle.mysql_commands.specs.declared.audit.End.TheVariants.{Whole}
 use Rattle.mysql_commands.specs.Audit.{Audited}
-use Rattle.mysql_commands.specs.Layout.{Conversation}
+use Rattle.mysql_commands.specs.Query.{Statement, statement_of}
 use Rattle.mysql_commands.specs.Reading.{Set}
 use Rattle.mysql_streams.specs.declared.road.Road.{Road}
 use Rattle.mysql_streams.specs.declared.road.Road.TheVariants.{Text, Execute, Bulk}
@@ -18,9 +18,8 @@ use Rattle.mysql_streams.specs.Cause.{cause_of}
 use Rattle.mysql_streams.specs.Laws.{ReadsEach, SentPayloadsRead, SentValuesAreCarried}
 use Rattle.mysql_streams.specs.Reading.{HaveContents, SentReadable}
 use Rattle.mysql_streams.specs.Sending.{SendsGiven}
-use Rattle.mysql_streams.specs.Sent.{SentPayload, payloads_of, statement_of}
+use Rattle.mysql_streams.specs.Sent.{SentPayload, payloads_of}
 use Rattle.mysql_streams.specs.Sets.{Given}
-use Rattle.mysql_streams.proofs.Conversations.{about_of, conversation_of}
 use Rattle.mysql_streams.proofs.Held.{contents_in_a_row}
 use Rattle.mysql_streams.proofs.JoinedStreams.{as_long}
 use Rattle.mysql_streams.proofs.SentSets.{sets_are}
@@ -56,19 +55,17 @@ law_of text execute bulk Bulk = bulk
 
 -- what was sent reads, payload by payload
 pub reads_each : SentPayloadsRead Text → SentPayloadsRead Execute → SentPayloadsRead Bulk → (road : Road) (query : List ℕ) (sets : List (List ℕ) → List Given) (id limit : ℕ) (old new : List ℕ) → id < 2 ^ 32 → 4 ≤ limit
-    → (q : SentReadable road query sets id limit old new) → ReadsEach (conversation_of query q.sends.tokens id) limit q.sends.sent
+    → (q : SentReadable road query sets id limit old new) → ReadsEach (statement_of query q.sends.tokens id) limit q.sends.sent
 reads_each text execute bulk road query sets id limit old new small room q =
-    let tokens : List (List ℕ) = q.sends.tokens in
-    let about = about_of query tokens id q.sends.has in
     let none = no_cause road query sets id limit old new q.sends in
-    law_of text execute bulk road query tokens id limit q.sends.values q.sends.sent (conversation_of query tokens id) q.sends.has small room about none q.sends.are_sent q.readable
+    law_of text execute bulk road query q.sends.tokens id limit q.sends.values q.sends.sent q.sends.has small room none q.sends.are_sent q.readable
 
 -- as many lists of sets as payloads
 pub as_many : (sent : List SentPayload) (reads : List (List Set)) → AllZip (λ payload sets. HaveContents payload.sets sets) sent reads → length reads ≡ length (payloads_of sent)
 as_many sent reads each = AllZip-long (λ payload sets. HaveContents payload.sets sets) sent reads each ∙ sym (length-map sent (λ s. s.payload))
 
 -- the audit of payloads that read each
-audited : (c : Conversation) (limit : ℕ) (sent : List SentPayload) → (reads : ReadsEach c limit sent) → length sent < 2 ^ 64
+audited : (c : Statement) (limit : ℕ) (sent : List SentPayload) → (reads : ReadsEach c limit sent) → length sent < 2 ^ 64
     → Audited c limit (framings (payloads_of sent) EachFromZero) (record { sets = flat_map (λ sets. sets) reads.reads; ending = Whole })
 audited c limit sent reads few = (
   record { payloads = payloads_of sent; rest_bytes = []; rest = Empty },
@@ -78,15 +75,14 @@ audited c limit sent reads few = (
 
 pub carried : SentPayloadsRead Text → SentPayloadsRead Execute → SentPayloadsRead Bulk → SentValuesAreCarried
 carried text execute bulk road query sets id limit old new small room short q =
-    let tokens : List (List ℕ) = q.sends.tokens in
-    let c : Conversation = conversation_of query tokens id in
+    let statement : Statement = statement_of query q.sends.tokens id in
     let sent : List SentPayload = q.sends.sent in
-    let reads : ReadsEach c limit sent = reads_each text execute bulk road query sets id limit old new small room q in
+    let reads : ReadsEach statement limit sent = reads_each text execute bulk road query sets id limit old new small room q in
     let contents : List Set = flat_map (λ sets. sets) reads.reads in
     record {
       stream = framings (payloads_of sent) EachFromZero;
       appended = q.sends.appended;
       contents = contents;
-      each = subst (λ (l : List (List Value)). HaveContents l contents) (sets_are road (statement_of query tokens id) (limit - 4) q.sends.values sent q.sends.are_sent) (contents_in_a_row sent reads.reads reads.contents);
-      audit = (c, about_of query tokens id q.sends.has, audited c limit sent reads (few_sent road query sets id limit old new short q.sends));
+      each = subst (λ (l : List (List Value)). HaveContents l contents) (sets_are road statement (limit - 4) q.sends.values sent q.sends.are_sent) (contents_in_a_row sent reads.reads reads.contents);
+      audit = (q.sends.tokens, q.sends.has, audited statement limit sent reads (few_sent road query sets id limit old new short q.sends));
     }

@@ -19,7 +19,8 @@ use Rattle.mysql_commands.specs.Reading.{Set}
 use Rattle.mysql_streams.specs.declared.refusal.Refusal.{Refusal}
 use Rattle.mysql_streams.specs.declared.refusal.Refusal.TheVariants as refusals
 use Rattle.mysql_streams.specs.Sets.{given_by}
-use Rattle.mysql_streams.specs.Cause.{Limits, cause_if, first_of_sets, given_cause, set_cause, size_cause}
+use Rattle.mysql_values.specs.Binding.{values_cause}
+use Rattle.mysql_streams.specs.Cause.{cause_if, first_of_sets, set_cause}
 use Rattle.mysql_streams.specs.Laws.{SetsMeanEach}
 use Rattle.mysql_streams.specs.Reading.{HaveContents}
 use Rattle.mysql_streams.proofs.Held.{HoldsAll, held}
@@ -60,10 +61,10 @@ neither None second none = (refl, none)
 neither (Some cause) second none = cc
 
 -- what no cause says of values
-pub record IsGood (command : List Value → List ℕ) (limits : Limits) (values : List Value) : Type 0 where
-  pub count_is : length values ≡ limits.places
+pub record IsGood (command : List Value → List ℕ) (places room : ℕ) (values : List Value) : Type 0 where
+  pub count_is : length values ≡ places
   pub exact : first_float values ≡ None
-  pub short : length (command values) ≤ limits.bytes
+  pub short : length (command values) ≤ room
 
 good_by : (same : Bool) (found : Option ℕ) (set : ℕ) → (if same then option_map (λ place. refusals.Float set place) found else Some (refusals.WrongCount set)) ≡ None → (same ≡ true) × (found ≡ None)
 good_by true None set none = (refl, refl)
@@ -74,23 +75,24 @@ short_by : (long : Bool) (set : ℕ) → cause_if long (refusals.PacketTooLarge 
 short_by true set none = cc
 short_by false set none = refl
 
-pub good : (command : List Value → List ℕ) (limits : Limits) (set : ℕ) (values : List Value) → set_cause command limits set (Ok values) ≡ None → IsGood command limits values
-good command limits set values none =
-    let parts = neither (given_cause limits set (Ok values)) (size_cause command limits set (Ok values)) none in
-    let fit = good_by (length values == limits.places) (first_float values) set parts.0 in
+pub good : (command : List Value → List ℕ) (places room set : ℕ) (values : List Value) → set_cause command places room set (Ok values) ≡ None → IsGood command places room values
+good command places room set values none =
+    let long : Option Refusal = cause_if (nat_lt room (length (command values))) (refusals.PacketTooLarge set) in
+    let parts = neither (values_cause (refusals.WrongCount set) (λ place. refusals.Float set place) places values) long none in
+    let fit = good_by (length values == places) (first_float values) set parts.0 in
     record {
-      count_is = eqb-true (length values) limits.places fit.0;
+      count_is = eqb-true (length values) places fit.0;
       exact = fit.1;
-      short = ltb-false limits.bytes (length (command values)) (short_by (nat_lt limits.bytes (length (command values))) set parts.1);
+      short = ltb-false room (length (command values)) (short_by (nat_lt room (length (command values))) set parts.1);
     }
 
--- commands that are no cause are within the limits
-pub short_each : (command : List Value → List ℕ) (limits : Limits) (number : ℕ) (sets : List (List Value)) → first_of_sets (set_cause command limits) number (map Ok sets) ≡ None
-    → AllByRecursion (λ payload. length payload ≤ limits.bytes) (map command sets)
-short_each command limits number [] none = tt
-short_each command limits number (values ∷ sets) none =
-    let parts = neither (set_cause command limits number (Ok values)) (first_of_sets (set_cause command limits) (number + 1) (map Ok sets)) none in
-    ((good command limits number values parts.0).short, short_each command limits (number + 1) sets parts.1)
+-- commands that are no cause have room
+pub short_each : (command : List Value → List ℕ) (places room number : ℕ) (sets : List (List Value)) → first_of_sets (set_cause command places room) number (map Ok sets) ≡ None
+    → AllByRecursion (λ payload. length payload ≤ room) (map command sets)
+short_each command places room number [] none = tt
+short_each command places room number (values ∷ sets) none =
+    let parts = neither (set_cause command places room number (Ok values)) (first_of_sets (set_cause command places room) (number + 1) (map Ok sets)) none in
+    ((good command places room number values parts.0).short, short_each command places room (number + 1) sets parts.1)
 
 -- ---- contents
 
@@ -116,21 +118,21 @@ counted query start (token ∷ tokens) = by (is_place token) (counted query (sta
     by false same = same
 
 -- sets against which nothing speaks have no float
-pub all_hold : (command : List Value → List ℕ) (limits : Limits) (number : ℕ) (sets : List (List Value)) → first_of_sets (set_cause command limits) number (map Ok sets) ≡ None → AllByRecursion HoldsAll sets
-all_hold command limits number [] none = tt
-all_hold command limits number (values ∷ sets) none =
-    let parts = neither (set_cause command limits number (Ok values)) (first_of_sets (set_cause command limits) (number + 1) (map Ok sets)) none in
-    let g : IsGood command limits values = good command limits number values parts.0 in
-    (all_held 0 values g.exact, all_hold command limits (number + 1) sets parts.1)
+pub all_hold : (command : List Value → List ℕ) (places room number : ℕ) (sets : List (List Value)) → first_of_sets (set_cause command places room) number (map Ok sets) ≡ None → AllByRecursion HoldsAll sets
+all_hold command places room number [] none = tt
+all_hold command places room number (values ∷ sets) none =
+    let parts = neither (set_cause command places room number (Ok values)) (first_of_sets (set_cause command places room) (number + 1) (map Ok sets)) none in
+    let g : IsGood command places room values = good command places room number values parts.0 in
+    (all_held 0 values g.exact, all_hold command places room (number + 1) sets parts.1)
 
 -- and each has as many values as the query has placeholders
-pub all_counted : (query : List ℕ) (tokens : List (List ℕ)) (command : List Value → List ℕ) (limits : Limits) → limits.places ≡ length (places_from query 0 tokens) → (number : ℕ) (sets : List (List Value))
-    → first_of_sets (set_cause command limits) number (map Ok sets) ≡ None → AllByRecursion (λ set. length set ≡ length (filter is_place tokens)) sets
-all_counted query tokens command limits count number [] none = tt
-all_counted query tokens command limits count number (values ∷ sets) none =
-    let parts = neither (set_cause command limits number (Ok values)) (first_of_sets (set_cause command limits) (number + 1) (map Ok sets)) none in
-    let g : IsGood command limits values = good command limits number values parts.0 in
-    (g.count_is ∙ count ∙ counted query 0 tokens, all_counted query tokens command limits count (number + 1) sets parts.1)
+pub all_counted : (query : List ℕ) (tokens : List (List ℕ)) (command : List Value → List ℕ) (places room : ℕ) → places ≡ length (places_from query 0 tokens) → (number : ℕ) (sets : List (List Value))
+    → first_of_sets (set_cause command places room) number (map Ok sets) ≡ None → AllByRecursion (λ set. length set ≡ length (filter is_place tokens)) sets
+all_counted query tokens command places room count number [] none = tt
+all_counted query tokens command places room count number (values ∷ sets) none =
+    let parts = neither (set_cause command places room number (Ok values)) (first_of_sets (set_cause command places room) (number + 1) (map Ok sets)) none in
+    let g : IsGood command places room values = good command places room number values parts.0 in
+    (g.count_is ∙ count ∙ counted query 0 tokens, all_counted query tokens command places room count (number + 1) sets parts.1)
 
 -- payloads that leave room for a header are within the limit
 pub within_limit : (limit : ℕ) (payloads : List (List ℕ)) → AllByRecursion (λ payload. length payload ≤ limit - 4) payloads → AllByRecursion (λ payload. length payload ≤ limit) payloads

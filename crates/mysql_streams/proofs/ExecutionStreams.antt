@@ -3,20 +3,17 @@ use Rattle.std.proofs.Common.{◌≡◌, ℕ, ◌+◌, ◌-◌, ◌^◌, ◌<◌
 use Rattle.std.specs.Prelude.{if◌then◌else◌}
 use Rattle.std.specs.List.{AllByRecursion, flat_map}
 use Rattle.std.specs.Option.{option_or}
-use Rattle.mysql_values.specs.Laws.{OneTokens}
 use Rattle.mysql_values.specs.Value.{Value}
 use Rattle.mysql_stmt.specs.Executions.{execute_command, needs_long_data}
 use Rattle.mysql_commands.specs.InForce.{StatementState, is_waiting, nothing_yet, state_after}
 use Rattle.mysql_commands.specs.Laws.{LookingBackGoesOn, WrittenCellsAreHeld}
-use Rattle.mysql_commands.specs.Layout.{Conversation}
-use Rattle.mysql_commands.specs.Query.{place_count}
+use Rattle.mysql_commands.specs.Query.{Statement, place_count, statement_of}
 use Rattle.mysql_streams.specs.declared.road.Road.TheVariants.{Execute}
-use Rattle.mysql_streams.specs.Cause.{Limits, first_of_sets, limits_of, max_places, prepare_cause, set_cause}
+use Rattle.mysql_streams.specs.Cause.{first_of_sets, max_places, prepare_cause, set_cause}
 use Rattle.mysql_streams.specs.Commands.{pieces_from, prepare_command}
-use Rattle.mysql_streams.specs.Laws.{ReadsEach, SentPayloadsRead}
-use Rattle.mysql_streams.specs.Sent.{SentPayload, Statement, as_execution, last_of, on_the_way, parsed_of, payloads_of, prepare_of, statement_of, whole_command}
+use Rattle.mysql_streams.specs.Laws.{SentPayloadsRead}
+use Rattle.mysql_streams.specs.Sent.{SentPayload, as_execution, last_of, on_the_way, payloads_of, prepare_of, whole_command}
 use Rattle.mysql_streams.proofs.Contents.{neither}
-use Rattle.mysql_streams.proofs.Conversations.{conversation_is, conversation_of}
 use Rattle.mysql_streams.proofs.Executable.{IsPreparable, IsSendable, all_sendable, preparable}
 use Rattle.mysql_streams.proofs.ExecutionSizes.{Within, cells_in_execution, execution_fewer, pieces_within, within_append, within_on_the_way}
 use Rattle.mysql_streams.proofs.Executions.{execution_reads, nothing_apart}
@@ -46,31 +43,31 @@ one_within most id values true short =
 
 -- ---- a set
 
-module _ (law : WrittenCellsAreHeld) (c : Conversation) (statement : Statement) (small : statement.id < 2 ^ 32) (same : c.id ≡ statement.id) (limits : Limits) (places : place_count c.query ≡ limits.places) (few : place_count c.query ≤ max_places) where
+module _ (law : WrittenCellsAreHeld) (statement : Statement) (small : statement.id < 2 ^ 32) (room : ℕ) (few : place_count statement.query ≤ max_places) where
   -- a set reads, and leaves the statement as it was
   record ReadsOn (s : StatementState) (sent : List SentPayload) : Type 0 where
-    reads : ReadFrom c s sent
-    ready : IsReady (behind c s sent)
+    reads : ReadFrom statement s sent
+    ready : IsReady (behind statement s sent)
 
   -- values of a set of the statement that may be sent
   abbrev MayBeSent : List Value → Type 0
-  MayBeSent values = IsSendable (whole_command Execute statement) limits values
+  MayBeSent values = IsSendable (whole_command Execute statement) (place_count statement.query) room values
 
   -- a set as an execution reads on
   one_reads : (apart : Bool) (s : StatementState) (values : List Value) → IsReady s → MayBeSent values → ReadsOn s (sent_as apart statement.id values)
   one_reads false s values ready may = record {
-    reads = (execution_reads law c s false statement.id values (map held values) ready.prepared (nothing_apart s.pieces ready.none 0 values) small same (places ∙ sym may.count) may.fit may.each, tt);
-    ready = execution_leaves c s statement.id values false ready.prepared;
+    reads = (execution_reads law statement s false statement.id values (map held values) ready.prepared (nothing_apart s.pieces ready.none 0 values) small refl (sym may.count) may.fit may.each, tt);
+    ready = execution_leaves statement s statement.id values false ready.prepared;
   }
   one_reads true s values ready may =
       let pieces : List SentPayload = map on_the_way (pieces_from statement.id 0 values) in
       let last : List SentPayload = last_of values (execute_command statement.id values true) ∷ [] in
-      let t : StatementState = behind c s pieces in
-      let count : place_count c.query ≡ length values = places ∙ sym may.count in
-      let after : AfterPieces c s 0 values pieces = after_pieces c statement.id small same s 0 values ready.prepared (λ k above. ready.none k) (omega (arith, count, few)) (omega (arith, count)) in
+      let t : StatementState = behind statement s pieces in
+      let count : place_count statement.query ≡ length values = sym may.count in
+      let after : AfterPieces statement s 0 values pieces = after_pieces statement statement.id small refl s 0 values ready.prepared (λ k above. ready.none k) (omega (arith, count, few)) (omega (arith, count)) in
       record {
-        reads = read_behind c s pieces last after.reads (execution_reads law c t true statement.id values (map held values) after.prepared after.waits small same count may.fit may.each, tt);
-        ready = subst (λ (u : StatementState). IsReady u) (sym (behind_append c s pieces last)) (execution_leaves c t statement.id values true after.prepared);
+        reads = read_behind statement s pieces last after.reads (execution_reads law statement t true statement.id values (map held values) after.prepared after.waits small refl count may.fit may.each, tt);
+        ready = subst (λ (u : StatementState). IsReady u) (sym (behind_append statement s pieces last)) (execution_leaves statement t statement.id values true after.prepared);
       }
 
   -- sets as executions read on
@@ -78,23 +75,23 @@ module _ (law : WrittenCellsAreHeld) (c : Conversation) (statement : Statement) 
   all_read s [] ready may = record { reads = tt; ready = ready }
   all_read s (values ∷ sets) ready may =
       let first : ReadsOn s (as_execution statement values) = one_reads (needs_long_data values) s values ready may.0 in
-      let t : StatementState = behind c s (as_execution statement values) in
+      let t : StatementState = behind statement s (as_execution statement values) in
       let later : ReadsOn t (flat_map (as_execution statement) sets) = all_read t sets first.ready may.1 in
       record {
-        reads = read_behind c s (as_execution statement values) (flat_map (as_execution statement) sets) first.reads later.reads;
-        ready = subst (λ (u : StatementState). IsReady u) (sym (behind_append c s (as_execution statement values) (flat_map (as_execution statement) sets))) later.ready;
+        reads = read_behind statement s (as_execution statement values) (flat_map (as_execution statement) sets) first.reads later.reads;
+        ready = subst (λ (u : StatementState). IsReady u) (sym (behind_append statement s (as_execution statement values) (flat_map (as_execution statement) sets))) later.ready;
       }
 
   -- the payloads of sets are within the limit
-  all_within : (most : ℕ) (sets : List (List Value)) → limits.bytes ≤ most → AllByRecursion MayBeSent sets → Within most (payloads_of (flat_map (as_execution statement) sets))
-  all_within most [] room may = tt
-  all_within most (values ∷ sets) room may =
+  all_within : (most : ℕ) (sets : List (List Value)) → room ≤ most → AllByRecursion MayBeSent sets → Within most (payloads_of (flat_map (as_execution statement) sets))
+  all_within most [] enough may = tt
+  all_within most (values ∷ sets) enough may =
       within_append most (as_execution statement values) (flat_map (as_execution statement) sets)
-      (one_within most statement.id values (needs_long_data values) (le_trans may.0.short room))
-      (all_within most sets room may.1)
+      (one_within most statement.id values (needs_long_data values) (le_trans may.0.short enough))
+      (all_within most sets enough may.1)
 
   -- behind the prepare
-  module _ (goes_on : LookingBackGoesOn) (parsed : c.query.parsed ≡ parsed_of statement.tokens) (most : ℕ) (room : limits.bytes ≤ most) (short : length (prepare_command (parsed_of statement.tokens)) ≤ limits.bytes)
+  module _ (goes_on : LookingBackGoesOn) (most : ℕ) (enough : room ≤ most) (short : length (prepare_command statement.query.parsed) ≤ room)
       (sets : List (List Value)) (may : AllByRecursion MayBeSent sets) where
     -- what is sent of sets: the prepare and the executions
     abbrev all_sent : List SentPayload
@@ -103,34 +100,32 @@ module _ (law : WrittenCellsAreHeld) (c : Conversation) (statement : Statement) 
     -- it reads from the start on
     whole : ReadsOn nothing_yet all_sent
     whole =
-        let t : StatementState = state_after c nothing_yet (prepare_command (parsed_of statement.tokens) ∷ []) in
-        let fresh : FreshlyPrepared t = prepare_leaves c nothing_yet (parsed_of statement.tokens) parsed in
+        let t : StatementState = state_after statement nothing_yet (prepare_command statement.query.parsed ∷ []) in
+        let fresh : FreshlyPrepared t = prepare_leaves statement nothing_yet statement.query.parsed refl in
         let later : ReadsOn t (flat_map (as_execution statement) sets) = all_read t sets (record { prepared = fresh.prepared; none = fresh.pieces }) may in
-        record { reads = (prepare_reads c nothing_yet (parsed_of statement.tokens) parsed few, later.reads); ready = later.ready }
+        record { reads = (prepare_reads statement nothing_yet statement.query.parsed refl few, later.reads); ready = later.ready }
 
     -- and each payload as the sets that stand whole with it
-    reads_each : ReadsHeld c most all_sent
+    reads_each : ReadsHeld statement most all_sent
     reads_each = record {
-      within = (le_trans short room, all_within most sets room may);
-      each = λ bounded. read_each goes_on c nothing_yet all_sent whole.reads bounded;
-      ends = ap (λ (s : StatementState). is_waiting c s) (behind_is goes_on c nothing_yet all_sent) ∙ not_waiting c (behind c nothing_yet all_sent) whole.ready.none;
+      within = (le_trans short enough, all_within most sets enough may);
+      each = λ bounded. read_each goes_on statement nothing_yet all_sent whole.reads bounded;
+      ends = ap (λ (s : StatementState). is_waiting statement s) (behind_is goes_on statement nothing_yet all_sent) ∙ not_waiting statement (behind statement nothing_yet all_sent) whole.ready.none;
     }
 
 -- what is sent of sets without a cause reads as these sets
-pub executions_are_read : LookingBackGoesOn → WrittenCellsAreHeld → OneTokens → SentPayloadsRead Execute
-executions_are_read goes_on law once query tokens id limit sets sent c has small room about none are fit =
+pub executions_are_read : LookingBackGoesOn → WrittenCellsAreHeld → SentPayloadsRead Execute
+executions_are_read goes_on law query tokens id limit sets sent has small room none are fit =
     let statement : Statement = statement_of query tokens id in
-    let limits : Limits = limits_of statement.places limit in
-    let first_cause = first_of_sets (set_cause (whole_command Execute statement) limits) 0 (map Ok sets) in
-    let parts = neither (prepare_cause statement.places (parsed_of tokens) (limit - 4)) (option_or first_cause (option_or None None)) none in
+    let places : ℕ = place_count statement.query in
+    let first_cause = first_of_sets (set_cause (whole_command Execute statement) places (limit - 4)) 0 (map Ok sets) in
+    let parts = neither (prepare_cause statement.query (limit - 4)) (option_or first_cause (option_or None None)) none in
     let of_sets = neither first_cause (option_or None None) parts.1 in
-    let may_prepare : IsPreparable statement.places (parsed_of tokens) (limit - 4) = preparable statement.places (parsed_of tokens) (limit - 4) parts.0 in
-    let d : Conversation = conversation_of query tokens id in
-    let reads : ReadsHeld d limit (prepare_of statement ∷ flat_map (as_execution statement) sets) =
-    reads_each law d statement small refl limits refl may_prepare.few goes_on refl limit (sub_le limit 4) may_prepare.short sets
-    (all_sendable (whole_command Execute statement) limits 0 sets of_sets.0 fit) in
-    subst (λ (e : Conversation). ReadsEach e limit sent) (conversation_is once query tokens id c has about)
-    (reads_contents Execute statement (limit - 4) sets sent are (whole_command Execute statement) limits of_sets.0 d limit (subst (λ l. ReadsHeld d limit l) (sym are) reads))
+    let may_prepare : IsPreparable statement.query (limit - 4) = preparable statement.query (limit - 4) parts.0 in
+    let reads : ReadsHeld statement limit (prepare_of statement ∷ flat_map (as_execution statement) sets) =
+    reads_each law statement small (limit - 4) may_prepare.few goes_on limit (sub_le limit 4) may_prepare.short sets
+    (all_sendable (whole_command Execute statement) places (limit - 4) 0 sets of_sets.0 fit) in
+    reads_contents Execute statement (limit - 4) sets sent are (whole_command Execute statement) places (limit - 4) of_sets.0 statement limit (subst (λ l. ReadsHeld statement limit l) (sym are) reads)
   where
     sub_le : (n k : ℕ) → n - k ≤ n
     sub_le n k = omega arith

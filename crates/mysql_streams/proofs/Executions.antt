@@ -18,11 +18,11 @@ use Rattle.mysql_stmt.specs.NullBits.{bitmap_length, null_at}
 use Rattle.mysql_commands.specs.declared.fault.StreamFault.{StreamFault}
 use Rattle.mysql_commands.specs.declared.fault.StreamFault.TheVariants.{BadExecute, BadType, NotPrepared}
 use Rattle.mysql_commands.specs.declared.param_type.ParamType.{ParamType}
-use Rattle.mysql_commands.specs.Fields.{little_at, must}
+use Rattle.mysql_commands.specs.Fields.{number_or, must}
 use Rattle.mysql_commands.specs.InForce.{StatementState}
 use Rattle.mysql_commands.specs.Laws.{WrittenCellsAreHeld}
-use Rattle.mysql_commands.specs.Layout.{Conversation, ExecuteHead, binding_at, execute_head, id_at, is_type, type_at, types_at}
-use Rattle.mysql_commands.specs.Query.{place_count}
+use Rattle.mysql_commands.specs.Layout.{ExecuteHead, binding_at, execute_head, id_at, is_type, type_at, types_at}
+use Rattle.mysql_commands.specs.Query.{Statement, place_count}
 use Rattle.mysql_commands.specs.Reading.{PayloadReadsAs, content_at, execute_at, parameter_at, set_at, types_in_force}
 use Rattle.mysql_streams.proofs.FieldsRead.{bind_from, byte_front, bytes_front, id_front, number_front}
 
@@ -164,20 +164,20 @@ head_by apart (value ∷ values) n is = by (n == 0) (ne_eqb n 0 (λ none. absurd
     by false none = ap (λ k. binding_at k (carried apart (value ∷ values))) is ∙ binding_reads apart (value ∷ values)
 
 -- what stands behind the first byte of an execution is read
-head_reads : (c : Conversation) (id : ℕ) (apart : Bool) (values : List Value) → id < 2 ^ 32 → c.id ≡ id → place_count c.query ≡ length values →
+head_reads : (c : Statement) (id : ℕ) (apart : Bool) (values : List Value) → id < 2 ^ 32 → c.id ≡ id → place_count c.query ≡ length values →
     execute_head c (little_bytes 4 id ++ 0 ∷ (little_bytes 4 1 ++ carried apart values)) ≡ Ok (head_of apart values)
 unfolding execute_head
 head_reads c id apart values small same count =
     let behind : List ℕ = little_bytes 4 1 ++ carried apart values in
     bind_from (id_at c (little_bytes 4 id ++ 0 ∷ behind))
-    (λ rest. little_at BadExecute 1 rest >>= λ cursor. must BadExecute (cursor.0 == 0) >>= λ none. little_at BadExecute 4 cursor.1 >>= λ count. must BadExecute (count.0 == 1) >>= λ one.
+    (λ rest. number_or BadExecute 1 rest >>= λ cursor. must BadExecute (cursor.0 == 0) >>= λ none. number_or BadExecute 4 cursor.1 >>= λ count. must BadExecute (count.0 == 1) >>= λ one.
     if place_count c.query == 0 then Ok (record { nulls = []; own = None; cells = count.1 }) else binding_at (place_count c.query) count.1)
     (0 ∷ behind) (Ok (head_of apart values)) (id_front c id (0 ∷ behind) small same)
-    (bind_from (little_at BadExecute 1 (0 ∷ behind))
-    (λ cursor. must BadExecute (cursor.0 == 0) >>= λ none. little_at BadExecute 4 cursor.1 >>= λ count. must BadExecute (count.0 == 1) >>= λ one.
+    (bind_from (number_or BadExecute 1 (0 ∷ behind))
+    (λ cursor. must BadExecute (cursor.0 == 0) >>= λ none. number_or BadExecute 4 cursor.1 >>= λ count. must BadExecute (count.0 == 1) >>= λ one.
     if place_count c.query == 0 then Ok (record { nulls = []; own = None; cells = count.1 }) else binding_at (place_count c.query) count.1)
     (0, behind) (Ok (head_of apart values)) (byte_front BadExecute 0 behind)
-    (bind_from (little_at BadExecute 4 behind)
+    (bind_from (number_or BadExecute 4 behind)
     (λ count. must BadExecute (count.0 == 1) >>= λ one. if place_count c.query == 0 then Ok (record { nulls = []; own = None; cells = count.1 }) else binding_at (place_count c.query) count.1)
     (1, carried apart values) (Ok (head_of apart values)) (number_front BadExecute 4 1 (carried apart values) (omega arith))
     (head_by apart values (place_count c.query) count)))
@@ -185,7 +185,7 @@ head_reads c id apart values small same count =
 -- ---- an execution
 
 -- the types that an execution carries count
-types_found : (c : Conversation) (s : StatementState) (apart : Bool) (values : List Value) → place_count c.query ≡ length values → types_in_force c s (head_of apart values).own ≡ Ok (map type_of values)
+types_found : (c : Statement) (s : StatementState) (apart : Bool) (values : List Value) → place_count c.query ≡ length values → types_in_force c s (head_of apart values).own ≡ Ok (map type_of values)
 unfolding head_of
 types_found c s apart [] count = rw count refl
 types_found c s apart (value ∷ values) count = by (place_count c.query == 0) (ne_eqb (place_count c.query) 0 (λ none. absurd (omega arith))) refl
@@ -206,7 +206,7 @@ unfolding head_of
 head_cells apart [] = refl
 head_cells apart (value ∷ values) = refl
 
-module _ (law : WrittenCellsAreHeld) (c : Conversation) (s : StatementState) (apart : Bool) (id : ℕ) (values : List Value) (contents : List Content) (prepared : s.prepared ≡ true) (waits : Wait s.pieces 0 apart values)
+module _ (law : WrittenCellsAreHeld) (c : Statement) (s : StatementState) (apart : Bool) (id : ℕ) (values : List Value) (contents : List Content) (prepared : s.prepared ≡ true) (waits : Wait s.pieces 0 apart values)
     (small : id < 2 ^ 32) (same : c.id ≡ id) (count : place_count c.query ≡ length values) (fit : AllByRecursion (λ value. FitsFields value) values) (each : map content_of values ≡ map Some contents) where
   -- the body of an execution reads as what its values hold
   body_reads : execute_at c s (little_bytes 4 id ++ 0 ∷ (little_bytes 4 1 ++ carried apart values)) ≡ Ok contents

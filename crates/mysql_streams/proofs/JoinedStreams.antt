@@ -11,12 +11,11 @@ use Rattle.mysql_values.specs.Queries.{is_place}
 use Rattle.mysql_commands.specs.Audit.{Audited}
 use Rattle.mysql_commands.specs.declared.audit.End.TheVariants.{Whole}
 use Rattle.mysql_commands.specs.Laws.{WholeStreamsJoin}
-use Rattle.mysql_commands.specs.Layout.{Conversation}
+use Rattle.mysql_commands.specs.Query.{Statement, statement_of}
 use Rattle.mysql_commands.specs.Reading.{Set}
 use Rattle.mysql_streams.specs.Laws.{SentStreamsJoin}
 use Rattle.mysql_streams.specs.Reading.{AreMeanings, StreamReadsAs}
 use Rattle.mysql_streams.specs.Sets.{Given}
-use Rattle.mysql_streams.proofs.Conversations.{one_conversation}
 use Rattle.mysql_streams.proofs.Held.{all_append, contents_append}
 
 -- a chunk has bytes
@@ -58,15 +57,16 @@ meanings_join once query sets others contents later m n =
 streams_join : OneTokens → WholeStreamsJoin → (query : List ℕ) (sets others : List (List ℕ) → List Given) (id limit : ℕ) (stream behind : List ℕ) (contents later : List Set) → length stream + length behind < 2 ^ 64
     → StreamReadsAs query sets id limit stream contents → StreamReadsAs query others id limit behind later → StreamReadsAs query (λ names. sets names ++ others names) id limit (stream ++ behind) (contents ++ later)
 streams_join once join query sets others id limit stream behind contents later short r q =
-    let same : q.audit.0 ≡ r.audit.0 = one_conversation once query id q.audit.0 r.audit.0 q.audit.1 r.audit.1 in
-    let second : Audited r.audit.0 limit behind (record { sets = later; ending = Whole }) =
-    subst (λ (c : Conversation). Audited c limit behind (record { sets = later; ending = Whole })) same q.audit.2 in
+    let statement : Statement = statement_of query r.audit.0 id in
+    let same : q.audit.0 ≡ r.audit.0 = once query q.audit.0 r.audit.0 q.audit.1 r.audit.1 in
+    let second : Audited statement limit behind (record { sets = later; ending = Whole }) =
+    subst (λ (tokens : List (List ℕ)). Audited (statement_of query tokens id) limit behind (record { sets = later; ending = Whole })) same q.audit.2 in
     record {
       meanings = meanings_join once query sets others contents later r.meanings q.meanings;
       audit = (
         r.audit.0,
         r.audit.1,
-        join r.audit.0 limit stream behind r.audit.2.0 second.0 (record { sets = contents; ending = Whole }) (record { sets = later; ending = Whole })
+        join statement limit stream behind r.audit.2.0 second.0 (record { sets = contents; ending = Whole }) (record { sets = later; ending = Whole })
             r.audit.2.1 second.1 r.audit.2.2 second.2
             (omega (arith, few r.audit.2.0 stream r.audit.2.1.joined, few second.0 behind second.1.joined)) refl refl,
       );

@@ -1,6 +1,6 @@
 pub mod Carried
 pub mod Contents
-pub mod Conversations
+pub mod Statements
 pub mod Delivered
 pub mod Executable
 pub mod ExecutionSizes

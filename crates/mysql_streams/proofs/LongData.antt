@@ -15,10 +15,10 @@ use Rattle.mysql_wire.specs.Wire.{◌>>=◌}
 use Rattle.mysql_stmt.specs.Commands.{long_data}
 use Rattle.mysql_commands.specs.declared.fault.StreamFault.{StreamFault}
 use Rattle.mysql_commands.specs.declared.fault.StreamFault.TheVariants.{BadPlace, NotPrepared}
-use Rattle.mysql_commands.specs.Fields.{little_at, must}
+use Rattle.mysql_commands.specs.Fields.{number_or, must}
 use Rattle.mysql_commands.specs.InForce.{StatementState, joined, state_after}
-use Rattle.mysql_commands.specs.Layout.{Conversation, Piece, id_at, piece_at}
-use Rattle.mysql_commands.specs.Query.{place_count}
+use Rattle.mysql_commands.specs.Layout.{Piece, id_at, piece_at}
+use Rattle.mysql_commands.specs.Query.{Statement, place_count}
 use Rattle.mysql_commands.specs.Reading.{PayloadReadsAs, long_data_at, prepared_piece}
 use Rattle.mysql_streams.specs.Commands.{pieces_from}
 use Rattle.mysql_streams.specs.Sent.{SentPayload, on_the_way}
@@ -43,13 +43,13 @@ unfolding piece body_of long_data
 piece_is id place bytes = ap (λ l. command_number COM_STMT_SEND_LONG_DATA ∷ (little_bytes 4 id ++ (little_bytes 2 place ++ l))) (append-nil bytes)
 
 -- what stands behind the first byte is read as the place and the bytes
-piece_read : (c : Conversation) (id place : ℕ) (bytes : List ℕ) → id < 2 ^ 32 → c.id ≡ id → place < 65536 → place < place_count c.query → piece_at c (body_of id place bytes) ≡ Ok (record { place = place; bytes = bytes })
+piece_read : (c : Statement) (id place : ℕ) (bytes : List ℕ) → id < 2 ^ 32 → c.id ≡ id → place < 65536 → place < place_count c.query → piece_at c (body_of id place bytes) ≡ Ok (record { place = place; bytes = bytes })
 unfolding body_of
 piece_read c id place bytes small same low inside =
     bind_from (id_at c (little_bytes 4 id ++ (little_bytes 2 place ++ bytes)))
-    (λ rest. little_at BadPlace 2 rest >>= λ place. must BadPlace (nat_lt place.0 (place_count c.query)) >>= λ known. Ok (record { place = place.0; bytes = place.1 }))
+    (λ rest. number_or BadPlace 2 rest >>= λ place. must BadPlace (nat_lt place.0 (place_count c.query)) >>= λ known. Ok (record { place = place.0; bytes = place.1 }))
     (little_bytes 2 place ++ bytes) (Ok (record { place = place; bytes = bytes })) (id_front c id (little_bytes 2 place ++ bytes) small same)
-    (bind_from (little_at BadPlace 2 (little_bytes 2 place ++ bytes)) (λ place. must BadPlace (nat_lt place.0 (place_count c.query)) >>= λ known. Ok (record { place = place.0; bytes = place.1 }))
+    (bind_from (number_or BadPlace 2 (little_bytes 2 place ++ bytes)) (λ place. must BadPlace (nat_lt place.0 (place_count c.query)) >>= λ known. Ok (record { place = place.0; bytes = place.1 }))
     (place, bytes) (Ok (record { place = place; bytes = bytes })) (number_front BadPlace 2 place bytes (omega (arith, low)))
     (ap (λ b. must BadPlace b >>= λ known. Ok (record { place = place; bytes = bytes })) (lt-ltb place (place_count c.query) inside)))
 
@@ -60,7 +60,7 @@ with_piece : Option (List ℕ) → ℕ → Result Piece StreamFault → Option (
 with_piece waited place read = joined (option_to_list waited ++ cons_option (option_and_then (λ piece. if piece.place == place then Some piece.bytes else None) (result_ok read)) [])
 
 -- what is in force behind a piece for a place is what waits behind it
-pieces_behind : (c : Conversation) (s : StatementState) (body : List ℕ) (place : ℕ) → (state_after c s ((command_number COM_STMT_SEND_LONG_DATA ∷ body) ∷ [])).pieces place ≡ with_piece (s.pieces place) place (piece_at c body)
+pieces_behind : (c : Statement) (s : StatementState) (body : List ℕ) (place : ℕ) → (state_after c s ((command_number COM_STMT_SEND_LONG_DATA ∷ body) ∷ [])).pieces place ≡ with_piece (s.pieces place) place (piece_at c body)
 unfolding with_piece
 pieces_behind c s body place = refl
 
@@ -83,7 +83,7 @@ waits_by waited place bytes none =
     ∙ ap (λ l. Some l) (append-nil bytes)
 
 -- a piece reads as no set, and its bytes wait for its place
-record AfterPiece (c : Conversation) (s : StatementState) (place : ℕ) (bytes payload : List ℕ) : Type 0 where
+record AfterPiece (c : Statement) (s : StatementState) (place : ℕ) (bytes payload : List ℕ) : Type 0 where
   reads : PayloadReadsAs c s payload []
   prepared : (state_after c s (payload ∷ [])).prepared ≡ true
   kept : (k : ℕ) → place ≢ k → (state_after c s (payload ∷ [])).pieces k ≡ s.pieces k
@@ -92,13 +92,13 @@ record AfterPiece (c : Conversation) (s : StatementState) (place : ℕ) (bytes p
 -- ---- pieces
 
 -- pieces read as no set, and so much waits behind them for each of the values, as before for the places before theirs
-pub record AfterPieces (c : Conversation) (s : StatementState) (place : ℕ) (values : List Value) (sent : List SentPayload) : Type 0 where
+pub record AfterPieces (c : Statement) (s : StatementState) (place : ℕ) (values : List Value) (sent : List SentPayload) : Type 0 where
   pub reads : ReadFrom c s sent
   pub prepared : (behind c s sent).prepared ≡ true
   pub kept : (k : ℕ) → k < place → (behind c s sent).pieces k ≡ s.pieces k
   pub waits : Wait (behind c s sent).pieces place true values
 
-module _ (c : Conversation) (id : ℕ) (small : id < 2 ^ 32) (same : c.id ≡ id) where
+module _ (c : Statement) (id : ℕ) (small : id < 2 ^ 32) (same : c.id ≡ id) where
   -- what stands behind the first byte reads as no set
   body_reads : (s : StatementState) (place : ℕ) (bytes : List ℕ) → s.prepared ≡ true → place < 65536 → place < place_count c.query → long_data_at c s (body_of id place bytes) ≡ Ok []
   unfolding long_data_at prepared_piece

@@ -1,9 +1,8 @@
--- The prepare of a conversation's own query: it reads as no set, and leaves the statement prepared, with no types and no pieces.
+-- The prepare of a statement's own query: it reads as no set, and leaves the statement prepared, with no types and no pieces.
 use Rattle.std.proofs.Common.{◌≡◌, ℕ, ◌≤◌, true, List, [], ◌∷◌, None, refl, sym}
 use Rattle.std.proofs.lemmas.Slice.Eq.{bytes_eq-Decides}
 use Rattle.mysql_commands.specs.InForce.{StatementState, state_after}
-use Rattle.mysql_commands.specs.Layout.{Conversation}
-use Rattle.mysql_commands.specs.Query.{place_count}
+use Rattle.mysql_commands.specs.Query.{Statement, place_count}
 use Rattle.mysql_commands.specs.Reading.{PayloadReadsAs}
 use Rattle.mysql_streams.specs.Commands.{prepare_command}
 
@@ -13,10 +12,10 @@ pub record FreshlyPrepared (s : StatementState) : Type 0 where
   pub types : s.types ≡ None
   pub pieces : (place : ℕ) → s.pieces place ≡ None
 
-pub prepare_reads : (c : Conversation) (s : StatementState) (parsed : List ℕ) → c.query.parsed ≡ parsed → place_count c.query ≤ 65535 → PayloadReadsAs c s (prepare_command parsed) []
+pub prepare_reads : (c : Statement) (s : StatementState) (parsed : List ℕ) → c.query.parsed ≡ parsed → place_count c.query ≤ 65535 → PayloadReadsAs c s (prepare_command parsed) []
 prepare_reads c s parsed is few = (sym is, few, refl)
 
-pub prepare_leaves : (c : Conversation) (s : StatementState) (parsed : List ℕ) → c.query.parsed ≡ parsed → FreshlyPrepared (state_after c s (prepare_command parsed ∷ []))
+pub prepare_leaves : (c : Statement) (s : StatementState) (parsed : List ℕ) → c.query.parsed ≡ parsed → FreshlyPrepared (state_after c s (prepare_command parsed ∷ []))
 prepare_leaves c s parsed is = record {
   prepared = rw ((bytes_eq-Decides parsed c.query.parsed).1 (sym is)) refl;
   types = refl;

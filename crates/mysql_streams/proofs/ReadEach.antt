@@ -6,19 +6,18 @@ use Rattle.std.proofs.lemmas.List.{append-nil, length-map}
 use Rattle.mysql_commands.specs.Audit.{Read}
 use Rattle.mysql_commands.specs.InForce.{StatementState, is_waiting, joined, state_after}
 use Rattle.mysql_commands.specs.Laws.{LookingBackGoesOn}
-use Rattle.mysql_commands.specs.Layout.{Conversation}
-use Rattle.mysql_commands.specs.Query.{place_count}
+use Rattle.mysql_commands.specs.Query.{Statement, place_count}
 use Rattle.mysql_commands.specs.Reading.{PayloadReadsAs}
 use Rattle.mysql_streams.specs.Sent.{SentPayload, payloads_of}
 use Rattle.mysql_streams.proofs.Held.{contents_of, held}
 
 -- each payload reads as the sets that stand whole with it, from this state on
-abbrev pub ReadFrom : Conversation → StatementState → List SentPayload → Type 0
+abbrev pub ReadFrom : Statement → StatementState → List SentPayload → Type 0
 ReadFrom c s [] = Unit {0}
 ReadFrom c s (first ∷ later) = PayloadReadsAs c s first.payload (map (map held) first.sets) × ReadFrom c (state_after c s (first.payload ∷ [])) later
 
 -- before any payload what held before is in force
-pub state_after_nil : (c : Conversation) (s : StatementState) → state_after c s [] ≡ s
+pub state_after_nil : (c : Statement) (s : StatementState) → state_after c s [] ≡ s
 state_after_nil c s = λ i. record { prepared = s.prepared; types = s.types; pieces = λ place. one (s.pieces place) i }
   where
     one : (o : Option (List ℕ)) → joined (option_to_list o ++ []) ≡ o
@@ -26,7 +25,7 @@ state_after_nil c s = λ i. record { prepared = s.prepared; types = s.types; pie
     one (Some x) = ap (λ l. Some l) (append-nil x)
 
 -- each payload reads by what those before it leave in force
-reads_at : LookingBackGoesOn → (c : Conversation) (s : StatementState) (sent : List SentPayload) → ReadFrom c s sent → (i : ℕ) → i < length sent
+reads_at : LookingBackGoesOn → (c : Statement) (s : StatementState) (sent : List SentPayload) → ReadFrom c s sent → (i : ℕ) → i < length sent
     → PayloadReadsAs c (state_after c s (take i (payloads_of sent))) (get_or (payloads_of sent) i []) (get_or (contents_of sent) i [])
 reads_at goes_on c s [] reads i inside = absurd (omega arith)
 reads_at goes_on c s (first ∷ later) reads zero inside =
@@ -36,7 +35,7 @@ reads_at goes_on c s (first ∷ later) reads (suc i) inside =
     (reads_at goes_on c (state_after c s (first.payload ∷ [])) later reads.1 i (omega arith))
 
 -- fewer than 2 ^ 64 payloads read as their contents
-pub read_each : LookingBackGoesOn → (c : Conversation) (s : StatementState) (sent : List SentPayload) → ReadFrom c s sent → length sent < 2 ^ 64 → Read c s 0 (payloads_of sent) (contents_of sent)
+pub read_each : LookingBackGoesOn → (c : Statement) (s : StatementState) (sent : List SentPayload) → ReadFrom c s sent → length sent < 2 ^ 64 → Read c s 0 (payloads_of sent) (contents_of sent)
 read_each goes_on c s sent reads few =
     let payloads : length (payloads_of sent) ≡ length sent = length-map sent (λ s. s.payload) in
     let contents : length (contents_of sent) ≡ length sent = length-map sent (λ s. map (map held) s.sets) in
@@ -48,7 +47,7 @@ read_each goes_on c s sent reads few =
     }
 
 -- payloads behind others read by what those leave in force
-pub read_from_append : LookingBackGoesOn → (c : Conversation) (s : StatementState) (xs ys : List SentPayload) → ReadFrom c s xs → ReadFrom c (state_after c s (payloads_of xs)) ys → ReadFrom c s (xs ++ ys)
+pub read_from_append : LookingBackGoesOn → (c : Statement) (s : StatementState) (xs ys : List SentPayload) → ReadFrom c s xs → ReadFrom c (state_after c s (payloads_of xs)) ys → ReadFrom c s (xs ++ ys)
 read_from_append goes_on c s [] ys first second = subst (λ (t : StatementState). ReadFrom c t ys) (state_after_nil c s) second
 read_from_append goes_on c s (x ∷ xs) ys first second = (
   first.0,
@@ -57,7 +56,7 @@ read_from_append goes_on c s (x ∷ xs) ys first second = (
 )
 
 -- where no place has pieces, none wait
-pub not_waiting : (c : Conversation) (s : StatementState) → ((place : ℕ) → s.pieces place ≡ None) → is_waiting c s ≡ false
+pub not_waiting : (c : Statement) (s : StatementState) → ((place : ℕ) → s.pieces place ≡ None) → is_waiting c s ≡ false
 not_waiting c s none = any_false (range_with_len 0 (place_count c.query))
   where
     any_false : (places : List ℕ) → list_any (λ place. is_some (s.pieces place)) places ≡ false

@@ -8,11 +8,10 @@ use Rattle.byteorder.specs.Numbers.{length-bytes_low_first}
 use Rattle.mysql_values.specs.CellLaws.{CellLength}
 use Rattle.mysql_values.specs.Cells.{bin_len, cell}
 use Rattle.mysql_values.specs.Value.{Value}
-use Rattle.mysql_bulk.specs.Bulk.{bulk_command, bulk_execution, param_type_bytes, type_of_value}
+use Rattle.mysql_bulk.specs.Bulk.{bulk_execution, param_type_bytes, type_of_value}
 use Rattle.mysql_bulk_builder.specs.Cut.{Row, row_size, rows_of, rows_size}
-use Rattle.mysql_bulk_builder.specs.TypedCut.{Typed, Typing, Untyped}
-use Rattle.mysql_bulk_builder.specs.ValueTypes.{first_value}
-use Rattle.mysql_streams.specs.Commands.{request_flags, request_types, types_of_columns, types_size}
+use Rattle.mysql_bulk_builder.specs.TypedCut.{Typed, Untyped}
+use Rattle.mysql_bulk_builder.specs.ValueTypes.{first_in_column}
 use Rattle.mysql_streams.specs.Laws.{RequestsHaveTheirSize}
 use Rattle.mysql_streams.proofs.RequestRows.{row_bytes, rows_bytes, rows_split}
 
@@ -40,17 +39,13 @@ total : (id flags types rows : List ℕ) (t r : ℕ) → length id ≡ 4 → len
 total id flags types rows t r four two is_t is_r =
     omega (arith, length-append id (flags ++ (types ++ (rows ++ []))), length-append flags (types ++ (rows ++ [])), length-append types (rows ++ []), length-append rows [])
 
--- a request, by whether it carries types
-typing_length : CellLength → (id columns : ℕ) (rows : List Row) (start : ℕ) (typing : Typing) (count : ℕ) →
-    length (bulk_command id (request_flags typing) (request_types typing columns (take (start + count) rows)) (rows_of rows start count)) ≡ 7 + types_size typing columns + rows_size rows start count
-unfolding bulk_execution
-typing_length law id columns rows start Typed count =
-    total (little_bytes 4 id) (little_bytes 2 0x80) (flat_map param_type_bytes (types_of_columns columns (take (start + count) rows))) (rows_bytes (rows_of rows start count)) (2 * columns) (rows_size rows start count)
-    (length-bytes_low_first 0 4 id) (length-bytes_low_first 0 2 0x80) (types_length (λ column. first_value column (take (start + count) rows)) 0 columns) (rows_length law (rows_of rows start count))
-typing_length law id columns rows start Untyped count =
-    total (little_bytes 4 id) (little_bytes 2 0) [] (rows_bytes (rows_of rows start count)) 0 (rows_size rows start count)
-    (length-bytes_low_first 0 4 id) (length-bytes_low_first 0 2 0) refl (rows_length law (rows_of rows start count))
-
 -- a request takes as many bytes as are counted for its part
 pub requests_have_their_size : CellLength → RequestsHaveTheirSize
-requests_have_their_size law id columns rows start part = typing_length law id columns rows start part.typing part.count
+unfolding bulk_execution
+requests_have_their_size law id columns rows start Typed count =
+    total (little_bytes 4 id) (little_bytes 2 0x80) (flat_map param_type_bytes (map (λ column. type_of_value (first_in_column column (take (start + count) rows))) (range_with_len 0 columns)))
+    (rows_bytes (rows_of rows start count)) (2 * columns) (rows_size rows start count)
+    (length-bytes_low_first 0 4 id) (length-bytes_low_first 0 2 0x80) (types_length (λ column. first_in_column column (take (start + count) rows)) 0 columns) (rows_length law (rows_of rows start count))
+requests_have_their_size law id columns rows start Untyped count =
+    total (little_bytes 4 id) (little_bytes 2 0) [] (rows_bytes (rows_of rows start count)) 0 (rows_size rows start count)
+    (length-bytes_low_first 0 4 id) (length-bytes_low_first 0 2 0) refl (rows_length law (rows_of rows start count))

@@ -6,7 +6,6 @@ use Rattle.std.specs.Option.{option_map, option_or, option_to_list}
 use Rattle.std.proofs.lemmas.List.Sums.{sum_by-cons}
 use Rattle.mysql_values.specs.AsSql.{FitsFields}
 use Rattle.mysql_values.specs.CellLaws.{CellLength}
-use Rattle.mysql_values.specs.Laws.{OneTokens}
 use Rattle.mysql_values.specs.Value.{Value}
 use Rattle.mysql_values.specs.Values.{content_of}
 use Rattle.mysql_bulk_builder.specs.Causes.{mixed_kinds, row_too_large}
@@ -15,18 +14,16 @@ use Rattle.mysql_bulk_builder.specs.InForce.{TypesInForceServe, TypesServe, cove
 use Rattle.mysql_bulk_builder.specs.TypedCut.{IsTightTyped, IsTightTypedPart, Part, PartFits, Typed, TypedCutFits, Typing, Untyped, placed, placed_from}
 use Rattle.mysql_commands.specs.InForce.{StatementState, joined, nothing_yet, state_after}
 use Rattle.mysql_commands.specs.Laws.{LookingBackGoesOn, WrittenCellsAreHeld}
-use Rattle.mysql_commands.specs.Layout.{Conversation}
-use Rattle.mysql_commands.specs.Query.{place_count}
+use Rattle.mysql_commands.specs.Query.{Statement, place_count, statement_of}
 use Rattle.mysql_streams.specs.declared.refusal.Refusal.{Refusal}
 use Rattle.mysql_streams.specs.declared.refusal.Refusal.TheVariants as refusals
 use Rattle.mysql_streams.specs.declared.road.Road.TheVariants.{Bulk}
-use Rattle.mysql_streams.specs.Cause.{Limits, bulk_cause, cause_if, first_of_sets, limits_of, prepare_cause, query_cause, set_cause}
+use Rattle.mysql_streams.specs.Cause.{bulk_cause, cause_if, first_of_sets, prepare_cause, query_cause, set_cause}
 use Rattle.mysql_streams.specs.Commands.{bulk_request, prepare_command, types_size}
-use Rattle.mysql_streams.specs.Laws.{ReadsEach, RequestsHaveTheirSize, SentPayloadsRead}
-use Rattle.mysql_streams.specs.Sent.{SentPayload, Statement, as_requests, parsed_of, payloads_of, prepare_of, statement_of, whole_command}
+use Rattle.mysql_streams.specs.Laws.{RequestsHaveTheirSize, SentPayloadsRead}
+use Rattle.mysql_streams.specs.Sent.{SentPayload, as_requests, payloads_of, prepare_of, whole_command}
 use Rattle.mysql_streams.specs.Sets.{values_of}
 use Rattle.mysql_streams.proofs.Contents.{IsGood, all_held, good, neither, within_limit}
-use Rattle.mysql_streams.proofs.Conversations.{conversation_is, conversation_of}
 use Rattle.mysql_streams.proofs.Executable.{IsPreparable, preparable}
 use Rattle.mysql_streams.proofs.Held.{held}
 use Rattle.mysql_streams.proofs.Preparing.{FreshlyPrepared, prepare_leaves, prepare_reads}
@@ -68,23 +65,23 @@ held_each (value ∷ values) fit each =
     ((fit.0, first), held_each values fit.1 others)
 
 -- each row has a value for each place, and they can be read back
-good_rows : (command : List Value → List ℕ) (limits : Limits) (number : ℕ) (rows : List Row) → first_of_sets (set_cause command limits) number (map Ok rows) ≡ None → AllByRecursion (AllByRecursion (λ value. FitsFields value)) rows →
-    (k : ℕ) → k < length rows → (length (get_or rows k []) ≡ limits.places) × AllByRecursion IsHeld (get_or rows k [])
-good_rows command limits number [] none fit k inside = absurd (omega arith)
-good_rows command limits number (row ∷ rows) none fit zero inside =
-    let parts = neither (set_cause command limits number (Ok row)) (first_of_sets (set_cause command limits) (number + 1) (map Ok rows)) none in
-    let g : IsGood command limits row = good command limits number row parts.0 in
+good_rows : (command : List Value → List ℕ) (places room number : ℕ) (rows : List Row) → first_of_sets (set_cause command places room) number (map Ok rows) ≡ None → AllByRecursion (AllByRecursion (λ value. FitsFields value)) rows →
+    (k : ℕ) → k < length rows → (length (get_or rows k []) ≡ places) × AllByRecursion IsHeld (get_or rows k [])
+good_rows command places room number [] none fit k inside = absurd (omega arith)
+good_rows command places room number (row ∷ rows) none fit zero inside =
+    let parts = neither (set_cause command places room number (Ok row)) (first_of_sets (set_cause command places room) (number + 1) (map Ok rows)) none in
+    let g : IsGood command places room row = good command places room number row parts.0 in
     (g.count_is, held_each row fit.0 (all_held 0 row g.exact))
-good_rows command limits number (row ∷ rows) none fit (suc k) inside =
-    let parts = neither (set_cause command limits number (Ok row)) (first_of_sets (set_cause command limits) (number + 1) (map Ok rows)) none in
-    good_rows command limits (number + 1) rows parts.1 fit.1 k (omega arith)
+good_rows command places room number (row ∷ rows) none fit (suc k) inside =
+    let parts = neither (set_cause command places room number (Ok row)) (first_of_sets (set_cause command places room) (number + 1) (map Ok rows)) none in
+    good_rows command places room (number + 1) rows parts.1 fit.1 k (omega arith)
 
 -- ---- all parts
 
 module _ (room id columns : ℕ) (rows : List Row) where
   -- the requests of the parts from a row on
   abbrev requests_from : ℕ → List Part → List SentPayload
-  requests_from start cut = map (λ p. record { payload = bulk_request id columns rows p.0 p.1; sets = rows_of rows p.0 p.1.count }) (placed_from start cut)
+  requests_from start cut = map (λ p. record { payload = bulk_request id columns rows p.0 p.1.typing p.1.count; sets = rows_of rows p.0 p.1.count }) (placed_from start cut)
 
   -- parts that fit
   abbrev AllFit : List (ℕ × Part) → Type 0
@@ -104,9 +101,9 @@ module _ (room id columns : ℕ) (rows : List Row) where
   short_requests : RequestsHaveTheirSize → (start : ℕ) (cut : List Part) → AllFit (placed_from start cut) → AllByRecursion (λ payload. length payload ≤ room) (payloads_of (requests_from start cut))
   short_requests sizes start [] fits = tt
   short_requests sizes start (part ∷ cut) fits =
-      (subst (λ (n : ℕ). n ≤ room) (sym (sizes id columns rows start part)) (fits_by start part.typing part.count fits.0), short_requests sizes (start + part.count) cut fits.1)
+      (subst (λ (n : ℕ). n ≤ room) (sym (sizes id columns rows start part.typing part.count)) (fits_by start part.typing part.count fits.0), short_requests sizes (start + part.count) cut fits.1)
 
-  module _ (goes_on : LookingBackGoesOn) (law : WrittenCellsAreHeld) (c : Conversation) (small : id < 2 ^ 32) (same : c.id ≡ id) (places : place_count c.query ≡ columns) (some : 0 < columns)
+  module _ (goes_on : LookingBackGoesOn) (law : WrittenCellsAreHeld) (c : Statement) (small : id < 2 ^ 32) (same : c.id ≡ id) (places : place_count c.query ≡ columns) (some : 0 < columns)
       (arity : (k : ℕ) → k < length rows → length (get_or rows k []) ≡ columns) (all : (k : ℕ) → k < length rows → AllByRecursion IsHeld (get_or rows k [])) where
     -- payloads that read from here on, and leave no pieces
     abbrev ReadsOn : StatementState → List SentPayload → Type 0
@@ -118,7 +115,7 @@ module _ (room id columns : ℕ) (rows : List Row) where
     requests_go start before [] s in_force any ends fits serve = (tt, λ k. ap (λ o. joined (option_to_list o ++ [])) (in_force.none k))
     requests_go start before (part ∷ cut) s in_force any ends fits serve =
         let more = sum_by-cons (λ (part : Part). part.count) part cut in
-        let payload : List ℕ = bulk_request id columns rows start part in
+        let payload : List ℕ = bulk_request id columns rows start part.typing part.count in
         let here = request_goes law c id columns rows small same places some arity all part.typing room s start part.count before in_force any.0 (omega (arith, more, ends)) fits.0 serve.0 in
         let next = requests_go (start + part.count) (covered part.typing (start + part.count) before) cut (state_after c s (payload ∷ [])) here.1 any.1 (omega (arith, more, ends)) fits.1 serve.1 in (
           (here.0, next.0),
@@ -126,34 +123,32 @@ module _ (room id columns : ℕ) (rows : List Row) where
         )
 
 -- what is sent of sets without a cause reads as these sets
-pub requests_read : LookingBackGoesOn → OneTokens → WrittenCellsAreHeld → CellLength → TypesInForceServe → SentPayloadsRead Bulk
-requests_read goes_on once law lengths serves query tokens id limit values sent c has small room about none are_sent readable =
+pub requests_read : LookingBackGoesOn → WrittenCellsAreHeld → CellLength → TypesInForceServe → SentPayloadsRead Bulk
+requests_read goes_on law lengths serves query tokens id limit values sent has small room none are_sent readable =
     let statement : Statement = statement_of query tokens id in
-    let columns : ℕ = length statement.places in
-    let parsed : List ℕ = parsed_of tokens in
-    let d : Conversation = conversation_of query tokens id in
-    let sets_first : Option Refusal = first_of_sets (set_cause (whole_command Bulk statement) (limits_of statement.places limit)) 0 (map Ok values) in
+    let columns : ℕ = place_count statement.query in
+    let parsed : List ℕ = statement.query.parsed in
+    let sets_first : Option Refusal = first_of_sets (set_cause (whole_command Bulk statement) columns (limit - 4)) 0 (map Ok values) in
     let all_sets : Option Refusal = bulk_cause columns (limit - 4) (values_of (map Ok values)) in
     let query_none = neither (query_cause Bulk statement (limit - 4)) (option_or sets_first (option_or all_sets None)) none in
     let sets_none = neither sets_first (option_or all_sets None) query_none.1 in
     let all_none = neither all_sets None sets_none.1 in
     let mixed : mixed_kinds values ≡ None = one_kind columns (limit - 4) values (ap (λ l. bulk_cause columns (limit - 4) l) (sym (values_back values)) ∙ all_none.0) in
-    let prepare_none = neither (prepare_cause statement.places parsed (limit - 4)) (cause_if (columns == 0) refusals.NoPlaces) query_none.0 in
-    let prepare : IsPreparable statement.places parsed (limit - 4) = preparable statement.places parsed (limit - 4) prepare_none.0 in
-    let rows = good_rows (whole_command Bulk statement) (limits_of statement.places limit) 0 values sets_none.0 readable in
+    let prepare_none = neither (prepare_cause statement.query (limit - 4)) (cause_if (columns == 0) refusals.NoPlaces) query_none.0 in
+    let prepare : IsPreparable statement.query (limit - 4) = preparable statement.query (limit - 4) prepare_none.0 in
+    let rows = good_rows (whole_command Bulk statement) columns (limit - 4) 0 values sets_none.0 readable in
     let cut : List Part = are_sent.0 in
     let tight : IsTightTyped (limit - 4) columns values cut = are_sent.1 in
     let fits : TypedCutFits (limit - 4) columns values cut = all_fit (limit - 4) id columns values (placed cut) tight.parts_tight in
     let serve : AllByRecursion (TypesServe values) (in_force cut) = serves (limit - 4) columns values cut (λ k inside. (rows k inside).0) mixed fits in
-    let fresh : FreshlyPrepared (state_after d nothing_yet (prepare_command parsed ∷ [])) = prepare_leaves d nothing_yet parsed refl in
-    let goes = requests_go (limit - 4) id columns values goes_on law d small refl refl (some_places columns prepare_none.1) (λ k inside. (rows k inside).0) (λ k inside. (rows k inside).1)
-    0 0 cut (state_after d nothing_yet (prepare_command parsed ∷ [])) (record { prepared = fresh.prepared; none = fresh.pieces; types = λ later. absurd (omega (arith, later)) }) tight.is_cut.0 (omega (arith, tight.is_cut.1)) fits serve in
+    let fresh : FreshlyPrepared (state_after statement nothing_yet (prepare_command parsed ∷ [])) = prepare_leaves statement nothing_yet parsed refl in
+    let goes = requests_go (limit - 4) id columns values goes_on law statement small refl refl (some_places columns prepare_none.1) (λ k inside. (rows k inside).0) (λ k inside. (rows k inside).1)
+    0 0 cut (state_after statement nothing_yet (prepare_command parsed ∷ [])) (record { prepared = fresh.prepared; none = fresh.pieces; types = λ later. absurd (omega (arith, later)) }) tight.is_cut.0 (omega (arith, tight.is_cut.1)) fits serve in
     let all_sent : List SentPayload = prepare_of statement ∷ as_requests statement values cut in
-    let reads : ReadsHeld d limit all_sent = record {
+    let reads : ReadsHeld statement limit all_sent = record {
       within = within_limit limit (payloads_of all_sent) (prepare.short, short_requests (limit - 4) id columns values (requests_have_their_size lengths) 0 cut fits);
-      each = read_each goes_on d nothing_yet all_sent (prepare_reads d nothing_yet parsed refl prepare.few, goes.0);
-      ends = not_waiting d (state_after d nothing_yet (payloads_of all_sent))
-          (λ k. ap (λ (t : StatementState). t.pieces k) (goes_on d nothing_yet (prepare_command parsed ∷ []) (payloads_of (as_requests statement values cut))) ∙ goes.1 k);
+      each = read_each goes_on statement nothing_yet all_sent (prepare_reads statement nothing_yet parsed refl prepare.few, goes.0);
+      ends = not_waiting statement (state_after statement nothing_yet (payloads_of all_sent))
+          (λ k. ap (λ (t : StatementState). t.pieces k) (goes_on statement nothing_yet (prepare_command parsed ∷ []) (payloads_of (as_requests statement values cut))) ∙ goes.1 k);
     } in
-    subst (λ (e : Conversation). ReadsEach e limit sent) (conversation_is once query tokens id c has about)
-    (reads_contents Bulk statement (limit - 4) values sent are_sent (whole_command Bulk statement) (limits_of statement.places limit) sets_none.0 d limit (subst (λ l. ReadsHeld d limit l) (sym are_sent.2) reads))
+    reads_contents Bulk statement (limit - 4) values sent are_sent (whole_command Bulk statement) columns (limit - 4) sets_none.0 statement limit (subst (λ l. ReadsHeld statement limit l) (sym are_sent.2) reads)

@@ -10,21 +10,21 @@ use Rattle.byteorder.specs.Endian.{little_bytes}
 use Rattle.mysql_wire.specs.Wire.{◌>>=◌}
 use Rattle.mysql_values.specs.Value.{Value}
 use Rattle.mysql_values.specs.Value.TheVariants.{NULL, Bytes, Int, UInt, Float, Double, Date, Time}
-use Rattle.mysql_bulk.specs.Bulk.{bulk_command, bulk_execution, param_type_bytes, type_of_value}
+use Rattle.mysql_bulk.specs.Bulk.{bulk_execution, param_type_bytes, type_of_value}
 use Rattle.mysql_bulk_builder.specs.Cut.{Row, rows_of}
 use Rattle.mysql_bulk_builder.specs.InForce.{TypesServe, covered}
 use Rattle.mysql_bulk_builder.specs.TypedCut.{PartFits, Typed, Typing, Untyped}
-use Rattle.mysql_bulk_builder.specs.ValueTypes.{first_value, sent_type}
+use Rattle.mysql_bulk_builder.specs.ValueTypes.{first_in_column, sent_type}
 use Rattle.mysql_commands.specs.declared.fault.StreamFault.{StreamFault}
 use Rattle.mysql_commands.specs.declared.fault.StreamFault.TheVariants.{BadBulk, BadType}
 use Rattle.mysql_commands.specs.declared.param_type.ParamType.{ParamType}
 use Rattle.mysql_commands.specs.Fields.{must}
 use Rattle.mysql_commands.specs.InForce.{StatementState, is_waiting, joined, last_said, said_by, speaks_of_types, state_after}
 use Rattle.mysql_commands.specs.Laws.{WrittenCellsAreHeld}
-use Rattle.mysql_commands.specs.Layout.{BulkHead, Conversation, Types, bulk_head, is_type, type_at, types_at}
-use Rattle.mysql_commands.specs.Query.{place_count}
+use Rattle.mysql_commands.specs.Layout.{BulkHead, Types, bulk_head, is_type, type_at, types_at}
+use Rattle.mysql_commands.specs.Query.{Statement, place_count}
 use Rattle.mysql_commands.specs.Reading.{PayloadReadsAs, RowsAt, bulk_rows, types_in_force}
-use Rattle.mysql_streams.specs.Commands.{request_flags, request_types}
+use Rattle.mysql_streams.specs.Commands.{bulk_request}
 use Rattle.mysql_streams.proofs.FieldsRead.{byte_front, id_front, number_front}
 use Rattle.mysql_streams.proofs.Held.{held}
 use Rattle.mysql_streams.proofs.ReadEach.{not_waiting}
@@ -62,7 +62,7 @@ types_front f from (suc columns) rest =
 
 -- ---- the head
 
-module _ (c : Conversation) (id : ℕ) (small : id < 2 ^ 32) (same : c.id ≡ id) where
+module _ (c : Statement) (id : ℕ) (small : id < 2 ^ 32) (same : c.id ≡ id) where
   -- behind the id and flags
   head_from : (flags : ℕ) (rest : List ℕ) (y : Result BulkHead StreamFault) → flags < 256 ^ 2 →
       (must BadBulk (flags == 0 || flags == 64 || flags == 128 || flags == 192) >>= λ known. if nat_lt flags 128 then Ok (record { own = None; rows = rest })
@@ -91,7 +91,7 @@ one_said says before payload None is = rw is refl
 one_said says before payload (Some word) is = rw is refl
 
 -- the types that a request with this head leaves
-types_after : (c : Conversation) (s : StatementState) (body : List ℕ) (head : BulkHead) → bulk_head c body ≡ Ok head → (state_after c s ((250 ∷ body) ∷ [])).types ≡ unwrap_or (option_map (λ types. Some types) head.own) s.types
+types_after : (c : Statement) (s : StatementState) (body : List ℕ) (head : BulkHead) → bulk_head c body ≡ Ok head → (state_after c s ((250 ∷ body) ∷ [])).types ≡ unwrap_or (option_map (λ types. Some types) head.own) s.types
 types_after c s body head is =
     one_said (said_by (speaks_of_types c)) s.types (250 ∷ body) (option_map (λ types. Some types) head.own)
     (ap (λ r. option_map (λ types. Some types) (option_and_then (λ (head : BulkHead). head.own) (result_ok r))) is)
@@ -103,7 +103,7 @@ either_way (Some types) before = refl
 
 -- the types of columns by the first values in some first rows
 abbrev pub types_of : ℕ → List Row → ℕ → Types
-types_of columns rows first = types_by (λ column. first_value column (take first rows)) 0 columns
+types_of columns rows first = types_by (λ column. first_in_column column (take first rows)) 0 columns
 
 -- the statement is prepared, no piece waits, and behind the first request the types are those of some first rows
 pub record IsInForce (columns : ℕ) (rows : List Row) (s : StatementState) (start before : ℕ) : Type 0 where
@@ -129,7 +129,7 @@ some_bytes ((value ∷ row) ∷ rows) some wide = omega arith
 
 -- ---- a request
 
-module _ (law : WrittenCellsAreHeld) (c : Conversation) (id columns : ℕ) (rows : List Row) (small : id < 2 ^ 32) (same : c.id ≡ id) (places : place_count c.query ≡ columns) (some : 0 < columns)
+module _ (law : WrittenCellsAreHeld) (c : Statement) (id columns : ℕ) (rows : List Row) (small : id < 2 ^ 32) (same : c.id ≡ id) (places : place_count c.query ≡ columns) (some : 0 < columns)
     (arity : (k : ℕ) → k < length rows → length (get_or rows k []) ≡ columns) (all : (k : ℕ) → k < length rows → AllByRecursion IsHeld (get_or rows k [])) where
   -- what stands before the rows
   rows_found : (s : StatementState) (body : List ℕ) (head : BulkHead) (types : Types) → s.prepared ≡ true → is_waiting c s ≡ false → bulk_head c body ≡ Ok head → option_or head.own s.types ≡ Some types → 0 < length head.rows →
@@ -142,23 +142,23 @@ module _ (law : WrittenCellsAreHeld) (c : Conversation) (id columns : ℕ) (rows
       rw (prepared, waits, enough, is, in_force, lt-ltb 0 (length head.rows) bytes) refl
 
   -- the rows of a part that the types serve
-  part_reads : (start count covers : ℕ) → start + count ≤ length rows → TypesServe rows (record { start = start; count = count; covers = covers }) → (first : ℕ → Value) → ((column : ℕ) → first column ≡ first_value column (take covers rows)) →
+  part_reads : (start count covers : ℕ) → start + count ≤ length rows → TypesServe rows (record { start = start; count = count; covers = covers }) → (first : ℕ → Value) → ((column : ℕ) → first column ≡ first_in_column column (take covers rows)) →
       (k : ℕ) → k < length (rows_of rows start count) → Serves first 0 (get_or (rows_of rows start count) k [])
   part_reads start count covers within serve first is k inside =
       let below : k < count = omega (arith, part_length rows start count within, inside) in
       subst (λ (row : Row). Serves first 0 row) (sym (part_row rows start count k below))
-      (λ j narrow some. ap (λ v. sent_type v) (is (0 + j)) ∙ ap (λ n. sent_type (first_value n (take covers rows))) (omega arith) ∙ serve (start + k) j (omega arith) (omega arith) (omega arith, narrow, some))
+      (λ j narrow some. ap (λ v. sent_type v) (is (0 + j)) ∙ ap (λ n. sent_type (first_in_column n (take covers rows))) (omega arith) ∙ serve (start + k) j (omega arith) (omega arith) (omega arith, narrow, some))
 
   -- the request of a part
   abbrev request : Typing → ℕ → ℕ → List ℕ
-  request typing start count = bulk_command id (request_flags typing) (request_types typing columns (take (start + count) rows)) (rows_of rows start count)
+  request typing start count = bulk_request id columns rows start typing count
 
   -- its bytes behind its number, by its flags and the bytes of its types
   abbrev body_of : ℕ → List ℕ → ℕ → ℕ → List ℕ
   body_of flags types start count = little_bytes 4 id ++ (little_bytes 2 flags ++ (types ++ (rows_bytes (rows_of rows start count) ++ [])))
 
   -- the bytes of a typed request
-  typed_request : (start count : ℕ) → request Typed start count ≡ 250 ∷ body_of 0x80 (types_bytes (λ column. first_value column (take (start + count) rows)) 0 columns) start count
+  typed_request : (start count : ℕ) → request Typed start count ≡ 250 ∷ body_of 0x80 (types_bytes (λ column. first_in_column column (take (start + count) rows)) 0 columns) start count
   unfolding bulk_execution
   typed_request start count = refl
 
@@ -180,7 +180,7 @@ module _ (law : WrittenCellsAreHeld) (c : Conversation) (id columns : ℕ) (rows
       let long : length part ≡ count = part_length rows start count within in
       let row_at_start : get_or part 0 [] ≡ get_or rows (start + 0) [] = part_row rows start count 0 any in
       let wide : length (get_or part 0 []) ≡ columns = ap (λ (row : Row). length row) row_at_start ∙ arity (start + 0) (omega (arith, any, within)) in
-      let first : ℕ → Value = λ column. first_value column (take covers rows) in
+      let first : ℕ → Value = λ column. first_in_column column (take covers rows) in
       let reads = rows_read law first columns some part
       (λ k inside. ap (λ (row : Row). length row) (part_row rows start count k (omega (arith, long, inside))) ∙ arity (start + k) (omega (arith, long, inside, within)))
       (λ k inside. subst (λ (row : Row). AllByRecursion IsHeld row) (sym (part_row rows start count k (omega (arith, long, inside)))) (all (start + k) (omega (arith, long, inside, within))))
@@ -203,7 +203,7 @@ module _ (law : WrittenCellsAreHeld) (c : Conversation) (id columns : ℕ) (rows
   pub request_goes : (typing : Typing) (room : ℕ) (s : StatementState) (start count before : ℕ) → IsInForce columns rows s start before → 0 < count → start + count ≤ length rows → PartFits room columns rows start typing count →
       TypesServe rows (record { start = start; count = count; covers = covered typing (start + count) before }) → Goes s (request typing start count) start count (covered typing (start + count) before)
   request_goes Typed room s start count before in_force any within fits serve =
-      let first : ℕ → Value = λ column. first_value column (take (start + count) rows) in
+      let first : ℕ → Value = λ column. first_in_column column (take (start + count) rows) in
       subst (λ (payload : List ℕ). Goes s payload start count (start + count)) (sym (typed_request start count))
       (body_goes s (body_of 0x80 (types_bytes first 0 columns) start count) start count before (start + count) (Some (types_of columns rows (start + count))) in_force any within serve
       (typed_head c id small same first columns places (rows_bytes (rows_of rows start count) ++ [])) refl)

@@ -10,14 +10,14 @@ use Rattle.mysql_bulk_builder.specs.Cut.{rows_of}
 use Rattle.mysql_bulk_builder.specs.TypedCut.{Part, placed_from}
 use Rattle.mysql_commands.specs.Audit.{Read}
 use Rattle.mysql_commands.specs.InForce.{is_waiting, nothing_yet, state_after}
-use Rattle.mysql_commands.specs.Layout.{Conversation}
+use Rattle.mysql_commands.specs.Query.{Statement, place_count}
 use Rattle.mysql_stmt.specs.Executions.{execute_command, needs_long_data}
 use Rattle.mysql_streams.specs.declared.road.Road.{Road}
 use Rattle.mysql_streams.specs.declared.road.Road.TheVariants.{Text, Execute, Bulk}
-use Rattle.mysql_streams.specs.Cause.{Limits, first_of_sets, set_cause}
+use Rattle.mysql_streams.specs.Cause.{first_of_sets, set_cause}
 use Rattle.mysql_streams.specs.Commands.{bulk_request, pieces_from}
 use Rattle.mysql_streams.specs.Laws.{ReadsEach}
-use Rattle.mysql_streams.specs.Sent.{AreSent, SentPayload, Statement, as_execution, as_text, last_of, on_the_way, payloads_of, sets_of}
+use Rattle.mysql_streams.specs.Sent.{AreSent, SentPayload, as_execution, as_text, last_of, on_the_way, payloads_of, sets_of}
 use Rattle.mysql_streams.proofs.Contents.{all_hold}
 use Rattle.mysql_streams.proofs.Held.{HoldsAll, contents_each, contents_of}
 
@@ -53,23 +53,23 @@ sets_are Text statement room sets sent is = ap (λ l. sets_of l) is ∙ text_set
 sets_are Execute statement room sets sent is = ap (λ l. sets_of l) is ∙ execution_sets statement sets
 sets_are Bulk statement room sets sent is =
     ap (λ l. sets_of l) is.2
-    ∙ request_sets (λ p. bulk_request statement.id (length statement.places) sets p.0 p.1) sets 0 is.0
+    ∙ request_sets (λ p. bulk_request statement.id (place_count statement.query) sets p.0 p.1.typing p.1.count) sets 0 is.0
     ∙ ap (λ n. take n sets) is.1.is_cut.1
     ∙ take_all (length sets) sets (omega arith)
 
 -- payloads within the limit that read as what their sets hold, and behind which no piece waits
-pub record ReadsHeld (c : Conversation) (limit : ℕ) (sent : List SentPayload) : Type 0 where
+pub record ReadsHeld (c : Statement) (limit : ℕ) (sent : List SentPayload) : Type 0 where
   pub within : AllByRecursion (λ payload. length payload ≤ limit) (payloads_of sent)
   pub each : length sent < 2 ^ 64 → Read c nothing_yet 0 (payloads_of sent) (contents_of sent)
   pub ends : is_waiting c (state_after c nothing_yet (payloads_of sent)) ≡ false
 
 -- where they are what is sent of sets that are no cause, they read as the contents of these
 pub reads_contents : (road : Road) (statement : Statement) (room : ℕ) (values : List (List Value)) (sent : List SentPayload) → AreSent road statement room values sent
-    → (command : List Value → List ℕ) (limits : Limits) → first_of_sets (set_cause command limits) 0 (map Ok values) ≡ None → (c : Conversation) (limit : ℕ) → ReadsHeld c limit sent → ReadsEach c limit sent
-reads_contents road statement room values sent are command limits none c limit reads = record {
+    → (command : List Value → List ℕ) (places bytes : ℕ) → first_of_sets (set_cause command places bytes) 0 (map Ok values) ≡ None → (c : Statement) (limit : ℕ) → ReadsHeld c limit sent → ReadsEach c limit sent
+reads_contents road statement room values sent are command places bytes none c limit reads = record {
   within = reads.within;
   reads = contents_of sent;
-  contents = contents_each sent (subst (λ (l : List (List Value)). AllByRecursion HoldsAll l) (sym (sets_are road statement room values sent are)) (all_hold command limits 0 values none));
+  contents = contents_each sent (subst (λ (l : List (List Value)). AllByRecursion HoldsAll l) (sym (sets_are road statement room values sent are)) (all_hold command places bytes 0 values none));
   each = reads.each;
   ends = reads.ends;
 }

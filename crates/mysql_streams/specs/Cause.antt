@@ -7,40 +7,25 @@ use Rattle.mysql_values.specs.Place.{Place}
 use Rattle.mysql_values.specs.Queries.{first_not_alone, is_mixed}
 use Rattle.mysql_values.specs.Binding.{values_cause}
 use Rattle.mysql_bulk_builder.specs.Causes.{first_some, mixed_kinds, row_too_large}
+use Rattle.mysql_commands.specs.Query.{Query, Statement, place_count}
 use Rattle.mysql_streams.specs.declared.refusal.Refusal.{Refusal}
 use Rattle.mysql_streams.specs.declared.refusal.Refusal.TheVariants as refusal
 use Rattle.mysql_streams.specs.declared.road.Road.{Road}
 use Rattle.mysql_streams.specs.declared.road.Road.TheVariants.{Text, Execute, Bulk}
 use Rattle.mysql_streams.specs.Commands.{prepare_command}
 use Rattle.mysql_streams.specs.Sets.{Given, values_of}
-use Rattle.mysql_streams.specs.Sent.{Statement, parsed_of, whole_command}
+use Rattle.mysql_streams.specs.Sent.{whole_command}
 
 -- a cause where the test holds
 abbrev pub cause_if : Bool → Refusal → Option Refusal
 cause_if test cause = if test then Some cause else None
 
--- what a set has to meet: so many placeholders, and payloads of at most so many bytes
-pub record Limits : Type 0 where
-  pub places : ℕ
-  pub bytes : ℕ
-
--- the limits for a query with these placeholders: a packet has four bytes beside its payload
-abbrev pub limits_of : List Place → ℕ → Limits
-limits_of places limit = record { places = length places; bytes = limit - 4 }
-
--- what speaks against what a set gives: no values, or they are not as many as the placeholders, or one is a float
-abbrev pub given_cause : Limits → ℕ → Given → Option Refusal
-given_cause limits set (Err error) = Some (refusal.Params set error)
-given_cause limits set (Ok values) = values_cause (refusal.WrongCount set) (λ place. refusal.Float set place) limits.places values
-
--- what speaks against the size of the command that carries a set's values
-abbrev pub size_cause : (List Value → List ℕ) → Limits → ℕ → Given → Option Refusal
-size_cause command limits set (Err error) = None
-size_cause command limits set (Ok values) = cause_if (nat_lt limits.bytes (length (command values))) (refusal.PacketTooLarge set)
-
--- what speaks against a set by itself
-abbrev pub set_cause : (List Value → List ℕ) → Limits → ℕ → Given → Option Refusal
-set_cause command limits set given = option_or (given_cause limits set given) (size_cause command limits set given)
+-- what speaks against a set by itself, by the command that carries its values, so many placeholders, and payloads of at most so many bytes:
+-- it gives no values, or they are not as many as the placeholders, or one is a float, or the command is too long
+abbrev pub set_cause : (List Value → List ℕ) → ℕ → ℕ → ℕ → Given → Option Refusal
+set_cause command places room set (Err error) = Some (refusal.Params set error)
+set_cause command places room set (Ok values) =
+    option_or (values_cause (refusal.WrongCount set) (λ place. refusal.Float set place) places values) (cause_if (nat_lt room (length (command values))) (refusal.PacketTooLarge set))
 
 -- the first cause over sets that are numbered on from here
 abbrev pub first_of_sets : (ℕ → Given → Option Refusal) → ℕ → List Given → Option Refusal
@@ -55,19 +40,18 @@ places_cause places = option_or (cause_if (is_mixed places) refusal.Mixed) (opti
 abbrev pub max_places : ℕ
 max_places = 65535
 
--- what speaks against preparing a query with these placeholders, parsed like this: both kinds occur, they are too many, the prepare is too long
-abbrev pub prepare_cause : List Place → List ℕ → ℕ → Option Refusal
-prepare_cause places parsed room = first_some (
-    cause_if (is_mixed places) refusal.Mixed ∷
-    cause_if (nat_lt max_places (length places)) refusal.TooManyPlaces ∷
-    cause_if (nat_lt room (length (prepare_command parsed))) refusal.PrepareTooLarge ∷ [])
+-- what speaks against preparing a query: both kinds of placeholder occur, they are too many, the prepare is too long
+abbrev pub prepare_cause : Query → ℕ → Option Refusal
+prepare_cause query room = first_some (
+    cause_if (is_mixed query.places) refusal.Mixed ∷
+    cause_if (nat_lt max_places (place_count query)) refusal.TooManyPlaces ∷
+    cause_if (nat_lt room (length (prepare_command query.parsed))) refusal.PrepareTooLarge ∷ [])
 
 -- what speaks against the query by a road, with payloads of at most so many bytes
 abbrev pub query_cause : Road → Statement → ℕ → Option Refusal
-query_cause Text statement room = places_cause statement.places
-query_cause Execute statement room = prepare_cause statement.places (parsed_of statement.tokens) room
-query_cause Bulk statement room =
-    option_or (prepare_cause statement.places (parsed_of statement.tokens) room) (cause_if (length statement.places == 0) refusal.NoPlaces)
+query_cause Text statement room = places_cause statement.query.places
+query_cause Execute statement room = prepare_cause statement.query room
+query_cause Bulk statement room = option_or (prepare_cause statement.query room) (cause_if (place_count statement.query == 0) refusal.NoPlaces)
 
 -- what speaks against the rows of bulk requests, with payloads of at most so many bytes: a value of another kind than the earlier ones of its column,
 -- or a row that no request with types of its own holds
@@ -80,11 +64,11 @@ bulk_cause columns room rows = first_some (
 abbrev pub sets_cause : Road → Statement → ℕ → List (List Value) → Option Refusal
 sets_cause Text statement room sets = None
 sets_cause Execute statement room sets = None
-sets_cause Bulk statement room sets = bulk_cause (length statement.places) room sets
+sets_cause Bulk statement room sets = bulk_cause (place_count statement.query) room sets
 
--- The first cause for which sets are not sent by a road: against the query, then set by set, then against all sets together.
+-- The first cause for which sets are not sent by a road: against the query, then set by set, then against all sets together. A packet has four bytes beside its payload.
 abbrev pub cause_of : Road → Statement → ℕ → List Given → Option Refusal
 cause_of road statement limit sets = first_some (
     query_cause road statement (limit - 4) ∷
-    first_of_sets (set_cause (whole_command road statement) (limits_of statement.places limit)) 0 sets ∷
+    first_of_sets (set_cause (whole_command road statement) (place_count statement.query) (limit - 4)) 0 sets ∷
     sets_cause road statement (limit - 4) (values_of sets) ∷ [])

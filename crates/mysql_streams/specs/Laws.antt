@@ -9,19 +9,19 @@ use Rattle.mysql_values.specs.Tokens.{HasTokens}
 use Rattle.mysql_commands.specs.declared.audit.End.TheVariants.{Whole}
 use Rattle.mysql_commands.specs.Audit.{AuditOf, IsAbout, Read}
 use Rattle.mysql_commands.specs.InForce.{is_waiting, nothing_yet, state_after}
-use Rattle.mysql_commands.specs.Layout.{Conversation}
+use Rattle.mysql_commands.specs.Query.{Statement, statement_of}
 use Rattle.mysql_commands.specs.Reading.{Set}
 use Rattle.mysql_bulk_builder.specs.Cut.{Row, rows_size}
-use Rattle.mysql_bulk_builder.specs.TypedCut.{Part}
+use Rattle.mysql_bulk_builder.specs.TypedCut.{Typing}
 use Rattle.mysql_streams.specs.declared.road.Road.{Road}
 use Rattle.mysql_streams.specs.Commands.{bulk_request, types_size}
 use Rattle.mysql_streams.specs.Sets.{GiveTheSame, Given, all_given}
-use Rattle.mysql_streams.specs.Sent.{AreSent, SentPayload, payloads_of, statement_of}
+use Rattle.mysql_streams.specs.Sent.{AreSent, SentPayload, payloads_of}
 use Rattle.mysql_streams.specs.Cause.{cause_of}
 use Rattle.mysql_streams.specs.Reading.{AreMeanings, HaveContents, IsReadable, ReadsBack, SendsWhole, SentReadable, StreamReadsAs}
 
 -- What is sent reads, payload by payload, as the contents of the sets that stand whole with each, and no piece waits behind it.
-pub record ReadsEach (c : Conversation) (limit : ℕ) (sent : List SentPayload) : Type 0 where
+pub record ReadsEach (c : Statement) (limit : ℕ) (sent : List SentPayload) : Type 0 where
   pub within : AllByRecursion (λ payload. length payload ≤ limit) (payloads_of sent)
   pub reads : List (List Set)
   pub contents : AllZip (λ payload sets. HaveContents payload.sets sets) sent reads
@@ -31,10 +31,10 @@ pub record ReadsEach (c : Conversation) (limit : ℕ) (sent : List SentPayload) 
 -- What is sent of sets without a cause that can be read back reads as these sets, by each road.
 abbrev pub SentPayloadsRead : Road → Type 0
 SentPayloadsRead road =
-    (query : List ℕ) (tokens : List (List ℕ)) (id limit : ℕ) (values : List (List Value)) (sent : List SentPayload) (c : Conversation)
-    → HasTokens query tokens → id < 2 ^ 32 → 4 ≤ limit → IsAbout c query id
+    (query : List ℕ) (tokens : List (List ℕ)) (id limit : ℕ) (values : List (List Value)) (sent : List SentPayload)
+    → HasTokens query tokens → id < 2 ^ 32 → 4 ≤ limit
     → cause_of road (statement_of query tokens id) limit (map Ok values) ≡ None → AreSent road (statement_of query tokens id) (limit - 4) values sent
-    → AllByRecursion (IsReadable road query tokens) values → ReadsEach c limit sent
+    → AllByRecursion (IsReadable road (statement_of query tokens id).query) values → ReadsEach (statement_of query tokens id) limit sent
 
 -- what was appended reads, to its end, as the contents of these sets of values
 pub record CarriesValues (query : List ℕ) (values : List (List Value)) (id limit : ℕ) (old new : List ℕ) : Type 0 where
@@ -50,9 +50,9 @@ SentValuesAreCarried =
     (road : Road) (query : List ℕ) (sets : List (List ℕ) → List Given) (id limit : ℕ) (old new : List ℕ) → id < 2 ^ 32 → 4 ≤ limit → length new < 2 ^ 64
     → (sent : SentReadable road query sets id limit old new) → CarriesValues query sent.sends.values id limit old new
 
--- A query and an id have one conversation.
-abbrev pub OneConversation : Type 0
-OneConversation = (query : List ℕ) (id : ℕ) (c d : Conversation) → IsAbout c query id → IsAbout d query id → c ≡ d
+-- A query and an id have one statement.
+abbrev pub OneStatement : Type 0
+OneStatement = (query : List ℕ) (id : ℕ) (c d : Statement) → IsAbout c query id → IsAbout d query id → c ≡ d
 
 -- Sets that were sent, in fewer than 2 ^ 64 bytes, are read back, each front of their stream reads as the sets that stand whole in it, and by bulk no requests could be fewer.
 pub record IsDelivered (road : Road) (query : List ℕ) (sets : List (List ℕ) → List Given) (id limit : ℕ) (old new : List ℕ) : Type 0 where
@@ -83,4 +83,4 @@ RoadsReadEqually =
 -- A bulk request takes seven bytes, the types that it carries, and its rows.
 abbrev pub RequestsHaveTheirSize : Type 0
 RequestsHaveTheirSize =
-    (id columns : ℕ) (rows : List Row) (start : ℕ) (part : Part) → length (bulk_request id columns rows start part) ≡ 7 + types_size part.typing columns + rows_size rows start part.count
+    (id columns : ℕ) (rows : List Row) (start : ℕ) (typing : Typing) (count : ℕ) → length (bulk_request id columns rows start typing count) ≡ 7 + types_size typing columns + rows_size rows start count

@@ -2,7 +2,7 @@
 -- MySQL: Client/Server Protocol, "Protocol Basics: MySQL Packets", "Command Phase".
 use Rattle.std.specs.Prelude.{◌≡◌, ℕ, List, ◌++◌, filter, length, map, take, ◌-◌, Some, Ok}
 use Rattle.std.specs.List.{AllByRecursion}
-use Rattle.mysql_wire.specs.Stream.{StandWhole, framings}
+use Rattle.mysql_wire.specs.Stream.{StandWhole}
 use Rattle.mysql_wire.specs.Stream.Numbering.{EachFromZero}
 use Rattle.mysql_values.specs.AsSql.{FitsFields}
 use Rattle.mysql_values.specs.Parsed.{names_of}
@@ -12,11 +12,12 @@ use Rattle.mysql_values.specs.Value.{Value}
 use Rattle.mysql_values.specs.Values.{content_of}
 use Rattle.mysql_commands.specs.declared.audit.End.TheVariants.{Whole}
 use Rattle.mysql_commands.specs.Audit.{Audit, AuditOf, IsNoFault}
+use Rattle.mysql_commands.specs.Query.{Query, statement_of}
 use Rattle.mysql_commands.specs.Reading.{Set, TextReadsAs}
 use Rattle.mysql_streams.specs.declared.road.Road.{Road}
 use Rattle.mysql_streams.specs.declared.road.Road.TheVariants.{Text, Execute, Bulk}
 use Rattle.mysql_streams.specs.Sets.{Given}
-use Rattle.mysql_streams.specs.Sent.{SentPayload, payloads_of, query_text_of, sets_of, statement_of}
+use Rattle.mysql_streams.specs.Sent.{SentPayload, payloads_of, query_text_of, sets_of, stream_of}
 use Rattle.mysql_streams.specs.Sending.{HasFewest, SendsGiven}
 
 -- these are the contents of sets of values, of which none is a float
@@ -47,7 +48,7 @@ pub record ReadsBack (query : List ℕ) (sets : List (List ℕ) → List Given) 
 -- Each front of the stream of these payloads reads, without a fault, as exactly the contents of the sets of the payloads that stand whole in it.
 abbrev pub FrontsRead : List ℕ → ℕ → ℕ → List SentPayload → Type 0
 FrontsRead query id limit sent =
-    (front back : List ℕ) (audit : Audit) → framings (payloads_of sent) EachFromZero ≡ front ++ back → AuditOf query id limit front audit
+    (front back : List ℕ) (audit : Audit) → stream_of sent ≡ front ++ back → AuditOf query id limit front audit
     → (k : ℕ) × StandWhole EachFromZero (payloads_of sent) front k × HaveContents (sets_of (take k sent)) audit.sets × IsNoFault audit.ending
 
 -- what was appended of sets that give this for the query's names: each front of it reads as the sets that stand whole in it, and by bulk no requests could be fewer
@@ -57,12 +58,12 @@ pub record SendsWhole (road : Road) (query : List ℕ) (sets : List (List ℕ) �
   pub fewest : HasFewest road (statement_of query sends.tokens id) (limit - 4) sends.values sends.sent
 
 -- what was sent of a set's values can be read back: by text the query reads as their contents, by the other roads their numbers fit their fields
-abbrev pub IsReadable : Road → List ℕ → List (List ℕ) → List Value → Type 0
-IsReadable Text query tokens values = (contents : Set) × (map content_of values ≡ map Some contents) × TextReadsAs query (query_text_of tokens values) contents
-IsReadable Execute query tokens values = AllByRecursion (λ value. FitsFields value) values
-IsReadable Bulk query tokens values = AllByRecursion (λ value. FitsFields value) values
+abbrev pub IsReadable : Road → Query → List Value → Type 0
+IsReadable Text query values = (contents : Set) × (map content_of values ≡ map Some contents) × TextReadsAs query.text (query_text_of query values) contents
+IsReadable Execute query values = AllByRecursion (λ value. FitsFields value) values
+IsReadable Bulk query values = AllByRecursion (λ value. FitsFields value) values
 
 -- what is sent of sets that give this for the query's names, and what was sent of each can be read back
 pub record SentReadable (road : Road) (query : List ℕ) (sets : List (List ℕ) → List Given) (id limit : ℕ) (old new : List ℕ) : Type 0 where
   pub sends : SendsGiven road query sets id limit old new
-  pub readable : AllByRecursion (IsReadable road query sends.tokens) sends.values
+  pub readable : AllByRecursion (IsReadable road (statement_of query sends.tokens id).query) sends.values

@@ -1,18 +1,17 @@
 -- What sending appends, and why nothing is sent.
 -- MySQL: Client/Server Protocol, "Protocol Basics: MySQL Packets", "Command Phase".
 use Rattle.std.specs.Prelude.{◌≡◌, ◌⊎◌, ◌≤◌, ◌+◌, ◌-◌, ℕ, List, ◌++◌, length, map, Some, None, Ok}
-use Rattle.mysql_wire.specs.Stream.{framings}
-use Rattle.mysql_wire.specs.Stream.Numbering.{EachFromZero}
 use Rattle.mysql_values.specs.Value.{Value}
 use Rattle.mysql_values.specs.Tokens.{HasTokens}
 use Rattle.mysql_values.specs.Parsed.{names_of}
 use Rattle.mysql_bulk_builder.specs.TypedCut.{IsTypedCut, Part, TypedCutFits}
+use Rattle.mysql_commands.specs.Query.{Statement, place_count, statement_of}
 use Rattle.mysql_streams.specs.declared.refusal.Refusal.{Refusal}
 use Rattle.mysql_streams.specs.declared.refusal.Refusal.TheVariants as refusals
 use Rattle.mysql_streams.specs.declared.road.Road.{Road}
 use Rattle.mysql_streams.specs.declared.road.Road.TheVariants.{Text, Execute, Bulk}
 use Rattle.mysql_streams.specs.Sets.{Given}
-use Rattle.mysql_streams.specs.Sent.{AreSent, SentPayload, Statement, payloads_of, statement_of}
+use Rattle.mysql_streams.specs.Sent.{AreSent, SentPayload, stream_of}
 use Rattle.mysql_streams.specs.Cause.{cause_of}
 
 -- no cause speaks against sending sets that give this for the query's names, and the framings of what is sent of their values are appended
@@ -24,7 +23,7 @@ pub record SendsGiven (road : Road) (query : List ℕ) (sets : List (List ℕ) �
   pub none : cause_of road (statement_of query tokens id) limit (sets (names_of tokens)) ≡ None
   pub sent : List SentPayload
   pub are_sent : AreSent road (statement_of query tokens id) (limit - 4) values sent
-  pub appended : new ≡ old ++ framings (payloads_of sent) EachFromZero
+  pub appended : new ≡ old ++ stream_of sent
 
 -- the first cause for which sets that give this for the query's names are not sent
 pub record IsCause (road : Road) (query : List ℕ) (sets : List (List ℕ) → List Given) (id limit : ℕ) (refusal : Refusal) : Type 0 where
@@ -41,4 +40,4 @@ abbrev pub HasFewest : Road → Statement → ℕ → List (List Value) → List
 HasFewest Text statement room sets sent = Unit {0}
 HasFewest Execute statement room sets sent = Unit {0}
 HasFewest Bulk statement room sets sent =
-    (other : List Part) → IsTypedCut sets other → TypedCutFits room (length statement.places) sets other → length sent ≤ 1 + length other
+    (other : List Part) → IsTypedCut sets other → TypedCutFits room (place_count statement.query) sets other → length sent ≤ 1 + length other

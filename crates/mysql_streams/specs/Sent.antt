@@ -1,44 +1,27 @@
 -- The payloads that are sent for sets of values of a query, by each road.
 -- MySQL: Client/Server Protocol, "COM_QUERY", "COM_STMT_PREPARE", "COM_STMT_SEND_LONG_DATA", "COM_STMT_EXECUTE"; MariaDB: Client/Server Protocol, "COM_STMT_BULK_EXECUTE".
-use Rattle.std.specs.Prelude.{◌≡◌, ℕ, false, List, [], ◌∷◌, ◌++◌, length, map, unwrap_or, if◌then◌else◌}
-use Rattle.std.specs.List.{flat_map, join_with_byte}
-use Rattle.mysql_values.specs.Place.{Place}
-use Rattle.mysql_values.specs.Queries.{interleaved, pieces_of, places_from}
-use Rattle.mysql_values.specs.Tokens.{question}
+use Rattle.std.specs.Prelude.{◌≡◌, ℕ, false, List, [], ◌∷◌, ◌++◌, map, unwrap_or, if◌then◌else◌}
+use Rattle.std.specs.List.{flat_map}
+use Rattle.mysql_wire.specs.Stream.{framings}
+use Rattle.mysql_wire.specs.Stream.Numbering.{EachFromZero}
+use Rattle.mysql_values.specs.Queries.{interleaved, slices_between}
 use Rattle.mysql_values.specs.Value.{Value}
 use Rattle.mysql_values.specs.Values.{literal_of}
 use Rattle.mysql_stmt.specs.Executions.{execute_command, needs_long_data}
 use Rattle.mysql_bulk_builder.specs.Cut.{rows_of}
 use Rattle.mysql_bulk_builder.specs.TypedCut.{IsTightTyped, Part, placed}
+use Rattle.mysql_commands.specs.Query.{Query, Statement, place_count}
 use Rattle.mysql_streams.specs.declared.road.Road.{Road}
 use Rattle.mysql_streams.specs.declared.road.Road.TheVariants.{Text, Execute, Bulk}
 use Rattle.mysql_streams.specs.Commands.{bulk_request, pieces_from, prepare_command, query_command}
 
--- a query as it is sent: its tokens, its placeholders, and the id that its statement has at the server
-pub record Statement : Type 0 where
-  pub tokens : List (List ℕ)
-  pub places : List Place
-  pub id : ℕ
-
--- the statement of a query with these tokens
-abbrev pub statement_of : List ℕ → List (List ℕ) → ℕ → Statement
-statement_of query tokens id = record { tokens = tokens; places = places_from query 0 tokens; id = id }
-
--- the literal of a value, empty where it has none
-abbrev pub literal_text : Value → List ℕ
-literal_text value = unwrap_or (literal_of value) []
-
--- the text of a query with values: its pieces with the literals of the values between
-abbrev pub query_text_of : List (List ℕ) → List Value → List ℕ
-query_text_of tokens values = interleaved (pieces_of tokens) (map literal_text values)
-
--- the query that is prepared: a question mark for each placeholder
-abbrev pub parsed_of : List (List ℕ) → List ℕ
-parsed_of tokens = join_with_byte question (pieces_of tokens)
+-- the text of a query with values: its slices between its placeholders, and between them the literal of each value, empty where it has none
+abbrev pub query_text_of : Query → List Value → List ℕ
+query_text_of query values = interleaved (slices_between query.text 0 query.places) (map (λ value. unwrap_or (literal_of value) []) values)
 
 -- the command that carries all of a set's values, by which the set's size counts; by bulk, where sets share requests, none does
 abbrev pub whole_command : Road → Statement → List Value → List ℕ
-whole_command Text statement values = query_command (query_text_of statement.tokens values)
+whole_command Text statement values = query_command (query_text_of statement.query values)
 whole_command Execute statement values = execute_command statement.id values false
 whole_command Bulk statement values = []
 
@@ -57,7 +40,7 @@ last_of values payload = record { payload = payload; sets = values ∷ [] }
 
 -- the prepare of a statement
 abbrev pub prepare_of : Statement → SentPayload
-prepare_of statement = on_the_way (prepare_command (parsed_of statement.tokens))
+prepare_of statement = on_the_way (prepare_command statement.query.parsed)
 
 -- a set by text: its query
 abbrev pub as_text : Statement → List Value → List SentPayload
@@ -72,7 +55,7 @@ as_execution statement values =
 -- sets as bulk requests, one for each part of a cut
 abbrev pub as_requests : Statement → List (List Value) → List Part → List SentPayload
 as_requests statement sets cut =
-    map (λ p. record { payload = bulk_request statement.id (length statement.places) sets p.0 p.1; sets = rows_of sets p.0 p.1.count }) (placed cut)
+    map (λ p. record { payload = bulk_request statement.id (place_count statement.query) sets p.0 p.1.typing p.1.count; sets = rows_of sets p.0 p.1.count }) (placed cut)
 
 -- What is sent of sets with these values, in payloads of at most so many bytes: by text their queries; by execute a prepare and their executions;
 -- by bulk a prepare and the requests of the tight cut.
@@ -80,7 +63,7 @@ abbrev pub AreSent : Road → Statement → ℕ → List (List Value) → List S
 AreSent Text statement room sets sent = sent ≡ flat_map (as_text statement) sets
 AreSent Execute statement room sets sent = sent ≡ prepare_of statement ∷ flat_map (as_execution statement) sets
 AreSent Bulk statement room sets sent =
-    (cut : List Part) × IsTightTyped room (length statement.places) sets cut × (sent ≡ prepare_of statement ∷ as_requests statement sets cut)
+    (cut : List Part) × IsTightTyped room (place_count statement.query) sets cut × (sent ≡ prepare_of statement ∷ as_requests statement sets cut)
 
 -- their payloads, and the sets that stand whole with them
 abbrev pub payloads_of : List SentPayload → List (List ℕ)
@@ -88,3 +71,7 @@ payloads_of sent = map (λ s. s.payload) sent
 
 abbrev pub sets_of : List SentPayload → List (List Value)
 sets_of sent = flat_map (λ s. s.sets) sent
+
+-- their bytes: the framing of each, whose packets are numbered from 0, one after another
+abbrev pub stream_of : List SentPayload → List ℕ
+stream_of sent = framings (payloads_of sent) EachFromZero

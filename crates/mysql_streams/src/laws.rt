@@ -1,6 +1,6 @@
 //! Laws of what is sent. Functions without a result do nothing: their contracts are the laws.
 
-ghost use Rattle.mysql_streams.specs.Laws.{OneConversation, RequestsHaveTheirSize, RoadsReadEqually, SentPayloadsRead, SentSetsAreDelivered, SentStreamsJoin, SentValuesAreCarried, SetsMeanEach};
+ghost use Rattle.mysql_streams.specs.Laws.{OneStatement, RequestsHaveTheirSize, RoadsReadEqually, SentPayloadsRead, SentSetsAreDelivered, SentStreamsJoin, SentValuesAreCarried, SetsMeanEach};
 ghost use Rattle.mysql_streams.specs.declared.road.Road.TheVariants as roads;
 
 use mysql_bulk_builder::laws::{tight_typed_has_fewest, types_in_force_serve};
@@ -14,7 +14,6 @@ pub fn queries_read()
     ensures { SentPayloadsRead roads.Text }
 {
     looking_back_goes_on();
-    tokens_of_a_text();
 }
 
 /// A prepare and executions, with long data before those that need it, read as the sets whose values they carry.
@@ -23,7 +22,6 @@ pub fn executions_read()
 {
     looking_back_goes_on();
     written_cells_are_held();
-    tokens_of_a_text();
 }
 
 /// A bulk request takes as many bytes as are counted for its part.
@@ -38,15 +36,14 @@ pub fn requests_read()
     ensures { SentPayloadsRead roads.Bulk }
 {
     looking_back_goes_on();
-    tokens_of_a_text();
     written_cells_are_held();
     cells_have_lengths();
     types_in_force_serve();
 }
 
-/// A query and an id have one conversation.
-pub fn conversations_are_one()
-    ensures { OneConversation }
+/// A query and an id have one statement.
+pub fn statements_are_one()
+    ensures { OneStatement }
 {
     tokens_of_a_text();
 }

@@ -3,10 +3,10 @@ use Rattle.std.proofs.lemmas.List.{take_at}
 use Rattle.mysql_values.specs.declared.params.SetError.{SetError}
 use Rattle.mysql_values.specs.Value.{Value}
 use Rattle.mysql_bulk_builder.specs.RowLists.{row_in}
-use Rattle.mysql_streams.specs.Cause.{Limits}
 use Rattle.mysql_streams.specs.Sets.{given_up_to}
 use Rattle.mysql_bulk_sender.specs.BulkSets.{AppendsAll, AppendsRows}
 use Rattle.mysql_bulk_sender.proofs.AtOnce.{all_appended, both_yes, nothing, some_sets}
+use Rattle.mysql_senders.specs.OneSet.{Limits}
 use Rattle.mysql_bulk_sender.proofs.at_once.put_at_once.Goals as goal
 
 pub returns-clause-ok : goal.returns-clause-ok

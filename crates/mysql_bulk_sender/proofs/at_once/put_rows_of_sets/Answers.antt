@@ -1,9 +1,9 @@
 use Rattle.std.proofs.Common.{arith}
 use Rattle.mysql_bulk_builder.specs.RowLists.{row_in}
-use Rattle.mysql_streams.specs.Cause.{Limits}
 use Rattle.mysql_bulk_sender.proofs.AtOnce.{all_of_them, none_yet, one_more}
 use Rattle.mysql_bulk_sender.proofs.SetRows.{width_is}
 use Rattle.mysql_senders.proofs.SentSets.{next_set}
+use Rattle.mysql_senders.specs.OneSet.{Limits}
 use Rattle.mysql_bulk_sender.proofs.at_once.put_rows_of_sets.Goals as goal
 
 pub sets-init : goal.sets-init

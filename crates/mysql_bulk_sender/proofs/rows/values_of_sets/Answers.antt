@@ -1,9 +1,9 @@
 use Rattle.std.proofs.Common.{arith, refl, ◌≡◌, sym, ◌∙◌, ◌++◌, ◌∷◌, []}
 use Rattle.std.proofs.lemmas.Result.{err_from_is_err_and}
 use Rattle.mysql_bulk_builder.specs.RowLists.{row_in}
-use Rattle.mysql_streams.specs.Cause.{Limits}
 use Rattle.mysql_bulk_sender.proofs.SetRows.{all_rows, no_rows, refused_at, row_behind, row_more, stopped_behind}
 use Rattle.mysql_senders.proofs.SentSets.{next_set}
+use Rattle.mysql_senders.specs.OneSet.{Limits}
 use Rattle.mysql_bulk_sender.proofs.rows.values_of_sets.Goals as goal
 
 pub sets-init : goal.sets-init

@@ -1,6 +1,6 @@
 use Rattle.std.proofs.Common.{sym, ◌∙◌}
 use Rattle.std.proofs.lemmas.Result.{err_from_is_err_and}
-use Rattle.mysql_commands.specs.Views.{conversation_of, state_of}
+use Rattle.mysql_commands.specs.Views.{statement_view, state_of}
 use Rattle.mysql_commands.proofs.Stepping.{behind_prepare}
 use Rattle.mysql_commands.proofs.step.on_prepare.Goals as goal
 
@@ -12,4 +12,4 @@ returns-in_err-sets-clause-judged c =
 pub returns-clause-ok : goal.returns-clause-ok
 returns-clause-ok c =
     let told = c.in_ok-sets.ensures (state_of c.args.statement.now) in
-    c.prepare-2.ensures ∙ sym (behind_prepare (conversation_of c.args.conversation.now) (state_of c.args.statement.now) c.args.body.now told.0)
+    c.prepare-2.ensures ∙ sym (behind_prepare (statement_view c.args.conversation.now) (state_of c.args.statement.now) c.args.body.now told.0)

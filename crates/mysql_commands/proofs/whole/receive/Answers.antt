@@ -1,8 +1,10 @@
 use Rattle.std.proofs.Common.{◌+◌, ◌∙◌, ap, sym, subst, map, take, [], arith}
 use Rattle.std.specs.List.{concat}
 use Rattle.std.proofs.lemmas.List.{take_all}
-use Rattle.mysql_commands.specs.Audit.{IsAbout}
+use Rattle.mysql_commands.specs.Audit.{Audited, IsAbout, OutOfMemory}
+use Rattle.mysql_commands.specs.Query.{Statement}
 use Rattle.mysql_commands.specs.Receiving.{audit_of}
+use Rattle.mysql_commands.proofs.About.{of_tokens}
 use Rattle.mysql_commands.proofs.Receiving.{SoFar, so_far_nothing, pieces_more, feeds_of, received_next, audit_over, memory_over}
 use Rattle.mysql_commands.proofs.whole.receive.Goals as goal
 
@@ -34,16 +36,10 @@ returns-clause-received c =
     let fed = map (λ piece. piece.now) (take c.pieces.piece-index c.args.pieces.now) in
     let all = ap (map (λ piece. piece.now)) (take_all c.pieces.piece-index c.args.pieces.now c.pieces-test.false) in
     record {
-      audit = λ none. (
-        v.conversation,
-        inv.about,
-        audit_over c.reader_laws.ensures v c.args.limit fed (concat (map (λ piece. piece.now) c.args.pieces.now)) (audit_of c.finish.result)
-            inv.limit (ap concat all) inv.so_far c.finish.ensures none,
-      );
-      memory = λ memory. (
-        v.conversation,
-        inv.about,
-        memory_over c.reader_laws.ensures v c.args.limit fed (map (λ piece. piece.now) c.args.pieces.now) (audit_of c.finish.result)
-            inv.limit all inv.so_far c.finish.ensures memory,
-      );
+      audit = λ none. of_tokens (λ (s : Statement). Audited s c.args.limit (concat (map (λ piece. piece.now) c.args.pieces.now)) (audit_of c.finish.result)) v.conversation c.args.query.now c.args.stmt_id inv.about
+          (audit_over c.reader_laws.ensures v c.args.limit fed (concat (map (λ piece. piece.now) c.args.pieces.now)) (audit_of c.finish.result)
+          inv.limit (ap concat all) inv.so_far c.finish.ensures none);
+      memory = λ memory. of_tokens (λ (s : Statement). OutOfMemory s c.args.limit (map (λ piece. piece.now) c.args.pieces.now) (audit_of c.finish.result)) v.conversation c.args.query.now c.args.stmt_id inv.about
+          (memory_over c.reader_laws.ensures v c.args.limit fed (map (λ piece. piece.now) c.args.pieces.now) (audit_of c.finish.result)
+          inv.limit all inv.so_far c.finish.ensures memory);
     }

@@ -1,4 +1,3 @@
-use Rattle.std.proofs.Common.{map}
 use Rattle.std.specs.List.{flat_map}
 use Rattle.mysql_commands.specs.Receiving.{audit_of}
 use Rattle.mysql_recoding.proofs.Recodings.{end_is_cause, received_audit, refused_before, whole_is_known}

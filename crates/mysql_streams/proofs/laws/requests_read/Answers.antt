@@ -2,4 +2,4 @@ use Rattle.mysql_streams.proofs.RequestStreams.{requests_read}
 use Rattle.mysql_streams.proofs.laws.requests_read.Goals as goal
 
 pub returns : goal.returns
-returns c = requests_read c.looking_back_goes_on.ensures c.tokens_of_a_text.ensures.one c.written_cells_are_held.ensures c.cells_have_lengths.ensures c.types_in_force_serve.ensures
+returns c = requests_read c.looking_back_goes_on.ensures c.written_cells_are_held.ensures c.cells_have_lengths.ensures c.types_in_force_serve.ensures
