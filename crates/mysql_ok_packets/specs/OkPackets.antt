@@ -4,7 +4,7 @@
 use Rattle.std.specs.Prelude.{ℕ, zero, suc, List, [], ◌∷◌, Bool, Option, Some, None, Ok, ◌==◌, if◌then◌else◌}
 use Rattle.std.specs.Str.{encode_utf8_all}
 use Rattle.bstr.specs.Utf8.{lossy_chars}
-use Rattle.mysql_raw.specs.Forms.{bytes_at, lenenc_number_at, little_at}
+use Rattle.mysql_raw.specs.Forms.{bytes_at, lenenc_number_at, fixed_number_at}
 use Rattle.mysql_raw.specs.Wire.{Reading, ◌>>=◌}
 use Rattle.mysql_raw_bytes.specs.Texts.{lenenc_text_at}
 use Rattle.mysql_raw_consts.specs.Constants.{constant_at, named_at}
@@ -60,8 +60,8 @@ info_at capabilities status (b ∷ bytes) =
 unfoldable pub status_and_info_at : ℕ → ℕ → ℕ → List ℕ → Reading OkPacket
 status_and_info_at capabilities affected id bytes = do
   block ← bytes_at 4 bytes
-  status ← named_at status_named (little_at 2) block.0
-  warnings ← little_at 2 status.1
+  status ← named_at status_named (fixed_number_at 2) block.0
+  warnings ← fixed_number_at 2 status.1
   info ← info_at capabilities status.0.0 block.1
   Ok (
     record {
@@ -107,8 +107,8 @@ result_set_terminator_at capabilities bytes = packet_at 254 result_set_terminato
 abbrev pub old_eof_body_at : List ℕ → Reading OkPacket
 old_eof_body_at bytes = do
   block ← bytes_at 4 bytes
-  warnings ← little_at 2 block.0
-  status ← named_at status_named (little_at 2) warnings.1
+  warnings ← fixed_number_at 2 block.0
+  status ← named_at status_named (fixed_number_at 2) warnings.1
   Ok (
     record {
       affected_rows = 0;

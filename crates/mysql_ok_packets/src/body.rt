@@ -27,14 +27,14 @@ pub struct OkPacketBody<'a> {
 }
 
 // Session states are tracked.
-fn tracks_session(capabilities: CapabilityFlags) -> bool
+pub(crate) fn tracks_session(capabilities: CapabilityFlags) -> bool
     ensures { result ≡ session_track capabilities.0 }
 {
     capabilities.contains(CapabilityFlags::CLIENT_SESSION_TRACK)
 }
 
 // Session states follow the info.
-fn has_session_state(status: StatusFlags) -> bool
+pub(crate) fn has_session_state(status: StatusFlags) -> bool
     ensures { result ≡ session_state_changed status.0 }
 {
     status.contains(StatusFlags::SERVER_SESSION_STATE_CHANGED)

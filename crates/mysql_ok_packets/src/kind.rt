@@ -1,17 +1,21 @@
 //! The kinds of OK and EOF packets.
 
-ghost use Rattle.std.specs.Prelude.{List, ℕ};
-ghost use Rattle.mysql_raw.specs.Wire.{Reading, Tells};
-ghost use Rattle.mysql_ok_packets.specs.OkPackets.{OkPacket, ok_body_at, old_eof_body_at, result_set_terminator_body_at};
-ghost use Rattle.mysql_ok_packets.specs.Views.{body_view};
+ghost use Rattle.std.specs.Prelude.{◌≡◌, List, Ok, [], ℕ};
+ghost use Rattle.mysql_raw.specs.Wire.{Appends, Reading, Tells};
+ghost use Rattle.mysql_ok_packets.specs.BackLaws.{eof_body-back, ok_body-back, terminator_body-back};
+ghost use Rattle.mysql_ok_packets.specs.OkPackets.{OkPacket as OkPacketFields, ok_body_at, old_eof_body_at, result_set_terminator_body_at};
+ghost use Rattle.mysql_ok_packets.specs.Views.{body_view, ok_packet_view};
+ghost use Rattle.mysql_ok_packets.specs.Written.{IsWritable, as_eof, as_ok, as_terminator, eof_body_bytes, ok_body_bytes, with_status};
 
 use crate::body::{OkPacketBody, old_eof_body_of, status_and_info_of};
+use crate::ok_packet::OkPacket;
+use crate::writing::{write_eof_body, write_ok_body};
 use mysql_buf::ParseBuf;
-use mysql_const::CapabilityFlags;
+use mysql_const::{CapabilityFlags, StatusFlags};
 use mysql_raw::{LenEnc, ParseExt, RawInt, WireError};
-use std::alloc::Global;
+use std::alloc::{AllocError, Global};
 
-/// A kind of OK or EOF packets: its first byte, and what follows.
+/// A kind of OK or EOF packets: its first byte, and what follows, read and written.
 ///
 /// MySQL: Client/Server Protocol, "OK_Packet" and "EOF_Packet".
 pub trait OkPacketKind {
@@ -21,7 +25,13 @@ pub trait OkPacketKind {
     ghost HEADER: { ℕ };
 
     // what reading answers behind the header, by the client's capabilities
-    ghost body_at: { ℕ → List ℕ → Reading OkPacket };
+    ghost body_at: { ℕ → List ℕ → Reading OkPacketFields };
+
+    // what is written behind the header, for a client of these capabilities
+    ghost body_bytes: { ℕ → OkPacketFields → List ℕ };
+
+    // what is read of a packet that was written
+    ghost kept: { ℕ → OkPacketFields → OkPacketFields };
 
     /// Reads what follows the header. Refused as the kind says; all bytes are then left.
     fn parse_body<'de>(
@@ -30,6 +40,19 @@ pub trait OkPacketKind {
         buf: &mut ParseBuf<'de>,
     ) -> Result<OkPacketBody<'de>, WireError>
         ensures { Tells body_view buf.old.0.now buf.new.0.now result (body_at capabilities.0 buf.old.0.now) };
+
+    /// Appends what follows the header, with this status in place of the packet's own. Refused for want of memory alone, and the
+    /// buffer is then as it was.
+    fn write_body(
+        capabilities: CapabilityFlags,
+        status: StatusFlags,
+        packet: &OkPacket,
+        buf: &mut Vec<u8>,
+    ) -> Result<(), AllocError>
+        ensures { Appends result buf.old.items buf.new.items (body_bytes capabilities.0 (with_status status.0 (ok_packet_view packet.now))) };
+
+    // what was written is read back where nothing follows it
+    ghost reads_back: { (capabilities : ℕ) (p : OkPacketFields) → IsWritable p → body_at capabilities (body_bytes capabilities p) ≡ Ok (kept capabilities p, []) };
 }
 
 /// The OK packet that answers a command without rows.
@@ -47,6 +70,12 @@ impl OkPacketKind for CommonOkPacket {
 
     ghost body_at = { ok_body_at };
 
+    ghost body_bytes = { ok_body_bytes };
+
+    ghost kept = { as_ok };
+
+    ghost reads_back = { ok_body-back };
+
     fn parse_body<'de>(
         alloc: Global,
         capabilities: CapabilityFlags,
@@ -58,6 +87,15 @@ impl OkPacketKind for CommonOkPacket {
         let body = status_and_info_of(alloc, capabilities, affected.0, id.0, &mut rest)?;
         *buf = rest;
         Ok(body)
+    }
+
+    fn write_body(
+        capabilities: CapabilityFlags,
+        status: StatusFlags,
+        packet: &OkPacket,
+        buf: &mut Vec<u8>,
+    ) -> Result<(), AllocError> {
+        write_ok_body(capabilities, status, packet, buf)
     }
 }
 
@@ -75,6 +113,12 @@ impl OkPacketKind for ResultSetTerminator {
 
     ghost body_at = { result_set_terminator_body_at };
 
+    ghost body_bytes = { ok_body_bytes };
+
+    ghost kept = { as_terminator };
+
+    ghost reads_back = { terminator_body-back };
+
     fn parse_body<'de>(
         alloc: Global,
         capabilities: CapabilityFlags,
@@ -86,6 +130,15 @@ impl OkPacketKind for ResultSetTerminator {
         let body = status_and_info_of(alloc, capabilities, 0, 0, &mut rest)?;
         *buf = rest;
         Ok(body)
+    }
+
+    fn write_body(
+        capabilities: CapabilityFlags,
+        status: StatusFlags,
+        packet: &OkPacket,
+        buf: &mut Vec<u8>,
+    ) -> Result<(), AllocError> {
+        write_ok_body(capabilities, status, packet, buf)
     }
 }
 
@@ -104,6 +157,12 @@ impl OkPacketKind for OldEofPacket {
 
     ghost body_at = { λ _ bytes. old_eof_body_at bytes };
 
+    ghost body_bytes = { λ _. eof_body_bytes };
+
+    ghost kept = { λ _. as_eof };
+
+    ghost reads_back = { λ _. eof_body-back };
+
     fn parse_body<'de>(
         alloc: Global,
         _capabilities: CapabilityFlags,
@@ -113,6 +172,15 @@ impl OkPacketKind for OldEofPacket {
         let body = old_eof_body_of(alloc, &mut rest)?;
         *buf = rest;
         Ok(body)
+    }
+
+    fn write_body(
+        _capabilities: CapabilityFlags,
+        status: StatusFlags,
+        packet: &OkPacket,
+        buf: &mut Vec<u8>,
+    ) -> Result<(), AllocError> {
+        write_eof_body(status, packet, buf)
     }
 }
 
@@ -130,11 +198,26 @@ impl OkPacketKind for NetworkStreamTerminator {
 
     ghost body_at = { λ _ bytes. old_eof_body_at bytes };
 
+    ghost body_bytes = { λ _. eof_body_bytes };
+
+    ghost kept = { λ _. as_eof };
+
+    ghost reads_back = { λ _. eof_body-back };
+
     fn parse_body<'de>(
         alloc: Global,
         capabilities: CapabilityFlags,
         buf: &mut ParseBuf<'de>,
     ) -> Result<OkPacketBody<'de>, WireError> {
         OldEofPacket::parse_body(alloc, capabilities, buf)
+    }
+
+    fn write_body(
+        _capabilities: CapabilityFlags,
+        status: StatusFlags,
+        packet: &OkPacket,
+        buf: &mut Vec<u8>,
+    ) -> Result<(), AllocError> {
+        write_eof_body(status, packet, buf)
     }
 }

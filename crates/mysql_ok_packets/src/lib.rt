@@ -1,10 +1,12 @@
-//! OK and EOF packets of a server's reply, and the session states that they tell.
+//! OK and EOF packets of a server's reply, read and written, and the session states that they tell.
 #![tactic(auto)]
 
 pub mod body;
 pub mod deserializer;
 pub mod kind;
+pub mod laws;
 pub mod ok_packet;
+mod writing;
 
 pub use body::OkPacketBody;
 pub use deserializer::{InvalidOkPacketHeader, OkPacketDeserializer};
@@ -15,4 +17,4 @@ pub use mysql_session_states::{
     Gtids, Schema, SessionStateChange, SessionStateInfo, SessionStateType, SystemVariable,
     TransactionCharacteristics, TransactionState, Unsupported,
 };
-pub use ok_packet::{OkPacket, has_more_results};
+pub use ok_packet::{OkPacket, has_more_results, has_named_status};

@@ -7,18 +7,20 @@ ghost use Rattle.mysql_raw.specs.WireError.TheVariants as wire;
 ghost use Rattle.mysql_session_states.specs.Views.{state_view};
 ghost use Rattle.mysql_ok_packets.specs.OkPackets.{all_states_at, lossy_text, more_results_exist, unless_empty, unless_zero};
 ghost use Rattle.mysql_ok_packets.specs.Views.{IsPacketOf, body_view, bytes_view, ok_packet_view};
+ghost use Rattle.mysql_ok_packets.specs.Written.{is_named_status, or_empty, or_zero};
 
 use crate::body::OkPacketBody;
 use bitflags::Flags;
 use bstr::ByteSlice;
 use mysql_const::StatusFlags;
 use mysql_raw::WireError;
+use mysql_raw_consts::ConstValue;
 use mysql_session_states::{SessionStateInfo, states_of};
 use std::alloc::{AllocError, Global};
 use std::borrow::{CowSlice, CowStr};
 
 /// An OK packet: what a server answers to a command that gives no rows, and what ends a result set where EOF
-/// packets are deprecated.
+/// packets are deprecated. [`OkPacket::serialize_as`] writes it as one of the four kinds.
 ///
 /// MySQL: Client/Server Protocol, "OK_Packet".
 #[derive(Debug, PartialEq, Eq, Drop)]
@@ -38,6 +40,13 @@ pub fn has_more_results(status: StatusFlags) -> bool
     status.contains(StatusFlags::SERVER_MORE_RESULTS_EXISTS)
 }
 
+/// Each bit of the status has a name. A packet with another bit is refused where it is read.
+pub fn has_named_status(status: StatusFlags) -> bool
+    ensures { result ≡ is_named_status status.0 }
+{
+    StatusFlags::from_number(status.0).is_some()
+}
+
 // The bytes, where there are any.
 fn unless_empty_of(bytes: &[u8]) -> Option<CowSlice<'_, u8>>
     ensures { bytes_view result ≡ unless_empty bytes.now }
@@ -45,6 +54,42 @@ fn unless_empty_of(bytes: &[u8]) -> Option<CowSlice<'_, u8>>
     match bytes {
         [] => None,
         [..] => Some(CowSlice::Borrowed(bytes)),
+    }
+}
+
+// The same bytes, if there are any.
+fn where_not_empty<'a>(bytes: Option<CowSlice<'a, u8>>) -> Option<CowSlice<'a, u8>>
+    ensures { bytes_view result ≡ unless_empty (or_empty (bytes_view bytes.entry)) }
+{
+    match bytes {
+        Some(some) => {
+            if some.as_slice().is_empty() {
+                None
+            } else {
+                Some(some)
+            }
+        }
+        None => None,
+    }
+}
+
+// The bytes, or none of them.
+fn or_empty_of<'a>(bytes: &'a Option<CowSlice<'_, u8>>) -> &'a [u8]
+    ensures { result.now ≡ or_empty (bytes_view bytes.now) }
+{
+    match bytes {
+        Some(bytes) => bytes.as_slice(),
+        None => &[],
+    }
+}
+
+// The number, or 0 for none.
+fn or_zero_of(number: Option<u64>) -> u64
+    ensures { result ≡ or_zero number }
+{
+    match number {
+        Some(number) => number,
+        None => 0,
     }
 }
 
@@ -104,6 +149,56 @@ impl<'a> OkPacket<'a> {
             info: unless_empty_of(body.info),
             session_state_info: unless_empty_of(body.session_state_info),
         }
+    }
+
+    /// The packet that says this, as a server sends it. An id of 0 is none, and so are an empty info and an empty session state, as
+    /// in a packet that was read.
+    pub fn new(
+        affected_rows: u64,
+        last_insert_id: Option<u64>,
+        status_flags: StatusFlags,
+        warnings: u16,
+        info: Option<CowSlice<'a, u8>>,
+        session_state_info: Option<CowSlice<'a, u8>>,
+    ) -> OkPacket<'a>
+        ensures { ok_packet_view result ≡ record {
+          affected_rows = affected_rows;
+          last_insert_id = unless_zero (or_zero last_insert_id);
+          status_flags = status_flags.0;
+          warnings = warnings;
+          info = unless_empty (or_empty (bytes_view info.entry));
+          session_state_info = unless_empty (or_empty (bytes_view session_state_info.entry));
+        } }
+    {
+        OkPacket {
+            affected_rows,
+            last_insert_id: unless_zero_of(or_zero_of(last_insert_id)),
+            status_flags,
+            warnings,
+            info: where_not_empty(info),
+            session_state_info: where_not_empty(session_state_info),
+        }
+    }
+
+    // The id, or 0 for none.
+    pub(crate) fn id_or_zero(&self) -> u64
+        ensures { result ≡ or_zero (ok_packet_view self.now).last_insert_id }
+    {
+        or_zero_of(self.last_insert_id)
+    }
+
+    // The info, or no bytes.
+    pub(crate) fn info_or_empty(&self) -> &[u8]
+        ensures { result.now ≡ or_empty (ok_packet_view self.now).info }
+    {
+        or_empty_of(&self.info)
+    }
+
+    // The session state, or no bytes.
+    pub(crate) fn session_state_or_empty(&self) -> &[u8]
+        ensures { result.now ≡ or_empty (ok_packet_view self.now).session_state_info }
+    {
+        or_empty_of(&self.session_state_info)
     }
 
     /// The same packet, which borrows nothing. Refused for want of memory.
