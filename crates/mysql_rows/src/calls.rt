@@ -4,10 +4,14 @@ ghost use Rattle.std.specs.Prelude.{◌≡◌, ◌==◌, ◌<◌, IfOk, IfSome, 
 ghost use Rattle.std.specs.Option.{option_and_then, option_copied, option_map};
 ghost use Rattle.std.specs.Rc.{rc_slice_items};
 ghost use Rattle.mysql_rows.specs.Rows.{cell_at, column_named, is_whole, whole_row, with_cell, without_cell};
+ghost use Rattle.mysql_rows.specs.CellsWritten.{PutsRow};
+ghost use Rattle.mysql_rows.specs.Written.{binary_cause, binary_row, text_cause, text_row, values_of};
 ghost use Rattle.mysql_rows.specs.Views.{answer_view, column_views, converted_or_value, row_view, shared_columns};
 
 use crate::column_index::ColumnIndex;
+use crate::refusal::RowRefusal;
 use crate::row::Row;
+use crate::writing::{write_binary, write_text};
 use mysql_cells::Value;
 use mysql_columns::Column;
 use mysql_convert::{FromValue, FromValueError};
@@ -189,6 +193,32 @@ impl Row {
         ensures { result.items ≡ (row_view self).cells }
     {
         self.cells
+    }
+
+    /// Appends the text row of the cells' values, as [`write_text_row`](crate::write_text_row) does.
+    ///
+    /// # Errors
+    /// `NoForm` with the least place whose value was taken or is a float, then `Memory`. `out` is then as it was.
+    ///
+    /// MySQL: Client/Server Protocol, "Text Resultset Row".
+    pub fn write_text(&self, out: &mut Vec<u8>) -> Result<(), RowRefusal>
+        ensures { PutsRow (text_cause (row_view self.now).cells) (text_row (values_of (row_view self.now).cells)) out.old.items out.new.items result }
+    {
+        write_text(self.cells.as_slice(), out)
+    }
+
+    /// Appends the binary row of the cells' values by these columns, as many as there are cells, and not by the row's own; as
+    /// [`write_binary_row`](crate::write_binary_row) does.
+    ///
+    /// # Errors
+    /// `NoForm` with the least place whose value was taken or has no cell by its column, then `Memory`. `out` is then as it was.
+    ///
+    /// MySQL: Client/Server Protocol, "Binary Protocol Resultset Row", "Null-Bitmap" and "Binary Protocol Value".
+    pub fn write_binary(&self, columns: &[Column], out: &mut Vec<u8>) -> Result<(), RowRefusal>
+        requires { length columns.now ≡ length (row_view self.now).cells }
+        ensures { PutsRow (binary_cause (column_views columns.now) (row_view self.now).cells) (binary_row (column_views columns.now) (values_of (row_view self.now).cells)) out.old.items out.new.items result }
+    {
+        write_binary(columns, self.cells.as_slice(), out)
     }
 
     /// The same row again: copies of its cells, under the columns that it shares. Refused for want of memory alone.

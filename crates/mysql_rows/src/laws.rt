@@ -1,6 +1,9 @@
 //! What holds of rows.
 
+ghost use Rattle.mysql_rows.specs.WrittenLaws.{BinaryRowsBegin, BinaryRowsReadBack, ReadBinaryRowsAreWritten, ReadTextRowsAreWritten, TextRowsBegin, TextRowsReadBack};
 ghost use Rattle.mysql_rows.specs.RowLaws.{CellIsTakenOnce, NamedColumnIsFirst, OtherCellsStay, PlacedValueStands};
+
+use mysql_cells::laws::cells_read_back;
 
 /// A value is taken out of a cell once.
 #[tactic(auto, using(crate::specs::RowLaws::cell_is_taken_once))]
@@ -24,4 +27,44 @@ pub fn other_cells_stay()
 #[tactic(auto, using(crate::specs::RowLaws::named_column_is_first))]
 pub fn named_column_is_first()
     ensures { NamedColumnIsFirst }
+{}
+
+/// A text row of values that all have a text cell is read again, whatever follows it: each value as its text.
+#[tactic(auto, using(crate::proofs::TextBack::text_rows_read_back))]
+pub fn text_rows_read_back()
+    ensures { TextRowsReadBack }
+{}
+
+/// The values of a text row that was read have text cells, and are read again as they are.
+#[tactic(auto, using(crate::proofs::TextBack::read_text_rows_are_written))]
+pub fn read_text_rows_are_written()
+    ensures { ReadTextRowsAreWritten }
+{}
+
+/// A text row never begins with ff, by which an error begins, and with fe, by which the end of rows begins, only where it has
+/// 2^24 bytes or more.
+#[tactic(auto, using(crate::proofs::TextBack::text_rows_begin))]
+pub fn text_rows_begin()
+    ensures { TextRowsBegin }
+{}
+
+/// A binary row of values that all have a cell by their columns is read again, whatever follows it: each value as itself, but
+/// an unsigned number below 2^63 as `Int`, and an all-zero time as positive.
+pub fn binary_rows_read_back()
+    ensures { BinaryRowsReadBack }
+{
+    cells_read_back();
+}
+
+/// A binary row begins with a zero.
+#[tactic(auto, using(crate::proofs::BinaryBack::binary_rows_begin))]
+pub fn binary_rows_begin()
+    ensures { BinaryRowsBegin }
+{}
+
+/// The values of a binary row that was read have cells by their columns, and are read again as they are, but an all-zero
+/// time as positive.
+#[tactic(auto, using(crate::proofs::BinaryRead::read_binary_rows_are_written))]
+pub fn read_binary_rows_are_written()
+    ensures { ReadBinaryRowsAreWritten }
 {}

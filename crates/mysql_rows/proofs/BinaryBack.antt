@@ -1,0 +1,262 @@
+-- Binary rows are read again.
+use Rattle.std.proofs.Common.{◌≡◌, ℕ, ℤ, pos, negsuc, zero, suc, ◌+◌, ◌-◌, ◌*◌, ◌/◌, ◌%◌, ◌^◌, ◌<◌, ◌≤◌, ◌==◌, Bool, true, false, List, [], ◌∷◌, ◌++◌, length, map, drop, get_or, Option, Some, None, Ok, refl, sym, subst, ◌∙◌, ap, append_assoc, arith, lit<, lit≤}
+use Rattle.std.specs.Prelude.{FitsSigned, if◌then◌else◌, is_none, slice_index, unwrap_or, zip}
+use Rattle.std.specs.Int.{Width, w8, w16, w32, w64, cast_unsigned}
+use Rattle.std.specs.List.{AllByRecursion, position_from}
+use Rattle.std.specs.Option.{option_and_then, option_map}
+use Rattle.std.proofs.Math.Facts.{Fits-of_z}
+use Rattle.std.proofs.Math.Nat.{div-div-eq-div-mul, pow-succ'}
+use Rattle.std.proofs.lemmas.Bool.{lt-ltb, ltb-true}
+use Rattle.std.proofs.lemmas.Int.{to_z-of_z}
+use Rattle.std.proofs.lemmas.List.{get_or-drop, length-drop, length-map}
+use Rattle.std.proofs.lemmas.List.FromFn.{get_or-map-range_with_len, length-map-range_with_len}
+use Rattle.byteorder.specs.Endian.{little_bytes, little_number}
+use mir.Val.{bits, hbits}
+use Rattle.mysql_buf.specs.FirstBytes.{first-enough}
+use Rattle.mysql_raw.specs.Laws.{bytes_at-back, fixed_number_at-back}
+use Rattle.mysql_raw.specs.Wire.{Reading, ◌>>=◌}
+use Rattle.mysql_const.specs.NamedLaws.{column_type-names_back}
+use Rattle.mysql_const.specs.declared.column_flags.ColumnFlags.{ColumnFlags}
+use Rattle.mysql_const.specs.declared.column_type.ColumnType.{ColumnType}
+use Rattle.mysql_const.specs.ColumnTypes.{column_type_number}
+use Rattle.mysql_null_bitmap.specs.NullBitmap.{bitmap_len, has_bit, is_null_at}
+use Rattle.mysql_cells.specs.AsSql.{FitsFields}
+use Rattle.mysql_cells.specs.CellLaws.{CellsReadBack}
+use Rattle.mysql_cells.specs.Cells.{cell_at, column_cell_at, form, form_of, has_no_sign, number_value_at, unsigned_value, value_at, whole_value}
+use Rattle.mysql_cells.specs.Values.{is_null}
+use Rattle.mysql_cells.specs.declared.cell_form.CellForm.{CellForm}
+use Rattle.mysql_cells.specs.declared.cell_form.CellForm.TheVariants.{Whole1, Whole2, Whole4, Whole8, FloatBits, DoubleBits, Counted, DateAndTime, Duration, Without}
+use Rattle.mysql_cells.specs.declared.value.Value.{Value}
+use Rattle.mysql_cells.specs.declared.value.Value.TheVariants.{NULL, Bytes, Int, UInt, Float, Double, Date, Time}
+use Rattle.mysql_columns.specs.Columns.{ColumnDefinition}
+use Rattle.mysql_rows.specs.Rows.{binary_cell_at, binary_cells_at, binary_resultset_row_at, binary_row_body_at}
+use Rattle.mysql_rows.specs.Written.{as_binary, binary_cells, bits_bytes, bits_number, cell_in, in_range, number_cell, row_bitmap, some_cell, whole_cell}
+use Rattle.mysql_rows.specs.WrittenLaws.{BinaryRowsBegin, BinaryRowsReadBack}
+use Rattle.mysql_rows.proofs.WholeRows.{first_has, not_first}
+
+-- WHOLE NUMBERS
+
+-- an unsigned number below 2 ^ 63 as Int
+as_int : (n : ℕ) → n < 2 ^ 63 → unsigned_value n ≡ Int (pos n)
+as_int n h = rw (lt-ltb n (2 ^ 63) h) refl
+
+-- how many bytes a width has
+pub record Has (n : ℕ) (w : Width) : Type 0 where
+  pub whole : 2 ^ (8 * n) ≡ 256 ^ n
+  pub same : 2 ^ bits w ≡ 256 ^ n
+  pub half : 2 ^ (8 * n - 1) ≡ 2 ^ hbits w
+  pub small : 2 ^ hbits w ≤ 2 ^ 63
+  pub double : 2 ^ bits w ≡ 2 * 2 ^ hbits w
+  pub some : 0 < 2 ^ bits w
+
+pub one_byte : Has 1 w8
+one_byte = record { whole = refl; same = refl; half = refl; small = lit≤ tt; double = refl; some = lit< tt }
+
+pub two_bytes : Has 2 w16
+two_bytes = record { whole = refl; same = refl; half = refl; small = lit≤ tt; double = refl; some = lit< tt }
+
+pub four_bytes : Has 4 w32
+four_bytes = record { whole = refl; same = refl; half = refl; small = lit≤ tt; double = refl; some = lit< tt }
+
+pub eight_bytes : Has 8 w64
+eight_bytes = record { whole = refl; same = refl; half = refl; small = lit≤ tt; double = refl; some = lit< tt }
+
+-- what is read as a number of this width
+abbrev number_at : ℕ → Width → Bool → List ℕ → Reading Value
+number_at n w unsigned bytes = number_value_at n (whole_value w unsigned) bytes
+
+number_read : (n : ℕ) (w : Width) (unsigned : Bool) (x : ℕ) (later : List ℕ) → x < 256 ^ n → number_at n w unsigned (little_bytes n x ++ later) ≡ Ok (whole_value w unsigned x, later)
+number_read n w unsigned x later h = ap (λ (r : Reading ℕ). r >>= λ x. Ok (whole_value w unsigned x.0, x.1)) (fixed_number_at-back n x later h)
+
+below_bits : (n : ℕ) (w : Width) → Has n w → (z : ℕ) → 2 ^ bits w - suc z < 256 ^ n
+below_bits n w has z = omega (arith, has.same, has.some)
+
+-- in two's complement
+signed_read : (n : ℕ) (w : Width) → Has n w → (z : ℤ) (later : List ℕ) → FitsSigned w z → cast_unsigned w z < 256 ^ n → number_at n w false (little_bytes n (cast_unsigned w z) ++ later) ≡ Ok (Int z, later)
+signed_read n w has z later fits below = number_read n w false (cast_unsigned w z) later below ∙ ap (λ (z : ℤ). Ok (Int z, later)) (to_z-of_z w z fits)
+
+-- a number in range, as it is read
+number_back : (n : ℕ) (w : Width) → Has n w → (unsigned : Bool) (z : ℤ) (later : List ℕ) → in_range (8 * n) unsigned z ≡ true
+    → (value : Value) → ((m : ℕ) → z ≡ pos m → unsigned ≡ true → unsigned_value m ≡ value) → (unsigned ≡ false → Int z ≡ value)
+    → number_at n w unsigned (little_bytes n (cast_unsigned w z) ++ later) ≡ Ok (value, later)
+number_back n w has true (pos m) later inside value whole signed =
+    number_read n w true m later (omega (arith, ltb-true m (2 ^ (8 * n)) inside, has.whole)) ∙ ap (λ (value : Value). Ok (value, later)) (whole m refl refl)
+number_back n w has true (negsuc m) later inside value whole signed = absurd (cc)
+number_back n w has false (pos m) later inside value whole signed =
+    let low : m < 2 ^ hbits w = omega (arith, ltb-true m (2 ^ (8 * n - 1)) inside, has.half) in
+    let fits : FitsSigned w (pos m) = record { sfits = low } in
+    signed_read n w has (pos m) later fits (omega (arith, Fits-of_z {w = w} {z = pos m} fits, has.same)) ∙ ap (λ (value : Value). Ok (value, later)) (signed refl)
+number_back n w has false (negsuc m) later inside value whole signed =
+    let low : m < 2 ^ hbits w = omega (arith, ltb-true m (2 ^ (8 * n - 1)) inside, has.half) in
+    signed_read n w has (negsuc m) later (record { sfits = low }) (below_bits n w has m) ∙ ap (λ (value : Value). Ok (value, later)) (signed refl)
+
+-- where there is a cell the number is in range
+is_inside : (b : Bool) (bytes : List ℕ) → is_none (if b then Some bytes else None) ≡ false → b ≡ true
+is_inside true bytes some = refl
+is_inside false bytes some = absurd (cc)
+
+cell_is : (b : Bool) (bytes : List ℕ) → b ≡ true → unwrap_or (if b then Some bytes else None) [] ≡ bytes
+cell_is true bytes is = refl
+cell_is false bytes is = absurd (cc)
+
+number_cell_back : (n : ℕ) (w : Width) → Has n w → (unsigned : Bool) (z : ℤ) (later : List ℕ) → is_none (number_cell n w unsigned z) ≡ false
+    → (value : Value) → ((m : ℕ) → z ≡ pos m → unsigned ≡ true → unsigned_value m ≡ value) → (unsigned ≡ false → in_range (8 * n) false z ≡ true → Int z ≡ value)
+    → number_at n w unsigned (unwrap_or (number_cell n w unsigned z) [] ++ later) ≡ Ok (value, later)
+number_cell_back n w has unsigned z later some value whole signed =
+    let inside : in_range (8 * n) unsigned z ≡ true = is_inside (in_range (8 * n) unsigned z) (little_bytes n (cast_unsigned w z)) some in
+    ap (λ (cell : List ℕ). number_at n w unsigned (cell ++ later)) (cell_is (in_range (8 * n) unsigned z) (little_bytes n (cast_unsigned w z)) inside)
+    ∙ number_back n w has unsigned z later inside value whole (λ off. signed off (sym (ap (λ b. in_range (8 * n) b z) off) ∙ inside))
+
+pos_is : (m n : ℕ) → pos m ≡ pos n → m ≡ n
+pos_is m n e = cc
+
+whole_back : (n : ℕ) (w : Width) → Has n w → (unsigned : Bool) (value : Value) (later : List ℕ) → FitsFields value → is_none (whole_cell n w unsigned value) ≡ false
+    → number_at n w unsigned (unwrap_or (whole_cell n w unsigned value) [] ++ later) ≡ Ok (as_binary value, later)
+whole_back n w has unsigned NULL later fits some = absurd (cc)
+whole_back n w has unsigned (Bytes bytes) later fits some = absurd (cc)
+whole_back n w has unsigned (Int z) later fits some =
+    number_cell_back n w has unsigned z later some (Int z)
+    (λ m is on. as_int m (let f : FitsSigned w64 (pos m) = subst (FitsSigned w64) is fits in omega (arith, f.sfits)) ∙ ap (λ (z : ℤ). Int z) (sym is))
+    (λ off inside. refl)
+whole_back n w has unsigned (UInt x) later fits some =
+    number_cell_back n w has unsigned (pos x) later some (unsigned_value x)
+    (λ m is on. ap unsigned_value (sym (pos_is x m is)))
+    (λ off inside. sym (as_int x (omega (arith, ltb-true x (2 ^ (8 * n - 1)) inside, has.half, has.small))))
+whole_back n w has unsigned (Float float) later fits some = absurd (cc)
+whole_back n w has unsigned (Double double) later fits some = absurd (cc)
+whole_back n w has unsigned (Date year month day hour minute second micros) later fits some = absurd (cc)
+whole_back n w has unsigned (Time negative days hours minutes seconds micros) later fits some = absurd (cc)
+
+-- ONE CELL
+
+pub form_back : (t : ColumnType) → form_of (column_type_number t) ≡ form t
+form_back t = ap (λ (found : Option ColumnType). unwrap_or (option_map form found) Without) (column_type-names_back t)
+
+module _ (back : CellsReadBack) where
+  by_form : (shape : CellForm) (unsigned : Bool) (value : Value) (later : List ℕ) → FitsFields value → is_null value ≡ false → is_none (some_cell shape unsigned value) ≡ false
+      → value_at shape unsigned (unwrap_or (some_cell shape unsigned value) [] ++ later) ≡ Ok (as_binary value, later)
+  unfolding cell_at
+  by_form Whole1 unsigned value later fits none some = whole_back 1 w8 one_byte unsigned value later fits some
+  by_form Whole2 unsigned value later fits none some = whole_back 2 w16 two_bytes unsigned value later fits some
+  by_form Whole4 unsigned value later fits none some = whole_back 4 w32 four_bytes unsigned value later fits some
+  by_form Whole8 unsigned value later fits none some = whole_back 8 w64 eight_bytes unsigned value later fits some
+  by_form FloatBits unsigned (Float float) later fits none some = back (Float float) later fits
+  by_form DoubleBits unsigned (Double double) later fits none some = back (Double double) later fits
+  by_form Counted unsigned (Bytes bytes) later fits none some = back (Bytes bytes) later fits
+  by_form DateAndTime unsigned (Date year month day hour minute second micros) later fits none some = back (Date year month day hour minute second micros) later fits
+  by_form Duration unsigned (Time negative days hours minutes seconds micros) later fits none some = back (Time negative days hours minutes seconds micros) later fits
+  by_form shape unsigned value later fits none some = absurd (cc)
+
+  column_back : (t : ColumnType) (flags : ColumnFlags) (value : Value) (later : List ℕ) → FitsFields value → is_null value ≡ false → is_none (some_cell (form t) (has_no_sign flags) value) ≡ false
+      → column_cell_at (t, flags) (unwrap_or (some_cell (form t) (has_no_sign flags) value) [] ++ later) ≡ Ok (as_binary value, later)
+  unfolding cell_at
+  column_back t flags value later fits none some =
+      ap (λ (shape : CellForm). value_at shape (has_no_sign flags) (unwrap_or (some_cell (form t) (has_no_sign flags) value) [] ++ later)) (form_back t)
+      ∙ by_form (form t) (has_no_sign flags) value later fits none some
+
+  cell_back : (column : ColumnDefinition) (value : Value) (later : List ℕ) → FitsFields value → is_none (cell_in column value) ≡ false
+      → binary_cell_at (is_null value) column (unwrap_or (cell_in column value) [] ++ later) ≡ Ok (as_binary value, later)
+  cell_back column NULL later fits some = refl
+  cell_back column (Bytes bytes) later fits some = column_back column.column_type column.flags (Bytes bytes) later fits refl some
+  cell_back column (Int z) later fits some = column_back column.column_type column.flags (Int z) later fits refl some
+  cell_back column (UInt n) later fits some = column_back column.column_type column.flags (UInt n) later fits refl some
+  cell_back column (Float float) later fits some = column_back column.column_type column.flags (Float float) later fits refl some
+  cell_back column (Double double) later fits some = column_back column.column_type column.flags (Double double) later fits refl some
+  cell_back column (Date year month day hour minute second micros) later fits some = column_back column.column_type column.flags (Date year month day hour minute second micros) later fits refl some
+  cell_back column (Time negative days hours minutes seconds micros) later fits some = column_back column.column_type column.flags (Time negative days hours minutes seconds micros) later fits refl some
+
+  -- CELLS
+
+  cells_back : (bitmap : List ℕ) (place : ℕ) (columns : List ColumnDefinition) (values : List Value) (later : List ℕ) → length columns ≡ length values → AllByRecursion (λ value. FitsFields value) values
+      → position_from (λ placed. is_none (option_and_then (cell_in placed.0) placed.1)) place (zip columns (map Some values)) ≡ None
+      → ((k : ℕ) → k < length values → is_null_at 2 bitmap (place + k) ≡ is_null (get_or values k NULL))
+      → binary_cells_at 2 bitmap place columns (binary_cells columns values ++ later) ≡ Ok (map as_binary values, later)
+  unfolding binary_cells_at
+  cells_back bitmap place [] [] later same fits none nulls = refl
+  cells_back bitmap place [] (value ∷ values) later same fits none nulls = absurd (omega (arith, same))
+  cells_back bitmap place (column ∷ columns) [] later same fits none nulls = absurd (omega (arith, same))
+  cells_back bitmap place (column ∷ columns) (value ∷ values) later same fits none nulls =
+      let cell = unwrap_or (cell_in column value) [] in
+      let here : is_null_at 2 bitmap place ≡ is_null value = ap (λ n. is_null_at 2 bitmap n) (omega arith) ∙ nulls 0 (omega arith) in
+      let one = ap (λ (null : Bool). binary_cell_at null column (cell ++ (binary_cells columns values ++ later))) here
+      ∙ cell_back column value (binary_cells columns values ++ later) fits.0 (first_has (is_none (cell_in column value)) place _ none) in
+      let others = cells_back bitmap (place + 1) columns values later (omega (arith, same)) fits.1 (not_first (is_none (cell_in column value)) place _ none)
+      (λ k inside. ap (λ n. is_null_at 2 bitmap n) (omega arith) ∙ nulls (suc k) (omega (arith, inside))) in
+      ap (λ (l : List ℕ). binary_cells_at 2 bitmap place (column ∷ columns) l) (append_assoc cell (binary_cells columns values) later)
+      ∙ ap (λ (r : Reading Value). r >>= λ cell. binary_cells_at 2 bitmap (place + 1) columns cell.1 >>= λ cells. Ok (cell.0 ∷ cells.0, cells.1)) one
+      ∙ ap (λ (r : Reading (List Value)). r >>= λ cells. Ok (as_binary value ∷ cells.0, cells.1)) others
+
+-- THE BITMAP
+
+abbrev one_if : Bool → ℕ
+one_if b = if b then 1 else 0
+
+lowest : (b : Bool) (rest : ℕ) → (one_if b + 2 * rest) / 2 ^ 0 % 2 ≡ one_if b
+lowest true rest = omega arith
+lowest false rest = omega arith
+
+halved : (b : Bool) (rest : ℕ) → (one_if b + 2 * rest) / 2 ≡ rest
+halved true rest = omega arith
+halved false rest = omega arith
+
+higher : (b : Bool) (rest k : ℕ) → (one_if b + 2 * rest) / 2 ^ suc k % 2 ≡ rest / 2 ^ k % 2
+higher b rest k =
+    ap (λ n. (one_if b + 2 * rest) / n % 2) (pow-succ' 2 k) ∙ ap (λ n. n % 2) (sym (div-div-eq-div-mul (one_if b + 2 * rest) 2 (2 ^ k))) ∙ ap (λ n. n / 2 ^ k % 2) (halved b rest)
+
+bit_of : (k count : ℕ) (marks : List Bool) → k < count → k < length marks → bits_number count marks / 2 ^ k % 2 ≡ one_if (get_or marks k false)
+unfolding bits_number
+bit_of k zero marks few inside = absurd (omega (arith, few))
+bit_of k (suc count) [] few inside = absurd (omega (arith, inside))
+bit_of zero (suc count) (mark ∷ marks) few inside = lowest mark (bits_number count marks)
+bit_of (suc k) (suc count) (mark ∷ marks) few inside = higher mark (bits_number count marks) k ∙ bit_of k count marks (omega (arith, few)) (omega (arith, inside))
+
+is_one : (b : Bool) → (one_if b == 1) ≡ b
+is_one true = refl
+is_one false = refl
+
+bit_at_place : (marks : List Bool) (number : ℕ) → number < length marks → has_bit (bits_bytes marks) number ≡ get_or marks number false
+unfolding bits_bytes
+bit_at_place marks number inside =
+    let byte : slice_index (bits_bytes marks) (number / 8) ≡ bits_number 8 (drop (8 * (number / 8)) marks) =
+    get_or-map-range_with_len (λ k. bits_number 8 (drop (8 * k) marks)) 0 ((length marks + 7) / 8) (number / 8) (number / 8) 0 (omega arith) (omega arith) in
+    let bit = bit_of (number % 8) 8 (drop (8 * (number / 8)) marks) (omega arith) (omega (arith, length-drop (8 * (number / 8)) marks)) in
+    let here : get_or (drop (8 * (number / 8)) marks) (number % 8) false ≡ get_or marks number false =
+    get_or-drop (8 * (number / 8)) marks (number % 8) false ∙ ap (λ n. get_or marks n false) (omega arith) in
+    ap (λ b. (b / 2 ^ (number % 8) % 2) == 1) byte ∙ ap (λ n. n == 1) (bit ∙ ap (λ v. one_if v) here) ∙ is_one (get_or marks number false)
+
+inside_mark : (values : List Value) (k : ℕ) → k < length values → get_or (map is_null values) k false ≡ is_null (get_or values k NULL)
+inside_mark [] k inside = absurd (omega (arith, inside))
+inside_mark (value ∷ values) zero inside = refl
+inside_mark (value ∷ values) (suc k) inside = inside_mark values k (omega (arith, inside))
+
+nulls_told : (values : List Value) (k : ℕ) → k < length values → is_null_at 2 (row_bitmap values) (0 + k) ≡ is_null (get_or values k NULL)
+nulls_told values k inside =
+    let number : 2 + (0 + k) ≡ suc (suc k) = omega arith in
+    ap (λ n. has_bit (row_bitmap values) n) number
+    ∙ bit_at_place (false ∷ false ∷ map is_null values) (suc (suc k)) (omega (arith, inside, length-map values is_null)) ∙ inside_mark values k inside
+
+bitmap_length : (columns : List ColumnDefinition) (values : List Value) → length columns ≡ length values → length (row_bitmap values) ≡ bitmap_len 2 (length columns)
+unfolding bits_bytes
+bitmap_length columns values same =
+    let marks : List Bool = false ∷ false ∷ map is_null values in
+    omega (arith, length-map-range_with_len (λ k. bits_number 8 (drop (8 * k) marks)) 0 ((length marks + 7) / 8), length-map values is_null, same)
+
+-- ROWS
+
+pub after_zero : (columns : List ColumnDefinition) (rest : List ℕ) → binary_resultset_row_at columns (0 ∷ rest) ≡ binary_row_body_at 2 columns rest
+unfolding binary_resultset_row_at
+after_zero columns rest = rw (first-enough 1 (little_number 1) (0 ∷ rest) (omega arith)) refl
+
+after_bitmap : (columns : List ColumnDefinition) (bitmap cells : List ℕ) → length bitmap ≡ bitmap_len 2 (length columns) → binary_row_body_at 2 columns (bitmap ++ cells) ≡ binary_cells_at 2 bitmap 0 columns cells
+unfolding binary_row_body_at
+after_bitmap columns bitmap cells len = ap (λ (r : Reading (List ℕ)). r >>= λ bitmap. binary_cells_at 2 bitmap.0 0 columns bitmap.1) (bytes_at-back (bitmap_len 2 (length columns)) bitmap cells len)
+
+pub binary_rows_read_back : CellsReadBack → BinaryRowsReadBack
+binary_rows_read_back back columns values rest same fits none =
+    after_zero columns ((row_bitmap values ++ binary_cells columns values) ++ rest)
+    ∙ ap (binary_row_body_at 2 columns) (append_assoc (row_bitmap values) (binary_cells columns values) rest)
+    ∙ after_bitmap columns (row_bitmap values) (binary_cells columns values ++ rest) (bitmap_length columns values same)
+    ∙ cells_back back (row_bitmap values) 0 columns values rest same fits none (nulls_told values)
+
+pub binary_rows_begin : BinaryRowsBegin
+binary_rows_begin columns values first others e = cc

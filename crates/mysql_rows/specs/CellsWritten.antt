@@ -1,0 +1,72 @@
+-- What the code of writing speaks of: rows by their cells, of which some may have been taken, and what a call answered.
+-- MySQL: Client/Server Protocol, "Text Resultset Row", "Binary Protocol Resultset Row".
+use Rattle.std.specs.Prelude.{◌≡◌, ℕ, ◌&&◌, Bool, false, not, List, [], ◌∷◌, ◌++◌, map, flat_map, zip, Option, Some, None, Result, Ok, Err, unwrap_or}
+use Rattle.std.specs.Option.{option_and_then}
+use Rattle.byteorder.specs.Endian.{little_bytes}
+use Rattle.mysql_cells.specs.Cells.{cell}
+use Rattle.mysql_cells.specs.declared.cell_form.CellForm.{CellForm}
+use Rattle.mysql_cells.specs.declared.cell_form.CellForm.TheVariants as cell_form
+use Rattle.mysql_cells.specs.Values.{date_text, is_null, is_zero_time, time_text}
+use Rattle.mysql_cells.specs.declared.value.Value.{Value}
+use Rattle.mysql_cells.specs.declared.value.Value.TheVariants.{Date, Time}
+use Rattle.mysql_columns.specs.Columns.{ColumnDefinition}
+use Rattle.mysql_rows.specs.declared.binary_cell.Cell.{Cell}
+use Rattle.mysql_rows.specs.declared.binary_cell.Cell.TheVariants.{Empty, One, Two, Four, Eight, Own}
+use Rattle.mysql_rows.specs.declared.binary_cell.Form.{Form}
+use Rattle.mysql_rows.specs.declared.binary_cell.Form.TheVariants as form
+use Rattle.mysql_rows.specs.declared.refusal.RowRefusal.{RowRefusal}
+use Rattle.mysql_rows.specs.declared.refusal.RowRefusal.TheVariants.{NoForm, Memory}
+use Rattle.mysql_rows.specs.Written.{cell_in, text_cell}
+
+-- a form of cells, as the code names it
+abbrev pub form_view : Form → CellForm
+form_view form.Whole1 = cell_form.Whole1
+form_view form.Whole2 = cell_form.Whole2
+form_view form.Whole4 = cell_form.Whole4
+form_view form.Whole8 = cell_form.Whole8
+form_view form.FloatBits = cell_form.FloatBits
+form_view form.DoubleBits = cell_form.DoubleBits
+form_view form.Counted = cell_form.Counted
+form_view form.DateAndTime = cell_form.DateAndTime
+form_view form.Duration = cell_form.Duration
+form_view form.NoBytes = cell_form.Nothing
+form_view form.Without = cell_form.Without
+
+-- the bytes of a cell
+abbrev pub cell_bytes : Cell → List ℕ
+cell_bytes Empty = []
+cell_bytes (One number) = little_bytes 1 number
+cell_bytes (Two number) = little_bytes 2 number
+cell_bytes (Four number) = little_bytes 4 number
+cell_bytes (Eight number) = little_bytes 8 number
+cell_bytes (Own value) = cell value.now
+
+-- the text of a date or a time, an all-zero time taken as positive
+abbrev pub temporal_text : Value → Option (List ℕ)
+temporal_text (Date year month day hour minute second micros) = Some (date_text year month day hour minute second micros)
+temporal_text (Time negative days hours minutes seconds micros) =
+    Some (time_text (negative && not (is_zero_time days hours minutes seconds micros)) days hours minutes seconds micros)
+temporal_text value = None
+
+-- the text cells that there are
+abbrev pub text_cells : List (Option Value) → List ℕ
+text_cells cells = flat_map (λ cell. unwrap_or (option_and_then text_cell cell) []) cells
+
+-- the cells by their columns that there are
+abbrev pub cells_in : List ColumnDefinition → List (Option Value) → List ℕ
+cells_in columns cells = flat_map (λ placed. unwrap_or (option_and_then (cell_in placed.0) placed.1) []) (zip columns cells)
+
+-- whether a cell holds NULL
+abbrev pub holds_null : Option Value → Bool
+holds_null None = false
+holds_null (Some value) = is_null value
+
+-- the bits of cells: two that stand for no column, and one for each
+abbrev pub null_marks : List (Option Value) → List Bool
+null_marks cells = false ∷ false ∷ map holds_null cells
+
+-- A row was appended; or it was refused, by the place that speaks against it, or where none does for want of memory, and nothing changed.
+abbrev pub PutsRow : Option ℕ → List ℕ → List ℕ → List ℕ → Result (Unit {0}) RowRefusal → Type 0
+PutsRow cause row old new (Ok _) = (cause ≡ None) × (new ≡ old ++ row)
+PutsRow cause row old new (Err (NoForm place)) = (cause ≡ Some place) × (new ≡ old)
+PutsRow cause row old new (Err Memory) = (cause ≡ None) × (new ≡ old)

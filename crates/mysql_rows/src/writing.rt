@@ -1,0 +1,83 @@
+//! Rows that are written whole or not at all.
+
+ghost use Rattle.std.specs.Prelude.{◌≡◌, Some, length, map};
+ghost use Rattle.mysql_rows.specs.CellsWritten.{PutsRow};
+ghost use Rattle.mysql_rows.specs.Views.{column_views};
+ghost use Rattle.mysql_rows.specs.Written.{binary_cause, binary_row, text_cause, text_row, values_of};
+
+use crate::held::Held;
+use crate::refusal::RowRefusal;
+use crate::{binary_writing, text_writing};
+use mysql_cells::Value;
+use mysql_columns::Column;
+
+/// Appends a text row, after room was made for all of it.
+pub(crate) fn write_text<C: Held>(cells: &[C], out: &mut Vec<u8>) -> Result<(), RowRefusal>
+    ensures { PutsRow (text_cause (map C.held cells.now)) (text_row (values_of (map C.held cells.now))) out.old.items out.new.items result }
+{
+    let room = match text_writing::row_room(cells) {
+        Ok(room) => room,
+        Err(place) => return Err(RowRefusal::NoForm(place)),
+    };
+    out.reserve(room)?;
+    let len = out.len();
+    if text_writing::put_row(cells, out).is_err() {
+        out.truncate(len);
+        return Err(RowRefusal::Memory);
+    }
+    Ok(())
+}
+
+/// Appends a binary row, after room was made for all of it.
+pub(crate) fn write_binary<C: Held>(
+    columns: &[Column],
+    cells: &[C],
+    out: &mut Vec<u8>,
+) -> Result<(), RowRefusal>
+    requires { length columns.now ≡ length cells.now }
+    ensures { PutsRow (binary_cause (column_views columns.now) (map C.held cells.now)) (binary_row (column_views columns.now) (values_of (map C.held cells.now))) out.old.items out.new.items result }
+{
+    let size = match binary_writing::row_size(columns, cells) {
+        Ok(size) => size,
+        Err(place) => return Err(RowRefusal::NoForm(place)),
+    };
+    out.reserve(size as usize)?;
+    let len = out.len();
+    if binary_writing::put_row(columns, cells, out).is_err() {
+        out.truncate(len);
+        return Err(RowRefusal::Memory);
+    }
+    Ok(())
+}
+
+/// Appends the text row of these values: NULL as fb, else the value's text after its length, of a number its digits, bytes and
+/// the texts of dates and times as they are. An all-zero time is written without its sign.
+///
+/// # Errors
+/// `NoForm` with the least place that holds a float, which has no text here, then `Memory`. `out` is then as it was.
+///
+/// MySQL: Client/Server Protocol, "Text Resultset Row".
+pub fn write_text_row(values: &[Value], out: &mut Vec<u8>) -> Result<(), RowRefusal>
+    ensures { PutsRow (text_cause (map Some values.now)) (text_row values.now) out.old.items out.new.items result }
+{
+    write_text(values, out)
+}
+
+/// Appends the binary row of these values, as many as there are columns: a zero, the bitmap of those that are NULL, and the
+/// cells of the others by their columns' types and flags. A whole number is written in as many bytes as its column's type
+/// has, where it is in range there; floats, bytes, dates and times in columns of such types; NULL in each column.
+///
+/// # Errors
+/// `NoForm` with the least place whose value has no cell by its column, then `Memory`. `out` is then as it was.
+///
+/// MySQL: Client/Server Protocol, "Binary Protocol Resultset Row", "Null-Bitmap" and "Binary Protocol Value".
+pub fn write_binary_row(
+    columns: &[Column],
+    values: &[Value],
+    out: &mut Vec<u8>,
+) -> Result<(), RowRefusal>
+    requires { length columns.now ≡ length values.now }
+    ensures { PutsRow (binary_cause (column_views columns.now) (map Some values.now)) (binary_row (column_views columns.now) values.now) out.old.items out.new.items result }
+{
+    write_binary(columns, values, out)
+}
