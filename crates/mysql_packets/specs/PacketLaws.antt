@@ -3,8 +3,8 @@ use Rattle.std.proofs.Common.{◌≡◌, ◌≤◌, ℕ, List, [], ◌∷◌, �
 use Rattle.byteorder.specs.Endian.{little_bytes}
 use Rattle.mysql_buf.specs.Writing.{lenenc_str}
 use Rattle.mysql_columns.specs.ColumnLaws.{joined_before}
-use Rattle.mysql_raw.specs.Forms.{bytes_at, little_at}
-use Rattle.mysql_raw.specs.Laws.{bytes_at-back, bytes_at-sized, done_rest, eaten_first, eats-then, from_block-enough, from_block-sized, little_at-back, little_at-sized}
+use Rattle.mysql_raw.specs.Forms.{bytes_at, fixed_number_at}
+use Rattle.mysql_raw.specs.Laws.{bytes_at-back, bytes_at-sized, done_rest, eaten_first, eats-then, from_block-enough, from_block-sized, fixed_number_at-back, fixed_number_at-sized}
 use Rattle.mysql_raw.specs.Wire.{IsSized}
 use Rattle.mysql_raw_bytes.specs.TextLaws.{lenenc_text_at-back}
 use Rattle.mysql_raw_consts.specs.ConstantLaws.{constant_at-back, constant_at-sized, skipped_at-back, skipped_at-sized}
@@ -57,10 +57,10 @@ stage_progress_at-back r h =
     let max_stage = little_bytes 1 r.max_stage ++ progress in
     let stage = little_bytes 1 r.stage ++ max_stage in
     rw (
-      little_at-back 1 1 stage (lit< tt),
-      little_at-back 1 r.stage max_stage h.stage,
-      little_at-back 1 r.max_stage progress h.max_stage,
-      little_at-back 3 r.progress [] h.progress,
+      fixed_number_at-back 1 1 stage (lit< tt),
+      fixed_number_at-back 1 r.stage max_stage h.stage,
+      fixed_number_at-back 1 r.max_stage progress h.max_stage,
+      fixed_number_at-back 3 r.progress [] h.progress,
     ) refl
 
 -- there are six bytes
@@ -88,11 +88,11 @@ prepare_ok_fields_at-eats : (bytes rest : List ℕ) (s : PrepareOk) → prepare_
 unfolding prepare_ok_fields_at
 prepare_ok_fields_at-eats bytes rest s e =
     eats-then 1 11 bytes _ _ rest s (eaten_first 1 (constant_at 1 0) bytes (constant_at-sized 1 0)) (λ _ a.
-    eats-then 4 7 a _ _ rest s (eaten_first 4 (little_at 4) a (little_at-sized 4)) (λ _ b.
-    eats-then 2 5 b _ _ rest s (eaten_first 2 (little_at 2) b (little_at-sized 2)) (λ _ c.
-    eats-then 2 3 c _ _ rest s (eaten_first 2 (little_at 2) c (little_at-sized 2)) (λ _ d.
+    eats-then 4 7 a _ _ rest s (eaten_first 4 (fixed_number_at 4) a (fixed_number_at-sized 4)) (λ _ b.
+    eats-then 2 5 b _ _ rest s (eaten_first 2 (fixed_number_at 2) b (fixed_number_at-sized 2)) (λ _ c.
+    eats-then 2 3 c _ _ rest s (eaten_first 2 (fixed_number_at 2) c (fixed_number_at-sized 2)) (λ _ d.
     eats-then 1 2 d _ _ rest s (eaten_first 1 (skipped_at 1) d (skipped_at-sized 1)) (λ _ f.
-    eats-then 2 0 f _ _ rest s (eaten_first 2 (little_at 2) f (little_at-sized 2)) (λ _ g. done_rest _ s g rest)))))) e
+    eats-then 2 0 f _ _ rest s (eaten_first 2 (fixed_number_at 2) f (fixed_number_at-sized 2)) (λ _ g. done_rest _ s g rest)))))) e
 
 pub prepare_ok_at-sized : IsSized (Some 12) prepare_ok_at
 unfolding prepare_ok_at
@@ -112,11 +112,11 @@ prepare_ok_fields_at-back s rest h =
     let id = little_bytes 4 s.statement_id ++ columns in
     rw (
       constant_at-back 1 0 id (lit< tt),
-      little_at-back 4 s.statement_id columns h.statement_id,
-      little_at-back 2 s.num_columns parameters h.num_columns,
-      little_at-back 2 s.num_params filler h.num_params,
+      fixed_number_at-back 4 s.statement_id columns h.statement_id,
+      fixed_number_at-back 2 s.num_columns parameters h.num_columns,
+      fixed_number_at-back 2 s.num_params filler h.num_params,
       skipped_at-back 1 warnings,
-      little_at-back 2 s.warning_count rest h.warning_count,
+      fixed_number_at-back 2 s.warning_count rest h.warning_count,
     ) refl
 
 pub prepare_ok_at-back : (s : PrepareOk) (rest : List ℕ) → IsPrepareOk s → prepare_ok_at (prepare_ok s ++ rest) ≡ Ok (s, rest)

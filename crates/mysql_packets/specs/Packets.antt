@@ -8,7 +8,7 @@ use Rattle.std.specs.List.{concat}
 use Rattle.byteorder.specs.Endian.{little_bytes}
 use Rattle.mysql_buf.specs.Writing.{lenenc_str}
 use Rattle.mysql_raw.specs.Wire.{Reading, ◌>>=◌, from_block}
-use Rattle.mysql_raw.specs.Forms.{bytes_at, little_at}
+use Rattle.mysql_raw.specs.Forms.{bytes_at, fixed_number_at}
 use Rattle.mysql_raw_bytes.specs.Texts.{lenenc_text_at}
 use Rattle.mysql_raw_consts.specs.Constants.{constant_at, skipped_at}
 use Rattle.mysql_const.specs.FlagSets.{contains}
@@ -73,7 +73,7 @@ unfoldable pub error_code_at : List ℕ → Reading ℕ
 error_code_at bytes = do
   block ← bytes_at 3 bytes
   header ← constant_at 1 255 block.0
-  code ← little_at 2 header.1
+  code ← fixed_number_at 2 header.1
   Ok (code.0, block.1)
 
 -- An error packet that is no progress report.
@@ -102,10 +102,10 @@ stage_progress p = concat (little_bytes 1 1 ∷ little_bytes 1 p.stage ∷ littl
 -- The count is passed over.
 unfoldable pub stage_progress_at : List ℕ → Reading StageProgress
 stage_progress_at bytes = do
-  count ← little_at 1 bytes
-  stage ← little_at 1 count.1
-  max_stage ← little_at 1 stage.1
-  progress ← little_at 3 max_stage.1
+  count ← fixed_number_at 1 bytes
+  stage ← fixed_number_at 1 count.1
+  max_stage ← fixed_number_at 1 stage.1
+  progress ← fixed_number_at 3 max_stage.1
   Ok (record { stage = stage.0; max_stage = max_stage.0; progress = progress.0 }, progress.1)
 
 abbrev pub numbers_in : ProgressReport → StageProgress
@@ -193,11 +193,11 @@ prepare_ok s =
 unfoldable pub prepare_ok_fields_at : List ℕ → Reading PrepareOk
 prepare_ok_fields_at bytes = do
   header ← constant_at 1 0 bytes
-  id ← little_at 4 header.1
-  columns ← little_at 2 id.1
-  parameters ← little_at 2 columns.1
+  id ← fixed_number_at 4 header.1
+  columns ← fixed_number_at 2 id.1
+  parameters ← fixed_number_at 2 columns.1
   filler ← skipped_at 1 parameters.1
-  warnings ← little_at 2 filler.1
+  warnings ← fixed_number_at 2 filler.1
   Ok (record { statement_id = id.0; num_columns = columns.0; num_params = parameters.0; warning_count = warnings.0 }, warnings.1)
 
 -- Its twelve bytes are there together or not at all.

@@ -33,9 +33,12 @@ pub use mysql_convert;
 pub use mysql_null_bitmap::{BitmapBytes, NullBitmap, NullBits};
 pub use mysql_ok_packets::{
     CommonOkPacket, InvalidOkPacketHeader, NetworkStreamTerminator, OkPacket, OkPacketBody,
-    OkPacketDeserializer, OkPacketKind, OldEofPacket, ResultSetTerminator,
+    OkPacketDeserializer, OkPacketKind, OldEofPacket, ResultSetTerminator, has_named_status,
 };
-pub use mysql_rows::{ColumnIndex, Row, RowDeserializer, new_row, new_row_raw};
+pub use mysql_rows::{
+    ColumnIndex, Row, RowDeserializer, RowRefusal, new_row, new_row_raw, write_binary_row,
+    write_text_row,
+};
 pub use mysql_session_states::{
     Gtids, Schema, SessionStateChange, SessionStateInfo, SystemVariable,
     TransactionCharacteristics, TransactionState, Unsupported,

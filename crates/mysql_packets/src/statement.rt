@@ -27,6 +27,23 @@ pub struct StmtPacket {
 }
 
 impl StmtPacket {
+    /// A statement of this id, with so many columns, parameters and warnings.
+    pub fn new(
+        statement_id: u32,
+        num_columns: u16,
+        num_params: u16,
+        warning_count: u16,
+    ) -> StmtPacket
+        ensures { prepare_ok_view result ≡ record { statement_id = statement_id; num_columns = num_columns; num_params = num_params; warning_count = warning_count } }
+    {
+        StmtPacket {
+            statement_id,
+            num_columns,
+            num_params,
+            warning_count,
+        }
+    }
+
     /// The statement's id.
     pub fn statement_id(&self) -> u32
         ensures { result ≡ (prepare_ok_view self.now).statement_id }

@@ -13,11 +13,12 @@ use mysql_packets::{
     InvalidLocalInfileHeader, InvalidOkPacketHeader, InvalidSqlStateMarker,
     InvalidStmtPacketStatus, IterationCount, LocalInfileHeader, LocalInfilePacket,
     NetworkStreamTerminator, NullBitmap, NullBits, OkPacket, OkPacketBody, OkPacketDeserializer,
-    OkPacketKind, OldEofPacket, ProgressReport, ResultSetTerminator, Row, RowDeserializer, Schema,
-    ServerError, SessionStateChange, SessionStateInfo, SqlState, SqlStateMarker,
-    StmtBulkExecuteParamType, StmtBulkExecuteParamValue, StmtBulkExecuteParamValues, StmtPacket,
-    SystemVariable, TransactionCharacteristics, TransactionState, Unsupported, new_row,
-    new_row_raw, read_bulk_row,
+    OkPacketKind, OldEofPacket, ProgressReport, ResultSetTerminator, Row, RowDeserializer,
+    RowRefusal, Schema, ServerError, SessionStateChange, SessionStateInfo, SqlState,
+    SqlStateMarker, StmtBulkExecuteParamType, StmtBulkExecuteParamValue,
+    StmtBulkExecuteParamValues, StmtPacket, SystemVariable, TransactionCharacteristics,
+    TransactionState, Unsupported, has_named_status, new_row, new_row_raw, read_bulk_row,
+    write_binary_row, write_text_row,
 };
 
 // The layers below.

@@ -20,6 +20,7 @@ pub use mysql_recoding::{RecodeError, Recoder, recode, send_contents};
 pub use mysql_replies::{
     Reply, ReplyEnd, ReplyFault, ReplyKind, ReplyReader, ReplyResult, read_reply,
 };
+pub use mysql_reply_writer::{ReplyRefusal, ReplyWriter, write_reply};
 pub use mysql_rows::{ColumnIndex, Row};
 pub use mysql_streams::{Refusal, Road};
 pub use mysql_values::{

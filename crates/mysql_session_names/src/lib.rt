@@ -5,8 +5,8 @@
 use mysql_session::{
     Audit, CapabilityFlags, End, Flags, Intermediate, PacketReader, ParseIr, Receiver,
     ReceiverError, RecodeError, Recoder, Refusal, Reply, ReplyEnd, ReplyFault, ReplyKind,
-    ReplyReader, ReplyResult, Road, StatusFlags, StreamFault, packet_to_chunks, read_reply,
-    receive, recode, send, send_values,
+    ReplyReader, ReplyRefusal, ReplyResult, ReplyWriter, Road, StatusFlags, StreamFault,
+    packet_to_chunks, read_reply, receive, recode, send, send_values, write_reply,
 };
 
 // The layers below.

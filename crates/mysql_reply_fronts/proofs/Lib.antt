@@ -1,0 +1,3 @@
+pub mod Parts
+pub mod Payloads
+pub mod Bytes

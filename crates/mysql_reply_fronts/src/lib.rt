@@ -1,0 +1,4 @@
+//! Replies that are cut off: laws of what a front of a whole reply reads as.
+#![tactic(auto)]
+
+pub mod laws;

@@ -1,0 +1,5 @@
+pub mod Written
+pub mod Refusals
+pub mod Fits
+pub mod Laws
+pub mod Own

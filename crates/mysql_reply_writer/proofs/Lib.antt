@@ -1,0 +1,13 @@
+pub mod Joined
+pub mod Putting
+pub mod Steps
+pub mod CellFacts
+pub mod Items
+pub mod ColumnsPut
+pub mod ItemsWritten
+pub mod Answers
+pub mod OpenColumns
+pub mod More
+pub mod Ends
+pub mod WholeReplies
+pub mod Replied

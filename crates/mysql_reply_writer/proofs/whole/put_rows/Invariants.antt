@@ -1,0 +1,12 @@
+use Rattle.std.proofs.Common.{◌≡◌, drop, map}
+use Rattle.mysql_replies.specs.Views.{row_views}
+use Rattle.mysql_reply_packets.specs.Written.{RowStep}
+use Rattle.mysql_reply_writer.specs.Writer.{columns_of}
+use Rattle.mysql_reply_writer.proofs.Steps.{WroteSoFar}
+use Rattle.mysql_reply_writer.proofs.whole.put_rows.Given as goal
+
+abbrev pub invariant-rows : goal.invariant-rows
+invariant-rows l =
+    (columns_of l.writer.standing.rows ≡ columns_of l.fn.writer.standing.rows)
+    × WroteSoFar l.fn.writer (map (RowStep (columns_of l.fn.writer.standing.rows)) (row_views l.rows)) l.writer
+    (map (RowStep (columns_of l.fn.writer.standing.rows)) (row_views (drop l.row-index l.rows))) l.fn.out.items l.out.items

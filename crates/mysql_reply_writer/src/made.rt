@@ -1,0 +1,209 @@
+//! Payloads as they are made, each in place of what its buffer held.
+
+ghost use Rattle.std.specs.Prelude.{◌≡◌, [], IfErr, None, OnOk, Some, if◌then◌else◌, length, min};
+ghost use Rattle.std.specs.Option.{option_map};
+ghost use Rattle.mysql_ok_packets.specs.Views.{ok_packet_view};
+ghost use Rattle.mysql_packets.specs.Packets.{Error, Progress, protocol_41, progress_obsolete};
+ghost use Rattle.mysql_packets.specs.Views.{err_packet_view, progress_report_view, server_error_view, sql_state_view};
+ghost use Rattle.mysql_replies.specs.Grammar.{deprecate_eof, is_binary as is_binary_kind};
+ghost use Rattle.mysql_replies.specs.Views.{column_views};
+ghost use Rattle.mysql_ok_packets.specs.Written.{eof_bytes, ok_packet_bytes};
+ghost use Rattle.mysql_reply_packets.specs.Refusals.{cells_cause_at, form_cause};
+ghost use Rattle.mysql_reply_packets.specs.Written.{cells_payload, error_written, nothing_said, report_written, saying, state_written, terminator_payload, with_more as more_flag};
+ghost use Rattle.mysql_reply_writer.specs.Puts.{IsCause};
+ghost use Rattle.mysql_rows.specs.CellsWritten.{PutsRow};
+ghost use Rattle.mysql_rows.specs.Views.{row_view, shared_columns};
+
+use crate::writer::OpenRows;
+use bitflags::Flags;
+use mysql_columns::Column;
+use mysql_const::{CapabilityFlags, StatusFlags};
+use mysql_ok_packets::{CommonOkPacket, OldEofPacket, ResultSetTerminator};
+use mysql_packets::{ErrPacket, OkPacket, ProgressReport, ServerError, SqlState};
+use mysql_replies::ReplyKind;
+use mysql_reply_packets::ReplyRefusal;
+use mysql_rows::{Row, RowRefusal};
+use std::alloc::AllocError;
+use std::borrow::CowSlice;
+
+/// EOF packets are deprecated.
+pub(crate) fn deprecates_eof(capabilities: CapabilityFlags) -> bool
+    ensures { result ≡ deprecate_eof capabilities.0 }
+{
+    capabilities.contains(CapabilityFlags::CLIENT_DEPRECATE_EOF)
+}
+
+/// Clients of the protocol of version 4.1 read states of errors.
+pub(crate) fn has_states(capabilities: CapabilityFlags) -> bool
+    ensures { result ≡ protocol_41 capabilities.0 }
+{
+    capabilities.contains(CapabilityFlags::CLIENT_PROTOCOL_41)
+}
+
+/// The client reads progress reports.
+pub(crate) fn tells_progress(capabilities: CapabilityFlags) -> bool
+    ensures { result ≡ progress_obsolete capabilities.0 }
+{
+    capabilities.contains(CapabilityFlags::CLIENT_PROGRESS_OBSOLETE)
+}
+
+/// The status that says whether another result follows.
+pub(crate) fn with_more(more: bool, status: StatusFlags) -> StatusFlags
+    ensures { result.0 ≡ more_flag more status.0 }
+{
+    if more {
+        StatusFlags(status.0 | 8)
+    } else {
+        StatusFlags(status.0 & 0xfff7)
+    }
+}
+
+/// An OK packet that answers a command.
+#[tactic(auto, unfolding(mysql_ok_packets::specs::Written::ok_packet_bytes))]
+pub(crate) fn make_ok(
+    payload: &mut Vec<u8>,
+    capabilities: CapabilityFlags,
+    more: bool,
+    ok: &OkPacket<'_>,
+) -> Result<(), AllocError>
+    ensures { OnOk result (payload.new.items ≡ ok_packet_bytes 0 capabilities.0 (saying more (ok_packet_view ok.now))) }
+{
+    payload.clear();
+    let status = with_more(more, ok.status_flags());
+    ok.serialize_as::<CommonOkPacket>(capabilities, status, payload)
+}
+
+/// What ends rows.
+#[tactic(auto, unfolding(mysql_ok_packets::specs::Written::ok_packet_bytes, mysql_ok_packets::specs::Written::eof_bytes))]
+pub(crate) fn make_terminator(
+    payload: &mut Vec<u8>,
+    capabilities: CapabilityFlags,
+    more: bool,
+    ok: &OkPacket<'_>,
+) -> Result<(), AllocError>
+    ensures { OnOk result (payload.new.items ≡ terminator_payload capabilities.0 (saying more (ok_packet_view ok.now))) }
+{
+    payload.clear();
+    let status = with_more(more, ok.status_flags());
+    if deprecates_eof(capabilities) {
+        ok.serialize_as::<ResultSetTerminator>(capabilities, status, payload)
+    } else {
+        ok.serialize_as::<OldEofPacket>(capabilities, status, payload)
+    }
+}
+
+/// The EOF packet behind columns, which says nothing.
+#[tactic(auto, unfolding(mysql_ok_packets::specs::Written::eof_bytes))]
+pub(crate) fn make_empty_eof(payload: &mut Vec<u8>) -> Result<(), AllocError>
+    ensures { OnOk result (payload.new.items ≡ eof_bytes nothing_said) }
+{
+    payload.clear();
+    payload.extend_from_slice(&[254, 0, 0, 0, 0])
+}
+
+/// Rows come in binary.
+pub(crate) fn is_binary(kind: ReplyKind) -> bool
+    ensures { result ≡ is_binary_kind kind }
+{
+    match kind {
+        ReplyKind::Binary => true,
+        ReplyKind::Text | ReplyKind::Prepare => false,
+    }
+}
+
+/// The most bytes of what ends rows: with DEPRECATE_EOF a longer packet is read as a row.
+pub(crate) fn end_room(capabilities: CapabilityFlags, limit: usize) -> usize
+    ensures { result ≡ (if deprecate_eof capabilities.0 then min limit 16777214 else limit) }
+{
+    if deprecates_eof(capabilities) && limit > 16777214 {
+        16777214
+    } else {
+        limit
+    }
+}
+
+// The state that is written: for the protocol of version 4.1 a general error's where there is none, else none.
+fn state_of(states: bool, state: Option<&SqlState>) -> Option<SqlState>
+    ensures { option_map sql_state_view result ≡ state_written states (option_map (λ state. sql_state_view state.now) state.entry) }
+{
+    if !states {
+        return None;
+    }
+    match state {
+        Some(state) => Some(*state),
+        None => Some(SqlState::new(*b"HY000")),
+    }
+}
+
+/// The packet of an error.
+pub(crate) fn error_packet<'a>(
+    capabilities: CapabilityFlags,
+    error: &'a ServerError<'_>,
+) -> ErrPacket<'a>
+    ensures { err_packet_view result ≡ Error (error_written capabilities.0 (server_error_view error.now)) }
+{
+    let state = state_of(has_states(capabilities), error.sql_state_ref());
+    ErrPacket::Error(ServerError::new(
+        error.error_code(),
+        state,
+        CowSlice::Borrowed(error.message_ref()),
+    ))
+}
+
+/// The packet of a progress report.
+pub(crate) fn report_packet<'a>(report: &'a ProgressReport<'_>) -> ErrPacket<'a>
+    ensures { err_packet_view result ≡ Progress (report_written (progress_report_view report.now)) }
+{
+    ErrPacket::Progress(ProgressReport::new(
+        report.stage(),
+        report.max_stage(),
+        report.progress() % 16777216,
+        CowSlice::Borrowed(report.stage_info_ref()),
+    ))
+}
+
+// A row's payload by the kind of the command.
+fn make_cells(
+    payload: &mut Vec<u8>,
+    binary: bool,
+    columns: &[Column],
+    row: &Row,
+) -> Result<(), RowRefusal>
+    requires { length columns.now ≡ length (row_view row.now).cells }
+    ensures { PutsRow (form_cause binary (column_views columns.now) (row_view row.now).cells) (cells_payload binary (column_views columns.now) (row_view row.now).cells) [] payload.new.items result }
+{
+    payload.clear();
+    if binary {
+        row.write_binary(columns, payload)
+    } else {
+        row.write_text(payload)
+    }
+}
+
+/// A row under the columns of the rows that go on.
+pub(crate) fn make_row(
+    payload: &mut Vec<u8>,
+    binary: bool,
+    result_number: usize,
+    rows: &OpenRows,
+    row: &Row,
+) -> Result<(), ReplyRefusal>
+    ensures ok { OnOk result ((payload.new.items ≡ cells_payload binary (shared_columns rows.now.columns) (row_view row.now).cells) × (cells_cause_at binary result_number rows.now.count (shared_columns rows.now.columns) (row_view row.now).cells ≡ None)) }
+    ensures err { IfErr result (IsCause (cells_cause_at binary result_number rows.now.count (shared_columns rows.now.columns) (row_view row.now).cells)) }
+{
+    if row.len() != rows.columns.as_slice().len() {
+        return Err(ReplyRefusal::CellCount {
+            result: result_number,
+            row: rows.count,
+        });
+    }
+    match make_cells(payload, binary, rows.columns.as_slice(), row) {
+        Ok(()) => Ok(()),
+        Err(RowRefusal::NoForm(place)) => Err(ReplyRefusal::NoForm {
+            result: result_number,
+            row: rows.count,
+            place,
+        }),
+        Err(RowRefusal::Memory) => Err(ReplyRefusal::Memory),
+    }
+}

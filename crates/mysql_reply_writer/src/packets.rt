@@ -1,0 +1,284 @@
+//! Payloads, numbered and framed.
+
+ghost use Rattle.std.specs.Prelude.{◌≡◌, ◌≤◌, ◌∷◌, [], IfErr, None, OnErr, OnOk, length, map, take};
+ghost use Rattle.mysql_reply_packets.specs.Refusals.{cells_cause_at, or_cause, too_large};
+ghost use Rattle.mysql_rows.specs.Views.{row_view, shared_columns};
+ghost use Rattle.mysql_buf.specs.Writing.{lenenc_int};
+ghost use Rattle.mysql_packets.specs.Packets.{prepare_ok};
+ghost use Rattle.mysql_packets.specs.Views.{prepare_ok_view};
+ghost use Rattle.mysql_columns.specs.Columns.{column};
+ghost use Rattle.mysql_replies.specs.Views.{column_views};
+ghost use Rattle.mysql_reply_packets.specs.Fits.{CellsFit, ColumnsFit};
+ghost use Rattle.mysql_reply_packets.specs.Written.{cells_payload, eof_due, group_payloads, prepared_payloads};
+ghost use Rattle.mysql_reply_writer.specs.Puts.{IsCause, Puts, RefusesPayloads};
+ghost use Rattle.mysql_reply_writer.specs.Views.{place_view};
+
+use crate::facts::{cells_fit, column_fits};
+use crate::made::{deprecates_eof, make_empty_eof, make_row};
+use crate::writer::OpenRows;
+use mysql_buf::BufMutExt;
+use mysql_columns::Column;
+use mysql_const::CapabilityFlags;
+use mysql_packets::StmtPacket;
+use mysql_raw::MySerialize;
+use mysql_reply_packets::ReplyRefusal;
+use mysql_rows::Row;
+use mysql_wire::packet_to_chunks;
+use std::alloc::Global;
+
+/// The packets that are written. Each payload is made in a buffer first.
+#[derive(Drop)]
+pub(crate) struct Packets {
+    /// The most bytes of a payload.
+    pub(crate) limit: usize,
+    /// The number of the next chunk.
+    pub(crate) number: u8,
+    /// How many payloads were written.
+    pub(crate) payloads: u64,
+    /// The payload that is made.
+    pub(crate) payload: Vec<u8>,
+}
+
+impl Packets {
+    /// No packet, with the number of the first chunk.
+    pub(crate) fn new(alloc: Global, first_id: u8, limit: usize) -> Packets
+        ensures place { place_view result ≡ record { number = first_id; payloads = 0 } }
+        ensures limit { result.limit ≡ limit }
+    {
+        Packets {
+            limit,
+            number: first_id,
+            payloads: 0,
+            payload: Vec::new(alloc),
+        }
+    }
+
+    /// Appends the payload that was made, which has at most so many bytes.
+    pub(crate) fn put_made(&mut self, room: usize, out: &mut Vec<u8>) -> Result<(), ReplyRefusal>
+        ensures ok { OnOk result (Puts room (place_view self.old) (self.old.payload.items ∷ []) (place_view self.new) out.old.items out.new.items) }
+        ensures err { IfErr result (RefusesPayloads room (place_view self.old) (self.old.payload.items ∷ [])) }
+        ensures kept { OnErr result (out.new.items ≡ out.old.items) }
+        ensures place { OnErr result (place_view self.new ≡ place_view self.old) }
+        ensures limit { self.new.limit ≡ self.old.limit }
+    {
+        if self.payload.len() > room || self.payloads == u64::MAX {
+            return Err(ReplyRefusal::PacketTooLarge(self.payloads));
+        }
+        self.number = packet_to_chunks(self.number, self.payload.as_slice(), out)?;
+        self.payloads += 1;
+        Ok(())
+    }
+
+    /// Appends a payload.
+    pub(crate) fn put<P: MySerialize>(
+        &mut self,
+        payload: &P,
+        out: &mut Vec<u8>,
+    ) -> Result<(), ReplyRefusal>
+        ensures ok { OnOk result (Puts self.old.limit (place_view self.old) (P.written payload.now ∷ []) (place_view self.new) out.old.items out.new.items) }
+        ensures err { IfErr result (RefusesPayloads self.old.limit (place_view self.old) (P.written payload.now ∷ [])) }
+        ensures kept { OnErr result (out.new.items ≡ out.old.items) }
+        ensures place { OnErr result (place_view self.new ≡ place_view self.old) }
+        ensures limit { self.new.limit ≡ self.old.limit }
+    {
+        self.payload.clear();
+        payload.serialize(&mut self.payload)?;
+        self.put_made(self.limit, out)
+    }
+
+    /// Appends a row under the columns of the rows that go on.
+    pub(crate) fn put_row(
+        &mut self,
+        binary: bool,
+        result_number: usize,
+        rows: &OpenRows,
+        row: &Row,
+        out: &mut Vec<u8>,
+    ) -> Result<(), ReplyRefusal>
+        ensures ok { OnOk result (Puts self.old.limit (place_view self.old) (cells_payload binary (shared_columns rows.now.columns) (row_view row.now).cells ∷ []) (place_view self.new) out.old.items out.new.items) }
+        ensures form { OnOk result (cells_cause_at binary result_number rows.now.count (shared_columns rows.now.columns) (row_view row.now).cells ≡ None) }
+        ensures fit { OnOk result (CellsFit (row_view row.now).cells) }
+        ensures err { IfErr result (IsCause (or_cause (cells_cause_at binary result_number rows.now.count (shared_columns rows.now.columns) (row_view row.now).cells) (too_large self.old.limit self.old.payloads (cells_payload binary (shared_columns rows.now.columns) (row_view row.now).cells ∷ [])))) }
+        ensures kept { OnErr result (out.new.items ≡ out.old.items) }
+        ensures place { OnErr result (place_view self.new ≡ place_view self.old) }
+        ensures limit { self.new.limit ≡ self.old.limit }
+    {
+        cells_fit(row);
+        make_row(&mut self.payload, binary, result_number, rows, row)?;
+        let room = self.limit;
+        self.put_made(room, out)
+    }
+
+    /// Appends a packet for each column.
+    fn put_columns(&mut self, columns: &[Column], out: &mut Vec<u8>) -> Result<(), ReplyRefusal>
+        ensures ok { OnOk result (Puts self.old.limit (place_view self.old) (map column (column_views columns.now)) (place_view self.new) out.old.items out.new.items) }
+        ensures fit { OnOk result (ColumnsFit (column_views columns.now)) }
+        ensures err { IfErr result (RefusesPayloads self.old.limit (place_view self.old) (map column (column_views columns.now))) }
+        ensures kept { take (length out.old.items) out.new.items ≡ out.old.items }
+        ensures limit { self.new.limit ≡ self.old.limit }
+    {
+        'columns: for column in columns {
+            column_fits(column);
+            self.put(column, out)?;
+        }
+        Ok(())
+    }
+
+    /// Appends the EOF that is due behind columns.
+    fn put_eof_due(
+        &mut self,
+        capabilities: CapabilityFlags,
+        columns: &[Column],
+        out: &mut Vec<u8>,
+    ) -> Result<(), ReplyRefusal>
+        ensures ok { OnOk result (Puts self.old.limit (place_view self.old) (eof_due capabilities.0 (column_views columns.now)) (place_view self.new) out.old.items out.new.items) }
+        ensures err { IfErr result (RefusesPayloads self.old.limit (place_view self.old) (eof_due capabilities.0 (column_views columns.now))) }
+        ensures kept { take (length out.old.items) out.new.items ≡ out.old.items }
+        ensures limit { self.new.limit ≡ self.old.limit }
+    {
+        if columns.is_empty() || deprecates_eof(capabilities) {
+            return Ok(());
+        }
+        make_empty_eof(&mut self.payload)?;
+        self.put_made(self.limit, out)
+    }
+
+    /// Appends columns, and the EOF that is due.
+    pub(crate) fn put_group(
+        &mut self,
+        capabilities: CapabilityFlags,
+        columns: &[Column],
+        out: &mut Vec<u8>,
+    ) -> Result<(), ReplyRefusal>
+        ensures ok { OnOk result (Puts self.old.limit (place_view self.old) (group_payloads capabilities.0 (column_views columns.now)) (place_view self.new) out.old.items out.new.items) }
+        ensures fit { OnOk result (ColumnsFit (column_views columns.now)) }
+        ensures err { IfErr result (RefusesPayloads self.old.limit (place_view self.old) (group_payloads capabilities.0 (column_views columns.now))) }
+        ensures kept { take (length out.old.items) out.new.items ≡ out.old.items }
+        ensures limit { self.new.limit ≡ self.old.limit }
+    {
+        self.put_columns(columns, out)?;
+        self.put_eof_due(capabilities, columns, out)
+    }
+
+    /// Appends a count of columns, the columns, and the EOF that is due. After a refusal what stood before stands in front.
+    fn put_head_packets(
+        &mut self,
+        capabilities: CapabilityFlags,
+        columns: &[Column],
+        out: &mut Vec<u8>,
+    ) -> Result<(), ReplyRefusal>
+        ensures ok { OnOk result (Puts self.old.limit (place_view self.old) (lenenc_int (length columns.now) ∷ group_payloads capabilities.0 (column_views columns.now)) (place_view self.new) out.old.items out.new.items) }
+        ensures fit { OnOk result (ColumnsFit (column_views columns.now)) }
+        ensures err { IfErr result (RefusesPayloads self.old.limit (place_view self.old) (lenenc_int (length columns.now) ∷ group_payloads capabilities.0 (column_views columns.now))) }
+        ensures kept { take (length out.old.items) out.new.items ≡ out.old.items }
+        ensures limit { self.new.limit ≡ self.old.limit }
+    {
+        self.payload.clear();
+        self.payload.put_lenenc_int(columns.len() as u64)?;
+        self.put_made(self.limit, out)?;
+        self.put_group(capabilities, columns, out)
+    }
+
+    /// The same, where nothing changes after a refusal.
+    pub(crate) fn put_head(
+        &mut self,
+        capabilities: CapabilityFlags,
+        columns: &[Column],
+        out: &mut Vec<u8>,
+    ) -> Result<(), ReplyRefusal>
+        ensures ok { OnOk result (Puts self.old.limit (place_view self.old) (lenenc_int (length columns.now) ∷ group_payloads capabilities.0 (column_views columns.now)) (place_view self.new) out.old.items out.new.items) }
+        ensures fit { OnOk result (ColumnsFit (column_views columns.now)) }
+        ensures err { IfErr result (RefusesPayloads self.old.limit (place_view self.old) (lenenc_int (length columns.now) ∷ group_payloads capabilities.0 (column_views columns.now))) }
+        ensures kept { OnErr result (out.new.items ≡ out.old.items) }
+        ensures place { OnErr result (place_view self.new ≡ place_view self.old) }
+        ensures limit { self.new.limit ≡ self.old.limit }
+    {
+        let start = out.len();
+        let number = self.number;
+        let payloads = self.payloads;
+        let answer = self.put_head_packets(capabilities, columns, out);
+        if answer.is_err() {
+            out.truncate(start);
+            self.number = number;
+            self.payloads = payloads;
+        }
+        answer
+    }
+
+    /// Appends a statement packet with these counts.
+    fn put_statement(
+        &mut self,
+        statement: &StmtPacket,
+        parameters: usize,
+        columns: usize,
+        out: &mut Vec<u8>,
+    ) -> Result<(), ReplyRefusal>
+        requires parameters { parameters ≤ 65535 }
+        requires columns { columns ≤ 65535 }
+        ensures ok { OnOk result (Puts self.old.limit (place_view self.old) (prepare_ok (record (prepare_ok_view statement.now) { num_params = parameters; num_columns = columns }) ∷ []) (place_view self.new) out.old.items out.new.items) }
+        ensures err { IfErr result (RefusesPayloads self.old.limit (place_view self.old) (prepare_ok (record (prepare_ok_view statement.now) { num_params = parameters; num_columns = columns }) ∷ [])) }
+        ensures kept { OnErr result (out.new.items ≡ out.old.items) }
+        ensures limit { self.new.limit ≡ self.old.limit }
+    {
+        let packet = StmtPacket::new(
+            statement.statement_id(),
+            columns as u16,
+            parameters as u16,
+            statement.warning_count(),
+        );
+        self.put(&packet, out)
+    }
+
+    /// Appends a statement packet with the counts of these lists, and each list as a group. After a refusal what stood before stands
+    /// in front.
+    fn put_prepared_packets(
+        &mut self,
+        capabilities: CapabilityFlags,
+        statement: &StmtPacket,
+        parameters: &[Column],
+        columns: &[Column],
+        out: &mut Vec<u8>,
+    ) -> Result<(), ReplyRefusal>
+        requires parameters { length parameters.now ≤ 65535 }
+        requires columns { length columns.now ≤ 65535 }
+        ensures ok { OnOk result (Puts self.old.limit (place_view self.old) (prepared_payloads capabilities.0 (prepare_ok_view statement.now) (column_views parameters.now) (column_views columns.now)) (place_view self.new) out.old.items out.new.items) }
+        ensures fit { OnOk result (ColumnsFit (column_views parameters.now) × ColumnsFit (column_views columns.now)) }
+        ensures err { IfErr result (RefusesPayloads self.old.limit (place_view self.old) (prepared_payloads capabilities.0 (prepare_ok_view statement.now) (column_views parameters.now) (column_views columns.now))) }
+        ensures kept { take (length out.old.items) out.new.items ≡ out.old.items }
+        ensures limit { self.new.limit ≡ self.old.limit }
+    {
+        self.put_statement(statement, parameters.len(), columns.len(), out)?;
+        self.put_group(capabilities, parameters, out)?;
+        self.put_group(capabilities, columns, out)
+    }
+
+    /// The same, where nothing changes after a refusal.
+    pub(crate) fn put_prepared(
+        &mut self,
+        capabilities: CapabilityFlags,
+        statement: &StmtPacket,
+        parameters: &[Column],
+        columns: &[Column],
+        out: &mut Vec<u8>,
+    ) -> Result<(), ReplyRefusal>
+        requires parameters { length parameters.now ≤ 65535 }
+        requires columns { length columns.now ≤ 65535 }
+        ensures ok { OnOk result (Puts self.old.limit (place_view self.old) (prepared_payloads capabilities.0 (prepare_ok_view statement.now) (column_views parameters.now) (column_views columns.now)) (place_view self.new) out.old.items out.new.items) }
+        ensures fit { OnOk result (ColumnsFit (column_views parameters.now) × ColumnsFit (column_views columns.now)) }
+        ensures err { IfErr result (RefusesPayloads self.old.limit (place_view self.old) (prepared_payloads capabilities.0 (prepare_ok_view statement.now) (column_views parameters.now) (column_views columns.now))) }
+        ensures kept { OnErr result (out.new.items ≡ out.old.items) }
+        ensures place { OnErr result (place_view self.new ≡ place_view self.old) }
+        ensures limit { self.new.limit ≡ self.old.limit }
+    {
+        let start = out.len();
+        let number = self.number;
+        let payloads = self.payloads;
+        let answer = self.put_prepared_packets(capabilities, statement, parameters, columns, out);
+        if answer.is_err() {
+            out.truncate(start);
+            self.number = number;
+            self.payloads = payloads;
+        }
+        answer
+    }
+}
