@@ -1,0 +1,7 @@
+pub mod CellTails
+pub mod Digits
+pub mod Forms
+pub mod LentCells
+pub mod RowSteps
+pub mod Tails
+pub mod Utf8Texts

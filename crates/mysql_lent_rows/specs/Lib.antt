@@ -1,0 +1,4 @@
+pub mod Lent
+pub mod LentRows
+pub mod Lines
+pub mod Ranges

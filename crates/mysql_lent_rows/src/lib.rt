@@ -1,0 +1,29 @@
+//! Rows of result sets that are lent: their cells are read where they lie in the payload, and nothing of them is copied.
+#![tactic(auto)]
+
+mod booleans;
+mod calls;
+mod cell_form;
+mod cell_values;
+mod cells;
+pub mod errors;
+pub mod format;
+pub mod from_value_ref;
+mod integers;
+pub mod lender;
+mod lending;
+pub mod lines;
+mod numbers;
+mod place;
+pub mod row;
+mod rows;
+mod texts;
+pub mod value_ref;
+
+pub use errors::RowError;
+pub use format::RowFormat;
+pub use from_value_ref::FromValueRef;
+pub use lender::RowLender;
+pub use lines::is_row;
+pub use row::LentRow;
+pub use value_ref::ValueRef;
