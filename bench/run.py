@@ -56,6 +56,8 @@ WORKLOADS = {
     "reply-binary": [*HAND, "go"],
     "reply-text-taken": ["library"],
     "reply-binary-taken": ["library"],
+    "write-reply-text": ["library", "rust"],
+    "write-reply-binary": ["library", "rust"],
     "cells-text-by-number": HAND,
     "cells-text-by-name": HAND,
     "cells-binary-by-number": HAND,

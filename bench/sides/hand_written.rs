@@ -530,6 +530,55 @@ fn reply(stream: &[u8], piece: usize, binary: bool) -> Option<Vec<Vec<Value>>> {
     Some(rows)
 }
 
+/// A text cell of the value, for which digits are made in place.
+fn put_text_cell(value: &Value, out: &mut Vec<u8>) {
+    match value {
+        Value::Null => out.push(251),
+        Value::Int(number) => {
+            use std::io::Write;
+            let start = out.len();
+            out.push(0);
+            write!(out, "{number}").unwrap();
+            out[start] = (out.len() - start - 1) as u8;
+        }
+        bytes => put_cell(bytes, out),
+    }
+}
+
+fn put_binary_row(row: &[Value], out: &mut Vec<u8>) {
+    let bit = |(place, value): (usize, &Value)| (matches!(value, Value::Null) as u8) << (place + 2);
+    out.extend_from_slice(&[0, row.iter().enumerate().map(bit).sum()]);
+    row.iter().for_each(|value| put_cell(value, out));
+}
+
+/// The rows of a reply in binary, read once and written again so many times, as text or in binary.
+fn write_reply(stream: &[u8], binary: bool, times: usize) -> Option<usize> {
+    let rows = reply(stream, PIECE, true)?;
+    // A packet with the count, four of columns, and an end come before the rows.
+    let mut front = 0;
+    for _ in 0..6 {
+        front += 4 + u32::from_le_bytes([stream[front], stream[front + 1], stream[front + 2], 0]) as usize;
+    }
+    let (mut out, mut payload) = (Vec::new(), Vec::new());
+    for _ in 0..times {
+        out.clear();
+        out.extend_from_slice(&stream[..front]);
+        let mut number = 7u8;
+        for row in &rows {
+            payload.clear();
+            if binary {
+                put_binary_row(row, &mut payload);
+            } else {
+                row.iter().for_each(|value| put_text_cell(value, &mut payload));
+            }
+            packet_to_chunks(number, &payload, &mut out);
+            number = number.wrapping_add(1);
+        }
+        packet_to_chunks(number, &[254, 0, 0, 2, 0], &mut out);
+    }
+    Some(out.len())
+}
+
 /// The number that a copy of a value converts to.
 fn number(value: &Value) -> Option<i64> {
     match value.clone() {
@@ -663,6 +712,10 @@ fn run(what: &str, rounds: usize) {
         "reply" => {
             let stream = load(if binary { "reply-binary" } else { "reply-text" });
             measure(what, 1_000_000, rounds, || reply(&stream, piece, binary).map(|rows| rows.len()));
+        }
+        "write" => {
+            let stream = load("cells-binary");
+            measure(what, 1_000_000, rounds, || write_reply(&stream, binary, 1000));
         }
         "cells" => {
             let stream = load(if binary { "cells-binary" } else { "cells-text" });

@@ -12,6 +12,7 @@ size_t mysql_bench_receive(Pointer, size_t, Pointer, size_t, size_t);
 size_t mysql_bench_receive_taken(Pointer, size_t, Pointer, size_t, Pointer, size_t, size_t, size_t);
 size_t mysql_bench_recode(Pointer, size_t, Pointer, size_t);
 size_t mysql_bench_read_reply(Pointer, size_t, size_t, _Bool);
+size_t mysql_bench_write_reply(Pointer, size_t, _Bool, size_t);
 size_t mysql_bench_read_reply_taken(Pointer, size_t, Pointer, size_t, size_t, size_t, _Bool);
 size_t mysql_bench_cells(Pointer, size_t, _Bool, _Bool, size_t);
 int64_t mysql_bench_convert(Pointer, size_t, size_t, size_t);
@@ -57,6 +58,9 @@ static void run(const char *what, int rounds) {
         Bytes stream = load(binary ? "reply-binary" : "reply-text");
         if (taken) MEASURE("library", (double)ROWS, mysql_bench_read_reply_taken(stream.at, 0, stream.at, stream.len, 1, piece, binary))
         MEASURE(taken ? "kept" : "library", (double)ROWS, mysql_bench_read_reply(stream.at, stream.len, piece, binary))
+    } else if (BEGINS("write-reply")) {
+        Bytes stream = load("cells-binary");
+        MEASURE("library", (double)CELL_ROWS * CELL_TIMES, mysql_bench_write_reply(stream.at, stream.len, binary, CELL_TIMES))
     } else if (BEGINS("cells")) {
         Bytes stream = load(binary ? "cells-binary" : "cells-text");
         _Bool by_name = strstr(what, "by-name") != 0;

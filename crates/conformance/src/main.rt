@@ -10,6 +10,7 @@ mod sending;
 mod sets;
 mod tokens;
 mod trouble;
+mod writing;
 
 use crate::rows::run_row;
 use crate::tokens::{Names, Token, tokens_of};

@@ -5,6 +5,7 @@ use crate::reading::{Reading, check};
 use crate::sending::{Statement, check_contents, check_recoded, check_sent};
 use crate::tokens::Token;
 use crate::trouble::Trouble;
+use crate::writing::{check_again, check_written};
 use mysql_session::{CapabilityFlags, ReplyKind};
 use std::alloc::Global;
 
@@ -59,13 +60,30 @@ pub fn run_row(alloc: Global, fields: &[&[Token<'_>]]) -> Result<(), Trouble> {
         ] => {
             let stream = bytes_of(alloc, stream)?;
             let capabilities = capabilities_of(capabilities)?;
-            let reading = Reading::Reply(
+            let (kind, first_id, limit) = (kind_of(kind)?, number(first_id)?, number(limit)?);
+            let reading = Reading::Reply(kind, capabilities, first_id, limit);
+            check(alloc, &reading, &stream, lines)?;
+            check_again(alloc, (kind, capabilities, first_id, limit), &stream)
+        }
+        [
+            [Token::Word("write")],
+            read_kind,
+            kind,
+            capabilities,
+            first_id,
+            limit,
+            stream,
+            wanted,
+        ] => {
+            let stream = bytes_of(alloc, stream)?;
+            let capabilities = capabilities_of(capabilities)?;
+            let sides = (
                 kind_of(kind)?,
                 capabilities,
                 number(first_id)?,
                 number(limit)?,
             );
-            check(alloc, &reading, &stream, lines)
+            check_written(alloc, kind_of(read_kind)?, sides, &stream, wanted)
         }
         [
             [Token::Word("send")],

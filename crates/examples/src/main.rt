@@ -1,5 +1,5 @@
 //! Short programs over the public calls, one in each file: they audit a captured stream, send a query, load rows in bulk, read a
-//! reply, log in, sort what a client sends, and look on at what passes between a client and a server.
+//! reply, log in, sort what a client sends, look on at what passes between a client and a server, and answer in a server's place.
 #![tactic(auto)]
 
 mod answering;
@@ -9,6 +9,7 @@ mod loading;
 mod proxying;
 mod reading;
 mod sending;
+mod serving;
 mod sorting;
 
 use std::fs::File;
@@ -27,5 +28,6 @@ fn main(rt: HostRuntime) -> anyhow::Result<()> {
     sorting::sort(alloc, &mut out)?;
     let (mut client, mut server) = (proxying::CLIENT, proxying::SERVER);
     proxying::proxy(alloc, &mut client, &mut server, &mut out)?;
+    serving::serve(alloc, &mut out)?;
     Ok(())
 }

@@ -3,7 +3,9 @@
 ghost use Rattle.std.specs.Prelude.{◌<◌};
 
 use crate::LIMIT;
-use mysql_session::{CapabilityFlags, Reply, ReplyEnd, ReplyKind, ReplyReader, ReplyResult, Row};
+use mysql_session::{
+    CapabilityFlags, Reply, ReplyEnd, ReplyKind, ReplyReader, ReplyResult, Row, write_reply,
+};
 use std::alloc::Global;
 
 /// The protocol of 4.1, with EOF packets.
@@ -110,4 +112,40 @@ pub extern "C" fn mysql_bench_read_reply_taken(
         ReplyEnd::Fault(_, _) => 0,
         _ => count,
     }
+}
+
+/// Reads a reply with its rows in binary, and writes its results so many times, with the rows in binary or as text, into a buffer that is
+/// emptied before each. Answers the bytes of one time.
+#[unsafe(no_mangle)]
+pub extern "C" fn mysql_bench_write_reply(
+    alloc: Global,
+    stream: &[u8],
+    binary: bool,
+    times: usize,
+) -> usize {
+    let reply = reply_of(alloc, stream, 65536, true);
+    let kind = if binary {
+        ReplyKind::Binary
+    } else {
+        ReplyKind::Text
+    };
+    let mut out = Vec::new(alloc);
+    for _ in 0..times {
+        out.clear();
+        if write_reply(
+            alloc,
+            kind,
+            CAPABILITIES,
+            1,
+            LIMIT,
+            &reply.results,
+            &[],
+            &mut out,
+        )
+        .is_err()
+        {
+            return 0;
+        }
+    }
+    out.len()
 }

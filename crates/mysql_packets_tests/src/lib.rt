@@ -13,6 +13,8 @@ mod errors;
 #[cfg(test)]
 mod given;
 #[cfg(test)]
+mod lent_rows;
+#[cfg(test)]
 mod memory;
 #[cfg(test)]
 mod ok_packets;
@@ -24,3 +26,5 @@ mod session_states;
 mod statements;
 #[cfg(test)]
 mod support;
+#[cfg(test)]
+mod written_rows;

@@ -27,7 +27,7 @@ use std::borrow::CowSlice;
 use tests_support::{Assert, assert_bytes, once_more, whole};
 
 /// Bytes that have to stay before what is appended.
-fn front(assert: &impl Assert, alloc: Global) -> Vec<u8> {
+pub fn front(assert: &impl Assert, alloc: Global) -> Vec<u8> {
     once_more(
         assert,
         Vec::from_slice(alloc, b"front"),
@@ -36,7 +36,7 @@ fn front(assert: &impl Assert, alloc: Global) -> Vec<u8> {
 }
 
 /// Asserts that these bytes stand behind `front`.
-fn assert_behind(assert: &impl Assert, out: &[u8], bytes: &[u8]) {
+pub fn assert_behind(assert: &impl Assert, out: &[u8], bytes: &[u8]) {
     assert.holds(out.strip_prefix(b"front") == Some(bytes));
 }
 

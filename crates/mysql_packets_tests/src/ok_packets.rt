@@ -1,14 +1,16 @@
 //! OK and EOF packets.
 
+use crate::memory::{assert_behind, front};
 use crate::session_states::{Told, assert_decoded};
 use crate::support::Asserting;
 use mysql_const::{CapabilityFlags, StatusFlags};
 use mysql_ok_packets::{
     CommonOkPacket, NetworkStreamTerminator, OkPacket, OkPacketDeserializer, OkPacketKind,
-    OldEofPacket, ResultSetTerminator,
+    OldEofPacket, ResultSetTerminator, has_named_status,
 };
 use mysql_raw::WireError;
 use std::alloc::Global;
+use std::borrow::CowSlice;
 use tests_support::{
     Assert, assert_bytes, assert_copied, assert_equal, assert_refused, once_more, whole,
 };
@@ -38,6 +40,29 @@ fn assert_says(assert: &impl Assert, packet: &OkPacket, says: &Says) {
     assert.holds(packet.session_state_info_ref() == says.5);
 }
 
+/// Asserts that a packet is written as one of the kind `T` behind `front`, which stands alone where memory is refused; it is then
+/// written once more.
+fn assert_written_as<T: OkPacketKind>(
+    assert: &impl Assert,
+    alloc: Global,
+    capabilities: CapabilityFlags,
+    status: StatusFlags,
+    packet: &OkPacket,
+    bytes: &[u8],
+) {
+    let mut out = front(assert, alloc);
+    if packet
+        .serialize_as::<T>(capabilities, status, &mut out)
+        .is_err()
+    {
+        assert_bytes(assert, out.as_slice(), b"front");
+        let second = packet.serialize_as::<T>(capabilities, status, &mut out);
+        assert.holds(second.is_ok());
+    }
+    assert_behind(assert, out.as_slice(), bytes);
+}
+
+/// Asserts what bytes are read as, and that they are written again.
 fn assert_kind<T: OkPacketKind>(
     assert: &impl Assert,
     alloc: Global,
@@ -51,7 +76,9 @@ fn assert_kind<T: OkPacketKind>(
         capabilities,
         bytes,
     );
-    assert_says(assert, &read.into_inner(), says);
+    let packet = read.into_inner();
+    assert_says(assert, &packet, says);
+    assert_written_as::<T>(assert, alloc, capabilities, says.2, &packet, bytes);
 }
 
 const DONE: &[u8] = b"\x00\x01\x00\x02\x00\x00\x00";
@@ -105,6 +132,93 @@ fn eof_packets(rt: HostRuntime) {
     let bytes = b"\xfe\x00\x00\x02\x00";
     assert_kind::<OldEofPacket>(&assert, rt.alloc(), NONE, bytes, &says);
     assert_kind::<NetworkStreamTerminator>(&assert, rt.alloc(), NONE, bytes, &says);
+}
+
+fn borrowed(bytes: Option<&'static [u8]>) -> Option<CowSlice<'static, u8>> {
+    match bytes {
+        Some(bytes) => Some(CowSlice::Borrowed(bytes)),
+        None => None,
+    }
+}
+
+/// The packet of these rows, id, status, warnings, info and session state.
+fn made(fields: &Says) -> OkPacket<'static> {
+    OkPacket::new(
+        fields.0,
+        fields.1,
+        fields.2,
+        fields.3,
+        borrowed(fields.4),
+        borrowed(fields.5),
+    )
+}
+
+/// A packet's fields, the client's capabilities, the status in place of its own, and how it is written.
+const MADE: [(Says, CapabilityFlags, StatusFlags, &[u8]); 6] = [
+    (
+        (0, None, AUTOCOMMIT, 0, None, None),
+        NONE,
+        AUTOCOMMIT,
+        b"\x00\x00\x00\x02\x00\x00\x00",
+    ),
+    (
+        (0, Some(0), AUTOCOMMIT, 0, Some(b""), Some(b"")),
+        TRACKED,
+        AUTOCOMMIT,
+        b"\x00\x00\x00\x02\x00\x00\x00",
+    ),
+    // Another result follows.
+    (
+        (1, Some(300), AUTOCOMMIT, 1, Some(b"ok"), None),
+        NONE,
+        StatusFlags(0xa),
+        b"\x00\x01\xfc\x2c\x01\x0a\x00\x01\x00\x02ok",
+    ),
+    (
+        (0, None, StatusFlags(0x4002), 0, None, Some(STATE)),
+        TRACKED,
+        StatusFlags(0x4002),
+        CHANGED,
+    ),
+    // The same for a client to which states aren't sent, and where the status says that none changed.
+    (
+        (0, None, StatusFlags(0x4002), 0, None, Some(STATE)),
+        NONE,
+        StatusFlags(0x4002),
+        b"\x00\x00\x00\x02\x40\x00\x00",
+    ),
+    (
+        (0, None, StatusFlags(0x4002), 0, None, Some(STATE)),
+        TRACKED,
+        AUTOCOMMIT,
+        b"\x00\x00\x00\x02\x00\x00\x00",
+    ),
+];
+
+/// Asserts how the packet of these fields is written.
+fn assert_made(
+    assert: &impl Assert,
+    alloc: Global,
+    row: &(Says, CapabilityFlags, StatusFlags, &'static [u8]),
+) {
+    let packet = made(&row.0);
+    assert_written_as::<CommonOkPacket>(assert, alloc, row.1, row.2, &packet, row.3);
+}
+
+#[test]
+fn made_and_written(rt: HostRuntime) {
+    for row in &MADE {
+        assert_made(&Asserting(&rt), rt.alloc(), row);
+    }
+}
+
+#[test]
+fn what_a_made_packet_says(rt: HostRuntime) {
+    let assert = Asserting(&rt);
+    assert_says(&assert, &made(&MADE[1].0), &MADE[0].0);
+    assert.holds(has_named_status(AUTOCOMMIT));
+    assert.holds(!has_named_status(StatusFlags(4)));
+    assert.holds(!has_named_status(StatusFlags(0x8000)));
 }
 
 /// Each prefix is cut off, but those without session states that end behind the warnings or the info.

@@ -1,0 +1,110 @@
+//! Replies written again.
+
+use crate::contents::put_bytes;
+use crate::fields::bytes_of;
+use crate::results::reply_words;
+use crate::tokens::{Token, words_of};
+use crate::trouble::Trouble;
+use mysql_session::{
+    CapabilityFlags, Reply, ReplyEnd, ReplyFault, ReplyKind, ReplyRefusal, read_reply, write_reply,
+};
+use std::alloc::Global;
+
+/// What a reply is read and written by: the command's kind, the capabilities, the number of the first packet, and the limit of a
+/// packet.
+pub type Sides = (ReplyKind, CapabilityFlags, u8, usize);
+
+/// What stands before a reply that is written.
+const FRONT: &[u8] = b"front";
+
+/// The reply of these bytes.
+pub fn reply_of(
+    alloc: Global,
+    (kind, capabilities, first_id, limit): Sides,
+    stream: &[u8],
+) -> Result<Reply, Trouble> {
+    let reply = read_reply(alloc, kind, capabilities, first_id, limit, &[stream]);
+    if matches!(reply.end, ReplyEnd::Fault(_, ReplyFault::Memory)) {
+        return Err(Trouble::Memory);
+    }
+    Ok(reply)
+}
+
+/// The bytes that a reply is written as, or why it is not.
+pub fn written(
+    alloc: Global,
+    (kind, capabilities, first_id, limit): Sides,
+    reply: &Reply,
+) -> Result<Result<Vec<u8>, ReplyRefusal>, Trouble> {
+    let mut out = Vec::from_slice(alloc, FRONT)?;
+    let answer = write_reply(
+        alloc,
+        kind,
+        capabilities,
+        first_id,
+        limit,
+        &reply.results,
+        &reply.progress,
+        &mut out,
+    );
+    match answer {
+        Ok(()) => Ok(Ok(Vec::from_slice(alloc, out.get(FRONT.len()..).unwrap_or(&[]))?)),
+        Err(ReplyRefusal::Memory) => Err(Trouble::Memory),
+        Err(_) if out.as_slice() != FRONT => Err(Trouble::Malformed("a refusal appended bytes")),
+        Err(refusal) => Ok(Err(refusal)),
+    }
+}
+
+/// Writes what a reply says that was read with packets of up to 32 MB, perhaps of another kind, and compares the bytes, or the
+/// refusal, at which nothing is appended.
+pub fn check_written(
+    alloc: Global,
+    read_kind: ReplyKind,
+    sides: Sides,
+    stream: &[u8],
+    wanted: &[Token<'_>],
+) -> Result<(), Trouble> {
+    let (_, capabilities, first_id, _) = sides;
+    let reply = reply_of(alloc, (read_kind, capabilities, first_id, 1 << 25), stream)?;
+    let mut found = String::new(alloc);
+    match written(alloc, sides, &reply)? {
+        Ok(bytes) => {
+            if let [Token::Word("refused:"), ..] = wanted {
+                return Err(Trouble::Malformed("it is not refused"));
+            }
+            if bytes == bytes_of(alloc, wanted)? {
+                return Ok(());
+            }
+            put_bytes(&mut found, &bytes)?;
+        }
+        Err(refusal) => {
+            write!(found, " refused: {refusal:?} |")?;
+            if found == words_of(alloc, &[wanted])? {
+                return Ok(());
+            }
+        }
+    }
+    Err(Trouble::Differs(found))
+}
+
+/// Writes a whole reply again: it reads as the same, and written once more it is the same bytes.
+pub fn check_again(alloc: Global, sides: Sides, stream: &[u8]) -> Result<(), Trouble> {
+    let reply = reply_of(alloc, sides, stream)?;
+    if !matches!(reply.end, ReplyEnd::Whole) {
+        return Ok(());
+    }
+    let Ok(bytes) = written(alloc, sides, &reply)? else {
+        return Err(Trouble::Malformed("a reply that was read is not written"));
+    };
+    let again = reply_of(alloc, sides, &bytes)?;
+    let (wanted, found) = (reply_words(alloc, &reply)?, reply_words(alloc, &again)?);
+    if found.as_str() != wanted.as_str() {
+        return Err(Trouble::Differs(format!(in alloc;
+            "written again: wanted{wanted}, found{found}"
+        )?));
+    }
+    match written(alloc, sides, &again)? {
+        Ok(once_more) if once_more == bytes => Ok(()),
+        _ => Err(Trouble::Malformed("a reply that was written is written in another way")),
+    }
+}
