@@ -15,6 +15,6 @@ pub use kind::{
 };
 pub use mysql_session_states::{
     Gtids, Schema, SessionStateChange, SessionStateInfo, SessionStateType, SystemVariable,
-    TransactionCharacteristics, TransactionState, Unsupported,
+    TransactionCharacteristics, TransactionState, Unsupported, put_states,
 };
 pub use ok_packet::{OkPacket, has_more_results, has_named_status};

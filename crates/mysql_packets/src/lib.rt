@@ -41,7 +41,7 @@ pub use mysql_rows::{
 };
 pub use mysql_session_states::{
     Gtids, Schema, SessionStateChange, SessionStateInfo, SystemVariable,
-    TransactionCharacteristics, TransactionState, Unsupported,
+    TransactionCharacteristics, TransactionState, Unsupported, put_states,
 };
 pub use mysql_stmt::{
     ComStmtClose, ComStmtCloseHeader, ComStmtExecuteHeader, ComStmtExecuteRequest,

@@ -17,8 +17,8 @@ use mysql_packets::{
     RowRefusal, Schema, ServerError, SessionStateChange, SessionStateInfo, SqlState,
     SqlStateMarker, StmtBulkExecuteParamType, StmtBulkExecuteParamValue,
     StmtBulkExecuteParamValues, StmtPacket, SystemVariable, TransactionCharacteristics,
-    TransactionState, Unsupported, has_named_status, new_row, new_row_raw, read_bulk_row,
-    write_binary_row, write_text_row,
+    TransactionState, Unsupported, has_named_status, new_row, new_row_raw, put_states,
+    read_bulk_row, write_binary_row, write_text_row,
 };
 
 // The layers below.

@@ -5,12 +5,13 @@ use mysql_const::SessionStateType;
 use mysql_raw::WireError;
 use mysql_session_states::{
     Gtids, Schema, SessionStateChange, SessionStateInfo, SystemVariable,
-    TransactionCharacteristics, TransactionState, Unsupported,
+    TransactionCharacteristics, TransactionState, Unsupported, put_states, states_of,
 };
 use std::alloc::Global;
 use std::borrow::CowSlice;
 use tests_support::{
-    Assert, assert_bytes, assert_copied, assert_cut_off, assert_equal, assert_reads_back, whole,
+    Assert, assert_bytes, assert_copied, assert_cut_off, assert_equal, assert_reads_back,
+    once_more, whole,
 };
 
 /// What a state is decoded to.
@@ -138,6 +139,55 @@ fn read_back(rt: HostRuntime) {
         assert_reads_back::<SessionStateInfo, ()>(&assert, rt.alloc(), (), *bytes);
         assert_cut_off::<SessionStateInfo, ()>(&assert, rt.alloc(), (), *bytes, 0, bytes.len());
     }
+}
+
+/// The state that tells a change is the one that the change was read of.
+#[test]
+fn made_of_changes(rt: HostRuntime) {
+    let assert = Asserting(&rt);
+    let alloc = rt.alloc();
+    for (bytes, _, told) in &STATES {
+        if matches!(told, Told::Refused(_)) {
+            continue;
+        }
+        let state = whole::<SessionStateInfo, ()>(&assert, alloc, (), *bytes);
+        let change = once_more(&assert, state.decode(alloc), state.decode(alloc));
+        let made = once_more(
+            &assert,
+            SessionStateInfo::of_change(alloc, &change),
+            SessionStateInfo::of_change(alloc, &change),
+        );
+        assert_equal(&assert, made, Some(state));
+    }
+    let none = SessionStateChange::Unsupported(Unsupported::new(CowSlice::Borrowed(b"abc")));
+    let first = SessionStateInfo::of_change(alloc, &none);
+    let made = once_more(&assert, first, SessionStateInfo::of_change(alloc, &none));
+    assert_equal(&assert, made, None);
+}
+
+/// A schema and a tracked change, one after another.
+#[test]
+fn one_after_another(rt: HostRuntime) {
+    let assert = Asserting(&rt);
+    let alloc = rt.alloc();
+    let states = [
+        SessionStateInfo::new(
+            SessionStateType::SESSION_TRACK_SCHEMA,
+            CowSlice::Borrowed(b"\x04test"),
+        ),
+        SessionStateInfo::new(
+            SessionStateType::SESSION_TRACK_STATE_CHANGE,
+            CowSlice::Borrowed(b"\x011"),
+        ),
+    ];
+    let mut bytes = Vec::new(alloc);
+    if put_states(&states, &mut bytes).is_err() {
+        assert_bytes(&assert, &bytes, b"");
+        assert.holds(put_states(&states, &mut bytes).is_ok());
+    }
+    assert_bytes(&assert, &bytes, b"\x01\x05\x04test\x02\x02\x011");
+    let read = once_more(&assert, states_of(alloc, &bytes), states_of(alloc, &bytes));
+    assert.holds(read.as_slice() == states.as_slice());
 }
 
 /// A change of another kind is text with its length before it.

@@ -3,8 +3,8 @@ use Rattle.std.proofs.Common.{refl}
 use Rattle.mysql_raw_bytes.specs.TextLaws.{lenenc_text_at-back}
 use Rattle.mysql_session_states.specs.Reading.{EatsBytes}
 use Rattle.mysql_session_states.specs.SessionStates.{state_at, variable_at}
-use Rattle.mysql_session_states.specs.StateLaws.{change_at-back, state_at-back, state_at-eats, variable_at-back, variable_at-eats}
-use Rattle.mysql_session_states.specs.Statements.{ChangesReadBack, GtidsReadBack, StatesReadBack, TextsReadBack, VariablesReadBack}
+use Rattle.mysql_session_states.specs.StateLaws.{change_at-back, state_at-back, state_at-eats, states_at-back, variable_at-back, variable_at-eats}
+use Rattle.mysql_session_states.specs.Statements.{ChangesReadBack, GtidsReadBack, ListsOfStatesReadBack, StatesReadBack, TextsReadBack, VariablesReadBack}
 
 pub texts_read_back : TextsReadBack
 texts_read_back = lenenc_text_at-back
@@ -20,6 +20,9 @@ changes_read_back = change_at-back
 
 pub states_read_back : StatesReadBack
 states_read_back = state_at-back
+
+pub lists_of_states_read_back : ListsOfStatesReadBack
+lists_of_states_read_back = states_at-back
 
 -- each variable and each state takes a byte at least
 pub variables_eat : EatsBytes variable_at

@@ -100,6 +100,10 @@ pub record State : Type 0 where
   pub data_type : SessionStateType
   pub content : List ℕ
 
+-- The state of this type that tells a change.
+abbrev pub state_of : Change → SessionStateType → State
+state_of c type = record { data_type = type; content = change c }
+
 unfoldable pub state : State → List ℕ
 state s = little_bytes 1 (session_state_number s.data_type) ++ lenenc_str s.content
 

@@ -17,7 +17,7 @@ use Rattle.mysql_raw_consts.specs.ConstantLaws.{named_at-back, named_at-sized}
 use Rattle.mysql_raw_consts.specs.Constants.{named_at}
 use Rattle.mysql_session_states.specs.Reading.{EatsBytes, at_most_at}
 use Rattle.mysql_session_states.specs.ReadingLaws.{before_others, text-shorter}
-use Rattle.mysql_session_states.specs.SessionStates.{Change, IsTracked, Schema, SystemVariables, Gtids, TransactionCharacteristics, TransactionState, Unsupported, IsReadBy, IsState, IsVariable, State, Variable, change, change_at, state, state_at, tracking, variable, variable_at}
+use Rattle.mysql_session_states.specs.SessionStates.{Change, IsTracked, Schema, SystemVariables, Gtids, TransactionCharacteristics, TransactionState, Unsupported, IsReadBy, IsState, IsVariable, State, Variable, change, change_at, state, state_at, states_at, tracking, variable, variable_at}
 
 pub variable_at-eats : EatsBytes variable_at
 unfolding variable_at
@@ -43,20 +43,24 @@ unfolding at_most_at
 one_more read_at room [] h = absurd (omega arith)
 one_more read_at room (b ∷ bs) h = refl
 
--- variables that were written are read again
-variables-back : (all : List Variable) (room : ℕ) → length (flat_map variable all) ≤ room → AllByRecursion IsVariable all → at_most_at variable_at room (flat_map variable all) ≡ Ok (all, [])
+-- elements that were written one after another are read again
+pub elements-back : {Y : Type 0} (write : Y → List ℕ) (Is : Y → Type 0) (read_at : List ℕ → Reading Y) → EatsBytes read_at → ((y : Y) (rest : List ℕ) → Is y → read_at (write y ++ rest) ≡ Ok (y, rest)) →
+    (all : List Y) (room : ℕ) → length (flat_map write all) ≤ room → AllByRecursion Is all → at_most_at read_at room (flat_map write all) ≡ Ok (all, [])
 unfolding at_most_at
-variables-back [] zero fits h = refl
-variables-back [] (suc room) fits h = refl
-variables-back (v ∷ vs) zero fits h =
-    let rest = flat_map variable vs in
-    let long = variable_at-eats (variable v ++ rest) (v, rest) (variable_at-back v rest h.0) in
+elements-back write Is read_at eats back [] zero fits h = refl
+elements-back write Is read_at eats back [] (suc room) fits h = refl
+elements-back write Is read_at eats back (y ∷ ys) zero fits h =
+    let rest = flat_map write ys in
+    let long = eats (write y ++ rest) (y, rest) (back y rest h.0) in
     absurd (omega arith)
-variables-back (v ∷ vs) (suc room) fits h =
-    let rest = flat_map variable vs in
-    let long = variable_at-eats (variable v ++ rest) (v, rest) (variable_at-back v rest h.0) in
-    one_more variable_at room (variable v ++ rest) (omega arith)
-    ∙ rw (variable_at-back v rest h.0, variables-back vs room (omega arith) h.1) refl
+elements-back write Is read_at eats back (y ∷ ys) (suc room) fits h =
+    let rest = flat_map write ys in
+    let long = eats (write y ++ rest) (y, rest) (back y rest h.0) in
+    one_more read_at room (write y ++ rest) (omega arith)
+    ∙ rw (back y rest h.0, elements-back write Is read_at eats back ys room (omega arith) h.1) refl
+
+variables-back : (all : List Variable) (room : ℕ) → length (flat_map variable all) ≤ room → AllByRecursion IsVariable all → at_most_at variable_at room (flat_map variable all) ≡ Ok (all, [])
+variables-back = elements-back variable IsVariable variable_at variable_at-eats variable_at-back
 
 same_type : (a b : SessionStateType) → Some a ≡ Some b → b ≡ a
 same_type a b e = cc
@@ -117,3 +121,6 @@ unfolding state state_at
 state_at-back s rest h =
     ap state_at (append_assoc (little_bytes 1 (session_state_number s.data_type)) (lenenc_str s.content) rest)
     ∙ rw (session_state-back s.data_type (lenenc_str s.content ++ rest), lenenc_text_at-back s.content rest h.content) refl
+
+pub states_at-back : (all : List State) → AllByRecursion IsState all → states_at (flat_map state all) ≡ Ok (all, [])
+states_at-back all h = elements-back state IsState state_at state_at-eats state_at-back all (length (flat_map state all)) (omega arith) h

@@ -1,9 +1,10 @@
 -- The laws of session states: what was written is read again.
 use Rattle.std.specs.Prelude.{◌≡◌, ◌<◌, ◌^◌, ℕ, List, [], ◌++◌, length, Ok}
+use Rattle.std.specs.List.{AllByRecursion, flat_map}
 use Rattle.mysql_buf.specs.Writing.{lenenc_str}
 use Rattle.mysql_const.specs.declared.session_state.SessionStateType.{SessionStateType}
 use Rattle.mysql_raw_bytes.specs.Texts.{lenenc_text_at}
-use Rattle.mysql_session_states.specs.SessionStates.{Change, IsReadBy, IsState, IsVariable, State, Variable, change, change_at, rest_at, state, state_at, variable, variable_at}
+use Rattle.mysql_session_states.specs.SessionStates.{Change, IsReadBy, IsState, IsVariable, State, Variable, change, change_at, rest_at, state, state_at, states_at, variable, variable_at}
 
 -- a member after its length, whatever follows
 abbrev pub TextsReadBack : Type 0
@@ -24,3 +25,7 @@ ChangesReadBack = (type : SessionStateType) (c : Change) (rest : List ℕ) → I
 -- whatever follows
 abbrev pub StatesReadBack : Type 0
 StatesReadBack = (s : State) (rest : List ℕ) → IsState s → state_at (state s ++ rest) ≡ Ok (s, rest)
+
+-- states one after another, with nothing following
+abbrev pub ListsOfStatesReadBack : Type 0
+ListsOfStatesReadBack = (all : List State) → AllByRecursion IsState all → states_at (flat_map state all) ≡ Ok (all, [])

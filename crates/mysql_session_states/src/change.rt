@@ -4,13 +4,13 @@ ghost use Rattle.std.specs.Prelude.{◌≡◌, IfOk, None, map};
 ghost use Rattle.std.specs.List.{flat_map};
 ghost use Rattle.mysql_raw.specs.Laws.{unsized};
 ghost use Rattle.mysql_raw.specs.Wire.{Appends};
-ghost use Rattle.mysql_session_states.specs.SessionStates.{Change, IsReadBy, change, change_at, variable};
+ghost use Rattle.mysql_session_states.specs.SessionStates.{Change, IsReadBy, change, change_at, type_of, variable};
 ghost use Rattle.mysql_session_states.specs.StateLaws.{change_at-back};
 ghost use Rattle.mysql_session_states.specs.Views.{change_view, variable_view};
 
 use crate::fields::{CountedText, text_from};
 use crate::members::{Gtids, Schema, TransactionCharacteristics, TransactionState, Unsupported};
-use crate::to_end::parse_to_end;
+use crate::to_end::{parse_to_end, put_all};
 use crate::variable::SystemVariable;
 use mysql_buf::ParseBuf;
 use mysql_const::SessionStateType;
@@ -69,6 +69,27 @@ fn copied_variables<'b>(
 }
 
 impl<'a> SessionStateChange<'a> {
+    /// The type that a state which tells this change has; an unsupported change has none.
+    pub fn data_type(&self) -> Option<SessionStateType>
+        ensures { result ≡ type_of (change_view self.now) }
+    {
+        match self {
+            SessionStateChange::IsTracked(_) => Some(SessionStateType::SESSION_TRACK_STATE_CHANGE),
+            SessionStateChange::Schema(_) => Some(SessionStateType::SESSION_TRACK_SCHEMA),
+            SessionStateChange::SystemVariables(_) => {
+                Some(SessionStateType::SESSION_TRACK_SYSTEM_VARIABLES)
+            }
+            SessionStateChange::Gtids(_) => Some(SessionStateType::SESSION_TRACK_GTIDS),
+            SessionStateChange::TransactionCharacteristics(_) => {
+                Some(SessionStateType::SESSION_TRACK_TRANSACTION_CHARACTERISTICS)
+            }
+            SessionStateChange::TransactionState(_) => {
+                Some(SessionStateType::SESSION_TRACK_TRANSACTION_STATE)
+            }
+            SessionStateChange::Unsupported(_) => None,
+        }
+    }
+
     /// The same change, which borrows nothing. Refused for want of memory.
     pub fn into_owned(self, alloc: Global) -> Result<SessionStateChange<'static>, AllocError>
         ensures { IfOk result (λ same. change_view same ≡ change_view self.entry) }
@@ -118,14 +139,7 @@ impl<'a> SessionStateChange<'a> {
 fn put_variables(all: &[SystemVariable], buf: &mut Vec<u8>) -> Result<(), AllocError>
     ensures { Appends result buf.old.items buf.new.items (flat_map variable (map variable_view all.now)) }
 {
-    let len = buf.len();
-    for one in all {
-        if let Err(e) = one.serialize(buf) {
-            buf.truncate(len);
-            return Err(e);
-        }
-    }
-    Ok(())
+    put_all(all, buf)
 }
 
 /// Whether changes are tracked, as the text `1` or `0` after its length; variables one after another; each other member as its

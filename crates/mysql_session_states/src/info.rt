@@ -1,16 +1,18 @@
 //! The states of a session, as they stand in an OK packet.
 
-ghost use Rattle.std.specs.Prelude.{◌≡◌, IfOk, None, [], false, map};
+ghost use Rattle.std.specs.Prelude.{◌≡◌, IfOk, None, [], false, map, option_map};
+ghost use Rattle.std.specs.Cow.{cow_slice_items};
+ghost use Rattle.std.specs.List.{flat_map};
 ghost use Rattle.mysql_raw.specs.Laws.{unsized};
-ghost use Rattle.mysql_raw.specs.Wire.{GivesPart};
+ghost use Rattle.mysql_raw.specs.Wire.{Appends, GivesPart};
 ghost use Rattle.mysql_session_states.specs.Reading.{GivesValue, value_at};
-ghost use Rattle.mysql_session_states.specs.SessionStates.{IsState, State, change_at, state, state_at, states_at};
+ghost use Rattle.mysql_session_states.specs.SessionStates.{IsState, State, change_at, state, state_at, state_of, states_at, type_of};
 ghost use Rattle.mysql_session_states.specs.StateLaws.{state_at-back};
 ghost use Rattle.mysql_session_states.specs.Views.{change_view, state_view};
 
 use crate::change::SessionStateChange;
 use crate::fields::{CountedText, copy_of, owned, text_from};
-use crate::to_end::parse_to_end;
+use crate::to_end::{parse_to_end, put_all};
 use mysql_buf::ParseBuf;
 use mysql_const::SessionStateType;
 use mysql_raw::{MyDeserialize, MySerialize, ParseExt, Readable, ReadsBack, WireError};
@@ -28,6 +30,32 @@ pub struct SessionStateInfo<'a> {
 }
 
 impl<'a> SessionStateInfo<'a> {
+    /// A state of this type, which these bytes tell.
+    pub fn new(data_type: SessionStateType, bytes: CowSlice<'a, u8>) -> SessionStateInfo<'a>
+        ensures { state_view result ≡ record { data_type = data_type; content = cow_slice_items bytes.entry } }
+    {
+        SessionStateInfo {
+            data_type,
+            data: bytes,
+        }
+    }
+
+    /// The state that tells this change: of its type, with the bytes that it is written as. An unsupported change has no type,
+    /// and no state. Refused for want of memory.
+    pub fn of_change(
+        alloc: Global,
+        change: &SessionStateChange<'_>,
+    ) -> Result<Option<SessionStateInfo<'static>>, AllocError>
+        ensures { IfOk result (λ made. option_map state_view made ≡ option_map (state_of (change_view change.now)) (type_of (change_view change.now))) }
+    {
+        let Some(data_type) = change.data_type() else {
+            return Ok(None);
+        };
+        let mut data = Vec::new(alloc);
+        change.serialize(&mut data)?;
+        Ok(Some(SessionStateInfo::new(data_type, CowSlice::Owned(data))))
+    }
+
     /// The type of the change.
     pub fn data_type(&self) -> SessionStateType
         ensures { result ≡ (state_view self.now).data_type }
@@ -144,4 +172,14 @@ pub fn states_of(alloc: Global, bytes: &[u8]) -> Result<Vec<SessionStateInfo<'_>
     ensures { GivesPart (λ all. map state_view all.items) [] result (states_at bytes.now) }
 {
     parse_to_end(alloc, ParseBuf(bytes))
+}
+
+/// Appends these states one after another, as an OK packet has them: what `OkPacket::new` takes. Where memory is refused nothing
+/// is appended.
+///
+/// MySQL: Client/Server Protocol, "OK_Packet", 'Session State Information'.
+pub fn put_states(states: &[SessionStateInfo<'_>], buf: &mut Vec<u8>) -> Result<(), AllocError>
+    ensures { Appends result buf.old.items buf.new.items (flat_map state (map state_view states.now)) }
+{
+    put_all(states, buf)
 }

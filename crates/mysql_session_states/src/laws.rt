@@ -1,6 +1,6 @@
 //! Laws of session states. Functions without a result do nothing: their contracts are the laws.
 
-ghost use Rattle.mysql_session_states.specs.Statements.{ChangesReadBack, GtidsReadBack, StatesReadBack, TextsReadBack, VariablesReadBack};
+ghost use Rattle.mysql_session_states.specs.Statements.{ChangesReadBack, GtidsReadBack, ListsOfStatesReadBack, StatesReadBack, TextsReadBack, VariablesReadBack};
 
 /// A member that is written after its length is read again, whatever follows it.
 #[tactic(auto, using(crate::proofs::Back::texts_read_back))]
@@ -30,4 +30,10 @@ pub fn changes_read_back()
 #[tactic(auto, using(crate::proofs::Back::states_read_back))]
 pub fn states_read_back()
     ensures { StatesReadBack }
+{}
+
+/// States that were written one after another are read again, where nothing follows them.
+#[tactic(auto, using(crate::proofs::Back::lists_of_states_read_back))]
+pub fn lists_of_states_read_back()
+    ensures { ListsOfStatesReadBack }
 {}

@@ -10,7 +10,7 @@ mod to_end;
 pub mod variable;
 
 pub use change::SessionStateChange;
-pub use info::{SessionStateInfo, states_of};
+pub use info::{SessionStateInfo, put_states, states_of};
 pub use members::{Gtids, Schema, TransactionCharacteristics, TransactionState, Unsupported};
 pub use mysql_const::{SessionStateType, UnknownSessionStateType};
 pub use variable::SystemVariable;
