@@ -19,5 +19,7 @@ pub mod ManualReadings
 pub mod ManualReports
 pub mod ManualFronts
 pub mod ManualOnly
+pub mod ManualStood
 pub mod ManualSome
 pub mod ManualBytes
+pub mod Standing

@@ -8,3 +8,5 @@ pub mod Steps
 pub mod Standings
 pub mod Taking
 pub mod Manual
+pub mod Beginnings
+pub mod BeginningLaws

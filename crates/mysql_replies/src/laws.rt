@@ -1,5 +1,6 @@
 //! Laws of the grammar of replies and of what a reader holds. Each function is its law alone.
 
+ghost use Rattle.mysql_replies.specs.Beginnings.{EachAnswerHasWhatStands};
 ghost use Rattle.mysql_replies.specs.Reply.{EachHasAnswer, AnswersAgree, EachStandingDecides, StandingsAgree, FreshStandingDecides, StandingGoesOn};
 ghost use Rattle.mysql_replies.specs.Bytes.{AnyBytesHaveAnswer, CuttingsAgree};
 ghost use Rattle.mysql_replies.specs.Holding.{EachReaderDecides, ReadersAgree, FreshReaderDecides};
@@ -64,3 +65,9 @@ pub fn whole_bytes_are_framed_results()
 {
     reader_laws();
 }
+
+/// The answer to any payloads has each result that stands whole in them, where each but the last says that another follows, and
+/// behind these the rows whose columns stand, as far as they came. Progress reports may stand among the payloads.
+pub fn answers_have_what_stands()
+    ensures { EachAnswerHasWhatStands }
+{}

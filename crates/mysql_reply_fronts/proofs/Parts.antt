@@ -9,7 +9,7 @@ use Rattle.mysql_rows.specs.Rows.{Row}
 use Rattle.mysql_replies.specs.declared.fault.ReplyFault.{ReplyFault}
 use Rattle.mysql_replies.specs.declared.context.Context.{Context}
 use Rattle.mysql_replies.specs.Grammar.{Payload, Outcome, RowsResult, ErrorResult, Part, Stands, Begun, Unexpected, ◌>>=◌, Stretch, Line, RowLine, TerminatorLine, ErrorLine, Opening, OkOpening, ErrorOpening, FileOpening, CountOpening, StatementOpening, deprecate_eof, is_report, unless_report, as_part, next_payload, column, eof, columns, columns_end, column_group, line, after_rows, rows, result_set, prepared, prepared_columns, opening, after_opening, one_result}
-use Rattle.mysql_reply_fronts.specs.Fronts.{IsFrontOf, none, open_rows}
+use Rattle.mysql_replies.specs.Beginnings.{IsFrontOf, none, open_rows}
 
 -- What is listed where the payloads end inside a part, and the same part of more payloads: where it stands, this is so of both, and
 -- where it goes on, more is listed.

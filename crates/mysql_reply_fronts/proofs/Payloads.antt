@@ -9,7 +9,9 @@ use Rattle.mysql_replies.specs.Grammar.{Payload, Outcome, Part, Stands, Begun, U
 use Rattle.mysql_replies.specs.Reply as reply
 use Rattle.mysql_replies.specs.Reply.{Answer, IsReply, Whole, Unfinished, AnswersAgree, before_end, end_of, report_of}
 use Rattle.mysql_replies.specs.Manual.{EachSuchListIsWhole}
-use Rattle.mysql_reply_fronts.specs.Fronts.{IsFrontOf, none, first, open_rows, IsFrontAnswer, EachFrontIsUnfinished, LongerFrontsGoOn}
+use Rattle.mysql_replies.specs.Beginnings.{IsFrontOf, none, first, open_rows, EachAnswerHasWhatStands}
+use Rattle.mysql_replies.specs.BeginningLaws.{front_behind}
+use Rattle.mysql_reply_fronts.specs.Fronts.{IsFrontAnswer, EachFrontIsUnfinished, LongerFrontsGoOn}
 use Rattle.mysql_reply_fronts.proofs.Parts.{GoesOn, Listed, GoesOn-one_result}
 
 -- Whether the payloads end before the last result does, or with it, or so shortly behind it that these payloads aren't all left.
@@ -22,10 +24,6 @@ front_of_more : (front results others : List Outcome) → IsFrontOf front result
 front_of_more front results others none = none
 front_of_more front results others (first is) = first (front_of_more _ _ others is)
 front_of_more front results others (open_rows rows later) = open_rows rows later
-
-front_behind : (before front results : List Outcome) → IsFrontOf front results → IsFrontOf (before ++ front) (before ++ results)
-front_behind [] front results is = is
-front_behind (result ∷ before) front results is = first (front_behind before front results is)
 
 -- A part is read as a front of these results, and is open at the end.
 record ReadsAsFront (c : Context) (p : Part Stretch) (listed : List Outcome) : Type 0 where
@@ -92,31 +90,33 @@ reports_append c (payload ∷ front) back =
     ap (λ l. report_of c payload ++ l) (reports_append c front back) ∙ sym (append_assoc (report_of c payload) (reply.reports c front) (reply.reports c back))
 
 -- The answer to a front, where all is read so.
-front_answer : AnswersAgree → (c : Context) (front back : List Payload) (listed : List Outcome) (reports : List ProgressReport) (ending : Ending) (rest : Rest) (answer : Answer) →
-    Results c (one_result c (front ++ back)) listed ending → EndsWithin back ending → reports ≡ reply.reports c (front ++ back) → ¬ IsFault rest → IsReply c front rest answer → IsFrontAnswer listed reports answer
-front_answer agree c front back listed reports ending rest answer results within taken no_fault read =
+front_answer : AnswersAgree → EachAnswerHasWhatStands → (c : Context) (front back : List Payload) (listed : List Outcome) (reports : List ProgressReport) (ending : Ending) (rest : Rest) (answer : Answer) →
+    Results c (one_result c (front ++ back)) listed ending → EndsWithin back ending → reports ≡ reply.reports c (front ++ back) → ¬ IsFault rest → IsReply c front rest answer → IsFrontAnswer c front listed reports answer
+front_answer agree has c front back listed reports ending rest answer results within taken no_fault read =
     let f = front_of c back (one_result c (front ++ back)) listed ending results within (one_result c front) (GoesOn-one_result c front back) in
     let mine : Answer = record { results = f.found; progress = reply.reports c front; end = Unfinished } in
-    let same : answer ≡ mine = agree c front rest answer mine read (record { ending = Open; results = f.reading; progress = refl; end = open_end (length front) rest no_fault }) in
-    subst (λ a. IsFrontAnswer listed reports a) (sym same) (record {
+    let own : IsReply c front rest mine = record { ending = Open; results = f.reading; progress = refl; end = open_end (length front) rest no_fault } in
+    let same : answer ≡ mine = agree c front rest answer mine read own in
+    subst (λ a. IsFrontAnswer c front listed reports a) (sym same) (record {
       end = refl;
       results = f.is;
+      stands = has c front rest mine own;
       later = reply.reports c back;
       progress = taken ∙ reports_append c front back;
     })
 
-pub fronts_are_unfinished : AnswersAgree → EachSuchListIsWhole → EachFrontIsUnfinished
-fronts_are_unfinished agree some c front back next listed reports rest answer is no_fault read =
+pub fronts_are_unfinished : AnswersAgree → EachAnswerHasWhatStands → EachSuchListIsWhole → EachFrontIsUnfinished
+fronts_are_unfinished agree has some c front back next listed reports rest answer is no_fault read =
     let payloads : List Payload = front ++ next ∷ back in
     let whole = some c payloads listed reports is in
     let end : whole.ending ≡ Ended [] = whole_ending (length payloads) whole.ending whole.end in
-    front_answer agree c front (next ∷ back) listed reports whole.ending rest answer whole.results (subst (λ e. EndsWithin (next ∷ back) e) (sym end) (omega arith))
+    front_answer agree has c front (next ∷ back) listed reports whole.ending rest answer whole.results (subst (λ e. EndsWithin (next ∷ back) e) (sym end) (omega arith))
     (whole.progress ∙ ap (λ e. reply.reports c (before_end payloads e)) end ∙ ap (reply.reports c) (take_all (length payloads - 0) payloads (omega arith))) no_fault read
 
-pub longer_fronts_go_on : AnswersAgree → EachSuchListIsWhole → LongerFrontsGoOn
-longer_fronts_go_on agree some c front between back next listed reports rest other answer longer is no_fault no_other read read_longer =
+pub longer_fronts_go_on : AnswersAgree → EachAnswerHasWhatStands → EachSuchListIsWhole → LongerFrontsGoOn
+longer_fronts_go_on agree has some c front between back next listed reports rest other answer longer is no_fault no_other read read_longer =
     let payloads : List Payload = front ++ between in
-    let unfinished = fronts_are_unfinished agree some c payloads back next listed reports other longer is no_other read_longer in
+    let unfinished = fronts_are_unfinished agree has some c payloads back next listed reports other longer is no_other read_longer in
     let end : read_longer.ending ≡ Open = unfinished_ending (length payloads) other read_longer.ending (sym unfinished.end ∙ read_longer.end) in
-    front_answer agree c front between longer.results longer.progress read_longer.ending rest answer read_longer.results (subst (λ e. EndsWithin between e) (sym end) tt)
+    front_answer agree has c front between longer.results longer.progress read_longer.ending rest answer read_longer.results (subst (λ e. EndsWithin between e) (sym end) tt)
     (read_longer.progress ∙ ap (λ e. reply.reports c (before_end payloads e)) end) no_fault read

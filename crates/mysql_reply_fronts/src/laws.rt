@@ -2,7 +2,9 @@
 
 ghost use Rattle.mysql_reply_fronts.specs.Fronts.{EachFramedFrontIsUnfinished, EachFramedReplyIsWhole, EachFrontIsUnfinished, LongerFramedFrontsGoOn, LongerFrontsGoOn};
 
-use mysql_replies::laws::{each_reply_has_one_answer, whole_replies_are_results};
+use mysql_replies::laws::{
+    answers_have_what_stands, each_reply_has_one_answer, whole_replies_are_results,
+};
 use mysql_wire::laws::{fronts_split, reader_laws};
 
 /// The first payloads of a whole reply, with nothing or only a part of the next one behind them, read without a fault: the
@@ -15,6 +17,7 @@ pub fn payload_fronts_are_unfinished()
     ensures longer { LongerFrontsGoOn }
 {
     each_reply_has_one_answer();
+    answers_have_what_stands();
     whole_replies_are_results();
 }
 
@@ -29,6 +32,7 @@ pub fn byte_fronts_are_unfinished()
     ensures whole { EachFramedReplyIsWhole }
 {
     each_reply_has_one_answer();
+    answers_have_what_stands();
     whole_replies_are_results();
     fronts_split();
     reader_laws();

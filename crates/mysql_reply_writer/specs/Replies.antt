@@ -30,6 +30,7 @@ pub record Replies (c : Context) (first_id limit : ℕ) (results : List Outcome)
   -- The stream, in whichever pieces it comes, has one answer: what the results and the reports are read as, and Whole.
   pub read_back : (pieces : List (List ℕ)) (answer : Answer) → concat pieces ≡ reply_stream c first_id results progress →
       IsReplyOf c first_id limit (concat pieces) answer ↔ (answer ≡ whole_answer c results progress)
-  -- Each front of it has an answer without a fault: unfinished, with a front of these results and of these reports.
+  -- Each front of it has an answer without a fault: unfinished, with a front of these results and of these reports; each result and
+  -- each row is there that stands in the payloads that the front splits into.
   pub fronts : (front back : List ℕ) (next : ℕ) (answer : Answer) → reply_stream c first_id results progress ≡ front ++ next ∷ back →
-      IsReplyOf c first_id limit front answer → IsFrontAnswer (results_read c results) (reports_read c progress) answer
+      (read : IsReplyOf c first_id limit front answer) → IsFrontAnswer c read.split.payloads (results_read c results) (reports_read c progress) answer

@@ -1,0 +1,5 @@
+use Rattle.mysql_replies.proofs.Standing.{what_stands}
+use Rattle.mysql_replies.proofs.laws.answers_have_what_stands.Goals as goal
+
+pub returns : goal.returns
+returns c = what_stands
