@@ -157,7 +157,7 @@ fn made_of_changes(rt: HostRuntime) {
             SessionStateInfo::of_change(alloc, &change),
             SessionStateInfo::of_change(alloc, &change),
         );
-        assert_equal(&assert, made, Some(state));
+        assert.holds(matches!(&made, Some(again) if *again == state));
     }
     let none = SessionStateChange::Unsupported(Unsupported::new(CowSlice::Borrowed(b"abc")));
     let first = SessionStateInfo::of_change(alloc, &none);
