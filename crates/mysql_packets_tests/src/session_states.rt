@@ -170,24 +170,23 @@ fn made_of_changes(rt: HostRuntime) {
 fn one_after_another(rt: HostRuntime) {
     let assert = Asserting(&rt);
     let alloc = rt.alloc();
-    let states = [
-        SessionStateInfo::new(
-            SessionStateType::SESSION_TRACK_SCHEMA,
-            CowSlice::Borrowed(b"\x04test"),
-        ),
-        SessionStateInfo::new(
-            SessionStateType::SESSION_TRACK_STATE_CHANGE,
-            CowSlice::Borrowed(b"\x011"),
-        ),
-    ];
+    let wanted = b"\x01\x05\x04test\x02\x02\x011";
+    let states = once_more(&assert, states_of(alloc, wanted), states_of(alloc, wanted));
     let mut bytes = Vec::new(alloc);
     if put_states(&states, &mut bytes).is_err() {
         assert_bytes(&assert, &bytes, b"");
         assert.holds(put_states(&states, &mut bytes).is_ok());
     }
-    assert_bytes(&assert, &bytes, b"\x01\x05\x04test\x02\x02\x011");
-    let read = once_more(&assert, states_of(alloc, &bytes), states_of(alloc, &bytes));
-    assert.holds(read.as_slice() == states.as_slice());
+    assert_bytes(&assert, &bytes, wanted);
+}
+
+#[test]
+fn of_a_type_and_bytes(rt: HostRuntime) {
+    let assert = Asserting(&rt);
+    let schema = SessionStateType::SESSION_TRACK_SCHEMA;
+    let state = SessionStateInfo::new(schema, CowSlice::Borrowed(b"\x04test"));
+    assert_equal(&assert, state.data_type(), schema);
+    assert_bytes(&assert, state.data_ref(), b"\x04test");
 }
 
 /// A change of another kind is text with its length before it.
