@@ -37,7 +37,7 @@ extern "C" {
 
 /* The number of this interface. mysql_session_abi() answers the library's: compare them before
  * any other call. It changes with each change of a declaration below. */
-#define MYSQL_SESSION_ABI 1
+#define MYSQL_SESSION_ABI 2
 
 uint32_t mysql_session_abi(void);
 
@@ -69,8 +69,12 @@ enum mysql_session_code {
     MYSQL_SESSION_MIXED = 6,
     /* There is no road of this number. */
     MYSQL_SESSION_NO_SUCH_ROAD = 7,
-    /* There is no kind of command of this number. */
+    /* There is no kind of this number: of a command, of a value, of a column. */
     MYSQL_SESSION_NO_SUCH_KIND = 8,
+    /* Bytes of a packet are cut off, or have no such layout. */
+    MYSQL_SESSION_BAD_PACKET = 9,
+    /* The stream isn't whole where it ends: a packet is cut off, or long data waits. */
+    MYSQL_SESSION_UNFINISHED = 10,
 
     /* Faults of a stream of commands: the first field, from the left, that has no allowed value. */
     MYSQL_SESSION_FAULT_TOO_LARGE = 100,
@@ -116,8 +120,26 @@ enum mysql_session_code {
     MYSQL_SESSION_REPLY_BAD_ROW = 307,
     MYSQL_SESSION_REPLY_BAD_TERMINATOR = 308,
     MYSQL_SESSION_REPLY_BAD_PREPARE = 309,
-    MYSQL_SESSION_REPLY_AFTER_END = 310
+    MYSQL_SESSION_REPLY_AFTER_END = 310,
+
+    /* Why a reply isn't written, in the order in which the causes are looked for. */
+    MYSQL_SESSION_WRITE_NO_RESULTS = 400,
+    MYSQL_SESSION_WRITE_AFTER_END = 401,        /* a result behind one that ends the reply */
+    MYSQL_SESSION_WRITE_NOT_ENDED = 402,        /* the rows before it aren't ended */
+    MYSQL_SESSION_WRITE_NOT_BEGUN = 403,        /* no columns began these rows */
+    MYSQL_SESSION_WRITE_WRONG_KIND = 404,       /* the command has no such results */
+    MYSQL_SESSION_WRITE_NO_COLUMNS = 405,
+    MYSQL_SESSION_WRITE_TOO_MANY_COLUMNS = 406, /* more than 65535 */
+    MYSQL_SESSION_WRITE_STATUS = 407,           /* the status has a bit without a name */
+    MYSQL_SESSION_WRITE_READS_AS_REPORT = 408,  /* an error that reads as a progress report */
+    MYSQL_SESSION_WRITE_CELL_COUNT = 409,       /* the row has another number of cells */
+    MYSQL_SESSION_WRITE_NO_FORM = 410,          /* a cell that its column's type has no form for */
+    MYSQL_SESSION_WRITE_PACKET_TOO_LARGE = 411
 };
+
+/* The text of a code in English, and its length without the NUL byte that stands behind it. It is
+ * good as long as the program runs. Of a number that is no code it is "no such code". */
+void mysql_session_code_text(uint32_t code, const uint8_t **text, size_t *len);
 
 /* ---- Receivers: a stream of commands about one query, read back ------------------------------ */
 
@@ -174,7 +196,8 @@ uint32_t mysql_session_receiver_sets(mysql_session_handle *handle, size_t *count
 uint32_t mysql_session_receiver_width(mysql_session_handle *handle, size_t set, size_t *width);
 
 /* The content at a place of a set, both from 0. Its bytes are good until the next call on the
- * handle other than mysql_session_receiver_sets, _width and _content. Answers OK, OUT_OF_RANGE, .. */
+ * handle other than mysql_session_receiver_sets, _width and _content.
+ * Answers OK, OUT_OF_RANGE, .. */
 uint32_t mysql_session_receiver_content(mysql_session_handle *handle, size_t set, size_t place,
                                         mysql_session_content *content);
 
@@ -185,9 +208,11 @@ uint32_t mysql_session_receiver_clear(mysql_session_handle *handle);
  * weren't let go, takes no piece, and tells its end again. */
 uint32_t mysql_session_receiver_end(mysql_session_handle *handle, mysql_session_end *end);
 
-/* ---- Parameter sets, put together value by value ---------------------------------------------- */
+/* ---- Parameter sets, put together value by value --------------------------------------------- */
 
-/* Makes the handle stand for no sets. What it stood for before is freed. Answers OK, MEMORY. */
+/* Makes the handle stand for no sets. What it stood for before is freed. Answers OK, MEMORY.
+ * Sets have values by their order: they are sent for a query whose placeholders are question marks,
+ * and one with names is refused by REFUSED_PARAMS. (Receivers and recoders take both.) */
 uint32_t mysql_session_sets_new(mysql_session_handle *handle);
 
 /* Each gives the next set one more value, for the next placeholder; bytes are copied, and no field
@@ -208,18 +233,53 @@ uint32_t mysql_session_sets_push_time(mysql_session_handle *handle, bool negativ
 /* Ends the next set: its values stand behind the sets before it. Also a set of no values. */
 uint32_t mysql_session_sets_end_set(mysql_session_handle *handle);
 
+/* A value of an array: its kind (of mysql_session_kind or mysql_session_value_kind, but no float),
+ * and the fields of that kind. Those of a BYTES value are `len` bytes from `start` on, in the bytes
+ * that are handed over beside the array. */
+typedef struct mysql_session_parameter {
+    uint32_t kind;
+    bool negative;
+    uint8_t month;
+    uint8_t day;
+    uint8_t hour;
+    uint8_t minute;
+    uint8_t second;
+    uint16_t year;
+    uint32_t days;
+    uint32_t micros;
+    int64_t int_value;
+    uint64_t uint_value;
+    size_t start;
+    size_t len;
+} mysql_session_parameter;
+
+/* Puts one more set behind the whole ones: `count` values, whose bytes lie in `bytes` of `len`.
+ * What was pushed for the next set stays. Answers OK, NO_SUCH_KIND or OUT_OF_RANGE (bytes that
+ * don't lie in `bytes`) of the first such value, MEMORY, EMPTY_HANDLE, OTHER_KIND; but for OK
+ * nothing has changed. */
+uint32_t mysql_session_sets_add(mysql_session_handle *handle,
+                                const mysql_session_parameter *values, size_t count,
+                                const uint8_t *bytes, size_t len);
+
+/* How many sets are whole. */
+uint32_t mysql_session_sets_count(mysql_session_handle *handle, size_t *count);
+
+/* Lets go of all sets, and of the values of the next one. */
+uint32_t mysql_session_sets_clear(mysql_session_handle *handle);
+
 /* ---- Bytes that the library wrote ------------------------------------------------------------ */
 
 /* Makes the handle stand for no bytes. What it stood for before is freed. Answers OK, MEMORY. */
 uint32_t mysql_session_bytes_new(mysql_session_handle *handle);
 
-/* The bytes, which belong to the handle and are good until the next call on it. */
+/* The bytes, which belong to the handle and are good until the next call on it other than
+ * mysql_session_bytes_data. */
 uint32_t mysql_session_bytes_data(mysql_session_handle *handle, const uint8_t **data, size_t *len);
 
 /* Empties the bytes. */
 uint32_t mysql_session_bytes_clear(mysql_session_handle *handle);
 
-/* ---- Sending ---------------------------------------------------------------------------------- */
+/* ---- Sending --------------------------------------------------------------------------------- */
 
 enum mysql_session_road {
     MYSQL_SESSION_TEXT = 0,    /* a text query for each set */
@@ -243,7 +303,51 @@ uint32_t mysql_session_send(mysql_session_handle *sets, const uint8_t *query, si
                             uint32_t road, uint32_t statement, size_t limit,
                             mysql_session_handle *out, mysql_session_place *place);
 
-/* ---- Replies of a server, read as they come ---------------------------------------------------- */
+/* Appends to the bytes of `out` the text of one set, by its number from 0: the query with a literal
+ * in the place of each placeholder. It is what a COM_QUERY has behind its first byte.
+ * Answers OK, or why nothing is appended: EMPTY_HANDLE, OTHER_KIND, OUT_OF_RANGE (no such set),
+ * MIXED, REFUSED_NOT_ALONE, REFUSED_PARAMS, REFUSED_WRONG_COUNT, REFUSED_FLOAT, MEMORY. */
+uint32_t mysql_session_bind_text(mysql_session_handle *sets, size_t set, const uint8_t *query,
+                                 size_t len, mysql_session_handle *out,
+                                 mysql_session_place *place);
+
+/* Appends to the bytes of `out` the literal of one value, by the numbers of its set and its place.
+ * Answers OK, EMPTY_HANDLE, OTHER_KIND, OUT_OF_RANGE, MEMORY; and REFUSED_FLOAT of a float, which
+ * has no literal, but no call here puts a float into a set. */
+uint32_t mysql_session_value_text(mysql_session_handle *sets, size_t set, size_t place,
+                                  mysql_session_handle *out);
+
+/* ---- Recoding: a stream of commands as executions, as it comes ------------------------------- */
+
+/* Where recoding stopped: the payload and its fault (a code of FAULT_..), or the set that is too
+ * large; and how a stream ends that isn't whole. What the answer doesn't have is 0. */
+typedef struct mysql_session_stop {
+    uint32_t end; /* of mysql_session_end_kind */
+    uint32_t fault;
+    uint64_t payload;
+    size_t set;
+} mysql_session_stop;
+
+/* Makes the handle stand for a recoder of a stream of commands about this query, whose statement
+ * was given this id. Answers OK, LIMIT_TOO_SMALL, MIXED, REFUSED_TOO_MANY_PLACES,
+ * REFUSED_PREPARE_TOO_LARGE, MEMORY; but for OK the handle stays. */
+uint32_t mysql_session_recoder_new(mysql_session_handle *handle, const uint8_t *query, size_t len,
+                                   uint32_t statement, size_t limit);
+
+/* Takes the next piece, and appends to the bytes of `out` the executions of the sets that are whole
+ * with it, before the first of all the prepare. Answers OK, or why nothing is appended: a FAULT_..
+ * of the payload, REFUSED_PACKET_TOO_LARGE of the set, MEMORY (from then on each call answers the
+ * same, and changes nothing), EMPTY_HANDLE, OTHER_KIND. */
+uint32_t mysql_session_recoder_feed(mysql_session_handle *handle, const uint8_t *piece, size_t len,
+                                    mysql_session_handle *out, mysql_session_stop *stop);
+
+/* Ends the stream: where it carried no set the prepare is appended to the bytes of `out`. The
+ * handle stands for nothing then, also where the answer is UNFINISHED, what a feed refused, or
+ * MEMORY; with a handle `out` of another kind nothing has changed. */
+uint32_t mysql_session_recoder_end(mysql_session_handle *handle, mysql_session_handle *out,
+                                   mysql_session_stop *stop);
+
+/* ---- Replies of a server, read as they come -------------------------------------------------- */
 
 enum mysql_session_reply_kind {
     MYSQL_SESSION_REPLY_TO_QUERY = 0,
@@ -252,10 +356,12 @@ enum mysql_session_reply_kind {
 };
 
 enum mysql_session_result_kind {
-    MYSQL_SESSION_RESULT_OK = 0,       /* affected_rows, last_insert_id, status, warnings */
-    MYSQL_SESSION_RESULT_ROWS = 1,     /* columns, rows */
+    MYSQL_SESSION_RESULT_OK = 0,       /* affected_rows, last_insert_id, status, warnings, states,
+                                        * and what the packet tells as text */
+    MYSQL_SESSION_RESULT_ROWS = 1,     /* columns, rows, ended; where they have ended the status,
+                                        * warnings, states and text of the packet that ends them */
     MYSQL_SESSION_RESULT_PREPARED = 2, /* statement, params, columns, warnings */
-    MYSQL_SESSION_RESULT_ERROR = 3,    /* error_code, and the message as text */
+    MYSQL_SESSION_RESULT_ERROR = 3,    /* error_code, state, and the message as text */
     MYSQL_SESSION_RESULT_FILE = 4      /* the file's name as text */
 };
 
@@ -270,8 +376,12 @@ typedef struct mysql_session_result {
     size_t columns;
     size_t rows;
     size_t params;
-    const uint8_t *text;
+    size_t states;       /* changes of the session's state that an OK packet tells */
+    const uint8_t *text; /* the message of an error, the name of a file, what an OK packet tells */
     size_t len;
+    uint8_t state[5];    /* the SQL state of an error */
+    size_t state_len;    /* 5, or 0 where it has none */
+    bool ended;          /* of rows: the packet that ends them came; else true */
 } mysql_session_result;
 
 /* Makes the handle stand for a reader of the reply to a command of this kind, whose first chunk
@@ -284,16 +394,25 @@ uint32_t mysql_session_reply_new(mysql_session_handle *handle, uint32_t kind,
 uint32_t mysql_session_reply_feed(mysql_session_handle *handle, const uint8_t *piece, size_t len);
 
 /* Takes the results so far: those that stand whole, and of a result set that goes on its rows so
- * far. They are numbered from 0; those that were taken before are freed. */
+ * far. They are numbered from 0; those that were taken before are freed, and so are the progress
+ * reports that came. */
 uint32_t mysql_session_reply_take(mysql_session_handle *handle);
 
 /* How many results were taken last, or after the end are left. */
 uint32_t mysql_session_reply_results(mysql_session_handle *handle, size_t *count);
 
 /* The result of this number. Its text is good until the next call on the handle other than
- * mysql_session_reply_results and _result. Answers OK, OUT_OF_RANGE, .. */
+ * mysql_session_reply_results, _result, _state, _cell, _column and _param. `states` is 0 also where
+ * mysql_session_reply_state answers BAD_PACKET. Answers OK, OUT_OF_RANGE, MEMORY, .. */
 uint32_t mysql_session_reply_result(mysql_session_handle *handle, size_t number,
                                     mysql_session_result *result);
+
+/* A change of the session's state that the OK packet of this number tells, or that which ended its
+ * rows: its type (of the protocol's Session State Information) and the bytes of that type, which
+ * are good as a result's text is. Answers OK, OUT_OF_RANGE, BAD_PACKET (the packet's changes can't
+ * be read), MEMORY, .. */
+uint32_t mysql_session_reply_state(mysql_session_handle *handle, size_t number, size_t state,
+                                   uint8_t *type, const uint8_t **data, size_t *len);
 
 /* Kinds of values in cells: those of mysql_session_kind, and these. */
 enum mysql_session_value_kind {
@@ -320,15 +439,231 @@ typedef struct mysql_session_value {
     size_t len;
 } mysql_session_value;
 
-/* The value in a cell, by the numbers of its result, its row and its column. Its bytes are good
- * until the next call on the handle other than mysql_session_reply_results, _result and _cell.
- * Answers OK, OUT_OF_RANGE, .. */
+/* The value in a cell, by the numbers of its result, its row and its column. Its bytes are good as
+ * a result's text is. Answers OK, OUT_OF_RANGE, .. */
 uint32_t mysql_session_reply_cell(mysql_session_handle *handle, size_t number, size_t row,
                                   size_t column, mysql_session_value *value);
+
+/* A column of a result set, or of a prepared statement. `type` is the number of the protocol's
+ * column type (Field Types), `flags` its Column Definition Flags, `charset` its collation. */
+typedef struct mysql_session_column {
+    uint8_t type;
+    uint8_t decimals;
+    uint16_t flags;
+    uint16_t charset;
+    uint32_t length;
+    const uint8_t *schema;
+    size_t schema_len;
+    const uint8_t *table;
+    size_t table_len;
+    const uint8_t *org_table;
+    size_t org_table_len;
+    const uint8_t *name;
+    size_t name_len;
+    const uint8_t *org_name;
+    size_t org_name_len;
+} mysql_session_column;
+
+/* The column of this number of a result, both from 0; its texts are good as a result's text is.
+ * Answers OK, OUT_OF_RANGE, .. */
+uint32_t mysql_session_reply_column(mysql_session_handle *handle, size_t number, size_t column,
+                                    mysql_session_column *shown);
+
+/* The same of a parameter of a prepared statement. */
+uint32_t mysql_session_reply_param(mysql_session_handle *handle, size_t number, size_t param,
+                                   mysql_session_column *shown);
 
 /* Ends the reply, and tells how: MYSQL_SESSION_END_WHOLE, _UNFINISHED_PACKET where it isn't whole,
  * or _FAULT. The handle has the results that weren't taken then, and takes no bytes. */
 uint32_t mysql_session_reply_end(mysql_session_handle *handle, mysql_session_end *end);
+
+/* ---- Replies written: a server's side -------------------------------------------------------- */
+
+/* Where writing is refused: the result, the row and the cell, from 0, or the payload's number. */
+typedef struct mysql_session_spot {
+    size_t result;
+    size_t row;
+    size_t place;
+    uint64_t payload;
+} mysql_session_spot;
+
+/* Makes the handle stand for a writer of the reply to a command of this kind (of
+ * mysql_session_reply_kind) for a client with these capabilities. The reply's first chunk has the
+ * number `first`; a payload has at most `limit` bytes. Answers OK, NO_SUCH_KIND, MEMORY. */
+uint32_t mysql_session_writer_new(mysql_session_handle *handle, uint32_t kind,
+                                  uint32_t capabilities, uint8_t first, size_t limit);
+
+/* Each appends to the bytes of `out` the packets of the next result, or of a part of it, or nothing
+ * and tells why: by MEMORY, EMPTY_HANDLE, OTHER_KIND or one of WRITE_.., whose place `spot` has.
+ * SERVER_MORE_RESULTS_EXISTS is set or cleared in a status by `more`. An error's SQL state has five
+ * bytes or none; else BAD_PACKET is the answer. */
+uint32_t mysql_session_writer_ok(mysql_session_handle *handle, uint64_t affected_rows,
+                                 uint64_t last_insert_id, uint16_t status, uint16_t warnings,
+                                 const uint8_t *info, size_t len, bool more,
+                                 mysql_session_handle *out, mysql_session_spot *spot);
+uint32_t mysql_session_writer_error(mysql_session_handle *handle, uint16_t code,
+                                    const uint8_t *state, size_t state_len,
+                                    const uint8_t *message, size_t len, mysql_session_handle *out,
+                                    mysql_session_spot *spot);
+
+/* One more column for the next mysql_session_writer_rows or _prepared. These use all columns up,
+ * also where they refuse the result, but for EMPTY_HANDLE, OTHER_KIND and OUT_OF_RANGE. The name is
+ * copied. Answers OK, NO_SUCH_KIND (of a column type), MEMORY, .. */
+uint32_t mysql_session_writer_column(mysql_session_handle *handle, uint8_t type,
+                                     const uint8_t *name, size_t len, uint16_t flags,
+                                     uint16_t charset, uint32_t length, uint8_t decimals);
+
+/* Begins rows under the columns that were given. */
+uint32_t mysql_session_writer_rows(mysql_session_handle *handle, mysql_session_handle *out,
+                                   mysql_session_spot *spot);
+
+/* The next row: the values of a set, by its number from 0; OUT_OF_RANGE where there is none. */
+uint32_t mysql_session_writer_row(mysql_session_handle *handle, mysql_session_handle *sets,
+                                  size_t set, mysql_session_handle *out, mysql_session_spot *spot);
+
+/* Ends the rows. */
+uint32_t mysql_session_writer_end_rows(mysql_session_handle *handle, uint16_t status,
+                                       uint16_t warnings, bool more, mysql_session_handle *out,
+                                       mysql_session_spot *spot);
+
+/* A prepared statement: the first `params` of the columns that were given are its parameters;
+ * OUT_OF_RANGE where there are fewer. */
+uint32_t mysql_session_writer_prepared(mysql_session_handle *handle, uint32_t statement,
+                                       size_t params, uint16_t warnings, mysql_session_handle *out,
+                                       mysql_session_spot *spot);
+
+/* Whether the reply stands whole: OK, or WRITE_NO_RESULTS, WRITE_NOT_ENDED. */
+uint32_t mysql_session_writer_end(mysql_session_handle *handle, mysql_session_spot *spot);
+
+/* ---- Packets: a stream cut into payloads, and payloads framed -------------------------------- */
+
+/* Makes the handle stand for a reader of packets, of which the first chunk has the number `first`.
+ * Answers OK, MEMORY. */
+uint32_t mysql_session_packets_new(mysql_session_handle *handle, uint8_t first, size_t limit);
+
+/* Reads on to the end of the next packet, and tells how many bytes of the piece it used. `whole` is
+ * true where a payload stands whole then; else all of the piece was used. Answers OK,
+ * FAULT_TOO_LARGE, FAULT_OUT_OF_SYNC, MEMORY (each from then on), EMPTY_HANDLE, OTHER_KIND. */
+uint32_t mysql_session_packets_feed(mysql_session_handle *handle, const uint8_t *piece, size_t len,
+                                    size_t *used, bool *whole);
+
+/* The payload that stands whole, or no bytes. It is good until the next call on the handle other
+ * than this one. */
+uint32_t mysql_session_packets_payload(mysql_session_handle *handle, const uint8_t **data,
+                                       size_t *len);
+
+/* The next packet's first chunk has the number 0, as that of each command has. Answers OK,
+ * UNFINISHED (bytes of a packet that isn't whole came; nothing changes), EMPTY_HANDLE, OTHER_KIND.
+ * Between packets mysql_session_packets_new makes a reader that goes on at any other number: while
+ * a client logs in, both sides count on, and each reads every second number. */
+uint32_t mysql_session_packets_restart(mysql_session_handle *handle);
+
+/* Appends a payload to the bytes of `out`, framed: behind a header of four bytes, with the number
+ * `*number`; one of 16777215 bytes or more takes more chunks. `*number` is then the next one's.
+ * Answers OK, or why nothing is appended: FAULT_TOO_LARGE (more than `limit` bytes), MEMORY,
+ * EMPTY_HANDLE, OTHER_KIND. */
+uint32_t mysql_session_packet_put(mysql_session_handle *out, const uint8_t *payload, size_t len,
+                                  uint8_t *number, size_t limit);
+
+/* ---- Logging in ------------------------------------------------------------------------------ */
+
+/* What a server greets a client with; a text that isn't there has the length 0. The texts lie in
+ * the payload that was read. The nonce is both scrambles, of 8 and 12 bytes: the zero that servers
+ * send behind the second is left out. */
+typedef struct mysql_session_greeting {
+    uint8_t protocol;
+    uint8_t collation;
+    uint16_t status;
+    uint32_t connection;
+    uint32_t capabilities;
+    uint32_t mariadb_capabilities;
+    const uint8_t *version;
+    size_t version_len;
+    const uint8_t *scramble_1;
+    size_t scramble_1_len;
+    const uint8_t *scramble_2;
+    size_t scramble_2_len;
+    const uint8_t *plugin;
+    size_t plugin_len;
+} mysql_session_greeting;
+
+/* Reads the payload of a server's first packet. Answers OK, BAD_PACKET. */
+uint32_t mysql_session_greeting_read(const uint8_t *payload, size_t len,
+                                     mysql_session_greeting *greeting);
+
+/* Appends to the bytes of `out` the payload of such a packet, by version 10 of the protocol and
+ * with a zero behind the second scramble. CLIENT_SECURE_CONNECTION is set in the capabilities, and
+ * CLIENT_PLUGIN_AUTH where the plugin has a length, else cleared. Clients look at MariaDB's own
+ * capabilities where CLIENT_LONG_PASSWORD (bit 0) isn't set. Answers OK, BAD_PACKET (scrambles of
+ * other lengths than 8 and 12, a zero byte in the version or the plugin's name), EMPTY_HANDLE,
+ * OTHER_KIND, MEMORY. */
+uint32_t mysql_session_greeting_put(mysql_session_handle *out, uint32_t connection,
+                                    uint32_t capabilities, uint32_t mariadb_capabilities,
+                                    uint8_t collation, uint16_t status,
+                                    const uint8_t *version, size_t version_len,
+                                    const uint8_t *scramble_1, size_t scramble_1_len,
+                                    const uint8_t *scramble_2, size_t scramble_2_len,
+                                    const uint8_t *plugin, size_t plugin_len);
+
+/* What a client answers; a text that isn't there has the length 0. The texts lie in the payload
+ * that was read, but for the name of a plugin that the library knows, which is the library's. */
+typedef struct mysql_session_login {
+    uint8_t collation;
+    uint32_t capabilities;
+    uint32_t mariadb_capabilities;
+    const uint8_t *user;
+    size_t user_len;
+    const uint8_t *response;
+    size_t response_len;
+    const uint8_t *database;
+    size_t database_len;
+    const uint8_t *plugin;
+    size_t plugin_len;
+} mysql_session_login;
+
+/* Reads the payload of a client's answer. Its parts go by its own capabilities, the first four
+ * bytes. A client may set bits there that the greeting didn't have, as CLIENT_CONNECT_ATTRS, and
+ * leave their parts out: clear these bits first. Answers OK, BAD_PACKET, MEMORY. */
+uint32_t mysql_session_login_read(const uint8_t *payload, size_t len, mysql_session_login *login);
+
+/* Appends to the bytes of `out` the payload of such an answer, with the collation
+ * utf8mb4_general_ci (45) and without attributes. In the capabilities CLIENT_CONNECT_WITH_DB is set
+ * where the database has a length, CLIENT_PLUGIN_AUTH where the plugin has, and each is else
+ * cleared, as is CLIENT_CONNECT_ATTRS; CLIENT_PROTOCOL_41 should be among them. A MariaDB server
+ * looks at its own capabilities where CLIENT_LONG_PASSWORD (bit 0) isn't set. Answers OK,
+ * BAD_PACKET (a zero byte in the user, the database or the plugin's name; with
+ * CLIENT_SECURE_CONNECTION a response of more than 255 bytes, unless there is
+ * CLIENT_PLUGIN_AUTH_LENENC_CLIENT_DATA; with neither a response with a zero byte), EMPTY_HANDLE,
+ * OTHER_KIND, MEMORY. */
+uint32_t mysql_session_login_put(mysql_session_handle *out, uint32_t capabilities,
+                                 uint32_t mariadb_capabilities, uint32_t max_packet_size,
+                                 const uint8_t *user, size_t user_len,
+                                 const uint8_t *response, size_t response_len,
+                                 const uint8_t *database, size_t database_len,
+                                 const uint8_t *plugin, size_t plugin_len);
+
+/* ---- Replication ----------------------------------------------------------------------------- */
+
+/* Each appends to the bytes of `out` the payload of a command of a replica, its first byte
+ * included. Answers OK, EMPTY_HANDLE, OTHER_KIND, MEMORY; mysql_session_register_replica_put
+ * BAD_PACKET too (a text of more than 255 bytes). */
+uint32_t mysql_session_register_replica_put(mysql_session_handle *out, uint32_t server,
+                                            const uint8_t *host, size_t host_len,
+                                            const uint8_t *user, size_t user_len,
+                                            const uint8_t *password, size_t password_len,
+                                            uint16_t port);
+uint32_t mysql_session_binlog_dump_put(mysql_session_handle *out, uint32_t server,
+                                       uint32_t position, uint16_t flags, const uint8_t *file,
+                                       size_t len);
+
+/* The same by MySQL's global transaction identifiers, which lie in `gtids` as their text: none, or
+ * sets as 3e11fa47-71ca-11e1-9e33-c80aa9429562:1-5 with commas between, and white space around
+ * them or not. BINLOG_THROUGH_GTID (4) is set in the flags where there are sets, and else cleared.
+ * Beside the answers above BAD_PACKET where that is no such text. (MariaDB takes a position by
+ * @slave_connect_state in place of this command.) */
+uint32_t mysql_session_binlog_dump_gtid_put(mysql_session_handle *out, uint32_t server,
+                                            uint64_t position, uint16_t flags, const uint8_t *file,
+                                            size_t len, const uint8_t *gtids, size_t gtids_len);
 
 #ifdef __cplusplus
 }

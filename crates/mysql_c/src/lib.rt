@@ -3,33 +3,28 @@
 //!
 //! A handle that C holds is one pointer; a call takes its address. An `alloc` takes no bytes, so that C passes nothing for it; a slice
 //! is a pointer, which isn't null, and a length.
+//!
+//! Each export is a call of a function of a crate below, with the same contract.
 #![tactic(auto)]
 
-ghost use Rattle.std.specs.Prelude.{◌≡◌};
-ghost use Rattle.mysql_c.specs.declared.object.Object.TheVariants.{Empty};
+ghost use Rattle.std.specs.Prelude.{◌≡◌, ◌-◌, ℕ, List, IsTrue, length};
+ghost use Rattle.mysql_c_handles.specs.Texts.{ends_at_nul};
+ghost use Rattle.mysql_c_handles.specs.declared.object.Object.TheVariants.{Empty};
 
-mod bytes;
-mod code;
-mod handle;
-mod object;
-mod receiver;
-mod reply;
-mod sending;
-mod sets;
-mod shown;
-mod shown_reply;
-mod start;
+mod commands;
+mod login;
+mod replies;
 
-use crate::handle::Handle;
+use mysql_c_handles::{Handle, code_text};
 use std::alloc::Global;
 use std::mem::replace;
 
 /// The number of the interface, which changes with each of its declarations.
 #[unsafe(no_mangle)]
 pub extern "C" fn mysql_session_abi() -> u32
-    ensures { result ≡ 1 }
+    ensures { result ≡ 2 }
 {
-    1
+    2
 }
 
 /// Frees what the handle stands for. It stands for nothing then.
@@ -38,4 +33,12 @@ pub extern "C" fn mysql_session_free(alloc: Global, handle: &mut Handle)
     ensures { handle.new.object ≡ Empty }
 {
     drop(replace(handle, Handle::empty(alloc)));
+}
+
+/// Shows the text of a code, and its length without the NUL byte that stands behind it. A number that is no code has a text too.
+#[unsafe(no_mangle)]
+pub extern "C" fn mysql_session_code_text(code: u32, text: &mut *const u8, len: &mut usize)
+    ensures { (shown : List ℕ) × IsTrue (ends_at_nul shown) × (len.new ≡ length shown - 1) }
+{
+    code_text(code, text, len);
 }

@@ -1,9 +1,0 @@
-pub mod Bytes
-pub mod Codes
-pub mod Owned
-pub mod Receivers
-pub mod Replies
-pub mod Sending
-pub mod Sets
-pub mod Shown
-pub mod ShownReplies

@@ -1,0 +1,380 @@
+//! Commands: bytes that were written, receivers, parameter sets, sending, texts and recoders.
+
+ghost use Rattle.mysql_c_commands.specs.Adding.{AddsSetIn};
+ghost use Rattle.mysql_c_commands.specs.Receivers.{EndsAs, IsFedBy, IsNew, IsReceiver, LetsGo, OfReceiver, content_at, missing_code, reading_code, sets_held};
+ghost use Rattle.mysql_c_commands.specs.Recoding.{IsRecoder, IsWhyNoRecoder, RecoderEnds, RecodesFrom};
+ghost use Rattle.mysql_c_commands.specs.Sending.{SendsFrom};
+ghost use Rattle.mysql_c_commands.specs.Sets.{CountsSets, EndsSetIn, HasNone, LosesAll, TakesBytes, TakesValueIn};
+ghost use Rattle.mysql_c_commands.specs.Shown.{Shows};
+ghost use Rattle.mysql_c_commands.specs.Texts.{BindsTextFrom, PutsLiteralFrom};
+ghost use Rattle.mysql_c_handles.specs.Bytes.{HasLength, IsBytes, IsCleared, OfBytes};
+ghost use Rattle.mysql_c_handles.specs.Codes.{code_number};
+ghost use Rattle.mysql_c_handles.specs.Sets.{IsSets, OfSets};
+ghost use Rattle.mysql_recoding.specs.AsItComes.{IsNewRecoder, recoder_state};
+ghost use Rattle.mysql_values.specs.Queries.{HasMixed};
+ghost use Rattle.std.specs.Prelude.{MatchOption, [], false, length, slice_get, true, ◌<◌, ◌≡◌, ◌≢◌, ◌⊎◌};
+ghost use Rattle.mysql_c_handles.specs.declared.code.Code.TheVariants as code;
+ghost use Rattle.mysql_cells.specs.declared.value.Value.TheVariants as value;
+
+use mysql_c_commands::{
+    Parameter, ShownContent, ShownPlace, ShownStop, bind_text, receiver_clear, receiver_content,
+    receiver_end, receiver_feed, receiver_new, receiver_sets, receiver_width, recoder_end,
+    recoder_feed, recoder_new, send, sets_add, sets_clear, sets_count, sets_end_set, sets_new,
+    sets_push_bytes, sets_push_date, sets_push_int, sets_push_null, sets_push_time, sets_push_uint,
+    value_text,
+};
+use mysql_c_handles::{Handle, ShownEnd, bytes_clear, bytes_data, bytes_new};
+use std::alloc::Global;
+
+/// Makes the handle stand for no bytes.
+#[unsafe(no_mangle)]
+pub extern "C" fn mysql_session_bytes_new(alloc: Global, handle: &mut Handle) -> u32
+    ensures made { result ≡ 0 → IsBytes handle.new.object (λ bytes. bytes ≡ []) }
+    ensures kept { result ≢ 0 → (result ≡ 1) × (handle.new.object ≡ handle.old.object) }
+{
+    bytes_new(alloc, handle)
+}
+
+/// Shows bytes. They stay where they are until the next call on the handle.
+#[unsafe(no_mangle)]
+pub extern "C" fn mysql_session_bytes_data(
+    alloc: Global,
+    handle: &mut Handle,
+    data: &mut *const u8,
+    len: &mut usize,
+) -> u32
+    ensures { OfBytes handle.old.object result handle.new.object (HasLength result handle.new.object len.new) }
+{
+    bytes_data(alloc, handle, data, len)
+}
+
+/// Empties bytes.
+#[unsafe(no_mangle)]
+pub extern "C" fn mysql_session_bytes_clear(alloc: Global, handle: &mut Handle) -> u32
+    ensures { OfBytes handle.old.object result handle.new.object (IsCleared result handle.new.object) }
+{
+    bytes_clear(alloc, handle)
+}
+
+/// Makes the handle stand for a receiver of a stream of commands about this query, whose statement was given this id.
+#[unsafe(no_mangle)]
+pub extern "C" fn mysql_session_receiver_new(
+    alloc: Global,
+    handle: &mut Handle,
+    query: &[u8],
+    id: u32,
+    limit: usize,
+) -> u32
+    ensures made { result ≡ 0 → IsReceiver handle.new.object (IsNew query.now id limit) × HasMixed query.now false }
+    ensures kept { result ≢ 0 → handle.new.object ≡ handle.old.object }
+    ensures cause { (result ≡ 0) ⊎ (result ≡ code_number code.Memory) ⊎ ((result ≡ code_number code.LimitTooSmall) × (limit < 4)) ⊎ ((result ≡ code_number code.Mixed) × HasMixed query.now true) }
+{
+    receiver_new(alloc, handle, query, id, limit)
+}
+
+/// Feeds a receiver with the next piece of its stream.
+#[unsafe(no_mangle)]
+pub extern "C" fn mysql_session_receiver_feed(
+    alloc: Global,
+    handle: &mut Handle,
+    piece: &[u8],
+) -> u32
+    ensures { OfReceiver handle.old.object result handle.new.object (IsFedBy piece.now result handle.new.object) }
+{
+    receiver_feed(alloc, handle, piece)
+}
+
+/// Ends a receiver: the handle stands for the audit of what was fed, and holds the sets that weren't let go. Shows how the stream ends.
+/// Of an audit it shows the same again.
+#[unsafe(no_mangle)]
+pub extern "C" fn mysql_session_receiver_end(
+    alloc: Global,
+    handle: &mut Handle,
+    end: &mut ShownEnd,
+) -> u32
+    ensures { EndsAs handle.old.object result handle.new.object end.new }
+{
+    receiver_end(alloc, handle, end)
+}
+
+/// Tells how many sets were read and not let go.
+#[unsafe(no_mangle)]
+pub extern "C" fn mysql_session_receiver_sets(
+    alloc: Global,
+    handle: &mut Handle,
+    count: &mut usize,
+) -> u32
+    ensures kept { handle.new.object ≡ handle.old.object }
+    ensures code { result ≡ code_number (reading_code handle.old.object) }
+    ensures count { result ≡ 0 → count.new ≡ length (sets_held handle.old.object) }
+{
+    receiver_sets(alloc, handle, count)
+}
+
+/// Tells how many contents the set of this number has.
+#[unsafe(no_mangle)]
+pub extern "C" fn mysql_session_receiver_width(
+    alloc: Global,
+    handle: &mut Handle,
+    set: usize,
+    width: &mut usize,
+) -> u32
+    ensures kept { handle.new.object ≡ handle.old.object }
+    ensures width { MatchOption (slice_get (sets_held handle.old.object) set) (result ≡ code_number (missing_code handle.old.object)) (λ contents. (result ≡ 0) × (width.new ≡ length contents)) }
+{
+    receiver_width(alloc, handle, set, width)
+}
+
+/// Shows the content at a place of the set of this number.
+#[unsafe(no_mangle)]
+pub extern "C" fn mysql_session_receiver_content(
+    alloc: Global,
+    handle: &mut Handle,
+    set: usize,
+    place: usize,
+    content: &mut ShownContent,
+) -> u32
+    ensures kept { handle.new.object ≡ handle.old.object }
+    ensures shown { MatchOption (content_at handle.old.object set place) (result ≡ code_number (missing_code handle.old.object)) (λ c. Shows c result content.new) }
+{
+    receiver_content(alloc, handle, set, place, content)
+}
+
+/// Lets go of the sets that were read.
+#[unsafe(no_mangle)]
+pub extern "C" fn mysql_session_receiver_clear(alloc: Global, handle: &mut Handle) -> u32
+    ensures { OfReceiver handle.old.object result handle.new.object (LetsGo result handle.new.object) }
+{
+    receiver_clear(alloc, handle)
+}
+
+/// Makes the handle stand for parameter sets, of which there are none yet.
+#[unsafe(no_mangle)]
+pub extern "C" fn mysql_session_sets_new(alloc: Global, handle: &mut Handle) -> u32
+    ensures made { result ≡ 0 → IsSets handle.new.object HasNone }
+    ensures kept { result ≢ 0 → (result ≡ 1) × (handle.new.object ≡ handle.old.object) }
+{
+    sets_new(alloc, handle)
+}
+
+/// Gives the next set NULL.
+#[unsafe(no_mangle)]
+pub extern "C" fn mysql_session_sets_push_null(alloc: Global, handle: &mut Handle) -> u32
+    ensures { OfSets handle.old.object result handle.new.object (TakesValueIn value.NULL result handle.new.object) }
+{
+    sets_push_null(alloc, handle)
+}
+
+/// Gives the next set a whole number with a sign.
+#[unsafe(no_mangle)]
+pub extern "C" fn mysql_session_sets_push_int(
+    alloc: Global,
+    handle: &mut Handle,
+    number: i64,
+) -> u32
+    ensures { OfSets handle.old.object result handle.new.object (TakesValueIn (value.Int number) result handle.new.object) }
+{
+    sets_push_int(alloc, handle, number)
+}
+
+/// Gives the next set a whole number without a sign.
+#[unsafe(no_mangle)]
+pub extern "C" fn mysql_session_sets_push_uint(
+    alloc: Global,
+    handle: &mut Handle,
+    number: u64,
+) -> u32
+    ensures { OfSets handle.old.object result handle.new.object (TakesValueIn (value.UInt number) result handle.new.object) }
+{
+    sets_push_uint(alloc, handle, number)
+}
+
+/// Gives the next set a copy of bytes.
+#[unsafe(no_mangle)]
+pub extern "C" fn mysql_session_sets_push_bytes(
+    alloc: Global,
+    handle: &mut Handle,
+    bytes: &[u8],
+) -> u32
+    ensures { TakesBytes bytes.now handle.old.object result handle.new.object }
+{
+    sets_push_bytes(alloc, handle, bytes)
+}
+
+/// Gives the next set a date with its time of day. No field is checked: a date may have month 13.
+#[unsafe(no_mangle)]
+pub extern "C" fn mysql_session_sets_push_date(
+    alloc: Global,
+    handle: &mut Handle,
+    year: u16,
+    month: u8,
+    day: u8,
+    hour: u8,
+    minute: u8,
+    second: u8,
+    micros: u32,
+) -> u32
+    ensures { OfSets handle.old.object result handle.new.object (TakesValueIn (value.Date year month day hour minute second micros) result handle.new.object) }
+{
+    sets_push_date(
+        alloc, handle, year, month, day, hour, minute, second, micros,
+    )
+}
+
+/// Gives the next set a duration. No field is checked.
+#[unsafe(no_mangle)]
+pub extern "C" fn mysql_session_sets_push_time(
+    alloc: Global,
+    handle: &mut Handle,
+    negative: bool,
+    days: u32,
+    hours: u8,
+    minutes: u8,
+    seconds: u8,
+    micros: u32,
+) -> u32
+    ensures { OfSets handle.old.object result handle.new.object (TakesValueIn (value.Time negative days hours minutes seconds micros) result handle.new.object) }
+{
+    sets_push_time(
+        alloc, handle, negative, days, hours, minutes, seconds, micros,
+    )
+}
+
+/// Ends the next set.
+#[unsafe(no_mangle)]
+pub extern "C" fn mysql_session_sets_end_set(alloc: Global, handle: &mut Handle) -> u32
+    ensures { OfSets handle.old.object result handle.new.object (EndsSetIn result handle.new.object) }
+{
+    sets_end_set(alloc, handle)
+}
+
+/// Puts one more set behind the whole ones: the values that an array describes, whose bytes lie in `bytes`. The values of the next set
+/// stay.
+#[unsafe(no_mangle)]
+pub extern "C" fn mysql_session_sets_add(
+    alloc: Global,
+    handle: &mut Handle,
+    parameters: &[Parameter],
+    bytes: &[u8],
+) -> u32
+    ensures { OfSets handle.old.object result handle.new.object (AddsSetIn bytes.now parameters.now result handle.new.object) }
+{
+    sets_add(alloc, handle, parameters, bytes)
+}
+
+/// Tells how many sets are whole.
+#[unsafe(no_mangle)]
+pub extern "C" fn mysql_session_sets_count(
+    alloc: Global,
+    handle: &mut Handle,
+    count: &mut usize,
+) -> u32
+    ensures kept { handle.new.object ≡ handle.old.object }
+    ensures counted { CountsSets handle.old.object result count.new }
+{
+    sets_count(alloc, handle, count)
+}
+
+/// Lets go of all sets, and of the values of the next one.
+#[unsafe(no_mangle)]
+pub extern "C" fn mysql_session_sets_clear(alloc: Global, handle: &mut Handle) -> u32
+    ensures { OfSets handle.old.object result handle.new.object (LosesAll result handle.new.object) }
+{
+    sets_clear(alloc, handle)
+}
+
+/// Appends the whole ones of the parameter sets of one handle to the bytes of another, by the road of this number: 0 is text, 1 is
+/// execute, 2 is bulk. Where they aren't sent it shows the set and the place that are refused, and the bytes stay.
+#[unsafe(no_mangle)]
+pub extern "C" fn mysql_session_send(
+    alloc: Global,
+    sets: &mut Handle,
+    query: &[u8],
+    road: u32,
+    id: u32,
+    limit: usize,
+    out: &mut Handle,
+    place: &mut ShownPlace,
+) -> u32
+    ensures kept { sets.new.object ≡ sets.old.object }
+    ensures sent { SendsFrom road query.now id limit sets.old.object out.old.object result place.new out.new.object }
+{
+    send(alloc, sets, query, road, id, limit, out, place)
+}
+
+/// Appends the text of the set of this number over a query to the bytes of another handle. Where there is none it shows the set and
+/// the place that are refused, and the bytes stay.
+#[unsafe(no_mangle)]
+pub extern "C" fn mysql_session_bind_text(
+    alloc: Global,
+    sets: &mut Handle,
+    set: usize,
+    query: &[u8],
+    out: &mut Handle,
+    place: &mut ShownPlace,
+) -> u32
+    ensures kept { sets.new.object ≡ sets.old.object }
+    ensures bound { BindsTextFrom query.now sets.old.object set out.old.object result place.new out.new.object }
+{
+    bind_text(alloc, sets, set, query, out, place)
+}
+
+/// Appends the literal of the value at a place of the set of this number to the bytes of another handle.
+#[unsafe(no_mangle)]
+pub extern "C" fn mysql_session_value_text(
+    alloc: Global,
+    sets: &mut Handle,
+    set: usize,
+    place: usize,
+    out: &mut Handle,
+) -> u32
+    ensures kept { sets.new.object ≡ sets.old.object }
+    ensures put { PutsLiteralFrom sets.old.object set place out.old.object result out.new.object }
+{
+    value_text(alloc, sets, set, place, out)
+}
+
+/// Makes the handle stand for a recoder of a stream of commands about this query, whose statement was given this id.
+#[unsafe(no_mangle)]
+pub extern "C" fn mysql_session_recoder_new(
+    alloc: Global,
+    handle: &mut Handle,
+    query: &[u8],
+    id: u32,
+    limit: usize,
+) -> u32
+    ensures made { result ≡ 0 → IsRecoder handle.new.object (λ r. IsNewRecoder query.now id limit (recoder_state r)) }
+    ensures kept { result ≢ 0 → handle.new.object ≡ handle.old.object }
+    ensures cause { (result ≡ 0) ⊎ IsWhyNoRecoder query.now id limit result }
+{
+    recoder_new(alloc, handle, query, id, limit)
+}
+
+/// Feeds a recoder with the next piece of its stream, and appends the executions of the sets that are whole with it to the bytes of
+/// another handle, before the first of all the prepare. Where it is refused it shows where, and the bytes stay.
+#[unsafe(no_mangle)]
+pub extern "C" fn mysql_session_recoder_feed(
+    alloc: Global,
+    handle: &mut Handle,
+    piece: &[u8],
+    out: &mut Handle,
+    stop: &mut ShownStop,
+) -> u32
+    ensures { RecodesFrom piece.now handle.old.object out.old.object result stop.new handle.new.object out.new.object }
+{
+    recoder_feed(alloc, handle, piece, out, stop)
+}
+
+/// Ends a recoder: where its stream carried no set the prepare is appended to the bytes of another handle. The handle stands for
+/// nothing then, also where the end is refused.
+#[unsafe(no_mangle)]
+pub extern "C" fn mysql_session_recoder_end(
+    alloc: Global,
+    handle: &mut Handle,
+    out: &mut Handle,
+    stop: &mut ShownStop,
+) -> u32
+    ensures { RecoderEnds handle.old.object out.old.object result stop.new handle.new.object out.new.object }
+{
+    recoder_end(alloc, handle, out, stop)
+}

@@ -1,0 +1,7 @@
+pub mod Adding
+pub mod Receivers
+pub mod Recoding
+pub mod Sending
+pub mod Sets
+pub mod Shown
+pub mod Texts

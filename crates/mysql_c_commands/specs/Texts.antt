@@ -1,0 +1,88 @@
+-- What the calls on texts say of the bytes that a handle stands for: the text of a set over a query, and the literal of a value.
+use Rattle.std.specs.Prelude.{◌≡◌, ◌≢◌, ◌⊎◌, ℕ, List, ◌++◌, MatchOption}
+use Rattle.mysql_cells.specs.AsSql.{HasLiteral}
+use Rattle.mysql_cells.specs.Values.{literal_of}
+use Rattle.mysql_cells.specs.declared.value.Value.{Value}
+use Rattle.mysql_values.specs.Queries.{Lexes, Slices}
+use Rattle.mysql_values.specs.Content.{Content}
+use Rattle.mysql_values.specs.Binding.{IsBindCause, IsBound}
+use Rattle.mysql_values.specs.Params.{IsMeaning}
+use Rattle.mysql_values.specs.declared.bind.BindError.{BindError}
+use Rattle.mysql_values.specs.declared.bind.BindError.TheVariants as bind_error
+use Rattle.mysql_values.specs.declared.params.Params.{Params}
+use Rattle.mysql_c_handles.specs.declared.code.Code.{Code}
+use Rattle.mysql_c_handles.specs.declared.code.Code.TheVariants.{Done, Float, Memory}
+use Rattle.mysql_c_handles.specs.declared.code.Code.TheVariants as code
+use Rattle.mysql_c_handles.specs.declared.object.Object.{Object}
+use Rattle.mysql_c_handles.specs.declared.object.Object.TheVariants as object
+use Rattle.mysql_c_handles.specs.Bytes.{IsBytes}
+use Rattle.mysql_c_handles.specs.Codes.{Stays, code_number}
+use Rattle.mysql_c_handles.specs.Sets.{set_held, unheld_code, value_held}
+use Rattle.mysql_c_commands.specs.declared.shown.ShownPlace.{ShownPlace}
+
+-- the code of an error of binding
+abbrev pub bind_code : BindError → Code
+bind_code bind_error.Mixed = code.Mixed
+bind_code (bind_error.NotAlone at) = code.NotAlone
+bind_code (bind_error.Params error) = code.Params
+bind_code bind_error.WrongCount = code.WrongCount
+bind_code (bind_error.Float at) = code.Float
+bind_code bind_error.Memory = code.Memory
+
+-- the set, of this number, and the place of an error, or 0 for those that it doesn't have
+abbrev pub bind_place : ℕ → BindError → ShownPlace
+bind_place set (bind_error.NotAlone at) = record { set = 0; place = at }
+bind_place set (bind_error.Params error) = record { set = set; place = 0 }
+bind_place set bind_error.WrongCount = record { set = set; place = 0 }
+bind_place set (bind_error.Float at) = record { set = set; place = at }
+bind_place set other = record { set = 0; place = 0 }
+
+-- an error of binding the set of this number, by its number, with the set and the place
+abbrev pub ShowsBindError : ℕ → BindError → ℕ → ShownPlace → Type 0
+ShowsBindError set error number place = (number ≡ code_number (bind_code error)) × (place ≡ bind_place set error)
+
+-- this text is that of the set over the query, and reads as the set's meaning in both ways
+pub record IsTextOf (query : List ℕ) (params : Params) (text : List ℕ) : Type 0 where
+  pub contents : List Content
+  pub bound : IsBound query params text
+  pub meaning : IsMeaning query params contents
+  pub slices : Slices query text contents
+  pub lexes : Lexes query text contents
+
+-- an error of binding is shown: Memory, or the first cause
+pub record IsUnbound (query : List ℕ) (params : Params) (set number : ℕ) (place : ShownPlace) : Type 0 where
+  pub error : BindError
+  pub cause : (error ≡ bind_error.Memory) ⊎ IsBindCause query params error
+  pub shows : ShowsBindError set error number place
+
+-- The text of the set of this number is appended to the old bytes; or the bytes stay, and the number and the place say why.
+pub record BindsText (query : List ℕ) (params : Params) (set : ℕ) (old : List ℕ) (number : ℕ) (place : ShownPlace) (new : List ℕ) : Type 0 where
+  pub bound : number ≡ 0 → (text : List ℕ) × (new ≡ old ++ text) × IsTextOf query params text
+  pub kept : number ≢ 0 → new ≡ old
+  pub why : number ≢ 0 → IsUnbound query params set number place
+
+-- the same of what the handle of the bytes stands for
+abbrev pub BindsTextTo : List ℕ → Params → ℕ → Object → ℕ → ShownPlace → Object → Type 0
+BindsTextTo query params set (object.Bytes old) number place new = IsBytes new (λ bytes. BindsText query params set old.items number place bytes)
+BindsTextTo query params set held number place new = Stays held number new
+
+-- the same of a set that the other handle's object holds
+abbrev pub BindsTextFrom : List ℕ → Object → ℕ → Object → ℕ → ShownPlace → Object → Type 0
+BindsTextFrom query held set old number place new =
+    MatchOption (set_held held set) ((number ≡ code_number (unheld_code held)) × (new ≡ old)) (λ params. BindsTextTo query params set old number place new)
+
+-- The literal of a value is appended to the old bytes, and is one of the value's content; or the bytes stay: a float has none, or memory was refused.
+pub record PutsLiteral (value : Value) (old : List ℕ) (number : ℕ) (new : List ℕ) : Type 0 where
+  pub put : MatchOption (literal_of value) ((number ≡ code_number Float) × (new ≡ old))
+      (λ text. ((number ≡ code_number Done) × (new ≡ old ++ text)) ⊎ ((number ≡ code_number Memory) × (new ≡ old)))
+  pub literal : HasLiteral value
+
+-- the same of what the handle of the bytes stands for
+abbrev pub PutsLiteralTo : Value → Object → ℕ → Object → Type 0
+PutsLiteralTo value (object.Bytes old) number new = IsBytes new (λ bytes. PutsLiteral value old.items number bytes)
+PutsLiteralTo value held number new = Stays held number new
+
+-- the same of a value that the other handle's object holds
+abbrev pub PutsLiteralFrom : Object → ℕ → ℕ → Object → ℕ → Object → Type 0
+PutsLiteralFrom held set place old number new =
+    MatchOption (value_held held set place) ((number ≡ code_number (unheld_code held)) × (new ≡ old)) (λ value. PutsLiteralTo value old number new)

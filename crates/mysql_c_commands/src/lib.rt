@@ -1,0 +1,26 @@
+//! Commands for C: receivers of their streams, parameter sets that are put together and sent, texts of these, and recoders.
+//!
+//! Each public function is a call of the library for C, with the contract of its export.
+#![tactic(auto)]
+
+mod parameter;
+mod receiver;
+mod recoder;
+mod sending;
+mod sets;
+mod shown;
+mod texts;
+
+pub use parameter::Parameter;
+pub use receiver::{
+    receiver_clear, receiver_content, receiver_end, receiver_feed, receiver_new, receiver_sets,
+    receiver_width,
+};
+pub use recoder::{recoder_end, recoder_feed, recoder_new};
+pub use sending::send;
+pub use sets::{
+    sets_add, sets_clear, sets_count, sets_end_set, sets_new, sets_push_bytes, sets_push_date,
+    sets_push_int, sets_push_null, sets_push_time, sets_push_uint,
+};
+pub use shown::{ShownContent, ShownPlace, ShownStop};
+pub use texts::{bind_text, value_text};

@@ -1,0 +1,208 @@
+//! The texts of sets and of values.
+
+ghost use Rattle.std.specs.Prelude.{◌≡◌, ◌≢◌};
+ghost use Rattle.mysql_c_handles.specs.Codes.{code_number};
+ghost use Rattle.mysql_c_commands.specs.Texts.{BindsText, BindsTextFrom, BindsTextTo, PutsLiteral, PutsLiteralFrom, PutsLiteralTo, ShowsBindError, bind_code, bind_place};
+
+use crate::shown::ShownPlace;
+use mysql_c_handles::{Code, Handle, Object};
+use mysql_cells::as_sql::{AsSqlError, push_literal};
+use mysql_values::{BindError, Params, Value, bind_text as put_text};
+use std::alloc::Global;
+
+/// The code of an error of binding.
+fn code_of(error: &BindError) -> Code
+    ensures code { result ≡ bind_code error.now }
+    ensures failed { code_number result ≢ 0 }
+{
+    match error {
+        BindError::Mixed => Code::Mixed,
+        BindError::NotAlone(_) => Code::NotAlone,
+        BindError::Params(_) => Code::Params,
+        BindError::WrongCount => Code::WrongCount,
+        BindError::Float(_) => Code::Float,
+        BindError::Memory => Code::Memory,
+    }
+}
+
+/// The set, of this number, and the place of an error.
+fn place_of(set: usize, error: &BindError) -> ShownPlace
+    ensures { result ≡ bind_place set error.now }
+{
+    match error {
+        BindError::NotAlone(at) => ShownPlace { set: 0, place: *at },
+        BindError::Params(_) | BindError::WrongCount => ShownPlace { set, place: 0 },
+        BindError::Float(at) => ShownPlace { set, place: *at },
+        BindError::Mixed | BindError::Memory => ShownPlace { set: 0, place: 0 },
+    }
+}
+
+/// Shows an error of binding the set of this number.
+fn show_error(set: usize, error: &BindError, place: &mut ShownPlace) -> Code
+    ensures shows { ShowsBindError set error.now (code_number result) place.new }
+    ensures failed { code_number result ≢ 0 }
+{
+    *place = place_of(set, error);
+    code_of(error)
+}
+
+/// Appends the text of the set of this number to bytes. Where there is none the bytes stay.
+fn bound(
+    alloc: Global,
+    query: &[u8],
+    params: &Params,
+    set: usize,
+    out: &mut Vec<u8>,
+    place: &mut ShownPlace,
+) -> Code
+    ensures { BindsText query.now params.now set out.old.items (code_number result) place.new out.new.items }
+{
+    match put_text(alloc, query, params, out) {
+        Ok(()) => Code::Done,
+        Err(error) => show_error(set, &error, place),
+    }
+}
+
+/// Appends the text of a set to bytes.
+fn bind_to(
+    alloc: Global,
+    query: &[u8],
+    params: &Params,
+    set: usize,
+    object: &mut Object,
+    place: &mut ShownPlace,
+) -> Code
+    ensures { BindsTextTo query.now params.now set object.old (code_number result) place.new object.new }
+{
+    match object {
+        Object::Bytes(out) => bound(alloc, query, params, set, out, place),
+        Object::Empty => Code::EmptyHandle,
+        _ => Code::OtherKind,
+    }
+}
+
+/// Appends the text of a set to the bytes that a handle stands for.
+fn bind_onto(
+    alloc: Global,
+    query: &[u8],
+    params: &Params,
+    set: usize,
+    out: &mut Handle,
+    place: &mut ShownPlace,
+) -> Code
+    ensures { BindsTextTo query.now params.now set out.old.object (code_number result) place.new out.new.object }
+{
+    let Some(mut object) = out.take(alloc) else {
+        return Code::EmptyHandle;
+    };
+    let code = bind_to(alloc, query, params, set, &mut object, place);
+    out.put(object);
+    code
+}
+
+/// Appends the text of the set of a number to the bytes that a handle stands for.
+fn bind_from(
+    alloc: Global,
+    held: &Object,
+    set: usize,
+    query: &[u8],
+    out: &mut Handle,
+    place: &mut ShownPlace,
+) -> Code
+    ensures { BindsTextFrom query.now held.now set out.old.object (code_number result) place.new out.new.object }
+{
+    match held.set_at(set) {
+        Ok(params) => bind_onto(alloc, query, params, set, out, place),
+        Err(code) => code,
+    }
+}
+
+/// Appends the literal of a value to bytes. A float has none.
+fn put_literal(value: &Value, out: &mut Vec<u8>) -> Code
+    ensures { PutsLiteral value.now out.old.items (code_number result) out.new.items }
+{
+    match push_literal(out, value) {
+        Ok(()) => Code::Done,
+        Err(AsSqlError::Float) => Code::Float,
+        Err(AsSqlError::Memory) => Code::Memory,
+    }
+}
+
+/// Appends the literal of a value to bytes.
+fn put_literal_to(value: &Value, object: &mut Object) -> Code
+    ensures { PutsLiteralTo value.now object.old (code_number result) object.new }
+{
+    match object {
+        Object::Bytes(out) => put_literal(value, out),
+        Object::Empty => Code::EmptyHandle,
+        _ => Code::OtherKind,
+    }
+}
+
+/// Appends the literal of a value to the bytes that a handle stands for.
+fn put_literal_onto(alloc: Global, value: &Value, out: &mut Handle) -> Code
+    ensures { PutsLiteralTo value.now out.old.object (code_number result) out.new.object }
+{
+    let Some(mut object) = out.take(alloc) else {
+        return Code::EmptyHandle;
+    };
+    let code = put_literal_to(value, &mut object);
+    out.put(object);
+    code
+}
+
+/// Appends the literal of the value at a place of a set to the bytes that a handle stands for.
+fn put_literal_from(
+    alloc: Global,
+    held: &Object,
+    set: usize,
+    place: usize,
+    out: &mut Handle,
+) -> Code
+    ensures { PutsLiteralFrom held.now set place out.old.object (code_number result) out.new.object }
+{
+    match held.value_at(set, place) {
+        Ok(value) => put_literal_onto(alloc, value, out),
+        Err(code) => code,
+    }
+}
+
+/// Appends the text of the set of this number over a query to the bytes of another handle. Where there is none it shows the set and
+/// the place that are refused, and the bytes stay.
+pub fn bind_text(
+    alloc: Global,
+    sets: &mut Handle,
+    set: usize,
+    query: &[u8],
+    out: &mut Handle,
+    place: &mut ShownPlace,
+) -> u32
+    ensures kept { sets.new.object ≡ sets.old.object }
+    ensures bound { BindsTextFrom query.now sets.old.object set out.old.object result place.new out.new.object }
+{
+    let Some(given) = sets.take(alloc) else {
+        return Code::EmptyHandle.number();
+    };
+    let code = bind_from(alloc, &given, set, query, out, place);
+    sets.put(given);
+    code.number()
+}
+
+/// Appends the literal of the value at a place of the set of this number to the bytes of another handle.
+pub fn value_text(
+    alloc: Global,
+    sets: &mut Handle,
+    set: usize,
+    place: usize,
+    out: &mut Handle,
+) -> u32
+    ensures kept { sets.new.object ≡ sets.old.object }
+    ensures put { PutsLiteralFrom sets.old.object set place out.old.object result out.new.object }
+{
+    let Some(given) = sets.take(alloc) else {
+        return Code::EmptyHandle.number();
+    };
+    let code = put_literal_from(alloc, &given, set, place, out);
+    sets.put(given);
+    code.number()
+}

@@ -1,0 +1,5 @@
+pub mod Bytes
+pub mod Codes
+pub mod Owned
+pub mod Sets
+pub mod Texts

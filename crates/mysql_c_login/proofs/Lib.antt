@@ -1,0 +1,3 @@
+pub mod Behind
+pub mod Fields
+pub mod Scrambles

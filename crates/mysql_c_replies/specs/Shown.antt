@@ -1,0 +1,103 @@
+-- What C sees of the results of a reply, of values, columns and changes of the session's state, and of the reply's end.
+use Rattle.std.specs.Prelude.{◌≡◌, ◌⊎◌, ℕ, List, true, false, Option, Some, None, Ok, Err, length, slice_get, MatchOption}
+use Rattle.mysql_cells.specs.declared.value.Value.{Value}
+use Rattle.mysql_cells.specs.declared.value.Value.TheVariants as value
+use Rattle.mysql_const.specs.ColumnTypes.{column_type_number}
+use Rattle.mysql_const.specs.SessionStates.{session_state_number}
+use Rattle.mysql_columns.specs.Columns.{ColumnDefinition}
+use Rattle.mysql_ok_packets.specs.OkPackets.{OkPacket, all_states_at}
+use Rattle.mysql_ok_packets.specs.Written.{or_empty, or_zero}
+use Rattle.mysql_raw.specs.Wire.{Reading}
+use Rattle.mysql_session_states.specs.SessionStates.{State}
+use Rattle.mysql_replies.specs.declared.results.ReplyEnd.{ReplyEnd}
+use Rattle.mysql_replies.specs.declared.results.ReplyEnd.TheVariants as ending
+use Rattle.mysql_replies.specs.Grammar as grammar
+use Rattle.mysql_c_handles.specs.declared.code.Code.TheVariants as code
+use Rattle.mysql_c_handles.specs.declared.shown.ShownEnd.{ShownEnd}
+use Rattle.mysql_c_handles.specs.Codes.{code_number, reply_fault_number}
+use Rattle.mysql_c_replies.specs.declared.shown.ShownColumn.{ShownColumn}
+use Rattle.mysql_c_replies.specs.declared.shown.ShownResult.{ShownResult}
+use Rattle.mysql_c_replies.specs.declared.shown.ShownValue.{ShownValue}
+
+-- whole is kind 0, a reply that isn't whole 1, a fault 3 with its payload and its number
+abbrev pub ShowsReplyEnd : ReplyEnd → ShownEnd → Type 0
+ShowsReplyEnd ending.Whole shown = shown.kind ≡ 0
+ShowsReplyEnd ending.Unfinished shown = shown.kind ≡ 1
+ShowsReplyEnd (ending.Fault payload fault) shown = (shown.kind ≡ 3) × (shown.payload ≡ payload) × (shown.fault ≡ reply_fault_number fault)
+
+-- how many changes of the session's state were read: none where they can't be
+abbrev pub count_read : Reading (List State) → ℕ
+count_read (Ok x) = length x.0
+count_read (Err e) = 0
+
+-- A count is that number, or memory was refused.
+abbrev pub CountsChanges : Reading (List State) → Option ℕ → Type 0
+CountsChanges read None = Unit {0}
+CountsChanges read (Some count) = count ≡ count_read read
+
+-- what an OK packet tells, its text by its length
+abbrev pub ShowsPacket : OkPacket → ShownResult → Type 0
+ShowsPacket ok shown =
+    (shown.affected_rows ≡ ok.affected_rows) × (shown.last_insert_id ≡ or_zero ok.last_insert_id) × (shown.status ≡ ok.status_flags)
+    × (shown.warnings ≡ ok.warnings) × (shown.len ≡ length (or_empty ok.info)) × (shown.states ≡ count_read (all_states_at ok.session_state_info))
+
+-- what the packet tells that ended rows, where it came
+abbrev pub ShowsTerminator : Option OkPacket → ShownResult → Type 0
+ShowsTerminator None shown = shown.ended ≡ false
+ShowsTerminator (Some ok) shown = (shown.ended ≡ true) × ShowsPacket ok shown
+
+-- the SQL state of an error, by its bytes
+abbrev pub ShowsState : Option (List ℕ) → ShownResult → Type 0
+ShowsState None shown = shown.state_len ≡ 0
+ShowsState (Some state) shown = (shown.state_len ≡ 5) × (shown.state ≡ state)
+
+-- OK is kind 0, rows 1, a prepared statement 2, an error 3, a request for a file 4
+abbrev pub ShowsOutcome : grammar.Outcome → ShownResult → Type 0
+ShowsOutcome (grammar.OkResult ok) shown = (shown.kind ≡ 0) × (shown.ended ≡ true) × ShowsPacket ok shown
+ShowsOutcome (grammar.RowsResult columns rows terminator) shown =
+    (shown.kind ≡ 1) × (shown.columns ≡ length columns) × (shown.rows ≡ length rows) × ShowsTerminator terminator shown
+ShowsOutcome (grammar.PreparedResult statement params columns) shown =
+    (shown.kind ≡ 2) × (shown.ended ≡ true) × (shown.statement ≡ statement.statement_id) × (shown.params ≡ length params)
+    × (shown.columns ≡ length columns) × (shown.warnings ≡ statement.warning_count)
+ShowsOutcome (grammar.ErrorResult error) shown =
+    (shown.kind ≡ 3) × (shown.ended ≡ true) × (shown.error_code ≡ error.error_code) × (shown.len ≡ length error.error_message)
+    × ShowsState error.sql_state shown
+ShowsOutcome (grammar.FileResult name) shown = (shown.kind ≡ 4) × (shown.ended ≡ true) × (shown.len ≡ length name)
+
+-- A call is done and this holds, or it was refused memory.
+abbrev pub UnlessMemory : ℕ → Type 0 → Type 0
+UnlessMemory number Holds = ((number ≡ 0) × Holds) ⊎ (number ≡ code_number code.Memory)
+
+-- a change of the session's state: its type, and its bytes by their length
+abbrev pub ShowsChange : State → ℕ → ℕ → Type 0
+ShowsChange change type len = (type ≡ session_state_number change.data_type) × (len ≡ length change.content)
+
+-- The change of this number is shown; or there is none, or the changes can't be read, or memory was refused.
+abbrev pub ShowsChangeOf : Reading (List State) → ℕ → ℕ → ℕ → ℕ → Type 0
+ShowsChangeOf (Ok x) state number type len =
+    MatchOption (slice_get x.0 state) (number ≡ code_number code.OutOfRange) (λ change. (number ≡ 0) × ShowsChange change type len)
+    ⊎ (number ≡ code_number code.Memory)
+ShowsChangeOf (Err e) state number type len = (number ≡ code_number code.BadPacket) ⊎ (number ≡ code_number code.Memory)
+
+-- a column by its numbers, and its names by their lengths
+abbrev pub ShowsColumn : ColumnDefinition → ShownColumn → Type 0
+ShowsColumn column shown =
+    (shown.column_type ≡ column_type_number column.column_type) × (shown.decimals ≡ column.decimals) × (shown.flags ≡ column.flags.0)
+    × (shown.charset ≡ column.character_set) × (shown.length ≡ column.column_length)
+    × (shown.schema_len ≡ length column.schema) × (shown.table_len ≡ length column.table) × (shown.org_table_len ≡ length column.org_table)
+    × (shown.name_len ≡ length column.name) × (shown.org_name_len ≡ length column.org_name)
+
+-- NULL is kind 0, a number with a sign 1, one without 2, bytes 3, a float's bits 4, a double's 5, a date 6, a duration 7
+abbrev pub ShowsValue : Value → ShownValue → Type 0
+ShowsValue value.NULL shown = shown.kind ≡ 0
+ShowsValue (value.Int number) shown = (shown.kind ≡ 1) × (shown.int ≡ number)
+ShowsValue (value.UInt number) shown = (shown.kind ≡ 2) × (shown.uint ≡ number)
+ShowsValue (value.Bytes bytes) shown = (shown.kind ≡ 3) × (shown.len ≡ length bytes)
+ShowsValue (value.Float bits) shown = (shown.kind ≡ 4) × (shown.uint ≡ bits)
+ShowsValue (value.Double bits) shown = (shown.kind ≡ 5) × (shown.uint ≡ bits)
+ShowsValue (value.Date year month day hour minute second micros) shown =
+    (shown.kind ≡ 6) × (shown.year ≡ year) × (shown.month ≡ month) × (shown.day ≡ day) × (shown.hour ≡ hour) × (shown.minute ≡ minute)
+    × (shown.second ≡ second) × (shown.micros ≡ micros)
+ShowsValue (value.Time negative days hours minutes seconds micros) shown =
+    (shown.kind ≡ 7) × (shown.negative ≡ negative) × (shown.days ≡ days) × (shown.hour ≡ hours) × (shown.minute ≡ minutes)
+    × (shown.second ≡ seconds) × (shown.micros ≡ micros)

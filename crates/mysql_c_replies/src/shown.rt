@@ -1,0 +1,325 @@
+//! What C sees of the results of a reply, of values, columns and changes of the session's state, and of the reply's end.
+
+ghost use Rattle.std.specs.Prelude.{◌≡◌, length, option_map};
+ghost use Rattle.mysql_columns.specs.Views.{column_view};
+ghost use Rattle.mysql_ok_packets.specs.OkPackets.{all_states_at};
+ghost use Rattle.mysql_ok_packets.specs.Views.{ok_packet_view};
+ghost use Rattle.mysql_packets.specs.Views.{server_error_view, sql_state_view};
+ghost use Rattle.mysql_replies.specs.Grammar.{ErrorResult};
+ghost use Rattle.mysql_replies.specs.Views.{outcome_view};
+ghost use Rattle.mysql_c_handles.specs.Codes.{code_number};
+ghost use Rattle.mysql_c_replies.specs.Shown.{CountsChanges, ShowsChangeOf, ShowsColumn, ShowsOutcome, ShowsPacket, ShowsReplyEnd, ShowsState, ShowsTerminator, ShowsValue, UnlessMemory};
+
+use mysql_c_handles::{Code, ShownEnd, number_of_reply_fault, start_of};
+use mysql_cells::Value;
+use mysql_columns::Column;
+use mysql_ok_packets::OkPacket;
+use mysql_packets::{ServerError, SqlState};
+use mysql_raw::WireError;
+use mysql_replies::{ReplyEnd, ReplyResult};
+use std::alloc::Global;
+
+/// A result: its kind (0 OK, 1 rows, 2 a prepared statement, 3 an error, 4 a request for a file), and what that kind has. The text is
+/// what an OK packet tells, an error's message or a file's name; `ended` is false of rows alone, where the packet that ends them didn't come.
+#[repr(C)]
+#[derive(Clone, Copy)]
+pub struct ShownResult {
+    pub kind: u32,
+    pub status: u16,
+    pub warnings: u16,
+    pub error_code: u16,
+    pub statement: u32,
+    pub affected_rows: u64,
+    pub last_insert_id: u64,
+    pub columns: usize,
+    pub rows: usize,
+    pub params: usize,
+    pub states: usize,
+    pub text: *const u8,
+    pub len: usize,
+    pub state: [u8; 5],
+    pub state_len: usize,
+    pub ended: bool,
+}
+
+/// A value: its kind (0 NULL, 1 a number with a sign, 2 one without, 3 bytes, 4 a float by its bits, 5 a double by its bits, 6 a date,
+/// 7 a duration), and what that kind has.
+#[repr(C)]
+#[derive(Clone, Copy)]
+pub struct ShownValue {
+    pub kind: u32,
+    pub negative: bool,
+    pub month: u8,
+    pub day: u8,
+    pub hour: u8,
+    pub minute: u8,
+    pub second: u8,
+    pub year: u16,
+    pub days: u32,
+    pub micros: u32,
+    pub int: i64,
+    pub uint: u64,
+    pub bytes: *const u8,
+    pub len: usize,
+}
+
+/// A column: its numbers, and its names where they stand.
+#[repr(C)]
+#[derive(Clone, Copy)]
+pub struct ShownColumn {
+    pub column_type: u8,
+    pub decimals: u8,
+    pub flags: u16,
+    pub charset: u16,
+    pub length: u32,
+    pub schema: *const u8,
+    pub schema_len: usize,
+    pub table: *const u8,
+    pub table_len: usize,
+    pub org_table: *const u8,
+    pub org_table_len: usize,
+    pub name: *const u8,
+    pub name_len: usize,
+    pub org_name: *const u8,
+    pub org_name_len: usize,
+}
+
+/// Shows how a reply ends.
+pub(crate) fn show_reply_end(end: ReplyEnd, shown: &mut ShownEnd)
+    ensures { ShowsReplyEnd end shown.new }
+{
+    match end {
+        ReplyEnd::Whole => shown.kind = 0,
+        ReplyEnd::Unfinished => shown.kind = 1,
+        ReplyEnd::Fault(payload, fault) => {
+            shown.kind = 3;
+            shown.payload = payload;
+            shown.fault = number_of_reply_fault(fault);
+        }
+    }
+}
+
+/// Shows a text where it stands.
+fn show_text(text: &[u8], shown: &mut ShownResult)
+    ensures { shown.new ≡ record shown.old { text = shown.new.text; len = length text.now } }
+{
+    shown.text = start_of(text);
+    shown.len = text.len();
+}
+
+/// Shows the SQL state of an error.
+fn show_sql_state(state: Option<&SqlState>, shown: &mut ShownResult)
+    ensures { ShowsState (option_map (λ state. sql_state_view state.now) state.entry) shown.new }
+{
+    match state {
+        Some(state) => {
+            shown.state = state.as_bytes();
+            shown.state_len = 5;
+        }
+        None => shown.state_len = 0,
+    }
+}
+
+/// Counts the changes of the session's state that a packet tells; none where they can't be read. Nothing is counted for want of memory.
+fn count_changes(alloc: Global, ok: &OkPacket<'_>) -> Option<usize>
+    ensures { CountsChanges (all_states_at (ok_packet_view ok.now).session_state_info) result }
+{
+    match ok.session_state_info(alloc) {
+        Ok(changes) => Some(changes.len()),
+        Err(WireError::Memory) => None,
+        Err(_) => Some(0),
+    }
+}
+
+/// Shows what an OK packet tells.
+fn show_packet(alloc: Global, ok: &OkPacket<'_>, shown: &mut ShownResult) -> Code
+    ensures { UnlessMemory (code_number result) (ShowsPacket (ok_packet_view ok.now) shown.new) }
+{
+    let Some(states) = count_changes(alloc, ok) else {
+        return Code::Memory;
+    };
+    show_text(ok.info_ref().unwrap_or(&[]), shown);
+    shown.affected_rows = ok.affected_rows();
+    shown.last_insert_id = ok.last_insert_id().unwrap_or(0);
+    shown.status = ok.status_flags().0;
+    shown.warnings = ok.warnings();
+    shown.states = states;
+    Code::Done
+}
+
+/// Shows what the packet tells that ended rows, where it came.
+fn show_terminator(
+    alloc: Global,
+    terminator: &Option<OkPacket<'static>>,
+    shown: &mut ShownResult,
+) -> Code
+    ensures { UnlessMemory (code_number result) (ShowsTerminator (option_map ok_packet_view terminator.now) shown.new) }
+{
+    match terminator {
+        Some(ok) => {
+            let code = show_packet(alloc, ok, shown);
+            shown.ended = true;
+            code
+        }
+        None => {
+            shown.ended = false;
+            Code::Done
+        }
+    }
+}
+
+/// Shows an error.
+fn show_error(error: &ServerError<'static>, shown: &mut ShownResult)
+    ensures { ShowsOutcome (ErrorResult (server_error_view error.now)) shown.new }
+{
+    show_sql_state(error.sql_state_ref(), shown);
+    show_text(error.message_ref(), shown);
+    shown.kind = 3;
+    shown.ended = true;
+    shown.error_code = error.error_code();
+}
+
+/// Shows a result.
+pub(crate) fn show_result(alloc: Global, found: &ReplyResult, shown: &mut ShownResult) -> Code
+    ensures { UnlessMemory (code_number result) (ShowsOutcome (outcome_view found.now) shown.new) }
+{
+    match found {
+        ReplyResult::Ok(ok) => {
+            let code = show_packet(alloc, ok, shown);
+            shown.kind = 0;
+            shown.ended = true;
+            code
+        }
+        ReplyResult::Rows {
+            columns,
+            rows,
+            terminator,
+        } => {
+            let code = show_terminator(alloc, terminator, shown);
+            shown.kind = 1;
+            shown.columns = columns.as_slice().len();
+            shown.rows = rows.len();
+            code
+        }
+        ReplyResult::Prepared {
+            stmt,
+            params,
+            columns,
+        } => {
+            shown.kind = 2;
+            shown.ended = true;
+            shown.statement = stmt.statement_id();
+            shown.params = params.len();
+            shown.columns = columns.len();
+            shown.warnings = stmt.warning_count();
+            Code::Done
+        }
+        ReplyResult::Error(error) => {
+            show_error(error, shown);
+            Code::Done
+        }
+        ReplyResult::File(file) => {
+            show_text(file.file_name_ref(), shown);
+            shown.kind = 4;
+            shown.ended = true;
+            Code::Done
+        }
+    }
+}
+
+/// Shows a change of the session's state that a packet tells. Its bytes stand in the packet.
+pub(crate) fn show_state(
+    alloc: Global,
+    ok: &OkPacket<'_>,
+    state: usize,
+    kind: &mut u8,
+    data: &mut *const u8,
+    len: &mut usize,
+) -> Code
+    ensures { ShowsChangeOf (all_states_at (ok_packet_view ok.now).session_state_info) state (code_number result) kind.new len.new }
+{
+    match ok.session_state_info(alloc) {
+        Ok(changes) => match changes.get(state) {
+            Some(change) => {
+                *kind = u8::from(change.data_type());
+                *data = start_of(change.data_ref());
+                *len = change.data_ref().len();
+                Code::Done
+            }
+            None => Code::OutOfRange,
+        },
+        Err(WireError::Memory) => Code::Memory,
+        Err(_) => Code::BadPacket,
+    }
+}
+
+/// Shows a column. Its names stay where they are.
+pub(crate) fn show_column(column: &Column, shown: &mut ShownColumn)
+    ensures { ShowsColumn (column_view column.now) shown.new }
+{
+    shown.column_type = u8::from(column.column_type());
+    shown.decimals = column.decimals();
+    shown.flags = column.flags().0;
+    shown.charset = column.character_set();
+    shown.length = column.column_length();
+    shown.schema = start_of(column.schema_ref());
+    shown.schema_len = column.schema_ref().len();
+    shown.table = start_of(column.table_ref());
+    shown.table_len = column.table_ref().len();
+    shown.org_table = start_of(column.org_table_ref());
+    shown.org_table_len = column.org_table_ref().len();
+    shown.name = start_of(column.name_ref());
+    shown.name_len = column.name_ref().len();
+    shown.org_name = start_of(column.org_name_ref());
+    shown.org_name_len = column.org_name_ref().len();
+}
+
+/// Shows a value. Bytes stay where they are.
+pub(crate) fn show_value(value: &Value, shown: &mut ShownValue)
+    ensures { ShowsValue value.now shown.new }
+{
+    match value {
+        Value::NULL => shown.kind = 0,
+        Value::Int(number) => {
+            shown.kind = 1;
+            shown.int = *number;
+        }
+        Value::UInt(number) => {
+            shown.kind = 2;
+            shown.uint = *number;
+        }
+        Value::Bytes(bytes) => {
+            let bytes = bytes.as_slice();
+            shown.kind = 3;
+            shown.bytes = start_of(bytes);
+            shown.len = bytes.len();
+        }
+        Value::Float(bits) => {
+            shown.kind = 4;
+            shown.uint = *bits as u64;
+        }
+        Value::Double(bits) => {
+            shown.kind = 5;
+            shown.uint = *bits;
+        }
+        Value::Date(year, month, day, hour, minute, second, micros) => {
+            shown.kind = 6;
+            shown.year = *year;
+            shown.month = *month;
+            shown.day = *day;
+            shown.hour = *hour;
+            shown.minute = *minute;
+            shown.second = *second;
+            shown.micros = *micros;
+        }
+        Value::Time(negative, days, hours, minutes, seconds, micros) => {
+            shown.kind = 7;
+            shown.negative = *negative;
+            shown.days = *days;
+            shown.hour = *hours;
+            shown.minute = *minutes;
+            shown.second = *seconds;
+            shown.micros = *micros;
+        }
+    }
+}
