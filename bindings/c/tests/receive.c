@@ -1,109 +1,184 @@
-/*
- * Feeds a recorded stream byte by byte, and prints each set as it comes and the end.
- *
- * cc -std=c99 -Wall -Wextra -Werror -pedantic receive.c ../../../crates/mysql_c/out/libmysql_c.a
- *    HEAP -o receive, where HEAP is the toolchain's c/liblibc_c.a.
- */
-#include "../mysql_session.h"
+/* Streams of commands are read back, in one piece, in pieces of three bytes and byte by byte. */
+#include "check.h"
 
-#include <stdio.h>
+#define PREPARE "09 00 00 00 16 |SELECT ?| "
+#define EXECUTION_OF "16 00 00 00 17 01 00 00 00 00 01 00 00 00 00 01 08 00 "
+#define EXECUTE_1 EXECUTION_OF "01 00 00 00 00 00 00 00 "
+#define EXECUTE_NULL "0e 00 00 00 17 01 00 00 00 00 01 00 00 00 01 01 06 00 "
+#define EXECUTE_TINY_5 "0f 00 00 00 17 01 00 00 00 00 01 00 00 00 00 01 01 00 05 "
+#define EXECUTE_7_UNTYPED "0d 00 00 00 17 01 00 00 00 00 01 00 00 00 00 00 07 "
+#define LONG_DATA_X "08 00 00 00 18 01 00 00 00 00 00 |x| "
+#define RESET "05 00 00 00 1a 01 00 00 00 "
+#define BULK_1_2 \
+    "1b 00 00 00 fa 01 00 00 00 80 00 08 00 00 01 00 00 00 00 00 00 00 00 02 00 00 00 00 00 00 00 "
+#define TEXT_1 "09 00 00 00 03 |SELECT 1| "
 
-static const char query[] = "SELECT ?, ?";
+/* A stream, what it carries, and how it ends. */
+typedef struct row {
+    const char *query;
+    const char *written;
+    const char *sets;
+    uint32_t end;
+    uint32_t fault;
+    uint64_t payload;
+} row;
 
-/* SELECT 1, 'ab'; SELECT NULL, 18446744073709551615; SELECT -7, 0x00ff; a header's first bytes. */
-static const uint8_t stream[] = {
-    0x0f, 0x00, 0x00, 0x00, 0x03, 0x53, 0x45, 0x4c, 0x45, 0x43, 0x54, 0x20,
-    0x31, 0x2c, 0x20, 0x27, 0x61, 0x62, 0x27, 0x22, 0x00, 0x00, 0x00, 0x03,
-    0x53, 0x45, 0x4c, 0x45, 0x43, 0x54, 0x20, 0x4e, 0x55, 0x4c, 0x4c, 0x2c,
-    0x20, 0x31, 0x38, 0x34, 0x34, 0x36, 0x37, 0x34, 0x34, 0x30, 0x37, 0x33,
-    0x37, 0x30, 0x39, 0x35, 0x35, 0x31, 0x36, 0x31, 0x35, 0x12, 0x00, 0x00,
-    0x00, 0x03, 0x53, 0x45, 0x4c, 0x45, 0x43, 0x54, 0x20, 0x2d, 0x37, 0x2c,
-    0x20, 0x30, 0x78, 0x30, 0x30, 0x66, 0x66, 0x05, 0x00, 0x00
+#define WHOLE MYSQL_SESSION_END_WHOLE, 0, 0
+#define UNFINISHED MYSQL_SESSION_END_UNFINISHED_PACKET, 0, 0
+#define WAITING MYSQL_SESSION_END_WAITING_PIECES, 0, 0
+#define FAULT(name, payload) MYSQL_SESSION_END_FAULT, MYSQL_SESSION_FAULT_##name, (payload)
+
+static const row rows[] = {
+    { "SELECT ?", "", "", WHOLE },
+    { "SELECT ?", TEXT_1, "1; ", WHOLE },
+    { "SELECT :a", TEXT_1 "09 00 00 00 03 |SELECT 2| ", "1; 2; ", WHOLE },
+    { "SELECT ?, ?", "0f 00 00 00 03 |SELECT 1, 'ab'| 22 00 00 00 03 |SELECT NULL, "
+      "18446744073709551615| 12 00 00 00 03 |SELECT -7, 0x00ff| 05 00 00",
+      "1 |ab|; null 18446744073709551615; -7 x00ff; ", UNFINISHED },
+    { "SELECT 1", TEXT_1, "; ", WHOLE },
+    { "SELECT ?", PREPARE EXECUTE_1 EXECUTE_NULL, "1; null; ", WHOLE },
+    { "SELECT ?", PREPARE EXECUTE_TINY_5 EXECUTE_7_UNTYPED, "5; 7; ", WHOLE },
+    { "SELECT ?", PREPARE LONG_DATA_X LONG_DATA_X EXECUTE_NULL, "|xx|; ", WHOLE },
+    { "SELECT ?", PREPARE LONG_DATA_X, "", WAITING },
+    { "SELECT ?", PREPARE LONG_DATA_X RESET EXECUTE_1, "1; ", WHOLE },
+    { "SELECT ?", PREPARE BULK_1_2, "1; 2; ", WHOLE },
+    { "SELECT ?", TEXT_1 PREPARE EXECUTE_1 BULK_1_2, "1; 1; 1; 2; ", WHOLE },
+    { "SELECT ?", "ff ff ff 00", "", FAULT(TOO_LARGE, 0) },
+    { "SELECT ?", TEXT_1 "09 00 00 01 03 |SELECT 1|", "1; ", FAULT(OUT_OF_SYNC, 1) },
+    { "SELECT ?", "00 00 00 00", "", FAULT(EMPTY_COMMAND, 0) },
+    { "SELECT ?", TEXT_1 TEXT_1 "01 00 00 00 0e", "1; 1; ", FAULT(OTHER_COMMAND, 2) },
+    { "SELECT ?", TEXT_1 "0a 00 00 00 03 |SELECT +1|", "1; ", FAULT(TEXT_MISMATCH, 1) },
+    { "SELECT 1-?", "0b 00 00 00 03 |SELECT 1-5|", "", FAULT(NOT_ALONE, 0) },
+    { "SELECT ?", "09 00 00 00 16 |SELECT !|", "", FAULT(PREPARE_MISMATCH, 0) },
+    { "SELECT ?", EXECUTE_1, "", FAULT(NOT_PREPARED, 0) },
+    { "SELECT ?", PREPARE "05 00 00 00 1a 02 00 00 00", "", FAULT(WRONG_ID, 1) },
+    { "SELECT ?", PREPARE EXECUTE_1 "0c 00 00 00 17 01 00 00 00 00 01 00 00 00 00 02", "1; ",
+      FAULT(BAD_EXECUTE, 2) },
+    { "SELECT ?", PREPARE EXECUTE_7_UNTYPED, "", FAULT(NO_TYPES, 1) },
+    { "SELECT ?", PREPARE "0e 00 00 00 17 01 00 00 00 00 01 00 00 00 00 01 f3 00", "",
+      FAULT(BAD_TYPE, 1) },
+    { "SELECT ?", PREPARE "12 00 00 00 17 01 00 00 00 00 01 00 00 00 00 01 04 00 00 00 80 3f", "",
+      FAULT(FLOAT, 1) },
+    { "SELECT ?", PREPARE "07 00 00 00 18 01 00 00 00 01 00", "", FAULT(BAD_PLACE, 1) },
+    { "SELECT ?", PREPARE "07 00 00 00 fa 01 00 00 00 01 00", "", FAULT(BAD_BULK, 1) },
+    { "SELECT ?", PREPARE "0a 00 00 00 fa 01 00 00 00 80 00 08 00 02", "", FAULT(INDICATOR, 1) },
+    { "SELECT ?", PREPARE "09 00 00 00 fa 01 00 00 00 80 00 08 00", "", FAULT(NO_ROWS, 1) },
+    { "SELECT ?", PREPARE LONG_DATA_X BULK_1_2, "", FAULT(PIECES_BEFORE_BULK, 2) },
 };
 
-static void print_content(const mysql_session_content *content)
+static void add_content(text *shown, const mysql_session_content *content)
 {
-    size_t i;
     switch (content->kind) {
     case MYSQL_SESSION_NULL:
-        printf("NULL");
+        text_add(shown, "null");
         break;
     case MYSQL_SESSION_INT:
-        printf("%lld", (long long)content->int_value);
+        text_add_signed(shown, content->int_value);
         break;
     case MYSQL_SESSION_UINT:
-        printf("%llu", (unsigned long long)content->uint_value);
+        text_add_unsigned(shown, content->uint_value);
         break;
     default:
-        printf("x'");
-        for (i = 0; i < content->len; i++)
-            printf("%02x", content->bytes[i]);
-        printf("'");
+        CHECK_NUMBER(content->kind, MYSQL_SESSION_BYTES);
+        text_add_bytes(shown, content->bytes, content->len);
     }
 }
 
-/* Prints the sets that were read, and lets go of them. */
-static uint32_t print_sets(mysql_session_handle *receiver, size_t fed)
+/* Adds the sets that the receiver holds. */
+static void add_sets(text *shown, mysql_session_handle *receiver)
 {
-    size_t sets = 0, width = 0, set, place;
     mysql_session_content content = { 0, 0, 0, NULL, 0 };
-    uint32_t code = mysql_session_receiver_sets(receiver, &sets);
-    for (set = 0; code == MYSQL_SESSION_OK && set < sets; set++) {
-        printf("byte %lu:", (unsigned long)fed);
-        code = mysql_session_receiver_width(receiver, set, &width);
-        for (place = 0; code == MYSQL_SESSION_OK && place < width; place++) {
-            code = mysql_session_receiver_content(receiver, set, place, &content);
-            printf(" ");
-            print_content(&content);
+    size_t sets = 0, width = 0, set, place;
+    CHECK_DONE(mysql_session_receiver_sets(receiver, &sets));
+    for (set = 0; set < sets; set++) {
+        CHECK_DONE(mysql_session_receiver_width(receiver, set, &width));
+        for (place = 0; place < width; place++) {
+            text_add(shown, place == 0 ? "" : " ");
+            CHECK_DONE(mysql_session_receiver_content(receiver, set, place, &content));
+            add_content(shown, &content);
         }
-        printf("\n");
+        text_add(shown, "; ");
+        CHECK_CODE(mysql_session_receiver_content(receiver, set, width, &content),
+                   MYSQL_SESSION_OUT_OF_RANGE);
     }
-    return code == MYSQL_SESSION_OK ? mysql_session_receiver_clear(receiver) : code;
+    CHECK_CODE(mysql_session_receiver_width(receiver, sets, &width), MYSQL_SESSION_OUT_OF_RANGE);
 }
 
-/* Misuse is answered, never a crash. */
-static int misuse(void)
+static void check_audit(mysql_session_handle *receiver, const row *wanted)
 {
-    mysql_session_handle nothing = MYSQL_SESSION_NOTHING, sets = MYSQL_SESSION_NOTHING;
     mysql_session_end end = { 0, 0, 0 };
-    size_t count = 0;
-    int failed = 0;
-    failed |= mysql_session_receiver_feed(&nothing, stream, 1) != MYSQL_SESSION_EMPTY_HANDLE;
-    failed |= mysql_session_receiver_end(&nothing, &end) != MYSQL_SESSION_EMPTY_HANDLE;
-    failed |= mysql_session_sets_new(&sets) != MYSQL_SESSION_OK;
-    failed |= mysql_session_receiver_feed(&sets, stream, 1) != MYSQL_SESSION_OTHER_KIND;
-    failed |= mysql_session_receiver_sets(&sets, &count) != MYSQL_SESSION_OTHER_KIND;
-    failed |= mysql_session_receiver_new(&sets, (const uint8_t *)query, sizeof query - 1, 1, 3)
-              != MYSQL_SESSION_LIMIT_TOO_SMALL;
-    failed |= mysql_session_sets_push_null(&sets) != MYSQL_SESSION_OK;
-    mysql_session_free(&sets);
-    mysql_session_free(&sets);
-    mysql_session_free(&nothing);
-    failed |= mysql_session_sets_push_null(&sets) != MYSQL_SESSION_EMPTY_HANDLE;
-    return failed;
+    int times;
+    for (times = 0; times < 2; times++) {
+        CHECK_DONE(mysql_session_receiver_end(receiver, &end));
+        CHECK_NUMBER(end.kind, wanted->end);
+        CHECK_NUMBER(end.kind == MYSQL_SESSION_END_FAULT ? end.fault : 0, wanted->fault);
+        CHECK_NUMBER(end.kind == MYSQL_SESSION_END_FAULT ? end.payload : 0, wanted->payload);
+    }
+    CHECK_CODE(mysql_session_receiver_feed(receiver, bytes_of(""), 0), MYSQL_SESSION_OTHER_KIND);
+}
+
+/* Reads a stream in pieces. The sets are taken as they come, or all at the end. */
+static void read_row(const row *given, size_t piece, int as_they_come)
+{
+    mysql_session_handle receiver = MYSQL_SESSION_NOTHING;
+    stream whole = stream_of(given->written);
+    uint32_t code = MYSQL_SESSION_OK;
+    size_t fed = 0;
+    text shown;
+    text_clear(&shown);
+    CHECK_DONE(mysql_session_receiver_new(&receiver, bytes_of(given->query), strlen(given->query),
+                                          1, 1000));
+    while (code == MYSQL_SESSION_OK && fed < whole.len) {
+        size_t count = piece_at(fed, piece, whole.len);
+        code = mysql_session_receiver_feed(&receiver, whole.bytes + fed, count);
+        fed += count;
+        if (as_they_come) {
+            add_sets(&shown, &receiver);
+            CHECK_DONE(mysql_session_receiver_clear(&receiver));
+        }
+    }
+    CHECK_CODE(code, given->fault);
+    CHECK_CODE(mysql_session_receiver_feed(&receiver, bytes_of(""), 0), given->fault);
+    CHECK_NUMBER(fed, whole.len);
+    check_audit(&receiver, given);
+    add_sets(&shown, &receiver);
+    CHECK_WRITTEN(&shown, given->sets);
+    mysql_session_free(&receiver);
+}
+
+/* What a handle stood for is freed where it is made to stand for another receiver. */
+static void new_in_place(void)
+{
+    mysql_session_handle receiver = MYSQL_SESSION_NOTHING;
+    stream whole = stream_of(TEXT_1);
+    size_t sets = 0;
+    CHECK_DONE(mysql_session_receiver_new(&receiver, bytes_of("SELECT ?"), 8, 1, 1000));
+    CHECK_DONE(mysql_session_receiver_feed(&receiver, whole.bytes, whole.len));
+    CHECK_CODE(mysql_session_receiver_new(&receiver, bytes_of("SELECT ?"), 8, 1, 3),
+               MYSQL_SESSION_LIMIT_TOO_SMALL);
+    CHECK_CODE(mysql_session_receiver_new(&receiver, bytes_of(":a ?"), 4, 1, 1000),
+               MYSQL_SESSION_MIXED);
+    CHECK_DONE(mysql_session_receiver_sets(&receiver, &sets));
+    CHECK_NUMBER(sets, 1);
+    CHECK_DONE(mysql_session_receiver_new(&receiver, bytes_of("SELECT ?"), 8, 1, 1000));
+    CHECK_DONE(mysql_session_receiver_sets(&receiver, &sets));
+    CHECK_NUMBER(sets, 0);
+    mysql_session_free(&receiver);
 }
 
 int main(void)
 {
-    mysql_session_handle receiver = MYSQL_SESSION_NOTHING;
-    mysql_session_end end = { 0, 0, 0 };
-    size_t fed;
-    uint32_t code;
-    if (mysql_session_abi() != MYSQL_SESSION_ABI)
-        return 1;
-    code = mysql_session_receiver_new(&receiver, (const uint8_t *)query, sizeof query - 1, 1, 65536);
-    for (fed = 0; code == MYSQL_SESSION_OK && fed < sizeof stream; fed++) {
-        code = mysql_session_receiver_feed(&receiver, stream + fed, 1);
-        if (code == MYSQL_SESSION_OK)
-            code = print_sets(&receiver, fed + 1);
+    size_t number, at;
+    CHECK_NUMBER(mysql_session_abi(), MYSQL_SESSION_ABI);
+    for (at = 0; at < sizeof rows / sizeof rows[0]; at++) {
+        for (number = 0; number < PIECE_SIZES; number++) {
+            size_t piece = piece_size(number, STREAM_ROOM);
+            check_note(rows[at].written, piece);
+            read_row(&rows[at], piece, 0);
+            read_row(&rows[at], piece, 1);
+        }
     }
-    if (code == MYSQL_SESSION_OK)
-        code = mysql_session_receiver_end(&receiver, &end);
-    printf("code %lu, end %lu\n", (unsigned long)code, (unsigned long)end.kind);
-    mysql_session_free(&receiver);
-    if (misuse()) {
-        printf("misuse\n");
-        return 2;
-    }
-    return code == MYSQL_SESSION_OK && end.kind == MYSQL_SESSION_END_UNFINISHED_PACKET ? 0 : 3;
+    check_note("", 0);
+    new_in_place();
+    return check_end("receive");
 }

@@ -1,0 +1,1553 @@
+"""Parameter sets of a query as streams of MySQL and MariaDB commands, and back.
+
+The C library of `bindings/c/mysql_session.h` by ctypes, for Python 3.8 and later:
+
+    sets = [(1, "it's"), (None, datetime.date(2024, 2, 29))]
+    stream = send("INSERT INTO t VALUES (?, ?)", sets, Road.EXECUTE, statement=7)
+    with Receiver("INSERT INTO t VALUES (?, ?)", statement=7) as receiver:
+        receiver.feed(stream)
+        for values in receiver:
+            print(values)  # (1, b"it's"), then (None, b'2024-02-29')
+        print(receiver.end())
+
+The shared object is looked for where the environment variable MYSQL_SESSION_LIBRARY says, else
+beside this file as libmysql_session.so, which `make` puts there.
+
+Texts (queries, names, messages) are str, which goes as UTF-8, or bytes; what comes out is bytes.
+
+A limit is the max_allowed_packet of the side that packets go to, at least 4. `send` and `Recoder`
+count a packet's header in it (a payload has at most `limit - 4` bytes), all other calls the payload
+alone. `DEFAULT_LIMIT` is that of most servers.
+
+An object stays in the thread that made it: another thread's call raises RuntimeError. Objects of
+different threads share nothing, and a call lets other threads run. What an object holds is freed
+by `close`, at the end of `with`, or when it is collected. Where that happens in another thread, its
+own thread frees it when it makes its next object, and nobody where that thread has ended: `close`
+what a thread leaves. A closed object's calls raise `MySQLSessionError` with `Code.EMPTY_HANDLE`.
+
+Numbers that are too large for their field raise OverflowError.
+"""
+
+from __future__ import annotations
+
+import collections
+import collections.abc
+import ctypes
+import datetime
+import enum
+import os
+import struct
+import threading
+import weakref
+from typing import (Any, Deque, Dict, Iterable, Iterator, List, Mapping, NamedTuple, Optional,
+                    Sequence, Tuple, Type, TypeVar, Union)
+
+__all__ = [
+    "ABI", "AUTOCOMMIT", "Capability", "Cell", "Code", "Column", "ColumnType", "Content",
+    "DateFields", "DEFAULT_LIMIT", "End", "EndKind", "File", "Greeting", "Login", "MORE_RESULTS",
+    "MySQLSessionError", "Ok", "PacketReader", "Parameter", "ParameterSets", "Prepared",
+    "Receiver", "Recoder", "ReplyKind", "ReplyReader", "ReplyWriter", "Result", "Road", "Rows",
+    "ServerError", "State", "Text", "TimeFields", "binlog_dump", "binlog_dump_gtid", "bind_text",
+    "code_text", "ends_reply", "literal", "positional", "put_greeting", "put_login", "put_packet",
+    "read_greeting", "read_login", "read_reply", "recode", "register_replica", "send",
+]
+
+# The number of the interface that this module calls.
+ABI = 2
+
+# The max_allowed_packet that most servers have.
+DEFAULT_LIMIT = 1 << 24
+
+# The bit of a status that says that another result follows.
+MORE_RESULTS = 8
+
+# The bit of a status that each statement is committed as it ends.
+AUTOCOMMIT = 2
+
+
+# ---- Codes, roads and kinds ---------------------------------------------------------------------
+
+
+class Code(enum.IntEnum):
+    """What a call of the library answers. The header says which call answers which code."""
+
+    OK = 0
+    MEMORY = 1
+    EMPTY_HANDLE = 2
+    OTHER_KIND = 3
+    OUT_OF_RANGE = 4
+    LIMIT_TOO_SMALL = 5
+    MIXED = 6
+    NO_SUCH_ROAD = 7
+    NO_SUCH_KIND = 8
+    BAD_PACKET = 9
+    UNFINISHED = 10
+    FAULT_TOO_LARGE = 100
+    FAULT_OUT_OF_SYNC = 101
+    FAULT_EMPTY_COMMAND = 102
+    FAULT_OTHER_COMMAND = 103
+    FAULT_TEXT_MISMATCH = 104
+    FAULT_NOT_ALONE = 105
+    FAULT_PREPARE_MISMATCH = 106
+    FAULT_TOO_MANY_PLACES = 107
+    FAULT_NOT_PREPARED = 108
+    FAULT_WRONG_ID = 109
+    FAULT_BAD_EXECUTE = 110
+    FAULT_NO_TYPES = 111
+    FAULT_BAD_TYPE = 112
+    FAULT_FLOAT = 113
+    FAULT_BAD_PLACE = 114
+    FAULT_BAD_BULK = 115
+    FAULT_INDICATOR = 116
+    FAULT_NO_ROWS = 117
+    FAULT_PIECES_BEFORE_BULK = 118
+    REFUSED_NOT_ALONE = 200
+    REFUSED_TOO_MANY_PLACES = 201
+    REFUSED_PREPARE_TOO_LARGE = 202
+    REFUSED_NO_PLACES = 203
+    REFUSED_PARAMS = 204
+    REFUSED_WRONG_COUNT = 205
+    REFUSED_FLOAT = 206
+    REFUSED_PACKET_TOO_LARGE = 207
+    REFUSED_MIXED_KINDS = 208
+    REFUSED_ROW_TOO_LARGE = 209
+    REPLY_TOO_LARGE = 300
+    REPLY_OUT_OF_SYNC = 301
+    REPLY_BAD_HEADER = 302
+    REPLY_BAD_COUNT = 303
+    REPLY_BAD_COLUMN = 304
+    REPLY_BAD_OK = 305
+    REPLY_BAD_ERROR = 306
+    REPLY_BAD_ROW = 307
+    REPLY_BAD_TERMINATOR = 308
+    REPLY_BAD_PREPARE = 309
+    REPLY_AFTER_END = 310
+    WRITE_NO_RESULTS = 400
+    WRITE_AFTER_END = 401
+    WRITE_NOT_ENDED = 402
+    WRITE_NOT_BEGUN = 403
+    WRITE_WRONG_KIND = 404
+    WRITE_NO_COLUMNS = 405
+    WRITE_TOO_MANY_COLUMNS = 406
+    WRITE_STATUS = 407
+    WRITE_READS_AS_REPORT = 408
+    WRITE_CELL_COUNT = 409
+    WRITE_NO_FORM = 410
+    WRITE_PACKET_TOO_LARGE = 411
+
+
+class Road(enum.IntEnum):
+    """How parameter sets are sent."""
+
+    TEXT = 0
+    """A text query for each set."""
+    EXECUTE = 1
+    """One prepare, and an execution for each set."""
+    BULK = 2
+    """One prepare, and the fewest of MariaDB's bulk executions."""
+
+
+class EndKind(enum.IntEnum):
+    """How a stream ends."""
+
+    WHOLE = 0
+    UNFINISHED_PACKET = 1
+    """A packet isn't whole, or a reply lacks packets."""
+    WAITING_PIECES = 2
+    """Long data waits for an execution."""
+    FAULT = 3
+
+
+class ReplyKind(enum.IntEnum):
+    """The kind of command that a reply answers."""
+
+    QUERY = 0
+    EXECUTE = 1
+    PREPARE = 2
+
+
+class Capability(enum.IntFlag):
+    """What client and server can do (MySQL: Client/Server Protocol, "Capabilities Flags")."""
+
+    LONG_PASSWORD = 1
+    """MariaDB calls it CLIENT_MYSQL: where it is clear MariaDB's own capabilities count."""
+    FOUND_ROWS = 2
+    LONG_FLAG = 4
+    CONNECT_WITH_DB = 8
+    NO_SCHEMA = 0x10
+    COMPRESS = 0x20
+    ODBC = 0x40
+    LOCAL_FILES = 0x80
+    IGNORE_SPACE = 0x100
+    PROTOCOL_41 = 0x200
+    INTERACTIVE = 0x400
+    SSL = 0x800
+    IGNORE_SIGPIPE = 0x1000
+    TRANSACTIONS = 0x2000
+    RESERVED = 0x4000
+    SECURE_CONNECTION = 0x8000
+    MULTI_STATEMENTS = 0x10000
+    MULTI_RESULTS = 0x20000
+    PS_MULTI_RESULTS = 0x40000
+    PLUGIN_AUTH = 0x80000
+    CONNECT_ATTRS = 0x100000
+    PLUGIN_AUTH_LENENC_CLIENT_DATA = 0x200000
+    CAN_HANDLE_EXPIRED_PASSWORDS = 0x400000
+    SESSION_TRACK = 0x800000
+    DEPRECATE_EOF = 0x1000000
+    OPTIONAL_RESULTSET_METADATA = 0x2000000
+    ZSTD_COMPRESSION_ALGORITHM = 0x4000000
+    QUERY_ATTRIBUTES = 0x8000000
+    PROGRESS_OBSOLETE = 0x20000000
+    SSL_VERIFY_SERVER_CERT = 0x40000000
+    REMEMBER_OPTIONS = 0x80000000
+
+
+class ColumnType(enum.IntEnum):
+    """Types of columns (MySQL: Client/Server Protocol, "Field Types")."""
+
+    DECIMAL = 0
+    TINY = 1
+    SHORT = 2
+    LONG = 3
+    FLOAT = 4
+    DOUBLE = 5
+    NULL = 6
+    TIMESTAMP = 7
+    LONGLONG = 8
+    INT24 = 9
+    DATE = 10
+    TIME = 11
+    DATETIME = 12
+    YEAR = 13
+    NEWDATE = 14
+    VARCHAR = 15
+    BIT = 16
+    TIMESTAMP2 = 17
+    DATETIME2 = 18
+    TIME2 = 19
+    TYPED_ARRAY = 20
+    VECTOR = 242
+    UNKNOWN = 243
+    JSON = 245
+    NEWDECIMAL = 246
+    ENUM = 247
+    SET = 248
+    TINY_BLOB = 249
+    MEDIUM_BLOB = 250
+    LONG_BLOB = 251
+    BLOB = 252
+    VAR_STRING = 253
+    STRING = 254
+    GEOMETRY = 255
+
+
+class _Kind(enum.IntEnum):
+    """Kinds of values, as mysql_session_kind and mysql_session_value_kind have them."""
+
+    NULL = 0
+    INT = 1
+    UINT = 2
+    BYTES = 3
+    FLOAT = 4
+    DOUBLE = 5
+    DATE = 6
+    TIME = 7
+
+
+class _ResultKind(enum.IntEnum):
+    """Kinds of results, as mysql_session_result_kind has them."""
+
+    OK = 0
+    ROWS = 1
+    PREPARED = 2
+    ERROR = 3
+    FILE = 4
+
+
+# ---- Values -------------------------------------------------------------------------------------
+
+
+class DateFields(NamedTuple):
+    """A date by its fields, of which none is checked: also those that no calendar has, as month 0.
+
+    The years go to 65535, the microseconds to 2**32 - 1, all others to 255.
+    """
+
+    year: int
+    month: int
+    day: int
+    hour: int = 0
+    minute: int = 0
+    second: int = 0
+    microsecond: int = 0
+
+
+class TimeFields(NamedTuple):
+    """A duration by its fields, of which none is checked: also those that timedelta lacks.
+
+    The days and the microseconds go to 2**32 - 1, the hours, minutes and seconds to 255.
+    """
+
+    negative: bool
+    days: int
+    hours: int = 0
+    minutes: int = 0
+    seconds: int = 0
+    microseconds: int = 0
+
+
+Text = Union[str, bytes]
+"""A text that goes in: str goes as UTF-8."""
+
+Parameter = Union[None, bool, int, str, bytes, bytearray, memoryview, datetime.datetime,
+                  datetime.date, datetime.timedelta, DateFields, TimeFields]
+"""A value of a set. A float has no exact form on each road: give its text, as repr has it."""
+
+Content = Union[None, int, bytes]
+"""A value that a stream carries: dates, durations and texts are the bytes of their text."""
+
+Cell = Union[None, int, float, bytes, datetime.datetime, datetime.date, datetime.timedelta,
+             DateFields, TimeFields]
+"""A value of a row. A text row has bytes and None alone, a binary row has each kind: a date or a
+duration as that of `datetime` where there is one of the same fields, else by its fields."""
+
+
+# ---- What the library shares with C -------------------------------------------------------------
+
+
+class _Handle(ctypes.Structure):
+    _fields_ = [("at", ctypes.c_void_p)]
+
+
+class _Content(ctypes.Structure):
+    _fields_ = [
+        ("kind", ctypes.c_uint32),
+        ("int_value", ctypes.c_int64),
+        ("uint_value", ctypes.c_uint64),
+        ("bytes", ctypes.c_void_p),
+        ("len", ctypes.c_size_t),
+    ]
+
+
+# The fields of each kind that a parameter and the value of a cell begin with.
+_VALUE_FIELDS = [
+    ("kind", ctypes.c_uint32),
+    ("negative", ctypes.c_bool),
+    ("month", ctypes.c_uint8),
+    ("day", ctypes.c_uint8),
+    ("hour", ctypes.c_uint8),
+    ("minute", ctypes.c_uint8),
+    ("second", ctypes.c_uint8),
+    ("year", ctypes.c_uint16),
+    ("days", ctypes.c_uint32),
+    ("micros", ctypes.c_uint32),
+    ("int_value", ctypes.c_int64),
+    ("uint_value", ctypes.c_uint64),
+]
+
+
+class _Parameter(ctypes.Structure):
+    _fields_ = _VALUE_FIELDS + [("start", ctypes.c_size_t), ("len", ctypes.c_size_t)]
+
+
+class _Value(ctypes.Structure):
+    _fields_ = _VALUE_FIELDS + [("bytes", ctypes.c_void_p), ("len", ctypes.c_size_t)]
+
+
+class _End(ctypes.Structure):
+    _fields_ = [
+        ("kind", ctypes.c_uint32),
+        ("fault", ctypes.c_uint32),
+        ("payload", ctypes.c_uint64),
+    ]
+
+
+class _Place(ctypes.Structure):
+    _fields_ = [("set", ctypes.c_size_t), ("place", ctypes.c_size_t)]
+
+
+class _Stop(ctypes.Structure):
+    _fields_ = [
+        ("end", ctypes.c_uint32),
+        ("fault", ctypes.c_uint32),
+        ("payload", ctypes.c_uint64),
+        ("set", ctypes.c_size_t),
+    ]
+
+
+class _Spot(ctypes.Structure):
+    _fields_ = [
+        ("result", ctypes.c_size_t),
+        ("row", ctypes.c_size_t),
+        ("place", ctypes.c_size_t),
+        ("payload", ctypes.c_uint64),
+    ]
+
+
+class _Result(ctypes.Structure):
+    _fields_ = [
+        ("kind", ctypes.c_uint32),
+        ("status", ctypes.c_uint16),
+        ("warnings", ctypes.c_uint16),
+        ("error_code", ctypes.c_uint16),
+        ("statement", ctypes.c_uint32),
+        ("affected_rows", ctypes.c_uint64),
+        ("last_insert_id", ctypes.c_uint64),
+        ("columns", ctypes.c_size_t),
+        ("rows", ctypes.c_size_t),
+        ("params", ctypes.c_size_t),
+        ("states", ctypes.c_size_t),
+        ("text", ctypes.c_void_p),
+        ("len", ctypes.c_size_t),
+        ("state", ctypes.c_uint8 * 5),
+        ("state_len", ctypes.c_size_t),
+        ("ended", ctypes.c_bool),
+    ]
+
+
+def _with_texts(fields: List[Tuple[str, Any]], names: Sequence[str]) -> List[Tuple[str, Any]]:
+    """The fields, and behind them a pointer and a length for each text."""
+    for name in names:
+        fields += [(name, ctypes.c_void_p), (name + "_len", ctypes.c_size_t)]
+    return fields
+
+
+_COLUMN_TEXTS = ("schema", "table", "org_table", "name", "org_name")
+
+
+class _Column(ctypes.Structure):
+    _fields_ = _with_texts([
+        ("type", ctypes.c_uint8),
+        ("decimals", ctypes.c_uint8),
+        ("flags", ctypes.c_uint16),
+        ("charset", ctypes.c_uint16),
+        ("length", ctypes.c_uint32),
+    ], _COLUMN_TEXTS)
+
+
+_GREETING_TEXTS = ("version", "scramble_1", "scramble_2", "plugin")
+
+
+class _Greeting(ctypes.Structure):
+    _fields_ = _with_texts([
+        ("protocol", ctypes.c_uint8),
+        ("collation", ctypes.c_uint8),
+        ("status", ctypes.c_uint16),
+        ("connection", ctypes.c_uint32),
+        ("capabilities", ctypes.c_uint32),
+        ("mariadb_capabilities", ctypes.c_uint32),
+    ], _GREETING_TEXTS)
+
+
+_LOGIN_TEXTS = ("user", "response", "database", "plugin")
+
+
+class _Login(ctypes.Structure):
+    _fields_ = _with_texts([
+        ("collation", ctypes.c_uint8),
+        ("capabilities", ctypes.c_uint32),
+        ("mariadb_capabilities", ctypes.c_uint32),
+    ], _LOGIN_TEXTS)
+
+
+# ---- Calls --------------------------------------------------------------------------------------
+
+_U8, _U16, _U32, _U64 = ctypes.c_uint8, ctypes.c_uint16, ctypes.c_uint32, ctypes.c_uint64
+_SIZE, _BOOL, _OUT = ctypes.c_size_t, ctypes.c_bool, ctypes.c_void_p
+_HANDLE = ctypes.POINTER(_Handle)
+# Bytes that go in. A pointer of this type to a bytes object is never NULL.
+_BYTES = (ctypes.c_char_p, _SIZE)
+
+_ARGUMENTS: Dict[str, Tuple[Any, ...]] = {
+    "receiver_new": (_HANDLE, *_BYTES, _U32, _SIZE),
+    "receiver_feed": (_HANDLE, *_BYTES),
+    "receiver_sets": (_HANDLE, _OUT),
+    "receiver_width": (_HANDLE, _SIZE, _OUT),
+    "receiver_content": (_HANDLE, _SIZE, _SIZE, _OUT),
+    "receiver_clear": (_HANDLE,),
+    "receiver_end": (_HANDLE, _OUT),
+    "sets_new": (_HANDLE,),
+    "sets_add": (_HANDLE, ctypes.POINTER(_Parameter), _SIZE, *_BYTES),
+    "sets_count": (_HANDLE, _OUT),
+    "sets_clear": (_HANDLE,),
+    "bytes_new": (_HANDLE,),
+    "bytes_data": (_HANDLE, _OUT, _OUT),
+    "bytes_clear": (_HANDLE,),
+    "send": (_HANDLE, *_BYTES, _U32, _U32, _SIZE, _HANDLE, _OUT),
+    "bind_text": (_HANDLE, _SIZE, *_BYTES, _HANDLE, _OUT),
+    "value_text": (_HANDLE, _SIZE, _SIZE, _HANDLE),
+    "recoder_new": (_HANDLE, *_BYTES, _U32, _SIZE),
+    "recoder_feed": (_HANDLE, *_BYTES, _HANDLE, _OUT),
+    "recoder_end": (_HANDLE, _HANDLE, _OUT),
+    "reply_new": (_HANDLE, _U32, _U32, _U8, _SIZE),
+    "reply_feed": (_HANDLE, *_BYTES),
+    "reply_take": (_HANDLE,),
+    "reply_results": (_HANDLE, _OUT),
+    "reply_result": (_HANDLE, _SIZE, _OUT),
+    "reply_state": (_HANDLE, _SIZE, _SIZE, _OUT, _OUT, _OUT),
+    "reply_cell": (_HANDLE, _SIZE, _SIZE, _SIZE, _OUT),
+    "reply_column": (_HANDLE, _SIZE, _SIZE, _OUT),
+    "reply_param": (_HANDLE, _SIZE, _SIZE, _OUT),
+    "reply_end": (_HANDLE, _OUT),
+    "writer_new": (_HANDLE, _U32, _U32, _U8, _SIZE),
+    "writer_ok": (_HANDLE, _U64, _U64, _U16, _U16, *_BYTES, _BOOL, _HANDLE, _OUT),
+    "writer_error": (_HANDLE, _U16, *_BYTES, *_BYTES, _HANDLE, _OUT),
+    "writer_column": (_HANDLE, _U8, *_BYTES, _U16, _U16, _U32, _U8),
+    "writer_rows": (_HANDLE, _HANDLE, _OUT),
+    "writer_row": (_HANDLE, _HANDLE, _SIZE, _HANDLE, _OUT),
+    "writer_end_rows": (_HANDLE, _U16, _U16, _BOOL, _HANDLE, _OUT),
+    "writer_prepared": (_HANDLE, _U32, _SIZE, _U16, _HANDLE, _OUT),
+    "writer_end": (_HANDLE, _OUT),
+    "packets_new": (_HANDLE, _U8, _SIZE),
+    "packets_feed": (_HANDLE, ctypes.c_void_p, _SIZE, _OUT, _OUT),
+    "packets_payload": (_HANDLE, _OUT, _OUT),
+    "packets_restart": (_HANDLE,),
+    "packet_put": (_HANDLE, *_BYTES, _OUT, _SIZE),
+    "greeting_read": (*_BYTES, _OUT),
+    "greeting_put": (_HANDLE, _U32, _U32, _U32, _U8, _U16, *_BYTES, *_BYTES, *_BYTES, *_BYTES),
+    "login_read": (*_BYTES, _OUT),
+    "login_put": (_HANDLE, _U32, _U32, _U32, *_BYTES, *_BYTES, *_BYTES, *_BYTES),
+    "register_replica_put": (_HANDLE, _U32, *_BYTES, *_BYTES, *_BYTES, _U16),
+    "binlog_dump_put": (_HANDLE, _U32, _U32, _U16, *_BYTES),
+    "binlog_dump_gtid_put": (_HANDLE, _U32, _U64, _U16, *_BYTES, *_BYTES),
+}
+
+
+def _loaded() -> ctypes.CDLL:
+    """The library, where its interface is the one that this module calls."""
+    beside = os.path.join(os.path.dirname(os.path.abspath(__file__)), "libmysql_session.so")
+    path = os.environ.get("MYSQL_SESSION_LIBRARY", beside)
+    try:
+        library = ctypes.CDLL(path)
+    except OSError as error:
+        raise ImportError(f"the library of mysql_session isn't there: {error}") from error
+    library.mysql_session_abi.argtypes = ()
+    library.mysql_session_abi.restype = _U32
+    found = library.mysql_session_abi()
+    if found != ABI:
+        raise ImportError(f"{path} has the interface {found}, not {ABI}")
+    library.mysql_session_free.argtypes = (_HANDLE,)
+    library.mysql_session_free.restype = None
+    library.mysql_session_code_text.argtypes = (_U32, _OUT, _OUT)
+    library.mysql_session_code_text.restype = None
+    return library
+
+
+def _functions(library: ctypes.CDLL) -> Dict[str, Any]:
+    """The calls that answer a code, by their names without the prefix."""
+    functions = {}
+    for name, arguments in _ARGUMENTS.items():
+        function = getattr(library, "mysql_session_" + name)
+        function.argtypes = arguments
+        function.restype = _U32
+        functions[name] = function
+    return functions
+
+
+_library = _loaded()
+_calls = _functions(_library)
+
+# The fields that say where a call was refused, by its code; a fault of a stream has its payload.
+_WHERE: Dict[int, Tuple[str, ...]] = {
+    Code.UNFINISHED: ("end",),
+    Code.REFUSED_NOT_ALONE: ("place",),
+    Code.REFUSED_PARAMS: ("set",),
+    Code.REFUSED_WRONG_COUNT: ("set",),
+    Code.REFUSED_FLOAT: ("set", "place"),
+    Code.REFUSED_PACKET_TOO_LARGE: ("set",),
+    Code.REFUSED_MIXED_KINDS: ("set", "place"),
+    Code.REFUSED_ROW_TOO_LARGE: ("set",),
+    Code.WRITE_AFTER_END: ("result",),
+    Code.WRITE_NOT_ENDED: ("result",),
+    Code.WRITE_NOT_BEGUN: ("result",),
+    Code.WRITE_WRONG_KIND: ("result",),
+    Code.WRITE_NO_COLUMNS: ("result",),
+    Code.WRITE_TOO_MANY_COLUMNS: ("result",),
+    Code.WRITE_STATUS: ("result",),
+    Code.WRITE_READS_AS_REPORT: ("result",),
+    Code.WRITE_CELL_COUNT: ("result", "row"),
+    Code.WRITE_NO_FORM: ("result", "row", "place"),
+    Code.WRITE_PACKET_TOO_LARGE: ("payload",),
+    **{code: ("payload",) for code in Code
+       if Code.FAULT_TOO_LARGE <= code <= Code.FAULT_PIECES_BEFORE_BULK},
+}
+
+
+def code_text(code: int) -> str:
+    """The library's text of a code; of a number that is no code "no such code"."""
+    text, length = ctypes.c_void_p(), _SIZE()
+    _library.mysql_session_code_text(_fitting(code, 32), ctypes.byref(text), ctypes.byref(length))
+    return _bytes_at(text.value, length.value).decode("utf-8")
+
+
+class MySQLSessionError(Exception):
+    """A call of the library answered a code that isn't OK.
+
+    `code` is the code, `text` what the library says of it. Where the code is about a set, a place
+    of it, a payload, a result or a row, all counted from 0, the attribute of that name has its
+    number; else it is None. Of UNFINISHED `end` is how the stream ends.
+    """
+
+    def __init__(self, code: int, where: Optional[Mapping[str, int]] = None) -> None:
+        super().__init__(code, where)
+        self.code = _known(code)
+        self.text = code_text(code)
+        self._where = dict(where or {})
+        self.set = self._where.get("set")
+        self.place = self._where.get("place")
+        self.payload = self._where.get("payload")
+        self.result = self._where.get("result")
+        self.row = self._where.get("row")
+        self.end = EndKind(self._where["end"]) if "end" in self._where else None
+
+    def __str__(self) -> str:
+        spot = "".join(f", {name} {number}" for name, number in self._where.items())
+        return f"{self.text} (code {int(self.code)}{spot})"
+
+
+def _known(code: int) -> int:
+    """The code by its name, where it has one."""
+    try:
+        return Code(code)
+    except ValueError:
+        return code
+
+
+def _call(name: str, *arguments: object) -> None:
+    """Makes a call, and raises where it isn't done."""
+    code = _calls[name](*arguments)
+    if code:
+        raise MySQLSessionError(code)
+
+
+def _call_at(where: ctypes.Structure, name: str, *arguments: object) -> None:
+    """Makes a call whose last argument takes where it is refused, and raises where it is."""
+    code = _calls[name](*arguments, ctypes.byref(where))
+    if code:
+        raise MySQLSessionError(code, {it: getattr(where, it) for it in _WHERE.get(code, ())})
+
+
+def _count(name: str, *arguments: object) -> int:
+    """Makes a call whose last argument takes a number, and gives the number."""
+    count = _SIZE()
+    _call(name, *arguments, ctypes.byref(count))
+    return count.value
+
+
+def _fitting(number: int, bits: int) -> int:
+    """The number, where it is one of so many bits without a sign; ctypes cuts others off."""
+    if not 0 <= number < 1 << bits:
+        raise OverflowError(f"{number} is no number of {bits} bits without a sign")
+    return number
+
+
+_SIZE_BITS = 8 * ctypes.sizeof(_SIZE)
+
+
+def _as_bytes(text: Union[str, bytes, bytearray, memoryview]) -> bytes:
+    """A text or bytes as bytes."""
+    if isinstance(text, bytes):
+        return text
+    if isinstance(text, str):
+        return text.encode("utf-8")
+    return memoryview(text).tobytes()
+
+
+def _lent(text: Union[str, bytes, bytearray, memoryview]) -> Tuple[bytes, int]:
+    """A text as the two arguments that it goes in by."""
+    data = _as_bytes(text)
+    return data, len(data)
+
+
+def _bytes_at(address: Optional[int], length: int) -> bytes:
+    """A copy of the bytes that a call shows. A pointer to none isn't read."""
+    return ctypes.string_at(address, length) if address and length else b""
+
+
+def _texts(shown: ctypes.Structure, names: Iterable[str]) -> Dict[str, bytes]:
+    """Copies of the texts that a call shows, by their names."""
+    return {it: _bytes_at(getattr(shown, it), getattr(shown, it + "_len")) for it in names}
+
+
+# ---- Objects ------------------------------------------------------------------------------------
+
+
+class _Thread(threading.local):
+    """What a thread has: the handles of its own whose objects were collected in another one."""
+
+    def __init__(self) -> None:
+        self.left: Deque[_Handle] = collections.deque()
+
+
+_thread = _Thread()
+
+
+def _release(handle: _Handle, left: Deque[_Handle]) -> None:
+    """Frees what a handle stands for, in the thread that made it."""
+    if _thread.left is left:
+        _library.mysql_session_free(handle)
+    else:
+        left.append(handle)
+
+
+_Self = TypeVar("_Self", bound="_Object")
+
+
+class _Object:
+    """An object of the library. It stays in the thread that made it, and is freed by `close`, at
+    the end of `with`, or when it is collected."""
+
+    def __init__(self) -> None:
+        self._left = _thread.left
+        while self._left:
+            _library.mysql_session_free(self._left.popleft())
+        self._at = _Handle()
+        self._finalizer = weakref.finalize(self, _release, self._at, self._left)
+
+    @property
+    def _handle(self) -> _Handle:
+        self._check_thread()
+        return self._at
+
+    def _check_thread(self) -> None:
+        if _thread.left is not self._left:
+            raise RuntimeError("an object of mysql_session stays in the thread that made it")
+
+    def close(self) -> None:
+        """Frees what the object holds. A second call does nothing."""
+        self._check_thread()
+        self._finalizer()
+
+    def __enter__(self: _Self) -> _Self:
+        return self
+
+    def __exit__(self, kind: Optional[Type[BaseException]], error: Optional[BaseException],
+                 traceback: Any) -> None:
+        self.close()
+
+
+class _Output(_Object):
+    """Bytes that the library writes."""
+
+    def __init__(self) -> None:
+        super().__init__()
+        _call("bytes_new", self._handle)
+
+    def take(self) -> bytes:
+        """The bytes that were appended since the last call."""
+        data, length = ctypes.c_void_p(), _SIZE()
+        _call("bytes_data", self._handle, ctypes.byref(data), ctypes.byref(length))
+        taken = _bytes_at(data.value, length.value)
+        _call("bytes_clear", self._handle)
+        return taken
+
+
+def _written(name: str, *arguments: object) -> bytes:
+    """What a call whose first argument is the bytes to append to appends."""
+    with _Output() as out:
+        _call(name, out._handle, *arguments)
+        return out.take()
+
+
+class End(NamedTuple):
+    """How a stream ends."""
+
+    kind: EndKind
+    fault: Optional[Code] = None
+    """Of FAULT what is wrong."""
+    payload: Optional[int] = None
+    """Of FAULT which payload is, from 0."""
+
+
+def _ended(name: str, handle: _Handle) -> End:
+    """How a call says that a stream ends."""
+    end = _End()
+    _call(name, handle, ctypes.byref(end))
+    if end.kind == EndKind.FAULT:
+        return End(EndKind.FAULT, Code(end.fault), end.payload)
+    return End(EndKind(end.kind))
+
+
+# ---- Receivers ----------------------------------------------------------------------------------
+
+
+def _content(shown: Any) -> Content:
+    """A content, or a value of one of its kinds, as it is shown."""
+    if shown.kind == _Kind.NULL:
+        return None
+    if shown.kind == _Kind.INT:
+        return int(shown.int_value)
+    if shown.kind == _Kind.UINT:
+        return int(shown.uint_value)
+    return _bytes_at(shown.bytes, shown.len)
+
+
+class Receiver(_Object):
+    """Reads the parameter sets that a stream of commands about one query carries.
+
+    The statement is the id that the stream's executions name. Raises MySQLSessionError:
+    LIMIT_TOO_SMALL, MIXED (names and question marks as placeholders), MEMORY.
+    """
+
+    def __init__(self, query: Text, statement: int = 1, limit: int = DEFAULT_LIMIT) -> None:
+        super().__init__()
+        self._end: Optional[End] = None
+        self._taken_whole = False
+        _call("receiver_new", self._handle, *_lent(query), _fitting(statement, 32),
+              _fitting(limit, _SIZE_BITS))
+
+    def feed(self, piece: Union[bytes, bytearray, memoryview]) -> None:
+        """Takes the next piece of the stream, of any length.
+
+        Raises MySQLSessionError with the stream's fault, from the first on at each call. The sets
+        before the fault are there, and `end` says where it is.
+        """
+        _call("receiver_feed", self._handle, *_lent(piece))
+
+    def take(self) -> List[Tuple[Content, ...]]:
+        """The sets that were read since the last call, in their order; they are let go."""
+        if self._taken_whole:
+            return []
+        sets = [self._set(it) for it in range(_count("receiver_sets", self._handle))]
+        if self._end is None:
+            _call("receiver_clear", self._handle)
+        self._taken_whole = self._end is not None
+        return sets
+
+    def __iter__(self) -> Iterator[Tuple[Content, ...]]:
+        """The sets as `take` gives them."""
+        return iter(self.take())
+
+    def end(self) -> End:
+        """Ends the stream, and says how it ends. The sets that weren't taken stay."""
+        self._end = _ended("receiver_end", self._handle)
+        return self._end
+
+    def _set(self, number: int) -> Tuple[Content, ...]:
+        """The set of this number."""
+        handle, call, shown = self._handle, _calls["receiver_content"], _Content()
+        contents: List[Content] = []
+        for place in range(_count("receiver_width", handle, number)):
+            code = call(handle, number, place, ctypes.byref(shown))
+            if code:
+                raise MySQLSessionError(code)
+            contents.append(_content(shown))
+        return tuple(contents)
+
+
+# ---- Parameter sets -----------------------------------------------------------------------------
+
+# The fields of dates and durations in their order, with their numbers of bits.
+_DATE = (("year", 16), ("month", 8), ("day", 8), ("hour", 8), ("minute", 8), ("second", 8),
+         ("micros", 32))
+_TIME = (("negative", 1), ("days", 32), ("hour", 8), ("minute", 8), ("second", 8),
+         ("micros", 32))
+
+
+def _date_fields(date: datetime.date) -> DateFields:
+    """The fields of a date."""
+    if not isinstance(date, datetime.datetime):
+        return DateFields(date.year, date.month, date.day)
+    if date.tzinfo is not None:
+        raise ValueError("a parameter has no time zone: convert the datetime to a naive one")
+    return DateFields(date.year, date.month, date.day, date.hour, date.minute, date.second,
+                      date.microsecond)
+
+
+def _time_fields(duration: datetime.timedelta) -> TimeFields:
+    """The fields of a duration."""
+    negative = duration < datetime.timedelta(0)
+    length = -duration if negative else duration
+    minutes, seconds = divmod(length.seconds, 60)
+    return TimeFields(negative, length.days, minutes // 60, minutes % 60, seconds,
+                      length.microseconds)
+
+
+class _Set:
+    """The values of a set as an array, and their bytes one behind the other."""
+
+    def __init__(self, values: Sequence[Parameter]) -> None:
+        self.array = (_Parameter * max(1, len(values)))()
+        self._chunks: List[bytes] = []
+        self._length = 0
+        for slot, value in zip(self.array, values):
+            self._fill(slot, value)
+
+    def joined(self) -> bytes:
+        """The bytes of all values."""
+        return b"".join(self._chunks)
+
+    def _fill(self, slot: Any, value: Parameter) -> None:
+        """Puts a value into its place of the array."""
+        if value is None:
+            slot.kind = _Kind.NULL
+        elif isinstance(value, int):
+            self._fill_int(slot, value)
+        elif isinstance(value, (str, bytes, bytearray, memoryview)):
+            self._fill_bytes(slot, _as_bytes(value))
+        elif isinstance(value, datetime.date):
+            self._fill_fields(slot, _Kind.DATE, _date_fields(value), _DATE)
+        elif isinstance(value, DateFields):
+            self._fill_fields(slot, _Kind.DATE, value, _DATE)
+        elif isinstance(value, datetime.timedelta):
+            self._fill_fields(slot, _Kind.TIME, _time_fields(value), _TIME)
+        elif isinstance(value, TimeFields):
+            self._fill_fields(slot, _Kind.TIME, value, _TIME)
+        else:
+            raise TypeError(f"a parameter can't be of the type {type(value).__name__}")
+
+    def _fill_int(self, slot: Any, number: int) -> None:
+        if number < -1 << 63 or number >= 1 << 64:
+            raise OverflowError(f"{number} is no number of 64 bits")
+        if number < 1 << 63:
+            slot.kind, slot.int_value = _Kind.INT, number
+        else:
+            slot.kind, slot.uint_value = _Kind.UINT, number
+
+    def _fill_bytes(self, slot: Any, data: bytes) -> None:
+        slot.kind, slot.start, slot.len = _Kind.BYTES, self._length, len(data)
+        self._chunks.append(data)
+        self._length += len(data)
+
+    def _fill_fields(self, slot: Any, kind: _Kind, values: Iterable[int],
+                     fields: Iterable[Tuple[str, int]]) -> None:
+        slot.kind = kind
+        for value, (name, bits) in zip(values, fields):
+            setattr(slot, name, _fitting(value, bits))
+
+
+class ParameterSets(_Object):
+    """Parameter sets that are put together for `send`.
+
+    A set is a sequence with a value for each placeholder, in their order: see `Parameter`. A bool
+    is 0 or 1; an int below 2**63 is signed, one of 2**63 and more has no sign, and `Road.BULK`
+    refuses the two in one place. A str is its UTF-8. A datetime has to be naive.
+    """
+
+    def __init__(self, sets: Iterable[Sequence[Parameter]] = ()) -> None:
+        super().__init__()
+        _call("sets_new", self._handle)
+        for values in sets:
+            self.add(values)
+
+    def add(self, values: Sequence[Parameter]) -> None:
+        """Puts a set behind the others.
+
+        Raises TypeError for what is no sequence of parameters, OverflowError for an int of more
+        than 64 bits; the sets stay as they were then.
+        """
+        if isinstance(values, (str, bytes, bytearray, memoryview, collections.abc.Mapping)):
+            raise TypeError("a set is a sequence of values in the order of the placeholders")
+        values = tuple(values)
+        made = _Set(values)
+        _call("sets_add", self._handle, made.array, len(values), *_lent(made.joined()))
+
+    def clear(self) -> None:
+        """Lets go of all sets."""
+        _call("sets_clear", self._handle)
+
+    def __len__(self) -> int:
+        return _count("sets_count", self._handle)
+
+
+def send(query: Text, sets: Union[ParameterSets, Iterable[Sequence[Parameter]]], road: Road,
+         statement: int = 1, limit: int = DEFAULT_LIMIT) -> bytes:
+    """The commands that carry these sets to a server, as framed packets.
+
+    By `Road.EXECUTE` and `Road.BULK` the first packet is the prepare, and the others name the
+    statement by this id: a server answers the prepare with an id of its own. A receiver of the same
+    query, id and limit reads the sets back.
+
+    The query has question marks as placeholders; where it has names, send for its `positional`.
+
+    Raises MySQLSessionError with the first cause against it, by its set and place: MIXED,
+    LIMIT_TOO_SMALL, REFUSED_...
+    """
+    if not isinstance(sets, ParameterSets):
+        with ParameterSets(sets) as made:
+            return send(query, made, road, statement, limit)
+    with _Output() as out:
+        _call_at(_Place(), "send", sets._handle, *_lent(query), _fitting(road, 32),
+                 _fitting(statement, 32), _fitting(limit, _SIZE_BITS), out._handle)
+        return out.take()
+
+
+def positional(query: Text) -> bytes:
+    """The query as it is prepared: with a question mark in the place of each name.
+
+    Raises MySQLSessionError: MIXED, REFUSED_TOO_MANY_PLACES.
+    """
+    limit = max(DEFAULT_LIMIT, 2 * len(query) + 4)
+    with PacketReader(0, limit) as reader:
+        reader.feed(send(query, (), Road.EXECUTE, limit=limit))
+        return (reader.payload() or b"")[1:]
+
+
+def bind_text(query: Text, values: Sequence[Parameter]) -> bytes:
+    """The query with a literal in the place of each placeholder, as a COM_QUERY has it. The query
+    is `positional`.
+
+    Raises MySQLSessionError: MIXED, REFUSED_NOT_ALONE, REFUSED_PARAMS, REFUSED_WRONG_COUNT.
+    """
+    with ParameterSets([values]) as sets, _Output() as out:
+        _call_at(_Place(), "bind_text", sets._handle, 0, *_lent(query), out._handle)
+        return out.take()
+
+
+def literal(value: Parameter) -> bytes:
+    """The literal of a value, as it stands in the text of a query."""
+    with ParameterSets([(value,)]) as sets, _Output() as out:
+        _call("value_text", sets._handle, 0, 0, out._handle)
+        return out.take()
+
+
+# ---- Recoding -----------------------------------------------------------------------------------
+
+
+class Recoder(_Object):
+    """Writes a stream of commands about one query as executions, as it comes.
+
+    Streams that carry the same sets give the same bytes. The arguments are those of `Receiver`.
+    Raises MySQLSessionError also by REFUSED_TOO_MANY_PLACES and REFUSED_PREPARE_TOO_LARGE.
+    """
+
+    def __init__(self, query: Text, statement: int = 1, limit: int = DEFAULT_LIMIT) -> None:
+        super().__init__()
+        self._out = _Output()
+        _call("recoder_new", self._handle, *_lent(query), _fitting(statement, 32),
+              _fitting(limit, _SIZE_BITS))
+
+    def feed(self, piece: Union[bytes, bytearray, memoryview]) -> bytes:
+        """Takes the next piece; gives the executions of the sets that are whole with it, before
+        the first of all the prepare.
+
+        Raises MySQLSessionError with the fault and its payload, or REFUSED_PACKET_TOO_LARGE with
+        its set, and from then on the same at each call.
+        """
+        _call_at(_Stop(), "recoder_feed", self._handle, *_lent(piece), self._out._handle)
+        return self._out.take()
+
+    def end(self) -> bytes:
+        """Ends the stream; gives the prepare where it carried no set, else nothing. The recoder
+        takes nothing more.
+
+        Raises MySQLSessionError by UNFINISHED where the stream isn't whole, and as `feed` did.
+        """
+        _call_at(_Stop(), "recoder_end", self._handle, self._out._handle)
+        return self._out.take()
+
+    def close(self) -> None:
+        super().close()
+        self._out.close()
+
+
+def recode(query: Text, stream: Union[bytes, bytearray, memoryview], statement: int = 1,
+           limit: int = DEFAULT_LIMIT) -> bytes:
+    """The executions that carry the sets of a stream which is all at hand. Raises as `Recoder`."""
+    with Recoder(query, statement, limit) as recoder:
+        executions = recoder.feed(stream)
+        return executions + recoder.end()
+
+
+# ---- Replies read -------------------------------------------------------------------------------
+
+
+class Column(NamedTuple):
+    """A column of rows, or of a prepared statement, or a parameter of one."""
+
+    name: bytes
+    type: int
+    """Mostly a number of `ColumnType`."""
+    flags: int = 0
+    """Column Definition Flags: 1 is NOT_NULL, 32 UNSIGNED, 128 BINARY."""
+    charset: int = 45
+    """The number of its collation: 45 is utf8mb4_general_ci, 63 binary."""
+    length: int = 0
+    decimals: int = 0
+    schema: bytes = b""
+    table: bytes = b""
+    org_table: bytes = b""
+    org_name: bytes = b""
+
+
+class State(NamedTuple):
+    """A change of the session's state that an OK packet tells."""
+
+    type: int
+    """Of the protocol's Session State Information: 0 a system variable, 1 the schema."""
+    data: bytes
+
+
+class Ok(NamedTuple):
+    """An OK packet."""
+
+    affected_rows: int
+    last_insert_id: int
+    status: int
+    warnings: int
+    info: bytes
+    states: Tuple[State, ...]
+    """The changes of the session's state; none where they can't be read."""
+
+
+class Rows(NamedTuple):
+    """Rows, or those of them that came since the last taking."""
+
+    columns: Tuple[Column, ...]
+    rows: List[Tuple[Cell, ...]]
+    ended: bool
+    """Whether the packet that ends the rows came. It gives what follows; else that is 0 or empty,
+    and the rows go on in what is taken next, or an error ended them."""
+    status: int
+    warnings: int
+    info: bytes
+    states: Tuple[State, ...]
+
+
+class Prepared(NamedTuple):
+    """A prepared statement."""
+
+    statement: int
+    warnings: int
+    params: Tuple[Column, ...]
+    columns: Tuple[Column, ...]
+
+
+class ServerError(NamedTuple):
+    """An error that the server answers."""
+
+    code: int
+    state: bytes
+    """The SQL state, five bytes, or none."""
+    message: bytes
+
+
+class File(NamedTuple):
+    """The server asks for a local file."""
+
+    name: bytes
+
+
+Result = Union[Ok, Rows, Prepared, ServerError, File]
+"""A result of a reply."""
+
+
+def ends_reply(result: Result) -> bool:
+    """Whether a result is the last one of its reply."""
+    if isinstance(result, Rows):
+        return result.ended and not result.status & MORE_RESULTS
+    return not isinstance(result, Ok) or not result.status & MORE_RESULTS
+
+
+def _column(shown: Any) -> Column:
+    """A column as it is shown."""
+    return Column(type=shown.type, flags=shown.flags, charset=shown.charset, length=shown.length,
+                  decimals=shown.decimals, **_texts(shown, _COLUMN_TEXTS))
+
+
+def _date(shown: Any, column_type: int) -> Cell:
+    """A date as it is shown: of a column of dates without a time a date."""
+    fields = DateFields(*(getattr(shown, name) for name, _ in _DATE))
+    try:
+        date = datetime.datetime(*fields)
+    except (ValueError, OverflowError):
+        return fields
+    if column_type == ColumnType.DATE and date.time() == datetime.time(0):
+        return date.date()
+    return date
+
+
+def _time(shown: Any) -> Cell:
+    """A duration as it is shown."""
+    fields = TimeFields(*(getattr(shown, name) for name, _ in _TIME))
+    try:
+        duration = datetime.timedelta(days=fields.days, hours=fields.hours, minutes=fields.minutes,
+                                      seconds=fields.seconds, microseconds=fields.microseconds)
+        duration = -duration if fields.negative else duration
+    except OverflowError:
+        return fields
+    return duration if _time_fields(duration) == fields else fields
+
+
+def _cell(shown: Any, column_type: int) -> Cell:
+    """The value of a cell as it is shown."""
+    if shown.kind == _Kind.DATE:
+        return _date(shown, column_type)
+    if shown.kind == _Kind.TIME:
+        return _time(shown)
+    if shown.kind == _Kind.FLOAT:
+        return float(struct.unpack("<f", struct.pack("<I", shown.uint_value))[0])
+    if shown.kind == _Kind.DOUBLE:
+        return float(struct.unpack("<d", struct.pack("<Q", shown.uint_value))[0])
+    return _content(shown)
+
+
+class ReplyReader(_Object):
+    """Reads a server's reply to one command as it comes.
+
+    The capabilities are those that both sides have; `first` is the number of the reply's first
+    packet, mostly 1; a payload has at most `limit` bytes.
+    """
+
+    def __init__(self, kind: ReplyKind, capabilities: int, first: int = 1,
+                 limit: int = DEFAULT_LIMIT) -> None:
+        super().__init__()
+        self._end: Optional[End] = None
+        self._taken_whole = False
+        _call("reply_new", self._handle, _fitting(kind, 32), _fitting(capabilities, 32),
+              _fitting(first, 8), _fitting(limit, _SIZE_BITS))
+
+    def feed(self, piece: Union[bytes, bytearray, memoryview]) -> None:
+        """Reads the next bytes.
+
+        Raises MySQLSessionError with the reply's fault, from the first on at each call. The
+        results before the fault are there, and `end` says where it is.
+        """
+        _call("reply_feed", self._handle, *_lent(piece))
+
+    def take(self) -> List[Result]:
+        """The results so far that weren't taken before: those that stand whole, and of rows that
+        go on those so far. `ends_reply` says of the last whether the reply is whole."""
+        if self._taken_whole:
+            return []
+        if self._end is None:
+            _call("reply_take", self._handle)
+        results = [self._result(it) for it in range(_count("reply_results", self._handle))]
+        self._taken_whole = self._end is not None
+        return results
+
+    def end(self) -> End:
+        """Ends the reply, and says how it ends. The results that weren't taken stay."""
+        self._end = _ended("reply_end", self._handle)
+        return self._end
+
+    def _result(self, number: int) -> Result:
+        """The result of this number."""
+        shown = _Result()
+        _call("reply_result", self._handle, number, ctypes.byref(shown))
+        text = _bytes_at(shown.text, shown.len)
+        if shown.kind == _ResultKind.ROWS:
+            return self._rows(number, shown, text)
+        if shown.kind == _ResultKind.PREPARED:
+            return Prepared(shown.statement, shown.warnings,
+                            self._columns("reply_param", number, shown.params),
+                            self._columns("reply_column", number, shown.columns))
+        if shown.kind == _ResultKind.ERROR:
+            return ServerError(shown.error_code, bytes(shown.state[:shown.state_len]), text)
+        if shown.kind == _ResultKind.FILE:
+            return File(text)
+        return Ok(shown.affected_rows, shown.last_insert_id, shown.status, shown.warnings, text,
+                  self._states(number, shown.states))
+
+    def _rows(self, number: int, result: Any, info: bytes) -> Rows:
+        """The rows of the result of this number."""
+        handle, call, shown = self._handle, _calls["reply_cell"], _Value()
+        columns = self._columns("reply_column", number, result.columns)
+        rows: List[Tuple[Cell, ...]] = []
+        for row in range(result.rows):
+            cells: List[Cell] = []
+            for place, column in enumerate(columns):
+                code = call(handle, number, row, place, ctypes.byref(shown))
+                if code:
+                    raise MySQLSessionError(code)
+                cells.append(_cell(shown, column.type))
+            rows.append(tuple(cells))
+        return Rows(columns, rows, result.ended, result.status, result.warnings, info,
+                    self._states(number, result.states))
+
+    def _columns(self, name: str, number: int, count: int) -> Tuple[Column, ...]:
+        """The columns, or the parameters, of the result of this number."""
+        columns = []
+        for place in range(count):
+            shown = _Column()
+            _call(name, self._handle, number, place, ctypes.byref(shown))
+            columns.append(_column(shown))
+        return tuple(columns)
+
+    def _states(self, number: int, count: int) -> Tuple[State, ...]:
+        """The changes of the session's state that the result of this number tells."""
+        states = []
+        for place in range(count):
+            kind, data, length = _U8(), ctypes.c_void_p(), _SIZE()
+            _call("reply_state", self._handle, number, place, ctypes.byref(kind),
+                  ctypes.byref(data), ctypes.byref(length))
+            states.append(State(kind.value, _bytes_at(data.value, length.value)))
+        return tuple(states)
+
+
+def read_reply(kind: ReplyKind, capabilities: int, reply: Union[bytes, bytearray, memoryview],
+               first: int = 1, limit: int = DEFAULT_LIMIT) -> Tuple[List[Result], End]:
+    """The results of a reply that is all at hand, those before a fault too, and how it ends."""
+    with ReplyReader(kind, capabilities, first, limit) as reader:
+        try:
+            reader.feed(reply)
+        except MySQLSessionError as error:
+            if not Code.REPLY_TOO_LARGE <= error.code <= Code.REPLY_AFTER_END:
+                raise
+        end = reader.end()
+        return reader.take(), end
+
+
+# ---- Replies written ----------------------------------------------------------------------------
+
+
+class ReplyWriter(_Object):
+    """Writes a server's reply to one command: each call gives the packets of a result, or of a part
+    of one.
+
+    The arguments are those of `ReplyReader`. Each call raises MySQLSessionError by WRITE_.. with
+    the result, the row and the place, or the payload; nothing is written then. The status of the
+    results gets MORE_RESULTS by `more`.
+    """
+
+    def __init__(self, kind: ReplyKind, capabilities: int, first: int = 1,
+                 limit: int = DEFAULT_LIMIT) -> None:
+        super().__init__()
+        self._out = _Output()
+        self._row = ParameterSets()
+        _call("writer_new", self._handle, _fitting(kind, 32), _fitting(capabilities, 32),
+              _fitting(first, 8), _fitting(limit, _SIZE_BITS))
+
+    def ok(self, affected_rows: int = 0, last_insert_id: int = 0, status: int = AUTOCOMMIT,
+           warnings: int = 0, info: Text = b"", more: bool = False) -> bytes:
+        """An OK packet."""
+        return self._put("writer_ok", _fitting(affected_rows, 64), _fitting(last_insert_id, 64),
+                         _fitting(status, 16), _fitting(warnings, 16), *_lent(info), more)
+
+    def error(self, code: int, state: Text, message: Text) -> bytes:
+        """An error, which ends the reply. The SQL state has five bytes, or none."""
+        return self._put("writer_error", _fitting(code, 16), *_lent(state), *_lent(message))
+
+    def rows(self, columns: Iterable[Column]) -> bytes:
+        """Begins rows under these columns. Their schemas, tables and original names aren't sent."""
+        self._give(columns)
+        return self._put("writer_rows")
+
+    def row(self, values: Sequence[Parameter]) -> bytes:
+        """A row: a value for each column. In the reply to an execution the value has to be of its
+        column's type."""
+        self._row.clear()
+        self._row.add(values)
+        return self._put("writer_row", self._row._handle, 0)
+
+    def end_rows(self, status: int = AUTOCOMMIT, warnings: int = 0, more: bool = False) -> bytes:
+        """Ends the rows."""
+        return self._put("writer_end_rows", _fitting(status, 16), _fitting(warnings, 16), more)
+
+    def prepared(self, statement: int, params: Sequence[Column], columns: Iterable[Column],
+                 warnings: int = 0) -> bytes:
+        """A prepared statement: its id, its parameters and its columns."""
+        self._give(params)
+        self._give(columns)
+        return self._put("writer_prepared", _fitting(statement, 32), len(params),
+                         _fitting(warnings, 16))
+
+    def end(self) -> None:
+        """Raises MySQLSessionError where the reply isn't whole: WRITE_NO_RESULTS or
+        WRITE_NOT_ENDED."""
+        _call_at(_Spot(), "writer_end", self._handle)
+
+    def close(self) -> None:
+        super().close()
+        self._out.close()
+        self._row.close()
+
+    def _give(self, columns: Iterable[Column]) -> None:
+        """Gives columns for what is begun next."""
+        for column in columns:
+            _call("writer_column", self._handle, _fitting(column.type, 8), *_lent(column.name),
+                  _fitting(column.flags, 16), _fitting(column.charset, 16),
+                  _fitting(column.length, 32), _fitting(column.decimals, 8))
+
+    def _put(self, name: str, *arguments: object) -> bytes:
+        """What a call appends."""
+        _call_at(_Spot(), name, self._handle, *arguments, self._out._handle)
+        return self._out.take()
+
+
+# ---- Packets ------------------------------------------------------------------------------------
+
+
+class PacketReader(_Object):
+    """Cuts a stream into payloads.
+
+        reader.feed(piece)
+        for payload in reader:
+            ...
+
+    `first` is the number of the first packet; a payload has at most `limit` bytes.
+    """
+
+    def __init__(self, first: int = 0, limit: int = DEFAULT_LIMIT) -> None:
+        super().__init__()
+        self._piece = b""
+        self._read = 0
+        self._limit = _fitting(limit, _SIZE_BITS)
+        _call("packets_new", self._handle, _fitting(first, 8), self._limit)
+
+    def feed(self, piece: Union[bytes, bytearray, memoryview]) -> None:
+        """Takes the next bytes. They are read as payloads are asked for."""
+        self._piece = self._piece[self._read:] + _as_bytes(piece)
+        self._read = 0
+
+    def payload(self) -> Optional[bytes]:
+        """The next payload; None where the bytes so far have no other whole one.
+
+        Raises MySQLSessionError: FAULT_TOO_LARGE, FAULT_OUT_OF_SYNC, each from then on.
+        """
+        start = ctypes.cast(ctypes.c_char_p(self._piece), ctypes.c_void_p).value or 0
+        used, whole = _SIZE(), _BOOL()
+        _call("packets_feed", self._handle, start + self._read, len(self._piece) - self._read,
+              ctypes.byref(used), ctypes.byref(whole))
+        self._read += used.value
+        if not whole.value:
+            return None
+        data, length = ctypes.c_void_p(), _SIZE()
+        _call("packets_payload", self._handle, ctypes.byref(data), ctypes.byref(length))
+        return _bytes_at(data.value, length.value)
+
+    def __iter__(self) -> Iterator[bytes]:
+        """The payloads that stand whole, each read when it is asked for."""
+        return iter(self.payload, None)
+
+    def restart(self, number: int = 0) -> None:
+        """The next packet has this number: 0 as the first of each command has, or as what the other
+        side sent in between makes it. Raises MySQLSessionError by UNFINISHED within a packet."""
+        first = _fitting(number, 8)
+        _call("packets_restart", self._handle)
+        if first:
+            # The library restarts at 0 alone; between packets a new reader differs in nothing else.
+            _call("packets_new", self._handle, first, self._limit)
+
+
+def put_packet(payload: Union[bytes, bytearray, memoryview], number: int = 0,
+               limit: int = DEFAULT_LIMIT) -> Tuple[bytes, int]:
+    """A payload as packets, the first of this number, and the number of what follows it.
+
+    Raises MySQLSessionError by FAULT_TOO_LARGE where the payload has more than `limit` bytes.
+    """
+    following = _U8(_fitting(number, 8))
+    packet = _written("packet_put", *_lent(payload), ctypes.byref(following),
+                      _fitting(limit, _SIZE_BITS))
+    return packet, following.value
+
+
+# ---- Logging in ---------------------------------------------------------------------------------
+
+
+class Greeting(NamedTuple):
+    """What a server greets a client with."""
+
+    connection: int
+    version: bytes
+    capabilities: int
+    mariadb_capabilities: int
+    status: int
+    collation: int
+    scramble_1: bytes
+    scramble_2: bytes
+    plugin: bytes
+    protocol: int = 10
+
+
+class Login(NamedTuple):
+    """What a client answers to a greeting."""
+
+    user: bytes
+    response: bytes
+    database: bytes
+    plugin: bytes
+    capabilities: int
+    mariadb_capabilities: int
+    collation: int
+
+
+def read_greeting(payload: Union[bytes, bytearray, memoryview]) -> Greeting:
+    """The greeting in the payload of a server's first packet. Raises MySQLSessionError:
+    BAD_PACKET."""
+    data, length = _lent(payload)
+    shown = _Greeting()
+    _call("greeting_read", data, length, ctypes.byref(shown))
+    return Greeting(connection=shown.connection, capabilities=shown.capabilities,
+                    mariadb_capabilities=shown.mariadb_capabilities, status=shown.status,
+                    collation=shown.collation, protocol=shown.protocol,
+                    **_texts(shown, _GREETING_TEXTS))
+
+
+def put_greeting(connection: int, version: Text, capabilities: int, scramble_1: bytes,
+                 scramble_2: bytes, plugin: Text = b"mysql_native_password",
+                 mariadb_capabilities: int = 0, collation: int = 45,
+                 status: int = AUTOCOMMIT) -> bytes:
+    """The payload of a server's first packet.
+
+    SECURE_CONNECTION is set, and PLUGIN_AUTH as the plugin is given or not. Raises
+    MySQLSessionError by BAD_PACKET where the scrambles haven't 8 and 12 bytes, or a zero byte is in
+    the version or the plugin's name.
+    """
+    return _written("greeting_put", _fitting(connection, 32), _fitting(capabilities, 32),
+                    _fitting(mariadb_capabilities, 32), _fitting(collation, 8),
+                    _fitting(status, 16), *_lent(version), *_lent(scramble_1),
+                    *_lent(scramble_2), *_lent(plugin))
+
+
+def read_login(payload: Union[bytes, bytearray, memoryview], offered: int = 2**32 - 1) -> Login:
+    """The login in the payload of a client's answer to a greeting that offered these capabilities.
+
+    Those that weren't offered don't count: many clients name more, and leave out what belongs to
+    them. Raises MySQLSessionError: BAD_PACKET.
+    """
+    data = _as_bytes(payload)
+    counted = int.from_bytes(data[:4], "little") & _fitting(offered, 32)
+    data = counted.to_bytes(len(data[:4]), "little") + data[4:]
+    shown = _Login()
+    _call("login_read", *_lent(data), ctypes.byref(shown))
+    return Login(capabilities=shown.capabilities,
+                 mariadb_capabilities=shown.mariadb_capabilities, collation=shown.collation,
+                 **_texts(shown, _LOGIN_TEXTS))
+
+
+def put_login(user: Text, capabilities: int, response: bytes = b"", database: Text = b"",
+              plugin: Text = b"mysql_native_password", mariadb_capabilities: int = 0,
+              max_packet_size: int = DEFAULT_LIMIT) -> bytes:
+    """The payload of a client's answer to a greeting.
+
+    CONNECT_WITH_DB and PLUGIN_AUTH are set as the database and the plugin are given or not. The
+    response is what the plugin makes of the password and the scrambles; of an empty password none.
+    Raises MySQLSessionError by BAD_PACKET where a text can't be written whole: one with a zero
+    byte, or a response of more than 255 bytes without PLUGIN_AUTH_LENENC_CLIENT_DATA.
+    """
+    return _written("login_put", _fitting(capabilities, 32), _fitting(mariadb_capabilities, 32),
+                    _fitting(max_packet_size, 32), *_lent(user), *_lent(response),
+                    *_lent(database), *_lent(plugin))
+
+
+# ---- Replication --------------------------------------------------------------------------------
+
+
+def register_replica(server: int, host: Text = b"", user: Text = b"", password: Text = b"",
+                     port: int = 0) -> bytes:
+    """The payload of a COM_REGISTER_SLAVE of the replica with this server id.
+
+    Raises MySQLSessionError by BAD_PACKET for a text of more than 255 bytes.
+    """
+    return _written("register_replica_put", _fitting(server, 32), *_lent(host), *_lent(user),
+                    *_lent(password), _fitting(port, 16))
+
+
+def binlog_dump(server: int, file: Text, position: int = 4, flags: int = 0) -> bytes:
+    """The payload of a COM_BINLOG_DUMP: the binary log from a position of a file on."""
+    return _written("binlog_dump_put", _fitting(server, 32), _fitting(position, 32),
+                    _fitting(flags, 16), *_lent(file))
+
+
+def binlog_dump_gtid(server: int, gtids: Text, file: Text = b"", position: int = 4,
+                     flags: int = 0) -> bytes:
+    """The payload of a COM_BINLOG_DUMP_GTID: the binary log but for these transactions of MySQL's
+    global identifiers, as 3e11fa47-71ca-11e1-9e33-c80aa9429562:1-5; several sets have commas
+    between them. BINLOG_THROUGH_GTID is set in the flags where there are any, else cleared.
+
+    Raises MySQLSessionError by BAD_PACKET where they are no such text.
+    """
+    return _written("binlog_dump_gtid_put", _fitting(server, 32), _fitting(position, 64),
+                    _fitting(flags, 16), *_lent(file), *_lent(gtids))

@@ -1,0 +1,935 @@
+"""Tests of mysql_session: `make check`.
+
+The rows of replies are those of crates/conformance/data/replies.txt, with what they have to give.
+"""
+
+from __future__ import annotations
+
+import ctypes
+import datetime
+import gc
+import os
+import pathlib
+import pickle
+import re
+import subprocess
+import tempfile
+import threading
+import unittest
+from typing import Any, Callable, Dict, Iterable, List, Optional, Sequence, Tuple
+
+import mysql_session as ms
+from mysql_session import Code, Column, ColumnType, EndKind, ReplyKind, Road
+
+BINDINGS = pathlib.Path(__file__).resolve().parent.parent
+HEADER = BINDINGS / "c" / "mysql_session.h"
+REPLIES = BINDINGS.parent / "crates" / "conformance" / "data" / "replies.txt"
+
+PROTOCOL_41 = int(ms.Capability.PROTOCOL_41)
+LARGE = 17 << 20
+LARGE_LIMIT = 1 << 26  # a byte takes two digits in a text
+
+
+def cut(data: bytes, size: int) -> List[bytes]:
+    """The bytes in pieces of this size."""
+    return [data[at:at + size] for at in range(0, len(data), size)]
+
+
+def received(query: ms.Text, stream: Iterable[bytes], statement: int = 1,
+             limit: int = ms.DEFAULT_LIMIT) -> Tuple[List[Tuple[ms.Content, ...]], ms.End]:
+    """The sets that a stream without a fault carries, and how it ends."""
+    sets: List[Tuple[ms.Content, ...]] = []
+    with ms.Receiver(query, statement, limit) as receiver:
+        for piece in stream:
+            receiver.feed(piece)
+            sets += receiver
+        end = receiver.end()
+        return sets + receiver.take(), end
+
+
+class Case(unittest.TestCase):
+    """A test that looks at errors by their codes."""
+
+    def refuses(self, code: Code, call: Callable[[], object], **where: int) -> None:
+        """The call is refused by this code, at this place and no other."""
+        with self.assertRaises(ms.MySQLSessionError) as caught:
+            call()
+        error = caught.exception
+        found = {name: getattr(error, name) for name in ("set", "place", "payload", "result", "row")
+                 if getattr(error, name) is not None}
+        self.assertEqual((error.code, found), (code, where))
+        self.assertIs(type(error.code), Code)
+        self.assertEqual(error.text, ms.code_text(code))
+        self.assertIn(error.text, str(error))
+
+
+class Interface(Case):
+    """The module's numbers, calls and layouts are those of the header."""
+
+    def setUp(self) -> None:
+        self.header = re.sub(r"/\*.*?\*/", " ", HEADER.read_text(), flags=re.S)
+
+    def numbers(self, name: str) -> Dict[str, int]:
+        """The names of an enum without the prefix, and their numbers."""
+        found = re.search(rf"enum {name} {{(.*?)}};", self.header, re.S)
+        assert found
+        pairs = re.findall(r"MYSQL_SESSION_(\w+) = (\d+)", found.group(1))
+        return {word: int(number) for word, number in pairs}
+
+    def test_abi(self) -> None:
+        found = re.search(r"#define MYSQL_SESSION_ABI (\d+)", self.header)
+        assert found
+        self.assertEqual(int(found.group(1)), ms.ABI)
+
+    def test_numbers(self) -> None:
+        self.assertEqual(self.numbers("mysql_session_code"), {it.name: int(it) for it in Code})
+        self.assertEqual(self.numbers("mysql_session_road"), {it.name: int(it) for it in Road})
+        for name, kinds, prefix in [("mysql_session_end_kind", EndKind, "END_"),
+                                    ("mysql_session_reply_kind", ReplyKind, "REPLY_TO_"),
+                                    ("mysql_session_result_kind", ms._ResultKind, "RESULT_")]:
+            self.assertEqual(self.numbers(name), {prefix + it.name: int(it) for it in kinds})
+        values = {**self.numbers("mysql_session_kind"), **self.numbers("mysql_session_value_kind")}
+        self.assertEqual(values, {it.name: int(it) for it in ms._Kind})
+
+    def argument(self, written: str) -> Any:
+        """The type of an argument, as the header has it."""
+        kind = re.sub(r"\w+$", "", written.strip()).replace(" ", "")
+        plain = {"uint8_t": ctypes.c_uint8, "uint16_t": ctypes.c_uint16,
+                 "uint32_t": ctypes.c_uint32, "uint64_t": ctypes.c_uint64,
+                 "size_t": ctypes.c_size_t, "bool": ctypes.c_bool,
+                 "mysql_session_handle*": ms._HANDLE, "constuint8_t*": ctypes.c_char_p,
+                 "constmysql_session_parameter*": ctypes.POINTER(ms._Parameter)}
+        return plain[kind] if kind in plain or not kind.endswith("*") else ctypes.c_void_p
+
+    def test_arguments(self) -> None:
+        declared = dict(re.findall(r"uint32_t mysql_session_(\w+)\(([^)]*)\);", self.header))
+        del declared["abi"]
+        unused = {name for name in declared if name.startswith("sets_push_")} | {"sets_end_set"}
+        self.assertEqual(set(declared) - unused, set(ms._ARGUMENTS))
+        for name, arguments in ms._ARGUMENTS.items():
+            wanted = [self.argument(it) for it in declared[name].split(",")]
+            if name == "packets_feed":
+                wanted[1] = ctypes.c_void_p  # a place within the bytes
+            self.assertEqual(list(arguments), wanted, name)
+
+    def test_layouts(self) -> None:
+        structs = [ms._Handle, ms._Content, ms._Parameter, ms._Value, ms._End, ms._Place, ms._Stop,
+                   ms._Spot, ms._Result, ms._Column, ms._Greeting, ms._Login]
+        lines, wanted = [], ""
+        for struct in structs:
+            name = "mysql_session_" + struct.__name__[1:].lower()
+            fields = [it[0] for it in struct._fields_]
+            for field in fields:
+                lines.append(f'printf("%d ", (int)offsetof({name}, {field}));')
+                wanted += f"{getattr(struct, field).offset} "
+            lines.append(f'printf("%d\\n", (int)sizeof({name}));')
+            wanted += f"{ctypes.sizeof(struct)}\n"
+        program = f'#include "{HEADER}"\n#include <stdio.h>\nint main(void) {{' + "\n".join(lines)
+        self.assertEqual(self.printed(program + "return 0; }"), wanted)
+
+    def printed(self, program: str) -> str:
+        """What a program in C prints."""
+        with tempfile.TemporaryDirectory() as folder:
+            source, made = os.path.join(folder, "layouts.c"), os.path.join(folder, "layouts")
+            pathlib.Path(source).write_text(program)
+            subprocess.run([os.environ.get("CC", "gcc"), source, "-o", made], check=True)
+            return subprocess.run([made], check=True, stdout=subprocess.PIPE).stdout.decode()
+
+    def test_texts(self) -> None:
+        texts = {ms.code_text(code) for code in Code}
+        self.assertEqual(len(texts), len(Code))
+        self.assertFalse({"", "no such code"} & texts)
+        self.assertEqual(ms.code_text(Code.MEMORY), "a growth of memory was refused")
+        self.assertEqual(ms.code_text(99), "no such code")
+        self.assertEqual(ms.code_text(2**32 - 1), "no such code")
+
+
+# Values, and what a stream carries of them.
+VALUES: List[Tuple[ms.Parameter, ms.Content]] = [
+    (None, None), (True, 1), (False, 0), (0, 0), (-1, -1), (-2**63, -2**63),
+    (2**63 - 1, 2**63 - 1), (2**63, 2**63), (2**64 - 1, 2**64 - 1),
+    ("", b""), ("it's", b"it's"), ("mat\u00e9 \U0001f33f", "mat\u00e9 \U0001f33f".encode()),
+    (bytes(range(256)), bytes(range(256))), (bytearray(b"a\0"), b"a\0"),
+    (memoryview(b"a b c")[::2], b"abc"),
+    (datetime.date(2024, 2, 29), b"2024-02-29"),
+    (datetime.datetime(2024, 2, 29, 23, 59, 58), b"2024-02-29 23:59:58"),
+    (datetime.datetime(1, 1, 1, 0, 0, 0, 7), b"0001-01-01 00:00:00.000007"),
+    (datetime.timedelta(0), b"000:00:00"),
+    (datetime.timedelta(days=1, hours=2, minutes=3, seconds=4, microseconds=5),
+     b"026:03:04.000005"),
+    (-datetime.timedelta(days=1, seconds=1), b"-024:00:01"),
+    (ms.DateFields(0, 0, 0), b"0000-00-00"), (ms.DateFields(2024, 0, 31), b"2024-00-31"),
+    (ms.TimeFields(True, 0, 0, 0, 1), b"-000:00:01"),
+]
+
+
+class Sets(Case):
+    """Sets are sent by each road, and come back."""
+
+    def test_each_value(self) -> None:
+        query = "INSERT INTO t VALUES (?, ?)"
+        for road in Road:
+            for value, content in VALUES:
+                sets = [(value, 1), (value, None), (None, 2)]
+                wanted = [(content, 1), (content, None), (None, 2)]
+                stream = ms.send(query, sets, road, 7)
+                for size in (1, len(stream)):
+                    found = received(query, cut(stream, size), 7)
+                    self.assertEqual(found, (wanted, ms.End(EndKind.WHOLE)), (road, value, size))
+
+    def test_all_values(self) -> None:
+        query = "SELECT " + ", ".join(["?"] * len(VALUES))
+        values, contents = [it[0] for it in VALUES], tuple(it[1] for it in VALUES)
+        for road in Road:
+            stream = ms.send(query, [values] * 3, road, limit=2000)
+            self.assertEqual(received(query, cut(stream, 1), limit=2000),
+                             ([contents] * 3, ms.End(EndKind.WHOLE)), road)
+
+    def test_streams(self) -> None:
+        prepare = "09000000" + b"\x16SELECT ?".hex()
+        rows: List[Tuple[Road, int, List[Tuple[ms.Parameter]], str]] = [
+            (Road.TEXT, 1000, [(1,)], "09000000" + b"\x03SELECT 1".hex()),
+            (Road.TEXT, 13, [(None,)], ""),
+            (Road.TEXT, 1000, [("x' OR :b",)], "13000000" + b"\x03SELECT 'x\\' OR :b'".hex()),
+            (Road.EXECUTE, 1000, [], prepare),
+            (Road.EXECUTE, 1000, [(None,)], prepare + "0e000000170100000000010000000101" "0600"),
+            (Road.EXECUTE, 26, [(1,), (10,)], prepare
+             + "1600000017010000000001000000000108000100000000000000"
+             + "1600000017010000000001000000000108000a00000000000000"),
+            (Road.BULK, 30, [(1,), (2,)], prepare
+             + "12000000fa0100000080000800" "000100000000000000"
+             + "10000000fa010000000000" "000200000000000000"),
+        ]
+        for road, limit, sets, wanted in rows:
+            if wanted:
+                found = ms.send("SELECT ?", sets, road, limit=limit).hex()
+                self.assertEqual(found, wanted, (road, sets))
+            else:
+                self.refuses(Code.REFUSED_PACKET_TOO_LARGE,
+                             lambda: ms.send("SELECT ?", sets, road, limit=limit), set=0)
+
+    def test_no_values(self) -> None:
+        for road in (Road.TEXT, Road.EXECUTE):
+            stream = ms.send("SELECT 1", [(), ()], road)
+            self.assertEqual(received("SELECT 1", [stream])[0], [(), ()])
+
+    def test_large_value(self) -> None:
+        value = bytes(range(256)) * (LARGE // 256)
+        for road in Road:
+            stream = ms.send("INSERT INTO t VALUES (?)", [(value,)], road, limit=LARGE_LIMIT)
+            sets, end = received("INSERT INTO t VALUES (?)", cut(stream, 1 << 20),
+                                 limit=LARGE_LIMIT)
+            self.assertEqual(end, ms.End(EndKind.WHOLE))
+            self.assertEqual([len(it) for it in sets], [1])
+            self.assertTrue(sets[0][0] == value, road)
+
+    def test_put_together(self) -> None:
+        with ms.ParameterSets() as sets:
+            self.assertEqual(len(sets), 0)
+            sets.add((1, "a"))
+            sets.add([None, b""])
+            self.assertEqual(len(sets), 2)
+            for wrong in ("ab", b"ab", {"a": 1, "b": 2}, [1, 2.5], [1, object()], [[1]]):
+                with self.assertRaises(TypeError):
+                    sets.add(wrong)  # type: ignore[arg-type]
+            for large in (2**64, -2**63 - 1):
+                with self.assertRaises(OverflowError):
+                    sets.add((large,))
+            with self.assertRaises(OverflowError):
+                sets.add((ms.DateFields(65536, 1, 1),))
+            with self.assertRaises(OverflowError):
+                sets.add((ms.TimeFields(False, 2**32),))
+            with self.assertRaises(ValueError):
+                sets.add((datetime.datetime.now(datetime.timezone.utc),))
+            stream = ms.send("SELECT ?, ?", sets, Road.TEXT)
+            self.assertEqual(received("SELECT ?, ?", [stream])[0], [(1, b"a"), (None, b"")])
+            sets.clear()
+            self.assertEqual(ms.send("SELECT ?, ?", sets, Road.TEXT), b"")
+
+    def test_names(self) -> None:
+        """Sets are positional: of a query with names its form with question marks is sent."""
+        query = "SELECT :b, ':c', :a_1 + :b"
+        self.assertEqual(ms.positional(query), b"SELECT ?, ':c', ? + ?")
+        self.assertEqual(ms.positional("SELECT ?"), b"SELECT ?")
+        self.refuses(Code.MIXED, lambda: ms.positional("SELECT ?, :a"))
+        self.refuses(Code.REFUSED_PARAMS, lambda: ms.send(query, [(1, 2, 1)], Road.EXECUTE), set=0)
+        stream = ms.send(ms.positional(query), [(1, 2, 1)], Road.EXECUTE)
+        self.assertEqual(received(query, [stream])[0], [(1, 2, 1)])
+
+    def test_generators(self) -> None:
+        stream = ms.send("SELECT ?", ((it,) for it in range(1000)), Road.BULK)
+        self.assertEqual(received("SELECT ?", [stream])[0], [(it,) for it in range(1000)])
+
+    def test_texts(self) -> None:
+        self.assertEqual(ms.bind_text("SELECT ?, ?", [1, "it's"]), b"SELECT 1, 'it\\'s'")
+        self.assertEqual(ms.bind_text("SELECT 1", []), b"SELECT 1")
+        self.assertEqual(ms.literal(None), b"NULL")
+        self.assertEqual(ms.literal("it's"), b"'it\\'s'")
+        self.assertEqual(ms.literal(2**64 - 1), b"18446744073709551615")
+        self.assertEqual(ms.literal(datetime.date(2024, 2, 29)), b"'2024-02-29'")
+
+
+class Refusals(Case):
+    """Errors by code."""
+
+    def test_sending(self) -> None:
+        text, execute, bulk = Road.TEXT, Road.EXECUTE, Road.BULK
+        rows: List[Tuple[Code, str, List[Sequence[ms.Parameter]], int, int, Dict[str, int]]] = [
+            (Code.LIMIT_TOO_SMALL, "SELECT ?", [], text, 3, {}),
+            (Code.MIXED, "SELECT ?, :a", [(1, 1)], text, 1000, {}),
+            (Code.NO_SUCH_ROAD, "SELECT ?", [(1,)], 3, 1000, {}),
+            (Code.REFUSED_NOT_ALONE, "SELECT ?, 1-?", [(1, 1)], text, 1000, {"place": 1}),
+            (Code.REFUSED_TOO_MANY_PLACES, "?," * 65536, [], execute, 1 << 20, {}),
+            (Code.REFUSED_PREPARE_TOO_LARGE, "SELECT ?", [], execute, 12, {}),
+            (Code.REFUSED_NO_PLACES, "SELECT 1", [], bulk, 1000, {}),
+            (Code.REFUSED_PARAMS, "SELECT :a", [(1,)], text, 1000, {"set": 0}),
+            (Code.REFUSED_WRONG_COUNT, "SELECT ?", [(1,), (1, 2)], text, 1000, {"set": 1}),
+            (Code.REFUSED_PACKET_TOO_LARGE, "SELECT ?", [(1,), (10,)], text, 13, {"set": 1}),
+            (Code.REFUSED_MIXED_KINDS, "SELECT ?, ?", [(1, 1), (1, "a")], bulk, 1000,
+             {"set": 1, "place": 1}),
+            (Code.REFUSED_ROW_TOO_LARGE, "SELECT ?", [("x",), ("x" * 100,)], bulk, 31, {"set": 1}),
+        ]
+        for code, query, sets, road, limit, where in rows:
+            self.refuses(code, lambda: ms.send(query, sets, road, 1, limit),  # type: ignore
+                         **where)
+
+    def test_texts(self) -> None:
+        self.refuses(Code.MIXED, lambda: ms.bind_text("SELECT ?, :a", [1, 2]))
+        self.refuses(Code.REFUSED_NOT_ALONE, lambda: ms.bind_text("SELECT 1-?", [1]), place=0)
+        self.refuses(Code.REFUSED_WRONG_COUNT, lambda: ms.bind_text("SELECT ?", []), set=0)
+
+    def test_receivers(self) -> None:
+        self.refuses(Code.LIMIT_TOO_SMALL, lambda: ms.Receiver("SELECT ?", limit=3))
+        self.refuses(Code.MIXED, lambda: ms.Receiver("SELECT ?, :a"))
+        receiver = ms.Receiver("SELECT ?")
+        self.assertEqual(receiver.end(), ms.End(EndKind.WHOLE))
+        self.refuses(Code.OTHER_KIND, lambda: receiver.feed(b""))
+        receiver.close()
+        receiver.close()
+        self.refuses(Code.EMPTY_HANDLE, lambda: receiver.feed(b""))
+        self.refuses(Code.EMPTY_HANDLE, receiver.end)
+
+    def test_numbers(self) -> None:
+        calls: List[Callable[[], object]] = [
+            lambda: ms.Receiver("SELECT ?", 2**32), lambda: ms.Receiver("SELECT ?", -1),
+            lambda: ms.Receiver("SELECT ?", limit=2**64),
+            lambda: ms.ReplyReader(ReplyKind.QUERY, 2**32),
+            lambda: ms.put_packet(b"", 256), lambda: ms.put_packet(b"", limit=-1),
+            lambda: ms.register_replica(1, port=65536), lambda: ms.code_text(-1),
+        ]
+        for call in calls:
+            with self.assertRaises(OverflowError):
+                call()
+
+    def test_error(self) -> None:
+        error = ms.MySQLSessionError(Code.REFUSED_FLOAT, {"set": 3, "place": 0})
+        self.assertEqual((error.code, error.set, error.place, error.payload), (206, 3, 0, None))
+        self.assertTrue(str(error).endswith("(code 206, set 3, place 0)"), str(error))
+        again = pickle.loads(pickle.dumps(error))
+        self.assertEqual((again.code, again.set, str(again)), (206, 3, str(error)))
+
+
+class Receivers(Case):
+    """Streams that aren't whole, and faults."""
+
+    def test_fault(self) -> None:
+        stream = ms.send("SELECT ?", [(1,), (2,)], Road.TEXT) + b"\x01\0\0\0\x0e"
+        with ms.Receiver("SELECT ?") as receiver:
+            for _ in range(2):
+                self.refuses(Code.FAULT_OTHER_COMMAND, lambda: receiver.feed(stream))
+            for _ in range(2):
+                self.assertEqual(receiver.end(),
+                                 ms.End(EndKind.FAULT, Code.FAULT_OTHER_COMMAND, 2))
+            self.assertEqual(list(receiver), [(1,), (2,)])
+            self.assertEqual(list(receiver), [])
+
+    def test_statement(self) -> None:
+        stream = ms.send("SELECT ?", [(1,)], Road.EXECUTE, 5)
+        with ms.Receiver("SELECT ?", 6) as receiver:
+            self.refuses(Code.FAULT_WRONG_ID, lambda: receiver.feed(stream))
+
+    def test_fronts(self) -> None:
+        stream = ms.send("SELECT ?", [(1,), (2,)], Road.TEXT)
+        for length in range(len(stream)):
+            sets, end = received("SELECT ?", [stream[:length]])
+            whole = length // 13
+            self.assertEqual(sets, [(1,), (2,)][:whole])
+            self.assertEqual(end.kind, EndKind.UNFINISHED_PACKET if length % 13 else EndKind.WHOLE)
+
+    def test_waiting_pieces(self) -> None:
+        value = b"x" * LARGE
+        stream = ms.send("SELECT ?", [(value,)], Road.EXECUTE, limit=LARGE_LIMIT)
+        execution = len(ms.send("SELECT ?", [(b"",)], Road.EXECUTE)) - 13
+        sets, end = received("SELECT ?", [stream[:1 - execution]], limit=LARGE_LIMIT)
+        self.assertEqual((sets, end), ([], ms.End(EndKind.WAITING_PIECES)))
+
+    def test_taking(self) -> None:
+        """Sets are taken as they come, and at the end those that weren't."""
+        stream = ms.send("SELECT ?", [(1,), (2,), (3,)], Road.TEXT)
+        with ms.Receiver("SELECT ?") as receiver:
+            receiver.feed(stream[:13])
+            self.assertEqual(receiver.take(), [(1,)])
+            self.assertEqual(receiver.take(), [])
+            receiver.feed(stream[13:])
+            receiver.end()
+            self.assertEqual(receiver.take(), [(2,), (3,)])
+            self.assertEqual(receiver.take(), [])
+
+
+class Recoding(Case):
+    """Streams as executions."""
+
+    QUERY = "INSERT INTO t VALUES (?, ?)"
+
+    def test_one_form(self) -> None:
+        sets: List[Sequence[ms.Parameter]] = [(1, "it's"), (None, b""), (-2, None)]
+        wanted = ms.send(self.QUERY, [(1, b"it's"), (None, b""), (-2, None)], Road.EXECUTE, 4)
+        for road in Road:
+            stream = ms.send(self.QUERY, sets, road, 4)
+            self.assertEqual(ms.recode(self.QUERY, stream, 4), wanted, road)
+            with ms.Recoder(self.QUERY, 4) as recoder:
+                pieces = [recoder.feed(it) for it in cut(stream, 1)]
+                self.assertEqual(b"".join(pieces) + recoder.end(), wanted, road)
+
+    def test_no_sets(self) -> None:
+        with ms.Recoder("SELECT ?") as recoder:
+            self.assertEqual(recoder.end(), ms.send("SELECT ?", [], Road.EXECUTE))
+            self.refuses(Code.EMPTY_HANDLE, lambda: recoder.feed(b""))
+
+    def test_refusals(self) -> None:
+        stream = ms.send("SELECT ?", [(1,)], Road.TEXT)
+        self.refuses(Code.FAULT_TEXT_MISMATCH, lambda: ms.recode("select ?", stream), payload=0)
+        self.refuses(Code.MIXED, lambda: ms.Recoder("?, :a"))
+        self.refuses(Code.REFUSED_PREPARE_TOO_LARGE, lambda: ms.Recoder("SELECT ?", limit=12))
+        self.refuses(Code.REFUSED_PACKET_TOO_LARGE,
+                     lambda: ms.recode("SELECT ?", stream, limit=13), set=0)
+        with ms.Recoder("SELECT ?") as recoder:
+            self.assertEqual(recoder.feed(stream[:-1]), b"")
+            with self.assertRaises(ms.MySQLSessionError) as caught:
+                recoder.end()
+            self.assertEqual((caught.exception.code, caught.exception.end),
+                             (Code.UNFINISHED, EndKind.UNFINISHED_PACKET))
+
+
+# ---- Replies ------------------------------------------------------------------------------------
+
+
+def rows_of(path: pathlib.Path) -> Tuple[List[List[str]], Dict[str, str]]:
+    """The rows of a file of replies in their fields, and what its names stand for."""
+    rows, names = [], {}
+    for line in path.read_text().splitlines():
+        if line.startswith("reply |"):
+            rows.append([field.strip() for field in line.split(" | ")])
+        elif " = " in line and not line.startswith("#"):
+            name, _, meaning = line.partition(" = ")
+            names[name] = meaning
+    return rows, names
+
+
+def stream_of(written: str, names: Dict[str, str]) -> bytes:
+    """Bytes that are written as hexadecimal digits, texts and names."""
+    stream = b""
+    for word in re.findall(r'"[^"]*"|\S+', written):
+        if word.startswith('"'):
+            stream += word[1:-1].encode()
+        elif word in names:
+            stream += stream_of(names[word], names)
+        else:
+            stream += bytes.fromhex(word)
+    return stream
+
+
+def quoted(data: bytes) -> str:
+    """Bytes as the rows have them."""
+    printable = all(32 <= it < 127 for it in data)
+    return f'"{data.decode()}"' if printable else "x" + data.hex()
+
+
+def column_line(word: str, column: Column) -> str:
+    kind = ColumnType(column.type).name
+    texts = [column.schema, column.table, column.org_table, column.name, column.org_name]
+    return (f"{word}: MYSQL_TYPE_{kind} charset {column.charset} length {column.length} "
+            f"flags {column.flags:04x} decimals {column.decimals} " + " ".join(map(quoted, texts)))
+
+
+def told(result: Any) -> str:
+    """What an OK packet tells: a text, and short changes of states."""
+    line = f" status {result.status:04x} warnings {result.warnings}"
+    if result.info:
+        line += " info " + quoted(result.info)
+    if result.states:
+        changes = b"".join(bytes([it.type, len(it.data)]) + it.data for it in result.states)
+        line += " changes x" + changes.hex()
+    return line
+
+
+def rows_lines(result: ms.Rows) -> List[str]:
+    lines = [column_line("column", it) for it in result.columns]
+    for row in result.rows:
+        cells = ["null" if it is None else quoted(it) if isinstance(it, bytes) else str(it)
+                 for it in row]
+        lines.append("row: " + " ".join(cells))
+    return lines + (["end of rows:" + told(result)] if result.ended else [])
+
+
+def result_lines(result: ms.Result) -> List[str]:
+    """A result as the rows of replies have it."""
+    if isinstance(result, ms.Rows):
+        return rows_lines(result)
+    if isinstance(result, ms.Prepared):
+        return ([f"prepared: id {result.statement} warnings {result.warnings}"]
+                + [column_line("parameter", it) for it in result.params]
+                + [column_line("column", it) for it in result.columns])
+    if isinstance(result, ms.ServerError):
+        state = f" {quoted(result.state)}" if result.state else ""
+        return [f"error: {result.code}{state} {quoted(result.message)}"]
+    if isinstance(result, ms.File):
+        return ["file: " + quoted(result.name)]
+    last = f" id {result.last_insert_id}" if result.last_insert_id else ""
+    return [f"ok: rows {result.affected_rows}{last}" + told(result)]
+
+
+def end_line(end: ms.End) -> str:
+    if end.fault is not None:
+        words = end.fault.name.replace("REPLY_", "").split("_")
+        return f"end: fault {end.payload} " + "".join(it.capitalize() for it in words)
+    return "end: whole" if end.kind == EndKind.WHOLE else "end: unfinished"
+
+
+class Replies(Case):
+    """Replies that are read."""
+
+    KINDS = {"text": ReplyKind.QUERY, "binary": ReplyKind.EXECUTE, "prepare": ReplyKind.PREPARE}
+
+    def test_rows(self) -> None:
+        rows, names = rows_of(REPLIES)
+        self.assertGreater(len(rows), 70)
+        for row in rows:
+            _, kind, capabilities, first, limit, stream, *lines = row
+            flags = sum(int(names.get(it, it), 16) for it in capabilities.split())
+            wanted = [names.get(it, it) for it in lines
+                      if not it.startswith(("report:", "prefixes:"))]
+            read = [self.KINDS[kind], flags, int(first), int(limit)]
+            with self.subTest(row=" | ".join(row)):
+                self.check(read, stream_of(stream, names), wanted)
+
+    def check(self, read: List[int], stream: bytes, wanted: List[str]) -> None:
+        """The reply gives these lines, in one piece and byte by byte."""
+        kind, capabilities, first, limit = read
+        results, end = ms.read_reply(ReplyKind(kind), capabilities, stream, first, limit)
+        lines = [line for it in results for line in result_lines(it)] + [end_line(end)]
+        self.assertEqual(lines, wanted)
+        with ms.ReplyReader(ReplyKind(kind), capabilities, first, limit) as reader:
+            taken: List[ms.Result] = []
+            for piece in cut(stream, 1):
+                if self.feeds(reader, piece):
+                    taken += reader.take()
+            self.assertEqual(reader.end(), end)
+            self.assertEqual(self.joined(taken + reader.take()), results)
+
+    def feeds(self, reader: ms.ReplyReader, piece: bytes) -> bool:
+        """Feeds a reader; whether that is without a fault."""
+        try:
+            reader.feed(piece)
+        except ms.MySQLSessionError as error:
+            self.assertGreaterEqual(error.code, Code.REPLY_TOO_LARGE)
+            return False
+        return True
+
+    def joined(self, results: List[ms.Result]) -> List[ms.Result]:
+        """The results, with the rows of one result set together."""
+        whole: List[ms.Result] = []
+        for result in results:
+            last = whole[-1] if whole else None
+            if isinstance(result, ms.Rows) and isinstance(last, ms.Rows) and not last.ended:
+                result = result._replace(rows=last.rows + result.rows)
+                whole.pop()
+            whole.append(result)
+        return whole
+
+    def test_kind(self) -> None:
+        self.refuses(Code.NO_SUCH_KIND, lambda: ms.ReplyReader(3, 0))  # type: ignore[arg-type]
+
+    def test_ends(self) -> None:
+        more = bytes.fromhex("070000010000000a000000")
+        with ms.ReplyReader(ReplyKind.QUERY, PROTOCOL_41) as reader:
+            reader.feed(more)
+            results = reader.take()
+            self.assertEqual(results, [ms.Ok(0, 0, 10, 0, b"", ())])
+            self.assertFalse(ms.ends_reply(results[-1]))
+            reader.feed(bytes.fromhex("0700000200050002000000"))
+            results = reader.take()
+            self.assertEqual(results, [ms.Ok(5, 0, 2, 0, b"", ())])
+            self.assertTrue(ms.ends_reply(results[-1]))
+            self.assertEqual(reader.end(), ms.End(EndKind.WHOLE))
+            self.assertEqual(reader.take(), [])
+
+
+def read_back(kind: ReplyKind, packets: Iterable[bytes], capabilities: int = PROTOCOL_41,
+              first: int = 1, limit: int = ms.DEFAULT_LIMIT) -> List[ms.Result]:
+    """The results of a whole reply."""
+    results, end = ms.read_reply(kind, capabilities, b"".join(packets), first, limit)
+    assert end == ms.End(EndKind.WHOLE), end
+    return results
+
+
+class Writing(Case):
+    """Replies that are written, and read back."""
+
+    COLUMNS = [Column(b"id", ColumnType.LONGLONG, 33, 63, 20),
+               Column(b"name", ColumnType.VAR_STRING, 0, 45, 1020),
+               Column(b"price", ColumnType.NEWDECIMAL, 128, 63, 12, 2)]
+
+    def test_ok(self) -> None:
+        with ms.ReplyWriter(ReplyKind.QUERY, PROTOCOL_41) as writer:
+            self.refuses(Code.WRITE_NO_RESULTS, writer.end)
+            first = writer.ok(1, 2, 3, 4, "two", more=True)
+            second = writer.ok()
+            writer.end()
+        self.assertEqual(second.hex(), "0700000200000002000000")
+        self.assertEqual(read_back(ReplyKind.QUERY, [first, second]),
+                         [ms.Ok(1, 2, 11, 4, b"two", ()), ms.Ok(0, 0, 2, 0, b"", ())])
+
+    def test_error(self) -> None:
+        with ms.ReplyWriter(ReplyKind.QUERY, PROTOCOL_41, first=3) as writer:
+            packet = writer.error(1064, "42000", "no such query")
+            writer.end()
+            self.refuses(Code.WRITE_AFTER_END, writer.ok, result=1)
+        self.assertEqual(packet.hex(), "16000003ff2804" + b"#42000no such query".hex())
+        with ms.ReplyWriter(ReplyKind.QUERY, PROTOCOL_41) as writer:
+            self.refuses(Code.BAD_PACKET, lambda: writer.error(1064, "4200", ""))
+
+    def test_text_rows(self) -> None:
+        for capabilities in (PROTOCOL_41, PROTOCOL_41 | int(ms.Capability.DEPRECATE_EOF)):
+            with ms.ReplyWriter(ReplyKind.QUERY, capabilities) as writer:
+                packets = [writer.rows(self.COLUMNS), writer.row((1, "tea", "2.50")),
+                           writer.row((2**64 - 1, None, b"")), writer.end_rows(34, 1)]
+                writer.end()
+            wanted = ms.Rows(tuple(self.COLUMNS), [(b"1", b"tea", b"2.50"),
+                                                   (b"18446744073709551615", None, b"")],
+                             True, 34, 1, b"", ())
+            self.assertEqual(read_back(ReplyKind.QUERY, packets, capabilities), [wanted])
+
+    def test_binary_rows(self) -> None:
+        kinds = [ColumnType.TINY, ColumnType.LONGLONG, ColumnType.DATE, ColumnType.DATETIME,
+                 ColumnType.TIME, ColumnType.BLOB]
+        columns = [Column(b"c", kind, 0, 63) for kind in kinds]
+        rows: List[Sequence[ms.Parameter]] = [
+            (-128, 2**63 - 1, datetime.date(2024, 2, 29), datetime.datetime(2024, 2, 29, 1, 2, 3),
+             datetime.timedelta(days=-1, microseconds=7), b"\0"),
+            (None,) * 6,
+            (127, -2**63, ms.DateFields(0, 0, 0), ms.DateFields(2024, 2, 30, 1, 1, 1, 1),
+             ms.TimeFields(True, 0, 0, 60), b""),
+            (0, 0, datetime.datetime(2024, 2, 29, 12), datetime.datetime(2024, 2, 29),
+             ms.TimeFields(False, 1, 24), b"x" * 300),
+            (None, None, ms.DateFields(1, 1, 1, 0, 0, 0, 2**32 - 1), ms.DateFields(65535, 1, 1),
+             ms.TimeFields(False, 999999999, 255, 255, 255, 2**32 - 1), None),
+            (None, None, None, datetime.datetime.max, datetime.timedelta.max, None),
+            (None, None, None, datetime.datetime.min, datetime.timedelta.min, None),
+            (None, None, None, None, ms.TimeFields(True, 999999999, 23), None),
+            (None, None, None, None, ms.TimeFields(True, 2**32 - 1, 1), None),
+        ]
+        with ms.ReplyWriter(ReplyKind.EXECUTE, PROTOCOL_41) as writer:
+            packets = [writer.rows(columns)] + [writer.row(it) for it in rows]
+            packets.append(writer.end_rows())
+        found = read_back(ReplyKind.EXECUTE, packets)
+        assert isinstance(found[0], ms.Rows)
+        self.assertEqual(found[0].columns, tuple(columns))
+        self.assertEqual(found[0].rows, [tuple(it) for it in rows])
+        self.assertEqual([[type(cell) for cell in row] for row in found[0].rows],
+                         [[type(cell) for cell in row] for row in rows])
+
+    def test_prepared(self) -> None:
+        with ms.ReplyWriter(ReplyKind.PREPARE, PROTOCOL_41) as writer:
+            packets = writer.prepared(7, self.COLUMNS[:1], self.COLUMNS[1:], 2)
+            writer.end()
+        self.assertEqual(read_back(ReplyKind.PREPARE, [packets]),
+                         [ms.Prepared(7, 2, tuple(self.COLUMNS[:1]), tuple(self.COLUMNS[1:]))])
+
+    def test_order(self) -> None:
+        with ms.ReplyWriter(ReplyKind.QUERY, PROTOCOL_41) as writer:
+            self.refuses(Code.WRITE_NOT_BEGUN, lambda: writer.row((1,)), result=0)
+            self.refuses(Code.WRITE_NOT_BEGUN, writer.end_rows, result=0)
+            self.refuses(Code.WRITE_NO_COLUMNS, lambda: writer.rows([]), result=0)
+            writer.rows(self.COLUMNS)
+            self.refuses(Code.WRITE_CELL_COUNT, lambda: writer.row((1, 2)), result=0, row=0)
+            writer.row((1, 2, 3))
+            self.refuses(Code.WRITE_CELL_COUNT, lambda: writer.row((1,)), result=0, row=1)
+            self.refuses(Code.WRITE_NOT_ENDED, writer.end, result=0)
+            self.refuses(Code.WRITE_NOT_ENDED, writer.ok, result=0)
+            self.refuses(Code.WRITE_STATUS, lambda: writer.end_rows(4), result=0)
+            writer.end_rows()
+            writer.end()
+
+    def test_refusals(self) -> None:
+        with ms.ReplyWriter(ReplyKind.PREPARE, PROTOCOL_41) as writer:
+            self.refuses(Code.WRITE_WRONG_KIND, writer.ok, result=0)
+        with ms.ReplyWriter(ReplyKind.EXECUTE, PROTOCOL_41) as writer:
+            self.refuses(Code.NO_SUCH_KIND, lambda: writer.rows([Column(b"", 100)]))
+            writer.rows([Column(b"a", ColumnType.TINY), Column(b"b", ColumnType.TINY)])
+            writer.row((1, -128))
+            self.refuses(Code.WRITE_NO_FORM, lambda: writer.row((1, 128)), result=0, row=1, place=1)
+        with ms.ReplyWriter(ReplyKind.QUERY, PROTOCOL_41, limit=40) as writer:
+            column = Column(b"a", ColumnType.BLOB)
+            self.refuses(Code.WRITE_PACKET_TOO_LARGE,
+                         lambda: writer.rows([column._replace(name=b"a" * 41)]), payload=1)
+            packets = writer.rows([column])
+            self.refuses(Code.WRITE_PACKET_TOO_LARGE, lambda: writer.row(("a" * 40,)), payload=3)
+            packets += writer.row(("a" * 39,)) + writer.end_rows()
+        self.assertEqual(read_back(ReplyKind.QUERY, [packets], limit=40),
+                         [ms.Rows((column,), [(b"a" * 39,)], True, 2, 0, b"", ())])
+        progress = PROTOCOL_41 | int(ms.Capability.PROGRESS_OBSOLETE)
+        with ms.ReplyWriter(ReplyKind.QUERY, progress) as writer:
+            self.refuses(Code.WRITE_READS_AS_REPORT, lambda: writer.error(65535, "HY000", ""),
+                         result=0)
+
+    def test_large_cell(self) -> None:
+        value = b"x" * LARGE
+        with ms.ReplyWriter(ReplyKind.QUERY, PROTOCOL_41, limit=LARGE_LIMIT) as writer:
+            packets = [writer.rows([Column(b"a", ColumnType.LONG_BLOB)]), writer.row((value,)),
+                       writer.end_rows()]
+        found = read_back(ReplyKind.QUERY, packets, limit=LARGE_LIMIT)
+        assert isinstance(found[0], ms.Rows)
+        self.assertTrue(found[0].rows == [(value,)])
+
+
+# ---- Packets, logging in, replication -----------------------------------------------------------
+
+
+class Packets(Case):
+    """Payloads that are framed, and streams that are cut."""
+
+    def test_there_and_back(self) -> None:
+        payloads = [b"", b"a", b"\x03SELECT 1", b"x" * 300]
+        stream, number = b"", 254
+        for payload in payloads:
+            packet, number = ms.put_packet(payload, number)
+            stream += packet
+        self.assertEqual(number, 2)
+        for size in (1, 3, len(stream)):
+            found = []
+            with ms.PacketReader(254) as reader:
+                self.assertIsNone(reader.payload())
+                for piece in cut(stream, size):
+                    reader.feed(piece)
+                    found += list(reader)
+            self.assertEqual(found, payloads, size)
+
+    def test_large(self) -> None:
+        for length in (0xFFFFFE, 0xFFFFFF, LARGE):
+            payload = b"x" * length
+            packets, number = ms.put_packet(payload, 0, LARGE_LIMIT)
+            chunks = length // 0xFFFFFF + 1
+            self.assertEqual((number, len(packets)), (chunks, length + 4 * chunks))
+            with ms.PacketReader(0, LARGE_LIMIT) as reader:
+                reader.feed(packets)
+                self.assertTrue(reader.payload() == payload)
+                self.assertIsNone(reader.payload())
+
+    def test_commands(self) -> None:
+        """Commands that were sent at once, each from the number 0 on."""
+        stream = ms.put_packet(b"\x0e")[0] * 2
+        with ms.PacketReader() as reader:
+            reader.feed(stream)
+            found = []
+            for payload in reader:
+                found.append(payload)
+                reader.restart()
+            self.assertEqual(found, [b"\x0e", b"\x0e"])
+
+    def test_other_numbers(self) -> None:
+        """Packets between which the other side sends some."""
+        with ms.PacketReader() as reader:
+            for number in (0, 2, 255, 0):
+                reader.restart(number)
+                packet, _ = ms.put_packet(b"abc", number)
+                reader.feed(packet[:6])
+                self.assertIsNone(reader.payload())
+                for first in (0, 1):
+                    self.refuses(Code.UNFINISHED, lambda: reader.restart(first))
+                reader.feed(packet[6:])
+                self.assertEqual(reader.payload(), b"abc")
+
+    def test_faults(self) -> None:
+        with ms.PacketReader() as reader:
+            reader.feed(ms.put_packet(b"a")[0] + ms.put_packet(b"b", 2)[0])
+            self.assertEqual(reader.payload(), b"a")
+            for _ in range(2):
+                self.refuses(Code.FAULT_OUT_OF_SYNC, reader.payload)
+        with ms.PacketReader(limit=3) as reader:
+            reader.feed(ms.put_packet(b"abcd")[0])
+            self.refuses(Code.FAULT_TOO_LARGE, reader.payload)
+        self.refuses(Code.FAULT_TOO_LARGE, lambda: ms.put_packet(b"abcd", limit=3))
+
+
+# What MariaDB 10.11 greets with, and what its command line client answers.
+GREETING = bytes.fromhex(
+    "0a352e352e352d31302e31312e31392d4d6172696144422d302b646562313275310004000000677c582651464b26"
+    "00fef7080200ff81150000000000001d00000079526d4d77312d2c36682e48006d7973716c5f6e61746976655f70"
+    "617373776f726400")
+LOGIN = bytes.fromhex(
+    "8ca2bf000000100021000000000000000000000000000000000000001d000000726f6f74000074657374006d7973"
+    "716c5f6e61746976655f70617373776f7264007f035f6f73054c696e75780c5f636c69656e745f6e616d650a6c69"
+    "626d617269616462045f7069640531343335350f5f636c69656e745f76657273696f6e06332e332e3230095f706c"
+    "6174666f726d067838365f36340c70726f6772616d5f6e616d65056d7973716c0c5f7365727665725f686f737409"
+    "3132372e302e302e31")
+
+
+class LoggingIn(Case):
+    """Greetings and logins."""
+
+    def test_recorded(self) -> None:
+        greeting = ms.read_greeting(GREETING)
+        self.assertEqual(greeting, ms.Greeting(
+            4, b"5.5.5-10.11.19-MariaDB-0+deb12u1", 0x81FFF7FE, 0x1D, 2, 8, b"g|X&QFK&",
+            b"yRmMw1-,6h.H", b"mysql_native_password"))
+        self.assertEqual(ms.read_login(LOGIN), ms.Login(
+            b"root", b"", b"test", b"mysql_native_password", 0xBFA28C, 0x1D, 33))
+
+    def test_offered(self) -> None:
+        """Of capabilities that weren't offered a client leaves out what belongs to them."""
+        login = bytes.fromhex("85a2bf00" "00000010" "21") + bytes(23) + (
+            b"anyone\0\0mysql_native_password\0")
+        self.refuses(Code.BAD_PACKET, lambda: ms.read_login(login))
+        self.assertEqual(ms.read_login(login, 0x000FA20D), ms.Login(
+            b"anyone", b"", b"", b"mysql_native_password", 0x000FA205, 0, 33))
+
+    def test_greeting(self) -> None:
+        capabilities = PROTOCOL_41 | int(ms.Capability.SECURE_CONNECTION
+                                         | ms.Capability.PLUGIN_AUTH)
+        payload = ms.put_greeting(7, "8.0.0-test", capabilities, b"12345678", b"abcdefghijkl",
+                                  mariadb_capabilities=4)
+        self.assertEqual(payload.hex(), (
+            b"\x0a8.0.0-test\0\x07\0\0\0" b"12345678\0\0\x82\x2d\x02\0\x08\0\x15" + bytes(6)
+            + b"\x04\0\0\0abcdefghijkl\0mysql_native_password\0").hex())
+        self.assertEqual(
+            ms.read_greeting(payload),
+            ms.Greeting(7, b"8.0.0-test", capabilities, 4, 2, 45, b"12345678", b"abcdefghijkl",
+                        b"mysql_native_password"))
+
+    def test_login(self) -> None:
+        capabilities = PROTOCOL_41 | int(ms.Capability.SECURE_CONNECTION)
+        login = ms.put_login("root", capabilities, b"\x01" * 20, "test", mariadb_capabilities=4,
+                             max_packet_size=1000)
+        flags = capabilities | int(ms.Capability.CONNECT_WITH_DB | ms.Capability.PLUGIN_AUTH)
+        self.assertEqual(login.hex(), (
+            flags.to_bytes(4, "little") + b"\xe8\x03\0\0\x2d" + bytes(19) + b"\x04\0\0\0root\0\x14"
+            + b"\x01" * 20 + b"test\0mysql_native_password\0").hex())
+        self.assertEqual(ms.read_login(login),
+                         ms.Login(b"root", b"\x01" * 20, b"test", b"mysql_native_password", flags,
+                                  4, 45))
+        bare = ms.read_login(ms.put_login("root", flags, plugin=""))
+        self.assertEqual(bare, ms.Login(b"root", b"", b"", b"", capabilities, 0, 45))
+
+    def test_refusals(self) -> None:
+        for payload in (b"", b"\x0a", b"\xff" * 10):
+            self.refuses(Code.BAD_PACKET, lambda: ms.read_greeting(payload))
+            self.refuses(Code.BAD_PACKET, lambda: ms.read_login(payload))
+        self.refuses(Code.BAD_PACKET, lambda: ms.put_greeting(1, "8.0", 0, b"1234567", b"a" * 12))
+        self.refuses(Code.BAD_PACKET, lambda: ms.put_greeting(1, "8.0", 0, b"12345678", b"a" * 11))
+        self.refuses(Code.BAD_PACKET, lambda: ms.put_greeting(1, "8\0", 0, b"a" * 8, b"a" * 12))
+        self.refuses(Code.BAD_PACKET, lambda: ms.put_login("a\0b", PROTOCOL_41))
+        self.refuses(Code.BAD_PACKET, lambda: ms.put_login(
+            "a", int(ms.Capability.SECURE_CONNECTION), b"a" * 256))
+
+
+class Replication(Case):
+    """What a replica asks for."""
+
+    def test_commands(self) -> None:
+        self.assertEqual(ms.register_replica(2, "host", "user", "secret", 3306).hex(), (
+            b"\x15\x02\0\0\0\x04host\x04user\x06secret\xea\x0c" + bytes(8)).hex())
+        self.assertEqual(ms.binlog_dump(2, "bin.000001", 4, 1).hex(),
+                         b"\x12\x04\0\0\0\x01\0\x02\0\0\0bin.000001".hex())
+        gtids = "3e11fa47-71ca-11e1-9e33-c80aa9429562:1-5"
+        self.assertEqual(
+            ms.binlog_dump_gtid(2, gtids, "bin.000001").hex(),
+            "1e0400020000000a000000" + b"bin.000001".hex() + "0400000000000000" "30000000"
+            "0100000000000000" "3e11fa4771ca11e19e33c80aa9429562" "0100000000000000"
+            "0100000000000000" "0600000000000000")
+        self.assertEqual(ms.binlog_dump_gtid(2, "").hex(),
+                         "1e000002000000" "00000000" "0400000000000000" "08000000"
+                         "0000000000000000")
+
+    def test_refusals(self) -> None:
+        self.refuses(Code.BAD_PACKET, lambda: ms.register_replica(2, "h" * 256))
+        self.refuses(Code.BAD_PACKET, lambda: ms.binlog_dump_gtid(2, "no such text"))
+
+
+# ---- Objects ------------------------------------------------------------------------------------
+
+
+class Objects(Case):
+    """What an object holds is freed, in the thread that made it."""
+
+    def test_close(self) -> None:
+        makers: List[Callable[[], Any]] = [
+            lambda: ms.Receiver("SELECT ?"), ms.ParameterSets, lambda: ms.Recoder("SELECT ?"),
+            lambda: ms.ReplyReader(ReplyKind.QUERY, 0),
+            lambda: ms.ReplyWriter(ReplyKind.QUERY, 0), ms.PacketReader,
+        ]
+        for make in makers:
+            with make() as made:
+                at = made._at
+                self.assertIsNotNone(at.at)
+            self.assertIsNone(at.at)
+            made = make()
+            at = made._at
+            del made
+            gc.collect()
+            self.assertIsNone(at.at)
+
+    def in_thread(self, call: Callable[[], object]) -> Optional[BaseException]:
+        """What a call in a thread of its own raises."""
+        raised: List[BaseException] = []
+
+        def run() -> None:
+            try:
+                call()
+            except BaseException as error:  # handed on to the test
+                raised.append(error)
+
+        thread = threading.Thread(target=run)
+        thread.start()
+        thread.join()
+        return raised[0] if raised else None
+
+    def test_other_thread(self) -> None:
+        receiver = ms.Receiver("SELECT ?")
+        for call in (lambda: receiver.feed(b""), receiver.take, receiver.end, receiver.close):
+            self.assertIsInstance(self.in_thread(call), RuntimeError)
+        receiver.feed(b"")
+        receiver.close()
+
+    def test_collected_in_other_thread(self) -> None:
+        kept = [ms.Receiver("SELECT ?")]
+        at = kept[0]._at
+        self.assertIsNone(self.in_thread(kept.clear))
+        self.assertIsNotNone(at.at)
+        ms.ParameterSets().close()
+        self.assertIsNone(at.at)
+
+    def test_threads(self) -> None:
+        """Threads with objects of their own, at once."""
+        query = "INSERT INTO t VALUES (?, ?)"
+        raised: List[Optional[BaseException]] = []
+
+        def work(seed: int) -> None:
+            sets = [(seed * it, str(it)) for it in range(500)]
+            for road in Road:
+                stream = ms.send(query, sets, road)
+                found, _ = received(query, cut(stream, 1000))
+                self.assertEqual(found, [(number, text.encode()) for number, text in sets])
+
+        threads = [threading.Thread(
+            target=lambda it=it: raised.append(self.in_thread(lambda: work(it))))
+            for it in range(1, 5)]
+        for thread in threads:
+            thread.start()
+        for thread in threads:
+            thread.join()
+        self.assertEqual(raised, [None] * 4)
+
+
+if __name__ == "__main__":
+    unittest.main()

@@ -1,0 +1,57 @@
+//! Parameter sets of a query as streams of MySQL and MariaDB commands, and back: safe Rust over the
+//! library for C of this repository, which is compiled from proved code.
+//!
+//! - [`Receiver`] reads a stream of commands about one query, and shows its parameter sets;
+//!   [`Recoder`] and [`recode`] make one form of it.
+//! - [`send`] appends [`ParameterSets`] as commands to [`Bytes`], by text, by execution or by bulk;
+//!   [`bind_text`] puts one set into the query's text.
+//! - [`ReplyReader`] reads a server's reply; [`ReplyWriter`] writes one.
+//! - [`PacketReader`] cuts a stream into payloads, [`put_packet`] frames them; [`Greeting`] and
+//!   [`Login`], [`RegisterReplica`], [`BinlogDump`] and [`BinlogDumpGtid`] are payloads of a
+//!   connection's beginning and of a replica.
+//!
+//! No call opens a socket, and none waits: bytes come in as slices, and go out as [`Bytes`].
+//!
+//! Each object of the library goes with the value that owns it. What is shown of it, a set's bytes
+//! or a row's cells, borrows from that value, and nothing is copied. A value stays in the thread
+//! that made it; values in different threads share nothing.
+//!
+//! A call that isn't done answers an [`Error`], and a stream that can't be read on a [`Fault`], by
+//! a [`Code`] that the library has a text for. A call panics only where the linked library isn't
+//! the one that this crate declares.
+#![deny(missing_docs)]
+#![deny(unsafe_op_in_unsafe_fn)]
+#![warn(clippy::all, clippy::undocumented_unsafe_blocks)]
+
+mod bytes;
+pub mod capability;
+mod codes;
+mod handle;
+mod login;
+mod packets;
+mod raw;
+mod receiver;
+mod recoder;
+mod replication;
+mod reply;
+mod results;
+mod sending;
+mod sets;
+mod values;
+mod writer;
+
+pub use bytes::Bytes;
+pub use codes::{At, Code, End, Error, Fault};
+pub use login::{Greeting, Login};
+pub use packets::{put_packet, PacketReader};
+pub use receiver::{Audit, Receiver, Set};
+pub use recoder::{recode, Recoder};
+pub use replication::{BinlogDump, BinlogDumpGtid, RegisterReplica, BINLOG_DUMP_NON_BLOCK};
+pub use reply::{Reply, ReplyKind, ReplyReader};
+pub use results::{
+    Column, ColumnType, Done, ErrorPacket, OkPacket, Prepared, ReplyResult, Row, Rows, SessionState,
+};
+pub use sending::{bind_text, send, value_text, Road};
+pub use sets::ParameterSets;
+pub use values::{Content, Date, Time, Value};
+pub use writer::ReplyWriter;

@@ -1,0 +1,411 @@
+//! Results of a reply: OK packets, rows, prepared statements, errors, requests for files.
+//!
+//! All that is shown of a result borrows from the reader that has it. Its bytes stay as they are
+//! while results, states, cells and columns are looked at; any other call takes the reader's
+//! `&mut self` or the reader itself, and so ends the borrow.
+
+use crate::codes::{answer, certain, in_range, Code, Error};
+use crate::handle::Handle;
+use crate::raw;
+use crate::values::Value;
+
+/// SERVER_MORE_RESULTS_EXISTS: the bit of a status by which another result follows.
+const MORE_RESULTS: u16 = 8;
+
+/// An OK packet, as far as it is read and written.
+#[derive(Clone, Copy, Debug, Default, PartialEq, Eq, Hash)]
+pub struct OkPacket<'a> {
+    /// How many rows were changed.
+    pub affected_rows: u64,
+    /// The number that was generated for a row.
+    pub last_insert_id: u64,
+    /// The server's status, in bits.
+    pub status: u16,
+    /// How many warnings there are.
+    pub warnings: u16,
+    /// What the server tells about it.
+    pub info: &'a [u8],
+}
+
+/// An error of the server.
+#[derive(Clone, Copy, Debug, Default, PartialEq, Eq, Hash)]
+pub struct ErrorPacket<'a> {
+    /// The error's number.
+    pub code: u16,
+    /// The SQL state, or none.
+    pub state: Option<[u8; 5]>,
+    /// The message.
+    pub message: &'a [u8],
+}
+
+/// A result of a reply.
+#[derive(Clone, Copy, Debug)]
+pub enum ReplyResult<'a> {
+    /// An OK packet.
+    Ok(Done<'a>),
+    /// Rows.
+    Rows(Rows<'a>),
+    /// A prepared statement, which ends the reply.
+    Prepared(Prepared<'a>),
+    /// An error, which ends the reply.
+    Error(ErrorPacket<'a>),
+    /// The server wants the file of this name, and ends the reply.
+    File(&'a [u8]),
+}
+
+impl<'a> ReplyResult<'a> {
+    /// Whether the reply ends with this result: so a client that waits for the server knows when to
+    /// stop.
+    pub fn is_last(&self) -> bool {
+        match self {
+            ReplyResult::Ok(done) => !done.has_more(),
+            ReplyResult::Rows(rows) => rows.end().is_some_and(|done| !done.has_more()),
+            ReplyResult::Prepared(_) | ReplyResult::Error(_) | ReplyResult::File(_) => true,
+        }
+    }
+}
+
+/// The results that a reader or an ended reply has.
+pub(crate) fn results_of(handle: &Handle) -> Result<Vec<ReplyResult<'_>>, Error> {
+    let mut count = 0;
+    // SAFETY: "Handles": by `Handle::get`; "Results go out": a local.
+    certain(unsafe { raw::mysql_session_reply_results(handle.get(), &mut count) });
+    (0..count)
+        .map(|number| result_of(Number { handle, number }))
+        .collect()
+}
+
+/// The result of a number below that of the results.
+fn result_of(of: Number<'_>) -> Result<ReplyResult<'_>, Error> {
+    let mut shown = raw::ReplyResult::default();
+    // SAFETY: "Handles": by `Handle::get`; "Results go out": a local.
+    answer(unsafe { raw::mysql_session_reply_result(of.handle.get(), of.number, &mut shown) })?;
+    // SAFETY: "Its text is good until the next call on the handle other than" those that look at
+    // results, and a shared reader has no others.
+    let text = unsafe { shown.text.bytes() };
+    Ok(match shown.kind {
+        0 => ReplyResult::Ok(Done {
+            of,
+            packet: ok_packet(&shown, text),
+        }),
+        1 => ReplyResult::Rows(rows(of, &shown, text)),
+        2 => ReplyResult::Prepared(prepared(of, &shown)),
+        3 => ReplyResult::Error(error_packet(&shown, text)),
+        4 => ReplyResult::File(text),
+        kind => panic!("the header has no kind {kind} of a result"),
+    })
+}
+
+fn ok_packet<'a>(shown: &raw::ReplyResult, info: &'a [u8]) -> OkPacket<'a> {
+    OkPacket {
+        affected_rows: shown.affected_rows,
+        last_insert_id: shown.last_insert_id,
+        status: shown.status,
+        warnings: shown.warnings,
+        info,
+    }
+}
+
+fn error_packet<'a>(shown: &raw::ReplyResult, message: &'a [u8]) -> ErrorPacket<'a> {
+    let state = (shown.state_len != 0).then_some(shown.state);
+    ErrorPacket {
+        code: shown.error_code,
+        state,
+        message,
+    }
+}
+
+fn rows<'a>(of: Number<'a>, shown: &raw::ReplyResult, info: &'a [u8]) -> Rows<'a> {
+    let end = shown.ended.then(|| Done {
+        of,
+        packet: ok_packet(shown, info),
+    });
+    Rows {
+        of,
+        columns: shown.columns,
+        rows: shown.rows,
+        end,
+    }
+}
+
+fn prepared<'a>(of: Number<'a>, shown: &raw::ReplyResult) -> Prepared<'a> {
+    Prepared {
+        of,
+        statement: shown.statement,
+        warnings: shown.warnings,
+        params: shown.params,
+        columns: shown.columns,
+    }
+}
+
+/// A result, by the handle that has it and its number.
+#[derive(Clone, Copy)]
+struct Number<'a> {
+    handle: &'a Handle,
+    number: usize,
+}
+
+impl std::fmt::Debug for Number<'_> {
+    fn fmt(&self, formatter: &mut std::fmt::Formatter<'_>) -> std::fmt::Result {
+        self.number.fmt(formatter)
+    }
+}
+
+/// An OK packet that was read, or the packet that ended rows.
+#[derive(Clone, Copy, Debug)]
+pub struct Done<'a> {
+    of: Number<'a>,
+    /// What the packet says.
+    pub packet: OkPacket<'a>,
+}
+
+/// A change of the session's state that a server tells of.
+#[derive(Clone, Copy, Debug, PartialEq, Eq, Hash)]
+pub struct SessionState<'a> {
+    /// The number of the protocol's type of Session State Information, as 0 for a system variable.
+    pub kind: u8,
+    /// The bytes that this type has.
+    pub data: &'a [u8],
+}
+
+impl<'a> Done<'a> {
+    /// Whether another result follows.
+    pub fn has_more(&self) -> bool {
+        self.packet.status & MORE_RESULTS != 0
+    }
+
+    /// The changes of the session's state that the packet tells of.
+    ///
+    /// # Errors
+    /// [`Code::BAD_PACKET`] where they can't be read, [`Code::MEMORY`].
+    pub fn states(&self) -> Result<Vec<SessionState<'a>>, Error> {
+        let mut states = Vec::new();
+        while let Some(state) = state_of(self.of, states.len())? {
+            states.push(state);
+        }
+        Ok(states)
+    }
+}
+
+/// The change of a number from 0; none behind the last one.
+fn state_of(of: Number<'_>, state: usize) -> Result<Option<SessionState<'_>>, Error> {
+    let (mut kind, mut data) = (0, raw::Text::default());
+    // SAFETY: "Handles": by `Handle::get`; "Results go out": different locals and fields.
+    let code = answer(unsafe {
+        raw::mysql_session_reply_state(
+            of.handle.get(),
+            of.number,
+            state,
+            &mut kind,
+            &mut data.at,
+            &mut data.len,
+        )
+    });
+    match code {
+        Ok(()) => {
+            // SAFETY: the bytes "are good as a result's text is".
+            let data = unsafe { data.bytes() };
+            Ok(Some(SessionState { kind, data }))
+        }
+        Err(Code::OUT_OF_RANGE) => Ok(None),
+        Err(code) => Err(code.into()),
+    }
+}
+
+/// A result set's rows, as far as they came and weren't taken before.
+#[derive(Clone, Copy, Debug)]
+pub struct Rows<'a> {
+    of: Number<'a>,
+    columns: usize,
+    rows: usize,
+    end: Option<Done<'a>>,
+}
+
+impl<'a> Rows<'a> {
+    /// The packet that ended the rows; none where they go on, or where an error ended them.
+    pub fn end(&self) -> Option<Done<'a>> {
+        self.end
+    }
+
+    /// How many rows there are.
+    pub fn len(&self) -> usize {
+        self.rows
+    }
+
+    /// Whether there are no rows.
+    pub fn is_empty(&self) -> bool {
+        self.rows == 0
+    }
+
+    /// The row of a number, from 0; none where there is no such row.
+    pub fn row(&self, number: usize) -> Option<Row<'a>> {
+        (number < self.rows).then_some(Row {
+            of: self.of,
+            columns: self.columns,
+            number,
+        })
+    }
+
+    /// The rows.
+    pub fn iter(&self) -> impl DoubleEndedIterator<Item = Row<'a>> + ExactSizeIterator + 'a {
+        let Rows {
+            of, columns, rows, ..
+        } = *self;
+        (0..rows).map(move |number| Row {
+            of,
+            columns,
+            number,
+        })
+    }
+
+    /// The columns.
+    pub fn columns(&self) -> impl DoubleEndedIterator<Item = Column<'a>> + ExactSizeIterator + 'a {
+        columns_of(self.of, self.columns)
+    }
+
+    /// The number of the first column of this name, from 0.
+    pub fn column_named(&self, name: &[u8]) -> Option<usize> {
+        self.columns().position(|column| column.name == name)
+    }
+}
+
+/// A row of a result set.
+#[derive(Clone, Copy)]
+pub struct Row<'a> {
+    of: Number<'a>,
+    columns: usize,
+    number: usize,
+}
+
+impl<'a> Row<'a> {
+    /// How many cells the row has: as many as the result set has columns.
+    pub fn len(&self) -> usize {
+        self.columns
+    }
+
+    /// Whether the row has no cells.
+    pub fn is_empty(&self) -> bool {
+        self.columns == 0
+    }
+
+    /// The value in a cell, by its column's number from 0; none where there is no such column.
+    ///
+    /// In the reply to a query each is NULL or bytes, in that to an execution it has its type.
+    pub fn cell(&self, column: usize) -> Option<Value<'a>> {
+        let mut shown = raw::Value::default();
+        let Number { handle, number } = self.of;
+        // SAFETY: "Handles": by `Handle::get`; "Results go out": a local.
+        let found = in_range(unsafe {
+            raw::mysql_session_reply_cell(handle.get(), number, self.number, column, &mut shown)
+        });
+        // SAFETY: its bytes "are good as a result's text is".
+        found.then(|| unsafe { Value::of(shown) })
+    }
+
+    /// The cells, column by column.
+    pub fn iter(&self) -> impl DoubleEndedIterator<Item = Value<'a>> + ExactSizeIterator + 'a {
+        let row = *self;
+        (0..row.columns).map(move |column| {
+            row.cell(column)
+                .expect("a column below the number of columns has a cell")
+        })
+    }
+}
+
+impl std::fmt::Debug for Row<'_> {
+    fn fmt(&self, formatter: &mut std::fmt::Formatter<'_>) -> std::fmt::Result {
+        formatter.debug_list().entries(self.iter()).finish()
+    }
+}
+
+/// A prepared statement.
+#[derive(Clone, Copy, Debug)]
+pub struct Prepared<'a> {
+    of: Number<'a>,
+    /// The statement's id.
+    pub statement: u32,
+    /// How many warnings there are.
+    pub warnings: u16,
+    params: usize,
+    columns: usize,
+}
+
+impl<'a> Prepared<'a> {
+    /// The parameters.
+    pub fn params(&self) -> impl DoubleEndedIterator<Item = Column<'a>> + ExactSizeIterator + 'a {
+        let of = self.of;
+        (0..self.params).map(move |param| shown_column(of, param, raw::mysql_session_reply_param))
+    }
+
+    /// The columns of the rows that the statement gives.
+    pub fn columns(&self) -> impl DoubleEndedIterator<Item = Column<'a>> + ExactSizeIterator + 'a {
+        columns_of(self.of, self.columns)
+    }
+}
+
+/// What cells a column has.
+#[derive(Clone, Copy, Debug, Default, PartialEq, Eq, Hash)]
+pub struct ColumnType {
+    /// The number of the protocol's column type, as 3 for a whole number of 32 bits.
+    pub kind: u8,
+    /// The bits of the protocol's Column Definition Flags.
+    pub flags: u16,
+    /// The number of the collation.
+    pub charset: u16,
+    /// The most bytes of a cell.
+    pub length: u32,
+    /// How many digits stand behind the point.
+    pub decimals: u8,
+}
+
+/// A column of a result set, or a parameter of a prepared statement.
+#[derive(Clone, Copy, Debug, Default, PartialEq, Eq, Hash)]
+pub struct Column<'a> {
+    /// What cells it has.
+    pub column_type: ColumnType,
+    /// The schema.
+    pub schema: &'a [u8],
+    /// The table, as the query names it.
+    pub table: &'a [u8],
+    /// The table, as the schema names it.
+    pub org_table: &'a [u8],
+    /// The column, as the query names it.
+    pub name: &'a [u8],
+    /// The column, as the table names it.
+    pub org_name: &'a [u8],
+}
+
+/// The columns of a result.
+fn columns_of(
+    of: Number<'_>,
+    count: usize,
+) -> impl DoubleEndedIterator<Item = Column<'_>> + ExactSizeIterator + '_ {
+    (0..count).map(move |column| shown_column(of, column, raw::mysql_session_reply_column))
+}
+
+/// A call of the library that shows a column: by handle, result and column.
+type ShowsColumn = unsafe extern "C" fn(*mut raw::Handle, usize, usize, *mut raw::Column) -> u32;
+
+/// The column, or the parameter, of a number below that of the columns.
+fn shown_column(of: Number<'_>, column: usize, show: ShowsColumn) -> Column<'_> {
+    let mut shown = raw::Column::default();
+    // SAFETY: "Handles": by `Handle::get`; "Results go out": a local.
+    certain(unsafe { show(of.handle.get(), of.number, column, &mut shown) });
+    // SAFETY: "its texts are good as a result's text is".
+    unsafe {
+        Column {
+            column_type: ColumnType {
+                kind: shown.kind,
+                flags: shown.flags,
+                charset: shown.charset,
+                length: shown.length,
+                decimals: shown.decimals,
+            },
+            schema: shown.schema.bytes(),
+            table: shown.table.bytes(),
+            org_table: shown.org_table.bytes(),
+            name: shown.name.bytes(),
+            org_name: shown.org_name.bytes(),
+        }
+    }
+}

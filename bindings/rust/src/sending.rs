@@ -1,0 +1,145 @@
+//! Parameter sets sent.
+
+use crate::bytes::Bytes;
+use crate::codes::{answer, At, Code, Error};
+use crate::raw;
+use crate::sets::ParameterSets;
+
+/// By which commands parameter sets are sent.
+#[derive(Clone, Copy, Debug, PartialEq, Eq, Hash)]
+pub enum Road {
+    /// A text query for each set.
+    Text = 0,
+    /// One prepare, and an execution for each set.
+    Execute = 1,
+    /// One prepare, and the fewest of MariaDB's bulk executions.
+    Bulk = 2,
+}
+
+/// Appends to `out` the commands that carry the sets, as framed packets.
+///
+/// A [`Receiver`](crate::Receiver) of the same query, id and limit reads the sets back. Values of a
+/// set that wasn't ended aren't sent. The query's placeholders are question marks: sets have no
+/// names, so that a query with `:name` refuses them by [`Code::REFUSED_PARAMS`].
+///
+/// The limit is the `max_allowed_packet` of the receiving side, at least 4; a payload has at most
+/// `limit - 4` bytes.
+///
+/// # Errors
+/// [`Code::LIMIT_TOO_SMALL`], [`Code::MIXED`], [`Code::MEMORY`], or one of `REFUSED_..` with the
+/// set and the place. Nothing is appended then.
+///
+/// ```
+/// use mysql_session::{send, Bytes, ParameterSets, Receiver, Road};
+///
+/// # fn main() -> Result<(), mysql_session::Error> {
+/// let query = b"INSERT INTO t VALUES (?, ?)";
+/// let mut sets = ParameterSets::new()?;
+/// sets.add(&[(-7).into(), "it's".into()])?;
+///
+/// let mut out = Bytes::new()?;
+/// send(&sets, query, Road::Text, 1, 1 << 24, &mut out)?;
+/// assert_eq!(&out[5..], b"INSERT INTO t VALUES (-7, 'it\\'s')");
+///
+/// send(&sets, query, Road::Execute, 1, 1 << 24, &mut out)?;
+/// let mut receiver = Receiver::new(query, 1, 1 << 24)?;
+/// receiver.feed(&out)?;
+/// assert_eq!(receiver.sets().len(), 2);
+/// # Ok(())
+/// # }
+/// ```
+pub fn send(
+    sets: &ParameterSets,
+    query: &[u8],
+    road: Road,
+    statement: u32,
+    limit: usize,
+    out: &mut Bytes,
+) -> Result<(), Error> {
+    let mut place = raw::Place::default();
+    // SAFETY: "Handles": by `Handle::get`, and the handles are different ones as objects of two
+    // kinds own them; "Bytes go in": the query is a slice; "Results go out": a local.
+    let code = unsafe {
+        raw::mysql_session_send(
+            sets.looking(),
+            query.as_ptr(),
+            query.len(),
+            road as u32,
+            statement,
+            limit,
+            out.changing(),
+            &mut place,
+        )
+    };
+    answer(code).map_err(|code| refusal(code, place))
+}
+
+/// Appends to `out` the text of one set, by its number from 0: the query with a literal in the
+/// place of each placeholder. It is what a text query has behind its first byte.
+///
+/// # Errors
+/// [`Code::OUT_OF_RANGE`] where there is no such set, [`Code::MIXED`], [`Code::MEMORY`],
+/// [`Code::REFUSED_NOT_ALONE`], [`Code::REFUSED_PARAMS`], [`Code::REFUSED_WRONG_COUNT`] or
+/// [`Code::REFUSED_FLOAT`]. Nothing is appended then.
+///
+/// ```
+/// use mysql_session::{bind_text, Bytes, ParameterSets};
+///
+/// # fn main() -> Result<(), mysql_session::Error> {
+/// let mut sets = ParameterSets::new()?;
+/// sets.add(&[5.into(), None::<&str>.into()])?;
+/// let mut out = Bytes::new()?;
+/// bind_text(&sets, 0, b"SELECT ?, ?", &mut out)?;
+/// assert_eq!(out.as_slice(), b"SELECT 5, NULL");
+/// # Ok(())
+/// # }
+/// ```
+pub fn bind_text(
+    sets: &ParameterSets,
+    set: usize,
+    query: &[u8],
+    out: &mut Bytes,
+) -> Result<(), Error> {
+    let mut place = raw::Place::default();
+    // SAFETY: as in `send`.
+    let code = unsafe {
+        raw::mysql_session_bind_text(
+            sets.looking(),
+            set,
+            query.as_ptr(),
+            query.len(),
+            out.changing(),
+            &mut place,
+        )
+    };
+    answer(code).map_err(|code| refusal(code, place))
+}
+
+/// Appends to `out` the literal of one value, by the numbers of its set and its place, from 0.
+///
+/// # Errors
+/// [`Code::OUT_OF_RANGE`], [`Code::MEMORY`]; nothing is appended then.
+pub fn value_text(
+    sets: &ParameterSets,
+    set: usize,
+    place: usize,
+    out: &mut Bytes,
+) -> Result<(), Error> {
+    // SAFETY: as in `send`.
+    let code = unsafe { raw::mysql_session_value_text(sets.looking(), set, place, out.changing()) };
+    Ok(answer(code)?)
+}
+
+/// A refusal with the numbers that its code has.
+fn refusal(code: Code, raw::Place { set, place }: raw::Place) -> Error {
+    let at = match code {
+        Code::REFUSED_NOT_ALONE => Some(At::Place(place)),
+        Code::REFUSED_PARAMS
+        | Code::REFUSED_WRONG_COUNT
+        | Code::REFUSED_PACKET_TOO_LARGE
+        | Code::REFUSED_ROW_TOO_LARGE => Some(At::Set(set)),
+        Code::REFUSED_FLOAT | Code::REFUSED_MIXED_KINDS => Some(At::Value { set, place }),
+        _ => None,
+    };
+    Error::new(code, at)
+}

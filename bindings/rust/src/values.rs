@@ -1,0 +1,263 @@
+//! Values that are sent, and that rows hold.
+
+use crate::raw;
+
+/// What a place of a parameter set holds that was read from a stream of commands.
+#[derive(Clone, Copy, Debug, PartialEq, Eq, Hash)]
+pub enum Content<'a> {
+    /// NULL.
+    Null,
+    /// A whole number that 64 bits with a sign hold.
+    Int(i64),
+    /// A whole number of 2^63 or more.
+    UInt(u64),
+    /// Bytes, as they stand in the receiver.
+    Bytes(&'a [u8]),
+}
+
+impl<'a> Content<'a> {
+    /// What the library showed.
+    ///
+    /// # Safety
+    /// The library wrote the fields, and the bytes stay as they are for `'a`.
+    pub(crate) unsafe fn of(shown: raw::Content) -> Content<'a> {
+        match shown.kind {
+            0 => Content::Null,
+            1 => Content::Int(shown.int_value),
+            2 => Content::UInt(shown.uint_value),
+            // SAFETY: by this call's condition.
+            3 => Content::Bytes(unsafe { shown.bytes.bytes() }),
+            kind => panic!("the header has no kind {kind} of a content"),
+        }
+    }
+}
+
+/// A date, with its time of day. No field is checked.
+#[derive(Clone, Copy, Debug, Default, PartialEq, Eq, Hash)]
+pub struct Date {
+    /// The year.
+    pub year: u16,
+    /// The month, from 1.
+    pub month: u8,
+    /// The day of the month, from 1.
+    pub day: u8,
+    /// The hour.
+    pub hour: u8,
+    /// The minute.
+    pub minute: u8,
+    /// The second.
+    pub second: u8,
+    /// The microseconds.
+    pub micros: u32,
+}
+
+/// A duration. No field is checked.
+#[derive(Clone, Copy, Debug, Default, PartialEq, Eq, Hash)]
+pub struct Time {
+    /// Whether it is below zero.
+    pub negative: bool,
+    /// The days.
+    pub days: u32,
+    /// The hours.
+    pub hours: u8,
+    /// The minutes.
+    pub minutes: u8,
+    /// The seconds.
+    pub seconds: u8,
+    /// The microseconds.
+    pub micros: u32,
+}
+
+/// A value: a parameter that is sent, or what a cell of a row holds.
+///
+/// Whole numbers of the widths up to 32 bits, `i64` and `bool` become [`Value::Int`], a `u64`
+/// [`Value::UInt`], a text or bytes [`Value::Bytes`], and `None` becomes [`Value::Null`].
+#[derive(Clone, Copy, Debug, PartialEq)]
+pub enum Value<'a> {
+    /// NULL.
+    Null,
+    /// A whole number with a sign.
+    Int(i64),
+    /// A whole number without a sign.
+    UInt(u64),
+    /// Bytes, among them texts.
+    Bytes(&'a [u8]),
+    /// A float, which rows have and no parameter is.
+    Float(f32),
+    /// A double, which rows have and no parameter is.
+    Double(f64),
+    /// A date.
+    Date(Date),
+    /// A duration.
+    Time(Time),
+}
+
+impl<'a> Value<'a> {
+    /// What the library showed.
+    ///
+    /// # Safety
+    /// The library wrote the fields, and the bytes stay as they are for `'a`.
+    pub(crate) unsafe fn of(shown: raw::Value) -> Value<'a> {
+        match shown.kind {
+            0 => Value::Null,
+            1 => Value::Int(shown.int_value),
+            2 => Value::UInt(shown.uint_value),
+            // SAFETY: by this call's condition.
+            3 => Value::Bytes(unsafe { shown.bytes.bytes() }),
+            4 => Value::Float(f32::from_bits(shown.uint_value as u32)),
+            5 => Value::Double(f64::from_bits(shown.uint_value)),
+            6 => Value::Date(date_of(&shown)),
+            7 => Value::Time(time_of(&shown)),
+            kind => panic!("the header has no kind {kind} of a value"),
+        }
+    }
+
+    /// The value as an element of the library's array: its bytes go behind `bytes`.
+    pub(crate) fn parameter(&self, bytes: &mut Vec<u8>) -> raw::Parameter {
+        let mut parameter = raw::Parameter::default();
+        match *self {
+            Value::Null => parameter.kind = 0,
+            Value::Int(number) => {
+                parameter.kind = 1;
+                parameter.int_value = number;
+            }
+            Value::UInt(number) => {
+                parameter.kind = 2;
+                parameter.uint_value = number;
+            }
+            Value::Bytes(text) => {
+                parameter.kind = 3;
+                parameter.start = bytes.len();
+                parameter.len = text.len();
+                bytes.extend_from_slice(text);
+            }
+            Value::Float(_) => parameter.kind = 4,
+            Value::Double(_) => parameter.kind = 5,
+            Value::Date(date) => set_date(&mut parameter, date),
+            Value::Time(time) => set_time(&mut parameter, time),
+        }
+        parameter
+    }
+}
+
+fn date_of(shown: &raw::Value) -> Date {
+    Date {
+        year: shown.year,
+        month: shown.month,
+        day: shown.day,
+        hour: shown.hour,
+        minute: shown.minute,
+        second: shown.second,
+        micros: shown.micros,
+    }
+}
+
+fn time_of(shown: &raw::Value) -> Time {
+    Time {
+        negative: shown.negative,
+        days: shown.days,
+        hours: shown.hour,
+        minutes: shown.minute,
+        seconds: shown.second,
+        micros: shown.micros,
+    }
+}
+
+fn set_date(parameter: &mut raw::Parameter, date: Date) {
+    parameter.kind = 6;
+    parameter.year = date.year;
+    parameter.month = date.month;
+    parameter.day = date.day;
+    parameter.hour = date.hour;
+    parameter.minute = date.minute;
+    parameter.second = date.second;
+    parameter.micros = date.micros;
+}
+
+fn set_time(parameter: &mut raw::Parameter, time: Time) {
+    parameter.kind = 7;
+    parameter.negative = time.negative;
+    parameter.days = time.days;
+    parameter.hour = time.hours;
+    parameter.minute = time.minutes;
+    parameter.second = time.seconds;
+    parameter.micros = time.micros;
+}
+
+impl<'a> From<Content<'a>> for Value<'a> {
+    fn from(content: Content<'a>) -> Value<'a> {
+        match content {
+            Content::Null => Value::Null,
+            Content::Int(number) => Value::Int(number),
+            Content::UInt(number) => Value::UInt(number),
+            Content::Bytes(bytes) => Value::Bytes(bytes),
+        }
+    }
+}
+
+/// Whole numbers that become numbers with a sign.
+macro_rules! from_number {
+    ($($number:ty),*) => {
+        $(impl From<$number> for Value<'_> {
+            fn from(number: $number) -> Self {
+                Value::Int(number.into())
+            }
+        })*
+    };
+}
+
+from_number!(i8, i16, i32, i64, u8, u16, u32, bool);
+
+impl From<u64> for Value<'_> {
+    fn from(number: u64) -> Self {
+        Value::UInt(number)
+    }
+}
+
+impl<'a> From<&'a [u8]> for Value<'a> {
+    fn from(bytes: &'a [u8]) -> Value<'a> {
+        Value::Bytes(bytes)
+    }
+}
+
+impl<'a, const LENGTH: usize> From<&'a [u8; LENGTH]> for Value<'a> {
+    fn from(bytes: &'a [u8; LENGTH]) -> Value<'a> {
+        Value::Bytes(bytes)
+    }
+}
+
+impl<'a> From<&'a Vec<u8>> for Value<'a> {
+    fn from(bytes: &'a Vec<u8>) -> Value<'a> {
+        Value::Bytes(bytes)
+    }
+}
+
+impl<'a> From<&'a str> for Value<'a> {
+    fn from(text: &'a str) -> Value<'a> {
+        Value::Bytes(text.as_bytes())
+    }
+}
+
+impl<'a> From<&'a String> for Value<'a> {
+    fn from(text: &'a String) -> Value<'a> {
+        Value::Bytes(text.as_bytes())
+    }
+}
+
+impl From<Date> for Value<'_> {
+    fn from(date: Date) -> Self {
+        Value::Date(date)
+    }
+}
+
+impl From<Time> for Value<'_> {
+    fn from(time: Time) -> Self {
+        Value::Time(time)
+    }
+}
+
+impl<'a, T: Into<Value<'a>>> From<Option<T>> for Value<'a> {
+    fn from(value: Option<T>) -> Value<'a> {
+        value.map_or(Value::Null, Into::into)
+    }
+}

@@ -1,0 +1,252 @@
+//! The declarations of this crate are those of the header: their names, their types, their order.
+
+use std::collections::BTreeMap;
+use std::fs;
+use std::path::Path;
+
+/// The fields of a struct or the arguments of a call, by name and type, and the answer's type.
+type Declared = BTreeMap<String, Vec<(String, String)>>;
+
+fn text_of(file: &str) -> String {
+    let path = Path::new(env!("CARGO_MANIFEST_DIR")).join(file);
+    fs::read_to_string(&path).unwrap_or_else(|error| panic!("{}: {error}", path.display()))
+}
+
+/// The header without comments and lines of the preprocessor, each run of spaces being one.
+fn header() -> String {
+    let mut text = text_of("../c/mysql_session.h");
+    while let Some(start) = text.find("/*") {
+        let end = start + text[start..].find("*/").expect("a comment ends");
+        text.replace_range(start..end + 2, " ");
+    }
+    let lines = text.lines().filter(|line| !line.starts_with('#'));
+    lines
+        .flat_map(str::split_whitespace)
+        .collect::<Vec<_>>()
+        .join(" ")
+}
+
+/// The library's prefix and its words, as a Rust type is named.
+fn type_name(name: &str) -> String {
+    match name.strip_prefix("mysql_session_") {
+        Some("result") => "ReplyResult".to_string(),
+        Some(name) => name[..1].to_uppercase() + &name[1..],
+        None => panic!("{name} is no type of the library"),
+    }
+}
+
+/// A type of C in Rust's words.
+fn rust_type(words: &str) -> String {
+    let base = words.trim_end_matches(['*', ' ']);
+    let stars = words.matches('*').count();
+    let (constant, base) = match base.strip_prefix("const ") {
+        Some(base) => (true, base),
+        None => (false, base),
+    };
+    let mut found = match base {
+        "uint8_t" => "u8".to_string(),
+        "uint16_t" => "u16".to_string(),
+        "uint32_t" => "u32".to_string(),
+        "uint64_t" => "u64".to_string(),
+        "int64_t" => "i64".to_string(),
+        "size_t" => "usize".to_string(),
+        "bool" => "bool".to_string(),
+        "void" => "c_void".to_string(),
+        name => type_name(name),
+    };
+    for star in 0..stars {
+        let pointer = if constant && star == 0 {
+            "*const"
+        } else {
+            "*mut"
+        };
+        found = format!("{pointer} {found}");
+    }
+    found
+}
+
+/// A field or an argument of C, `type` being a word of Rust's own.
+fn rust_field(words: &str) -> (String, String) {
+    let words = words.trim();
+    let split = words
+        .rfind([' ', '*'])
+        .expect("a name stands behind a type")
+        + 1;
+    let (kind, name) = words.split_at(split);
+    let (name, kind) = match name.split_once('[') {
+        Some((name, count)) => (
+            name,
+            format!(
+                "[{}; {}]",
+                rust_type(kind.trim()),
+                count.trim_end_matches(']')
+            ),
+        ),
+        None => (name, rust_type(kind.trim())),
+    };
+    let name = if name == "type" { "kind" } else { name };
+    (name.to_string(), kind)
+}
+
+/// Pointers to bytes with their lengths behind them, as one field.
+fn with_texts(fields: Vec<(String, String)>) -> Vec<(String, String)> {
+    let mut folded: Vec<(String, String)> = Vec::new();
+    for (name, kind) in fields {
+        match folded.last_mut() {
+            Some(last) if last.1 == "*const u8" => {
+                assert!(
+                    name.ends_with("len") && kind == "usize",
+                    "{name} is behind {}",
+                    last.0
+                );
+                last.1 = "Text".to_string();
+            }
+            _ => folded.push((name, kind)),
+        }
+    }
+    folded
+}
+
+/// The structs of the header.
+fn header_structs() -> Declared {
+    let text = header();
+    let parts = text.split("typedef struct ").skip(1);
+    parts
+        .map(|part| {
+            let (name, rest) = part.split_once(" { ").expect("a struct has fields");
+            let (fields, _) = rest.split_once('}').expect("a struct ends");
+            let fields = fields
+                .trim()
+                .trim_end_matches(';')
+                .split(';')
+                .map(rust_field)
+                .collect();
+            (type_name(name), with_texts(fields))
+        })
+        .collect()
+}
+
+/// The calls of the header; the answer is the last field of each, without a name.
+fn header_calls() -> Declared {
+    let text = header();
+    let calls = text
+        .split(';')
+        .filter_map(|part| part.trim().strip_suffix(')'));
+    calls
+        .filter_map(|call| {
+            let (front, arguments) = call.split_once('(')?;
+            let (answer, name) = front.rsplit_once(' ')?;
+            let answer = answer.rsplit(' ').next().expect("a split has a part");
+            let mut fields: Vec<_> = match arguments {
+                "void" => Vec::new(),
+                _ => arguments.split(',').map(rust_field).collect(),
+            };
+            fields.push((String::new(), answer.replace("uint32_t", "u32")));
+            Some((name.to_string(), fields))
+        })
+        .collect()
+}
+
+/// Fields as Rust declares them, between commas.
+fn fields_of(text: &str) -> Vec<(String, String)> {
+    let field = |field: &str| {
+        let (name, kind) = field.split_once(": ").expect("a field has a type");
+        (
+            name.trim().trim_start_matches("pub ").to_string(),
+            kind.trim().to_string(),
+        )
+    };
+    text.split(',')
+        .filter(|part| !part.trim().is_empty())
+        .map(field)
+        .collect()
+}
+
+/// The structs of this crate, but the one that stands for a pointer and a length.
+fn raw_structs(text: &str) -> Declared {
+    let parts = text.split("pub struct ").skip(1);
+    parts
+        .map(|part| {
+            let (name, rest) = part.split_once(" {\n").expect("a struct has fields");
+            let (fields, _) = rest.split_once("\n}").expect("a struct ends");
+            (name.to_string(), fields_of(fields))
+        })
+        .filter(|(name, _)| name != "Text")
+        .collect()
+}
+
+/// The calls that this crate declares.
+fn raw_calls(text: &str) -> Declared {
+    let (_, text) = text
+        .split_once("extern \"C\" {")
+        .expect("there are declarations");
+    let parts = text.split("pub fn ").skip(1);
+    parts
+        .map(|part| {
+            let (name, rest) = part.split_once('(').expect("a call has arguments");
+            let (arguments, rest) = rest.split_once(')').expect("the arguments end");
+            let (answer, _) = rest.split_once(';').expect("a declaration ends");
+            let answer = answer.trim().strip_prefix("-> ").unwrap_or("void");
+            let mut fields = fields_of(arguments);
+            fields.push((String::new(), answer.to_string()));
+            (name.to_string(), fields)
+        })
+        .collect()
+}
+
+#[test]
+fn structs_are_those_of_the_header() {
+    let (wanted, found) = (header_structs(), raw_structs(&text_of("src/raw.rs")));
+    assert!(wanted.len() >= 11, "{} structs", wanted.len());
+    assert_eq!(
+        wanted.keys().collect::<Vec<_>>(),
+        found.keys().collect::<Vec<_>>()
+    );
+    for (name, fields) in wanted {
+        assert_eq!(found[&name], fields, "{name}");
+    }
+}
+
+#[test]
+fn calls_are_those_of_the_header() {
+    let (wanted, found) = (header_calls(), raw_calls(&text_of("src/raw.rs")));
+    assert!(wanted.len() >= 60, "{} calls", wanted.len());
+    assert_eq!(
+        wanted.keys().collect::<Vec<_>>(),
+        found.keys().collect::<Vec<_>>()
+    );
+    for (name, fields) in wanted {
+        assert_eq!(found[&name], fields, "{name}");
+    }
+}
+
+#[test]
+fn codes_are_those_of_the_header() {
+    let text = header();
+    let (_, rest) = text
+        .split_once("enum mysql_session_code {")
+        .expect("there are codes");
+    let (codes, _) = rest.split_once('}').expect("the codes end");
+    let wanted: BTreeMap<String, String> = codes
+        .split(',')
+        .map(|code| {
+            code.trim()
+                .split_once(" = ")
+                .expect("each code has a number")
+        })
+        .map(|(name, number)| (name.replace("MYSQL_SESSION_", ""), number.to_string()))
+        .filter(|(name, _)| name != "OK")
+        .collect();
+    let text = text_of("src/codes.rs");
+    let found: BTreeMap<String, String> = text
+        .lines()
+        .filter_map(|line| line.trim().strip_prefix("pub const "))
+        .map(|line| {
+            line.split_once(": Code = Code(")
+                .expect("each constant is a code")
+        })
+        .map(|(name, number)| (name.to_string(), number.trim_end_matches(");").to_string()))
+        .collect();
+    assert!(wanted.len() >= 60, "{} codes", wanted.len());
+    assert_eq!(wanted, found);
+}

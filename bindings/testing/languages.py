@@ -1,0 +1,187 @@
+"""The tests and examples in C, Rust and Python, and the programs of the documents."""
+
+import glob
+import os
+import re
+import shutil
+
+from .support import (BINDINGS, C99, CPP17, Failure, ROOT, compare, has, python_environment, run,
+                      rust_environment)
+
+SANITIZERS = ["-fsanitize=address,undefined", "-fno-sanitize-recover=all"]
+# By these the tests can have an allocation be refused.
+WRAPPED = ["-Wl,--wrap=malloc", "-Wl,--wrap=realloc"]
+VALGRIND = ["valgrind", "--quiet", "--error-exitcode=9", "--leak-check=full",
+            "--show-leak-kinds=all", "--errors-for-leak-kinds=all"]
+
+
+# ---- C ----------------------------------------------------------------------------------------
+
+
+class C:
+    """The tests and examples in C."""
+
+    def __init__(self, report, libraries, room):
+        self.report, self.libraries, self.room = report, libraries, room
+        self.folder = os.path.join(BINDINGS, "c")
+        files = sorted(glob.glob(os.path.join(self.folder, "tests", "*.c")))
+        # A file with a header of its own is shared by the tests.
+        self.shared = [it for it in files if os.path.exists(it[:-1] + "h")]
+        self.tests = [it for it in files if it not in self.shared]
+
+    def build(self, compiler, sources, name):
+        """Compiles and links a program, and returns its file."""
+        made = os.path.join(self.room, name)
+        # By -x none, archives aren't read as C++.
+        run([*compiler, *sources, "-x", "none", *self.libraries, "-o", made])
+        return made
+
+    def header(self, compiler):
+        """The header compiles by itself."""
+        file = os.path.join(self.room, "header.c")
+        with open(file, "w", encoding="utf-8") as it:
+            it.write('#include "mysql_session.h"\nint unused;\n')
+        run([*compiler, f"-I{self.folder}", "-c", file, "-o", file + ".o"])
+
+    def test(self, compiler, file, kind, tool):
+        """Builds a test in a way of its own, and runs it by itself or under a tool."""
+        name = os.path.basename(file)[:-2]
+        made = self.build([*compiler, "-g", *WRAPPED], [file, *self.shared], f"{name}.{kind}")
+        said = run([*tool, made])
+        if not re.search(r"\b[1-9][0-9]* checks, 0 failed\n$", said):
+            raise Failure(f"it didn't count its checks: {said}")
+
+    def all(self):
+        """Runs each test in each way, and builds the examples."""
+        report, ways = self.report, []
+        if has("gcc"):
+            report.run("mysql_session.h, C99", self.header, C99)
+            ways += [("C99", [*C99, "-O2"], [])]
+            ways += [("sanitizers", [*C99, "-O1", *SANITIZERS], [])]
+        if has("g++"):
+            report.run("mysql_session.h, C++17", self.header, CPP17)
+            ways += [("C++17", CPP17, [])]
+        if has("gcc", "valgrind"):
+            ways += [("valgrind", [*C99, "-O1"], VALGRIND)]
+        for kind, compiler, tool in ways:
+            for file in self.tests:
+                name = os.path.relpath(file, ROOT)
+                report.run(f"{name}, {kind}", self.test, compiler, file, kind, tool)
+        if has("gcc"):
+            for file in sorted(glob.glob(os.path.join(self.folder, "examples", "*.c"))):
+                report.run(os.path.relpath(file, ROOT), self.build, [*C99, "-O2"], [file],
+                           os.path.basename(file)[:-2])
+
+
+# ---- Rust and Python --------------------------------------------------------------------------
+
+
+def test_rust(report, libraries, room):
+    """Runs the crate's tests and builds its examples."""
+    how = {"cwd": os.path.join(BINDINGS, "rust"), "env": rust_environment(libraries, room)}
+    report.run("cargo test", run, ["cargo", "test", "--offline"], **how)
+    report.run("cargo build --examples", run, ["cargo", "build", "--offline", "--examples"], **how)
+
+
+def shared_object(libraries, room):
+    """Links the library as a shared object for Python, and returns its file."""
+    made = os.path.join(room, "libmysql_session.so")
+    exports = os.path.join(BINDINGS, "python", "exports.map")
+    run(["gcc", "-shared", "-o", made, f"-Wl,--version-script={exports}", "-Wl,-z,defs",
+         "-Wl,-z,text", "-Wl,--whole-archive", libraries[0], "-Wl,--no-whole-archive",
+         libraries[1]])
+    return made
+
+
+def make_shared_object(libraries, room):
+    """Links it by the Makefile, in a folder aside."""
+    folder = os.path.join(room, "python")
+    os.makedirs(folder)
+    for name in ("Makefile", "exports.map"):
+        shutil.copy(os.path.join(BINDINGS, "python", name), folder)
+    run(["make", "-C", folder, f"ARCHIVE={libraries[0]}", f"HEAP={libraries[1]}",
+         "libmysql_session.so"])
+
+
+def test_python(report, libraries, library, room):
+    """Runs the module's tests, and reads each example as a program."""
+    folder = os.path.join(BINDINGS, "python")
+    if has("make"):
+        report.run("bindings/python/Makefile", make_shared_object, libraries, room)
+    how = {"cwd": folder, "env": python_environment(library)}
+    report.run("Python tests", run, ["python3", "-m", "unittest", "discover"], **how)
+    for file in sorted(glob.glob(os.path.join(folder, "examples", "*.py"))):
+        words = ["python3", file, "--help"]
+        report.run(os.path.relpath(file, ROOT) + " --help", run, words, **how)
+
+
+# ---- The README's programs --------------------------------------------------------------------
+
+
+def blocks_of(file):
+    """Returns the programs of a document: language, text, and the output that stands behind."""
+    with open(file, encoding="utf-8") as it:
+        fenced = re.findall(r"^```(\w*)\n(.*?)^```$", it.read(), re.M | re.S)
+    behind = [*fenced[1:], ("", "")]
+    return [(language, text, output) for (language, text), (kind, output) in zip(fenced, behind)
+            if language in ("c", "rust", "python") and kind == "text"]
+
+
+class Programs:
+    """Runs programs of documents as they stand there."""
+
+    def __init__(self, libraries, library, room):
+        self.libraries, self.library, self.room = libraries, library, room
+
+    def write(self, name, text):
+        """Writes a file in a folder of its own."""
+        file = os.path.join(self.room, "readme", name)
+        os.makedirs(os.path.dirname(file), exist_ok=True)
+        with open(file, "w", encoding="utf-8") as it:
+            it.write(text)
+        return file
+
+    def c(self, text):
+        """Compiles and runs a program in C."""
+        file = self.write("program.c", text)
+        made = file + ".out"
+        run([*C99, f"-I{BINDINGS}/c", file, *self.libraries, "-o", made])
+        return run([made])
+
+    def rust(self, text):
+        """Compiles and runs a program in Rust, as a crate that uses the bindings."""
+        self.write("rust/src/main.rs", text)
+        manifest = self.write("rust/Cargo.toml", '[package]\nname = "program"\nedition = "2021"\n'
+                              'version = "0.0.0"\n[dependencies]\nmysql_session = { path = '
+                              f'"{BINDINGS}/rust" }}\n[workspace]\n')
+        words = ["cargo", "build", "--offline", "--quiet", "--manifest-path", manifest]
+        run(words, env=rust_environment(self.libraries, self.room))
+        return run([os.path.join(self.room, "target", "debug", "program")])
+
+    def python(self, text):
+        """Runs a program in Python."""
+        return run(["python3", self.write("program.py", text)],
+                   env=python_environment(self.library))
+
+    def test(self, language, text, output):
+        """Runs a program and compares what it prints."""
+        compare(getattr(self, language)(text), output)
+
+
+def test_documents(report, programs):
+    """Runs the programs of the documents; the README has one in each language."""
+    documents = [os.path.join(ROOT, "README.md"), os.path.join(BINDINGS, "README.md")]
+    documents += sorted(glob.glob(os.path.join(BINDINGS, "*", "README.md")))
+    for file in documents:
+        name, blocks = os.path.relpath(file, ROOT), blocks_of(file)
+        for number, block in enumerate(blocks):
+            report.run(f"{name}, program {number} ({block[0]})", programs.test, *block)
+        lacking = {"c", "rust", "python"} - {it[0] for it in blocks}
+        if file == documents[0]:
+            for language in sorted(lacking):
+                report.run(f"{name}, a program in {language}", lacks, language)
+
+
+def lacks(language):
+    """Fails."""
+    raise Failure(f"no block ```{language} has a block ```text behind it")

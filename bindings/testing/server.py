@@ -1,0 +1,448 @@
+"""The examples of the bindings against a MariaDB server of their own, and its clients.
+
+`bindings/test --server` calls `test_server`. Everything that is started here is stopped by its
+process id, whatever happens.
+"""
+
+import contextlib
+import csv
+import getpass
+import os
+import re
+import resource
+import shutil
+import socket
+import subprocess
+import sys
+import time
+
+from .support import (BINDINGS, C99, Failure, ROOT, compare, python_environment, run,
+                      rust_environment)
+
+SERVER_PACKAGES = {"mariadbd": "mariadb-server", "mariadb-install-db": "mariadb-server",
+                   "mariadb": "mariadb-client", "mariadb_config": "libmariadb-dev"}
+
+USER, DATABASE = "tester", "bindings"
+WAIT_SECONDS = 60
+# More than a batch holds, so that several requests are sent.
+ROWS = 12345
+# The address space that the loader may take, whatever the file's size.
+LOADER_BYTES = 32 << 20
+
+
+def free_port():
+    """Returns a port that nothing listens at."""
+    with socket.socket() as it:
+        it.bind(("127.0.0.1", 0))
+        return it.getsockname()[1]
+
+
+def listens(port):
+    """Returns whether something listens at the port."""
+    with socket.socket() as it:
+        return it.connect_ex(("127.0.0.1", port)) == 0
+
+
+def wait_for(what, is_there, process, log):
+    """Waits until something is there. A process that ends before that has failed."""
+    end = time.monotonic() + WAIT_SECONDS
+    while not is_there():
+        if process.poll() is not None or time.monotonic() > end:
+            with open(log, encoding="utf-8", errors="replace") as it:
+                raise Failure(f"{what} isn't there\n{it.read()[-3000:]}")
+        time.sleep(0.05)
+
+
+class Started:
+    """A process that runs within a `with`; what it prints goes to a file."""
+
+    def __init__(self, words, log, **how):
+        self.log = log
+        with open(log, "wb") as out:
+            self.process = subprocess.Popen(words, stdin=subprocess.DEVNULL, stdout=out,
+                                            stderr=subprocess.STDOUT, **how)
+
+    def __enter__(self):
+        return self
+
+    def __exit__(self, *_):
+        self.process.terminate()
+        try:
+            self.process.wait(WAIT_SECONDS)
+        except subprocess.TimeoutExpired:
+            self.process.kill()
+            self.process.wait()
+
+    def said(self):
+        """Returns what it has printed."""
+        with open(self.log, encoding="utf-8", errors="replace") as it:
+            return it.read()
+
+    def wait_for(self, pattern):
+        """Waits until it has printed what matches, and returns the match."""
+        wait_for(f"a line {pattern}", lambda: re.search(pattern, self.said(), re.M), self.process,
+                 self.log)
+        return re.search(pattern, self.said(), re.M)
+
+
+@contextlib.contextmanager
+def mariadb(room):
+    """Runs a server in a folder of its own, with binary logging and a user without a password."""
+    data, first = os.path.join(room, "data"), os.path.join(room, "first.sql")
+    with open(first, "w", encoding="utf-8") as it:
+        it.write(f"CREATE USER {USER}@'127.0.0.1' IDENTIFIED VIA mysql_native_password;\n"
+                 f"GRANT ALL ON *.* TO {USER}@'127.0.0.1';\nCREATE DATABASE {DATABASE};\n")
+    user = f"--user={getpass.getuser()}"
+    run(["mariadb-install-db", "--no-defaults", f"--datadir={data}", user, "--skip-test-db",
+         "--auth-root-authentication-method=normal"])
+    port = free_port()
+    words = [shutil.which("mariadbd"), "--no-defaults", f"--datadir={data}", user,
+             f"--socket={room}/socket", f"--port={port}", "--bind-address=127.0.0.1",
+             "--skip-name-resolve", f"--pid-file={room}/pid", f"--log-bin={data}/binlog",
+             "--binlog-format=ROW", "--server-id=1", "--character-set-server=utf8mb4",
+             "--innodb-buffer-pool-size=64M", f"--init-file={first}"]
+    with Started(words, os.path.join(room, "server.log")) as server:
+        wait_for("the server", lambda: listens(port), server.process, server.log)
+        yield port
+
+
+class Tests:
+    """The examples against the server at a port."""
+
+    def __init__(self, room, libraries, shared, port):
+        self.room, self.libraries, self.shared, self.port = room, libraries, shared, port
+        self.python = python_environment(shared)
+
+    # What is run.
+
+    def sql(self, text, port=None):
+        """Returns the rows that the `mariadb` client prints, each a list of its cells."""
+        words = ["mariadb", "--no-defaults", "--skip-ssl", "--host=127.0.0.1", f"--user={USER}",
+                 f"--port={port or self.port}", "--batch", "--skip-column-names",
+                 "--default-character-set=utf8mb4", DATABASE, f"--execute={text}"]
+        return [line.split("\t") for line in run(words).splitlines()]
+
+    def pymysql(self, text, port):
+        """Runs a program over PyMySQL's connection `it`, and returns what it prints."""
+        program = (f"import pymysql\nit = pymysql.connect(host='127.0.0.1', port={port}, "
+                   f"user='{USER}', database='{DATABASE}', charset='utf8mb4', autocommit=True)\n"
+                   f"cursor = it.cursor()\n{text}\nit.close()\n")
+        return run([pymysql_python(), "-c", program])
+
+    def file(self, name):
+        """Returns the path of a file of the test's own."""
+        return os.path.join(self.room, name)
+
+    def rust_example(self, name):
+        """Returns the file of an example in Rust, which is built."""
+        folder = os.path.join(BINDINGS, "rust")
+        run(["cargo", "build", "--offline", "--quiet", "--example", name], cwd=folder,
+            env=rust_environment(self.libraries, self.room))
+        return self.file(os.path.join("target", "debug", "examples", name))
+
+    def c_client(self):
+        """Returns the file of the client by MariaDB's own library, which is built."""
+        made = self.file("prepared_client")
+        if not os.path.exists(made):
+            source = os.path.join(BINDINGS, "c", "tests", "server", "prepared_client.c")
+            run([*C99, "-isystem", "/usr/include/mariadb", source, "-lmariadb", "-o", made])
+        return made
+
+    def rows_of(self, table, columns, port=None):
+        """Returns a table's rows by their first column, cells as hexadecimal digits, NULL as -."""
+        cells = ", ".join(f"IFNULL(HEX(CAST(`{it}` AS CHAR)), '-')" for it in columns)
+        return self.sql(f"SELECT {cells} FROM {table} ORDER BY `{columns[0]}`", port)
+
+    # The bulk loader.
+
+    def loader(self):
+        """Returns the loader's file, which is built."""
+        made = self.file("bulk_load")
+        if not os.path.exists(made):
+            source = os.path.join(BINDINGS, "c", "examples", "bulk_load.c")
+            run([*C99, "-O2", source, *self.libraries, "-o", made])
+        return made
+
+    def load(self, table, name, **how):
+        """Runs the loader, and returns what it prints."""
+        return run([self.loader(), "127.0.0.1", str(self.port), USER, DATABASE, table,
+                    self.file(name)], **how)
+
+    def bulk_load(self):
+        """What the table holds is what the file says."""
+        self.sql("CREATE TABLE loaded (id INT PRIMARY KEY, `na``me?` VARCHAR(99), note TEXT)")
+        rows = [csv_row(number) for number in range(ROWS)]
+        write_csv(self.file("rows.csv"), ["id", "na`me?", "note"], rows)
+        said = self.load("loaded", "rows.csv")
+        if not re.fullmatch(rf"{ROWS} rows in [0-9.]+ seconds, [0-9]+ rows per second\n", said):
+            raise Failure(f"it prints {said}")
+        found = self.sql("SELECT IFNULL(HEX(id), '-'), IFNULL(HEX(`na``me?`), '-'), "
+                         "IFNULL(HEX(note), '-') FROM loaded ORDER BY id")
+        compare(found, [[f"{number:X}", hex_of(name), hex_of(note)] for number, name, note in rows])
+
+    def bulk_load_refused(self):
+        """A row of another width, or that the server refuses, is told, and nothing is loaded."""
+        self.sql("CREATE TABLE refused (id INT PRIMARY KEY, name VARCHAR(9) NOT NULL)")
+        lines = "id,name\r\n" + "".join(f"{it},x\r\n" for it in range(6000))
+        cases = {'0,"a\nb"\n7,x,y\n': "line 6004: 3 fields in place of 2",
+                 "7000,x\n7001,\n": "the server refuses: Column 'name' cannot be null",
+                 '7000,"x\n': "line 6002: the quotes of a field aren't closed",
+                 '7000,x"y"\n': "line 6002: a quote stands inside a field without quotes",
+                 '7000,"x"y\n': "line 6002: neither a comma nor a line break stands behind a field",
+                 f"7000,{'x' * (17 << 20)}\n": "the row of line 6002: "}
+        for text, why in cases.items():
+            with open(self.file("bad.csv"), "w", encoding="utf-8", newline="") as it:
+                it.write(lines + text)
+            said = self.load("refused", "bad.csv", status=1)
+            if why not in said:
+                raise Failure(f"it prints {said} and not {why}")
+            compare(self.sql("SELECT COUNT(*) FROM refused"), [["0"]])
+
+    def bulk_load_memory(self):
+        """A file of ten times the size takes no more memory."""
+        self.sql("CREATE TABLE many (id INT PRIMARY KEY, name VARCHAR(99), note TEXT)")
+        rows = [csv_row(number) for number in range(20 * ROWS)]
+        write_csv(self.file("many.csv"), ["id", "name", "note"], rows)
+        words = [self.loader(), "127.0.0.1", str(self.port), USER, DATABASE, "many",
+                 self.file("many.csv")]
+        before = resource.getrlimit(resource.RLIMIT_AS)
+        limit = lambda: resource.setrlimit(resource.RLIMIT_AS, (LOADER_BYTES, before[1]))
+        print("  " + run(words, preexec_fn=limit).strip(), flush=True)
+        compare(self.sql("SELECT COUNT(*) FROM many"), [[str(len(rows))]])
+
+    def bulk_load_valgrind(self):
+        """No read past a buffer, no leak."""
+        self.sql("CREATE TABLE watched (id INT PRIMARY KEY, name VARCHAR(99), note TEXT)")
+        rows = [csv_row(number) for number in range(300)]
+        write_csv(self.file("watched.csv"), ["id", "name", "note"], rows)
+        run(["valgrind", "--quiet", "--error-exitcode=9", "--leak-check=full", self.loader(),
+             "127.0.0.1", str(self.port), USER, DATABASE, "watched", self.file("watched.csv")])
+        compare(self.sql("SELECT COUNT(*) FROM watched"), [["300"]])
+
+    # The auditing proxy.
+
+    @contextlib.contextmanager
+    def proxy(self, log):
+        """Runs the proxy, and gives it with the port that it listens at."""
+        words = [self.rust_example("audit_proxy"), "127.0.0.1:0", f"127.0.0.1:{self.port}"]
+        with Started(words, self.file(log)) as it:
+            yield it, int(it.wait_for(r"^listening at .*:([0-9]+)$")[1])
+
+    def proxy_texts(self):
+        """What clients send as text, by the `mariadb` client and by PyMySQL."""
+        self.sql("CREATE TABLE proxied (id INT PRIMARY KEY, name VARCHAR(99))")
+        with self.proxy("proxy_texts.log") as (proxy, port):
+            self.sql("INSERT INTO proxied VALUES (1, 'one'); PREPARE p FROM 'INSERT INTO proxied "
+                     "VALUES (?, ?)'; SET @i = 2, @n = 'two'; EXECUTE p USING @i, @n", port)
+            said = self.pymysql("insert = 'INSERT INTO proxied VALUES (%s, %s)'\n"
+                                "cursor.execute(insert, (3, 'a\\'b'))\n"
+                                "cursor.execute('SELECT COUNT(*) FROM proxied')\n"
+                                "print(cursor.fetchall())", port)
+            compare(said, "((3,),)\n")
+            proxy.wait_for(r"^connection [0-9]+: SELECT COUNT\(\*\) FROM proxied$")
+            lines = proxy.said().splitlines()
+        for wanted in (r"INSERT INTO proxied VALUES (1, 'one')", "EXECUTE p USING @i, @n",
+                       r"INSERT INTO proxied VALUES (3, 'a\'b')"):
+            if not any(it.endswith(": " + wanted) for it in lines):
+                raise Failure(f"no line of the proxy has {wanted}\n" + "\n".join(lines))
+        compare(self.rows_of("proxied", ["id", "name"]),
+                [[hex_of(str(id)), hex_of(name)] for id, name in
+                 ((1, "one"), (2, "two"), (3, "a'b"))])
+
+    def proxy_statements(self):
+        """Prepared statements: executions, long data and a bulk by MariaDB's own library, and
+        executions and a bulk by this one."""
+        self.sql("CREATE TABLE prepared (id INT, name VARCHAR(99))")
+        query = "INSERT INTO prepared VALUES (?, ?)"
+        stream = text_query("INSERT INTO prepared VALUES (6, NULL)")
+        with self.proxy("proxy_statements.log") as (proxy, port):
+            run([self.c_client(), "127.0.0.1", str(port), USER, DATABASE, "insert", "prepared"])
+            for road in ("execute", "bulk"):
+                self.replay(stream, query, "--road", road, port=port)
+            proxy.wait_for(r"^connection 3, statement [0-9]+: .*6, NULL")
+            found = re.findall(r"^connection [0-9]+, statement [0-9]+: (.*)$", proxy.said(), re.M)
+        compare(found, [f"{query} [{it}]" for it in ("1, 'it\\'s'", "NULL, ''", "3, 'long data'",
+                                                     "4, 'bulk'", "5, ''", "6, NULL", "6, NULL")])
+        compare(self.sql("SELECT IFNULL(id, '-'), HEX(name) FROM prepared"),
+                [["1", hex_of("it's")], ["-", ""], ["3", hex_of("long data")],
+                 ["4", hex_of("bulk")], ["5", ""], ["6", "NULL"], ["6", "NULL"]])
+
+    def proxy_rows(self):
+        """Rows that are read through the proxy are those of the server."""
+        query = "SELECT seq, REPEAT('x', seq) FROM seq_1_to_2000"
+        with self.proxy("proxy_rows.log") as (_, port):
+            compare(self.sql(query, port), self.sql(query))
+
+    # The replay tool.
+
+    def replay(self, stream, query, *words, port=None, **how):
+        """Runs the replay tool over a stream, and returns what it prints."""
+        with open(self.file("stream"), "wb") as it:
+            it.write(stream)
+        return run(["python3", os.path.join(BINDINGS, "python", "examples", "replay.py"),
+                    self.file("stream"), f"127.0.0.1:{port or self.port}", "--user", USER,
+                    "--database", DATABASE, "--query", query, *words], env=self.python, **how)
+
+    def replays(self):
+        """By each road the table holds what the stream carries."""
+        query = "INSERT INTO replayed VALUES (?, ?)"
+        stream = b"".join(text_query(query.replace("?, ?", it)) for it in
+                          ("1, 'it\\'s'", "2, NULL", "3, 0x6d617465", "4, ''"))
+        self.sql("CREATE TABLE replayed (id INT PRIMARY KEY, name VARCHAR(99))")
+        for road in ("text", "execute", "bulk"):
+            self.sql("TRUNCATE replayed")
+            said = self.replay(stream, query, "--road", road)
+            if not said.endswith("the recorded stream ends: whole\n"):
+                raise Failure(f"by {road} it prints {said}")
+            compare(self.sql("SELECT id, IFNULL(HEX(name), '-') FROM replayed ORDER BY id"),
+                    [["1", hex_of("it's")], ["2", "-"], ["3", hex_of("mate")], ["4", ""]])
+
+    def replay_faults(self):
+        """A stream that is cut off, one with a fault, and sets that the server refuses."""
+        with open(os.path.join(ROOT, "crates", "mysql_session_program", "data", "captured.bin"),
+                  "rb") as it:
+            captured = it.read()
+        said = self.replay(captured, "SELECT ?", "--road", "execute", status=1)
+        if not said.endswith("answer 3: 1 rows\nthe recorded stream ends: unfinished packet\n"):
+            raise Failure(f"it prints {said}")
+        said = self.replay(text_query("SELECT 1") + text_query("SELECT x"), "SELECT ?", status=1)
+        if "payload 1" not in said or "answer 0: 1 rows" not in said:
+            raise Failure(f"it prints {said}")
+        query = "INSERT INTO replayed_once VALUES (?)"
+        self.sql("CREATE TABLE replayed_once (id INT PRIMARY KEY)")
+        once = text_query(query.replace("?", "1"))
+        if "error 1062 (23000)" not in self.replay(once + once, query, status=1):
+            raise Failure("the second row is refused, and it isn't told")
+        compare(self.sql("SELECT * FROM replayed_once"), [["1"]])
+
+    # The replication reader.
+
+    def read_log(self, *words):
+        """Runs the replication reader, and returns the events' names and next positions."""
+        said = run([self.rust_example("replication_reader"), f"127.0.0.1:{self.port}", USER,
+                    *words])
+        found = re.findall(r"^(.*): time .* next position ([0-9]+), flags [0-9]+$", said, re.M)
+        if not said.endswith(f"{len(found)} events\n"):
+            raise Failure(f"it prints {said}")
+        return [(name, int(position)) for name, position in found]
+
+    def replication(self):
+        """The events of a file that is closed are those that the server shows of it."""
+        self.sql("FLUSH BINARY LOGS; CREATE TABLE logged (id INT PRIMARY KEY, name TEXT); "
+                 "INSERT INTO logged VALUES (1, 'one'), (2, 'two'); UPDATE logged SET id = 3 WHERE "
+                 "id = 1; DELETE FROM logged; FLUSH BINARY LOGS")
+        *_, file, _ = [name for name, *_ in self.sql("SHOW BINARY LOGS")]
+        shown = [(int(it[4]), it[2]) for it in self.sql(f"SHOW BINLOG EVENTS IN '{file}'")]
+        # Rows with the query's text are sent to those replicas alone that ask for them.
+        wanted = [position for position, kind in shown if kind != "Annotate_rows"]
+        found = self.read_log("--file", file, "--position", "4")
+        positions = [position for _, position in found if position != 0]
+        compare(positions[:len(wanted)], wanted)
+        names = [name for name, _ in found]
+        for name in ("ROTATE_EVENT", "FORMAT_DESCRIPTION_EVENT", "GTID_EVENT (MariaDB)",
+                     "QUERY_EVENT", "TABLE_MAP_EVENT", "WRITE_ROWS_EVENT_V1",
+                     "UPDATE_ROWS_EVENT_V1", "DELETE_ROWS_EVENT_V1", "XID_EVENT"):
+            if name not in names:
+                raise Failure(f"no event is {name}: {names}")
+        middle = wanted[len(wanted) // 2]
+        rest = self.read_log("--file", file, "--position", str(middle))
+        behind = [it for it in wanted if it > middle]
+        # The description of the format is sent first, from wherever the log is read.
+        positions = [position for _, position in rest if position > middle]
+        compare(positions[:len(behind)], behind)
+
+    def replication_by_gtid(self):
+        """Behind a position of global transaction identifiers stand those that came later."""
+        [[position]] = self.sql("SELECT @@gtid_binlog_pos")
+        self.sql("CREATE TABLE later (id INT); INSERT INTO later VALUES (1); DROP TABLE later")
+        names = [name for name, _ in self.read_log("--gtid", position)]
+        compare(names.count("GTID_EVENT (MariaDB)"), 3)
+        compare(names.count("WRITE_ROWS_EVENT_V1"), 1)
+        few = self.read_log("--gtid", position, "--events", "2")
+        compare([name for name, _ in few], names[:2])
+
+    # The test server.
+
+    @contextlib.contextmanager
+    def canned(self, log):
+        """Runs the test server, and gives it with the port that it listens at."""
+        words = ["python3", os.path.join(BINDINGS, "python", "examples", "test_server.py")]
+        with Started(words, self.file(log), env=self.python) as it:
+            yield it, int(it.wait_for(r"^listening on port ([0-9]+)$")[1])
+
+    def test_server_clients(self):
+        """The `mariadb` client and PyMySQL read what it answers."""
+        with self.canned("canned.log") as (server, port):
+            compare(self.sql("SELECT 1", port), [["1"]])
+            compare(self.sql("SELECT NULL, 'text', -7; SET NAMES utf8mb4; SELECT 1", port),
+                    [["NULL", "text", "-7"], ["1"]])
+            compare(self.sql("SELECT * FROM goods", port),
+                    [["1", "tea", "2.50", "NULL"], ["2", "coffee", "3.75", "it's strong"],
+                     ["3", "maté \N{HERB}", "12.00", ""]])
+            said = self.pymysql("cursor.execute('SELECT * FROM goods')\nprint(cursor.fetchall())\n"
+                                "try:\n    cursor.execute('SELECT 2')\n"
+                                "except pymysql.err.ProgrammingError as error:\n"
+                                "    print(error.args[0])\nit.ping()", port)
+            compare(said, "((1, 'tea', Decimal('2.50'), None), (2, 'coffee', Decimal('3.75'), "
+                    "\"it's strong\"), (3, 'maté \N{HERB}', Decimal('12.00'), ''))\n1064\n")
+            if server.said().count(f": {USER}\n") != 4:
+                raise Failure(f"it prints {server.said()}")
+
+    def test_server_statements(self):
+        """MariaDB's own library reads the rows of executions."""
+        with self.canned("canned_statements.log") as (_, port):
+            said = run([self.c_client(), "127.0.0.1", str(port), USER, DATABASE, "goods"])
+            compare(said, "2\tcoffee\t3.75\tit's strong\n1\ttea\t2.50\tNULL\n")
+
+
+# ---- Rows, streams and what is compared -------------------------------------------------------
+
+
+def csv_row(number):
+    """Returns a row: a number, a name and a note, of which each may be anything that CSV has."""
+    notes = [None, "", 'a "quoted" word', "two\nlines", "a\r\nb", "comma, comma", "NULL",
+             "ŷ \N{HERB}", " blanks ", "\\'?"]
+    return number, f"name {number}", notes[number % len(notes)]
+
+
+def write_csv(file, names, rows):
+    """Writes a file as RFC 4180 has it; NULL is a field with nothing in it."""
+    quoted = lambda it: "" if it is None else '"' + it.replace('"', '""') + '"'
+    with open(file, "w", encoding="utf-8", newline="") as it:
+        csv.writer(it).writerow(names)
+        for number, name, note in rows:
+            it.write(f"{number},{name},{quoted(note)}\r\n")
+
+
+def hex_of(text):
+    """Returns a text as the server's HEX does, and None as -."""
+    return "-" if text is None else text.encode().hex().upper()
+
+
+def text_query(query):
+    """Returns the packet of a text query, put together by hand."""
+    payload = b"\x03" + query.encode()
+    return len(payload).to_bytes(3, "little") + b"\0" + payload
+
+
+def pymysql_python():
+    """Returns the first interpreter that has PyMySQL."""
+    for it in (sys.executable, "/usr/bin/python3"):
+        ran = subprocess.run([it, "-c", "import pymysql"], stderr=subprocess.DEVNULL)
+        if ran.returncode == 0:
+            return it
+    raise Failure("no Python has PyMySQL: apt-get install python3-pymysql")
+
+
+def test_server(report, room, libraries, shared):
+    """Runs the five examples against a server."""
+    with contextlib.ExitStack() as stack:
+        port = report.run("a MariaDB server", lambda: stack.enter_context(mariadb(room)))
+        if not port:
+            return
+        it = Tests(room, libraries, shared, port)
+        for test in (it.bulk_load, it.bulk_load_refused, it.bulk_load_memory,
+                     it.bulk_load_valgrind, it.proxy_texts, it.proxy_statements, it.proxy_rows,
+                     it.replays, it.replay_faults, it.replication, it.replication_by_gtid,
+                     it.test_server_clients, it.test_server_statements):
+            report.run("server: " + test.__name__.replace("_", " "), test)

@@ -1,0 +1,84 @@
+"""What the tests of the bindings share: commands that are run, their report, what is compared."""
+
+import os
+import shutil
+import subprocess
+import time
+
+BINDINGS = os.path.dirname(os.path.dirname(os.path.abspath(__file__)))
+ROOT = os.path.dirname(BINDINGS)
+WARNINGS = ["-Wall", "-Wextra", "-pedantic", "-Wconversion", "-Wshadow", "-Werror"]
+C99 = ["gcc", "-std=c99", *WARNINGS]
+CPP17 = ["g++", "-std=c++17", "-x", "c++", *WARNINGS]
+# A test that hangs is stopped: none of them takes a tenth of this.
+SECONDS = 1200
+
+
+class Failure(Exception):
+    """Why a test failed."""
+
+
+class Report:
+    """Counts what passed and what failed, and tells each as it ends."""
+
+    def __init__(self):
+        self.passed = 0
+        self.failed = []
+
+    def run(self, name, test, *given, **named):
+        """Runs a test, and returns what it returns, True for None, or None where it failed."""
+        began = time.monotonic()
+        try:
+            found = test(*given, **named)
+        except Exception as error:  # (whatever it is, the tests behind it still run)
+            self.failed.append(name)
+            why = error if isinstance(error, Failure) else repr(error)
+            print(f"FAILED {name}: {why}", flush=True)
+            return None
+        self.passed += 1
+        print(f"ok {name} ({time.monotonic() - began:.1f} s)", flush=True)
+        return True if found is None else found
+
+
+def run(words, status=0, **how):
+    """Runs a command and returns its output; another status than this one is a failure."""
+    ran = subprocess.run(words, stdin=subprocess.DEVNULL, stdout=subprocess.PIPE,
+                         stderr=subprocess.STDOUT, text=True, encoding="utf-8", errors="replace",
+                         timeout=SECONDS, **how)
+    if ran.returncode != status:
+        raise Failure(f"{' '.join(words)} ended with status {ran.returncode}, not {status}\n"
+                      f"{ran.stdout[-20000:]}")
+    return ran.stdout
+
+
+def compare(found, wanted):
+    """Fails where two texts or lists differ, by the first place where they do."""
+    if found == wanted:
+        return
+    at = next((at for at, (one, other) in enumerate(zip(found, wanted)) if one != other),
+              min(len(found), len(wanted)))
+    raise Failure(f"of {len(found)} in place of {len(wanted)} the first that differs is {at}: "
+                  f"{found[at:at + 200]!r:.2000} in place of {wanted[at:at + 200]!r:.2000}")
+
+
+def need(name, package):
+    """Fails where the machine has no such command."""
+    if not shutil.which(name):
+        raise Failure(f"this machine has no {name}: apt-get install {package}")
+
+
+def has(*names):
+    """Returns whether the machine has these commands. What it lacks has failed by itself."""
+    return all(shutil.which(it) for it in names)
+
+
+def rust_environment(libraries, room):
+    """Returns the environment in which the crate links these libraries, and is built aside."""
+    return {**os.environ, "MYSQL_SESSION_LIBRARY": libraries[0],
+            "MYSQL_SESSION_RUNTIME": libraries[1], "CARGO_TARGET_DIR": os.path.join(room, "target")}
+
+
+def python_environment(library):
+    """Returns the environment in which the module is found, and finds the library."""
+    return {**os.environ, "MYSQL_SESSION_LIBRARY": library, "PYTHONDONTWRITEBYTECODE": "1",
+            "PYTHONIOENCODING": "utf-8", "PYTHONPATH": os.path.join(BINDINGS, "python")}
