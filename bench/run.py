@@ -12,6 +12,7 @@ BUILD, ROUNDS = sys.argv[1], int(sys.argv[2]) if len(sys.argv) > 2 else 5
 HERE = os.path.dirname(os.path.abspath(__file__))
 SIDES = {
     "library": ["./library"],
+    "through-c": ["./through_c"],
     "c": ["./hand_written"],
     "rust": ["./hand_written_rust"],
     "mariadb": ["./libmariadb"],
@@ -20,6 +21,7 @@ SIDES = {
 }
 HAND = ["library", "c", "rust"]
 CLIENTS = [*HAND, "mariadb", "go"]
+THROUGH_C = ["library", "through-c"]
 WORKLOADS = {
     "frame-16M": HAND,
     "frame-100": HAND,
@@ -58,6 +60,16 @@ WORKLOADS = {
     "reply-binary-taken": ["library"],
     "write-reply-text": ["library", "rust"],
     "write-reply-binary": ["library", "rust"],
+    "send-text-through-c": THROUGH_C,
+    "send-execute-through-c": THROUGH_C,
+    "send-bulk-through-c": THROUGH_C,
+    "send-text-apart-through-c": THROUGH_C,
+    "send-text-one-through-c": THROUGH_C,
+    "send-execute-one-through-c": THROUGH_C,
+    "receive-texts-taken-through-c": THROUGH_C,
+    "receive-executes-taken-through-c": THROUGH_C,
+    "reply-text-taken-through-c": THROUGH_C,
+    "reply-binary-taken-through-c": THROUGH_C,
     "cells-text-by-number": HAND,
     "cells-text-by-name": HAND,
     "cells-binary-by-number": HAND,

@@ -21,7 +21,7 @@ static void send_sets(const char *what, Work work, int rounds) {
     Bytes query = load(work.query), sets = load(work.sets);
     uint8_t road = strcmp(work.road, "text") == 0 ? 0 : strcmp(work.road, "execute") == 0 ? 1 : 2;
     double units = (double)work.count * work.times;
-    size_t at_once = IS("send-text-apart") ? 1 : work.count;
+    size_t at_once = BEGINS("send-text-apart") ? 1 : work.count;
     _Bool by_name = strstr(what, "named") != 0;
     if (BEGINS("send-values")) {
         MEASURE("library", units, mysql_bench_send_values(query.at, query.len, sets.at, sets.len, work.count, WIDTH, road, work.times))

@@ -31,13 +31,13 @@ __attribute__((unused)) static unsigned char *room(Out *out, size_t more) {
     return out->at + out->len;
 }
 
-static void put(Out *out, const void *at, size_t len) {
+__attribute__((unused)) static void put(Out *out, const void *at, size_t len) {
     memcpy(room(out, len), at, len);
     out->len += len;
 }
 
 // A payload of one chunk.
-static void put_packet(Out *out, const void *at, size_t len) {
+__attribute__((unused)) static void put_packet(Out *out, const void *at, size_t len) {
     unsigned char head[4] = {len, len >> 8, len >> 16, 0};
     put(out, head, 4);
     put(out, at, len);
