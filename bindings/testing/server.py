@@ -6,8 +6,8 @@ process id, whatever happens.
 
 import contextlib
 import csv
-import getpass
 import os
+import pwd
 import re
 import resource
 import shutil
@@ -92,7 +92,7 @@ def mariadb(room):
     with open(first, "w", encoding="utf-8") as it:
         it.write(f"CREATE USER {USER}@'127.0.0.1' IDENTIFIED VIA mysql_native_password;\n"
                  f"GRANT ALL ON *.* TO {USER}@'127.0.0.1';\nCREATE DATABASE {DATABASE};\n")
-    user = f"--user={getpass.getuser()}"
+    user = f"--user={pwd.getpwuid(os.geteuid()).pw_name}"
     run(["mariadb-install-db", "--no-defaults", f"--datadir={data}", user, "--skip-test-db",
          "--auth-root-authentication-method=normal"])
     port = free_port()
