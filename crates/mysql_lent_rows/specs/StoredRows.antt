@@ -41,7 +41,7 @@ place_behind payloads payload places cells = record {
   cells = record { start = length places; end = length (places ++ cells) };
 }
 
--- a row's payload and its cells' places lie within these lists: the places lie in the payload, so many
+-- a row lies within these lists, and so many cells within its payload
 pub record IsKept (count : ℕ) (payloads : List ℕ) (places : List CellPlace) (row : RowPlace) : Type 0 where
   pub payload : is_within (length payloads) row.payload ≡ true
   pub cells : is_within (length places) row.cells ≡ true

@@ -99,8 +99,8 @@ impl StoredRows {
         }
     }
 
-    /// Keeps a row, behind the others. It has to have as many columns as these; that of its own columns isn't kept. Refused for want of
-    /// memory alone, and then nothing changes.
+    /// Keeps a row, behind the others, under these columns: it has to have as many. Refused for want of memory alone, and then nothing
+    /// changes.
     ///
     /// MySQL: Client/Server Protocol, "Text Resultset Row" and "Binary Protocol Resultset Row".
     pub fn push(&mut self, row: &LentRow) -> Result<(), AllocError>
