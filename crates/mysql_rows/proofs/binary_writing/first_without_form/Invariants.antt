@@ -4,7 +4,7 @@ use Rattle.std.specs.List.{position_from}
 use Rattle.std.specs.Option.{option_and_then}
 use Rattle.mysql_rows.specs.Views.{column_views}
 use Rattle.mysql_rows.specs.Written.{binary_cause, cell_in}
-use Rattle.mysql_rows.proofs.binary_writing.row_size.Given as goal
+use Rattle.mysql_rows.proofs.binary_writing.first_without_form.Given as goal
 
 abbrev pub invariant-loop-place : goal.invariant-loop-place
 invariant-loop-place g l =
