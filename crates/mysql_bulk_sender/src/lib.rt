@@ -3,6 +3,7 @@
 
 mod at_once;
 mod command;
+mod list_rows;
 mod requests;
 mod rows;
 
