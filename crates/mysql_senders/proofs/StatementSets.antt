@@ -3,7 +3,7 @@ use Rattle.std.proofs.Common.{◌≡◌, ℕ, ◌+◌, ◌-◌, ◌≤◌, nat_l
 use Rattle.std.specs.List.{AllByRecursion, flat_map}
 use Rattle.std.specs.Option.{option_or}
 use Rattle.std.proofs.lemmas.Bool.{le-ltb}
-use Rattle.std.proofs.lemmas.List.{append-nil, map-append, take-append-drop, take-append-le, take_all, take_at}
+use Rattle.std.proofs.lemmas.List.{append-nil, map-append, map-id, take-append-drop, take-append-le, take_all, take_at}
 use Rattle.mysql_wire.specs.Framing.{framing}
 use Rattle.mysql_wire.specs.Stream.{framings}
 use Rattle.mysql_wire.specs.Stream.Numbering.{EachFromZero}
@@ -173,6 +173,10 @@ module _ (query : List ℕ) (parsed : Parsed) (places : ℕ) (s : IsPreparable q
 -- what holds of values holds of a set that gives them
 pub over_given : (P : Given → Type 0) (names : List (List ℕ)) (params : Params) (values : List Value) → values_over names params ≡ Ok values → P (Ok values) → P (given_by names params)
 over_given P names params values over holds = subst P (sym (gives_values names params values over)) holds
+
+-- the same of a set whose values are lent as they lie
+pub over_list : (P : Given → Type 0) (names : List (List ℕ)) (params : Params) (values : List Value) → values_over names params ≡ Ok values → P (Ok (map (λ (value : Value). value) values)) → P (given_by names params)
+over_list P names params values over holds = over_given P names params (map (λ (value : Value). value) values) (over ∙ ap (λ (l : List Value). Ok l) (sym (map-id values))) holds
 
 -- an execution against which nothing speaks
 pub appended_set : (id : ℕ) (limits : Limits) (set : ℕ) (values : List Value) (old new : List ℕ) → ((id : ℕ) → set_cause (whole_execution id) limits.places limits.bytes set (Ok values) ≡ None) → Fit values →
