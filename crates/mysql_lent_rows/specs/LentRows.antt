@@ -9,7 +9,7 @@ use Rattle.mysql_cells.specs.declared.value.Value.{Value}
 use Rattle.mysql_columns.specs.Columns.{ColumnDefinition}
 use Rattle.mysql_raw.specs.Wire.{Reading}
 use Rattle.mysql_rows.specs.Rows.{Row, as_row, binary_resultset_row_at, text_row_at, whole_row}
-use Rattle.mysql_rows.specs.Views.{column_views, shared_columns}
+use Rattle.mysql_rows.specs.Views.{shared_columns}
 use Rattle.mysql_lent_rows.specs.Lent.{held, is_inside, value_of}
 use Rattle.mysql_lent_rows.specs.contracts.lender.RowLender.{the_row}
 use Rattle.mysql_lent_rows.specs.declared.errors.RowError.{RowError}
@@ -37,7 +37,7 @@ seen view (Err e) = Err e
 
 -- the row that is lent: nothing was taken of it
 abbrev pub lent_view : LentRow → Row
-lent_view row = whole_row (column_views row.columns.now) (map (held row.payload.now) row.places.now)
+lent_view row = whole_row (shared_columns row.columns.now) (map (held row.payload.now) row.places.now)
 
 -- the row whose cells lie at a lender's places in a payload
 abbrev pub row_held : RowLender → List ℕ → Row

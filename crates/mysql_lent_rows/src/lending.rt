@@ -86,7 +86,7 @@ impl RowLender {
     {
         LentRow {
             payload,
-            columns: self.columns.as_slice(),
+            columns: &self.columns,
             places: self.places.as_slice(),
         }
     }

@@ -2,6 +2,7 @@
 
 ghost use Rattle.std.specs.Prelude.{◌≡◌, ◌==◌, ◌++◌, ◌∷◌, [], IfErr, OnErr, OnOk, length, slice_get, true};
 ghost use Rattle.std.specs.Option.{option_map};
+ghost use Rattle.std.specs.Rc.{rc_slice_items};
 ghost use Rattle.mysql_rows.specs.Views.{column_views, shared_columns};
 ghost use Rattle.mysql_lent_rows.specs.Lent.{is_within};
 ghost use Rattle.mysql_lent_rows.specs.LentRows.{lent_view};
@@ -27,13 +28,13 @@ fn places_in<'r>(places: &'r [CellPlace], span: Span) -> &'r [CellPlace]
 /// The row that lies at a place of these lists.
 #[inline(always)]
 fn lent_from<'r>(
-    columns: &'r [Column],
+    columns: &'r RcSlice<Column>,
     payloads: &'r [u8],
     places: &'r [CellPlace],
     row: RowPlace,
 ) -> LentRow<'r, 'r>
-    requires { IsKept (length columns.now) payloads.now places.now row }
-    ensures { lent_view result ≡ row_kept (column_views columns.now) payloads.now places.now row }
+    requires { IsKept (length (rc_slice_items columns.now)) payloads.now places.now row }
+    ensures { lent_view result ≡ row_kept (shared_columns columns.now) payloads.now places.now row }
 {
     LentRow {
         payload: bytes_in(payloads, row.payload),
@@ -157,7 +158,7 @@ impl StoredRows {
     {
         match row_place_at(self.row_places.as_slice(), index) {
             Some(row) => Some(lent_from(
-                self.columns.as_slice(),
+                &self.columns,
                 self.payloads.as_slice(),
                 self.places.as_slice(),
                 row,

@@ -13,8 +13,8 @@ invariant_of-self c =
     let inside = c.self.inside in
     let new = c.put_row.new in
     let count = length (rc_slice_items inside.columns) in
-    let columns : length row.columns.now ≡ count =
-    sym (length-map row.columns.now column_view) ∙ (c.requires ∙ (ap (λ (set : ResultSet). length set.columns) (sym c.self.view_is) ∙ length-map (rc_slice_items inside.columns) column_view)) in
+    let columns : length (rc_slice_items row.columns.now) ≡ count =
+    sym (length-map (rc_slice_items row.columns.now) column_view) ∙ (c.requires ∙ (ap (λ (set : ResultSet). length set.columns) (sym c.self.view_is) ∙ length-map (rc_slice_items inside.columns) column_view)) in
     kept_after count inside.payloads.items row.payload.now inside.places.items row.places.now inside.row_places.items new.payloads.items new.places.items new.rows.items c.self.invariant
     c.put_row.result c.put_row.ensures.payloads c.put_row.ensures.places c.put_row.ensures.rows c.put_row.ensures.err row.inside (row.as_long ∙ columns)
 
