@@ -32,7 +32,7 @@ use Rattle.mysql_streams.specs.Sent.{as_requests, payloads_of, prepare_of}
 use Rattle.mysql_streams.specs.Cause.{bulk_cause, cause_if, first_of_sets, max_places, query_cause, set_cause}
 use Rattle.mysql_streams.specs.Sending.{RefusesGiven}
 use Rattle.mysql_streams.specs.Reading.{SentReadable}
-use Rattle.mysql_senders.specs.OneSet.{IsPreparable, RefusesSets, limits_of}
+use Rattle.mysql_senders.specs.OneSet.{IsStatement, RefusesSets, limits_of}
 use Rattle.mysql_bulk_sender.specs.BulkSets.{AppendsRequests, GivesRows, RefusesAll, RefusesRows, no_command, request_flags, request_types, requests_from, types_by}
 
 -- ---- one part
@@ -127,10 +127,10 @@ payloads_are : (id columns : ℕ) (rows : List Row) (parts : List (ℕ × Part))
 payloads_are id columns rows [] = refl
 payloads_are id columns rows (p ∷ parts) = ap (λ l. bulk_request id columns rows p.0 p.1.typing p.1.count ∷ l) (payloads_are id columns rows parts)
 
-module _ (query : List ℕ) (parsed : Parsed) (places : ℕ) (s : IsPreparable query parsed places) (sets : List Params) (stop : Option SetError) (id limit : ℕ) (short : length (prepare_command parsed.query) ≤ limit - 4) (some : places ≢ 0) where
+module _ (query : List ℕ) (parsed : Parsed) (places : ℕ) (s : IsStatement query parsed places) (most : places ≤ max_places) (sets : List Params) (stop : Option SetError) (id limit : ℕ) (short : length (prepare_command parsed.query) ≤ limit - 4) (some : places ≢ 0) where
   -- the placeholders are few enough
   few : nat_lt max_places (length (places_from query 0 s.tokens)) ≡ false
-  few = le-ltb max_places (length (places_from query 0 s.tokens)) (omega (arith, s.few, s.count))
+  few = le-ltb max_places (length (places_from query 0 s.tokens)) (omega (arith, most, s.count))
 
   -- nothing speaks against the query
   prepared : query_cause Bulk (statement_of query s.tokens id) (limit - 4) ≡ None
