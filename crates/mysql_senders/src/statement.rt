@@ -139,9 +139,9 @@ fn put_short_prepare(parsed: &[u8], out: &mut Vec<u8>) -> Result<(), AllocError>
     ensures kept { OnErr result (out.new.items ≡ out.old.items) }
 {
     out.reserve(parsed.len() + 5)?;
-    let [a, b, c, number] = packet_header(parsed.len() as u32 + 1);
-    out.extend_from_slice(&[a, b, c, number, Command::COM_STMT_PREPARE as u8])
-        .unwrap();
+    let header = packet_header(parsed.len() as u32 + 1);
+    out.extend_from_slice(&header).unwrap();
+    out.push_reserved(Command::COM_STMT_PREPARE as u8);
     out.extend_from_slice(parsed).unwrap();
     Ok(())
 }

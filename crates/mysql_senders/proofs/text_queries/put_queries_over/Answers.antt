@@ -9,8 +9,8 @@ use Rattle.mysql_senders.proofs.text_queries.put_queries_over.Goals as goal
 pub returns-in_err-check_places-clause-err : goal.returns-in_err-check_places-clause-err
 returns-in_err-check_places-clause-err c =
     let p = err_from_is_err_and c.from_residual.result c.from_residual.ensures.1 in
-    rw (p.1, p.2) (refused_places c.args.query.now (all_given c.args.sets.now) c.args.limit c.in_err-check_places.field-0
-    (inr (over_tokens c.args.query.now c.args.places.now (Some c.in_err-check_places.field-0) c.requires.places c.in_err-check_places.ensures.err)))
+    rw (p.1, p.2) (refused_places c.args.query.now (all_given c.args.sets.now) c.args.limit c.in_err-check_places.field-0.0
+    (inr (over_tokens c.args.query.now c.args.places.now (Some c.in_err-check_places.field-0.0) c.requires.places c.in_err-check_places.ensures.err)))
 
 pub sets-init : goal.sets-init
 sets-init c =

@@ -6,6 +6,13 @@ use Rattle.mysql_senders.proofs.text_queries.put_query.Goals as goal
 pub returns-in-Err-clause-err : goal.returns-in-Err-clause-err
 returns-in-Err-clause-err c = rw c.refusal_of.ensures (refused c.args.query.now c.args.params.now c.args.set c.args.limit c.in-Err.error c.in-Err.ensures.err)
 
+pub returns-then-len-start-clause-err : goal.returns-then-len-start-clause-err
+returns-then-len-start-clause-err c =
+    let mid = c.extend_from_slice.new.self.items in
+    let new = c.bind_text_over.new.out.items in
+    refused_behind c.pieces_of_a_query.ensures.pieces c.args.query.now c.args.params.now c.args.set c.args.limit c.len-start.result c.args.out.now.items mid new (omega arith) c.in_ok-extend_from_slice.ensures.items
+    (bound_to c.args.query.now c.args.params.now mid new c.in_default.ensures.ok) c.requires.limit (omega arith)
+
 pub returns-clause-ok : goal.returns-clause-ok
 returns-clause-ok c =
     let mid = c.extend_from_slice.new.self.items in
