@@ -121,8 +121,18 @@ headed_in_place start size len items lent header put inside all same copied four
     ap (λ l. take start l ++ (put ++ post_of start (start + 4 - start) l)) same ∙ ap (λ l. take start items ++ (l ++ post_of start (start + 4 - start) items)) copied in
     let behind : post_of start (start + 4 - start) items ≡ drop (start + 4) items = Post-is start (start + 4) items (omega arith) in
     let long : length whole ≡ len =
-    omega (arith, all, inside, four, ap length here, ap length behind, length-append (take start items) (header ++ post_of start (start + 4 - start) items), length-append header (post_of start (start + 4 - start) items),
-    length-take start items, length-drop (start + 4) items) in
+    omega (
+      arith,
+      all,
+      inside,
+      four,
+      ap length here,
+      ap length behind,
+      length-append (take start items) (header ++ post_of start (start + 4 - start) items),
+      length-append header (post_of start (start + 4 - start) items),
+      length-take start items,
+      length-drop (start + 4) items,
+    ) in
     take_at whole (drop (length whole) items) len long ∙ here ∙ headed_bytes start size items header inside is short made
 
 -- a prepare that one packet holds, behind its header
