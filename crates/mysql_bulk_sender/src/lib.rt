@@ -7,4 +7,4 @@ mod list_rows;
 mod requests;
 mod rows;
 
-pub use requests::put_requests;
+pub use requests::{put_requests, put_requests_over};
