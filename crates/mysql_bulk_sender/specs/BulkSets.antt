@@ -94,14 +94,14 @@ pub record AppendsRow (limits : Limits) (set : ℕ) (given : Given) (firsts new_
   pub firsts_are : (before : List Row) → firsts ≡ first_values limits.places before → new_firsts ≡ first_values limits.places (before ++ row ∷ [])
   pub appended : new ≡ old ++ row_bytes row
 
--- a value joins its column: it is no float, and NULL or of the kind of the column's first value, which it is where there was none before
+-- a value joins its column: it is no float, and NULL or of the kind of the column's first value where that isn't NULL; a first value that is NULL gives way to it, and those of other columns stay
 pub record JoinsColumn (firsts new_firsts : Row) (column : ℕ) (value : Value) : Type 0 where
   pub no_float : is_none (content_of value) ≡ false
   pub one_kind : (is_null value || is_null (slice_index_or firsts column NULL) || same_kind (slice_index_or firsts column NULL) value) ≡ true
   pub first : slice_index_or new_firsts column NULL ≡ (if is_null (slice_index_or firsts column NULL) then value else slice_index_or firsts column NULL)
   pub others : (other : ℕ) → other ≢ column → slice_index_or new_firsts other NULL ≡ slice_index_or firsts other NULL
 
--- a row is appended that has a value for each column, none a float, and each of the kind of its column's first value in the rows before; the first values are then those with this row
+-- a row is appended: it has a value for each column, none is a float, and each is of the kind of its column's first value in the rows before; the first values are then those with this row
 pub record PutsRow (firsts new_firsts row : Row) (old new : List ℕ) : Type 0 where
   pub wide : length row ≡ length firsts
   pub no_float : first_float row ≡ None

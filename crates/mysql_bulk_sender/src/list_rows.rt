@@ -39,8 +39,8 @@ fn is_alike(first: &Value, value: &Value) -> bool
     }
 }
 
-/// Whether a value joins its column: it is no float, and NULL or of the kind of the column's first value, where there is one. Else
-/// it is then the column's first value.
+/// Whether a value joins its column: it is no float, and NULL or of the kind of the column's first value where that isn't NULL. A
+/// first value that is NULL has then given way to it.
 #[inline(always)]
 fn joins_column<'a>(value: &'a Value, column: usize, firsts: &mut [&'a Value]) -> bool
     requires { column < length firsts.old }
