@@ -25,7 +25,7 @@ use std::alloc::Global;
 use std::marker::Model;
 
 /// What a codec's error means for a reply.
-fn fault_from(error: PacketCodecError) -> ReplyFault
+pub fn fault_from(error: PacketCodecError) -> ReplyFault
     ensures { result ≡ fault_named error }
 {
     match error {
@@ -132,9 +132,9 @@ fn take_packets(
 /// "COM_STMT_PREPARE Response".
 #[derive(Drop)]
 pub struct ReplyReader {
-    alloc: Global,
-    state: ReplyState,
-    packets: PacketReader,
+    pub(crate) alloc: Global,
+    pub(crate) state: ReplyState,
+    pub(crate) packets: PacketReader,
 }
 
 impl Model for ReplyReader {
