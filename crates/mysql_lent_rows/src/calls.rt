@@ -31,21 +31,21 @@ impl<'r, 'p> LentRow<'r, 'p> {
         ensures cells { result ≡ length (lent_view self.now).cells }
         ensures columns { result ≡ length (lent_view self.now).columns }
     {
-        self.lender.places.len()
+        self.places.len()
     }
 
     /// Whether there are no cells.
     pub fn is_empty(&self) -> bool
         ensures { result ≡ (length (lent_view self.now).cells == 0) }
     {
-        self.lender.places.is_empty()
+        self.places.is_empty()
     }
 
     /// The columns.
     pub fn columns_ref(&self) -> &'r [Column]
         ensures { column_views result.now ≡ (lent_view self.now).columns }
     {
-        self.lender.columns.as_slice()
+        self.columns
     }
 
     /// The value of the cell of this number, with its bytes lent by the payload; None where there is no such cell.
@@ -53,7 +53,7 @@ impl<'r, 'p> LentRow<'r, 'p> {
     pub fn as_ref(&self, index: usize) -> Option<ValueRef<'p>>
         ensures { option_map value_of result ≡ cell_at (lent_view self.now) (Some index) }
     {
-        match place_at(self.lender.places.as_slice(), index) {
+        match place_at(self.places, index) {
             Some(place) => Some(value_at(self.payload, place)),
             None => None,
         }
@@ -64,7 +64,7 @@ impl<'r, 'p> LentRow<'r, 'p> {
     pub fn get<I: ColumnIndex>(&self, index: I) -> Option<ValueRef<'p>>
         ensures { option_map value_of result ≡ cell_at (lent_view self.now) (I.place index (lent_view self.now).columns) }
     {
-        match index.idx(self.lender.columns.as_slice()) {
+        match index.idx(self.columns) {
             Some(number) => self.as_ref(number),
             None => None,
         }
