@@ -24,4 +24,5 @@ pub mod ManualSome
 pub mod ManualBytes
 pub mod Standing
 pub mod NoRows
-pub mod Lending
+pub mod LentSteps
+pub mod LentOut

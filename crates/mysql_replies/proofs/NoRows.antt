@@ -6,18 +6,20 @@ use Rattle.std.proofs.lemmas.Bool.{true≢false}
 use Rattle.std.proofs.lemmas.Grind.{flat_map-append}
 use Rattle.std.proofs.lemmas.List.{append-nil}
 use Rattle.mysql_columns.specs.Columns.{ColumnDefinition}
-use Rattle.mysql_packets.specs.Packets.{ServerError, error_at}
+use Rattle.mysql_packets.specs.Packets.{PrepareOk, ServerError, error_at}
 use Rattle.mysql_packets.specs.Views.{progress_report_view}
 use Rattle.mysql_ok_packets.specs.OkPackets.{OkPacket}
 use Rattle.mysql_rows.specs.Rows.{Row}
 use Rattle.mysql_wire.specs.Stream as stream
+use Rattle.mysql_replies.specs.declared.awaited.Awaited.TheVariants as awaiting
 use Rattle.mysql_replies.specs.declared.context.Context.{Context}
 use Rattle.mysql_replies.specs.declared.fault.ReplyFault.{ReplyFault}
 use Rattle.mysql_replies.specs.declared.fault.ReplyFault.TheVariants as faults
 use Rattle.mysql_replies.specs.declared.state.ReplyState.{ReplyState}
-use Rattle.mysql_replies.specs.Grammar.{Payload, Outcome, RowsResult, Part, Stands, Begun, Unexpected, ◌>>=◌, Stretch, Line, RowLine, TerminatorLine, ErrorLine, Opening, OkOpening, ErrorOpening, FileOpening, CountOpening, StatementOpening, Ending, Results, last, more, begun, unexpected, PrepareOk, PreparedResult, begins_with, terminator_limit, has_report_form, is_report, map_ok, or_fault, terminator, row, unless_report, as_part, next_payload, column, eof, columns, columns_end, column_group, line, after_rows, rows, result_set, prepared, prepared_columns, opening, after_opening, one_result, deprecate_eof}
+use Rattle.mysql_replies.specs.Grammar.{Payload, Outcome, RowsResult, Part, Stands, Begun, Unexpected, ◌>>=◌, Stretch, Line, RowLine, TerminatorLine, ErrorLine, Opening, OkOpening, ErrorOpening, FileOpening, CountOpening, StatementOpening, Ending, Results, last, more, begun, unexpected, PreparedResult, begins_with, terminator_limit, has_report_form, is_report, map_ok, or_fault, terminator, row, unless_report, as_part, next_payload, column, eof, columns, columns_end, column_group, line, after_rows, rows, result_set, prepared, prepared_columns, opening, after_opening, one_result, deprecate_eof}
 use Rattle.mysql_replies.specs.Lending.{rows_in, rows_listed}
 use Rattle.mysql_replies.specs.LentSteps.{IsNoRow}
+use Rattle.mysql_replies.specs.OpenRows.{RowsSoFar}
 use Rattle.mysql_replies.specs.Reply.{Answer, Awaited, First, Columns, Rows, Parameters, PreparedColumns, Nothing, rest_of, Progressing, Standing, GoingOn, Answered, PayloadsDecide, Continues, end_of, FaultAt}
 use Rattle.mysql_replies.specs.Standings.{progressing_of, faulted, faulted_at, standing_of, IsShortOf, OnMemory, StateGoesOn, UnlessMemory}
 use Rattle.mysql_replies.specs.Steps.{IsGroupSettled, IsSettled, listed_of, reads_as_row}
@@ -179,7 +181,7 @@ awaited_rows Nothing = refl
 listed_rows : (results : List Outcome) (a : Awaited) → flat_map rows_in (results ++ listed_of a) ≡ flat_map rows_in results ++ rows_awaited a
 listed_rows results a = flat_map-append rows_in results (listed_of a) ∙ ap (λ (k : List Row). flat_map rows_in results ++ k) (awaited_rows a)
 
-rows_of_state : ReplyState → List Row
+abbrev pub rows_of_state : ReplyState → List Row
 rows_of_state s = flat_map rows_in (outcome_views s.results.items) ++ rows_awaited (awaited_view s.awaited)
 
 pub state_rows : (s : ReplyState) → rows_listed (standing_of s) ≡ rows_of_state s
@@ -235,3 +237,24 @@ pub passed_rows : (before after : ReplyState) (payload : Payload) (r : Result (U
 passed_rows before after payload (Err faults.Memory) going settled none still goes short = short_rows before after short
 passed_rows before after payload (Ok x) going settled none still goes short = keeps_none before after payload going settled none still goes
 passed_rows before after payload (Err fault) going settled none still goes short = keeps_none before after payload going settled none still goes
+
+-- As many rows are listed where the same results are, and as many rows are awaited.
+same_rows : (before after : ReplyState) → after.results ≡ before.results → rows_awaited (awaited_view after.awaited) ≡ rows_awaited (awaited_view before.awaited) → rows_listed (standing_of after) ≡ rows_listed (standing_of before)
+same_rows before after results awaited = state_rows after ∙ (λ i. flat_map rows_in (outcome_views (results i).items) ++ awaited i) ∙ sym (state_rows before)
+
+pub fault_rows : (before after : ReplyState) (fault : ReplyFault) → after ≡ record before { fault = Some fault } → rows_listed (standing_of after) ≡ rows_listed (standing_of before)
+fault_rows before after fault is = same_rows before after (ap (λ (s : ReplyState). s.results) is) (ap (λ (s : ReplyState). rows_awaited (awaited_view s.awaited)) is)
+
+pub lent_rows : (before after : ReplyState) (these now : RowsSoFar) → before.awaited ≡ awaiting.Rows these → now ≡ record these { lender = now.lender } → after.results ≡ before.results → after.awaited ≡ awaiting.Rows now → rows_listed (standing_of after) ≡ rows_listed (standing_of before)
+lent_rows before after these now is same results after_is =
+    same_rows before after results
+    (ap (λ a. rows_awaited (awaited_view a)) after_is ∙ ap (λ (x : RowsSoFar). x.rows) same ∙ sym (ap (λ a. rows_awaited (awaited_view a)) is))
+
+-- A payload that is a report or isn't read as a row is no row.
+pub no_row_by : (c : Context) (a : Awaited) (payload : Payload) → (has_report_form c payload || not (reads_as_row c payload)) ≡ true → IsNoRow c a payload
+no_row_by c (Rows columns these) payload none = none
+no_row_by c First payload none = tt
+no_row_by c (Columns n these) payload none = tt
+no_row_by c (Parameters statement n these) payload none = tt
+no_row_by c (PreparedColumns statement parameters n these) payload none = tt
+no_row_by c Nothing payload none = tt

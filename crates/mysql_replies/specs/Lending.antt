@@ -4,14 +4,17 @@
 use Rattle.std.specs.Prelude.{◌≡◌, ℕ, List, [], ◌∷◌, ◌++◌, Option, Some, None, Result, Ok, Err}
 use Rattle.std.specs.List.{flat_map}
 use Rattle.mysql_columns.specs.Columns.{ColumnDefinition}
+use Rattle.mysql_packets.specs.Packets.{ProgressReport}
 use Rattle.mysql_rows.specs.Rows.{Row}
 use Rattle.mysql_lent_rows.specs.LentRows.{lent_view}
 use Rattle.mysql_lent_rows.specs.declared.row.LentRow.{LentRow}
+use Rattle.mysql_wire.specs.Bytes.{AreBytes}
+use Rattle.mysql_replies.specs.declared.context.Context.{Context}
 use Rattle.mysql_replies.specs.declared.fault.ReplyFault.{ReplyFault}
 use Rattle.mysql_replies.specs.Grammar.{Outcome, RowsResult}
 use Rattle.mysql_replies.specs.Reply.{Progressing, Standing, Rows, GoingOn, Answered}
 use Rattle.mysql_replies.specs.Holding.{ReaderState}
-use Rattle.mysql_replies.specs.Taking.{Feeds, rows_awaited}
+use Rattle.mysql_replies.specs.Taking.{Feeds, Runs, results_in, rows_awaited}
 
 -- The rows of a result.
 abbrev pub rows_in : Outcome → List Row
@@ -46,3 +49,10 @@ Advances old piece (Err fault) new rest = Feeds old new piece (Err fault) × (re
 pub record LendsNext (old : ReaderState) (piece : List ℕ) (r : Result (Option LentRow) ReplyFault) (new : ReaderState) (rest : List ℕ) : Type 0 where
   pub advances : Advances old piece r new rest
   pub keeps_none : rows_listed new.standing ≡ rows_listed old.standing
+
+-- Where nothing else is listed, a row that was lent is as one that was kept and handed out at once, as a part of its result set. So
+-- all that holds of results that were handed out holds of rows that were lent.
+abbrev pub LentRowsAreHandedOut : Type 0
+LentRowsAreHandedOut = (c : Context) (first_id limit : ℕ) (pieces : List (List ℕ)) (taken : List Outcome) (reports : List ProgressReport) (old new : ReaderState) (piece rest : List ℕ) (row : Row) →
+    Runs c first_id limit pieces taken reports old → AreBytes piece → (lent : LendsRow old piece row new rest) → results_in new.standing ≡ [] →
+    Runs c first_id limit (pieces ++ lent.used ∷ []) (taken ++ RowsResult lent.columns (row ∷ []) None ∷ []) reports new

@@ -78,6 +78,11 @@ LendStep old payload (Ok true) new = LendsOne old payload new
 LendStep old payload (Err Memory) new = IsShortOf old new
 LendStep old payload r new = NumberedStateGoesOn old payload new
 
+-- The answer of a payload that was taken: nothing is lent.
+abbrev pub passed_as : Result (Unit {0}) ReplyFault → Result Bool ReplyFault
+passed_as (Ok _) = Ok false
+passed_as (Err fault) = Err fault
+
 -- Rows are not awaited, or the payload is none.
 abbrev pub IsNoRow : Context → Awaited → Payload → Type 0
 IsNoRow c (Rows columns rows) payload = (has_report_form c payload || not (reads_as_row c payload)) ≡ true
@@ -96,4 +101,4 @@ pub record LendsBehind (old : ReaderState) (piece : List ℕ) (place : Place) (s
   pub cut : piece ≡ used ++ rest
   pub takes : TakesAll old (old.bytes ++ used) (reader_state (keeping state row) packets)
   pub goes_on : ReaderGoesOn old used (reader_state (keeping state row) packets)
-  pub whole : packets.bytes ≡ []
+  pub whole : (reader_state state packets).bytes ≡ []

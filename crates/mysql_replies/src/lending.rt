@@ -12,8 +12,8 @@ ghost use Rattle.mysql_replies.specs.LentSteps.{LendsAwaited, LendsBehind, paylo
 ghost use Rattle.mysql_replies.specs.Standings.{IsPaused, IsReading, OnMemory, UnlessMemory, reader_state, standing_of};
 
 use crate::fault::ReplyFault;
-use crate::framing::framing_laws;
-use crate::reader::{ReplyReader, fault_from};
+use crate::framing::{bytes_are_bytes, framing_laws};
+use crate::reader::{ReaderParts, ReplyReader, fault_from};
 use crate::state::ReplyState;
 use mysql_lent_rows::LentRow;
 use mysql_wire::PacketReader;
@@ -27,7 +27,7 @@ pub enum Place<'p> {
 }
 
 // Takes each payload up to the next row, of which the cells are read, and answers where its payload lies.
-fn advance_to_row<'p>(
+fn take_to_row<'p>(
     alloc: Global,
     state: &mut ReplyState,
     packets: &mut PacketReader,
@@ -47,9 +47,10 @@ fn advance_to_row<'p>(
         (λ place. LendsBehind (reader_state state.old packets.old) rest.old.now place state.new packets.new rest.new.now)) }
     ensures uses { IfOk result (λ found. MatchOption found (rest.new.now ≡ []) (λ _. length rest.new.now < length rest.old.now)) }
     ensures goes_on { IfErr result (λ fault. UnlessMemory {X = Unit {0}} (Err fault) (ReaderGoesOn (reader_state state.old packets.old) rest.old.now (reader_state state.new packets.new))) }
-    ensures short { OnMemory result (StandsShort (reader_state state.old packets.old) ((reader_state state.old packets.old).bytes ++ rest.old.now) (reader_state state.new packets.new)) }
+    ensures short { IfErr result (λ fault. OnMemory {X = Unit {0}} (Err fault) (StandsShort (reader_state state.old packets.old) ((reader_state state.old packets.old).bytes ++ rest.old.now) (reader_state state.new packets.new))) }
 {
     framing_laws();
+    bytes_are_bytes(*rest);
     'packets: loop {
         if state.is_over() {
             if rest.is_empty() {
@@ -76,19 +77,43 @@ fn advance_to_row<'p>(
     }
 }
 
-// The row that was read last, lent by its payload, which lies there.
-#[inline(always)]
-fn lent_row<'r, 'p: 'r>(
-    state: &'r ReplyState,
-    packets: &'r PacketReader,
-    place: Place<'p>,
-) -> LentRow<'r, 'r>
-    requires { (row : Row) × LendsAwaited state.now.awaited (payload_at place packets.now) row }
-    ensures { LendsAwaited state.now.awaited (payload_at place packets.now) (lent_view result) }
-{
-    match place {
-        Place::InPiece(payload) => state.lent(payload),
-        Place::InBuffer => state.lent(packets.payload()),
+impl ReaderParts {
+    // Takes each payload up to the next row.
+    #[inline(always)]
+    fn advance_to_row<'p>(
+        &mut self,
+        alloc: Global,
+        rest: &mut &'p [u8],
+    ) -> Result<Option<Place<'p>>, ReplyFault>
+        requires reading { IsReading self.old.state }
+        requires going { self.old.state.fault ≡ None }
+        requires paused { IsPaused self.old.state (codec_by self.old.packets) self.old.packets.bytes [] }
+        ensures reading { IsReading self.new.state }
+        ensures paused { OnOk result ((self.new.state.fault ≡ None) × IsPaused self.new.state (codec_by self.new.packets) self.new.packets.bytes []) }
+        ensures fault { IfErr result (λ fault. self.new.state.fault ≡ Some fault) }
+        ensures keeps_none { rows_listed (standing_of self.new.state) ≡ rows_listed (standing_of self.old.state) }
+        ensures lends { IfOk result (λ found. MatchOption found
+            ((rest.new.now ≡ [])
+                × TakesAll (reader_state self.old.state self.old.packets) ((reader_state self.old.state self.old.packets).bytes ++ rest.old.now) (reader_state self.new.state self.new.packets)
+                × ReaderGoesOn (reader_state self.old.state self.old.packets) rest.old.now (reader_state self.new.state self.new.packets))
+            (λ place. LendsBehind (reader_state self.old.state self.old.packets) rest.old.now place self.new.state self.new.packets rest.new.now)) }
+        ensures uses { IfOk result (λ found. MatchOption found (rest.new.now ≡ []) (λ _. length rest.new.now < length rest.old.now)) }
+        ensures goes_on { IfErr result (λ fault. UnlessMemory {X = Unit {0}} (Err fault) (ReaderGoesOn (reader_state self.old.state self.old.packets) rest.old.now (reader_state self.new.state self.new.packets))) }
+        ensures short { IfErr result (λ fault. OnMemory {X = Unit {0}} (Err fault) (StandsShort (reader_state self.old.state self.old.packets) ((reader_state self.old.state self.old.packets).bytes ++ rest.old.now) (reader_state self.new.state self.new.packets))) }
+    {
+        take_to_row(alloc, &mut self.state, &mut self.packets, rest)
+    }
+
+    // The row that was read last, lent by its payload, which lies there.
+    #[inline(always)]
+    fn lent<'r, 'p: 'r>(&'r self, place: Place<'p>) -> LentRow<'r, 'r>
+        requires { (row : Row) × LendsAwaited self.now.state.awaited (payload_at place self.now.packets) row }
+        ensures { LendsAwaited self.now.state.awaited (payload_at place.entry self.now.packets) (lent_view result) }
+    {
+        match place {
+            Place::InPiece(payload) => self.state.lent(payload),
+            Place::InBuffer => self.state.lent(self.packets.payload()),
+        }
     }
 }
 
@@ -121,15 +146,15 @@ impl ReplyReader {
         ensures uses { IfOk result (λ found. MatchOption found (rest.new.now ≡ []) (λ _. length rest.new.now < length rest.old.now)) }
     {
         framing_laws();
-        match self.state.fault {
+        match self.parts.state.fault {
             Some(fault) => return Err(fault),
             None => {}
         }
         let mut left = *rest;
-        match advance_to_row(self.alloc, &mut self.state, &mut self.packets, &mut left) {
+        match self.parts.advance_to_row(self.alloc, &mut left) {
             Ok(Some(place)) => {
                 *rest = left;
-                Ok(Some(lent_row(&self.state, &self.packets, place)))
+                Ok(Some(self.parts.lent(place)))
             }
             Ok(None) => {
                 *rest = left;

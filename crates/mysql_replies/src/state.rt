@@ -13,7 +13,7 @@ ghost use Rattle.mysql_replies.specs.OpenRows.{rows_of};
 ghost use Rattle.mysql_lent_rows.specs.LentRows.{lent_view};
 ghost use Rattle.mysql_rows.specs.Rows.{Row as RowOf};
 ghost use Rattle.mysql_replies.specs.Lending.{rows_listed};
-ghost use Rattle.mysql_replies.specs.LentSteps.{IsNoRow, LendStep, LendsAwaited, format_of};
+ghost use Rattle.mysql_replies.specs.LentSteps.{IsNoRow, LendStep, LendsAwaited, format_of, passed_as};
 ghost use Rattle.mysql_replies.specs.Taking.{part_of, results_in, without_results, rows_awaited};
 ghost use Rattle.mysql_replies.specs.Views.{Gives, awaited_view, outcome_views, end_view, answer_view};
 ghost use Rattle.mysql_replies.specs.Steps.{IsSettled, IsAwaiting, listed_views, listed_of, reads_as_row};
@@ -111,6 +111,17 @@ fn push_in_room(results: &mut Vec<ReplyResult>, another: ReplyResult)
     let Ok(()) = results.push(another) else {
         unreachable!()
     };
+}
+
+/// The answer of a payload that was taken: nothing is lent.
+#[inline(always)]
+fn passed(taken: Result<(), ReplyFault>) -> Result<bool, ReplyFault>
+    ensures { result ≡ passed_as taken }
+{
+    match taken {
+        Ok(()) => Ok(false),
+        Err(fault) => Err(fault),
+    }
 }
 
 impl ReplyState {
@@ -296,15 +307,10 @@ impl ReplyState {
         ensures step { LendStep self.old payload.now result self.new }
         ensures keeps_none { rows_listed (standing_of self.new) ≡ rows_listed (standing_of self.old) }
     {
-        let taken = if is_report_like(self.context, payload) {
-            self.take_report(alloc, payload)
-        } else {
-            self.take_other(alloc, payload)
-        };
-        match taken {
-            Ok(()) => Ok(false),
-            Err(fault) => Err(fault),
+        if is_report_like(self.context, payload) {
+            return passed(self.take_report(alloc, payload));
         }
+        passed(self.take_other(alloc, payload))
     }
 
     /// Reads a payload in the form of a row: where rows are awaited it can be lent then, and isn't kept.

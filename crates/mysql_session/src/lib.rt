@@ -12,6 +12,7 @@ pub use mysql_convert::{
     FromValue, FromValueError, Intermediate, IntoParams, ParseIr, ToValue, ToValueError,
     from_value, from_value_opt,
 };
+pub use mysql_lent_rows::{FromValueRef, LentRow, RowError, RowFormat, RowLender, ValueRef};
 pub use mysql_packets;
 pub use mysql_packets::{
     Column, LocalInfilePacket, OkPacket, ProgressReport, ServerError, SqlState, StmtPacket,

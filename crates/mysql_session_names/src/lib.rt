@@ -3,10 +3,10 @@
 
 // Sessions.
 use mysql_session::{
-    Audit, CapabilityFlags, End, Flags, Intermediate, PacketReader, ParseIr, Receiver,
-    ReceiverError, RecodeError, Recoder, Refusal, Reply, ReplyEnd, ReplyFault, ReplyKind,
-    ReplyReader, ReplyRefusal, ReplyResult, ReplyWriter, Road, StatusFlags, StreamFault,
-    packet_to_chunks, read_reply, receive, recode, send, send_values, write_reply,
+    Audit, CapabilityFlags, End, Flags, FromValueRef, Intermediate, LentRow, PacketReader, ParseIr,
+    Receiver, ReceiverError, RecodeError, Recoder, Refusal, Reply, ReplyEnd, ReplyFault, ReplyKind,
+    ReplyReader, ReplyRefusal, ReplyResult, ReplyWriter, Road, RowError, RowFormat, RowLender,
+    StatusFlags, StreamFault, ValueRef, packet_to_chunks, read_reply, receive, recode, send, send_values, write_reply,
 };
 
 // The layers below.

@@ -4,6 +4,8 @@ use Rattle.std.specs.Prelude.{if◌then◌else◌, ◌==◌, OnOk, IfErr}
 use Rattle.std.proofs.lemmas.List.{append-nil}
 use Rattle.mysql_columns.specs.Columns.{ColumnDefinition}
 use Rattle.mysql_lent_rows.specs.LentRows.{row_of, with_none_left}
+use Rattle.mysql_lent_rows.specs.declared.errors.RowError.{RowError}
+use Rattle.mysql_lent_rows.specs.declared.errors.RowError.TheVariants.{BytesLeft}
 use Rattle.mysql_lent_rows.specs.declared.format.RowFormat.{RowFormat}
 use Rattle.mysql_lent_rows.specs.declared.lender.RowLender.{RowLender}
 use Rattle.mysql_rows.specs.Rows.{Row, as_row, binary_resultset_row_at, text_row_at}
@@ -26,25 +28,25 @@ use Rattle.mysql_replies.specs.declared.state.ReplyState.{ReplyState}
 use Rattle.mysql_replies.specs.Grammar.{Payload, has_report_form, is_binary, row, whole_or_fault}
 use Rattle.mysql_replies.specs.Holding.{ReaderState, ReaderGoesOn, StandsShort, TakesAll}
 use Rattle.mysql_replies.specs.Lending.{LendsRow}
-use Rattle.mysql_replies.specs.LentSteps.{HasRead, LendStep, Lends, LendsAwaited, LendsBehind, LendsOne, format_of, keeping, or_bad_row, payload_at, with_row}
+use Rattle.mysql_replies.specs.LentSteps.{HasRead, LendStep, Lends, LendsAwaited, LendsBehind, LendsOne, format_of, keeping, or_bad_row, passed_as, payload_at, with_row}
 use Rattle.mysql_replies.specs.OpenRows.{RowsSoFar}
 use Rattle.mysql_replies.specs.Reply.{GoingOn, Rows, rest_of}
-use Rattle.mysql_replies.specs.Standings.{FramingLaws, IsPaused, IsShortOf, NumberedStateGoesOn, OnMemory, StateGoesOn, UnlessMemory, faulted, progressing_of, reader_state}
-use Rattle.mysql_replies.specs.Steps.{IsStep, Leads, Moves, reads_as_row}
+use Rattle.mysql_replies.specs.Standings.{FramingLaws, IsPaused, IsShortOf, NumberedStateGoesOn, OnMemory, StateGoesOn, UnlessMemory, faulted, progressing_of, reader_state, reader_state_of}
+use Rattle.mysql_replies.specs.Steps.{IsAwaiting, IsStep, Leads, Moves, reads_as_row}
 use Rattle.mysql_replies.specs.Taking.{Feeds}
 use Rattle.mysql_replies.specs.Views.{Refuses, awaited_view, outcome_views}
 use Rattle.mysql_replies.proofs.Numbers.{goes_over_numbered}
-use Rattle.mysql_replies.proofs.Receiving.{Since, Taking, all_taken, empty_rest, fault_is, fresh_paused, handed_number, held_nothing, if_fault, if_no_fault, not_both, on_is, received_next, stays_going_on, unless_is}
+use Rattle.mysql_replies.proofs.Receiving.{Since, Taking, all_taken, elsewhere, empty_rest, fault_is, fresh_paused, handed_number, held_nothing, if_fault, if_no_fault, not_both, on_is, piece_goes_on, piece_runs_short, received_next, stays_going_on, taken_goes_on, taken_short, unless_is}
 use Rattle.mysql_replies.proofs.Stepping.{row_failed, row_went}
 use Rattle.mysql_replies.proofs.Taking.{step_failed, step_moved, step_short}
 
 -- What a lender reads is the row of the grammar.
-whole_if : (b : Bool) (found : Row) → (if b then Ok found else Err faults.BadRow) ≡ or_bad_row (if b then Ok found else Err _)
-whole_if true found = refl
-whole_if false found = refl
+whole_if : (b : Bool) (found : Row) (error : RowError) → (if b then Ok found else Err faults.BadRow) ≡ or_bad_row (if b then Ok found else Err error)
+whole_if true found error = refl
+whole_if false found error = refl
 
 whole_is : (r : Reading Row) → whole_or_fault faults.BadRow r ≡ or_bad_row (with_none_left r)
-whole_is (Ok x) = whole_if (length x.1 == 0) x.0
+whole_is (Ok x) = whole_if (length x.1 == 0) x.0 BytesLeft
 whole_is (Err e) = refl
 
 row_is : (c : Context) (columns : List ColumnDefinition) (payload : Payload) → row c columns payload ≡ or_bad_row (row_of (format_of c.kind) columns payload)
@@ -92,9 +94,18 @@ row_unread before after these now payload fault going room is same form like aft
     (step_short before after (awaiting.Rows now) payload fault after_is step)
 
 -- What a payload that is no row leads to.
-pub passed_step : (before after : ReplyState) (payload : Payload) (r : Result (Unit {0}) ReplyFault) → before.fault ≡ None → before.count + 1 < 2 ^ 64 → r ≡ Ok tt → OnOk r ((after.fault ≡ None) × (after.count ≡ before.count + 1)) → UnlessMemory r (StateGoesOn before payload after) → LendStep before payload (Ok false) after
-passed_step before after payload (Ok x) going room is ok goes = goes_over_numbered before after payload going room (λ e. ok.1) goes
-passed_step before after payload (Err fault) going room is ok goes = absurd cc
+pub passed_step : (before after : ReplyState) (payload : Payload) (r : Result (Unit {0}) ReplyFault) → before.fault ≡ None → before.count + 1 < 2 ^ 64 → OnOk r ((after.fault ≡ None) × (after.count ≡ before.count + 1)) → IfErr r (λ fault. after.fault ≡ Some fault) → UnlessMemory r (StateGoesOn before payload after) → OnMemory r (IsShortOf before after) → LendStep before payload (passed_as r) after
+passed_step before after payload (Err faults.Memory) going room ok wrong goes short = short
+passed_step before after payload (Ok x) going room ok wrong goes short = goes_over_numbered before after payload going room (λ e. ok.1) goes
+passed_step before after payload (Err fault) going room ok wrong goes short = goes_over_numbered before after payload going room (λ e. not_both after.fault fault wrong e) goes
+
+pub passed_ok : (P : Type 0) (r : Result (Unit {0}) ReplyFault) → OnOk r P → OnOk (passed_as r) P
+passed_ok P (Ok x) p = p
+passed_ok P (Err e) p = tt
+
+pub passed_fault : (P : ReplyFault → Type 0) (r : Result (Unit {0}) ReplyFault) → IfErr r P → IfErr (passed_as r) P
+passed_fault P (Ok x) p = tt
+passed_fault P (Err e) p = p
 
 -- Bytes behind which others follow, where these are the last of a piece.
 cut_piece : (front piece back rest : List ℕ) → front ++ piece ≡ back ++ rest → length rest ≤ length piece → (used : List ℕ) × (piece ≡ used ++ rest) × (front ++ used ≡ back)
@@ -112,6 +123,7 @@ pub record Used (start next : ReplyState) (old new : Incoming) (piece left : Lis
   pub cut : piece ≡ used ++ left
   pub takes : TakesAll (reader_state start old) ((reader_state start old).bytes ++ used) (reader_state next new)
   pub goes_on : ReaderGoesOn (reader_state start old) used (reader_state next new)
+  pub whole : (reader_state next new).bytes ≡ []
 
 pub used_up : FramingLaws → (start s next : ReplyState) (old now new : Incoming) (piece rest left payload : List ℕ) → Taking start (codec_by old) (old.bytes ++ piece) [] s (codec_by now) (now.bytes ++ rest) [] → start.fault ≡ None → HandsOut (codec_by now) (now.bytes ++ rest) [] (codec_by new) (new.bytes ++ left) payload → new.bytes ≡ [] → length left ≤ length piece → next.fault ≡ None → next.count ≡ s.count + 1 → NumberedStateGoesOn s payload next → Used start next old new piece left
 used_up laws start s next old now new piece rest left payload t began h none fits going count goes =
@@ -141,7 +153,7 @@ used_up laws start s next old now new piece rest left payload t began h none fit
     let all =
     all_taken laws start next first codec old.bytes c.0 new.bytes payloads Empty since began going counted (λ f. f)
     (subst (λ k. IsRest codec.limit (packet_number codec []) k Empty) (sym nothing) (empty_rest codec.limit (packet_number codec []))) in
-    record { used = c.0; cut = c.1; takes = all.0; goes_on = all.1 }
+    record { used = c.0; cut = c.1; takes = all.0; goes_on = all.1; whole = nothing }
 
 -- A row's payload was handed out, and the row is lent.
 pub lent_behind : FramingLaws → (start s next : ReplyState) (old now new : Incoming) (piece rest left payload : List ℕ) (place : Place) → Taking start (codec_by old) (old.bytes ++ piece) [] s (codec_by now) (now.bytes ++ rest) [] → start.fault ≡ None → HandsOut (codec_by now) (now.bytes ++ rest) [] (codec_by new) (new.bytes ++ left) payload → new.bytes ≡ [] → length left ≤ length piece → next.fault ≡ None → next.count ≡ s.count + 1 → LendsOne s payload next → payload ≡ payload_at place new → LendsBehind (reader_state start old) piece place next new left
@@ -154,13 +166,35 @@ lent_behind laws start s next old now new piece rest left payload place t began 
       cut = u.cut;
       takes = u.takes;
       goes_on = u.goes_on;
-      whole = none;
+      whole = u.whole;
     }
 
 -- Behind it no byte is held.
 pub paused_behind : FramingLaws → (s : ReplyState) (now new : Incoming) (src src' payload : List ℕ) → HandsOut (codec_by now) src [] (codec_by new) src' payload → new.bytes ≡ [] → IsPaused s (codec_by new) new.bytes []
 paused_behind laws s now new src src' payload h none =
     fresh_paused laws s (codec_by new) new.bytes [] h.between (handed_number (codec_by now) (codec_by new) src [] src' payload h) none refl
+
+step_goes : (before after : ReplyState) (payload : Payload) (fault : ReplyFault) → LendStep before payload (Err fault) after → UnlessMemory {X = Unit {0}} (Err fault) (NumberedStateGoesOn before payload after)
+step_goes before after payload faults.Memory step = tt
+step_goes before after payload fault step = step
+
+step_falls_short : (before after : ReplyState) (payload : Payload) (fault : ReplyFault) → LendStep before payload (Err fault) after → OnMemory {X = Unit {0}} (Err fault) (IsShortOf before after)
+step_falls_short before after payload faults.Memory step = step
+step_falls_short before after payload fault step = tt
+
+-- A payload was handed out, and it has no place or memory ran out over it.
+pub lend_failed : FramingLaws → (start s next : ReplyState) (old now new : Incoming) (piece rest left payload : List ℕ) (fault : ReplyFault) → Taking start (codec_by old) (old.bytes ++ piece) [] s (codec_by now) (now.bytes ++ rest) [] → start.fault ≡ None → HandsOut (codec_by now) (now.bytes ++ rest) [] (codec_by new) (new.bytes ++ left) payload → next.fault ≡ Some fault → LendStep s payload (Err fault) next → UnlessMemory {X = Unit {0}} (Err fault) (ReaderGoesOn (reader_state start old) piece (reader_state next new))
+lend_failed laws start s next old now new piece rest left payload fault t began h wrong step =
+    let fed = old.bytes ++ piece in
+    let src = now.bytes ++ rest in
+    piece_goes_on laws start (codec_by old) old.bytes fed [] piece (reader_state next new) (Err fault) began refl
+    (elsewhere (reader_state_of start (codec_by old) fed []) next (reader_state_of next (codec_by new) (new.bytes ++ left) []) (reader_state next new) (Err fault) refl wrong refl refl
+    (taken_goes_on laws start s next (codec_by old) (codec_by now) (codec_by new) fed [] src [] (new.bytes ++ left) [] payload (Err fault) refl t began h refl wrong (step_goes s next payload fault step)))
+
+pub lend_short : FramingLaws → (start s next : ReplyState) (old now new : Incoming) (piece rest payload : List ℕ) (fault : ReplyFault) → Taking start (codec_by old) (old.bytes ++ piece) [] s (codec_by now) (now.bytes ++ rest) [] → start.fault ≡ None → IsAwaiting (awaited_view s.awaited) → LendStep s payload (Err fault) next → OnMemory {X = Unit {0}} (Err fault) (StandsShort (reader_state start old) ((reader_state start old).bytes ++ piece) (reader_state next new))
+lend_short laws start s next old now new piece rest payload fault t began some step =
+    piece_runs_short laws start (codec_by old) old.bytes [] piece (Err fault) (reader_state next new)
+    (taken_short start s next (codec_by old) (codec_by now) (codec_by new) (old.bytes ++ piece) [] (now.bytes ++ rest) [] new.bytes [] (Err fault) t began some (step_falls_short s next payload fault step))
 
 -- What a feed of a piece does: a fault was met before, the piece is taken, or a fault is met.
 pub feeds_stays : (s : ReplyState) (packets : Incoming) (piece : List ℕ) (fault : ReplyFault) → s.fault ≡ Some fault → Feeds (reader_state s packets) (reader_state s packets) piece (Err fault)
@@ -206,7 +240,7 @@ same_row (awaiting.Parameters stmt left these) payload x y one two = absurd one
 same_row (awaiting.PreparedColumns stmt params left these) payload x y one two = absurd one
 same_row awaiting.Nothing payload x y one two = absurd one
 
-lends_kept : (start next : ReplyState) (old new : Incoming) (piece rest used : List ℕ) (found : Row) (these : RowsSoFar) → next.awaited ≡ awaiting.Rows these → start.fault ≡ None → next.fault ≡ None → piece ≡ used ++ rest → new.bytes ≡ [] → TakesAll (reader_state start old) ((reader_state start old).bytes ++ used) (reader_state (keeping next found) new) → ReaderGoesOn (reader_state start old) used (reader_state (keeping next found) new) → LendsRow (reader_state start old) piece found (reader_state next new) rest
+lends_kept : (start next : ReplyState) (old new : Incoming) (piece rest used : List ℕ) (found : Row) (these : RowsSoFar) → next.awaited ≡ awaiting.Rows these → start.fault ≡ None → next.fault ≡ None → piece ≡ used ++ rest → (reader_state next new).bytes ≡ [] → TakesAll (reader_state start old) ((reader_state start old).bytes ++ used) (reader_state (keeping next found) new) → ReaderGoesOn (reader_state start old) used (reader_state (keeping next found) new) → LendsRow (reader_state start old) piece found (reader_state next new) rest
 lends_kept start next old new piece rest used found these is began going cut whole takes goes =
     let kept : ReaderState = record (reader_state next new) { standing = GoingOn (record (progressing_of next) { awaited = Rows these.columns (these.rows ++ found ∷ []) }) } in
     let same : reader_state (keeping next found) new ≡ kept =
@@ -223,7 +257,7 @@ lends_kept start next old new piece rest used found these is began going cut who
       whole = whole;
     }
 
-lends_by : (start next : ReplyState) (old new : Incoming) (piece rest used : List ℕ) (payload : Payload) (found : Row) (a : code.Awaited) → next.awaited ≡ a → LendsAwaited a payload found → start.fault ≡ None → next.fault ≡ None → piece ≡ used ++ rest → new.bytes ≡ [] → TakesAll (reader_state start old) ((reader_state start old).bytes ++ used) (reader_state (keeping next found) new) → ReaderGoesOn (reader_state start old) used (reader_state (keeping next found) new) → LendsRow (reader_state start old) piece found (reader_state next new) rest
+lends_by : (start next : ReplyState) (old new : Incoming) (piece rest used : List ℕ) (payload : Payload) (found : Row) (a : code.Awaited) → next.awaited ≡ a → LendsAwaited a payload found → start.fault ≡ None → next.fault ≡ None → piece ≡ used ++ rest → (reader_state next new).bytes ≡ [] → TakesAll (reader_state start old) ((reader_state start old).bytes ++ used) (reader_state (keeping next found) new) → ReaderGoesOn (reader_state start old) used (reader_state (keeping next found) new) → LendsRow (reader_state start old) piece found (reader_state next new) rest
 lends_by start next old new piece rest used payload found (awaiting.Rows these) is lends began going cut whole takes goes = lends_kept start next old new piece rest used found these is began going cut whole takes goes
 lends_by start next old new piece rest used payload found awaiting.First is lends began going cut whole takes goes = absurd lends
 lends_by start next old new piece rest used payload found (awaiting.Columns left these) is lends began going cut whole takes goes = absurd lends
