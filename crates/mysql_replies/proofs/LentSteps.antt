@@ -3,7 +3,8 @@ use Rattle.std.proofs.Common.{◌≡◌, ℕ, ◌+◌, ◌^◌, ◌<◌, ◌≤�
 use Rattle.std.specs.Prelude.{if◌then◌else◌, ◌==◌, OnOk, IfErr}
 use Rattle.std.proofs.lemmas.List.{append-nil}
 use Rattle.mysql_columns.specs.Columns.{ColumnDefinition}
-use Rattle.mysql_lent_rows.specs.LentRows.{row_of, with_none_left}
+use Rattle.mysql_lent_rows.specs.LentRows.{lent_view, row_of, with_none_left}
+use Rattle.mysql_lent_rows.specs.declared.row.LentRow.{LentRow}
 use Rattle.mysql_lent_rows.specs.declared.errors.RowError.{RowError}
 use Rattle.mysql_lent_rows.specs.declared.errors.RowError.TheVariants.{BytesLeft}
 use Rattle.mysql_lent_rows.specs.declared.format.RowFormat.{RowFormat}
@@ -27,11 +28,11 @@ use Rattle.mysql_replies.specs.declared.lending.Place.{Place}
 use Rattle.mysql_replies.specs.declared.state.ReplyState.{ReplyState}
 use Rattle.mysql_replies.specs.Grammar.{Payload, has_report_form, is_binary, row, whole_or_fault}
 use Rattle.mysql_replies.specs.Holding.{ReaderState, ReaderGoesOn, StandsShort, TakesAll}
-use Rattle.mysql_replies.specs.Lending.{LendsRow}
+use Rattle.mysql_replies.specs.Lending.{LendsNext, LendsRow, rows_listed}
 use Rattle.mysql_replies.specs.LentSteps.{HasRead, LendStep, Lends, LendsAwaited, LendsBehind, LendsOne, format_of, keeping, or_bad_row, passed_as, payload_at, with_row}
 use Rattle.mysql_replies.specs.OpenRows.{RowsSoFar}
 use Rattle.mysql_replies.specs.Reply.{GoingOn, Rows, rest_of}
-use Rattle.mysql_replies.specs.Standings.{FramingLaws, IsPaused, IsShortOf, NumberedStateGoesOn, OnMemory, StateGoesOn, UnlessMemory, faulted, progressing_of, reader_state, reader_state_of}
+use Rattle.mysql_replies.specs.Standings.{FramingLaws, IsPaused, IsShortOf, NumberedStateGoesOn, OnMemory, StateGoesOn, UnlessMemory, faulted, progressing_of, reader_state, reader_state_of, standing_of}
 use Rattle.mysql_replies.specs.Steps.{IsAwaiting, IsStep, Leads, Moves, reads_as_row}
 use Rattle.mysql_replies.specs.Taking.{Feeds}
 use Rattle.mysql_replies.specs.Views.{Refuses, awaited_view, outcome_views}
@@ -272,3 +273,16 @@ lends_row start next old new piece rest place found behind lends began going =
     lends_by start next old new piece rest behind.used (payload_at place new) found next.awaited refl lends began going behind.cut behind.whole
     (subst (λ k. TakesAll (reader_state start old) ((reader_state start old).bytes ++ behind.used) (reader_state (keeping next k) new)) is behind.takes)
     (subst (λ k. ReaderGoesOn (reader_state start old) behind.used (reader_state (keeping next k) new)) is behind.goes_on)
+
+-- What a reader does over a piece: its next row is lent, all of it is read, or a fault is met.
+pub next_lent : (start next : ReplyState) (old new : Incoming) (piece rest : List ℕ) (place : Place) (found : LentRow) → LendsBehind (reader_state start old) piece place next new rest → LendsAwaited next.awaited (payload_at place new) (lent_view found) → start.fault ≡ None → next.fault ≡ None → rows_listed (standing_of next) ≡ rows_listed (standing_of start) → LendsNext (reader_state start old) piece (Ok (Some found)) (reader_state next new) rest
+next_lent start next old new piece rest place found behind lends began going none = record { advances = lends_row start next old new piece rest place (lent_view found) behind lends began going; keeps_none = none }
+
+pub next_none : (start next : ReplyState) (old new : Incoming) (piece rest : List ℕ) → rest ≡ [] → start.fault ≡ None → next.fault ≡ None → TakesAll (reader_state start old) ((reader_state start old).bytes ++ piece) (reader_state next new) → ReaderGoesOn (reader_state start old) piece (reader_state next new) → rows_listed (standing_of next) ≡ rows_listed (standing_of start) → LendsNext (reader_state start old) piece (Ok None) (reader_state next new) rest
+next_none start next old new piece rest used began going takes goes none = record { advances = (feeds_all start next old new piece began going takes goes, used); keeps_none = none }
+
+pub next_fails : (start next : ReplyState) (old new : Incoming) (piece : List ℕ) (fault : ReplyFault) → start.fault ≡ None → next.fault ≡ Some fault → UnlessMemory {X = Unit {0}} (Err fault) (ReaderGoesOn (reader_state start old) piece (reader_state next new)) → OnMemory {X = Unit {0}} (Err fault) (StandsShort (reader_state start old) ((reader_state start old).bytes ++ piece) (reader_state next new)) → rows_listed (standing_of next) ≡ rows_listed (standing_of start) → LendsNext (reader_state start old) piece (Err fault) (reader_state next new) piece
+next_fails start next old new piece fault began wrong goes short none = record { advances = (feeds_fails start next old new piece fault began wrong goes short, refl); keeps_none = none }
+
+pub next_stays : (s : ReplyState) (packets : Incoming) (piece : List ℕ) (fault : ReplyFault) → s.fault ≡ Some fault → LendsNext (reader_state s packets) piece (Err fault) (reader_state s packets) piece
+next_stays s packets piece fault wrong = record { advances = (feeds_stays s packets piece fault wrong, refl); keeps_none = refl }
