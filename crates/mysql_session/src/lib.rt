@@ -13,6 +13,9 @@ pub use mysql_convert::{
     FromValue, FromValueError, Intermediate, IntoParams, ParseIr, ToValue, ToValueError,
     from_value, from_value_opt,
 };
+pub use mysql_lent_rows::{
+    FromValueRef, LentRow, RowError, RowFormat, RowLender, StoredRows, ValueRef,
+};
 pub use mysql_packets;
 pub use mysql_packets::{
     Column, LocalInfilePacket, OkPacket, ProgressReport, ServerError, SqlState, StmtPacket,

@@ -20,6 +20,8 @@ mod kept;
 #[cfg(test)]
 mod large;
 #[cfg(test)]
+mod lent;
+#[cfg(test)]
 mod many;
 #[cfg(test)]
 mod memory;
