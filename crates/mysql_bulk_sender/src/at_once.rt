@@ -1,7 +1,7 @@
 //! Parameter sets as one bulk request, whose rows are written while they are looked at. Sets that need more requests, and sets that
 //! are refused, are left to the general way.
 
-ghost use Rattle.std.specs.Prelude.{◌≡◌, ◌+◌, ◌*◌, ◌<◌, ◌≤◌, ◌++◌, IfErr, IfOk, IfSome, None, OnErr, OnOk, [], drop, false, length, replicate, take, true};
+ghost use Rattle.std.specs.Prelude.{◌≡◌, ◌+◌, ◌*◌, ◌<◌, ◌≤◌, ◌++◌, IfErr, IfOk, None, OnErr, OnOk, [], drop, false, length, replicate, take, true};
 ghost use Rattle.std.specs.Prelude.{Ok as Gives};
 ghost use Rattle.std.specs.List.{AllByRecursion};
 ghost use Rattle.mysql_values.specs.AsSql.{FitsFields};
@@ -20,7 +20,7 @@ use mysql_bulk_builder::laws::{one_more_mixes_none, whole_is_tight};
 use mysql_bulk_builder::{no_first_values, place_of_other};
 use mysql_const::MAX_PAYLOAD_LEN;
 use mysql_senders::packet_header;
-use mysql_senders::set_values::{check_values, list_values_for, values_fit};
+use mysql_senders::set_values::{check_values, list_values_for, values_fit, values_in_order};
 use mysql_senders::statement::Statement;
 use mysql_streams::Refusal;
 use mysql_streams::laws::requests_have_their_size;
@@ -112,17 +112,6 @@ fn put_row_looked_up<'a>(
     Ok(true)
 }
 
-/// The values that a set gives the statement, where they stand in its order in a list of the set's own.
-#[inline(always)]
-fn given_list<'a>(statement: &Statement<'_>, params: &'a Params) -> Option<&'a [Value]>
-    ensures { IfSome result (λ list. values_over statement.now.parsed.names params.entry.now ≡ Gives list.now) }
-{
-    match params {
-        Params::Positional(list) if statement.parsed.params().is_empty() => Some(list.as_slice()),
-        _ => None,
-    }
-}
-
 /// Appends the row that a set gives the statement, and says whether nothing speaks against it, and each value is of the kind of its
 /// column's first value in the rows before. The first values are then those with this row.
 #[inline(always)]
@@ -140,7 +129,7 @@ fn put_row_of_set<'a>(
     ensures err { IfErr result (λ refusal. refusal ≡ refusals.Memory) }
     ensures kept { take (length out.old.items) out.new.items ≡ out.old.items }
 {
-    match given_list(statement, params) {
+    match values_in_order(statement, params) {
         Some(list) => {
             let put = put_given_list(list, firsts, out)?;
             Ok(put)
