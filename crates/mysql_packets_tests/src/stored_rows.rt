@@ -65,6 +65,19 @@ fn assert_kept(
     assert.holds(stored.row(payloads.len()).is_none());
 }
 
+/// Asserts that going over the rows gives each of them, in order.
+fn assert_in_order(assert: &impl Assert, stored: &StoredRows) {
+    let mut count: usize = 0;
+    for found in stored.iter() {
+        match stored.row(count) {
+            Some(wanted) => assert_same_cells(assert, found, wanted),
+            None => assert.holds(false),
+        }
+        count = count.wrapping_add(1);
+    }
+    assert_equal(assert, count, stored.len());
+}
+
 /// Asserts it of rows that are kept, let go of, and kept again.
 fn assert_stored(
     assert: &impl Assert,
@@ -79,8 +92,10 @@ fn assert_stored(
     assert_kept(assert, &mut lender, &stored, &[]);
     keep_all(assert, &mut lender, &mut stored, payloads);
     assert_kept(assert, &mut lender, &stored, payloads);
+    assert_in_order(assert, &stored);
     stored.clear();
     assert_kept(assert, &mut lender, &stored, &[]);
+    assert_in_order(assert, &stored);
     keep_all(assert, &mut lender, &mut stored, payloads);
     assert_kept(assert, &mut lender, &stored, payloads);
     Ok(())
