@@ -141,11 +141,26 @@ fn rows_without_cells(rt: HostRuntime) {
     once_more(&assert, first, second);
 }
 
+/// What keeps rows under the columns that a lent row shares; none where there is no row.
+fn under_its_columns(
+    alloc: Global,
+    lender: &mut RowLender,
+    payload: &[u8],
+) -> Result<Option<StoredRows>, AllocError> {
+    match lender.row(payload) {
+        Ok(row) => Ok(Some(StoredRows::new(alloc, row.columns()?))),
+        Err(_) => Ok(None),
+    }
+}
+
 /// What stands in the columns of these names of each row.
 fn named(assert: &impl Assert, alloc: Global) -> Result<(), AllocError> {
     let columns = columns_of(alloc, &TEXTS)?;
-    let mut lender = RowLender::new(alloc, columns.clone()?, RowFormat::Text)?;
-    let mut stored = StoredRows::new(alloc, columns);
+    let mut lender = RowLender::new(alloc, columns, RowFormat::Text)?;
+    let Some(mut stored) = under_its_columns(alloc, &mut lender, b"\x02hi\x01x\x017")? else {
+        assert.holds(false);
+        return Ok(());
+    };
     keep_all(
         assert,
         &mut lender,
