@@ -1,11 +1,9 @@
 -- A row that was lent where nothing else is listed is as one that was handed out.
 use Rattle.std.proofs.Common.{◌≡◌, ℕ, zero, suc, List, [], ◌∷◌, ◌++◌, None, Ok, refl, ap, sym, subst, arith, ◌∙◌}
-use Rattle.std.proofs.lemmas.List.{append-nil}
 use Rattle.mysql_columns.specs.Columns.{ColumnDefinition}
 use Rattle.mysql_rows.specs.Rows.{Row}
 use Rattle.mysql_wire.specs.Bytes.{AreBytes}
 use Rattle.mysql_replies.specs.Grammar.{Outcome, RowsResult}
-use Rattle.mysql_replies.specs.Holding.{ReaderState}
 use Rattle.mysql_replies.specs.Lending.{LentRowsAreHandedOut}
 use Rattle.mysql_replies.specs.Reply.{Progressing, Standing, GoingOn, Rows}
 use Rattle.mysql_replies.specs.Taking.{Runs, feeds, part_of, results_in, takes_results, without_results}

@@ -7,7 +7,6 @@ use Rattle.mysql_lent_rows.specs.LentRows.{lent_view, row_of, with_none_left}
 use Rattle.mysql_lent_rows.specs.declared.row.LentRow.{LentRow}
 use Rattle.mysql_lent_rows.specs.declared.errors.RowError.{RowError}
 use Rattle.mysql_lent_rows.specs.declared.errors.RowError.TheVariants.{BytesLeft}
-use Rattle.mysql_lent_rows.specs.declared.format.RowFormat.{RowFormat}
 use Rattle.mysql_lent_rows.specs.declared.lender.RowLender.{RowLender}
 use Rattle.mysql_rows.specs.Rows.{Row, as_row, binary_resultset_row_at, text_row_at}
 use Rattle.mysql_wire.specs.Wire.{Reading}

@@ -1,13 +1,12 @@
 -- A payload that is no row lists none.
 use Rattle.std.proofs.Common.{◌≡◌, ℕ, zero, suc, List, [], ◌∷◌, ◌++◌, Bool, true, false, Option, Some, None, Result, Ok, Err, refl, ap, sym, subst, ◌∙◌}
-use Rattle.std.specs.Prelude.{if◌then◌else◌, not, ◌||◌, ◌&&◌, nat_lt, length, map}
+use Rattle.std.specs.Prelude.{if◌then◌else◌, not, ◌||◌, ◌&&◌, nat_lt, length}
 use Rattle.std.specs.List.{flat_map}
 use Rattle.std.proofs.lemmas.Bool.{true≢false}
 use Rattle.std.proofs.lemmas.Grind.{flat_map-append}
 use Rattle.std.proofs.lemmas.List.{append-nil}
 use Rattle.mysql_columns.specs.Columns.{ColumnDefinition}
 use Rattle.mysql_packets.specs.Packets.{PrepareOk, ServerError, error_at}
-use Rattle.mysql_packets.specs.Views.{progress_report_view}
 use Rattle.mysql_ok_packets.specs.OkPackets.{OkPacket}
 use Rattle.mysql_rows.specs.Rows.{Row}
 use Rattle.mysql_wire.specs.Stream as stream
@@ -16,11 +15,11 @@ use Rattle.mysql_replies.specs.declared.context.Context.{Context}
 use Rattle.mysql_replies.specs.declared.fault.ReplyFault.{ReplyFault}
 use Rattle.mysql_replies.specs.declared.fault.ReplyFault.TheVariants as faults
 use Rattle.mysql_replies.specs.declared.state.ReplyState.{ReplyState}
-use Rattle.mysql_replies.specs.Grammar.{Payload, Outcome, RowsResult, Part, Stands, Begun, Unexpected, ◌>>=◌, Stretch, Line, RowLine, TerminatorLine, ErrorLine, Opening, OkOpening, ErrorOpening, FileOpening, CountOpening, StatementOpening, Ending, Results, last, more, begun, unexpected, PreparedResult, begins_with, terminator_limit, has_report_form, is_report, map_ok, or_fault, terminator, row, unless_report, as_part, next_payload, column, eof, columns, columns_end, column_group, line, after_rows, rows, result_set, prepared, prepared_columns, opening, after_opening, one_result, deprecate_eof}
+use Rattle.mysql_replies.specs.Grammar.{Payload, Outcome, Part, Stands, Begun, Unexpected, ◌>>=◌, Stretch, Line, RowLine, TerminatorLine, ErrorLine, Opening, OkOpening, ErrorOpening, FileOpening, CountOpening, StatementOpening, Ending, Results, last, more, begun, unexpected, PreparedResult, begins_with, terminator_limit, has_report_form, is_report, map_ok, or_fault, terminator, row, unless_report, as_part, next_payload, column, eof, columns, columns_end, column_group, line, after_rows, rows, result_set, prepared, prepared_columns, opening, after_opening, one_result, deprecate_eof}
 use Rattle.mysql_replies.specs.Lending.{rows_in, rows_listed}
 use Rattle.mysql_replies.specs.LentSteps.{IsNoRow}
 use Rattle.mysql_replies.specs.OpenRows.{RowsSoFar}
-use Rattle.mysql_replies.specs.Reply.{Answer, Awaited, First, Columns, Rows, Parameters, PreparedColumns, Nothing, rest_of, Progressing, Standing, GoingOn, Answered, PayloadsDecide, Continues, end_of, FaultAt}
+use Rattle.mysql_replies.specs.Reply.{Answer, Awaited, First, Columns, Rows, Parameters, PreparedColumns, Nothing, rest_of, Progressing, PayloadsDecide, Continues, end_of}
 use Rattle.mysql_replies.specs.Standings.{progressing_of, faulted, faulted_at, standing_of, IsShortOf, OnMemory, StateGoesOn, UnlessMemory}
 use Rattle.mysql_replies.specs.Steps.{IsGroupSettled, IsSettled, listed_of, reads_as_row}
 use Rattle.mysql_replies.specs.Taking.{rows_awaited}

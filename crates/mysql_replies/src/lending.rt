@@ -42,8 +42,8 @@ fn take_to_row<'p>(
     ensures keeps_none { rows_listed (standing_of state.new) ≡ rows_listed (standing_of state.old) }
     ensures lends { IfOk result (λ found. MatchOption found
         ((rest.new.now ≡ [])
-            × TakesAll (reader_state state.old packets.old) ((reader_state state.old packets.old).bytes ++ rest.old.now) (reader_state state.new packets.new)
-            × ReaderGoesOn (reader_state state.old packets.old) rest.old.now (reader_state state.new packets.new))
+        × TakesAll (reader_state state.old packets.old) ((reader_state state.old packets.old).bytes ++ rest.old.now) (reader_state state.new packets.new)
+        × ReaderGoesOn (reader_state state.old packets.old) rest.old.now (reader_state state.new packets.new))
         (λ place. LendsBehind (reader_state state.old packets.old) rest.old.now place state.new packets.new rest.new.now)) }
     ensures uses { IfOk result (λ found. MatchOption found (rest.new.now ≡ []) (λ _. length rest.new.now < length rest.old.now)) }
     ensures goes_on { IfErr result (λ fault. UnlessMemory {X = Unit {0}} (Err fault) (ReaderGoesOn (reader_state state.old packets.old) rest.old.now (reader_state state.new packets.new))) }
@@ -94,8 +94,8 @@ impl ReaderParts {
         ensures keeps_none { rows_listed (standing_of self.new.state) ≡ rows_listed (standing_of self.old.state) }
         ensures lends { IfOk result (λ found. MatchOption found
             ((rest.new.now ≡ [])
-                × TakesAll (reader_state self.old.state self.old.packets) ((reader_state self.old.state self.old.packets).bytes ++ rest.old.now) (reader_state self.new.state self.new.packets)
-                × ReaderGoesOn (reader_state self.old.state self.old.packets) rest.old.now (reader_state self.new.state self.new.packets))
+            × TakesAll (reader_state self.old.state self.old.packets) ((reader_state self.old.state self.old.packets).bytes ++ rest.old.now) (reader_state self.new.state self.new.packets)
+            × ReaderGoesOn (reader_state self.old.state self.old.packets) rest.old.now (reader_state self.new.state self.new.packets))
             (λ place. LendsBehind (reader_state self.old.state self.old.packets) rest.old.now place self.new.state self.new.packets rest.new.now)) }
         ensures uses { IfOk result (λ found. MatchOption found (rest.new.now ≡ []) (λ _. length rest.new.now < length rest.old.now)) }
         ensures goes_on { IfErr result (λ fault. UnlessMemory {X = Unit {0}} (Err fault) (ReaderGoesOn (reader_state self.old.state self.old.packets) rest.old.now (reader_state self.new.state self.new.packets))) }

@@ -1,4 +1,4 @@
-use Rattle.std.proofs.Common.{◌≡◌, Ok, Err, Some, None, refl, subst}
+use Rattle.std.proofs.Common.{Ok, Err, Some, None, refl, subst}
 use Rattle.mysql_replies.specs.Lending.{LendsNext}
 use Rattle.mysql_replies.specs.Standings.{reader_state}
 use Rattle.mysql_replies.proofs.LentSteps.{next_fails, next_lent, next_none, next_stays}

@@ -1,6 +1,5 @@
 use Rattle.std.proofs.Common.{◌≡◌, None, sym, subst}
-use Rattle.std.specs.Prelude.{Result, OnOk, IfErr, ◌+◌, Some}
-use Rattle.mysql_replies.specs.declared.fault.ReplyFault.{ReplyFault}
+use Rattle.std.specs.Prelude.{OnOk, IfErr, ◌+◌, Some}
 use Rattle.mysql_replies.specs.LentSteps.{LendStep}
 use Rattle.mysql_replies.proofs.LentSteps.{passed_step, passed_ok, passed_fault}
 use Rattle.mysql_replies.proofs.NoRows.{passed_rows}
