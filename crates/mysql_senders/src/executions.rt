@@ -1,6 +1,6 @@
 //! Parameter sets as executions of a prepared statement.
 
-ghost use Rattle.std.specs.Prelude.{◌≡◌, ◌+◌, ◌-◌, ◌^◌, ◌++◌, ◌∷◌, ◌<◌, ◌≤◌, ℕ, [], IfErr, IfOk, IfSome, None, Ok, OnErr, OnOk, OnSome, Some, false, is_none, length, map, nat_lt, take};
+ghost use Rattle.std.specs.Prelude.{◌≡◌, ◌+◌, ◌-◌, ◌^◌, ◌++◌, ◌∷◌, ◌<◌, ◌≤◌, ℕ, [], IfErr, IfOk, IfSome, List, None, Ok, OnErr, OnOk, OnSome, Some, false, is_none, length, map, nat_lt, take};
 ghost use Rattle.byteorder.specs.Endian.{little_bytes};
 ghost use Rattle.mysql_stmt.specs.Executions.{execute_command};
 ghost use Rattle.mysql_cells.specs.Values.{first_float};
@@ -14,10 +14,10 @@ ghost use Rattle.mysql_streams.specs.Sending.{RefusesGiven};
 ghost use Rattle.mysql_streams.specs.Sets.{all_given, all_given_in_places, given_by};
 ghost use Rattle.mysql_streams.specs.declared.refusal.Refusal.TheVariants as refusals;
 ghost use Rattle.mysql_streams.specs.declared.road.Road.TheVariants as roads;
-ghost use Rattle.mysql_senders.specs.OneSet.{AppendsExecution, AppendsExecutions, AppendsMore, RefusesMore, RefusesSet, RefusesSets, execution_payloads, whole_execution};
+ghost use Rattle.mysql_senders.specs.OneSet.{AppendsExecution, AppendsExecutions, AppendsMore, IsStatement, RefusesMore, RefusesSet, RefusesSets, execution_payloads, whole_execution};
 
 use crate::set_values::{check_values, list_values_for, values_fit};
-use crate::statement::{Statement, put_prepare, statement_of};
+use crate::statement::{Statement, check_count, found_statement, put_prepare, statement_of};
 use mysql_const::MAX_PAYLOAD_LEN;
 use mysql_raw::MySerialize;
 use mysql_stmt::laws::executions_have_sizes;
@@ -375,6 +375,31 @@ fn put_value_sets(
     Ok(())
 }
 
+/// The same as [`put_executions`] over the statement of the query, as
+/// [`statement_over`](crate::statement::statement_over) finds it.
+///
+/// # Errors
+/// Those of [`put_executions`] but for `Mixed`, in its order.
+///
+/// MySQL: Client/Server Protocol, "COM_STMT_PREPARE", "COM_STMT_SEND_LONG_DATA", "COM_STMT_EXECUTE".
+pub fn put_executions_over(
+    alloc: Global,
+    statement: &Statement<'_>,
+    sets: &[Params],
+    limit: usize,
+    out: &mut Vec<u8>,
+) -> Result<(), Refusal>
+    requires { 4 ≤ limit }
+    // This holds of each query whose statement it is.
+    ensures ok { OnOk result ((query : List ℕ) → IsStatement query statement.now.parsed statement.now.places → SentReadable roads.Execute query (all_given sets.now) statement.now.id limit out.old.items out.new.items) }
+    ensures err { IfErr result (λ refusal. (query : List ℕ) → IsStatement query statement.now.parsed statement.now.places → RefusesGiven roads.Execute query (all_given sets.now) statement.now.id limit refusal) }
+    ensures kept { take (length out.old.items) out.new.items ≡ out.old.items }
+{
+    check_count(statement.places)?;
+    put_prepare(alloc, statement, limit - 4, out)?;
+    put_sets(alloc, statement, sets, limit - 4, out)
+}
+
 /// Appends the commands that carry parameter sets of a query to a server as executions of a prepared statement, each framed as
 /// packets that are numbered from 0: one prepare, also where there are no sets, and an execution of the statement `stmt_id` for
 /// each set. An execution of more than 16777215 bytes is sent without its byte strings, each of which goes before it as long data
@@ -400,9 +425,8 @@ pub fn put_executions(
     ensures err { IfErr result (RefusesGiven roads.Execute query.now (all_given sets.now) stmt_id limit) }
     ensures kept { take (length out.old.items) out.new.items ≡ out.old.items }
 {
-    let statement = statement_of(alloc, query, stmt_id)?;
-    put_prepare(alloc, &statement, limit - 4, out)?;
-    put_sets(alloc, &statement, sets, limit - 4, out)
+    let statement = found_statement(alloc, query, stmt_id)?;
+    put_executions_over(alloc, &statement, sets, limit, out)
 }
 
 /// The same as [`put_executions`] over sets of values that stand in the order of the query's placeholders.
