@@ -6,4 +6,4 @@ mod command;
 mod requests;
 mod rows;
 
-pub use requests::put_requests;
+pub use requests::{put_requests, put_requests_over};
