@@ -3,6 +3,7 @@
 
 pub mod laws;
 mod objects;
+mod query;
 mod sender;
 
 pub use bitflags::Flags;
@@ -24,9 +25,10 @@ pub use mysql_reply_writer::{ReplyRefusal, ReplyWriter, write_reply};
 pub use mysql_rows::{ColumnIndex, Row};
 pub use mysql_streams::{Refusal, Road};
 pub use mysql_values::{
-    ByteString, Content, MissingNamedParameterError, Params, ParamsConfusionError, ParamsError,
-    SetError, Value,
+    BindError, ByteString, Content, MissingNamedParameterError, Params, ParamsConfusionError,
+    ParamsError, SetError, Value,
 };
 pub use mysql_wire::{PacketCodecError, PacketReader, packet_to_chunks};
 pub use objects::send_values;
+pub use query::Query;
 pub use sender::send;

@@ -3,8 +3,8 @@
 
 // Sessions.
 use mysql_session::{
-    Audit, CapabilityFlags, End, Flags, Intermediate, PacketReader, ParseIr, Receiver,
-    ReceiverError, RecodeError, Recoder, Refusal, Reply, ReplyEnd, ReplyFault, ReplyKind,
+    Audit, BindError, CapabilityFlags, End, Flags, Intermediate, PacketReader, ParseIr, Query,
+    Receiver, ReceiverError, RecodeError, Recoder, Refusal, Reply, ReplyEnd, ReplyFault, ReplyKind,
     ReplyReader, ReplyRefusal, ReplyResult, ReplyWriter, Road, StatusFlags, StreamFault,
     packet_to_chunks, read_reply, receive, recode, send, send_values, write_reply,
 };
