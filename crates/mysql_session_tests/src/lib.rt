@@ -30,6 +30,8 @@ mod prefixes;
 #[cfg(test)]
 mod prepared;
 #[cfg(test)]
+mod queries;
+#[cfg(test)]
 mod rebuilt;
 #[cfg(test)]
 mod recoding;
