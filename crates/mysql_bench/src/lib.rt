@@ -7,6 +7,7 @@ mod cells;
 mod commands;
 mod conversions;
 mod frames;
+mod kept;
 mod objects;
 mod queries;
 mod replies;
