@@ -13,6 +13,8 @@ size_t mysql_bench_receive(Pointer, size_t, Pointer, size_t, size_t);
 size_t mysql_bench_receive_taken(Pointer, size_t, Pointer, size_t, Pointer, size_t, size_t, size_t);
 size_t mysql_bench_recode(Pointer, size_t, Pointer, size_t);
 size_t mysql_bench_read_reply(Pointer, size_t, size_t, _Bool);
+size_t mysql_bench_lend_rows(Pointer, size_t, size_t, _Bool);
+size_t mysql_bench_store_rows(Pointer, size_t, size_t, _Bool);
 size_t mysql_bench_write_reply(Pointer, size_t, _Bool, size_t);
 size_t mysql_bench_read_reply_taken(Pointer, size_t, Pointer, size_t, size_t, size_t, _Bool);
 size_t mysql_bench_cells(Pointer, size_t, _Bool, _Bool, size_t);
@@ -57,6 +59,12 @@ static void run(const char *what, int rounds) {
     } else if (BEGINS("recode")) {
         Bytes query = load("query"), stream = commands(what, copies);
         MEASURE("library", 1e4 * copies, mysql_bench_recode(query.at, query.len, stream.at, stream.len))
+    } else if (BEGINS("reply") && ENDS("-lent")) {
+        Bytes stream = load(binary ? "reply-binary" : "reply-text");
+        MEASURE("library", (double)ROWS, mysql_bench_lend_rows(stream.at, stream.len, piece, binary))
+    } else if (BEGINS("reply") && ENDS("-stored")) {
+        Bytes stream = load(binary ? "reply-binary" : "reply-text");
+        MEASURE("library", (double)ROWS, mysql_bench_store_rows(stream.at, stream.len, piece, binary))
     } else if (BEGINS("reply")) {
         Bytes stream = load(binary ? "reply-binary" : "reply-text");
         if (taken) MEASURE("library", (double)ROWS, mysql_bench_read_reply_taken(stream.at, 0, stream.at, stream.len, 1, piece, binary))
