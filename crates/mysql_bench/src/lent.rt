@@ -7,6 +7,7 @@ use mysql_session::{LentRow, ReplyEnd, ReplyFault, ReplyReader, ValueRef};
 use std::alloc::Global;
 
 /// What a cell comes to: of bytes how many, else the number itself.
+#[inline(always)]
 fn amount_of(cell: Option<ValueRef<'_>>) -> usize {
     match cell {
         Some(ValueRef::Bytes(bytes)) => bytes.len(),
@@ -16,6 +17,7 @@ fn amount_of(cell: Option<ValueRef<'_>>) -> usize {
 }
 
 /// What the cells of a row come to, and 1 for the row.
+#[inline(always)]
 pub fn sum_of(row: &LentRow<'_, '_>) -> usize {
     let mut sum: usize = 1;
     for index in 0..row.len() {

@@ -28,7 +28,7 @@ fn keep(
         *stored = Some(none_under(alloc, row.columns_ref())?);
     }
     match stored {
-        Some(rows) if rows.columns_ref().len() == row.columns_ref().len() => rows.push(row),
+        Some(rows) if rows.columns_ref().len() == row.len() => rows.push(row),
         _ => Ok(()),
     }
 }
