@@ -1,11 +1,14 @@
 //! Short programs over the public calls, one in each file: they audit a captured stream, send a query, load rows in bulk, read a
-//! reply, log in, sort what a client sends, look on at what passes between a client and a server, and answer in a server's place.
+//! reply, log in, sort what a client sends, look on at what passes between a client and a server, answer in a server's place, let
+//! rows go that were looked at, and keep a query.
 #![tactic(auto)]
 
 mod answering;
 mod auditing;
 mod cents;
+mod keeping;
 mod loading;
+mod looking;
 mod proxying;
 mod reading;
 mod sending;
@@ -29,5 +32,8 @@ fn main(rt: HostRuntime) -> anyhow::Result<()> {
     let (mut client, mut server) = (proxying::CLIENT, proxying::SERVER);
     proxying::proxy(alloc, &mut client, &mut server, &mut out)?;
     serving::serve(alloc, &mut out)?;
+    let mut reply = File::open(&rt, "reply.bin")?;
+    looking::look(alloc, &mut reply, &mut out)?;
+    keeping::send_each(alloc, &mut out)?;
     Ok(())
 }

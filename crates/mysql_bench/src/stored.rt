@@ -4,28 +4,17 @@ ghost use Rattle.std.specs.Prelude.{◌<◌};
 
 use crate::lent::sum_of;
 use crate::replies::reader_of;
-use mysql_lent_rows::StoredRows;
-use mysql_session::{Column, LentRow, ReplyEnd, ReplyFault, ReplyReader};
+use mysql_session::{LentRow, ReplyEnd, ReplyFault, ReplyReader, StoredRows};
 use std::alloc::{AllocError, Global};
-use std::rc::RcSlice;
 
-/// No rows under a copy of these columns.
-fn none_under(alloc: Global, columns: &[Column]) -> Result<StoredRows, AllocError> {
-    let mut copies = Vec::new(alloc);
-    for column in columns {
-        copies.push(column.clone(alloc)?)?;
-    }
-    Ok(StoredRows::new(alloc, RcSlice::from_vec(copies)?))
-}
-
-/// Keeps a row behind the others, the first one under a copy of its columns.
+/// Keeps a row behind the others, under the columns of the first one.
 fn keep(
     alloc: Global,
     row: &LentRow<'_, '_>,
     stored: &mut Option<StoredRows>,
 ) -> Result<(), AllocError> {
     if stored.is_none() {
-        *stored = Some(none_under(alloc, row.columns_ref())?);
+        *stored = Some(StoredRows::new(alloc, row.columns()?));
     }
     match stored {
         Some(rows) if rows.columns_ref().len() == row.len() => rows.push(row),

@@ -1,29 +1,33 @@
 -- Sets whose rows one bulk request holds.
-use Rattle.std.proofs.Common.{◌≡◌, ℕ, ◌+◌, ◌*◌, ◌<◌, ◌≤◌, ◌==◌, Bool, true, false, List, [], ◌∷◌, ◌++◌, length, map, take, drop, Option, Some, None, Result, Ok, Err, refl, sym, ◌∙◌, ap, arith, append_assoc, Bor, length-append}
-use Rattle.std.specs.Prelude.{IfOk, OnOk, is_some}
+use Rattle.std.proofs.Common.{◌≡◌, ℕ, ◌+◌, ◌-◌, ◌*◌, ◌<◌, ◌≤◌, ◌==◌, Bool, true, false, List, [], ◌∷◌, ◌++◌, length, map, take, drop, Option, Some, None, Result, Ok, Err, refl, sym, ◌∙◌, ap, arith, append_assoc, Bor, length-append}
+use Rattle.std.specs.Prelude.{IfOk, is_some}
 use Rattle.std.specs.List.{flat_map}
 use Rattle.std.specs.Option.{option_map}
 use Rattle.std.proofs.lemmas.Bool.{eqb-false}
 use Rattle.std.proofs.lemmas.Grind.{flat_map-append}
-use Rattle.std.proofs.lemmas.List.{append-nil, take_all}
+use Rattle.std.proofs.lemmas.List.{append-nil, drop_at, length-drop, length-take-le, take-append-le, take-take, take_all, take_at}
 use Rattle.byteorder.specs.Endian.{little_bytes}
+use Rattle.byteorder.specs.Numbers.{length-bytes_low_first}
 use Rattle.mysql_wire.specs.Framing.{framing}
+use Rattle.mysql_wire.specs.Stream.{framings}
+use Rattle.mysql_wire.specs.Stream.Numbering.{EachFromZero}
 use Rattle.mysql_values.specs.declared.params.Params.{Params}
 use Rattle.mysql_values.specs.Value.{Value}
-use Rattle.mysql_bulk.specs.Bulk.{bulk_command}
+use Rattle.mysql_bulk.specs.Bulk.{bulk_command, param_type_bytes}
 use Rattle.mysql_bulk_builder.specs.Causes.{first_some, is_of_other_kind, mixed_kinds, place_where, row_too_large}
 use Rattle.mysql_bulk_builder.specs.Cut.{Row, rows_size}
 use Rattle.mysql_bulk_builder.specs.KindLaws.{OneMoreMixesNone, WholeHasNoneTooLarge}
 use Rattle.mysql_bulk_builder.specs.RowLists.{row_in}
 use Rattle.mysql_bulk_builder.specs.TypedCut.{Part, Typed}
+use Rattle.mysql_bulk_builder.specs.TypedRequests.{typing_of}
 use Rattle.mysql_bulk_builder.specs.TypedCutLaws.{WholeIsTight}
 use Rattle.mysql_bulk_builder.specs.ValueTypes.{first_values}
 use Rattle.mysql_streams.specs.declared.refusal.Refusal.TheVariants as refusals
 use Rattle.mysql_streams.specs.Commands.{bulk_request}
 use Rattle.mysql_streams.specs.Laws.{RequestsHaveTheirSize}
 use Rattle.mysql_streams.specs.Sets.{Given, given_by, given_up_to}
-use Rattle.mysql_bulk_sender.specs.BulkSets.{AppendsAll, AppendsRow, AppendsRows, GivesRow, front_bytes, request_flags, request_types, row_bytes, types_by}
-use Rattle.mysql_bulk_sender.proofs.RequestBytes.{command_is}
+use Rattle.mysql_bulk_sender.specs.BulkSets.{AppendsAll, AppendsRow, AppendsRows, GivesRow, front_bytes, request_flags, request_types, requests_from, row_bytes, types_by}
+use Rattle.mysql_bulk_sender.proofs.RequestBytes.{command_is, stays_before}
 use Rattle.mysql_bulk_sender.proofs.SentRequests.{types_are}
 use Rattle.mysql_bulk_sender.proofs.SetRows.{RowsSoFar, all_rows, no_rows, row_more}
 use Rattle.mysql_senders.proofs.Pieces.{short_framing}
@@ -133,12 +137,11 @@ nothing None there is not_there = refl
 nothing (Some x) there is not_there = absurd cc
 
 -- the request of all sets was appended
-pub all_appended : RequestsHaveTheirSize → WholeIsTight → WholeHasNoneTooLarge → (id : ℕ) (limits : Limits) (names : List (List ℕ)) (sets : List Params) (firsts : Row) (bytes old new : List ℕ) → 0 < length sets →
-    AppendsRows limits (given_up_to sets None names) firsts [] bytes → length (front_bytes id true firsts ++ bytes) ≤ limits.bytes → new ≡ old ++ framing (front_bytes id true firsts ++ bytes) 0 →
+pub all_appended : RequestsHaveTheirSize → WholeIsTight → WholeHasNoneTooLarge → (id : ℕ) (limits : Limits) (names : List (List ℕ)) (sets : List Params) (firsts : Row) (mid out old new : List ℕ) → 0 < length sets →
+    (a : AppendsRows limits (given_up_to sets None names) firsts mid out) → length (front_bytes id true firsts ++ flat_map row_bytes a.rows) ≤ limits.bytes → new ≡ old ++ framing (front_bytes id true firsts ++ flat_map row_bytes a.rows) 0 →
     AppendsAll id limits (given_up_to sets None names) old new
-all_appended sizes tight none_large id limits names sets firsts bytes old new some a short put =
-    let is : front_bytes id true firsts ++ bytes ≡ bulk_request id limits.places a.rows 0 Typed (length a.rows) =
-    ap (λ l. front_bytes id true firsts ++ l) a.appended ∙ whole_request id limits.places a.rows firsts a.firsts_are in
+all_appended sizes tight none_large id limits names sets firsts mid out old new some a short put =
+    let is : front_bytes id true firsts ++ flat_map row_bytes a.rows ≡ bulk_request id limits.places a.rows 0 Typed (length a.rows) = whole_request id limits.places a.rows firsts a.firsts_are in
     let fits : 7 + 2 * limits.places + rows_size a.rows 0 (length a.rows) ≤ limits.bytes = omega (arith, short, ap length is, sizes id limits.places a.rows 0 Typed (length a.rows)) in
     record {
       rows = a.rows;
@@ -151,16 +154,81 @@ all_appended sizes tight none_large id limits names sets firsts bytes old new so
       };
     }
 
--- ---- two pieces
+-- what stood before the request stands in front of it
+pub all_kept : (id : ℕ) (limits : Limits) (given : List Given) (old new : List ℕ) → AppendsAll id limits given old new → take (length old) new ≡ old
+all_kept id limits given old new a = stays_before old (framings (requests_from id limits.places a.rows 0 a.sent.cut) EachFromZero) new a.sent.appended
 
--- a payload in two pieces behind the header of its packet
-pub put_in_pieces : {E : Type 0} (answer : Result (Unit {0}) E) (size : ℕ) (header front rows none first head old new : List ℕ) → header ≡ little_bytes 3 size ++ 0 ∷ [] → size ≡ length front + length rows → size < 16777215 →
-    none ≡ [] → first ≡ none ++ header → head ≡ first ++ front → OnOk answer (new ≡ old ++ (head ++ rows)) → OnOk answer (new ≡ old ++ framing (front ++ rows) 0)
-put_in_pieces (Err e) size header front rows none first head old new is_header is_size short is_none is_first is_head put = tt
-put_in_pieces (Ok done) size header front rows none first head old new is_header is_size short is_none is_first is_head put =
-    let payload : List ℕ = front ++ rows in
-    let long : size ≡ length payload = omega (arith, is_size, length-append front rows) in
-    let made : head ≡ (little_bytes 3 (length payload) ++ 0 ∷ []) ++ front =
-    is_head ∙ ap (λ l. l ++ front) (is_first ∙ ap (λ l. l ++ header) is_none ∙ is_header ∙ ap (λ n. little_bytes 3 n ++ 0 ∷ []) long) in
-    put ∙ ap (λ l. old ++ (l ++ rows)) made
-    ∙ ap (λ l. old ++ l) (append_assoc (little_bytes 3 (length payload) ++ 0 ∷ []) front rows ∙ append_assoc (little_bytes 3 (length payload)) (0 ∷ []) payload ∙ short_framing payload (omega (arith, short, long)))
+-- ---- what is written last
+
+-- two bytes for each type
+types_length : (firsts : Row) → length (flat_map param_type_bytes (types_by true firsts)) ≡ 2 * length firsts
+types_length [] = refl
+types_length (first ∷ firsts) = omega (arith, types_length firsts)
+
+-- the bytes that stand before the rows
+pub front_length : (id : ℕ) (firsts : Row) → length (front_bytes id true firsts) ≡ 7 + 2 * length firsts
+front_length id firsts =
+    let types = flat_map param_type_bytes (types_by true firsts) in
+    omega (arith, length-append (little_bytes 4 id) (little_bytes 2 (request_flags (typing_of true)) ++ types), length-append (little_bytes 2 (request_flags (typing_of true))) types, length-bytes_low_first 0 4 id, length-bytes_low_first 0 2 0x80, types_length firsts)
+
+-- a payload behind the header of its packet, in place of the four bytes before it
+pub header_put : (start size : ℕ) (header out new : List ℕ) → start + 4 ≤ length out → length out < start + 16777219 → size ≡ length out - start - 4 → header ≡ little_bytes 3 size ++ 0 ∷ [] → length header ≡ 4 →
+    new ≡ take start out ++ (header ++ drop (start + length header) out) → new ≡ take start out ++ framing (drop (start + 4) out) 0
+header_put start size header out new inside short is_size is_header four put =
+    let payload : List ℕ = drop (start + 4) out in
+    let long : size ≡ length payload = omega (arith, is_size, length-drop (start + 4) out) in
+    put ∙ ap (λ n. take start out ++ (header ++ drop (start + n) out)) four
+    ∙ ap (λ h. take start out ++ (h ++ payload)) (is_header ∙ ap (λ n. little_bytes 3 n ++ 0 ∷ []) long)
+    ∙ ap (λ l. take start out ++ l) (append_assoc (little_bytes 3 (length payload)) (0 ∷ []) payload ∙ short_framing payload (omega (arith, short, inside, long, is_size)))
+
+-- the front is written over as many bytes
+pub front_written : (start n : ℕ) (bytes front out new : List ℕ) → bytes ≡ front → length front ≡ n → new ≡ take start out ++ (bytes ++ drop (start + length bytes) out) → new ≡ take start out ++ (front ++ drop (start + n) out)
+front_written start n bytes front out new is len put =
+    put ∙ ap (λ l. take start out ++ (l ++ drop (start + length l) out)) is ∙ ap (λ k. take start out ++ (front ++ drop (start + k) out)) len
+
+module _ (start n : ℕ) (front out third : List ℕ) (inside : start + (4 + n) ≤ length out) (third_is : third ≡ take (start + 4) out ++ (front ++ drop (start + 4 + n) out)) where
+  -- what stands before the front
+  head : length (take (start + 4) out) ≡ start + 4
+  head = length-take-le (start + 4) out (omega (arith, inside))
+
+  -- four bytes stand before it
+  pub behind_header : start + 4 ≤ length third
+  behind_header = omega (arith, head, ap length third_is, length-append (take (start + 4) out) (front ++ drop (start + 4 + n) out))
+
+  -- what stands before the request stays
+  pub before_request : take start third ≡ take start out
+  before_request =
+      ap (λ l. take start l) third_is ∙ take-append-le start (take (start + 4) out) (front ++ drop (start + 4 + n) out) (omega (arith, head)) ∙ take-take start (start + 4) out (omega arith)
+
+  -- the payload is framed
+  pub filled_in : (room : ℕ) (new : List ℕ) → room ≡ 4 + n → new ≡ take start third ++ framing (drop (start + 4) third) 0 → new ≡ take start out ++ framing (front ++ drop (start + room) out) 0
+  filled_in room new is new_is =
+      let places : start + 4 + n ≡ start + room = omega (arith, is) in
+      let payload : drop (start + 4) third ≡ front ++ drop (start + room) out =
+      ap (λ l. drop (start + 4) l) third_is ∙ drop_at (take (start + 4) out) (front ++ drop (start + 4 + n) out) (start + 4) head ∙ ap (λ k. front ++ drop k out) places in
+      new_is ∙ ap (λ l. l ++ framing (drop (start + 4) third) 0) before_request ∙ ap (λ l. take start out ++ framing l 0) payload
+
+module _ (start n : ℕ) (old blank rows out : List ℕ) (is_start : start ≡ length old) (room : length blank ≡ n) (are : out ≡ (old ++ blank) ++ rows) where
+  -- the room left is within what was appended
+  pub room_inside : start + n ≤ length out
+  room_inside = omega (arith, is_start, room, ap length are, length-append (old ++ blank) rows, length-append old blank)
+
+  -- how long it is
+  pub length_behind : length out ≡ start + n + length rows
+  length_behind = omega (arith, is_start, room, ap length are, length-append (old ++ blank) rows, length-append old blank)
+
+  -- what stood before it
+  pub before_room : take start out ≡ old
+  before_room = ap (λ l. take start l) (are ∙ append_assoc old blank rows) ∙ take_at old (blank ++ rows) start (sym is_start)
+
+  -- the rows stand behind it
+  pub behind_room : drop (start + n) out ≡ rows
+  behind_room = ap (λ l. drop (start + n) l) are ∙ drop_at (old ++ blank) rows (start + n) (omega (arith, is_start, room, length-append old blank))
+
+  -- the request is finished
+  pub finished : (new front : List ℕ) → new ≡ take start out ++ framing (front ++ drop (start + n) out) 0 → new ≡ old ++ framing (front ++ rows) 0
+  finished new front put = put ∙ ap (λ l. l ++ framing (front ++ drop (start + n) out) 0) before_room ∙ ap (λ l. old ++ framing (front ++ l) 0) behind_room
+
+  -- what stood before stays
+  pub stays : (new : List ℕ) → take start new ≡ take start out → take (length old) new ≡ old
+  stays new kept = ap (λ k. take k new) (sym is_start) ∙ kept ∙ before_room

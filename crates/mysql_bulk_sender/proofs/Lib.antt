@@ -2,3 +2,4 @@ pub mod RequestBytes
 pub mod SetRows
 pub mod SentRequests
 pub mod AtOnce
+pub mod ListRows

@@ -2,7 +2,7 @@
 use Rattle.std.proofs.Common.{◌≡◌, ℕ, ◌≤◌, Bool, true, false, List, [], ◌∷◌, ◌++◌, length, map, take, Result, Ok, Err, refl, sym, ◌∙◌, ap, append_assoc, Bor}
 use Rattle.std.specs.Prelude.{OnOk}
 use Rattle.std.specs.List.{flat_map}
-use Rattle.std.proofs.lemmas.List.{append-nil, map-append, take_all}
+use Rattle.std.proofs.lemmas.List.{append-nil, map-append, take_all, take_at}
 use Rattle.std.proofs.lemmas.List.Folds.{flat_map-map}
 use Rattle.std.proofs.lemmas.Grind.{flat_map-append}
 use Rattle.byteorder.specs.Endian.{little_bytes}
@@ -16,6 +16,10 @@ use Rattle.mysql_bulk_sender.specs.BulkSets.{front_bytes, request_flags, row_byt
 -- all elements are passed
 pub passed : {X : Type 0} (f : X → List ℕ) (xs : List X) (i : ℕ) (old new : List ℕ) → length xs ≤ i → new ≡ old ++ flat_map f (take i xs) → new ≡ old ++ flat_map f xs
 passed f xs i old new le put = put ∙ ap (λ l. old ++ flat_map f l) (take_all i xs le)
+
+-- what stood before what is appended stays
+pub stays_before : (old more new : List ℕ) → new ≡ old ++ more → take (length old) new ≡ old
+stays_before old more new put = ap (λ l. take (length old) l) put ∙ take_at old more (length old) refl
 
 -- bytes of the values behind references
 pub over_refs : (f : Value → List ℕ) (values : List (Bor Value)) (old new : List ℕ) → new ≡ old ++ flat_map (λ value. f value.now) values → new ≡ old ++ flat_map f (row_in values)

@@ -29,10 +29,11 @@ use Rattle.mysql_streams.specs.declared.road.Road.TheVariants.{Bulk}
 use Rattle.mysql_streams.specs.Commands.{bulk_request, prepare_command}
 use Rattle.mysql_streams.specs.Sets.{Given, given_up_to, values_of}
 use Rattle.mysql_streams.specs.Sent.{as_requests, payloads_of, prepare_of}
-use Rattle.mysql_streams.specs.Cause.{bulk_cause, cause_if, first_of_sets, max_places, query_cause, set_cause}
+use Rattle.mysql_streams.specs.Cause.{bulk_cause, cause_if, first_of_sets, max_places, prepare_cause, query_cause, set_cause}
 use Rattle.mysql_streams.specs.Sending.{RefusesGiven}
 use Rattle.mysql_streams.specs.Reading.{SentReadable}
-use Rattle.mysql_senders.specs.OneSet.{IsPreparable, RefusesSets, limits_of}
+use Rattle.mysql_senders.specs.OneSet.{IsStatement, RefusesSets, limits_of}
+use Rattle.mysql_senders.proofs.SentSets.{first_is}
 use Rattle.mysql_bulk_sender.specs.BulkSets.{AppendsRequests, GivesRows, RefusesAll, RefusesRows, no_command, request_flags, request_types, requests_from, types_by}
 
 -- ---- one part
@@ -127,10 +128,40 @@ payloads_are : (id columns : ℕ) (rows : List Row) (parts : List (ℕ × Part))
 payloads_are id columns rows [] = refl
 payloads_are id columns rows (p ∷ parts) = ap (λ l. bulk_request id columns rows p.0 p.1.typing p.1.count ∷ l) (payloads_are id columns rows parts)
 
-module _ (query : List ℕ) (parsed : Parsed) (places : ℕ) (s : IsPreparable query parsed places) (sets : List Params) (stop : Option SetError) (id limit : ℕ) (short : length (prepare_command parsed.query) ≤ limit - 4) (some : places ≢ 0) where
+-- what speaks against the prepare is the first cause
+pub refused_prepare : (query : List ℕ) (parsed : Parsed) (places : ℕ) (s : IsStatement query parsed places) (sets : List (List ℕ) → List Given) (id limit : ℕ) (refusal : Refusal) →
+    prepare_cause (statement_of query s.tokens id).query (limit - 4) ≡ Some refusal → RefusesGiven Bulk query sets id limit refusal
+refused_prepare query parsed places s sets id limit refusal this =
+    inr (record {
+      tokens = s.tokens;
+      has = s.has;
+      first = first_is (query_cause Bulk (statement_of query s.tokens id) (limit - 4)) _ refusal
+          (first_is (prepare_cause (statement_of query s.tokens id).query (limit - 4)) (cause_if (length (places_from query 0 s.tokens) == 0) refusals.NoPlaces) refusal this);
+    })
+
+-- no placeholders are the cause where nothing speaks against the prepare
+no_places_cause : (mixed many long none : Bool) → mixed ≡ false → many ≡ false → long ≡ false → none ≡ true →
+    option_or (option_or (cause_if mixed refusals.Mixed) (option_or (cause_if many refusals.TooManyPlaces) (option_or (cause_if long refusals.PrepareTooLarge) None))) (cause_if none refusals.NoPlaces) ≡ Some refusals.NoPlaces
+no_places_cause mixed many long none one few short empty = rw (one, few, short, empty) refl
+
+-- a query without placeholders is refused
+pub refused_no_places : (query : List ℕ) (parsed : Parsed) (places : ℕ) (s : IsStatement query parsed places) (most : places ≤ max_places) (sets : List (List ℕ) → List Given) (id limit : ℕ) →
+    length (prepare_command parsed.query) ≤ limit - 4 → places ≡ 0 → RefusesGiven Bulk query sets id limit refusals.NoPlaces
+refused_no_places query parsed places s most sets id limit short none =
+    inr (record {
+      tokens = s.tokens;
+      has = s.has;
+      first = first_is (query_cause Bulk (statement_of query s.tokens id) (limit - 4)) _ refusals.NoPlaces
+          (no_places_cause (is_mixed (places_from query 0 s.tokens)) (nat_lt max_places (length (places_from query 0 s.tokens))) (nat_lt (limit - 4) (length (prepare_command (statement_of query s.tokens id).query.parsed))) (length (places_from query 0 s.tokens) == 0)
+          s.one_kind (le-ltb max_places (length (places_from query 0 s.tokens)) (omega (arith, most, s.count)))
+          (subst (λ (l : List ℕ). nat_lt (limit - 4) (length (prepare_command l)) ≡ false) s.query_is (le-ltb (limit - 4) (length (prepare_command parsed.query)) short))
+          (subst (λ (n : ℕ). (n == 0) ≡ true) (sym none ∙ s.count) refl));
+    })
+
+module _ (query : List ℕ) (parsed : Parsed) (places : ℕ) (s : IsStatement query parsed places) (most : places ≤ max_places) (sets : List Params) (stop : Option SetError) (id limit : ℕ) (short : length (prepare_command parsed.query) ≤ limit - 4) (some : places ≢ 0) where
   -- the placeholders are few enough
   few : nat_lt max_places (length (places_from query 0 s.tokens)) ≡ false
-  few = le-ltb max_places (length (places_from query 0 s.tokens)) (omega (arith, s.few, s.count))
+  few = le-ltb max_places (length (places_from query 0 s.tokens)) (omega (arith, most, s.count))
 
   -- nothing speaks against the query
   prepared : query_cause Bulk (statement_of query s.tokens id) (limit - 4) ≡ None

@@ -1,19 +1,21 @@
 -- Sets as rows of bulk requests: what the private steps of sending them promise.
 -- MariaDB: Client/Server Protocol, "COM_STMT_BULK_EXECUTE".
-use Rattle.std.specs.Prelude.{◌≡◌, ◌⊎◌, ℕ, Bool, true, false, List, [], ◌∷◌, ◌++◌, map, Some, None, Ok, length}
+use Rattle.std.specs.Prelude.{◌≡◌, ◌≢◌, ◌⊎◌, ℕ, ◌||◌, Bool, true, false, if◌then◌else◌, is_none, List, [], ◌∷◌, ◌++◌, map, Some, None, Ok, length, slice_index_or}
 use Rattle.std.specs.List.{AllByRecursion, flat_map, range_with_len}
 use Rattle.byteorder.specs.Endian.{little_bytes}
 use Rattle.mysql_wire.specs.Stream.{framings}
 use Rattle.mysql_wire.specs.Stream.Numbering.{EachFromZero}
 use Rattle.mysql_values.specs.AsSql.{FitsFields}
 use Rattle.mysql_values.specs.Value.{Value}
+use Rattle.mysql_cells.specs.declared.value.Value.TheVariants.{NULL}
+use Rattle.mysql_values.specs.Values.{content_of, first_float}
 use Rattle.mysql_bulk.specs.Bulk.{all_values, param_type_bytes, param_value_bytes, param_value_of, type_of_value}
 use Rattle.mysql_bulk.specs.declared.param_type.StmtBulkExecuteParamType.{StmtBulkExecuteParamType}
 use Rattle.mysql_bulk_builder.specs.Causes.{is_of_other_kind, mixed_kinds, place_where}
 use Rattle.mysql_bulk_builder.specs.Cut.{Row}
 use Rattle.mysql_bulk_builder.specs.TypedCut.{IsTightTyped, Part, Typed, Typing, Untyped, placed_from}
 use Rattle.mysql_bulk_builder.specs.TypedRequests.{typing_of}
-use Rattle.mysql_bulk_builder.specs.ValueTypes.{first_in_column, first_values}
+use Rattle.mysql_bulk_builder.specs.ValueTypes.{first_in_column, first_values, is_null, same_kind}
 use Rattle.mysql_streams.specs.declared.refusal.Refusal.{Refusal}
 use Rattle.mysql_streams.specs.declared.refusal.Refusal.TheVariants as refusals
 use Rattle.mysql_streams.specs.Commands.{bulk_request}
@@ -90,6 +92,22 @@ pub record AppendsRow (limits : Limits) (set : ℕ) (given : Given) (firsts new_
   pub gives : GivesRow limits set given row
   pub one_kind : (before : List Row) → firsts ≡ first_values limits.places before → place_where (is_of_other_kind before) row ≡ None
   pub firsts_are : (before : List Row) → firsts ≡ first_values limits.places before → new_firsts ≡ first_values limits.places (before ++ row ∷ [])
+  pub appended : new ≡ old ++ row_bytes row
+
+-- a value joins its column: it is no float, and NULL or of the kind of the column's first value where that isn't NULL; a first value that is NULL gives way to it, and those of other columns stay
+pub record JoinsColumn (firsts new_firsts : Row) (column : ℕ) (value : Value) : Type 0 where
+  pub no_float : is_none (content_of value) ≡ false
+  pub one_kind : (is_null value || is_null (slice_index_or firsts column NULL) || same_kind (slice_index_or firsts column NULL) value) ≡ true
+  pub first : slice_index_or new_firsts column NULL ≡ (if is_null (slice_index_or firsts column NULL) then value else slice_index_or firsts column NULL)
+  pub others : (other : ℕ) → other ≢ column → slice_index_or new_firsts other NULL ≡ slice_index_or firsts other NULL
+
+-- a row is appended: it has a value for each column, none is a float, and each is of the kind of its column's first value in the rows before; the first values are then those with this row
+pub record PutsRow (firsts new_firsts row : Row) (old new : List ℕ) : Type 0 where
+  pub wide : length row ≡ length firsts
+  pub no_float : first_float row ≡ None
+  pub fit : AllByRecursion (λ value. FitsFields value) row
+  pub one_kind : (before : List Row) → firsts ≡ first_values (length firsts) before → place_where (is_of_other_kind before) row ≡ None
+  pub firsts_are : (before : List Row) → firsts ≡ first_values (length firsts) before → new_firsts ≡ first_values (length firsts) (before ++ row ∷ [])
   pub appended : new ≡ old ++ row_bytes row
 
 -- the rows of sets are appended: nothing speaks against any, and no column mixes kinds

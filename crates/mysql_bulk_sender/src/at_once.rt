@@ -1,7 +1,7 @@
 //! Parameter sets as one bulk request, whose rows are written while they are looked at. Sets that need more requests, and sets that
 //! are refused, are left to the general way.
 
-ghost use Rattle.std.specs.Prelude.{◌≡◌, ◌+◌, ◌<◌, ◌≤◌, ◌++◌, ◌∷◌, IfErr, IfOk, List, None, OnErr, OnOk, [], false, length, not, true};
+ghost use Rattle.std.specs.Prelude.{◌≡◌, ◌+◌, ◌*◌, ◌<◌, ◌≤◌, ◌++◌, IfErr, IfOk, IfSome, None, OnErr, OnOk, [], drop, false, length, replicate, take, true};
 ghost use Rattle.std.specs.Prelude.{Ok as Gives};
 ghost use Rattle.std.specs.List.{AllByRecursion};
 ghost use Rattle.mysql_values.specs.AsSql.{FitsFields};
@@ -15,6 +15,7 @@ ghost use Rattle.mysql_streams.specs.declared.refusal.Refusal.TheVariants as ref
 ghost use Rattle.mysql_bulk_sender.specs.BulkSets.{AppendsAll, AppendsRow, AppendsRows, GivesRow, front_bytes};
 
 use crate::command::{put_front, put_row};
+use crate::list_rows::put_given_list;
 use mysql_bulk_builder::laws::{one_more_mixes_none, whole_is_tight};
 use mysql_bulk_builder::{no_first_values, place_of_other};
 use mysql_const::MAX_PAYLOAD_LEN;
@@ -26,6 +27,9 @@ use mysql_streams::laws::requests_have_their_size;
 use mysql_values::{Params, SetError, Value};
 use mysql_wire::packet_to_chunks;
 use std::alloc::{AllocError, Global};
+
+/// What a request has up to its types, with the header of its packet: the header, the command's number, the statement's id, the flags.
+const FRONT_LEN: usize = 4 + 1 + 4 + 2;
 
 /// Lists the values that a set gives the statement, in place of what the list holds, and says whether it gives any.
 fn gives_values<'a>(
@@ -78,20 +82,22 @@ fn gives_row<'a>(
     Ok(good)
 }
 
-/// Appends the row that a set gives the statement, and says whether nothing speaks against it, and each value is of the kind of its
-/// column's first value in the rows before. The first values are then those with this row.
-fn put_row_of_set<'a>(
+/// Appends the row that a set gives the statement whose values are looked up, and says whether nothing speaks against it, and each
+/// value is of the kind of its column's first value in the rows before. The first values are then those with this row.
+#[inline(never)]
+fn put_row_looked_up<'a>(
     statement: &Statement<'_>,
     set: usize,
     params: &'a Params,
     room: usize,
     values: &mut Vec<&'a Value>,
     firsts: &mut [&'a Value],
-    rows: &mut Vec<u8>,
+    out: &mut Vec<u8>,
 ) -> Result<bool, Refusal>
     requires { length firsts.old ≡ statement.now.places }
-    ensures ok { IfOk result (λ put. put ≡ true → AppendsRow (record { places = statement.now.places; bytes = room }) set (given_by statement.now.parsed.names params.entry.now) (row_in firsts.old) (row_in firsts.new) rows.old.items rows.new.items) }
+    ensures ok { IfOk result (λ put. put ≡ true → AppendsRow (record { places = statement.now.places; bytes = room }) set (given_by statement.now.parsed.names params.entry.now) (row_in firsts.old) (row_in firsts.new) out.old.items out.new.items) }
     ensures err { IfErr result (λ refusal. refusal ≡ refusals.Memory) }
+    ensures kept { take (length out.old.items) out.new.items ≡ out.old.items }
 {
     let gives = gives_row(statement, set, params, room, values)?;
     if !gives {
@@ -102,32 +108,71 @@ fn put_row_of_set<'a>(
     if other.is_some() {
         return Ok(false);
     }
-    put_row(row, rows)?;
+    put_row(row, out)?;
     Ok(true)
 }
 
-/// Appends the rows that the sets give the statement, and says whether nothing speaks against any, no column mixes kinds, and they
-/// may have room.
+/// The values that a set gives the statement, where they stand in its order in a list of the set's own.
+#[inline(always)]
+fn given_list<'a>(statement: &Statement<'_>, params: &'a Params) -> Option<&'a [Value]>
+    ensures { IfSome result (λ list. values_over statement.now.parsed.names params.entry.now ≡ Gives list.now) }
+{
+    match params {
+        Params::Positional(list) if statement.parsed.params().is_empty() => Some(list.as_slice()),
+        _ => None,
+    }
+}
+
+/// Appends the row that a set gives the statement, and says whether nothing speaks against it, and each value is of the kind of its
+/// column's first value in the rows before. The first values are then those with this row.
+#[inline(always)]
+fn put_row_of_set<'a>(
+    statement: &Statement<'_>,
+    set: usize,
+    params: &'a Params,
+    room: usize,
+    values: &mut Vec<&'a Value>,
+    firsts: &mut [&'a Value],
+    out: &mut Vec<u8>,
+) -> Result<bool, Refusal>
+    requires { length firsts.old ≡ statement.now.places }
+    ensures ok { IfOk result (λ put. put ≡ true → AppendsRow (record { places = statement.now.places; bytes = room }) set (given_by statement.now.parsed.names params.entry.now) (row_in firsts.old) (row_in firsts.new) out.old.items out.new.items) }
+    ensures err { IfErr result (λ refusal. refusal ≡ refusals.Memory) }
+    ensures kept { take (length out.old.items) out.new.items ≡ out.old.items }
+{
+    match given_list(statement, params) {
+        Some(list) => {
+            let put = put_given_list(list, firsts, out)?;
+            Ok(put)
+        }
+        None => put_row_looked_up(statement, set, params, room, values, firsts, out),
+    }
+}
+
+/// Appends the rows that the sets give the statement, and says whether nothing speaks against any and no column mixes kinds. It is
+/// given up as soon as `out` has more than `most` bytes.
 fn put_rows_of_sets<'a>(
     alloc: Global,
     statement: &Statement<'_>,
     sets: &'a [Params],
     room: usize,
+    most: usize,
     firsts: &mut [&'a Value],
-    rows: &mut Vec<u8>,
+    out: &mut Vec<u8>,
 ) -> Result<bool, Refusal>
     requires { row_in firsts.old ≡ first_values statement.now.places [] }
-    ensures ok { IfOk result (λ put. put ≡ true → AppendsRows (record { places = statement.now.places; bytes = room }) (given_up_to sets.entry.now None statement.now.parsed.names) (row_in firsts.new) rows.old.items rows.new.items) }
+    ensures ok { IfOk result (λ put. put ≡ true → AppendsRows (record { places = statement.now.places; bytes = room }) (given_up_to sets.entry.now None statement.now.parsed.names) (row_in firsts.new) out.old.items out.new.items) }
     ensures err { IfErr result (λ refusal. refusal ≡ refusals.Memory) }
+    ensures kept { take (length out.old.items) out.new.items ≡ out.old.items }
 {
     one_more_mixes_none();
     let mut values = Vec::new(alloc);
     'sets: for (set, params) in sets.iter().enumerate() {
-        let put = put_row_of_set(statement, set, params, room, &mut values, firsts, rows)?;
+        let put = put_row_of_set(statement, set, params, room, &mut values, firsts, out)?;
         if !put {
             return Ok(false);
         }
-        if rows.len() > room {
+        if out.len() > most {
             return Ok(false);
         }
     }
@@ -158,90 +203,129 @@ fn likely_size(sets: &[Params], room: usize) -> usize {
     }
 }
 
-/// An empty list, with room for so many bytes where there is memory.
-fn rows_buffer(alloc: Global, size: usize) -> Vec<u8>
-    ensures { result.items ≡ [] }
+/// Appends zeros for what is written last, so many, and has room behind them for so many bytes more where there is memory.
+fn leave_room(size: usize, behind: usize, out: &mut Vec<u8>) -> Result<(), AllocError>
+    ensures ok { OnOk result (out.new.items ≡ out.old.items ++ replicate size 0) }
+    ensures kept { OnErr result (out.new.items ≡ out.old.items) }
 {
-    match Vec::with_capacity(alloc, size) {
-        Ok(rows) => rows,
-        Err(_) => Vec::new(alloc),
+    if out.reserve(size.saturating_add(behind)).is_err() {
+        out.reserve(size)?;
     }
+    let end = out.len() + size;
+    out.resize(end, 0)
 }
 
-/// Appends two pieces, or nothing.
-fn put_both(front: &[u8], rows: &[u8], out: &mut Vec<u8>) -> Result<(), AllocError>
-    ensures ok { OnOk result (out.new.items ≡ out.old.items ++ (front.now ++ rows.now)) }
-    ensures kept { OnErr result (out.new.items ≡ out.old.items) }
+/// Writes bytes over those from a place on.
+fn write_over(start: usize, bytes: &[u8], out: &mut Vec<u8>)
+    requires { start + length bytes.now ≤ length out.old.items }
+    ensures { out.new.items ≡ take start out.old.items ++ (bytes.now ++ drop (start + length bytes.now) out.old.items) }
 {
-    out.reserve(front.len() + rows.len())?;
-    out.extend_from_slice(front)?;
-    out.extend_from_slice(rows)
+    out[start..start + bytes.len()].copy_from_slice(bytes);
 }
 
-/// Appends a payload in two pieces that one packet holds, framed.
-fn put_short(alloc: Global, front: &[u8], rows: &[u8], out: &mut Vec<u8>) -> Result<(), AllocError>
-    requires { length front.now + length rows.now < 16777215 }
-    ensures ok { OnOk result (out.new.items ≡ out.old.items ++ framing (front.now ++ rows.now) 0) }
+/// Writes what stands before the rows over the bytes from a place on, with the types of the columns' first values.
+fn write_front(
+    alloc: Global,
+    id: u32,
+    firsts: &[&Value],
+    start: usize,
+    out: &mut Vec<u8>,
+) -> Result<(), AllocError>
+    requires { start + (7 + 2 * length firsts.now) ≤ length out.old.items }
+    ensures ok { OnOk result (out.new.items ≡ take start out.old.items ++ (front_bytes id true (row_in firsts.now) ++ drop (start + (7 + 2 * length firsts.now)) out.old.items)) }
     ensures kept { OnErr result (out.new.items ≡ out.old.items) }
 {
-    let size = front.len() + rows.len();
-    let mut head = Vec::new(alloc);
-    head.extend_from_slice(&packet_header(size as u32))?;
-    head.extend_from_slice(front)?;
-    put_both(&head, rows, out)
+    let mut front = Vec::new(alloc);
+    put_front(id, true, firsts, &mut front)?;
+    write_over(start, &front, out);
+    Ok(())
 }
 
-/// Appends a payload in two pieces, framed.
-fn put_long(alloc: Global, front: &[u8], rows: &[u8], out: &mut Vec<u8>) -> Result<(), AllocError>
-    ensures ok { OnOk result (out.new.items ≡ out.old.items ++ framing (front.now ++ rows.now) 0) }
-    ensures kept { OnErr result (out.new.items ≡ out.old.items) }
+/// Frames the payload that stands from a place on behind four bytes, as one packet that holds it.
+fn frame_short(start: usize, out: &mut Vec<u8>)
+    requires { (start + 4 ≤ length out.old.items) × (length out.old.items < start + 16777219) }
+    ensures { out.new.items ≡ take start out.old.items ++ framing (drop (start + 4) out.old.items) 0 }
 {
-    let mut payload = Vec::new(alloc);
-    put_both(front, rows, &mut payload)?;
+    let size = out.len() - start - 4;
+    write_over(start, &packet_header(size as u32), out);
+}
+
+/// Frames the payload that stands from a place on behind four bytes. What stands before stays after a refusal too.
+fn frame_long(alloc: Global, start: usize, out: &mut Vec<u8>) -> Result<(), AllocError>
+    requires { start + 4 ≤ length out.old.items }
+    ensures ok { OnOk result (out.new.items ≡ take start out.old.items ++ framing (drop (start + 4) out.old.items) 0) }
+    ensures kept { take start out.new.items ≡ take start out.old.items }
+{
+    let payload = Vec::from_slice(alloc, &out[start + 4..])?;
+    out.truncate(start);
     packet_to_chunks(0, &payload, out)?;
     Ok(())
 }
 
 /// The same by whether one packet holds it.
-fn put_payload(
-    alloc: Global,
-    front: &[u8],
-    rows: &[u8],
-    out: &mut Vec<u8>,
-) -> Result<(), AllocError>
-    ensures ok { OnOk result (out.new.items ≡ out.old.items ++ framing (front.now ++ rows.now) 0) }
-    ensures kept { OnErr result (out.new.items ≡ out.old.items) }
+fn frame_from(alloc: Global, start: usize, out: &mut Vec<u8>) -> Result<(), AllocError>
+    requires { start + 4 ≤ length out.old.items }
+    ensures ok { OnOk result (out.new.items ≡ take start out.old.items ++ framing (drop (start + 4) out.old.items) 0) }
+    ensures kept { take start out.new.items ≡ take start out.old.items }
 {
-    if front.len() + rows.len() < MAX_PAYLOAD_LEN {
-        put_short(alloc, front, rows, out)
+    if out.len() - start - 4 < MAX_PAYLOAD_LEN {
+        frame_short(start, out);
+        Ok(())
     } else {
-        put_long(alloc, front, rows, out)
+        frame_long(alloc, start, out)
     }
 }
 
-/// Appends the request with these first values and rows, framed, and says whether it has at most so many bytes. Else nothing is
-/// appended.
-fn put_framed(
+/// Finishes a request whose rows stand behind the room left from a place on, framed, and says whether it has at most so many bytes.
+/// What stands before stays in any case.
+fn finish(
     alloc: Global,
     id: u32,
     firsts: &[&Value],
-    rows: &[u8],
+    room: usize,
+    start: usize,
+    out: &mut Vec<u8>,
+) -> Result<bool, Refusal>
+    requires { start + (11 + 2 * length firsts.now) ≤ length out.old.items }
+    ensures fits { IfOk result (λ put. put ≡ true → length out.old.items ≤ start + 4 + room) }
+    ensures ok { IfOk result (λ put. put ≡ true → out.new.items ≡ take start out.old.items ++ framing (front_bytes id true (row_in firsts.now) ++ drop (start + (11 + 2 * length firsts.now)) out.old.items) 0) }
+    ensures err { IfErr result (λ refusal. refusal ≡ refusals.Memory) }
+    ensures kept { take start out.new.items ≡ take start out.old.items }
+{
+    if out.len() - start - 4 > room {
+        return Ok(false);
+    }
+    write_front(alloc, id, firsts, start + 4, out)?;
+    frame_from(alloc, start, out)?;
+    Ok(true)
+}
+
+/// Appends one request that carries all sets, framed, and says whether it is so: whether nothing speaks against any or against all of
+/// them, and the request has at most so many bytes. What stood before stands in front in any case.
+fn put_whole(
+    alloc: Global,
+    statement: &Statement<'_>,
+    sets: &[Params],
     room: usize,
     out: &mut Vec<u8>,
 ) -> Result<bool, Refusal>
-    ensures fits { IfOk result (λ put. put ≡ true → length (front_bytes id true (row_in firsts.now) ++ rows.now) ≤ room) }
-    ensures ok { IfOk result (λ put. put ≡ true → out.new.items ≡ out.old.items ++ framing (front_bytes id true (row_in firsts.now) ++ rows.now) 0) }
-    ensures not { IfOk result (λ put. put ≡ false → out.new.items ≡ out.old.items) }
+    requires { 0 < length sets.now }
+    ensures ok { IfOk result (λ put. put ≡ true → AppendsAll statement.now.id (record { places = statement.now.places; bytes = room }) (given_up_to sets.now None statement.now.parsed.names) out.old.items out.new.items) }
     ensures err { IfErr result (λ refusal. refusal ≡ refusals.Memory) }
-    ensures kept { OnErr result (out.new.items ≡ out.old.items) }
+    ensures kept { take (length out.old.items) out.new.items ≡ out.old.items }
 {
-    let mut front = Vec::new(alloc);
-    put_front(id, true, firsts, &mut front)?;
-    if front.len() + rows.len() > room {
+    requests_have_their_size();
+    whole_is_tight();
+    let null = Value::NULL;
+    let mut firsts = no_first_values(alloc, &null, statement.places)?;
+    let start = out.len();
+    leave_room(FRONT_LEN + 2 * firsts.len(), likely_size(sets, room), out)?;
+    let most = start.saturating_add(4).saturating_add(room);
+    let whole = put_rows_of_sets(alloc, statement, sets, room, most, &mut firsts, out)?;
+    if !whole {
         return Ok(false);
     }
-    put_payload(alloc, &front, rows, out)?;
-    Ok(true)
+    finish(alloc, statement.id, &firsts, room, start, out)
 }
 
 /// Appends one request that carries all sets, framed, and says whether it is so: whether there are sets, nothing speaks against any
@@ -259,20 +343,22 @@ pub(crate) fn put_at_once(
     ensures err { IfErr result (λ refusal. refusal ≡ refusals.Memory) }
     ensures kept { OnErr result (out.new.items ≡ out.old.items) }
 {
-    requests_have_their_size();
-    whole_is_tight();
     if stop.is_some() {
         return Ok(false);
     }
     if sets.is_empty() {
         return Ok(false);
     }
-    let null = Value::NULL;
-    let mut firsts = no_first_values(alloc, &null, statement.places)?;
-    let mut rows = rows_buffer(alloc, likely_size(sets, room));
-    let whole = put_rows_of_sets(alloc, statement, sets, room, &mut firsts, &mut rows)?;
-    if !whole {
-        return Ok(false);
+    let start = out.len();
+    match put_whole(alloc, statement, sets, room, out) {
+        Ok(true) => Ok(true),
+        Ok(false) => {
+            out.truncate(start);
+            Ok(false)
+        }
+        Err(refusal) => {
+            out.truncate(start);
+            Err(refusal)
+        }
     }
-    put_framed(alloc, statement.id, &firsts, &rows, room, out)
 }

@@ -1,6 +1,6 @@
 //! A bulk request of rows whose values lie apart from each other.
 
-ghost use Rattle.std.specs.Prelude.{◌≡◌, ◌<◌, ◌++◌, ◌∷◌, OnOk, length};
+ghost use Rattle.std.specs.Prelude.{◌≡◌, ◌<◌, ◌++◌, ◌∷◌, OnOk, length, take};
 ghost use Rattle.std.specs.Int.{cast_unsigned, w64};
 ghost use Rattle.byteorder.specs.Endian.{little_bytes};
 ghost use Rattle.mysql_buf.specs.Writing.{lenenc_str};
@@ -36,17 +36,21 @@ fn number_bytes(number: i64) -> [u8; 9]
 }
 
 /// Appends a text whose length is one byte, with what stands before it.
+#[inline(always)]
 fn put_short_text(text: &[u8], command: &mut Vec<u8>) -> Result<(), AllocError>
     requires { length text.now < 251 }
-    ensures { OnOk result (command.new.items ≡ command.old.items ++ 0 ∷ lenenc_str text.now) }
+    ensures ok { OnOk result (command.new.items ≡ command.old.items ++ 0 ∷ lenenc_str text.now) }
+    ensures kept { take (length command.old.items) command.new.items ≡ command.old.items }
 {
     command.extend_from_slice(&[0, text.len() as u8])?;
     command.extend_from_slice(text)
 }
 
 /// Appends a value of whichever kind with what stands before it.
+#[inline(never)]
 fn put_any(value: &Value, command: &mut Vec<u8>) -> Result<(), AllocError>
-    ensures { OnOk result (command.new.items ≡ command.old.items ++ param_value_bytes (param_value_of value.now)) }
+    ensures ok { OnOk result (command.new.items ≡ command.old.items ++ param_value_bytes (param_value_of value.now)) }
+    ensures kept { take (length command.old.items) command.new.items ≡ command.old.items }
 {
     command.push(u8::from(indicator_of(value)))?;
     value.serialize(command)
@@ -54,8 +58,9 @@ fn put_any(value: &Value, command: &mut Vec<u8>) -> Result<(), AllocError>
 
 /// Appends a value with what stands before it.
 #[inline(always)]
-fn put_value(value: &Value, command: &mut Vec<u8>) -> Result<(), AllocError>
-    ensures { OnOk result (command.new.items ≡ command.old.items ++ param_value_bytes (param_value_of value.now)) }
+pub(crate) fn put_value(value: &Value, command: &mut Vec<u8>) -> Result<(), AllocError>
+    ensures ok { OnOk result (command.new.items ≡ command.old.items ++ param_value_bytes (param_value_of value.now)) }
+    ensures kept { take (length command.old.items) command.new.items ≡ command.old.items }
 {
     match value {
         // the kinds that most values have
@@ -70,7 +75,8 @@ fn put_value(value: &Value, command: &mut Vec<u8>) -> Result<(), AllocError>
 
 /// Appends the values of a row.
 pub(crate) fn put_row(row: &[&Value], command: &mut Vec<u8>) -> Result<(), AllocError>
-    ensures { OnOk result (command.new.items ≡ command.old.items ++ row_bytes (row_in row.now)) }
+    ensures ok { OnOk result (command.new.items ≡ command.old.items ++ row_bytes (row_in row.now)) }
+    ensures kept { take (length command.old.items) command.new.items ≡ command.old.items }
 {
     for value in row {
         put_value(*value, command)?;

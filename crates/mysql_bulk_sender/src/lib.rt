@@ -3,7 +3,8 @@
 
 mod at_once;
 mod command;
+mod list_rows;
 mod requests;
 mod rows;
 
-pub use requests::put_requests;
+pub use requests::{put_requests, put_requests_over};

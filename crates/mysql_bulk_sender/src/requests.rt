@@ -1,6 +1,6 @@
 //! Parameter sets as bulk requests.
 
-ghost use Rattle.std.specs.Prelude.{◌≡◌, ◌⊎◌, ◌+◌, ◌<◌, ◌≤◌, ◌++◌, ℕ, All, IfErr, IfOk, None, OnErr, OnOk, Some, length, sum_by, take};
+ghost use Rattle.std.specs.Prelude.{◌≡◌, ◌⊎◌, ◌+◌, ◌<◌, ◌≤◌, ◌++◌, ℕ, All, IfErr, IfOk, List, None, OnErr, OnOk, Some, length, sum_by, take};
 ghost use Rattle.mysql_wire.specs.Framing.{framing};
 ghost use Rattle.mysql_wire.specs.Stream.{framings};
 ghost use Rattle.mysql_wire.specs.Stream.Numbering.{EachFromZero};
@@ -15,6 +15,7 @@ ghost use Rattle.mysql_streams.specs.Sending.{RefusesGiven};
 ghost use Rattle.mysql_streams.specs.Sets.{given_up_to};
 ghost use Rattle.mysql_streams.specs.declared.refusal.Refusal.TheVariants as refusals;
 ghost use Rattle.mysql_streams.specs.declared.road.Road.TheVariants as roads;
+ghost use Rattle.mysql_senders.specs.OneSet.{IsStatement};
 ghost use Rattle.mysql_bulk_sender.specs.BulkSets.{AppendsAll, AppendsRequests, RefusesAll, RefusesRows, requests_from};
 
 use crate::at_once::put_at_once;
@@ -23,7 +24,7 @@ use crate::rows::{lent_rows, values_of_sets};
 use mysql_bulk_builder::{
     BulkCutError, BulkPart, bulk_cut, mixed_kinds, no_first_values, put_first_values,
 };
-use mysql_senders::statement::{Statement, put_prepare, statement_of};
+use mysql_senders::statement::{Statement, check_count, found_statement, put_prepare};
 use mysql_streams::Refusal;
 use mysql_values::{Params, SetError, Value};
 use mysql_wire::packet_to_chunks;
@@ -173,6 +174,35 @@ fn put_sets(
     put_checked_sets(alloc, statement, sets, stop, room, out)
 }
 
+/// The same as [`put_requests`] over the statement of the query, as
+/// [`statement_over`](mysql_senders::statement::statement_over) finds it.
+///
+/// # Errors
+/// Those of [`put_requests`] but for `Mixed`, in its order.
+///
+/// MariaDB: Client/Server Protocol, "COM_STMT_BULK_EXECUTE"; MySQL: Client/Server Protocol, "COM_STMT_PREPARE".
+pub fn put_requests_over(
+    alloc: Global,
+    statement: &Statement<'_>,
+    sets: &[Params],
+    stop: Option<SetError>,
+    limit: usize,
+    out: &mut Vec<u8>,
+) -> Result<(), Refusal>
+    requires { 4 ≤ limit }
+    // This holds of each query whose statement it is.
+    ensures ok { OnOk result ((query : List ℕ) → IsStatement query statement.now.parsed statement.now.places → SentReadable roads.Bulk query (given_up_to sets.now stop) statement.now.id limit out.old.items out.new.items) }
+    ensures err { IfErr result (λ refusal. (query : List ℕ) → IsStatement query statement.now.parsed statement.now.places → RefusesGiven roads.Bulk query (given_up_to sets.now stop) statement.now.id limit refusal) }
+    ensures kept { take (length out.old.items) out.new.items ≡ out.old.items }
+{
+    check_count(statement.places)?;
+    put_prepare(alloc, statement, limit - 4, out)?;
+    if statement.places == 0 {
+        return Err(Refusal::NoPlaces);
+    }
+    put_sets(alloc, statement, sets, stop, limit - 4, out)
+}
+
 /// Appends the commands that carry parameter sets of a query to a server as bulk requests, each framed as packets that are
 /// numbered from 0: one prepare, and as few requests as there can be, each of as many sets as it has room for, with types
 /// where it has to bring them. Sets and places count from 0; a payload has at most `limit - 4` bytes, as the limit counts a
@@ -199,10 +229,6 @@ pub fn put_requests(
     ensures err { IfErr result (RefusesGiven roads.Bulk query.now (given_up_to sets.now stop) stmt_id limit) }
     ensures kept { take (length out.old.items) out.new.items ≡ out.old.items }
 {
-    let statement = statement_of(alloc, query, stmt_id)?;
-    put_prepare(alloc, &statement, limit - 4, out)?;
-    if statement.places == 0 {
-        return Err(Refusal::NoPlaces);
-    }
-    put_sets(alloc, &statement, sets, stop, limit - 4, out)
+    let statement = found_statement(alloc, query, stmt_id)?;
+    put_requests_over(alloc, &statement, sets, stop, limit, out)
 }

@@ -95,6 +95,28 @@ fn conversation(alloc: Global, query: &[u8], stmt_id: u32) -> Result<Statement, 
     })
 }
 
+/// The statement of a query with this parsed text and these placeholders, of which it holds copies, with this id.
+fn copied_statement(
+    alloc: Global,
+    query: &[u8],
+    parsed: &[u8],
+    places: &[Place],
+    stmt_id: u32,
+) -> Result<Statement, AllocError>
+    requires parsed { IsParsed query.now parsed.now }
+    requires places { HasPlaces query.now places.now }
+    ensures query { IfOk result (λ c. IsQuery (statement_view c).query) }
+    ensures about { IfOk result (λ c. IsAbout (statement_view c) query.now stmt_id) }
+{
+    tokens_of_a_text();
+    Ok(Statement {
+        query: Vec::from_slice(alloc, query)?,
+        parsed: Vec::from_slice(alloc, parsed)?,
+        places: Vec::from_slice(alloc, places)?,
+        id: stmt_id,
+    })
+}
+
 /// Reads a stream of commands about one query that is handed over in pieces.
 ///
 /// Contracts see what it holds in place of the bytes that it was fed: the payloads read, what is in force behind them, the
@@ -174,6 +196,28 @@ impl Receiver {
         ensures mixed { IfErr result (λ e. (e ≡ receiver_error.Memory) ⊎ ((e ≡ receiver_error.Mixed) × HasMixed query.now true)) }
     {
         let conversation = conversation(alloc, query, stmt_id)?;
+        Ok(Receiver::over(alloc, conversation, limit))
+    }
+
+    /// [`Receiver::new`] over what was found of the query before: its placeholders, as `mysql_values::places` lists them, and its
+    /// text with a question mark for each, as `ParsedNamedParams` makes it. They are copied. Refused for want of memory alone.
+    pub fn of_places(
+        alloc: Global,
+        query: &[u8],
+        parsed: &[u8],
+        places: &[Place],
+        stmt_id: u32,
+        limit: usize,
+    ) -> Result<Receiver, AllocError>
+        requires limit { 4 ≤ limit }
+        requires parsed { IsParsed query.now parsed.now }
+        requires places { HasPlaces query.now places.now }
+        requires one_kind { HasMixed query.now false }
+        ensures fresh { IfOk result (λ r. receiver_state r ≡ fresh_receiver) }
+        ensures about { IfOk result (λ r. IsAbout r.conversation query.now stmt_id) }
+        ensures limit { IfOk result (λ r. r.limit ≡ limit) }
+    {
+        let conversation = copied_statement(alloc, query, parsed, places, stmt_id)?;
         Ok(Receiver::over(alloc, conversation, limit))
     }
 

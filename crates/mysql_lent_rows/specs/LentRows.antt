@@ -1,14 +1,16 @@
 -- Rows that are lent, and what lends them.
 -- MySQL: Client/Server Protocol, "Text Resultset Row" and "Binary Protocol Resultset Row".
-use Rattle.std.specs.Prelude.{◌≡◌, ◌==◌, ℕ, List, length, map, Result, Ok, Err, if◌then◌else◌}
+use Rattle.std.specs.Prelude.{◌≡◌, ◌==◌, ℕ, List, length, map, true, Result, Ok, Err, if◌then◌else◌}
 use Rattle.std.specs.Borrow.{Fml, MutBor}
+use Rattle.std.specs.List.{list_all}
+use Rattle.std.specs.Rc.{rc_slice_items}
 use Rattle.std.specs.Io.BufRead.{Rests}
 use Rattle.mysql_cells.specs.declared.value.Value.{Value}
 use Rattle.mysql_columns.specs.Columns.{ColumnDefinition}
 use Rattle.mysql_raw.specs.Wire.{Reading}
 use Rattle.mysql_rows.specs.Rows.{Row, as_row, binary_resultset_row_at, text_row_at, whole_row}
 use Rattle.mysql_rows.specs.Views.{shared_columns}
-use Rattle.mysql_lent_rows.specs.Lent.{held, value_of}
+use Rattle.mysql_lent_rows.specs.Lent.{held, is_inside, value_of}
 use Rattle.mysql_lent_rows.specs.contracts.lender.RowLender.{the_row}
 use Rattle.mysql_lent_rows.specs.declared.errors.RowError.{RowError}
 use Rattle.mysql_lent_rows.specs.declared.errors.RowError.TheVariants.{BytesLeft, Unreadable}
@@ -35,7 +37,16 @@ seen view (Err e) = Err e
 
 -- the row that is lent: nothing was taken of it
 abbrev pub lent_view : LentRow → Row
-lent_view row = whole_row (shared_columns row.lender.now.columns) (map (held row.payload.now) row.lender.now.places.items)
+lent_view row = whole_row (shared_columns row.columns.now) (map (held row.payload.now) row.places.now)
+
+-- the row whose cells lie at a lender's places in a payload
+abbrev pub row_held : RowLender → List ℕ → Row
+row_held lender payload = whole_row (shared_columns lender.columns) (map (held payload) lender.places.items)
+
+-- a lender's places lie in a payload, one for each column
+pub record HoldsRow (lender : RowLender) (payload : List ℕ) : Type 0 where
+  pub inside : list_all (is_inside (length payload)) lender.places.items ≡ true
+  pub as_long : length lender.places.items ≡ length (rc_slice_items lender.columns)
 
 -- what a conversion answered: what it gave, or the value that doesn't convert
 abbrev pub lent_answer : {X Shown : Type 0} → (X → Shown) → Result X ValueRef → Result Shown Value

@@ -1,9 +1,9 @@
 //! What is read of lent rows.
 
-ghost use Rattle.std.specs.Prelude.{◌≡◌, ◌==◌, Some, length, slice_get};
+ghost use Rattle.std.specs.Prelude.{◌≡◌, ◌==◌, IfOk, Some, length, slice_get};
 ghost use Rattle.std.specs.Option.{option_map};
 ghost use Rattle.mysql_rows.specs.Rows.{cell_at};
-ghost use Rattle.mysql_rows.specs.Views.{column_views, converted_or_value};
+ghost use Rattle.mysql_rows.specs.Views.{column_views, converted_or_value, shared_columns};
 ghost use Rattle.mysql_lent_rows.specs.Lent.{value_of};
 ghost use Rattle.mysql_lent_rows.specs.LentRows.{lent_answer, lent_view};
 
@@ -13,6 +13,8 @@ use crate::row::LentRow;
 use crate::value_ref::ValueRef;
 use mysql_columns::Column;
 use mysql_rows::ColumnIndex;
+use std::alloc::AllocError;
+use std::rc::RcSlice;
 
 /// The place of the cell of this number, if there is one.
 #[inline(always)]
@@ -31,21 +33,28 @@ impl<'r, 'p> LentRow<'r, 'p> {
         ensures cells { result ≡ length (lent_view self.now).cells }
         ensures columns { result ≡ length (lent_view self.now).columns }
     {
-        self.lender.places.len()
+        self.places.len()
     }
 
     /// Whether there are no cells.
     pub fn is_empty(&self) -> bool
         ensures { result ≡ (length (lent_view self.now).cells == 0) }
     {
-        self.lender.places.is_empty()
+        self.places.is_empty()
     }
 
     /// The columns.
     pub fn columns_ref(&self) -> &'r [Column]
         ensures { column_views result.now ≡ (lent_view self.now).columns }
     {
-        self.lender.columns.as_slice()
+        self.columns.as_slice()
+    }
+
+    /// The same columns, shared, as a [`StoredRows`](crate::StoredRows) takes them. Refused for want of memory alone.
+    pub fn columns(&self) -> Result<RcSlice<Column>, AllocError>
+        ensures { IfOk result (λ columns. shared_columns columns ≡ (lent_view self.now).columns) }
+    {
+        self.columns.clone()
     }
 
     /// The value of the cell of this number, with its bytes lent by the payload; None where there is no such cell.
@@ -53,7 +62,7 @@ impl<'r, 'p> LentRow<'r, 'p> {
     pub fn as_ref(&self, index: usize) -> Option<ValueRef<'p>>
         ensures { option_map value_of result ≡ cell_at (lent_view self.now) (Some index) }
     {
-        match place_at(self.lender.places.as_slice(), index) {
+        match place_at(self.places, index) {
             Some(place) => Some(value_at(self.payload, place)),
             None => None,
         }
@@ -64,7 +73,7 @@ impl<'r, 'p> LentRow<'r, 'p> {
     pub fn get<I: ColumnIndex>(&self, index: I) -> Option<ValueRef<'p>>
         ensures { option_map value_of result ≡ cell_at (lent_view self.now) (I.place index (lent_view self.now).columns) }
     {
-        match index.idx(self.lender.columns.as_slice()) {
+        match index.idx(self.columns.as_slice()) {
             Some(number) => self.as_ref(number),
             None => None,
         }

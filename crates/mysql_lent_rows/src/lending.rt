@@ -1,12 +1,9 @@
 //! How rows are lent.
 
-ghost use Rattle.std.specs.Prelude.{◌≡◌, IfErr, IfOk, OnOk, length, map, true};
-ghost use Rattle.std.specs.List.{list_all};
-ghost use Rattle.std.specs.Rc.{rc_slice_items};
+ghost use Rattle.std.specs.Prelude.{◌≡◌, IfErr, IfOk, OnOk};
 ghost use Rattle.std.specs.Borrow.{sem};
 ghost use Rattle.mysql_rows.specs.Views.{shared_columns};
-ghost use Rattle.mysql_lent_rows.specs.Lent.{held, is_inside};
-ghost use Rattle.mysql_lent_rows.specs.LentRows.{GoesOnLending, LendsTheSame, lent_view, row_at, row_of, seen, with_none_left};
+ghost use Rattle.mysql_lent_rows.specs.LentRows.{GoesOnLending, HoldsRow, LendsTheSame, lent_view, row_held, row_of, seen};
 
 use crate::errors::RowError;
 use crate::format::RowFormat;
@@ -37,13 +34,28 @@ impl RowLender {
         })
     }
 
-    // Reads the places of the cells of the row that a payload is.
-    fn read(&mut self, payload: &[u8]) -> Result<(), RowError>
+    /// The columns of each row.
+    #[inline(always)]
+    pub fn columns(&self) -> &RcSlice<Column>
+        ensures { shared_columns result.now ≡ shared_columns self.now.columns }
+    {
+        &self.columns
+    }
+
+    /// Reads the places of the cells of the row that a payload is; [`lent`](RowLender::lent) then lends that row, of this payload. No
+    /// memory is asked for. [`row`](RowLender::row) does both: these two are for a reader that looks for the payload in a loop, and
+    /// lends the row behind it.
+    ///
+    /// # Errors
+    /// Those of [`row`](RowLender::row), in the same order.
+    ///
+    /// MySQL: Client/Server Protocol, "Text Resultset Row" and "Binary Protocol Resultset Row".
+    #[inline]
+    pub fn read(&mut self, payload: &[u8]) -> Result<(), RowError>
         ensures columns { self.new.columns ≡ self.old.columns }
         ensures format { self.new.format ≡ self.old.format }
-        ensures cells { seen (λ _. map (held payload.now) self.new.places.items) result ≡ with_none_left (row_at self.old.format (shared_columns self.old.columns) payload.now) }
-        ensures inside { list_all (is_inside (length payload.now)) self.new.places.items ≡ true }
-        ensures len { OnOk result (length self.new.places.items ≡ length (rc_slice_items self.old.columns)) }
+        ensures row { seen (λ _. row_held self.new payload.now) result ≡ row_of self.old.format (shared_columns self.old.columns) payload.now }
+        ensures holds { OnOk result (HoldsRow self.new payload.now) }
     {
         self.places.clear();
         let mut rest = ParseBuf(payload);
@@ -64,6 +76,21 @@ impl RowLender {
         }
     }
 
+    /// The row whose places were read last, lent by its payload.
+    ///
+    /// MySQL: Client/Server Protocol, "Text Resultset Row" and "Binary Protocol Resultset Row".
+    #[inline(always)]
+    pub fn lent<'r, 'p>(&'r self, payload: &'p [u8]) -> LentRow<'r, 'p>
+        requires { HoldsRow self.now payload.now }
+        ensures { lent_view result ≡ row_held self.now payload.now }
+    {
+        LentRow {
+            payload,
+            columns: &self.columns,
+            places: self.places.as_slice(),
+        }
+    }
+
     /// The row that a payload is, lent by it. No memory is asked for.
     ///
     /// # Errors
@@ -75,13 +102,11 @@ impl RowLender {
     pub fn row<'r, 'p>(&'r mut self, payload: &'p [u8]) -> Result<LentRow<'r, 'p>, RowError>
         ensures* after { sem 𝓛 (GoesOnLending self.entry) }
         ensures row { seen lent_view result ≡ row_of self.old.format (shared_columns self.old.columns) payload.now }
+        ensures columns { IfOk result (λ row. (lent_view row).columns ≡ shared_columns self.old.columns) }
     {
         match self.read(payload) {
             Err(e) => Err(e),
-            Ok(()) => Ok(LentRow {
-                payload,
-                lender: self,
-            }),
+            Ok(()) => Ok(self.lent(payload)),
         }
     }
 }

@@ -17,6 +17,9 @@ mod numbers;
 mod place;
 pub mod row;
 mod rows;
+pub mod stored;
+pub mod stored_iter;
+mod storing;
 mod texts;
 pub mod value_ref;
 
@@ -26,4 +29,6 @@ pub use from_value_ref::FromValueRef;
 pub use lender::RowLender;
 pub use lines::is_row;
 pub use row::LentRow;
+pub use stored::StoredRows;
+pub use stored_iter::StoredIter;
 pub use value_ref::ValueRef;

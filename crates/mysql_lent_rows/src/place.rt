@@ -26,10 +26,17 @@ pub enum CellPlace {
     Time(Span),
 }
 
+/// Where a row lies that is kept: its payload, and the places of its cells.
+#[derive(Clone, Copy, Debug, PartialEq, Eq)]
+pub struct RowPlace {
+    pub payload: Span,
+    pub cells: Span,
+}
+
 /// The bytes of a payload at a place.
 #[inline(always)]
 #[tactic(auto, using(crate::proofs::Tails::within_holds))]
-fn bytes_in<'p>(payload: &'p [u8], span: Span) -> &'p [u8]
+pub fn bytes_in<'p>(payload: &'p [u8], span: Span) -> &'p [u8]
     requires { is_within (length payload.now) span ≡ true }
     ensures { result.now ≡ slice_range payload.now span.start span.end }
 {

@@ -5,7 +5,9 @@ ghost use Rattle.std.specs.List.{list_all};
 ghost use Rattle.std.specs.Rc.{rc_slice_items};
 ghost use Rattle.mysql_lent_rows.specs.Lent.{is_inside};
 
-use crate::lender::RowLender;
+use crate::place::CellPlace;
+use mysql_columns::Column;
+use std::rc::RcSlice;
 
 /// A row of a result set whose bytes are lent by its payload: a cell for each column.
 ///
@@ -13,7 +15,8 @@ use crate::lender::RowLender;
 #[derive(Clone, Copy)]
 pub struct LentRow<'r, 'p> {
     pub(crate) payload: &'p [u8],
-    pub(crate) lender: &'r RowLender,
-    ghost inside: { list_all (is_inside (length payload.now)) lender.now.places.items ≡ true },
-    ghost as_long: { length lender.now.places.items ≡ length (rc_slice_items lender.now.columns) },
+    pub(crate) columns: &'r RcSlice<Column>,
+    pub(crate) places: &'r [CellPlace],
+    ghost inside: { list_all (is_inside (length payload.now)) places.now ≡ true },
+    ghost as_long: { length places.now ≡ length (rc_slice_items columns.now) },
 }

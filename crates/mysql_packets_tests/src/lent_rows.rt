@@ -14,7 +14,7 @@ use std::rc::RcSlice;
 use tests_support::{Assert, assert_equal, once_more};
 
 /// The columns of these names, types and flags.
-fn columns_of(
+pub fn columns_of(
     alloc: Global,
     kinds: &[(&[u8], ColumnType, ColumnFlags)],
 ) -> Result<RcSlice<Column>, AllocError> {
@@ -28,7 +28,7 @@ fn columns_of(
     RcSlice::from_vec(columns)
 }
 
-const NO_FLAG: ColumnFlags = ColumnFlags(0);
+pub const NO_FLAG: ColumnFlags = ColumnFlags(0);
 
 const UNSIGNED: ColumnFlags = ColumnFlags::UNSIGNED_FLAG;
 
@@ -146,7 +146,7 @@ fn assert_all_lent(
     Ok(())
 }
 
-const TEXTS: [(&[u8], ColumnType, ColumnFlags); 3] = [
+pub const TEXTS: [(&[u8], ColumnType, ColumnFlags); 3] = [
     (b"a", ColumnType::MYSQL_TYPE_VAR_STRING, NO_FLAG),
     (b"b", ColumnType::MYSQL_TYPE_VAR_STRING, NO_FLAG),
     (b"a", ColumnType::MYSQL_TYPE_LONGLONG, NO_FLAG),
@@ -173,7 +173,7 @@ fn text_rows(rt: HostRuntime) {
     once_more(&assert, first, second);
 }
 
-const WIDTHS: [(&[u8], ColumnType, ColumnFlags); 10] = [
+pub const WIDTHS: [(&[u8], ColumnType, ColumnFlags); 10] = [
     (b"a", ColumnType::MYSQL_TYPE_TINY, UNSIGNED),
     (b"b", ColumnType::MYSQL_TYPE_SHORT, NO_FLAG),
     (b"c", ColumnType::MYSQL_TYPE_LONG, NO_FLAG),
@@ -187,7 +187,7 @@ const WIDTHS: [(&[u8], ColumnType, ColumnFlags); 10] = [
 ];
 
 /// A row with a cell of each width, the last one NULL.
-const WIDE_ROW: &[u8] =
+pub const WIDE_ROW: &[u8] =
     b"\x00\x00\x08\xff\xfe\xff\x01\x02\x03\x84\xff\xff\xff\xff\xff\xff\xff\xff\x00\x00\x80\x3f\x00\x00\x00\x00\x00\x00\xf0\x3f\x02hi\x07\xe8\x07\x02\x1d\x0c\x22\x38\x08\x01\x01\x00\x00\x00\x02\x03\x04";
 
 /// That row, rows that are cut off or begin with another byte, and a row with a byte behind.
@@ -284,7 +284,7 @@ fn lent_bytes<'p>(found: Option<Result<&'p [u8], ValueRef>>) -> &'p [u8] {
 }
 
 /// The text that a conversion lent.
-fn lent_text<'p>(found: Option<Result<&'p str, ValueRef>>) -> &'p [u8] {
+pub fn lent_text<'p>(found: Option<Result<&'p str, ValueRef>>) -> &'p [u8] {
     match found {
         Some(Ok(text)) => text.as_bytes(),
         _ => b"none",

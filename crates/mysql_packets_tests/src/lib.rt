@@ -25,6 +25,8 @@ mod session_states;
 #[cfg(test)]
 mod statements;
 #[cfg(test)]
+mod stored_rows;
+#[cfg(test)]
 mod support;
 #[cfg(test)]
 mod written_rows;

@@ -1,13 +1,16 @@
 //! Commands of prepared statements.
 
+ghost use Rattle.std.specs.Prelude.{◌≤◌, length};
+
 use crate::support::Asserting;
 use mysql_cells::Value;
 use mysql_const::{CursorType, StmtExecuteParamsFlags};
 use mysql_raw::WireError;
 use mysql_stmt::{
-    ComStmtClose, ComStmtExecuteRequest, ComStmtExecuteRequestBuilder, ComStmtReset, put_execution,
-    size_within,
+    ComStmtClose, ComStmtExecuteRequest, ComStmtExecuteRequestBuilder, ComStmtReset, HasValue,
+    put_execution, size_within,
 };
+use mysql_values::ByteString;
 use std::alloc::{AllocError, Global};
 use tests_support::{
     Assert, assert_bytes, assert_copied, assert_cut_off, assert_equal, assert_reads_back,
@@ -39,26 +42,29 @@ fn a_reset(rt: HostRuntime) {
     assert_cut_off::<ComStmtReset, ()>(&assert, rt.alloc(), (), bytes, 0, 5);
 }
 
-/// Asserts that the bytes of an execution of one value are appended, and are as many as was said before.
-fn assert_put(assert: &impl Assert, alloc: Global, value: &Value, bytes: &[u8]) {
-    let values = [value];
+/// Asserts that the bytes of an execution of values are appended, and are as many as was said before.
+fn assert_put<V: HasValue>(assert: &impl Assert, alloc: Global, values: &[V], bytes: &[u8])
+    requires { length values.now ≤ 65535 }
+{
     let front = Vec::from_slice(alloc, b"> ");
     let mut out = once_more(assert, front, Vec::from_slice(alloc, b"> "));
-    let put = match put_execution(1, &values, false, &mut out) {
+    let put = match put_execution(1, values, false, &mut out) {
         Ok(()) => true,
-        Err(_) => put_execution(1, &values, false, &mut out).is_ok(),
+        Err(_) => put_execution(1, values, false, &mut out).is_ok(),
     };
     assert.holds(put);
     assert_equal(assert, out.as_slice().strip_prefix(b"> "), Some(bytes));
-    assert_equal(assert, size_within(&values, bytes.len()), Some(bytes.len()));
+    assert_equal(assert, size_within(values, bytes.len()), Some(bytes.len()));
     let fewer = bytes.len().saturating_sub(1);
-    assert_equal(assert, size_within(&values, fewer), None);
+    assert_equal(assert, size_within(values, fewer), None);
 }
 
-/// Asserts the bytes of an execution of one value.
+/// Asserts the bytes of an execution of one value: of the value itself, of a reference to it, and by a request.
 fn assert_executed(assert: &impl Assert, alloc: Global, value: Value, bytes: &[u8]) {
-    assert_put(assert, alloc, &value, bytes);
+    let lent = [&value];
+    assert_put(assert, alloc, &lent, bytes);
     let values = [value];
+    assert_put(assert, alloc, &values, bytes);
     let builder = ComStmtExecuteRequestBuilder::new(1);
     let (request, as_long_data) = once_more(
         assert,
@@ -67,6 +73,48 @@ fn assert_executed(assert: &impl Assert, alloc: Global, value: Value, bytes: &[u
     );
     assert.holds(!as_long_data);
     assert_written(assert, alloc, &request, bytes);
+}
+
+/// A text of so many bytes, each another than the one before it.
+fn text_of(alloc: Global, count: u16) -> Result<Vec<u8>, AllocError> {
+    let mut text = Vec::new(alloc);
+    for place in 0..count {
+        text.push((place % 251) as u8)?;
+    }
+    Ok(text)
+}
+
+/// The bytes of an execution of a text whose length is written so.
+fn bytes_of_text(alloc: Global, length: &[u8], text: &[u8]) -> Result<Vec<u8>, AllocError> {
+    let mut bytes = Vec::from_slice(alloc, b"\x17\x01\0\0\0\0\x01\0\0\0\0\x01\xfd\0")?;
+    bytes.extend_from_slice(length)?;
+    bytes.extend_from_slice(text)?;
+    Ok(bytes)
+}
+
+/// Asserts the bytes of an execution of a text of so many bytes, whose length is written so.
+fn assert_text(assert: &impl Assert, alloc: Global, count: u16, length: &[u8]) {
+    let text = once_more(assert, text_of(alloc, count), text_of(alloc, count));
+    let bytes = once_more(
+        assert,
+        bytes_of_text(alloc, length, &text),
+        bytes_of_text(alloc, length, &text),
+    );
+    let value = Value::Bytes(ByteString::from_vec(text));
+    assert_executed(assert, alloc, value, &bytes);
+}
+
+#[test]
+fn executions_of_texts(rt: HostRuntime) {
+    let assert = Asserting(&rt);
+    assert_text(&assert, rt.alloc(), 0, b"\0");
+    assert_text(&assert, rt.alloc(), 7, b"\x07");
+    assert_text(&assert, rt.alloc(), 8, b"\x08");
+    assert_text(&assert, rt.alloc(), 21, b"\x15");
+    assert_text(&assert, rt.alloc(), 40, b"\x28");
+    assert_text(&assert, rt.alloc(), 41, b"\x29");
+    assert_text(&assert, rt.alloc(), 250, b"\xfa");
+    assert_text(&assert, rt.alloc(), 251, b"\xfc\xfb\0");
 }
 
 #[test]

@@ -23,3 +23,6 @@ pub mod ManualStood
 pub mod ManualSome
 pub mod ManualBytes
 pub mod Standing
+pub mod NoRows
+pub mod LentSteps
+pub mod LentOut

@@ -119,7 +119,7 @@ goes_on_taken laws start s first codec from_src from_dst src dst payloads r bega
     decides_going start first from_src from_dst more answer began
     (decides_more laws (standing_of start) first.limit (packet_number first from_dst) (held first from_src from_dst) payloads s codec src dst r more d.split d.splits answer d.decides)
 
-held_nothing : FramingLaws → (codec : Codec) (src dst : List ℕ) → IsBetween codec → codec.number < 256 → dst ≡ [] → held codec src dst ≡ src
+pub held_nothing : FramingLaws → (codec : Codec) (src dst : List ℕ) → IsBetween codec → codec.number < 256 → dst ≡ [] → held codec src dst ≡ src
 held_nothing laws codec src dst between byte empty = ap (held codec src) empty ∙ (laws.between codec src between byte).0
 
 -- The split of what is held, with other bytes.
@@ -285,7 +285,7 @@ taking_starts start first from_src from_dst reading going ready can_go_on bytes 
   nothing_begun = nothing_begun;
 }
 
-handed_number : (codec new : Codec) (src dst src' payload : List ℕ) → HandsOut codec src dst new src' payload → new.number < 256
+pub handed_number : (codec new : Codec) (src dst src' payload : List ℕ) → HandsOut codec src dst new src' payload → new.number < 256
 handed_number codec new src dst src' payload h = omega (arith, h.number)
 
 -- What follows bytes is bytes.
@@ -560,7 +560,7 @@ over_paused laws start s first codec from_src from_dst kept rest dst t over none
     (here, paused_over laws s codec kept dst here.nothing_begun over none here.received.read.refused here.received.read.goes_on here.bytes)
 
 -- Where what came was taken and what is left is no fault, all payloads were taken, and bytes to come go on.
-all_taken : FramingLaws → (start s : ReplyState) (first codec : Codec) (bytes piece src : List ℕ) (payloads : List Payload) (rest : Rest) → Since start first (bytes ++ piece) [] payloads s codec src [] → start.fault ≡ None → s.fault ≡ None → s.count ≡ start.count + length payloads → ¬ IsFault rest → IsRest codec.limit (packet_number codec []) (held codec src []) rest
+pub all_taken : FramingLaws → (start s : ReplyState) (first codec : Codec) (bytes piece src : List ℕ) (payloads : List Payload) (rest : Rest) → Since start first (bytes ++ piece) [] payloads s codec src [] → start.fault ≡ None → s.fault ≡ None → s.count ≡ start.count + length payloads → ¬ IsFault rest → IsRest codec.limit (packet_number codec []) (held codec src []) rest
     → TakesAll (reader_state_of start first bytes []) (held first bytes [] ++ piece) (reader_state_of s codec src []) × ReaderGoesOn (reader_state_of start first bytes []) piece (reader_state_of s codec src [])
 all_taken laws start s first codec bytes piece src payloads rest r began going count no_fault is = (
   takes_piece laws start first bytes (bytes ++ piece) [] piece (reader_state_of s codec src []) (Ok tt) refl (takes_all start s first codec (bytes ++ piece) [] src [] payloads rest r began going count no_fault is),

@@ -76,7 +76,7 @@ follows c here rest p all ending stands (begun listed) = absurd cc
 follows c here rest p all ending stands (unexpected listed fault left) = absurd cc
 
 -- What is begun is all that is listed.
-all_begun : (c : Context) (listed : List Outcome) (p : Part Stretch) (all : List Outcome) (ending : Ending) → p ≡ Begun listed → Results c p all ending → all ≡ listed
+pub all_begun : (c : Context) (listed : List Outcome) (p : Part Stretch) (all : List Outcome) (ending : Ending) → p ≡ Begun listed → Results c p all ending → all ≡ listed
 all_begun c listed p all ending is (last results left) = absurd cc
 all_begun c listed p all ending is (more results left reading) = absurd cc
 all_begun c listed p all ending is (begun found) = cc

@@ -7,6 +7,8 @@ pub mod Views
 pub mod Steps
 pub mod Standings
 pub mod Taking
+pub mod Lending
+pub mod LentSteps
 pub mod Manual
 pub mod Beginnings
 pub mod BeginningLaws

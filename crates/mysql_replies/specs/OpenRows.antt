@@ -1,18 +1,21 @@
 -- Words of the reader's own body, which no public call's clause has: the rows so far of a result set that goes on.
 -- MySQL: Client/Server Protocol, "Text Resultset" and "Binary Protocol Resultset".
-use Rattle.std.specs.Prelude.{◌≡◌, List, [], map, Option, Some, None}
+use Rattle.std.specs.Prelude.{◌≡◌, List, [], map, Option, Some, None, IfSome}
 use Rattle.std.specs.declared.alloc.Global.{Global}
 use Rattle.std.specs.declared.rc.RcSlice.{RcSlice}
 use Rattle.mysql_columns.specs.Columns.{ColumnDefinition}
 use Rattle.mysql_columns.specs.declared.column.Column.{Column}
+use Rattle.mysql_lent_rows.specs.declared.format.RowFormat.{RowFormat}
+use Rattle.mysql_lent_rows.specs.declared.lender.RowLender.{RowLender}
 use Rattle.mysql_rows.specs.Rows as rows
 use Rattle.mysql_rows.specs.declared.row.Row.{Row}
 use Rattle.mysql_rows.specs.Views.{row_view, shared_columns}
 
--- The columns, and the rows so far.
+-- The columns, the rows so far, and what lends rows, where one was lent.
 pub record RowsSoFar : Type 0 where
   pub columns : List ColumnDefinition
   pub rows : List rows.Row
+  pub lender : Option RowLender
 
 abbrev pub rows_of : List Row → List rows.Row
 rows_of these = map row_view these
@@ -21,3 +24,7 @@ rows_of these = map row_view these
 abbrev pub HasShare : RcSlice Column Global → Option (RcSlice Column Global) → List Row → Type 0
 HasShare columns (Some share) these = shared_columns share ≡ shared_columns columns
 HasShare columns None these = these ≡ []
+
+-- What lends rows lends them under the same columns, in this format.
+abbrev pub HasLender : RcSlice Column Global → RowFormat → Option RowLender → Type 0
+HasLender columns format lender = IfSome lender (λ it. (shared_columns it.columns ≡ shared_columns columns) × (it.format ≡ format))

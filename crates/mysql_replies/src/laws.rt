@@ -4,6 +4,7 @@ ghost use Rattle.mysql_replies.specs.Beginnings.{EachAnswerHasWhatStands};
 ghost use Rattle.mysql_replies.specs.Reply.{EachHasAnswer, AnswersAgree, EachStandingDecides, StandingsAgree, FreshStandingDecides, StandingGoesOn};
 ghost use Rattle.mysql_replies.specs.Bytes.{AnyBytesHaveAnswer, CuttingsAgree};
 ghost use Rattle.mysql_replies.specs.Holding.{EachReaderDecides, ReadersAgree, FreshReaderDecides};
+ghost use Rattle.mysql_replies.specs.Lending.{LentRowsAreHandedOut};
 ghost use Rattle.mysql_replies.specs.Taking.{TakenResultsAreTheReply};
 ghost use Rattle.mysql_replies.specs.Manual.{EachSuchListIsWhole, OnlySuchListsAreWhole, EachFramingIsWhole, OnlyFramingsAreWhole};
 
@@ -49,6 +50,12 @@ pub fn each_reader_decides()
 /// the bytes; where memory ran out, they are those of the first payloads.
 pub fn taken_results_are_the_reply()
     ensures { TakenResultsAreTheReply }
+{}
+
+/// A row that was lent where nothing else is listed is as one that was handed out: over any feeds, takes and rows that were lent so,
+/// these rows, the results that were handed out and those at the end are, joined, the reply.
+pub fn lent_rows_are_handed_out()
+    ensures { LentRowsAreHandedOut }
 {}
 
 /// A list of payloads has an answer that ends whole exactly where the manual has it as a whole reply: results one after another, and

@@ -6,6 +6,7 @@ pub mod context;
 pub mod fault;
 mod framing;
 pub mod laws;
+mod lending;
 mod lines;
 mod open_rows;
 mod opening;

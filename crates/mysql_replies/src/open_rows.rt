@@ -1,14 +1,19 @@
 //! The rows so far of a result set that goes on.
 
-ghost use Rattle.std.specs.Prelude.{◌≡◌, ◌==◌, ◌<◌, [], ◌∷◌, ◌++◌, None, OnErr, OnOk, length, option_map};
+ghost use Rattle.std.specs.Prelude.{◌≡◌, ◌==◌, ◌<◌, [], ◌∷◌, ◌++◌, None, IfErr, IfSome, OnErr, OnOk, length, option_map};
+ghost use Rattle.mysql_lent_rows.specs.LentRows.{lent_view, row_of};
 ghost use Rattle.mysql_ok_packets.specs.Views.{ok_packet_view};
+ghost use Rattle.mysql_rows.specs.Rows.{Row as RowOf};
 ghost use Rattle.mysql_rows.specs.Views.{row_view, shared_columns};
 ghost use Rattle.mysql_replies.specs.Grammar.{RowsResult};
 ghost use Rattle.mysql_replies.specs.OpenRows.{rows_of};
-ghost use Rattle.mysql_replies.specs.Views.{outcome_view};
+ghost use Rattle.mysql_replies.specs.LentSteps.{HasRead, IsLender, Lends, or_bad_row};
+ghost use Rattle.mysql_replies.specs.Views.{Refuses, outcome_view};
 
+use crate::fault::ReplyFault;
 use crate::results::ReplyResult;
 use mysql_columns::Column;
+use mysql_lent_rows::{LentRow, RowFormat, RowLender};
 use mysql_packets::OkPacket;
 use mysql_rows::Row;
 use std::alloc::{AllocError, Global};
@@ -16,13 +21,18 @@ use std::marker::Model;
 use std::mem;
 use std::rc::RcSlice;
 
-/// Rows under their columns, and a second share of these: with it the rows are handed out without a request for memory.
+/// Rows under their columns, and a second share of these: with it the rows are handed out without a request for memory. Rows that
+/// are lent aren't among them.
 #[derive(Drop)]
 pub struct OpenRows {
     columns: RcSlice<Column>,
     // There where there are rows.
     share: Option<RcSlice<Column>>,
     rows: Vec<Row>,
+    // There once a row was lent.
+    lender: Option<RowLender>,
+    // The format in which it lends.
+    format: RowFormat,
 }
 
 impl Model for OpenRows {
@@ -31,22 +41,24 @@ impl Model for OpenRows {
     ghost Value = { RowsSoFar };
 
     ghost use Rattle.mysql_rows.specs.Views.{shared_columns};
-    ghost use Rattle.mysql_replies.specs.OpenRows.{rows_of, HasShare};
+    ghost use Rattle.mysql_replies.specs.OpenRows.{rows_of, HasLender, HasShare};
 
-    ghost view = { λ these. record { columns = shared_columns these.columns; rows = rows_of these.rows.items } };
+    ghost view = { λ these. record { columns = shared_columns these.columns; rows = rows_of these.rows.items; lender = these.lender } };
 
-    ghost invariant = { λ these. HasShare these.columns these.share these.rows.items };
+    ghost invariant = { λ these. HasShare these.columns these.share these.rows.items × HasLender these.columns these.format these.lender };
 }
 
 impl OpenRows {
     /// No row under these columns.
     pub fn new(alloc: Global, columns: RcSlice<Column>) -> OpenRows
-        ensures { result ≡ record { columns = shared_columns columns; rows = [] } }
+        ensures { result ≡ record { columns = shared_columns columns; rows = []; lender = None } }
     {
         OpenRows {
             columns,
             share: None,
             rows: Vec::new(alloc),
+            lender: None,
+            format: RowFormat::Text,
         }
     }
 
@@ -83,6 +95,67 @@ impl OpenRows {
         Ok(())
     }
 
+    // Makes what lends rows in this format.
+    #[inline(never)]
+    fn make_lender(&mut self, alloc: Global, format: RowFormat) -> Result<(), AllocError>
+        ensures rows { self.new ≡ record self.old { lender = self.new.lender } }
+        ensures lender { OnOk result (IsLender self.new.lender format self.old.columns) }
+    {
+        let lender = RowLender::new(alloc, self.columns.clone()?, format)?;
+        self.lender = Some(lender);
+        self.format = format;
+        Ok(())
+    }
+
+    // Makes it where there is none.
+    #[inline(always)]
+    fn ready_lender(&mut self, alloc: Global, format: RowFormat) -> Result<(), AllocError>
+        ensures rows { self.new ≡ record self.old { lender = self.new.lender } }
+        ensures lender { OnOk result (IsLender self.new.lender format self.old.columns) }
+    {
+        if self.lender.is_some() && self.format == format {
+            return Ok(());
+        }
+        self.make_lender(alloc, format)
+    }
+
+    /// Reads the places of the cells of the row that a payload is, in this format; the row can be lent then, and isn't added. Memory
+    /// is asked for at the first row alone.
+    #[inline(always)]
+    pub fn read(
+        &mut self,
+        alloc: Global,
+        format: RowFormat,
+        payload: &[u8],
+    ) -> Result<(), ReplyFault>
+        ensures rows { self.new ≡ record self.old { lender = self.new.lender } }
+        ensures ok { OnOk result (HasRead self.new.lender format self.old.columns payload.now) }
+        ensures err { IfErr result (λ fault. Refuses fault (or_bad_row (row_of format self.old.columns payload.now))) }
+    {
+        if self.ready_lender(alloc, format).is_err() {
+            return Err(ReplyFault::Memory);
+        }
+        let Some(lender) = &mut self.lender else {
+            unreachable!()
+        };
+        match lender.read(payload) {
+            Ok(()) => Ok(()),
+            Err(_) => Err(ReplyFault::BadRow),
+        }
+    }
+
+    /// The row whose cells were read last, lent by its payload.
+    #[inline(always)]
+    pub fn lent<'r, 'p>(&'r self, payload: &'p [u8]) -> LentRow<'r, 'p>
+        requires { (row : RowOf) × Lends self.now.lender payload.now row }
+        ensures { Lends self.now.lender payload.now (lent_view result) }
+    {
+        let Some(lender) = &self.lender else {
+            unreachable!()
+        };
+        lender.lent(payload)
+    }
+
     /// Hands out the rows, as a part of the result set; the rows behind them are listed anew. Takes no memory.
     pub fn take(&mut self, alloc: Global) -> ReplyResult
         requires { 0 < length self.old.rows }
@@ -108,6 +181,8 @@ impl OpenRows {
             columns,
             share: _,
             rows,
+            lender: _,
+            format: _,
         } = self;
         ReplyResult::Rows {
             columns,

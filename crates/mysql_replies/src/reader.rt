@@ -25,7 +25,7 @@ use std::alloc::Global;
 use std::marker::Model;
 
 /// What a codec's error means for a reply.
-fn fault_from(error: PacketCodecError) -> ReplyFault
+pub fn fault_from(error: PacketCodecError) -> ReplyFault
     ensures { result ≡ fault_named error }
 {
     match error {
@@ -122,6 +122,31 @@ fn take_packets(
     take_payloads(alloc, state, packets, piece)
 }
 
+/// What is held of a reply: what stands of it, and the bytes of the packet that isn't whole.
+#[derive(Drop)]
+pub struct ReaderParts {
+    pub state: ReplyState,
+    pub packets: PacketReader,
+}
+
+impl ReaderParts {
+    // Takes each payload that the piece makes whole.
+    #[inline(always)]
+    fn take_packets(&mut self, alloc: Global, piece: &[u8]) -> Result<(), ReplyFault>
+        requires reading { IsReading self.old.state }
+        requires going { self.old.state.fault ≡ None }
+        requires paused { IsPaused self.old.state (codec_by self.old.packets) self.old.packets.bytes [] }
+        ensures reading { IsReading self.new.state }
+        ensures paused { OnOk result ((self.new.state.fault ≡ None) × IsPaused self.new.state (codec_by self.new.packets) self.new.packets.bytes []) }
+        ensures fault { IfErr result (λ fault. self.new.state.fault ≡ Some fault) }
+        ensures took { OnOk result (TakesAll (reader_state self.old.state self.old.packets) ((reader_state self.old.state self.old.packets).bytes ++ piece.now) (reader_state self.new.state self.new.packets)) }
+        ensures goes_on { UnlessMemory result (ReaderGoesOn (reader_state self.old.state self.old.packets) piece.now (reader_state self.new.state self.new.packets)) }
+        ensures short { OnMemory result (StandsShort (reader_state self.old.state self.old.packets) ((reader_state self.old.state self.old.packets).bytes ++ piece.now) (reader_state self.new.state self.new.packets)) }
+    {
+        take_packets(alloc, &mut self.state, &mut self.packets, piece)
+    }
+}
+
 /// Reads a server's reply from the bytes of a connection, in whatever pieces they come. What it holds, beside the
 /// results and the reports that it read and that were not handed out, is at most one packet within the limit.
 ///
@@ -132,9 +157,8 @@ fn take_packets(
 /// "COM_STMT_PREPARE Response".
 #[derive(Drop)]
 pub struct ReplyReader {
-    alloc: Global,
-    state: ReplyState,
-    packets: PacketReader,
+    pub(crate) alloc: Global,
+    pub(crate) parts: ReaderParts,
 }
 
 impl Model for ReplyReader {
@@ -146,9 +170,9 @@ impl Model for ReplyReader {
     ghost use Rattle.mysql_wire.specs.Incoming.{codec_by};
     ghost use Rattle.mysql_replies.specs.Standings.{reader_state, IsReceiving};
 
-    ghost view = { λ reader. reader_state reader.state reader.packets };
+    ghost view = { λ reader. reader_state reader.parts.state reader.parts.packets };
 
-    ghost invariant = { λ reader. IsReceiving reader.state (codec_by reader.packets) reader.packets.bytes [] };
+    ghost invariant = { λ reader. IsReceiving reader.parts.state (codec_by reader.parts.packets) reader.parts.packets.bytes [] };
 }
 
 impl ReplyReader {
@@ -171,8 +195,10 @@ impl ReplyReader {
         let context = Context { kind, capabilities };
         ReplyReader {
             alloc,
-            state: ReplyState::new(alloc, context),
-            packets: PacketReader::new(alloc, first_id, limit),
+            parts: ReaderParts {
+                state: ReplyState::new(alloc, context),
+                packets: PacketReader::new(alloc, first_id, limit),
+            },
         }
     }
 
@@ -190,11 +216,11 @@ impl ReplyReader {
         ensures short { fault_of self.old.standing ≡ None → result ≡ Err Memory → StandsShort self.old (self.old.bytes ++ piece.now) self.new }
     {
         framing_laws();
-        match self.state.fault {
+        match self.parts.state.fault {
             Some(fault) => return Err(fault),
             None => {}
         }
-        take_packets(self.alloc, &mut self.state, &mut self.packets, piece)
+        self.parts.take_packets(self.alloc, piece)
     }
 
     /// Hands out the results so far: those that stand whole, and of a result set that goes on its rows so far, if there are any,
@@ -207,7 +233,7 @@ impl ReplyReader {
         ensures taken { outcome_views result.items ≡ results_in self.old.standing }
         ensures left { self.new ≡ record self.old { standing = without_results self.old.standing } }
     {
-        self.state.take_results(self.alloc)
+        self.parts.state.take_results(self.alloc)
     }
 
     /// Hands out the progress reports so far. Takes no memory.
@@ -217,28 +243,28 @@ impl ReplyReader {
         ensures taken { report_views result.items ≡ reports_in self.old.standing }
         ensures left { self.new ≡ record self.old { standing = without_reports self.old.standing } }
     {
-        self.state.take_progress(self.alloc)
+        self.parts.state.take_progress(self.alloc)
     }
 
     /// The results that stand whole and were not handed out.
     pub fn results(&self) -> &[ReplyResult]
         ensures { ListsResults self.now.standing (outcome_views result.now) }
     {
-        self.state.results.as_slice()
+        self.parts.state.results.as_slice()
     }
 
     /// The rows so far of a result set that goes on, but for those that were handed out.
     pub fn rows(&self) -> &[Row]
         ensures { ListsRows self.now.standing (row_views result.now) }
     {
-        self.state.rows()
+        self.parts.state.rows()
     }
 
     /// The progress reports that were not handed out.
     pub fn progress(&self) -> &[ProgressReport<'static>]
         ensures { report_views result.now ≡ reports_in self.now.standing }
     {
-        self.state.progress.as_slice()
+        self.parts.state.progress.as_slice()
     }
 
     /// How many bytes are held of the packet that isn't whole: those that came of it, but for the headers of its chunks, of which
@@ -250,14 +276,14 @@ impl ReplyReader {
         ensures bytes { result ≡ bytes_kept (length self.now.bytes) }
         ensures within { fault_of self.now.standing ≡ None → result ≤ self.now.limit + 3 }
     {
-        self.packets.kept()
+        self.parts.packets.kept()
     }
 
     /// What was read, where no more bytes come, but for what was handed out. Takes no memory.
     pub fn finish(self) -> Reply
         ensures { ReaderDecides self [] (answer_view result) }
     {
-        self.state.finish()
+        self.parts.state.finish()
     }
 }
 

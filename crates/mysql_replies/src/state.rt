@@ -1,6 +1,6 @@
 //! A reply, read payload by payload.
 
-ghost use Rattle.std.specs.Prelude.{◌≡◌, ℕ, ◌<◌, ◌+◌, ◌-◌, ◌^◌, List, [], ◌∷◌, ◌++◌, true, false, None, Some, vec_len, vec_capacity, ◌≤◌, ◌↔◌, IsTrue, length, map, OnOk, IfErr};
+ghost use Rattle.std.specs.Prelude.{◌≡◌, ◌||◌, not, ℕ, ◌<◌, ◌+◌, ◌-◌, ◌^◌, List, [], ◌∷◌, ◌++◌, true, false, None, Some, vec_len, vec_capacity, ◌≤◌, ◌↔◌, IsTrue, length, map, OnOk, IfErr};
 ghost use Rattle.mysql_replies.specs.Grammar.{progress_obsolete};
 ghost use Rattle.mysql_packets.specs.Packets.{progress_report_at};
 ghost use Rattle.mysql_packets.specs.Views.{progress_report_view};
@@ -10,13 +10,17 @@ ghost use Rattle.mysql_replies.specs.Grammar.{or_fault, has_report_form};
 ghost use Rattle.mysql_replies.specs.Reply.{fresh};
 ghost use Rattle.mysql_replies.specs.Reply as reply;
 ghost use Rattle.mysql_replies.specs.OpenRows.{rows_of};
+ghost use Rattle.mysql_lent_rows.specs.LentRows.{lent_view};
+ghost use Rattle.mysql_rows.specs.Rows.{Row as RowOf};
+ghost use Rattle.mysql_replies.specs.Lending.{rows_listed};
+ghost use Rattle.mysql_replies.specs.LentSteps.{IsNoRow, LendStep, LendsAwaited, format_of, passed_as};
 ghost use Rattle.mysql_replies.specs.Taking.{part_of, results_in, without_results, rows_awaited};
 ghost use Rattle.mysql_replies.specs.Views.{Gives, awaited_view, outcome_views, end_view, answer_view};
 ghost use Rattle.mysql_replies.specs.Steps.{IsSettled, IsAwaiting, listed_views, listed_of, reads_as_row};
 ghost use Rattle.mysql_replies.specs.Standings.{standing_of, UnlessMemory, OnMemory, IsReading, IsShortOf, StateGoesOn, NumberedStateGoesOn, HasRoom, HasSpare, end_at, answer_of};
 
 use crate::awaited::{Awaited, Listed, Stepped};
-use crate::context::Context;
+use crate::context::{Context, ReplyKind};
 use crate::fault::ReplyFault;
 use crate::lines::is_row;
 use crate::open_rows::OpenRows;
@@ -25,6 +29,7 @@ use crate::results::{Reply, ReplyEnd, ReplyResult};
 use crate::steps::{row_step, step};
 use bitflags::Flags;
 use mysql_const::CapabilityFlags;
+use mysql_lent_rows::{LentRow, RowFormat};
 use mysql_packets::ProgressReport;
 use mysql_rows::Row;
 use mysql_wire::{ParseBuf, ParseExt, WireError};
@@ -63,6 +68,17 @@ pub fn is_report_like(context: Context, payload: &[u8]) -> bool
         && payload[2] == 255
 }
 
+/// The format of rows, by the kind of the command.
+#[inline(always)]
+fn format_of(kind: ReplyKind) -> RowFormat
+    ensures { result ≡ format_of kind }
+{
+    match kind {
+        ReplyKind::Binary => RowFormat::Binary,
+        ReplyKind::Text | ReplyKind::Prepare => RowFormat::Text,
+    }
+}
+
 // A progress report behind the three bytes of its form, which borrows from the payload.
 #[tactic(auto, unfolding(mysql_packets::specs::Packets::progress_report_at))]
 fn report_of<'a>(alloc: Global, buf: &mut ParseBuf<'a>) -> Result<ProgressReport<'a>, WireError>
@@ -95,6 +111,17 @@ fn push_in_room(results: &mut Vec<ReplyResult>, another: ReplyResult)
     let Ok(()) = results.push(another) else {
         unreachable!()
     };
+}
+
+/// The answer of a payload that was taken: nothing is lent.
+#[inline(always)]
+fn passed(taken: Result<(), ReplyFault>) -> Result<bool, ReplyFault>
+    ensures { result ≡ passed_as taken }
+{
+    match taken {
+        Ok(()) => Ok(false),
+        Err(fault) => Err(fault),
+    }
 }
 
 impl ReplyState {
@@ -263,6 +290,87 @@ impl ReplyState {
             self.take_row(alloc, payload)
         } else {
             self.take_other(alloc, payload)
+        }
+    }
+
+    /// Reads a payload that is no row: nothing is lent.
+    #[inline(never)]
+    fn pass(&mut self, alloc: Global, payload: &[u8]) -> Result<bool, ReplyFault>
+        requires reading { IsReading self.old }
+        requires going { self.old.fault ≡ None }
+        requires awaiting { IsAwaiting (awaited_view self.old.awaited) }
+        requires none { IsNoRow self.old.context (awaited_view self.old.awaited) payload.now }
+        requires room { self.old.count + 1 < 2 ^ 64 }
+        ensures reading { IsReading self.new }
+        ensures ok { OnOk result ((self.new.fault ≡ None) × (self.new.count ≡ self.old.count + 1)) }
+        ensures fault { IfErr result (λ fault. self.new.fault ≡ Some fault) }
+        ensures step { LendStep self.old payload.now result self.new }
+        ensures keeps_none { rows_listed (standing_of self.new) ≡ rows_listed (standing_of self.old) }
+    {
+        if is_report_like(self.context, payload) {
+            return passed(self.take_report(alloc, payload));
+        }
+        passed(self.take_other(alloc, payload))
+    }
+
+    /// Reads a payload in the form of a row: where rows are awaited it can be lent then, and isn't kept.
+    #[inline(always)]
+    fn lend_row(&mut self, alloc: Global, payload: &[u8]) -> Result<bool, ReplyFault>
+        requires reading { IsReading self.old }
+        requires going { self.old.fault ≡ None }
+        requires awaiting { IsAwaiting (awaited_view self.old.awaited) }
+        requires report { has_report_form self.old.context payload.now ≡ false }
+        requires row { reads_as_row self.old.context payload.now ≡ true }
+        requires room { self.old.count + 1 < 2 ^ 64 }
+        ensures reading { IsReading self.new }
+        ensures ok { OnOk result ((self.new.fault ≡ None) × (self.new.count ≡ self.old.count + 1)) }
+        ensures fault { IfErr result (λ fault. self.new.fault ≡ Some fault) }
+        ensures step { LendStep self.old payload.now result self.new }
+        ensures keeps_none { rows_listed (standing_of self.new) ≡ rows_listed (standing_of self.old) }
+    {
+        let format = format_of(self.context.kind);
+        match &mut self.awaited {
+            Awaited::Rows(these) => match these.read(alloc, format, payload) {
+                Ok(()) => {
+                    self.count += 1;
+                    Ok(true)
+                }
+                Err(fault) => Err(self.fail(fault)),
+            },
+            _ => self.pass(alloc, payload),
+        }
+    }
+
+    /// Reads the next payload. A row isn't kept: after `true` it can be lent by its payload.
+    #[inline(always)]
+    pub fn lend(&mut self, alloc: Global, payload: &[u8]) -> Result<bool, ReplyFault>
+        requires reading { IsReading self.old }
+        requires going { self.old.fault ≡ None }
+        requires awaiting { IsAwaiting (awaited_view self.old.awaited) }
+        ensures reading { IsReading self.new }
+        ensures ok { OnOk result ((self.new.fault ≡ None) × (self.new.count ≡ self.old.count + 1)) }
+        ensures fault { IfErr result (λ fault. self.new.fault ≡ Some fault) }
+        ensures step { LendStep self.old payload.now result self.new }
+        ensures keeps_none { rows_listed (standing_of self.new) ≡ rows_listed (standing_of self.old) }
+    {
+        if self.count == u64::MAX {
+            return Err(self.fail(ReplyFault::TooLarge));
+        }
+        if is_report_like(self.context, payload) || !is_row(self.context, payload) {
+            return self.pass(alloc, payload);
+        }
+        self.lend_row(alloc, payload)
+    }
+
+    /// The row that was read last, lent by its payload.
+    #[inline(always)]
+    pub fn lent<'r, 'p>(&'r self, payload: &'p [u8]) -> LentRow<'r, 'p>
+        requires { (row : RowOf) × LendsAwaited self.now.awaited payload.now row }
+        ensures { LendsAwaited self.now.awaited payload.now (lent_view result) }
+    {
+        match &self.awaited {
+            Awaited::Rows(these) => these.lent(payload),
+            _ => unreachable!(),
         }
     }
 }

@@ -1,3 +1,4 @@
+pub mod FramedInPlace
 pub mod Joined
 pub mod Putting
 pub mod Steps

@@ -1,6 +1,6 @@
 //! Payloads as they are made, each in place of what its buffer held.
 
-ghost use Rattle.std.specs.Prelude.{◌≡◌, [], IfErr, None, OnOk, Some, if◌then◌else◌, length, min};
+ghost use Rattle.std.specs.Prelude.{◌≡◌, ◌++◌, IfErr, None, OnErr, OnOk, Some, if◌then◌else◌, length, min};
 ghost use Rattle.std.specs.Option.{option_map};
 ghost use Rattle.mysql_ok_packets.specs.Views.{ok_packet_view};
 ghost use Rattle.mysql_packets.specs.Packets.{Error, Progress, protocol_41, progress_obsolete};
@@ -162,33 +162,35 @@ pub(crate) fn report_packet<'a>(report: &'a ProgressReport<'_>) -> ErrPacket<'a>
     ))
 }
 
-// A row's payload by the kind of the command.
-fn make_cells(
-    payload: &mut Vec<u8>,
+// Appends a row's payload by the kind of the command.
+#[inline(always)]
+fn put_cells(
+    out: &mut Vec<u8>,
     binary: bool,
     columns: &[Column],
     row: &Row,
 ) -> Result<(), RowRefusal>
     requires { length columns.now ≡ length (row_view row.now).cells }
-    ensures { PutsRow (form_cause binary (column_views columns.now) (row_view row.now).cells) (cells_payload binary (column_views columns.now) (row_view row.now).cells) [] payload.new.items result }
+    ensures { PutsRow (form_cause binary (column_views columns.now) (row_view row.now).cells) (cells_payload binary (column_views columns.now) (row_view row.now).cells) out.old.items out.new.items result }
 {
-    payload.clear();
     if binary {
-        row.write_binary(columns, payload)
+        row.write_binary(columns, out)
     } else {
-        row.write_text(payload)
+        row.write_text(out)
     }
 }
 
-/// A row under the columns of the rows that go on.
-pub(crate) fn make_row(
-    payload: &mut Vec<u8>,
+/// Appends the payload of a row under the columns of the rows that go on.
+#[inline(always)]
+pub(crate) fn put_row_payload(
+    out: &mut Vec<u8>,
     binary: bool,
     result_number: usize,
     rows: &OpenRows,
     row: &Row,
 ) -> Result<(), ReplyRefusal>
-    ensures ok { OnOk result ((payload.new.items ≡ cells_payload binary (shared_columns rows.now.columns) (row_view row.now).cells) × (cells_cause_at binary result_number rows.now.count (shared_columns rows.now.columns) (row_view row.now).cells ≡ None)) }
+    ensures ok { OnOk result ((out.new.items ≡ out.old.items ++ cells_payload binary (shared_columns rows.now.columns) (row_view row.now).cells) × (cells_cause_at binary result_number rows.now.count (shared_columns rows.now.columns) (row_view row.now).cells ≡ None)) }
+    ensures kept { OnErr result (out.new.items ≡ out.old.items) }
     ensures err { IfErr result (IsCause (cells_cause_at binary result_number rows.now.count (shared_columns rows.now.columns) (row_view row.now).cells)) }
 {
     if row.len() != rows.columns.as_slice().len() {
@@ -197,7 +199,7 @@ pub(crate) fn make_row(
             row: rows.count,
         });
     }
-    match make_cells(payload, binary, rows.columns.as_slice(), row) {
+    match put_cells(out, binary, rows.columns.as_slice(), row) {
         Ok(()) => Ok(()),
         Err(RowRefusal::NoForm(place)) => Err(ReplyRefusal::NoForm {
             result: result_number,

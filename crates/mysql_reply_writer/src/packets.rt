@@ -1,6 +1,6 @@
 //! Payloads, numbered and framed.
 
-ghost use Rattle.std.specs.Prelude.{◌≡◌, ◌≤◌, ◌∷◌, [], IfErr, None, OnErr, OnOk, length, map, take};
+ghost use Rattle.std.specs.Prelude.{◌≡◌, ◌++◌, ◌-◌, ◌≤◌, ◌∷◌, [], IfErr, None, OnErr, OnOk, drop, length, map, take};
 ghost use Rattle.mysql_reply_packets.specs.Refusals.{cells_cause_at, or_cause, too_large};
 ghost use Rattle.mysql_rows.specs.Views.{row_view, shared_columns};
 ghost use Rattle.mysql_buf.specs.Writing.{lenenc_int};
@@ -10,21 +10,36 @@ ghost use Rattle.mysql_columns.specs.Columns.{column};
 ghost use Rattle.mysql_replies.specs.Views.{column_views};
 ghost use Rattle.mysql_reply_packets.specs.Fits.{CellsFit, ColumnsFit};
 ghost use Rattle.mysql_reply_packets.specs.Written.{cells_payload, eof_due, group_payloads, prepared_payloads};
+ghost use Rattle.mysql_wire.specs.Framing.{chunk, max_payload_len};
 ghost use Rattle.mysql_reply_writer.specs.Puts.{IsCause, Puts, RefusesPayloads};
 ghost use Rattle.mysql_reply_writer.specs.Views.{place_view};
 
 use crate::facts::{cells_fit, column_fits};
-use crate::made::{deprecates_eof, make_empty_eof, make_row};
+use crate::made::{deprecates_eof, make_empty_eof, put_row_payload};
 use crate::writer::OpenRows;
+use byteorder::{ByteOrder, LittleEndian};
 use mysql_buf::BufMutExt;
 use mysql_columns::Column;
-use mysql_const::CapabilityFlags;
+use mysql_const::{CapabilityFlags, MAX_PAYLOAD_LEN};
 use mysql_packets::StmtPacket;
 use mysql_raw::MySerialize;
 use mysql_reply_packets::ReplyRefusal;
 use mysql_rows::Row;
 use mysql_wire::packet_to_chunks;
 use std::alloc::Global;
+
+/// Writes the header of the chunk that stands from this place on to the end, into the four bytes before it.
+#[inline(always)]
+fn put_header(start: usize, number: u8, out: &mut Vec<u8>)
+    requires behind { 4 ≤ start }
+    requires inside { start ≤ length out.old.items }
+    requires fits { length out.old.items - start ≤ max_payload_len }
+    ensures { out.new.items ≡ take (start - 4) out.old.items ++ chunk number (drop start out.old.items) }
+{
+    let mut header = [0, 0, 0, number];
+    LittleEndian::write_u24(&mut header, (out.len() - start) as u32);
+    out[start - 4..start].copy_from_slice(&header);
+}
 
 /// The packets that are written. Each payload is made in a buffer first.
 #[derive(Drop)]
@@ -86,6 +101,71 @@ impl Packets {
         self.put_made(self.limit, out)
     }
 
+    /// Frames the payload that stands from this place on, behind room for a header: it is taken into the buffer and appended again.
+    #[cold]
+    fn frame_again(&mut self, start: usize, out: &mut Vec<u8>) -> Result<(), ReplyRefusal>
+        requires behind { 4 ≤ start }
+        requires inside { start ≤ length out.old.items }
+        ensures ok { OnOk result (Puts self.old.limit (place_view self.old) (drop start out.old.items ∷ []) (place_view self.new) (take (start - 4) out.old.items) out.new.items) }
+        ensures err { IfErr result (RefusesPayloads self.old.limit (place_view self.old) (drop start out.old.items ∷ [])) }
+        ensures kept { OnErr result (take (start - 4) out.new.items ≡ take (start - 4) out.old.items) }
+        ensures place { OnErr result (place_view self.new ≡ place_view self.old) }
+        ensures limit { self.new.limit ≡ self.old.limit }
+    {
+        self.payload.clear();
+        let (_, payload) = out.as_slice().split_at(start);
+        self.payload.extend_from_slice(payload)?;
+        out.truncate(start - 4);
+        self.put_made(self.limit, out)
+    }
+
+    /// The same: where one chunk is enough, the header is written where there is room for it.
+    #[inline(always)]
+    fn frame(&mut self, start: usize, out: &mut Vec<u8>) -> Result<(), ReplyRefusal>
+        requires behind { 4 ≤ start }
+        requires inside { start ≤ length out.old.items }
+        ensures ok { OnOk result (Puts self.old.limit (place_view self.old) (drop start out.old.items ∷ []) (place_view self.new) (take (start - 4) out.old.items) out.new.items) }
+        ensures err { IfErr result (RefusesPayloads self.old.limit (place_view self.old) (drop start out.old.items ∷ [])) }
+        ensures kept { OnErr result (take (start - 4) out.new.items ≡ take (start - 4) out.old.items) }
+        ensures place { OnErr result (place_view self.new ≡ place_view self.old) }
+        ensures limit { self.new.limit ≡ self.old.limit }
+    {
+        let size = out.len() - start;
+        if size >= MAX_PAYLOAD_LEN {
+            return self.frame_again(start, out);
+        }
+        if size > self.limit || self.payloads == u64::MAX {
+            return Err(ReplyRefusal::PacketTooLarge(self.payloads));
+        }
+        put_header(start, self.number, out);
+        self.number = self.number.wrapping_add(1);
+        self.payloads += 1;
+        Ok(())
+    }
+
+    /// Appends a row, framed. After a refusal what stood before stands in front.
+    #[inline(always)]
+    fn put_framed_row(
+        &mut self,
+        binary: bool,
+        result_number: usize,
+        rows: &OpenRows,
+        row: &Row,
+        out: &mut Vec<u8>,
+    ) -> Result<(), ReplyRefusal>
+        ensures ok { OnOk result (Puts self.old.limit (place_view self.old) (cells_payload binary (shared_columns rows.now.columns) (row_view row.now).cells ∷ []) (place_view self.new) out.old.items out.new.items) }
+        ensures form { OnOk result (cells_cause_at binary result_number rows.now.count (shared_columns rows.now.columns) (row_view row.now).cells ≡ None) }
+        ensures err { IfErr result (IsCause (or_cause (cells_cause_at binary result_number rows.now.count (shared_columns rows.now.columns) (row_view row.now).cells) (too_large self.old.limit self.old.payloads (cells_payload binary (shared_columns rows.now.columns) (row_view row.now).cells ∷ [])))) }
+        ensures kept { take (length out.old.items) out.new.items ≡ out.old.items }
+        ensures place { OnErr result (place_view self.new ≡ place_view self.old) }
+        ensures limit { self.new.limit ≡ self.old.limit }
+    {
+        out.extend_from_slice(&[0, 0, 0, 0])?;
+        let start = out.len();
+        put_row_payload(out, binary, result_number, rows, row)?;
+        self.frame(start, out)
+    }
+
     /// Appends a row under the columns of the rows that go on.
     pub(crate) fn put_row(
         &mut self,
@@ -104,9 +184,12 @@ impl Packets {
         ensures limit { self.new.limit ≡ self.old.limit }
     {
         cells_fit(row);
-        make_row(&mut self.payload, binary, result_number, rows, row)?;
-        let room = self.limit;
-        self.put_made(room, out)
+        let start = out.len();
+        let answer = self.put_framed_row(binary, result_number, rows, row, out);
+        if answer.is_err() {
+            out.truncate(start);
+        }
+        answer
     }
 
     /// Appends a packet for each column.

@@ -1,6 +1,7 @@
 -- What the code of writing speaks of: rows by their cells, of which some may have been taken, and what a call answered.
 -- MySQL: Client/Server Protocol, "Text Resultset Row", "Binary Protocol Resultset Row".
-use Rattle.std.specs.Prelude.{◌≡◌, ℕ, ◌&&◌, Bool, false, not, List, [], ◌∷◌, ◌++◌, map, flat_map, zip, Option, Some, None, Result, Ok, Err, unwrap_or}
+use Rattle.std.proofs.Common.{get_or, set}
+use Rattle.std.specs.Prelude.{◌≡◌, ℕ, ◌+◌, ◌/◌, ◌%◌, ◌^◌, ◌&&◌, if◌then◌else◌, Bool, false, not, List, [], ◌∷◌, ◌++◌, map, flat_map, zip, Option, Some, None, Result, Ok, Err, unwrap_or}
 use Rattle.std.specs.Option.{option_and_then}
 use Rattle.byteorder.specs.Endian.{little_bytes}
 use Rattle.mysql_cells.specs.Cells.{cell}
@@ -64,6 +65,10 @@ holds_null (Some value) = is_null value
 -- the bits of cells: two that stand for no column, and one for each
 abbrev pub null_marks : List (Option Value) → List Bool
 null_marks cells = false ∷ false ∷ map holds_null cells
+
+-- bytes in which, where a cell is NULL, the bit of this number was added to the bitmap that stands from a place on
+abbrev pub marked : Bool → ℕ → ℕ → List ℕ → List ℕ
+marked null bitmap number bytes = if null then set bytes (bitmap + number / 8) (get_or bytes (bitmap + number / 8) 0 + 2 ^ (number % 8)) else bytes
 
 -- A row was appended; or it was refused, by the place that speaks against it, or where none does for want of memory, and nothing changed.
 abbrev pub PutsRow : Option ℕ → List ℕ → List ℕ → List ℕ → Result (Unit {0}) RowRefusal → Type 0

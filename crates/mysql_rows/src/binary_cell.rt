@@ -1,22 +1,28 @@
 //! Cells of a binary row as they are written.
 
-ghost use Rattle.std.specs.Prelude.{◌≡◌, length};
+ghost use Rattle.std.specs.Prelude.{◌≡◌, ◌++◌, ◌+◌, ◌-◌, ◌/◌, ◌%◌, ◌^◌, ◌<◌, ◌≤◌, IsSomeAnd, OnErr, OnOk, length, ⊤};
+ghost use Rattle.std.proofs.Common.{get_or};
 ghost use Rattle.std.specs.Int.{w8, w16, w32, w64};
 ghost use Rattle.std.specs.Option.{option_map};
 ghost use Rattle.byteorder.specs.Endian.{little_bytes};
+ghost use Rattle.mysql_buf.specs.Writing.{lenenc_str};
 ghost use Rattle.mysql_raw.specs.Wire.{Appends};
 ghost use Rattle.mysql_columns.specs.Views.{column_view};
 ghost use Rattle.mysql_cells.specs.Cells.{form as form_by_type, has_no_sign as is_without_sign};
+ghost use Rattle.mysql_cells.specs.declared.cell_form.CellForm.TheVariants as cell_form;
+ghost use Rattle.mysql_cells.specs.declared.value.Value.TheVariants.{Int};
 ghost use Rattle.mysql_rows.specs.Written.{binary_cell, cell_in, number_cell, some_cell, whole_number as number_of};
-ghost use Rattle.mysql_rows.specs.CellsWritten.{cell_bytes, form_view};
+ghost use Rattle.mysql_cells.specs.Values.{is_null};
+ghost use Rattle.mysql_rows.specs.CellsWritten.{cell_bytes, form_view, marked};
 
+use crate::row_bitmap::mark;
+use crate::text_writing::put_text;
 use bitflags::Flags;
 use mysql_cells::Value;
-use mysql_cells::laws::cells_have_lengths;
 use mysql_columns::Column;
 use mysql_const::{ColumnFlags, ColumnType};
 use mysql_raw::MySerialize;
-use std::alloc::AllocError;
+use std::alloc::{AllocError, AllocFailed};
 
 /// The form of a type's cells.
 #[derive(Clone, Copy)]
@@ -169,23 +175,8 @@ pub fn cell_of<'a>(column: &Column, value: &'a Value) -> Option<Cell<'a>>
     )
 }
 
-/// How many bytes a cell has.
-pub fn cell_size(cell: Cell<'_>) -> u64
-    ensures { result ≡ length (cell_bytes cell.entry) }
-{
-    cells_have_lengths();
-    match cell {
-        Cell::Empty => 0,
-        Cell::One(_) => 1,
-        Cell::Two(_) => 2,
-        Cell::Four(_) => 4,
-        Cell::Eight(_) => 8,
-        Cell::Own(value) => value.bin_len(),
-    }
-}
-
 /// Appends a cell.
-pub fn put_cell(cell: Cell<'_>, out: &mut Vec<u8>) -> Result<(), AllocError>
+fn put_cell(cell: Cell<'_>, out: &mut Vec<u8>) -> Result<(), AllocError>
     ensures { Appends result out.old.items out.new.items (cell_bytes cell.entry) }
 {
     match cell {
@@ -195,5 +186,116 @@ pub fn put_cell(cell: Cell<'_>, out: &mut Vec<u8>) -> Result<(), AllocError>
         Cell::Four(number) => out.extend_from_slice(&number.to_le_bytes()),
         Cell::Eight(number) => out.extend_from_slice(&number.to_le_bytes()),
         Cell::Own(value) => value.serialize(out),
+    }
+}
+
+/// A cell that isn't written: it has no form, or memory for it was refused.
+#[derive(Clone, Copy)]
+pub struct NotWritten;
+
+impl From<AllocError> for NotWritten {
+    ghost from_gives = { λ _ _. ⊤ };
+
+    fn from(_e: AllocError) -> NotWritten {
+        NotWritten
+    }
+}
+
+impl From<AllocFailed<u8>> for NotWritten {
+    ghost from_gives = { λ _ _. ⊤ };
+
+    fn from(_e: AllocFailed<u8>) -> NotWritten {
+        NotWritten
+    }
+}
+
+/// Appends the cell of a value by its column's type and flags.
+#[inline(never)]
+fn put_any(column: &Column, value: &Value, out: &mut Vec<u8>) -> Result<(), NotWritten>
+    ensures ok { OnOk result (IsSomeAnd (cell_in (column_view column.now) value.now) (λ bytes. out.new.items ≡ out.old.items ++ bytes)) }
+    ensures kept { OnErr result (out.new.items ≡ out.old.items) }
+{
+    match cell_of(column, value) {
+        Some(cell) => Ok(put_cell(cell, out)?),
+        None => Err(NotWritten),
+    }
+}
+
+/// Appends the cell of bytes.
+#[inline(always)]
+fn put_bytes(column: &Column, bytes: &[u8], out: &mut Vec<u8>) -> Result<(), NotWritten>
+    ensures ok { OnOk result ((form_by_type (column_view column.now).column_type ≡ cell_form.Counted) × (out.new.items ≡ out.old.items ++ lenenc_str bytes.now)) }
+    ensures kept { OnErr result (out.new.items ≡ out.old.items) }
+{
+    match form_of(column.column_type()) {
+        Form::Counted => Ok(put_text(bytes, out)?),
+        _ => Err(NotWritten),
+    }
+}
+
+/// Appends the eight bytes of a number that is in range.
+#[inline(always)]
+fn put_eight(number: Option<u64>, out: &mut Vec<u8>) -> Result<(), NotWritten>
+    ensures ok { OnOk result (IsSomeAnd (option_map (little_bytes 8) number) (λ bytes. out.new.items ≡ out.old.items ++ bytes)) }
+    ensures kept { OnErr result (out.new.items ≡ out.old.items) }
+{
+    match number {
+        Some(number) => Ok(out.extend_from_slice(&number.to_le_bytes())?),
+        None => Err(NotWritten),
+    }
+}
+
+/// The same of four bytes.
+#[inline(always)]
+fn put_four(number: Option<u32>, out: &mut Vec<u8>) -> Result<(), NotWritten>
+    ensures ok { OnOk result (IsSomeAnd (option_map (little_bytes 4) number) (λ bytes. out.new.items ≡ out.old.items ++ bytes)) }
+    ensures kept { OnErr result (out.new.items ≡ out.old.items) }
+{
+    match number {
+        Some(number) => Ok(out.extend_from_slice(&number.to_le_bytes())?),
+        None => Err(NotWritten),
+    }
+}
+
+/// Appends the cell of a number with a sign, which the value is.
+#[inline(always)]
+fn put_int(column: &Column, value: &Value, number: i64, out: &mut Vec<u8>) -> Result<(), NotWritten>
+    requires { value.now ≡ Int number }
+    ensures ok { OnOk result (IsSomeAnd (cell_in (column_view column.now) value.now) (λ bytes. out.new.items ≡ out.old.items ++ bytes)) }
+    ensures kept { OnErr result (out.new.items ≡ out.old.items) }
+{
+    let unsigned = has_no_sign(column.flags());
+    match form_of(column.column_type()) {
+        Form::Whole8 => put_eight(in_eight(unsigned, i128::from(number)), out),
+        Form::Whole4 => put_four(in_four(unsigned, i128::from(number)), out),
+        _ => put_any(column, value, out),
+    }
+}
+
+/// Appends the cell of the value at a place; NULL sets its bit in the bitmap that stands from `bitmap` on. The kinds that most
+/// values have come first.
+#[inline(always)]
+pub fn put_value(
+    bitmap: usize,
+    place: usize,
+    column: &Column,
+    value: &Value,
+    out: &mut Vec<u8>,
+) -> Result<(), NotWritten>
+    requires few { place ≤ usize.MAX - 2 }
+    requires inside { bitmap + (place + 2) / 8 < length out.old.items }
+    requires room { get_or out.old.items (bitmap + (place + 2) / 8) 0 + 2 ^ ((place + 2) % 8) < 256 }
+    ensures ok { OnOk result (IsSomeAnd (cell_in (column_view column.now) value.now) (λ bytes. out.new.items ≡ marked (is_null value.now) bitmap (place + 2) out.old.items ++ bytes)) }
+    ensures kept { OnErr result (out.new.items ≡ out.old.items) }
+{
+    match value {
+        Value::NULL => {
+            mark(bitmap, place + 2, out);
+            Ok(())
+        }
+        Value::Bytes(bytes) => put_bytes(column, bytes.as_slice(), out),
+        Value::Int(number) => put_int(column, value, *number, out),
+        Value::UInt(_) | Value::Float(_) | Value::Double(_) | Value::Date(..) | Value::Time(..) =>
+            put_any(column, value, out),
     }
 }

@@ -1,19 +1,18 @@
 //! Binary rows as they are written.
 
-ghost use Rattle.std.specs.Prelude.{◌≡◌, ◌++◌, ◌∷◌, [], MatchResult, None, OnOk, Some, length, map, take, unwrap_or};
+ghost use Rattle.std.specs.Prelude.{◌≡◌, ◌++◌, ◌∷◌, ◌+◌, ◌-◌, ◌/◌, ◌%◌, ◌^◌, ◌<◌, ◌≤◌, [], None, OnErr, OnOk, drop, false, is_none, length, map, replicate, take, unwrap_or};
+ghost use Rattle.std.proofs.Common.{get_or};
 ghost use Rattle.std.specs.Option.{option_and_then, option_map};
-ghost use Rattle.mysql_raw.specs.Wire.{Appends};
 ghost use Rattle.mysql_columns.specs.Views.{column_view};
 ghost use Rattle.mysql_rows.specs.Written.{binary_cause, bits_bytes, cell_in};
-ghost use Rattle.mysql_rows.specs.CellsWritten.{cell_bytes, cells_in, null_marks};
+ghost use Rattle.mysql_rows.specs.CellsWritten.{cell_bytes, cells_in, holds_null as is_held_null, marked, null_marks};
 ghost use Rattle.mysql_rows.specs.Views.{column_views};
 
-use crate::binary_cell::{Cell, cell_of, cell_size, put_cell};
+use crate::binary_cell::{Cell, NotWritten, cell_of, put_value};
 use crate::held::Held;
-use crate::row_bitmap::put_bitmap;
+use crate::row_bitmap::put_zeros;
 use mysql_columns::Column;
 use mysql_null_bitmap::{NullBitmap, ServerSide};
-use std::alloc::AllocError;
 
 /// The cell of what is held, by its column.
 fn held_cell<'a, C: Held>(column: &Column, cell: &'a C) -> Option<Cell<'a>>
@@ -22,55 +21,83 @@ fn held_cell<'a, C: Held>(column: &Column, cell: &'a C) -> Option<Cell<'a>>
     cell_of(column, cell.held()?)
 }
 
-/// How many bytes a row of these cells has; or the first one that has no form.
-pub fn row_size<C: Held>(columns: &[Column], cells: &[C]) -> Result<u64, usize>
+/// The first cell that has no form.
+#[cold]
+pub fn first_without_form<C: Held>(columns: &[Column], cells: &[C]) -> Option<usize>
     requires { length columns.now ≡ length cells.now }
-    ensures { MatchResult result (λ _. binary_cause (column_views columns.now) (map C.held cells.now) ≡ None) (λ place. binary_cause (column_views columns.now) (map C.held cells.now) ≡ Some place) }
+    ensures { result ≡ binary_cause (column_views columns.now) (map C.held cells.now) }
 {
-    let mut size = 1 + NullBitmap::<ServerSide, &[u8]>::bitmap_len(columns.len()) as u64;
     for (place, column) in columns.iter().enumerate() {
-        match held_cell(column, &cells[place]) {
-            Some(cell) => size = size.saturating_add(cell_size(cell)),
-            None => return Err(place),
+        if held_cell(column, &cells[place]).is_none() {
+            return Some(place);
         }
     }
-    Ok(size)
+    None
 }
 
-/// Appends what is held; nothing where that has no form.
-fn put_held<C: Held>(column: &Column, cell: &C, out: &mut Vec<u8>) -> Result<(), AllocError>
-    ensures { Appends result out.old.items out.new.items (unwrap_or (option_and_then (cell_in (column_view column.now)) (C.held cell.now)) []) }
+/// Appends what is held at a place; NULL sets its bit in the bitmap that stands from `bitmap` on. Refused where that has no form, or
+/// for want of memory.
+#[inline(always)]
+fn put_held<C: Held>(
+    bitmap: usize,
+    place: usize,
+    column: &Column,
+    cell: &C,
+    out: &mut Vec<u8>,
+) -> Result<(), NotWritten>
+    requires few { place ≤ usize.MAX - 2 }
+    requires inside { bitmap + (place + 2) / 8 < length out.old.items }
+    requires room { get_or out.old.items (bitmap + (place + 2) / 8) 0 + 2 ^ ((place + 2) % 8) < 256 }
+    ensures ok { OnOk result (out.new.items ≡ marked (is_held_null (C.held cell.now)) bitmap (place + 2) out.old.items ++ unwrap_or (option_and_then (cell_in (column_view column.now)) (C.held cell.now)) []) }
+    ensures form { OnOk result (is_none (option_and_then (cell_in (column_view column.now)) (C.held cell.now)) ≡ false) }
+    ensures kept { OnErr result (out.new.items ≡ out.old.items) }
 {
-    match held_cell(column, cell) {
-        Some(cell) => put_cell(cell, out),
-        None => Ok(()),
+    match cell.held() {
+        Some(value) => put_value(bitmap, place, column, value, out),
+        None => Err(NotWritten),
     }
 }
 
-/// Appends the cells that have a form. After a refusal what stood before stands in front.
-fn put_cells<C: Held>(columns: &[Column], cells: &[C], out: &mut Vec<u8>) -> Result<(), AllocError>
-    requires { length columns.now ≡ length cells.now }
-    ensures ok { OnOk result (out.new.items ≡ out.old.items ++ cells_in (column_views columns.now) (map C.held cells.now)) }
-    ensures kept { take (length out.old.items) out.new.items ≡ out.old.items }
+/// Appends the cells, of which each one has to have a form, and sets the bits of those that are NULL in the bitmap of zeros that
+/// stands from a place on. After a refusal what stood before the bitmap stands in front.
+fn put_cells<C: Held>(
+    bitmap: usize,
+    columns: &[Column],
+    cells: &[C],
+    out: &mut Vec<u8>,
+) -> Result<(), NotWritten>
+    requires same { length columns.now ≡ length cells.now }
+    requires few { length cells.now ≤ usize.MAX - 9 }
+    requires from { bitmap ≤ length out.old.items }
+    requires clear { drop bitmap out.old.items ≡ replicate ((length cells.now + 9) / 8) 0 }
+    ensures form { OnOk result (binary_cause (column_views columns.now) (map C.held cells.now) ≡ None) }
+    ensures ok { OnOk result (out.new.items ≡ take bitmap out.old.items ++ (bits_bytes (null_marks (map C.held cells.now)) ++ cells_in (column_views columns.now) (map C.held cells.now))) }
+    ensures kept { take bitmap out.new.items ≡ take bitmap out.old.items }
 {
     for (place, column) in columns.iter().enumerate() {
-        put_held(column, &cells[place], out)?;
+        put_held(bitmap, place, column, &cells[place], out)?;
     }
     Ok(())
 }
 
-/// Appends a row. After a refusal what stood before stands in front.
+/// Appends a row, of which each cell has to have a form. After a refusal what stood before stands in front.
+#[inline(never)]
 pub fn put_row<C: Held>(
     columns: &[Column],
     cells: &[C],
     out: &mut Vec<u8>,
-) -> Result<(), AllocError>
+) -> Result<(), NotWritten>
     requires { length columns.now ≡ length cells.now }
+    ensures form { OnOk result (binary_cause (column_views columns.now) (map C.held cells.now) ≡ None) }
     ensures ok { OnOk result (out.new.items ≡ out.old.items ++ 0 ∷ (bits_bytes (null_marks (map C.held cells.now)) ++ cells_in (column_views columns.now) (map C.held cells.now))) }
     ensures kept { take (length out.old.items) out.new.items ≡ out.old.items }
 {
     let _few = columns.len();
     out.push(0)?;
-    put_bitmap(cells, out)?;
-    put_cells(columns, cells, out)
+    let bitmap = out.len();
+    put_zeros(
+        NullBitmap::<ServerSide, &[u8]>::bitmap_len(cells.len()),
+        out,
+    )?;
+    put_cells(bitmap, columns, cells, out)
 }

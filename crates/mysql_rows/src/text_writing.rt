@@ -18,7 +18,7 @@ use std::alloc::AllocError;
 
 /// Appends a text after its length.
 #[inline(always)]
-fn put_text(text: &[u8], out: &mut Vec<u8>) -> Result<(), AllocError>
+pub fn put_text(text: &[u8], out: &mut Vec<u8>) -> Result<(), AllocError>
     ensures { Appends result out.old.items out.new.items (lenenc_str text.now) }
 {
     if text.len() > 250 {

@@ -28,7 +28,7 @@ pub(crate) fn write_text<C: Held>(cells: &[C], out: &mut Vec<u8>) -> Result<(), 
     Ok(())
 }
 
-/// Appends a binary row, after room was made for all of it.
+/// Appends a binary row.
 pub(crate) fn write_binary<C: Held>(
     columns: &[Column],
     cells: &[C],
@@ -37,17 +37,15 @@ pub(crate) fn write_binary<C: Held>(
     requires { length columns.now ≡ length cells.now }
     ensures { PutsRow (binary_cause (column_views columns.now) (map C.held cells.now)) (binary_row (column_views columns.now) (values_of (map C.held cells.now))) out.old.items out.new.items result }
 {
-    let size = match binary_writing::row_size(columns, cells) {
-        Ok(size) => size,
-        Err(place) => return Err(RowRefusal::NoForm(place)),
-    };
-    out.reserve(size as usize)?;
     let len = out.len();
-    if binary_writing::put_row(columns, cells, out).is_err() {
-        out.truncate(len);
-        return Err(RowRefusal::Memory);
+    if binary_writing::put_row(columns, cells, out).is_ok() {
+        return Ok(());
     }
-    Ok(())
+    out.truncate(len);
+    match binary_writing::first_without_form(columns, cells) {
+        Some(place) => Err(RowRefusal::NoForm(place)),
+        None => Err(RowRefusal::Memory),
+    }
 }
 
 /// Appends the text row of these values: NULL as fb, else the value's text after its length, of a number its digits, bytes and

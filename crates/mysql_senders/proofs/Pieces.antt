@@ -1,8 +1,9 @@
 -- The byte strings of a set as long data, and the size by which it is refused.
-use Rattle.std.proofs.Common.{◌≡◌, ℕ, ◌+◌, ◌/◌, ◌<◌, ◌≤◌, ◌==◌, nat_lt, Bool, true, false, List, [], ◌∷◌, ◌++◌, length, map, take, drop, get_or, Option, Some, None, refl, sym, ◌∙◌, ap, inl, inr, arith, append_assoc, Bor, if◌then◌else◌}
+use Rattle.std.proofs.Common.{◌≡◌, ℕ, ◌+◌, ◌/◌, ◌<◌, ◌≤◌, ◌==◌, nat_lt, Bool, true, false, List, [], ◌∷◌, ◌++◌, length, map, take, drop, get_or, Option, Some, None, refl, sym, ◌∙◌, ap, inl, inr, arith, append_assoc, if◌then◌else◌, ◌-◌, length-append, length-drop, length-take, Bor}
 use Rattle.std.specs.Prelude.{IfSome, SomeIff, is_none}
 use Rattle.std.proofs.lemmas.Bool.{cases_lt, eqb-false, le-ltb, lt-ltb}
-use Rattle.std.proofs.lemmas.List.{append-nil, drop_all, take-append-le, take-take, take_all}
+use Rattle.std.proofs.lemmas.List.{append-nil, drop_all, take-append-le, take-take, take_all, take_at}
+use borrow.Rule.Slice.PartMut.{Post-is, post_of}
 use Rattle.byteorder.specs.Endian.{little_bytes}
 use Rattle.mysql_wire.specs.Framing.{chunk, chunks, framing}
 use Rattle.mysql_wire.specs.Stream.{framings}
@@ -10,22 +11,18 @@ use Rattle.mysql_wire.specs.Stream.Numbering.{EachFromZero}
 use Rattle.mysql_values.specs.Value.{Value}
 use Rattle.mysql_stmt.specs.Executions.{execute_command, needs_long_data, whole_size}
 use Rattle.mysql_stmt.specs.Statements.{ExecutionsHaveSizes}
-use Rattle.mysql_streams.specs.Commands.{piece_of, pieces_from}
+use Rattle.mysql_streams.specs.Commands.{piece_of, pieces_from, prepare_command}
 use Rattle.mysql_senders.specs.OneSet.{execution_payloads, whole_execution}
 use Rattle.mysql_senders.proofs.SentSets.{framings-append, front_length, next_set}
 
--- what references refer to
-abbrev pub referred : List (Bor Value) → List Value
-referred values = map (λ value. value.now) values
-
 -- the pieces of the values before a place were sent: those from there on are left
-pub record PiecesSent (id : ℕ) (values : List (Bor Value)) (old out : List ℕ) (i : ℕ) : Type 0 where
-  pub bytes : out ++ framings (pieces_from id i (referred (drop i values))) EachFromZero ≡ old ++ framings (pieces_from id 0 (referred values)) EachFromZero
+pub record PiecesSent {T : Type 0} (id : ℕ) (lent : T → Value) (values : List T) (old out : List ℕ) (i : ℕ) : Type 0 where
+  pub bytes : out ++ framings (pieces_from id i (map lent (drop i values))) EachFromZero ≡ old ++ framings (pieces_from id 0 (map lent values)) EachFromZero
   pub kept : take (length old) out ≡ old
 
 -- before the first value none was sent
-pub no_pieces : (id : ℕ) (values : List (Bor Value)) (old : List ℕ) → PiecesSent id values old old 0
-no_pieces id values old = record { bytes = refl; kept = take_all (length old) old (omega arith) }
+pub no_pieces : (id : ℕ) {T : Type 0} (lent : T → Value) (values : List T) (old : List ℕ) → PiecesSent id lent values old old 0
+no_pieces id lent values old = record { bytes = refl; kept = take_all (length old) old (omega arith) }
 
 -- the piece at a place comes before those behind it
 from_piece : (id i : ℕ) (value : Value) (values : List Value) → framings (pieces_from id i (value ∷ values)) EachFromZero ≡ framings (piece_of id i value) EachFromZero ++ framings (pieces_from id (i + 1) values) EachFromZero
@@ -33,19 +30,23 @@ unfolding pieces_from
 from_piece id i value values = framings-append (piece_of id i value) (pieces_from id (i + 1) values)
 
 -- one more was sent
-pub next_piece : (id : ℕ) (values : List (Bor Value)) (old out new : List ℕ) (i place : ℕ) (value : Bor Value) → PiecesSent id values old out i → i < length values → value ≡ get_or values i value → place ≡ i
-    → new ≡ out ++ framings (piece_of id place value.now) EachFromZero → PiecesSent id values old new (i + 1)
-next_piece id values old out new i place value s inside is at put =
-    let later : List Value = referred (drop (i + 1) values) in
-    let here : new ≡ out ++ framings (piece_of id i value.now) EachFromZero = put ∙ ap (λ n. out ++ framings (piece_of id n value.now) EachFromZero) at in
+pub next_piece : (id : ℕ) {T : Type 0} (lent : T → Value) (values : List T) (old out new : List ℕ) (i place : ℕ) (value : T) → PiecesSent id lent values old out i → i < length values → value ≡ get_or values i value → place ≡ i
+    → new ≡ out ++ framings (piece_of id place (lent value)) EachFromZero → PiecesSent id lent values old new (i + 1)
+next_piece id lent values old out new i place value s inside is at put =
+    let later : List Value = map lent (drop (i + 1) values) in
+    let here : new ≡ out ++ framings (piece_of id i (lent value)) EachFromZero = put ∙ ap (λ n. out ++ framings (piece_of id n (lent value)) EachFromZero) at in
     record {
       bytes = ap (λ l. l ++ framings (pieces_from id (i + 1) later) EachFromZero) here
-          ∙ append_assoc out (framings (piece_of id i value.now) EachFromZero) (framings (pieces_from id (i + 1) later) EachFromZero)
-          ∙ ap (λ l. out ++ l) (sym (from_piece id i value.now later))
-          ∙ ap (λ l. out ++ framings (pieces_from id i (referred l)) EachFromZero) (sym (next_set values i value inside is))
+          ∙ append_assoc out (framings (piece_of id i (lent value)) EachFromZero) (framings (pieces_from id (i + 1) later) EachFromZero)
+          ∙ ap (λ l. out ++ l) (sym (from_piece id i (lent value) later))
+          ∙ ap (λ l. out ++ framings (pieces_from id i (map lent l)) EachFromZero) (sym (next_set values i value inside is))
           ∙ s.bytes;
-      kept = ap (λ l. take (length old) l) here ∙ take-append-le (length old) out (framings (piece_of id i value.now) EachFromZero) (front_length old out s.kept) ∙ s.kept;
+      kept = ap (λ l. take (length old) l) here ∙ take-append-le (length old) out (framings (piece_of id i (lent value)) EachFromZero) (front_length old out s.kept) ∙ s.kept;
     }
+
+-- the piece of a value that is lent is that of the value
+pub same_piece : (id place : ℕ) (out new : List ℕ) (value other : Value) → value ≡ other → new ≡ out ++ framings (piece_of id place value) EachFromZero → new ≡ out ++ framings (piece_of id place other) EachFromZero
+same_piece id place out new value other same put = put ∙ ap (λ (v : Value). out ++ framings (piece_of id place v) EachFromZero) same
 
 -- behind the last value none is left
 no_more : (id i : ℕ) → framings (pieces_from id i []) EachFromZero ≡ []
@@ -53,9 +54,9 @@ unfolding pieces_from
 no_more id i = refl
 
 -- all were sent
-pub all_pieces : (id : ℕ) (values : List (Bor Value)) (old out : List ℕ) (i : ℕ) → PiecesSent id values old out i → length values ≤ i → out ≡ old ++ framings (pieces_from id 0 (referred values)) EachFromZero
-all_pieces id values old out i s passed =
-    sym (append-nil out) ∙ ap (λ l. out ++ l) (sym (no_more id i)) ∙ ap (λ l. out ++ framings (pieces_from id i (referred l)) EachFromZero) (sym (drop_all i values passed)) ∙ s.bytes
+pub all_pieces : (id : ℕ) {T : Type 0} (lent : T → Value) (values : List T) (old out : List ℕ) (i : ℕ) → PiecesSent id lent values old out i → length values ≤ i → out ≡ old ++ framings (pieces_from id 0 (map lent values)) EachFromZero
+all_pieces id lent values old out i s passed =
+    sym (append-nil out) ∙ ap (λ l. out ++ l) (sym (no_more id i)) ∙ ap (λ l. out ++ framings (pieces_from id i (map lent l)) EachFromZero) (sym (drop_all i values passed)) ∙ s.bytes
 
 -- an execution behind its pieces
 pub sent_apart : (id : ℕ) (values : List Value) (old mid new : List ℕ) → true ≡ needs_long_data values → mid ≡ old ++ framings (pieces_from id 0 values) EachFromZero → new ≡ mid ++ framing (execute_command id values (needs_long_data values)) 0
@@ -81,14 +82,14 @@ kept_on old mid new first second =
     sym (take-take (length old) (length mid) new (front_length old mid first)) ∙ ap (λ l. take (length old) l) second ∙ first
 
 -- values that are not empty are some
-pub not_empty : (values : List (Bor Value)) (empty : Bool) → empty ≡ (length values == 0) → empty ≡ false → 0 < length values
+pub not_empty : {T : Type 0} (values : List T) (empty : Bool) → empty ≡ (length values == 0) → empty ≡ false → 0 < length values
 not_empty [] empty is some = absurd (eqb-false 0 0 (sym is ∙ some) refl)
 not_empty (value ∷ values) empty is some = omega arith
 
 -- by its size an execution is sent whole or apart
-pub long_by_size : ExecutionsHaveSizes → (id size : ℕ) (values : List (Bor Value)) → length (whole_execution id (referred values)) ≡ size → needs_long_data (referred values) ≡ nat_lt 16777215 size
-long_by_size sizes id size [] is = ap (λ n. nat_lt 16777215 n) (sym (sizes.0 id) ∙ is)
-long_by_size sizes id size (value ∷ values) is = ap (λ n. nat_lt 16777215 n) (sym (sizes.1 id value.now (referred values)) ∙ is)
+pub long_by_size : ExecutionsHaveSizes → (id size : ℕ) {T : Type 0} (lent : T → Value) (values : List T) → length (whole_execution id (map lent values)) ≡ size → needs_long_data (map lent values) ≡ nat_lt 16777215 size
+long_by_size sizes id size lent [] is = ap (λ n. nat_lt 16777215 n) (sym (sizes.0 id) ∙ is)
+long_by_size sizes id size lent (value ∷ values) is = ap (λ n. nat_lt 16777215 n) (sym (sizes.1 id (lent value) (map lent values)) ∙ is)
 
 -- a payload that one chunk holds
 pub short_framing : (payload : List ℕ) → length payload < 16777215 → little_bytes 3 (length payload) ++ (0 ∷ payload) ≡ framing payload 0
@@ -98,31 +99,74 @@ short_framing payload short =
     let whole : take 16777215 payload ≡ payload = take_all 16777215 payload (omega (arith, short)) in
     sym (ap (λ n. chunks payload 0 (n + 1)) none ∙ append-nil (chunk 0 (take 16777215 payload)) ∙ ap (λ l. chunk 0 l) whole)
 
+-- which stands behind its header
+pub headed : (payload header : List ℕ) (size : ℕ) → length payload ≡ size → size < 16777215 → header ≡ little_bytes 3 size ++ 0 ∷ [] → header ++ payload ≡ framing payload 0
+headed payload header size is short made =
+    ap (λ h. h ++ payload) (made ∙ ap (λ n. little_bytes 3 n ++ 0 ∷ []) (sym is)) ∙ append_assoc (little_bytes 3 (length payload)) (0 ∷ []) payload ∙ short_framing payload (omega (arith, is, short))
+
+-- what stands where a header was put in the place of four bytes of a list
+headed_bytes : (start size : ℕ) (items header : List ℕ) → start + 4 ≤ length items → length (drop (start + 4) items) ≡ size → size < 16777215 → header ≡ little_bytes 3 size ++ 0 ∷ []
+    → take start items ++ (header ++ post_of start (start + 4 - start) items) ≡ take start items ++ framing (drop (start + 4) items) 0
+headed_bytes start size items header inside is short made =
+    ap (λ l. take start items ++ (header ++ l)) (Post-is start (start + 4) items (omega arith)) ∙ ap (λ l. take start items ++ l) (headed (drop (start + 4) items) header size is short made)
+
+-- the same of the bytes that the list lent, and took back
+pub headed_in_place : (start size len : ℕ) (items lent header put : List ℕ) → start + 4 ≤ length items → len ≡ length items → lent ≡ items → put ≡ header → length header ≡ 4
+    → length (drop (start + 4) items) ≡ size → size < 16777215 → header ≡ little_bytes 3 size ++ 0 ∷ []
+    → take len (take start lent ++ (put ++ post_of start (start + 4 - start) lent) ++ drop (length (take start lent ++ (put ++ post_of start (start + 4 - start) lent))) items)
+    ≡ take start items ++ framing (drop (start + 4) items) 0
+headed_in_place start size len items lent header put inside all same copied four is short made =
+    let whole : List ℕ = take start lent ++ (put ++ post_of start (start + 4 - start) lent) in
+    let here : whole ≡ take start items ++ (header ++ post_of start (start + 4 - start) items) =
+    ap (λ l. take start l ++ (put ++ post_of start (start + 4 - start) l)) same ∙ ap (λ l. take start items ++ (l ++ post_of start (start + 4 - start) items)) copied in
+    let behind : post_of start (start + 4 - start) items ≡ drop (start + 4) items = Post-is start (start + 4) items (omega arith) in
+    let long : length whole ≡ len =
+    omega (
+      arith,
+      all,
+      inside,
+      four,
+      ap length here,
+      ap length behind,
+      length-append (take start items) (header ++ post_of start (start + 4 - start) items),
+      length-append header (post_of start (start + 4 - start) items),
+      length-take start items,
+      length-drop (start + 4) items,
+    ) in
+    take_at whole (drop (length whole) items) len long ∙ here ∙ headed_bytes start size items header inside is short made
+
+-- a prepare that one packet holds, behind its header
+pub prepared_short : (parsed old mid more new header : List ℕ) (size : ℕ) → size ≡ length parsed + 1 → size < 16777215 → header ≡ little_bytes 3 size ++ 0 ∷ [] → mid ≡ old ++ header → more ≡ mid ++ 22 ∷ [] → new ≡ more ++ parsed
+    → new ≡ old ++ framing (prepare_command parsed) 0
+prepared_short parsed old mid more new header size is short made put command behind =
+    behind ∙ ap (λ l. l ++ parsed) (command ∙ ap (λ l. l ++ 22 ∷ []) put) ∙ append_assoc (old ++ header) (22 ∷ []) parsed ∙ append_assoc old header (22 ∷ parsed)
+    ∙ ap (λ l. old ++ l) (headed (22 ∷ parsed) header size (omega (arith, is)) short made)
+
 -- an execution that one packet holds, behind its header
-pub sent_short : ExecutionsHaveSizes → (id size : ℕ) (values : List (Bor Value)) (old mid new header : List ℕ) → length (whole_execution id (referred values)) ≡ size → size < 16777215
-    → header ≡ little_bytes 3 size ++ 0 ∷ [] → mid ≡ old ++ header → new ≡ mid ++ whole_execution id (referred values) → new ≡ old ++ framings (execution_payloads id (referred values)) EachFromZero
-sent_short sizes id size values old mid new header is short made put behind =
-    let whole : List ℕ = whole_execution id (referred values) in
-    let none : needs_long_data (referred values) ≡ false = long_by_size sizes id size values is ∙ le-ltb 16777215 size (omega (arith, short)) in
-    sent_whole id (referred values) old old new (sym none) refl
+pub sent_short : ExecutionsHaveSizes → (id size : ℕ) {T : Type 0} (lent : T → Value) (values : List T) (old mid new header : List ℕ) → length (whole_execution id (map lent values)) ≡ size → size < 16777215
+    → header ≡ little_bytes 3 size ++ 0 ∷ [] → mid ≡ old ++ header → new ≡ mid ++ whole_execution id (map lent values) → new ≡ old ++ framings (execution_payloads id (map lent values)) EachFromZero
+sent_short sizes id size lent values old mid new header is short made put behind =
+    let whole : List ℕ = whole_execution id (map lent values) in
+    let none : needs_long_data (map lent values) ≡ false = long_by_size sizes id size lent values is ∙ le-ltb 16777215 size (omega (arith, short)) in
+    sent_whole id (map lent values) old old new (sym none) refl
     (behind ∙ ap (λ l. l ++ whole) (put ∙ ap (λ l. old ++ l) (made ∙ ap (λ n. little_bytes 3 n ++ 0 ∷ []) (sym is)))
     ∙ append_assoc old (little_bytes 3 (length whole) ++ 0 ∷ []) whole
     ∙ ap (λ l. old ++ l) (short_framing whole (omega (arith, is, short)))
-    ∙ ap (λ b. old ++ framing (execute_command id (referred values) b) 0) (sym none))
+    ∙ ap (λ b. old ++ framing (execute_command id (map lent values) b) 0) (sym none))
 
 -- the size of an execution that has values, where it is within the room
-pub size_of_some : ExecutionsHaveSizes → (values : List (Bor Value)) (room : ℕ) → 0 < length values → (within : Option ℕ) → SomeIff within (whole_size (referred values) ≤ room) (whole_size (referred values))
-    → IfSome within (λ size. (id : ℕ) → length (whole_execution id (referred values)) ≡ size)
-size_of_some sizes [] room some within is = absurd (omega (arith, some))
-size_of_some sizes (value ∷ values) room some None is = tt
-size_of_some sizes (value ∷ values) room some (Some size) is = λ id. sizes.1 id value.now (referred values) ∙ sym is.1
+pub size_of_some : ExecutionsHaveSizes → {T : Type 0} (lent : T → Value) (values : List T) (room : ℕ) → 0 < length values → (within : Option ℕ) → SomeIff within (whole_size (map lent values) ≤ room) (whole_size (map lent values))
+    → IfSome within (λ size. (id : ℕ) → length (whole_execution id (map lent values)) ≡ size)
+size_of_some sizes lent [] room some within is = absurd (omega (arith, some))
+size_of_some sizes lent (value ∷ values) room some None is = tt
+size_of_some sizes lent (value ∷ values) room some (Some size) is = λ id. sizes.1 id (lent value) (map lent values) ∙ sym is.1
 
 -- whether it is too long
 exceeds : (size room : ℕ) (within : Option ℕ) → SomeIff within (size ≤ room) size → nat_lt room size ≡ is_none within
 exceeds size room None is = elim (cases_lt room size) [ inl more ↦ lt-ltb room size more | inr fits ↦ absurd (is fits) ]
 exceeds size room (Some found) is = le-ltb room size is.0
 
-pub too_long : ExecutionsHaveSizes → (values : List (Bor Value)) (room : ℕ) → 0 < length values → (within : Option ℕ) → SomeIff within (whole_size (referred values) ≤ room) (whole_size (referred values))
-    → (id : ℕ) → nat_lt room (length (whole_execution id (referred values))) ≡ is_none within
-too_long sizes [] room some within is id = absurd (omega (arith, some))
-too_long sizes (value ∷ values) room some within is id = ap (λ n. nat_lt room n) (sizes.1 id value.now (referred values)) ∙ exceeds (whole_size (referred (value ∷ values))) room within is
+pub too_long : ExecutionsHaveSizes → {T : Type 0} (lent : T → Value) (values : List T) (room : ℕ) → 0 < length values → (within : Option ℕ) → SomeIff within (whole_size (map lent values) ≤ room) (whole_size (map lent values))
+    → (id : ℕ) → nat_lt room (length (whole_execution id (map lent values))) ≡ is_none within
+too_long sizes lent [] room some within is id = absurd (omega (arith, some))
+too_long sizes lent (value ∷ values) room some within is id = ap (λ n. nat_lt room n) (sizes.1 id (lent value) (map lent values)) ∙ exceeds (whole_size (map lent (value ∷ values))) room within is

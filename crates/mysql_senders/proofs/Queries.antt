@@ -12,7 +12,8 @@ use Rattle.mysql_values.specs.Laws.{OneTokens}
 use Rattle.mysql_values.specs.Params.{IsMeaning, values_over}
 use Rattle.mysql_values.specs.Parsed.{names_of}
 use Rattle.mysql_values.specs.Tokens.{HasTokens}
-use Rattle.mysql_values.specs.Queries.{places_from}
+use Rattle.mysql_values.specs.Place.{Place}
+use Rattle.mysql_values.specs.Queries.{HasPlaces, places_from}
 use Rattle.mysql_commands.specs.Query.{statement_of}
 use Rattle.mysql_streams.specs.declared.refusal.Refusal.{Refusal}
 use Rattle.mysql_streams.specs.declared.refusal.Refusal.TheVariants as refusals
@@ -142,3 +143,7 @@ refused_places query given limit refusal (inr has) id = inr (record {
   has = has.1;
   first = first_is (places_cause (places_from query 0 has.0)) _ refusal has.2;
 })
+
+-- the cause of the placeholders that were found is that of the tokens'
+pub over_tokens : (query : List ℕ) (places : List Place) (found : Option Refusal) → HasPlaces query places → places_cause places ≡ found → (tokens : List (List ℕ)) × HasTokens query tokens × (places_cause (places_from query 0 tokens) ≡ found)
+over_tokens query places found has is = (has.0, has.1, ap (λ p. places_cause p) (sym has.2) ∙ is)

@@ -1,9 +1,9 @@
 -- The steps of sending sets one after another as executions of a statement.
-use Rattle.std.proofs.Common.{◌≡◌, ℕ, ◌+◌, ◌-◌, ◌≤◌, nat_lt, Bool, false, List, [], ◌∷◌, ◌++◌, length, map, take, drop, Some, None, Ok, refl, sym, ◌∙◌, ap, subst, arith, inl, inr, append_assoc}
+use Rattle.std.proofs.Common.{◌≡◌, ℕ, ◌+◌, ◌-◌, ◌<◌, ◌≤◌, nat_lt, Bool, true, false, List, [], ◌∷◌, ◌++◌, length, map, take, drop, Option, Some, None, Ok, refl, sym, ◌∙◌, ap, subst, arith, inl, inr, append_assoc}
 use Rattle.std.specs.List.{AllByRecursion, flat_map}
 use Rattle.std.specs.Option.{option_or}
-use Rattle.std.proofs.lemmas.Bool.{le-ltb}
-use Rattle.std.proofs.lemmas.List.{append-nil, map-append, take-append-drop, take-append-le, take_all, take_at}
+use Rattle.std.proofs.lemmas.Bool.{le-ltb, lt-ltb}
+use Rattle.std.proofs.lemmas.List.{append-nil, map-append, map-id, take-append-drop, take-append-le, take_all, take_at}
 use Rattle.mysql_wire.specs.Framing.{framing}
 use Rattle.mysql_wire.specs.Stream.{framings}
 use Rattle.mysql_wire.specs.Stream.Numbering.{EachFromZero}
@@ -23,9 +23,9 @@ use Rattle.mysql_streams.specs.Sent.{SentPayload, as_execution, on_the_way, payl
 use Rattle.mysql_streams.specs.Cause.{cause_if, first_of_sets, max_places, prepare_cause, set_cause}
 use Rattle.mysql_streams.specs.Reading.{SentReadable}
 use Rattle.mysql_streams.specs.Sending.{RefusesGiven}
-use Rattle.mysql_senders.specs.OneSet.{AppendsExecution, AppendsExecutions, IsPreparable, Limits, RefusesSet, RefusesSets, execution_payloads, limits_of, whole_execution}
+use Rattle.mysql_senders.specs.OneSet.{AppendsExecution, AppendsExecutions, IsStatement, Limits, RefusesSet, RefusesSets, execution_payloads, limits_of, whole_execution}
 use Rattle.mysql_senders.proofs.Contents.{gives_values}
-use Rattle.mysql_senders.proofs.SentSets.{AllSent, SetsSent, all_sent as all_of, cause_behind, first_of_two, first_refused, front_length, none_of_two, none_sent as none_of, one_more}
+use Rattle.mysql_senders.proofs.SentSets.{AllSent, SetsSent, all_sent as all_of, cause_behind, first_is, first_of_two, first_refused, front_length, none_of_two, none_sent as none_of, one_more}
 
 -- the values' numbers fit their fields
 abbrev pub Fit : List Value → Type 0
@@ -116,9 +116,39 @@ execution_payloads_of statement (values ∷ sets) =
     ∙ ap (λ l. l ++ payloads_of (flat_map (as_execution statement) sets)) (payloads_of_one statement values _ _)
     ∙ ap (λ l. execution_payloads statement.id values ++ l) (execution_payloads_of statement sets)
 
-module _ (query : List ℕ) (parsed : Parsed) (places : ℕ) (s : IsPreparable query parsed places) (sets : List (List ℕ) → List Given) (number id limit : ℕ) (same : number ≡ id) where
+-- too many placeholders are the first cause where all are of one kind
+too_many_cause : (mixed many : Bool) (rest : Option Refusal) → mixed ≡ false → many ≡ true →
+    option_or (cause_if mixed refusals.Mixed) (option_or (cause_if many refusals.TooManyPlaces) rest) ≡ Some refusals.TooManyPlaces
+too_many_cause mixed many rest one full = rw (one, full) refl
+
+-- the length of the prepare is, where they are few enough
+too_long_cause : (mixed many long : Bool) (rest : Option Refusal) → mixed ≡ false → many ≡ false → long ≡ true →
+    option_or (cause_if mixed refusals.Mixed) (option_or (cause_if many refusals.TooManyPlaces) (option_or (cause_if long refusals.PrepareTooLarge) rest)) ≡ Some refusals.PrepareTooLarge
+too_long_cause mixed many long rest one few over = rw (one, few, over) refl
+
+module _ (query : List ℕ) (parsed : Parsed) (places : ℕ) (s : IsStatement query parsed places) (id room : ℕ) where
+  -- more placeholders than a statement can have speak against its prepare
+  pub too_many : max_places < places → prepare_cause (statement_of query s.tokens id).query room ≡ Some refusals.TooManyPlaces
+  too_many over =
+      too_many_cause (is_mixed (places_from query 0 s.tokens)) (nat_lt max_places (length (places_from query 0 s.tokens))) _ s.one_kind
+      (subst (λ (n : ℕ). nat_lt max_places n ≡ true) s.count (lt-ltb max_places places over))
+
+  -- a prepare that is too long speaks against itself
+  pub too_long : places ≤ max_places → room < length (prepare_command parsed.query) → prepare_cause (statement_of query s.tokens id).query room ≡ Some refusals.PrepareTooLarge
+  too_long few over =
+      too_long_cause (is_mixed (places_from query 0 s.tokens)) (nat_lt max_places (length (places_from query 0 s.tokens))) (nat_lt room (length (prepare_command (statement_of query s.tokens id).query.parsed))) _ s.one_kind
+      (subst (λ (n : ℕ). nat_lt max_places n ≡ false) s.count (le-ltb max_places places few))
+      (subst (λ (l : List ℕ). nat_lt room (length (prepare_command l)) ≡ true) s.query_is (lt-ltb room (length (prepare_command parsed.query)) over))
+
+-- what speaks against the prepare is the first cause
+pub refused_prepare : (query : List ℕ) (parsed : Parsed) (places : ℕ) (s : IsStatement query parsed places) (sets : List (List ℕ) → List Given) (id limit : ℕ) (refusal : Refusal) →
+    prepare_cause (statement_of query s.tokens id).query (limit - 4) ≡ Some refusal → RefusesGiven Execute query sets id limit refusal
+refused_prepare query parsed places s sets id limit refusal this =
+    inr (record { tokens = s.tokens; has = s.has; first = first_is (prepare_cause (statement_of query s.tokens id).query (limit - 4)) _ refusal this })
+
+module _ (query : List ℕ) (parsed : Parsed) (places : ℕ) (s : IsStatement query parsed places) (most : places ≤ max_places) (sets : List (List ℕ) → List Given) (number id limit : ℕ) (same : number ≡ id) where
   few : nat_lt max_places (length (places_from query 0 s.tokens)) ≡ false
-  few = le-ltb max_places (length (places_from query 0 s.tokens)) (omega (arith, s.few, s.count))
+  few = le-ltb max_places (length (places_from query 0 s.tokens)) (omega (arith, most, s.count))
 
   -- what was said over the statement's number, count and names is said over the id and the tokens'
   over_tokens : (P : ℕ → Limits → List Given → Type 0) → P number (record { places = places; bytes = limit - 4 }) (sets parsed.names) → P id (limits_of (places_from query 0 s.tokens) limit) (sets (names_of s.tokens))
@@ -173,6 +203,10 @@ module _ (query : List ℕ) (parsed : Parsed) (places : ℕ) (s : IsPreparable q
 -- what holds of values holds of a set that gives them
 pub over_given : (P : Given → Type 0) (names : List (List ℕ)) (params : Params) (values : List Value) → values_over names params ≡ Ok values → P (Ok values) → P (given_by names params)
 over_given P names params values over holds = subst P (sym (gives_values names params values over)) holds
+
+-- the same of a set whose values are lent as they lie
+pub over_list : (P : Given → Type 0) (names : List (List ℕ)) (params : Params) (values : List Value) → values_over names params ≡ Ok values → P (Ok (map (λ (value : Value). value) values)) → P (given_by names params)
+over_list P names params values over holds = over_given P names params (map (λ (value : Value). value) values) (over ∙ ap (λ (l : List Value). Ok l) (sym (map-id values))) holds
 
 -- an execution against which nothing speaks
 pub appended_set : (id : ℕ) (limits : Limits) (set : ℕ) (values : List Value) (old new : List ℕ) → ((id : ℕ) → set_cause (whole_execution id) limits.places limits.bytes set (Ok values) ≡ None) → Fit values →

@@ -1,6 +1,8 @@
 -- From a text that is bound to the query that is sent, and from why none is bound to the refusal.
-use Rattle.std.proofs.Common.{◌≡◌, ◌⊎◌, ℕ, ◌-◌, ◌<◌, ◌≤◌, ◌==◌, Bool, true, false, nat_lt, List, [], ◌∷◌, ◌++◌, length, map, Option, Some, None, Result, Ok, Err, refl, sym, ◌∙◌, ap, subst, inl, inr, if◌then◌else◌, unwrap_or}
+use Rattle.std.proofs.Common.{◌≡◌, ◌⊎◌, ℕ, ◌+◌, ◌-◌, ◌<◌, ◌≤◌, ◌==◌, Bool, true, false, nat_lt, List, [], ◌∷◌, ◌++◌, length, map, take, drop, Option, Some, None, Result, Ok, Err, refl, sym, ◌∙◌, ap, subst, inl, inr, if◌then◌else◌, unwrap_or, append_assoc, arith, length-drop}
 use Rattle.std.proofs.lemmas.Bool.{le-ltb, lt-ltb}
+use Rattle.std.proofs.lemmas.List.{take_at}
+use Rattle.std.proofs.Math.Seq.{drop-append-add}
 use Rattle.std.specs.Option.{option_map, option_or}
 use Rattle.std.specs.Result.{result_map_both}
 use Rattle.mysql_wire.specs.Framing.{framing}
@@ -143,6 +145,30 @@ pub bound_to : (query : List ℕ) (params : Params) (old new : List ℕ) →
     BoundTo query params old new
 bound_to query params old new b = record { text = b.0; appended = b.2; bound = b.3; contents = b.1; meant = b.4; reads = (b.5, b.6) }
 
+-- room for a header, and the command's byte
+abbrev pub room_and_command : List ℕ
+room_and_command = 0 ∷ 0 ∷ 0 ∷ 0 ∷ 3 ∷ []
+
+module _ (query : List ℕ) (params : Params) (old mid new : List ℕ) (room : mid ≡ old ++ room_and_command) (b : BoundTo query params mid new) where
+  -- what is bound behind them stands behind what stood before
+  behind_room : new ≡ old ++ (0 ∷ 0 ∷ 0 ∷ 0 ∷ 3 ∷ b.text)
+  behind_room = b.appended ∙ ap (λ l. l ++ b.text) room ∙ append_assoc old room_and_command b.text
+
+  -- which is kept
+  pub front_kept : take (length old) new ≡ old
+  front_kept = ap (λ l. take (length old) l) behind_room ∙ take_at old (0 ∷ 0 ∷ 0 ∷ 0 ∷ 3 ∷ b.text) (length old) refl
+
+  -- behind the room stands the command
+  pub bound_behind : BoundTo query params (3 ∷ []) (drop (length old + 4) new)
+  bound_behind = record {
+    text = b.text;
+    appended = ap (λ l. drop (length old + 4) l) behind_room ∙ drop-append-add old (0 ∷ 0 ∷ 0 ∷ 0 ∷ 3 ∷ b.text) 4;
+    bound = b.bound;
+    contents = b.contents;
+    meant = b.meant;
+    reads = b.reads;
+  }
+
 -- the query of a set, where its command begins a buffer that the text is bound to
 pub sent_query : PiecesAreSlices → (query : List ℕ) (params : Params) (set limit : ℕ) (start command old new : List ℕ) → start ≡ 3 ∷ [] → BoundTo query params start command → length command ≤ limit - 4 →
     new ≡ old ++ framing command 0 → (tokens : List (List ℕ)) × HasTokens query tokens × AppendsQuery query tokens params set limit old new
@@ -170,3 +196,20 @@ pub refused_long : PiecesAreSlices → (query : List ℕ) (params : Params) (set
 refused_long slices query params set limit start command begins b long =
     let whole : command ≡ query_command b.text = b.appended ∙ ap (λ front. front ++ b.text) begins in
     too_large slices query params b.text set limit b.bound (subst (λ (l : List ℕ). limit - 4 < length l) whole long)
+
+module _ (slices : PiecesAreSlices) (query : List ℕ) (params : Params) (set limit start : ℕ) (old mid new : List ℕ) (at : start ≡ length old) (room : mid ≡ old ++ room_and_command) (b : BoundTo query params mid new) where
+  -- the query of a set that was bound behind room for its header, and framed there
+  pub framed_query : length new - start ≤ limit → (out : List ℕ) → out ≡ take start new ++ framing (drop (start + 4) new) 0 → (tokens : List (List ℕ)) × HasTokens query tokens × AppendsQuery query tokens params set limit old out
+  framed_query short out put =
+      let command : List ℕ = drop (length old + 4) new in
+      sent_query slices query params set limit (3 ∷ []) command old out refl (bound_behind query params old mid new room b) (omega (arith, short, at, length-drop (length old + 4) new))
+      (subst (λ (n : ℕ). out ≡ take n new ++ framing (drop (n + 4) new) 0) at put ∙ ap (λ l. l ++ framing command 0) (front_kept query params old mid new room b))
+
+  -- one that is too long with its header
+  pub refused_behind : 4 ≤ limit → limit < length new - start → RefusesQuery query params set limit (refusals.PacketTooLarge set)
+  refused_behind some long =
+      refused_long slices query params set limit (3 ∷ []) (drop (length old + 4) new) refl (bound_behind query params old mid new room b) (omega (arith, some, long, at, length-drop (length old + 4) new))
+
+  -- what stood before is kept
+  pub kept_before : take start new ≡ old
+  kept_before = ap (λ n. take n new) at ∙ front_kept query params old mid new room b

@@ -131,15 +131,18 @@ pub record AppendsMore (id : ℕ) (limits : Limits) (first : ℕ) (sets : List (
 abbrev pub RefusesMore : ℕ → Limits → ℕ → List (List Value) → Refusal → Type 0
 RefusesMore id limits first sets refusal = (refusal ≡ refusals.Memory) ⊎ (first_of_sets (set_cause (whole_execution id) limits.places limits.bytes) first (map Ok sets) ≡ Some refusal)
 
--- a query that can be prepared: with a question mark for each placeholder, its names, and how many placeholders it has
-pub record IsPreparable (query : List ℕ) (parsed : Parsed) (places : ℕ) : Type 0 where
+-- a query as a statement: with a question mark for each placeholder, its names, and how many placeholders it has, all of one kind
+pub record IsStatement (query : List ℕ) (parsed : Parsed) (places : ℕ) : Type 0 where
   pub tokens : List (List ℕ)
   pub has : HasTokens query tokens
   pub query_is : parsed.query ≡ join_with_byte question (pieces_of tokens)
   pub names_are : parsed.names ≡ names_of tokens
   pub count : places ≡ length (places_from query 0 tokens)
   pub one_kind : is_mixed (places_from query 0 tokens) ≡ false
-  pub few : places ≤ max_places
+
+-- a query that can be prepared: as a statement, its placeholders are few enough
+abbrev pub IsPreparable : List ℕ → Parsed → ℕ → Type 0
+IsPreparable query parsed places = IsStatement query parsed places × (places ≤ max_places)
 
 -- the first cause of preparing a query with these placeholders: both kinds occur, they are too many, or what speaks against its length
 abbrev pub statement_cause : List Place → Option Refusal → Option Refusal

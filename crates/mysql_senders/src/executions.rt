@@ -1,6 +1,6 @@
 //! Parameter sets as executions of a prepared statement.
 
-ghost use Rattle.std.specs.Prelude.{◌≡◌, ◌+◌, ◌-◌, ◌^◌, ◌++◌, ◌∷◌, ◌<◌, ◌≤◌, ℕ, [], IfErr, IfOk, IfSome, None, Ok, OnErr, OnOk, OnSome, Some, false, is_none, length, map, nat_lt, take};
+ghost use Rattle.std.specs.Prelude.{◌≡◌, ◌+◌, ◌-◌, ◌^◌, ◌++◌, ◌∷◌, ◌<◌, ◌≤◌, ℕ, [], IfErr, IfOk, IfSome, List, None, Ok, OnErr, OnOk, OnSome, Some, false, is_none, length, map, nat_lt, take};
 ghost use Rattle.byteorder.specs.Endian.{little_bytes};
 ghost use Rattle.mysql_stmt.specs.Executions.{execute_command};
 ghost use Rattle.mysql_cells.specs.Values.{first_float};
@@ -14,14 +14,14 @@ ghost use Rattle.mysql_streams.specs.Sending.{RefusesGiven};
 ghost use Rattle.mysql_streams.specs.Sets.{all_given, all_given_in_places, given_by};
 ghost use Rattle.mysql_streams.specs.declared.refusal.Refusal.TheVariants as refusals;
 ghost use Rattle.mysql_streams.specs.declared.road.Road.TheVariants as roads;
-ghost use Rattle.mysql_senders.specs.OneSet.{AppendsExecution, AppendsExecutions, AppendsMore, RefusesMore, RefusesSet, RefusesSets, execution_payloads, whole_execution};
+ghost use Rattle.mysql_senders.specs.OneSet.{AppendsExecution, AppendsExecutions, AppendsMore, IsStatement, RefusesMore, RefusesSet, RefusesSets, execution_payloads, whole_execution};
 
-use crate::set_values::{check_values, list_values_for, values_fit};
-use crate::statement::{Statement, put_prepare, statement_of};
+use crate::set_values::{check_values, list_values_for, values_fit, values_in_order};
+use crate::statement::{Statement, check_count, found_statement, put_prepare, statement_of};
 use mysql_const::MAX_PAYLOAD_LEN;
 use mysql_raw::MySerialize;
 use mysql_stmt::laws::executions_have_sizes;
-use mysql_stmt::{ComStmtSendLongData, put_execution, size_within, size_without_floats};
+use mysql_stmt::{ComStmtSendLongData, HasValue, put_execution, size_within, size_without_floats};
 use mysql_streams::Refusal;
 use mysql_values::{Params, Value};
 use mysql_wire::packet_to_chunks;
@@ -66,33 +66,33 @@ fn put_piece(
 }
 
 /// Appends each byte string among values as long data, also an empty one.
-fn put_pieces(
+fn put_pieces<V: HasValue>(
     id: u32,
-    values: &[&Value],
+    values: &[V],
     command: &mut Vec<u8>,
     out: &mut Vec<u8>,
 ) -> Result<(), Refusal>
     requires { length values.now ≤ 65535 }
-    ensures ok { OnOk result (out.new.items ≡ out.old.items ++ framings (pieces_from id 0 (map (λ value. value.now) values.now)) EachFromZero) }
+    ensures ok { OnOk result (out.new.items ≡ out.old.items ++ framings (pieces_from id 0 (map V.value values.now)) EachFromZero) }
     ensures err { IfErr result (λ refusal. refusal ≡ refusals.Memory) }
     ensures kept { take (length out.old.items) out.new.items ≡ out.old.items }
 {
     'values: for (place, value) in values.iter().enumerate() {
-        put_piece(id, place as u16, *value, command, out)?;
+        put_piece(id, place as u16, value.value(), command, out)?;
     }
     Ok(())
 }
 
 /// Appends an execution, which is made in a buffer of its own.
-fn put_buffered(
+fn put_buffered<V: HasValue>(
     id: u32,
-    values: &[&Value],
+    values: &[V],
     apart: bool,
     command: &mut Vec<u8>,
     out: &mut Vec<u8>,
 ) -> Result<(), Refusal>
     requires { length values.now ≤ 65535 }
-    ensures ok { OnOk result (out.new.items ≡ out.old.items ++ framing (execute_command id (map (λ value. value.now) values.now) apart) 0) }
+    ensures ok { OnOk result (out.new.items ≡ out.old.items ++ framing (execute_command id (map V.value values.now) apart) 0) }
     ensures err { IfErr result (λ refusal. refusal ≡ refusals.Memory) }
     ensures kept { OnErr result (out.new.items ≡ out.old.items) }
 {
@@ -103,16 +103,17 @@ fn put_buffered(
 }
 
 /// Appends an execution of so many bytes, and before it, where it would be too long for one packet, its byte strings.
-fn put_long(
+#[inline(never)]
+fn put_long<V: HasValue>(
     id: u32,
-    values: &[&Value],
+    values: &[V],
     size: usize,
     command: &mut Vec<u8>,
     out: &mut Vec<u8>,
 ) -> Result<(), Refusal>
     requires count { length values.now ≤ 65535 }
-    requires size { length (whole_execution id (map (λ value. value.now) values.now)) ≡ size }
-    ensures ok { OnOk result (out.new.items ≡ out.old.items ++ framings (execution_payloads id (map (λ value. value.now) values.now)) EachFromZero) }
+    requires size { length (whole_execution id (map V.value values.now)) ≡ size }
+    ensures ok { OnOk result (out.new.items ≡ out.old.items ++ framings (execution_payloads id (map V.value values.now)) EachFromZero) }
     ensures err { IfErr result (λ refusal. refusal ≡ refusals.Memory) }
     ensures kept { take (length out.old.items) out.new.items ≡ out.old.items }
 {
@@ -135,48 +136,51 @@ pub fn packet_header(size: u32) -> [u8; 4]
     [a, b, c, 0]
 }
 
-/// Appends an execution of so many bytes that one packet holds it.
-fn put_short(id: u32, values: &[&Value], size: usize, out: &mut Vec<u8>) -> Result<(), Refusal>
+/// Appends an execution of so many bytes that one packet holds it. Refused for want of memory.
+fn put_short<V: HasValue>(
+    id: u32,
+    values: &[V],
+    size: usize,
+    out: &mut Vec<u8>,
+) -> Result<(), AllocError>
     requires count { length values.now ≤ 65535 }
-    requires size { length (whole_execution id (map (λ value. value.now) values.now)) ≡ size }
+    requires size { length (whole_execution id (map V.value values.now)) ≡ size }
     requires short { size < 16777215 }
-    ensures ok { OnOk result (out.new.items ≡ out.old.items ++ framings (execution_payloads id (map (λ value. value.now) values.now)) EachFromZero) }
-    ensures err { IfErr result (λ refusal. refusal ≡ refusals.Memory) }
+    ensures ok { OnOk result (out.new.items ≡ out.old.items ++ framings (execution_payloads id (map V.value values.now)) EachFromZero) }
     ensures kept { take (length out.old.items) out.new.items ≡ out.old.items }
 {
     executions_have_sizes();
     out.reserve(size + 4)?;
     out.extend_from_slice(&packet_header(size as u32))?;
-    put_execution(id, values, false, out)?;
-    Ok(())
+    put_execution(id, values, false, out)
 }
 
 /// Appends what is sent of an execution of so many bytes.
-fn put_sized(
+fn put_sized<V: HasValue>(
     id: u32,
-    values: &[&Value],
+    values: &[V],
     size: usize,
     command: &mut Vec<u8>,
     out: &mut Vec<u8>,
 ) -> Result<(), Refusal>
     requires count { length values.now ≤ 65535 }
-    requires size { length (whole_execution id (map (λ value. value.now) values.now)) ≡ size }
-    ensures ok { OnOk result (out.new.items ≡ out.old.items ++ framings (execution_payloads id (map (λ value. value.now) values.now)) EachFromZero) }
+    requires size { length (whole_execution id (map V.value values.now)) ≡ size }
+    ensures ok { OnOk result (out.new.items ≡ out.old.items ++ framings (execution_payloads id (map V.value values.now)) EachFromZero) }
     ensures err { IfErr result (λ refusal. refusal ≡ refusals.Memory) }
     ensures kept { take (length out.old.items) out.new.items ≡ out.old.items }
 {
     if size < MAX_PAYLOAD_LEN {
-        put_short(id, values, size, out)
+        Ok(put_short(id, values, size, out)?)
     } else {
         put_long(id, values, size, command, out)
     }
 }
 
 /// The bytes of an execution that holds all cells, where they are at most so many.
-fn size_in(values: &[&Value], room: usize) -> Option<usize>
+fn size_in<V: HasValue>(values: &[V], room: usize) -> Option<usize>
     requires { length values.now ≤ 65535 }
-    ensures some { IfSome result (λ size. (id : ℕ) → length (whole_execution id (map (λ value. value.now) values.now)) ≡ size) }
-    ensures none { (id : ℕ) → nat_lt room (length (whole_execution id (map (λ value. value.now) values.now))) ≡ is_none result }
+    ensures some { IfSome result (λ size. (id : ℕ) → length (whole_execution id (map V.value values.now)) ≡ size) }
+    ensures none { (id : ℕ) → nat_lt room (length (whole_execution id (map V.value values.now))) ≡ is_none result }
 {
     executions_have_sizes();
     if values.is_empty() {
@@ -185,13 +189,14 @@ fn size_in(values: &[&Value], room: usize) -> Option<usize>
     size_within(values, room)
 }
 
-/// The bytes of a set's execution, found in one pass over values that nothing speaks against.
-fn size_of_plain(values: &[&Value], places: usize, room: usize) -> Option<usize>
+/// The bytes of a set's execution, found in one pass over values that nothing speaks against, where one packet holds it.
+#[inline(always)]
+fn short_size<V: HasValue>(values: &[V], places: usize, room: usize) -> Option<usize>
     requires { places ≤ 65535 }
     ensures count { OnSome result (length values.now ≡ places) }
-    ensures exact { OnSome result (first_float (map (λ value. value.now) values.now) ≡ None) }
-    ensures size { IfSome result (λ size. (id : ℕ) → length (whole_execution id (map (λ value. value.now) values.now)) ≡ size) }
-    ensures fits { OnSome result ((id : ℕ) → nat_lt room (length (whole_execution id (map (λ value. value.now) values.now))) ≡ false) }
+    ensures size { IfSome result (λ size. (id : ℕ) → length (whole_execution id (map V.value values.now)) ≡ size) }
+    ensures short { IfSome result (λ size. size < 16777215) }
+    ensures none { OnSome result ((set id : ℕ) → set_cause (whole_execution id) places room set (Ok (map V.value values.now)) ≡ None) }
 {
     executions_have_sizes();
     if values.len() != places {
@@ -200,22 +205,22 @@ fn size_of_plain(values: &[&Value], places: usize, room: usize) -> Option<usize>
     if values.is_empty() {
         return None;
     }
-    size_without_floats(values, room)
+    size_without_floats(values, room.min(MAX_PAYLOAD_LEN - 1))
 }
 
 /// The bytes of a set's execution, checked for one cause after another.
 #[inline(never)]
-fn size_or_cause(
-    values: &[&Value],
+fn size_or_cause<V: HasValue>(
+    values: &[V],
     places: usize,
     room: usize,
     set: usize,
 ) -> Result<usize, Refusal>
     requires { places ≤ 65535 }
     ensures count { OnOk result (length values.now ≤ 65535) }
-    ensures size { IfOk result (λ size. (id : ℕ) → length (whole_execution id (map (λ value. value.now) values.now)) ≡ size) }
-    ensures ok { OnOk result ((id : ℕ) → set_cause (whole_execution id) places room set (Ok (map (λ value. value.now) values.now)) ≡ None) }
-    ensures err { IfErr result (λ refusal. (id : ℕ) → set_cause (whole_execution id) places room set (Ok (map (λ value. value.now) values.now)) ≡ Some refusal) }
+    ensures size { IfOk result (λ size. (id : ℕ) → length (whole_execution id (map V.value values.now)) ≡ size) }
+    ensures ok { OnOk result ((id : ℕ) → set_cause (whole_execution id) places room set (Ok (map V.value values.now)) ≡ None) }
+    ensures err { IfErr result (λ refusal. (id : ℕ) → set_cause (whole_execution id) places room set (Ok (map V.value values.now)) ≡ Some refusal) }
 {
     check_values(values, places, set)?;
     match size_in(values, room) {
@@ -224,42 +229,54 @@ fn size_or_cause(
     }
 }
 
-/// The bytes of a set's execution. Refuses `WrongCount`, then `Float`, then `PacketTooLarge`.
-fn checked_size(values: &[&Value], places: usize, room: usize, set: usize) -> Result<usize, Refusal>
-    requires { places ≤ 65535 }
-    ensures count { OnOk result (length values.now ≤ 65535) }
-    ensures size { IfOk result (λ size. (id : ℕ) → length (whole_execution id (map (λ value. value.now) values.now)) ≡ size) }
-    ensures ok { OnOk result ((id : ℕ) → set_cause (whole_execution id) places room set (Ok (map (λ value. value.now) values.now)) ≡ None) }
-    ensures err { IfErr result (λ refusal. (id : ℕ) → set_cause (whole_execution id) places room set (Ok (map (λ value. value.now) values.now)) ≡ Some refusal) }
-{
-    match size_of_plain(values, places, room) {
-        Some(size) => Ok(size),
-        None => size_or_cause(values, places, room, set),
-    }
-}
-
-/// Appends the execution of a statement of this id and so many placeholders with these values.
-fn put_values(
+/// Appends the execution of a statement of this id and so many placeholders with these values, which are checked for one cause after another.
+#[inline(never)]
+fn put_checked<V: HasValue>(
     id: u32,
     places: usize,
     set: usize,
-    values: &[&Value],
+    values: &[V],
     room: usize,
     command: &mut Vec<u8>,
     out: &mut Vec<u8>,
 ) -> Result<(), Refusal>
     requires { places ≤ 65535 }
-    ensures ok { OnOk result (AppendsExecution id (record { places = places; bytes = room }) set (Ok (map (λ value. value.now) values.now)) out.old.items out.new.items) }
-    ensures err { IfErr result (RefusesSet (whole_execution id) (record { places = places; bytes = room }) set (Ok (map (λ value. value.now) values.now))) }
+    ensures ok { OnOk result (AppendsExecution id (record { places = places; bytes = room }) set (Ok (map V.value values.now)) out.old.items out.new.items) }
+    ensures err { IfErr result (RefusesSet (whole_execution id) (record { places = places; bytes = room }) set (Ok (map V.value values.now))) }
     ensures kept { take (length out.old.items) out.new.items ≡ out.old.items }
 {
-    let size = checked_size(values, places, room, set)?;
+    let size = size_or_cause(values, places, room, set)?;
     values_fit(values);
     put_sized(id, values, size, command, out)
 }
 
-/// Appends the execution of one set, whose values are listed in place of what the list holds.
-pub(crate) fn put_set<'a>(
+/// Appends the execution of a statement of this id and so many placeholders with these values.
+#[inline(always)]
+fn put_values<V: HasValue>(
+    id: u32,
+    places: usize,
+    set: usize,
+    values: &[V],
+    room: usize,
+    command: &mut Vec<u8>,
+    out: &mut Vec<u8>,
+) -> Result<(), Refusal>
+    requires { places ≤ 65535 }
+    ensures ok { OnOk result (AppendsExecution id (record { places = places; bytes = room }) set (Ok (map V.value values.now)) out.old.items out.new.items) }
+    ensures err { IfErr result (RefusesSet (whole_execution id) (record { places = places; bytes = room }) set (Ok (map V.value values.now))) }
+    ensures kept { take (length out.old.items) out.new.items ≡ out.old.items }
+{
+    let Some(size) = short_size(values, places, room) else {
+        return put_checked(id, places, set, values, room, command, out);
+    };
+    values_fit(values);
+    Ok(put_short(id, values, size, out)?)
+}
+
+/// Appends the execution of one set, whose values are listed in place of what the list holds: one whose values lie otherwise than
+/// the placeholders.
+#[inline(never)]
+fn put_listed_set<'a>(
     statement: &Statement<'_>,
     set: usize,
     params: &'a Params,
@@ -278,11 +295,41 @@ pub(crate) fn put_set<'a>(
         statement.id,
         statement.places,
         set,
-        values,
+        values.as_slice(),
         room,
         command,
         out,
     )
+}
+
+/// Appends the execution of one set: of a list as it lies; any other set's values are listed in place of what the list holds.
+#[inline(always)]
+pub(crate) fn put_set<'a>(
+    statement: &Statement<'_>,
+    set: usize,
+    params: &'a Params,
+    room: usize,
+    values: &mut Vec<&'a Value>,
+    command: &mut Vec<u8>,
+    out: &mut Vec<u8>,
+) -> Result<(), Refusal>
+    requires { statement.now.places ≤ 65535 }
+    ensures ok { OnOk result (AppendsExecution statement.now.id (record { places = statement.now.places; bytes = room }) set (given_by statement.now.parsed.names params.entry.now) out.old.items out.new.items) }
+    ensures err { IfErr result (RefusesSet (whole_execution statement.now.id) (record { places = statement.now.places; bytes = room }) set (given_by statement.now.parsed.names params.entry.now)) }
+    ensures kept { take (length out.old.items) out.new.items ≡ out.old.items }
+{
+    match values_in_order(statement, params) {
+        Some(list) => put_values(
+            statement.id,
+            statement.places,
+            set,
+            list,
+            room,
+            command,
+            out,
+        ),
+        None => put_listed_set(statement, set, params, room, values, command, out),
+    }
 }
 
 /// Appends the execution of each set.
@@ -306,41 +353,6 @@ fn put_sets(
     Ok(())
 }
 
-/// Lists references to values, in their order, in place of what the list holds.
-fn list_references<'a>(
-    values: &'a [Value],
-    references: &mut Vec<&'a Value>,
-) -> Result<(), AllocError>
-    ensures { OnOk result (map (λ value. value.now) references.new.items ≡ values.entry.now) }
-{
-    references.clear();
-    references.reserve(values.len())?;
-    for value in values {
-        references.push_reserved(value);
-    }
-    Ok(())
-}
-
-/// Appends the execution with a set's values, which are listed in place of what the list holds.
-fn put_value_set<'a>(
-    id: u32,
-    places: usize,
-    set: usize,
-    values: &'a [Value],
-    room: usize,
-    references: &mut Vec<&'a Value>,
-    command: &mut Vec<u8>,
-    out: &mut Vec<u8>,
-) -> Result<(), Refusal>
-    requires { places ≤ 65535 }
-    ensures ok { OnOk result (AppendsExecution id (record { places = places; bytes = room }) set (Ok values.entry.now) out.old.items out.new.items) }
-    ensures err { IfErr result (RefusesSet (whole_execution id) (record { places = places; bytes = room }) set (Ok values.entry.now)) }
-    ensures kept { take (length out.old.items) out.new.items ≡ out.old.items }
-{
-    list_references(values, references)?;
-    put_values(id, places, set, references, room, command, out)
-}
-
 /// Appends the execution of each set of values, of which the first has the number `first`.
 fn put_value_sets(
     alloc: Global,
@@ -357,22 +369,37 @@ fn put_value_sets(
     ensures err { IfErr result (RefusesMore id (record { places = places; bytes = room }) first (map (λ set. set.items) sets.now)) }
     ensures kept { take (length out.old.items) out.new.items ≡ out.old.items }
 {
-    let mut references = Vec::new(alloc);
     let mut command = Vec::new(alloc);
     'sets: for (index, values) in sets.iter().enumerate() {
         let set = first + index;
-        put_value_set(
-            id,
-            places,
-            set,
-            values,
-            room,
-            &mut references,
-            &mut command,
-            out,
-        )?;
+        put_values(id, places, set, values.as_slice(), room, &mut command, out)?;
     }
     Ok(())
+}
+
+/// The same as [`put_executions`] over the statement of the query, as
+/// [`statement_over`](crate::statement::statement_over) finds it.
+///
+/// # Errors
+/// Those of [`put_executions`] but for `Mixed`, in its order.
+///
+/// MySQL: Client/Server Protocol, "COM_STMT_PREPARE", "COM_STMT_SEND_LONG_DATA", "COM_STMT_EXECUTE".
+pub fn put_executions_over(
+    alloc: Global,
+    statement: &Statement<'_>,
+    sets: &[Params],
+    limit: usize,
+    out: &mut Vec<u8>,
+) -> Result<(), Refusal>
+    requires { 4 ≤ limit }
+    // This holds of each query whose statement it is.
+    ensures ok { OnOk result ((query : List ℕ) → IsStatement query statement.now.parsed statement.now.places → SentReadable roads.Execute query (all_given sets.now) statement.now.id limit out.old.items out.new.items) }
+    ensures err { IfErr result (λ refusal. (query : List ℕ) → IsStatement query statement.now.parsed statement.now.places → RefusesGiven roads.Execute query (all_given sets.now) statement.now.id limit refusal) }
+    ensures kept { take (length out.old.items) out.new.items ≡ out.old.items }
+{
+    check_count(statement.places)?;
+    put_prepare(alloc, statement, limit - 4, out)?;
+    put_sets(alloc, statement, sets, limit - 4, out)
 }
 
 /// Appends the commands that carry parameter sets of a query to a server as executions of a prepared statement, each framed as
@@ -400,9 +427,8 @@ pub fn put_executions(
     ensures err { IfErr result (RefusesGiven roads.Execute query.now (all_given sets.now) stmt_id limit) }
     ensures kept { take (length out.old.items) out.new.items ≡ out.old.items }
 {
-    let statement = statement_of(alloc, query, stmt_id)?;
-    put_prepare(alloc, &statement, limit - 4, out)?;
-    put_sets(alloc, &statement, sets, limit - 4, out)
+    let statement = found_statement(alloc, query, stmt_id)?;
+    put_executions_over(alloc, &statement, sets, limit, out)
 }
 
 /// The same as [`put_executions`] over sets of values that stand in the order of the query's placeholders.

@@ -8,7 +8,8 @@ pub mod statement;
 mod text_queries;
 
 pub use executions::{
-    packet_header, put_executions, put_executions_of_values, put_more_executions,
+    packet_header, put_executions, put_executions_of_values, put_executions_over,
+    put_more_executions,
 };
 pub use made_sets::{SetMaker, put_made_executions, put_made_queries};
-pub use text_queries::put_queries;
+pub use text_queries::{put_queries, put_queries_over};

@@ -1,6 +1,6 @@
 //! The values that a set gives a statement.
 
-ghost use Rattle.std.specs.Prelude.{◌≡◌, ◌⊎◌, Err, IfErr, IfOk, None, Ok, OnOk, Some, is_none, map};
+ghost use Rattle.std.specs.Prelude.{◌≡◌, ◌⊎◌, Err, IfErr, IfOk, IfSome, None, Ok, OnOk, Some, is_none, map};
 ghost use Rattle.std.specs.List.{AllByRecursion};
 ghost use Rattle.mysql_values.specs.AsSql.{FitsFields};
 ghost use Rattle.mysql_values.specs.Binding.{values_cause};
@@ -11,6 +11,7 @@ ghost use Rattle.mysql_streams.specs.declared.refusal.Refusal.TheVariants as ref
 ghost use Rattle.mysql_senders.specs.OneSet.{refusal_of};
 
 use crate::statement::Statement;
+use mysql_stmt::HasValue;
 use mysql_streams::Refusal;
 use mysql_values::laws::fields_fit;
 use mysql_values::{Params, ParamsError, SetError, Value};
@@ -23,11 +24,11 @@ fn is_float(value: &Value) -> bool
 }
 
 /// The first value that is a float.
-fn first_float(values: &[&Value]) -> Option<usize>
-    ensures { result ≡ float_at (map (λ value. value.now) values.now) }
+fn first_float<V: HasValue>(values: &[V]) -> Option<usize>
+    ensures { result ≡ float_at (map V.value values.now) }
 {
     for (place, value) in values.iter().enumerate() {
-        if is_float(*value) {
+        if is_float(value.value()) {
             return Some(place);
         }
     }
@@ -46,6 +47,19 @@ fn refused(set: usize, error: ParamsError) -> Refusal
         ParamsError::Confusion(confusion) => {
             Refusal::Params(set, SetError::Params(ParamsError::Confusion(confusion)))
         }
+    }
+}
+
+/// The values of a set that is a list, where the statement has no names: they lie in the order of its placeholders.
+#[inline(always)]
+pub fn values_in_order<'a>(statement: &Statement<'_>, params: &'a Params) -> Option<&'a [Value]>
+    ensures { IfSome result (λ values. values_over statement.now.parsed.names params.entry.now ≡ Ok values.now) }
+{
+    match params {
+        Params::Positional(values) if statement.parsed.params().is_empty() => {
+            Some(values.as_slice())
+        }
+        _ => None,
     }
 }
 
@@ -87,9 +101,9 @@ pub fn values_for<'a>(
 ///
 /// # Errors
 /// `WrongCount`, then `Float` with the least place.
-pub fn check_values(values: &[&Value], places: usize, set: usize) -> Result<(), Refusal>
-    ensures ok { OnOk result (values_cause (refusals.WrongCount set) (λ place. refusals.Float set place) places (map (λ value. value.now) values.now) ≡ None) }
-    ensures err { IfErr result (λ refusal. values_cause (refusals.WrongCount set) (λ place. refusals.Float set place) places (map (λ value. value.now) values.now) ≡ Some refusal) }
+pub fn check_values<V: HasValue>(values: &[V], places: usize, set: usize) -> Result<(), Refusal>
+    ensures ok { OnOk result (values_cause (refusals.WrongCount set) (λ place. refusals.Float set place) places (map V.value values.now) ≡ None) }
+    ensures err { IfErr result (λ refusal. values_cause (refusals.WrongCount set) (λ place. refusals.Float set place) places (map V.value values.now) ≡ Some refusal) }
 {
     if values.len() != places {
         return Err(Refusal::WrongCount(set));
@@ -101,10 +115,10 @@ pub fn check_values(values: &[&Value], places: usize, set: usize) -> Result<(), 
 }
 
 /// The numbers of values fit their fields.
-pub fn values_fit(values: &[&Value])
-    ensures { AllByRecursion (λ value. FitsFields value) (map (λ value. value.now) values.now) }
+pub fn values_fit<V: HasValue>(values: &[V])
+    ensures { AllByRecursion (λ value. FitsFields value) (map V.value values.now) }
 {
     for value in values {
-        fields_fit(*value);
+        fields_fit(value.value());
     }
 }

@@ -1,10 +1,11 @@
 //! Parameter sets as text queries.
 
 ghost use Rattle.std.specs.Cow.{cow_slice_items};
-ghost use Rattle.std.specs.Prelude.{◌≡◌, ◌⊎◌, ◌≤◌, ℕ, IfErr, IfOk, List, None, OnErr, OnOk, Some, false, length, map, take};
+ghost use Rattle.std.specs.Prelude.{◌≡◌, ◌⊎◌, ◌+◌, ◌++◌, ◌≤◌, ℕ, IfErr, IfOk, List, None, OnErr, OnOk, Some, drop, false, length, map, take};
 ghost use Rattle.mysql_values.specs.Parsed.{names_at};
 ghost use Rattle.mysql_values.specs.Queries.{HasPlaces, first_not_alone as first_apart, is_mixed as has_both_kinds, places_from};
 ghost use Rattle.mysql_values.specs.Tokens.{HasTokens};
+ghost use Rattle.mysql_wire.specs.Framing.{framing};
 ghost use Rattle.mysql_streams.specs.Cause.{places_cause};
 ghost use Rattle.mysql_senders.specs.OneSet.{AppendsQuery, RefusesQuery, refusal_by};
 ghost use Rattle.mysql_streams.specs.Reading.{SentReadable};
@@ -13,7 +14,8 @@ ghost use Rattle.mysql_streams.specs.Sets.{all_given};
 ghost use Rattle.mysql_streams.specs.declared.refusal.Refusal.TheVariants as refusals;
 ghost use Rattle.mysql_streams.specs.declared.road.Road.TheVariants as roads;
 
-use mysql_const::Command;
+use crate::executions::packet_header;
+use mysql_const::{Command, MAX_PAYLOAD_LEN};
 use mysql_streams::Refusal;
 use mysql_values::bind::{bind_text_over, names_among};
 use mysql_values::laws::{pieces_of_a_query, tokens_of_a_text};
@@ -67,8 +69,42 @@ fn refusal_of(set: usize, error: BindError) -> Refusal
     }
 }
 
-/// Appends the text query of one set, over what is found of the query once: its placeholders and the names among them. The lists
-/// `values` and `command` keep their room from set to set.
+/// Frames the payload behind four bytes of room, from `start` to the end, from a buffer of its own. After a refusal it is gone.
+#[inline(never)]
+fn frame_long(start: usize, command: &mut Vec<u8>, out: &mut Vec<u8>) -> Result<(), Refusal>
+    requires { start + 4 ≤ length out.old.items }
+    ensures ok { OnOk result (out.new.items ≡ take start out.old.items ++ framing (drop (start + 4) out.old.items) 0) }
+    ensures err { IfErr result (λ refusal. refusal ≡ refusals.Memory) }
+    ensures kept { OnErr result (out.new.items ≡ take start out.old.items) }
+{
+    command.clear();
+    let copied = command.extend_from_slice(&out[start + 4..]);
+    out.truncate(start);
+    copied?;
+    packet_to_chunks(0, command, out)?;
+    Ok(())
+}
+
+/// Frames the payload behind four bytes of room for a header, from `start` to the end, as packets that are numbered from 0:
+/// where one packet holds it, it stays where it is. After a refusal it is gone.
+fn frame_in_place(start: usize, command: &mut Vec<u8>, out: &mut Vec<u8>) -> Result<(), Refusal>
+    requires { start + 4 ≤ length out.old.items }
+    ensures ok { OnOk result (out.new.items ≡ take start out.old.items ++ framing (drop (start + 4) out.old.items) 0) }
+    ensures err { IfErr result (λ refusal. refusal ≡ refusals.Memory) }
+    ensures kept { OnErr result (out.new.items ≡ take start out.old.items) }
+{
+    let behind = start + 4;
+    let size = out.len() - behind;
+    if size >= MAX_PAYLOAD_LEN {
+        return frame_long(start, command, out);
+    }
+    let header = packet_header(size as u32);
+    out[start..behind].copy_from_slice(&header);
+    Ok(())
+}
+
+/// Appends the text query of one set, over what is found of the query once: its placeholders and the names among them. It is
+/// written behind room for its header. The lists `values` and `command` keep their room from set to set.
 pub(crate) fn put_query<'a>(
     query: &[u8],
     places: &[Place],
@@ -90,15 +126,60 @@ pub(crate) fn put_query<'a>(
     ensures kept { OnErr result (out.new.items ≡ out.old.items) }
 {
     pieces_of_a_query();
-    command.clear();
-    command.push(Command::COM_QUERY as u8)?;
-    if let Err(error) = bind_text_over(query, places, names, params, values, command) {
+    let start = out.len();
+    out.extend_from_slice(&[0, 0, 0, 0, Command::COM_QUERY as u8])?;
+    if let Err(error) = bind_text_over(query, places, names, params, values, out) {
+        out.truncate(start);
         return Err(refusal_of(set, error));
     }
-    if command.len() > limit - 4 {
+    if out.len() - start > limit {
+        out.truncate(start);
         return Err(Refusal::PacketTooLarge(set));
     }
-    packet_to_chunks(0, command, out)?;
+    frame_in_place(start, command, out)
+}
+
+/// The same as [`put_queries`] over what is found of the query once: its placeholders, as [`places`] lists them, and the names
+/// among them, as [`names_among`] lists them.
+///
+/// # Errors
+/// Those of [`put_queries`], in its order.
+///
+/// MySQL: Client/Server Protocol, "COM_QUERY".
+pub fn put_queries_over(
+    alloc: Global,
+    query: &[u8],
+    places: &[Place],
+    names: &[CowSlice<'_, u8>],
+    sets: &[Params],
+    limit: usize,
+    out: &mut Vec<u8>,
+) -> Result<(), Refusal>
+    requires limit { 4 ≤ limit }
+    requires places { HasPlaces query.now places.now }
+    requires names { map cow_slice_items names.now ≡ names_at query.now places.now }
+    // A text query carries no id: this holds of each.
+    ensures ok { OnOk result ((id : ℕ) → SentReadable roads.Text query.now (all_given sets.now) id limit out.old.items out.new.items) }
+    ensures err { IfErr result (λ refusal. (id : ℕ) → RefusesGiven roads.Text query.now (all_given sets.now) id limit refusal) }
+    ensures kept { take (length out.old.items) out.new.items ≡ out.old.items }
+{
+    tokens_of_a_text();
+    check_places(places)?;
+    let mut values = Vec::new(alloc);
+    let mut command = Vec::new(alloc);
+    'sets: for (set, params) in sets.iter().enumerate() {
+        put_query(
+            query,
+            places,
+            names,
+            set,
+            params,
+            limit,
+            &mut values,
+            &mut command,
+            out,
+        )?;
+    }
     Ok(())
 }
 
@@ -125,23 +206,9 @@ pub fn put_queries(
     ensures err { IfErr result (λ refusal. (id : ℕ) → RefusesGiven roads.Text query.now (all_given sets.now) id limit refusal) }
     ensures kept { take (length out.old.items) out.new.items ≡ out.old.items }
 {
-    tokens_of_a_text();
-    let places = checked_places(alloc, query)?;
+    let Ok(places) = places(alloc, query) else {
+        return Err(Refusal::Memory);
+    };
     let names = names_among(alloc, query, &places)?;
-    let mut values = Vec::new(alloc);
-    let mut command = Vec::new(alloc);
-    'sets: for (set, params) in sets.iter().enumerate() {
-        put_query(
-            query,
-            &places,
-            &names,
-            set,
-            params,
-            limit,
-            &mut values,
-            &mut command,
-            out,
-        )?;
-    }
-    Ok(())
+    put_queries_over(alloc, query, &places, &names, sets, limit, out)
 }

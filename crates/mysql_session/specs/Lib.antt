@@ -7,3 +7,5 @@ pub use Rattle.mysql_convert.specs.Durations
 pub mod Objects
 pub mod Made
 pub mod Laws
+pub mod Kept
+pub mod Inside

@@ -3,6 +3,7 @@
 
 pub mod laws;
 mod objects;
+mod query;
 mod sender;
 
 pub use bitflags::Flags;
@@ -11,6 +12,9 @@ pub use mysql_const::{CapabilityFlags, StatusFlags};
 pub use mysql_convert::{
     FromValue, FromValueError, Intermediate, IntoParams, ParseIr, ToValue, ToValueError,
     from_value, from_value_opt,
+};
+pub use mysql_lent_rows::{
+    FromValueRef, LentRow, RowError, RowFormat, RowLender, StoredRows, ValueRef,
 };
 pub use mysql_packets;
 pub use mysql_packets::{
@@ -24,9 +28,10 @@ pub use mysql_reply_writer::{ReplyRefusal, ReplyWriter, write_reply};
 pub use mysql_rows::{ColumnIndex, Row};
 pub use mysql_streams::{Refusal, Road};
 pub use mysql_values::{
-    ByteString, Content, MissingNamedParameterError, Params, ParamsConfusionError, ParamsError,
-    SetError, Value,
+    BindError, ByteString, Content, MissingNamedParameterError, Params, ParamsConfusionError,
+    ParamsError, SetError, Value,
 };
 pub use mysql_wire::{PacketCodecError, PacketReader, packet_to_chunks};
 pub use objects::send_values;
+pub use query::Query;
 pub use sender::send;

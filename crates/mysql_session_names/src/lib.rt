@@ -3,9 +3,10 @@
 
 // Sessions.
 use mysql_session::{
-    Audit, CapabilityFlags, End, Flags, Intermediate, PacketReader, ParseIr, Receiver,
-    ReceiverError, RecodeError, Recoder, Refusal, Reply, ReplyEnd, ReplyFault, ReplyKind,
-    ReplyReader, ReplyRefusal, ReplyResult, ReplyWriter, Road, StatusFlags, StreamFault,
+    Audit, BindError, CapabilityFlags, End, Flags, FromValueRef, Intermediate, LentRow,
+    PacketReader, ParseIr, Query, Receiver, ReceiverError, RecodeError, Recoder, Refusal, Reply,
+    ReplyEnd, ReplyFault, ReplyKind, ReplyReader, ReplyRefusal, ReplyResult, ReplyWriter, Road,
+    RowError, RowFormat, RowLender, StatusFlags, StoredRows, StreamFault, ValueRef,
     packet_to_chunks, read_reply, receive, recode, send, send_values, write_reply,
 };
 

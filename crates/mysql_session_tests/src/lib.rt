@@ -20,6 +20,8 @@ mod kept;
 #[cfg(test)]
 mod large;
 #[cfg(test)]
+mod lent;
+#[cfg(test)]
 mod many;
 #[cfg(test)]
 mod memory;
@@ -29,6 +31,8 @@ mod objects;
 mod prefixes;
 #[cfg(test)]
 mod prepared;
+#[cfg(test)]
+mod queries;
 #[cfg(test)]
 mod rebuilt;
 #[cfg(test)]

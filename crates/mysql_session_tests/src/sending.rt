@@ -2,7 +2,7 @@
 
 use crate::audits::{WantedSet, assert_audits};
 use crate::support::filled;
-use mysql_session::{End, Params, ParamsError, Refusal, Road, SetError, Value, send};
+use mysql_session::{End, Params, ParamsError, Query, Refusal, Road, SetError, Value, send};
 use mysql_values::{ByteString, MissingNamedParameterError, ParamsConfusionError};
 use std::alloc::{AllocError, Global};
 use std::collections::HashMap;
@@ -126,6 +126,32 @@ pub fn sent_at_last(
     }
 }
 
+/// Sends sets by a query that is kept, with the id 1.
+fn sent_by_kept(
+    alloc: Global,
+    (road, query, _, limit): Sending,
+    sets: &[Params],
+    out: &mut Vec<u8>,
+) -> Result<(), Refusal> {
+    match Query::new(alloc, query, 1) {
+        Ok(query) => query.send(alloc, sets, road, limit.max(4), out),
+        Err(refusal) => Err(refusal),
+    }
+}
+
+/// The same; once more where memory was refused.
+fn sent_by_kept_at_last(
+    alloc: Global,
+    sending: Sending,
+    sets: &[Params],
+    out: &mut Vec<u8>,
+) -> Result<(), Refusal> {
+    match sent_by_kept(alloc, sending, sets, out) {
+        Err(Refusal::Memory) => sent_by_kept(alloc, sending, sets, out),
+        answer => answer,
+    }
+}
+
 /// Makes sets and sends them.
 fn sent(
     assert: &impl Assert,
@@ -136,6 +162,18 @@ fn sent(
     let (_, _, sets, _) = sending;
     let sets = once_more(assert, all_params(alloc, sets), all_params(alloc, sets));
     sent_at_last(alloc, sending, sets.as_slice(), out)
+}
+
+/// Makes sets and sends them by a query that is kept.
+fn made_and_sent_by_kept(
+    assert: &impl Assert,
+    alloc: Global,
+    sending: Sending,
+    out: &mut Vec<u8>,
+) -> Result<(), Refusal> {
+    let (_, _, sets, _) = sending;
+    let sets = once_more(assert, all_params(alloc, sets), all_params(alloc, sets));
+    sent_by_kept_at_last(alloc, sending, sets.as_slice(), out)
 }
 
 /// Bytes that have to stay before what is sent.
@@ -159,7 +197,15 @@ fn assert_stream(assert: &impl Assert, alloc: Global, sending: Sending, stream: 
     assert.holds(out.as_slice().strip_prefix(b"front") == Some(stream));
 }
 
-/// Asserts that sets are sent as this stream, and read back as these contents.
+/// Asserts that a query that is kept sends sets as this stream behind what stands.
+fn assert_stream_of_kept(assert: &impl Assert, alloc: Global, sending: Sending, stream: &[u8]) {
+    let mut out = front(assert, alloc);
+    let answer = made_and_sent_by_kept(assert, alloc, sending, &mut out);
+    assert.holds(answer.is_ok());
+    assert.holds(out.as_slice().strip_prefix(b"front") == Some(stream));
+}
+
+/// Asserts that sets are sent as this stream, also by a query that is kept, and read back as these contents.
 fn assert_sent(
     assert: &impl Assert,
     alloc: Global,
@@ -168,6 +214,7 @@ fn assert_sent(
     contents: &[WantedSet],
 ) {
     assert_stream(assert, alloc, sending, stream);
+    assert_stream_of_kept(assert, alloc, sending, stream);
     let (_, query, _, limit) = sending;
     let query = (query, limit.max(4));
     assert_audits(assert, alloc, query, stream, contents, End::Whole);
@@ -243,9 +290,18 @@ fn assert_refused(assert: &impl Assert, alloc: Global, sending: Sending, cause: 
     assert.holds(out.as_slice() == b"front".as_slice());
 }
 
-/// Asserts that each of these sets are refused for this cause, and that nothing is appended.
+/// The same by a query that is kept.
+fn assert_refused_by_kept(assert: &impl Assert, alloc: Global, sending: Sending, cause: Cause) {
+    let mut out = front(assert, alloc);
+    let answer = made_and_sent_by_kept(assert, alloc, sending, &mut out);
+    assert_cause(assert, alloc, answer, cause);
+    assert.holds(out.as_slice() == b"front".as_slice());
+}
+
+/// Asserts that each of these sets are refused for this cause, also by a query that is kept, and that nothing is appended.
 pub fn assert_refusals(assert: &impl Assert, alloc: Global, rows: &[(Sending, Cause)]) {
     for (sending, cause) in rows {
         assert_refused(assert, alloc, *sending, *cause);
+        assert_refused_by_kept(assert, alloc, *sending, *cause);
     }
 }

@@ -1,5 +1,6 @@
 pub mod Back
 pub mod Bitmaps
+pub mod Eights
 pub mod Lists
 pub mod LongData
 pub mod Put

@@ -3,13 +3,15 @@
 ghost use Rattle.std.specs.Prelude.{◌≡◌, ◌++◌, ◌∷◌, ◌≤◌, IfOk, None, OnOk, Some, SomeIff, flat_map, if◌then◌else◌, is_none, length, map, nat_lt, take};
 ghost use Rattle.byteorder.specs.Endian.{little_bytes};
 ghost use Rattle.mysql_buf.specs.Writing.{lenenc_str};
-ghost use Rattle.mysql_cells.specs.Cells.{bin_len};
+ghost use Rattle.mysql_cells.specs.Cells.{bin_len, cell};
 ghost use Rattle.mysql_cells.specs.Values.{content_of, first_float};
 ghost use Rattle.mysql_raw.specs.Wire.{Appends};
 ghost use Rattle.mysql_stmt.specs.Executions.{execute_command, execution, execution_of, needs_long_data as has_to_be_apart, null_bitmap, parameters, sent_cell, type_bytes, whole_size};
 ghost use Rattle.mysql_stmt.specs.Views.{execution_view};
 
+use crate::has_value::HasValue;
 use crate::headers::{ComStmtExecuteHeader, IterationCount};
+use crate::in_room::{make_room, push_eight, push_short};
 use crate::null_bits::{null_bitmap_of, put_null_bitmap};
 use mysql_buf::{BufMutExt, lenenc_str_len};
 use mysql_cells::Value;
@@ -17,6 +19,9 @@ use mysql_const::{ColumnType, CursorType, MAX_PAYLOAD_LEN, StmtExecuteParamsFlag
 use mysql_raw::{IntRepr, LeI64, LeU32, MySerialize, RawInt, in_order};
 use std::alloc::{AllocError, Global};
 use std::mem::replace;
+
+// The bytes of a text that is copied byte by byte: a call that copies it takes longer.
+const SHORT: usize = 40;
 
 /// Makes executions of a prepared statement.
 ///
@@ -102,14 +107,14 @@ fn lent<'a>(alloc: Global, values: &'a [Value]) -> Result<Vec<&'a Value>, AllocE
 /// An execution without values has 10 bytes, and counts as one of 11 here.
 ///
 /// MySQL: Client/Server Protocol, "COM_STMT_EXECUTE".
-pub fn size_within(values: &[&Value], most: usize) -> Option<usize>
+pub fn size_within<V: HasValue>(values: &[V], most: usize) -> Option<usize>
     requires { length values.now ≤ 65535 }
-    ensures { SomeIff result (whole_size (map (λ value. value.now) values.now) ≤ most) (whole_size (map (λ value. value.now) values.now)) }
+    ensures { SomeIff result (whole_size (map V.value values.now) ≤ most) (whole_size (map V.value values.now)) }
 {
     let head = 10 + (values.len() + 7) / 8 + 1 + 2 * values.len();
     let mut room = most.checked_sub(head)? as u64;
     for value in values {
-        room = room.checked_sub(value.bin_len())?;
+        room = room.checked_sub(value.value().bin_len())?;
     }
     Some(most - room as usize)
 }
@@ -131,14 +136,14 @@ fn exact_cell_size(value: &Value) -> Option<u64>
 /// The same as [`size_within`], for senders that refuse floats: `None` also where a value is one. Both are found in one pass over the values.
 ///
 /// MySQL: Client/Server Protocol, "COM_STMT_EXECUTE".
-pub fn size_without_floats(values: &[&Value], most: usize) -> Option<usize>
+pub fn size_without_floats<V: HasValue>(values: &[V], most: usize) -> Option<usize>
     requires { length values.now ≤ 65535 }
-    ensures { SomeIff result ((first_float (map (λ value. value.now) values.now) ≡ None) × (whole_size (map (λ value. value.now) values.now) ≤ most)) (whole_size (map (λ value. value.now) values.now)) }
+    ensures { SomeIff result ((first_float (map V.value values.now) ≡ None) × (whole_size (map V.value values.now) ≤ most)) (whole_size (map V.value values.now)) }
 {
     let head = 10 + (values.len() + 7) / 8 + 1 + 2 * values.len();
     let mut room = most.checked_sub(head)? as u64;
     for value in values {
-        room = room.checked_sub(exact_cell_size(*value)?)?;
+        room = room.checked_sub(exact_cell_size(value.value())?)?;
     }
     Some(most - room as usize)
 }
@@ -260,14 +265,18 @@ fn type_of(value: &Value) -> [u8; 2]
 }
 
 // The types of values, into room that is made for all.
-fn put_types(values: &[&Value], buf: &mut Vec<u8>) -> Result<(), AllocError>
-    ensures { Appends result buf.old.items buf.new.items (flat_map (λ value. type_bytes value.now) values.now) }
+#[inline(always)]
+fn put_types<V: HasValue>(values: &[V], buf: &mut Vec<u8>) -> Result<(), AllocError>
+    ensures { Appends result buf.old.items buf.new.items (flat_map (λ value. type_bytes (V.value value)) values.now) }
 {
-    buf.reserve(2 * values.len())?;
+    let Some(room) = values.len().checked_mul(2) else {
+        return Err(AllocError);
+    };
+    make_room(room, buf)?;
     // The length of what no reference leads to isn't written back for each byte.
     let mut types = replace(buf, Vec::new(*buf.allocator()));
     for value in values {
-        let [number, flags] = type_of(*value);
+        let [number, flags] = type_of(value.value());
         types.push_reserved(number);
         types.push_reserved(flags);
     }
@@ -291,12 +300,46 @@ impl<'a> MySerialize for Types<'a> {
 fn put_text(text: &[u8], buf: &mut Vec<u8>) -> Result<(), AllocError>
     ensures { Appends result buf.old.items buf.new.items (lenenc_str text.now) }
 {
-    if text.len() > 250 {
-        return buf.put_lenenc_str(text);
+    if text.len() > SHORT {
+        let mut whole = replace(buf, Vec::new(*buf.allocator()));
+        let put = put_long_text(text, &mut whole);
+        *buf = whole;
+        return put;
     }
-    buf.reserve(text.len() + 1)?;
+    make_room(text.len() + 1, buf)?;
     buf.push_reserved(text.len() as u8);
-    buf.extend_from_slice(text)
+    push_short(text, buf);
+    Ok(())
+}
+
+// The same of one that isn't short, by a call that copies it.
+#[inline(never)]
+fn put_long_text(text: &[u8], buf: &mut Vec<u8>) -> Result<(), AllocError>
+    ensures { Appends result buf.old.items buf.new.items (lenenc_str text.now) }
+{
+    buf.put_lenenc_str(text)
+}
+
+// Appends a number's eight bytes.
+#[inline(always)]
+fn put_number(bytes: [u8; 8], buf: &mut Vec<u8>) -> Result<(), AllocError>
+    requires { length bytes ≡ 8 }
+    ensures { Appends result buf.old.items buf.new.items bytes }
+{
+    make_room(8, buf)?;
+    push_eight(bytes, buf);
+    Ok(())
+}
+
+// Appends the cell of a value of any kind, in another vector than the one at hand, so that no reference leads to that.
+#[inline(always)]
+fn put_other(value: &Value, buf: &mut Vec<u8>) -> Result<(), AllocError>
+    ensures { Appends result buf.old.items buf.new.items (cell value.now) }
+{
+    let mut whole = replace(buf, Vec::new(*buf.allocator()));
+    let put = value.serialize(&mut whole);
+    *buf = whole;
+    put
 }
 
 // The cell of one value, where it has one. The kinds that most values have come first.
@@ -308,18 +351,20 @@ fn put_cell(value: &Value, apart: bool, buf: &mut Vec<u8>) -> Result<(), AllocEr
         Value::NULL => Ok(()),
         Value::Bytes(_) if apart => Ok(()),
         Value::Bytes(bytes) => put_text(bytes.as_slice(), buf),
-        Value::Int(number) => LeI64::serialize(*number, buf),
-        _ => value.serialize(buf),
+        Value::Int(number) => put_number(number.to_le_bytes(), buf),
+        Value::UInt(number) => put_number(number.to_le_bytes(), buf),
+        _ => put_other(value, buf),
     }
 }
 
 // The cells of values.
-fn put_cells(values: &[&Value], apart: bool, buf: &mut Vec<u8>) -> Result<(), AllocError>
-    ensures { Appends result buf.old.items buf.new.items (flat_map (λ value. sent_cell apart value.now) values.now) }
+#[inline(always)]
+fn put_cells<V: HasValue>(values: &[V], apart: bool, buf: &mut Vec<u8>) -> Result<(), AllocError>
+    ensures { Appends result buf.old.items buf.new.items (flat_map (λ value. sent_cell apart (V.value value)) values.now) }
 {
     let len = buf.len();
     for value in values {
-        if let Err(e) = put_cell(*value, apart, buf) {
+        if let Err(e) = put_cell(value.value(), apart, buf) {
             buf.truncate(len);
             return Err(e);
         }
@@ -342,6 +387,7 @@ impl<'a> MySerialize for Cells<'a> {
 }
 
 // What stands before what an execution carries of its values.
+#[inline(always)]
 fn head(id: u32) -> [u8; 10]
     ensures { result ≡ 23 ∷ (little_bytes 4 id ++ 0 ∷ little_bytes 4 1) }
 {
@@ -350,45 +396,46 @@ fn head(id: u32) -> [u8; 10]
 }
 
 // Appends what an execution of values carries of them. After a refusal what stood before stands in front.
-fn put_parameters(values: &[&Value], apart: bool, out: &mut Vec<u8>) -> Result<(), AllocError>
+#[inline(always)]
+fn put_parameters<V: HasValue>(
+    values: &[V],
+    apart: bool,
+    out: &mut Vec<u8>,
+) -> Result<(), AllocError>
     requires { length values.now ≤ 65535 }
-    ensures ok { OnOk result (out.new.items ≡ out.old.items ++ parameters (null_bitmap (map (λ value. value.now) values.now)) (map (λ value. value.now) values.now) apart) }
+    ensures ok { OnOk result (out.new.items ≡ out.old.items ++ parameters (null_bitmap (map V.value values.now)) (map V.value values.now) apart) }
     ensures kept { take (length out.old.items) out.new.items ≡ out.old.items }
 {
     if values.is_empty() {
         return Ok(());
     }
     put_null_bitmap(values, out)?;
-    out.push(1)?;
+    make_room(1, out)?;
+    out.push_reserved(1);
     put_types(values, out)?;
     put_cells(values, apart, out)
-}
-
-// Appends an execution. After a refusal what stood before stands in front.
-fn put_parts(id: u32, values: &[&Value], apart: bool, out: &mut Vec<u8>) -> Result<(), AllocError>
-    requires { length values.now ≤ 65535 }
-    ensures ok { OnOk result (out.new.items ≡ out.old.items ++ execute_command id (map (λ value. value.now) values.now) apart) }
-    ensures kept { take (length out.old.items) out.new.items ≡ out.old.items }
-{
-    out.extend_from_slice(&head(id))?;
-    put_parameters(values, apart, out)
 }
 
 /// Appends the execution with these values, at most 65535, of the statement with this id: without the cells of byte strings where
 /// these are sent `apart`, as long data before it. Refused for want of memory.
 ///
 /// MySQL: Client/Server Protocol, "COM_STMT_EXECUTE".
-pub fn put_execution(
+#[inline(always)]
+pub fn put_execution<V: HasValue>(
     id: u32,
-    values: &[&Value],
+    values: &[V],
     apart: bool,
     out: &mut Vec<u8>,
 ) -> Result<(), AllocError>
     requires { length values.now ≤ 65535 }
-    ensures { Appends result out.old.items out.new.items (execute_command id (map (λ value. value.now) values.now) apart) }
+    ensures { Appends result out.old.items out.new.items (execute_command id (map V.value values.now) apart) }
 {
     let len = out.len();
-    let put = put_parts(id, values, apart, out);
+    out.extend_from_slice(&head(id))?;
+    // What no reference leads to: the length isn't written back for each byte.
+    let mut whole = replace(out, Vec::new(*out.allocator()));
+    let put = put_parameters(values, apart, &mut whole);
+    *out = whole;
     if put.is_err() {
         out.truncate(len);
     }

@@ -3,7 +3,9 @@
 
 pub mod close;
 pub mod execute;
+pub mod has_value;
 pub mod headers;
+mod in_room;
 pub mod laws;
 pub mod long_data;
 mod null_bits;
@@ -14,6 +16,7 @@ pub use execute::{
     ComStmtExecuteRequest, ComStmtExecuteRequestBuilder, put_execution, size_within,
     size_without_floats,
 };
+pub use has_value::HasValue;
 pub use headers::{
     ComStmtCloseHeader, ComStmtExecuteHeader, ComStmtResetHeader, ComStmtSendLongDataHeader,
     InvalidComStmtCloseHeader, InvalidComStmtExecuteHeader, InvalidComStmtResetHeader,

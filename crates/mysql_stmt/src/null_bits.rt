@@ -4,9 +4,12 @@ ghost use Rattle.std.specs.Prelude.{◌≡◌, ◌++◌, ◌≤◌, IfOk, OnOk, 
 ghost use Rattle.mysql_cells.specs.Values.{is_null as is_no_value};
 ghost use Rattle.mysql_stmt.specs.Executions.{null_bitmap, null_bits};
 
+use crate::has_value::HasValue;
+use crate::in_room::make_room;
 use mysql_cells::Value;
 use std::alloc::{AllocError, Global};
 
+#[inline(always)]
 fn is_null(value: &Value) -> bool
     ensures { result ≡ is_no_value value.now }
 {
@@ -14,13 +17,14 @@ fn is_null(value: &Value) -> bool
 }
 
 // The byte of the first eight values.
-fn null_byte(values: &[&Value]) -> u8
-    ensures { result ≡ null_bits 8 (map (λ value. value.now) values.now) }
+#[inline(always)]
+fn null_byte<V: HasValue>(values: &[V]) -> u8
+    ensures { result ≡ null_bits 8 (map V.value values.now) }
 {
     let mut byte: u16 = 0;
     let mut bit: u16 = 1;
     for place in 0..values.len().min(8) {
-        if is_null(values[place]) {
+        if is_null(values[place].value()) {
             byte += bit;
         }
         bit *= 2;
@@ -29,13 +33,18 @@ fn null_byte(values: &[&Value]) -> u8
 }
 
 // Appends a bit for each value, eight to a byte. After a refusal what stood before stands in front.
-pub(crate) fn put_null_bitmap(values: &[&Value], out: &mut Vec<u8>) -> Result<(), AllocError>
+#[inline(always)]
+pub(crate) fn put_null_bitmap<V: HasValue>(
+    values: &[V],
+    out: &mut Vec<u8>,
+) -> Result<(), AllocError>
     requires { length values.now ≤ 65535 }
-    ensures ok { OnOk result (out.new.items ≡ out.old.items ++ null_bitmap (map (λ value. value.now) values.now)) }
+    ensures ok { OnOk result (out.new.items ≡ out.old.items ++ null_bitmap (map V.value values.now)) }
     ensures kept { take (length out.old.items) out.new.items ≡ out.old.items }
 {
     for k in 0..(values.len() + 7) / 8 {
-        out.push(null_byte(&values[8 * k..]))?;
+        make_room(1, out)?;
+        out.push_reserved(null_byte(&values[8 * k..]));
     }
     Ok(())
 }

@@ -1,24 +1,21 @@
-use Rattle.mysql_wire.specs.Framing.{framing}
-use Rattle.mysql_streams.specs.Commands.{prepare_command}
+use Rattle.std.proofs.Common.{ℕ, subst}
+use Rattle.mysql_streams.specs.declared.road.Road.TheVariants.{Execute}
+use Rattle.mysql_streams.specs.Reading.{SentReadable}
+use Rattle.mysql_streams.specs.Sending.{RefusesGiven}
 use Rattle.mysql_streams.specs.Sets.{all_given}
 use Rattle.mysql_senders.proofs.SentSets.{on_err, on_ok}
-use Rattle.mysql_senders.proofs.StatementSets.{all_executed, kept_behind, refused_sets}
 use Rattle.mysql_senders.proofs.executions.put_executions.Goals as goal
 
 pub returns-clause-ok : goal.returns-clause-ok
 returns-clause-ok c =
-    on_ok c.put_sets.result
-    (all_executed c.args.query.now c.in_ok-statement.statement.parsed c.in_ok-statement.statement.places c.in_ok-statement.ensures.ok.0 (all_given c.args.sets.now) c.in_ok-statement.statement.id c.args.stmt_id c.args.limit c.in_ok-statement.ensures.ok.1
-    c.in_ok-put_prepare.ensures.ok.0 c.args.out.now.items c.put_prepare.new.out.items c.put_sets.new.out.items c.in_ok-put_prepare.ensures.ok.1)
-    c.put_sets.ensures.ok
+    on_ok c.put_executions_over.result
+    (λ sent. subst (λ (id : ℕ). SentReadable Execute c.args.query.now (all_given c.args.sets.now) id c.args.limit c.args.out.now.items c.put_executions_over.new.out.items) c.in_ok-statement.ensures.ok.1
+    (sent c.args.query.now c.in_ok-statement.ensures.ok.0))
+    c.put_executions_over.ensures.ok
 
 pub returns-clause-err : goal.returns-clause-err
 returns-clause-err c =
-    on_err c.put_sets.result
-    (refused_sets c.args.query.now c.in_ok-statement.statement.parsed c.in_ok-statement.statement.places c.in_ok-statement.ensures.ok.0 (all_given c.args.sets.now) c.in_ok-statement.statement.id c.args.stmt_id c.args.limit c.in_ok-statement.ensures.ok.1
-    c.in_ok-put_prepare.ensures.ok.0)
-    c.put_sets.ensures.err
-
-pub returns-clause-kept : goal.returns-clause-kept
-returns-clause-kept c =
-    kept_behind c.args.out.now.items (framing (prepare_command c.in_ok-statement.statement.parsed.query) 0) c.put_prepare.new.out.items c.put_sets.new.out.items c.in_ok-put_prepare.ensures.ok.1 c.put_sets.ensures.kept
+    on_err c.put_executions_over.result
+    (λ refusal why. subst (λ (id : ℕ). RefusesGiven Execute c.args.query.now (all_given c.args.sets.now) id c.args.limit refusal) c.in_ok-statement.ensures.ok.1
+    (why c.args.query.now c.in_ok-statement.ensures.ok.0))
+    c.put_executions_over.ensures.err

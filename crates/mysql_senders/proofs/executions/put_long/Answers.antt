@@ -8,9 +8,9 @@ use Rattle.mysql_senders.proofs.executions.put_long.Goals as goal
 use Rattle.mysql_senders.proofs.executions.put_long.Goals.{then-apart+in_ok-put_pieces, else-apart}
 
 pub returns-clause-ok : goal.returns-clause-ok
-returns-clause-ok c =
-    let values = map (λ value. value.now) c.args.values.now in
-    let long = long_by_size c.executions_have_sizes.ensures c.args.id c.args.size c.args.values.now c.requires.size in
+returns-clause-ok g c =
+    let values = map g.V.HasValue.value c.args.values.now in
+    let long = long_by_size c.executions_have_sizes.ensures c.args.id c.args.size g.V.HasValue.value c.args.values.now c.requires.size in
     on_ok c.put_buffered.result
     (λ put.
     elim c.if-apart.branch [

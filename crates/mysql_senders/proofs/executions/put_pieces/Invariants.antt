@@ -2,4 +2,4 @@ use Rattle.mysql_senders.proofs.Pieces.{PiecesSent}
 use Rattle.mysql_senders.proofs.executions.put_pieces.Given as goal
 
 abbrev pub invariant-values : goal.invariant-values
-invariant-values l = PiecesSent l.id l.values l.fn.out.items l.out.items l.place
+invariant-values g l = PiecesSent l.id g.V.HasValue.value l.values l.fn.out.items l.out.items l.place

@@ -7,14 +7,14 @@ use Rattle.mysql_senders.proofs.made_sets.put_made_executions.Goals as goal
 pub returns-clause-ok : goal.returns-clause-ok
 returns-clause-ok g c =
     on_ok c.put_made_sets.result
-    (all_executed c.args.query.now c.in_ok-statement.statement.parsed c.in_ok-statement.statement.places c.in_ok-statement.ensures.ok.0 (g.S.SetMaker.given c.args.sets.now) c.in_ok-statement.statement.id c.args.stmt_id c.args.limit c.in_ok-statement.ensures.ok.1
+    (all_executed c.args.query.now c.in_ok-statement.statement.parsed c.in_ok-statement.statement.places c.in_ok-statement.ensures.ok.0.0 c.in_ok-statement.ensures.ok.0.1 (g.S.SetMaker.given c.args.sets.now) c.in_ok-statement.statement.id c.args.stmt_id c.args.limit c.in_ok-statement.ensures.ok.1
     c.in_ok-put_prepare.ensures.ok.0 c.args.out.now.items c.put_prepare.new.out.items c.put_made_sets.new.out.items c.in_ok-put_prepare.ensures.ok.1)
     c.put_made_sets.ensures.ok
 
 pub returns-clause-err : goal.returns-clause-err
 returns-clause-err g c =
     on_err c.put_made_sets.result
-    (refused_sets c.args.query.now c.in_ok-statement.statement.parsed c.in_ok-statement.statement.places c.in_ok-statement.ensures.ok.0 (g.S.SetMaker.given c.args.sets.now) c.in_ok-statement.statement.id c.args.stmt_id c.args.limit c.in_ok-statement.ensures.ok.1
+    (refused_sets c.args.query.now c.in_ok-statement.statement.parsed c.in_ok-statement.statement.places c.in_ok-statement.ensures.ok.0.0 c.in_ok-statement.ensures.ok.0.1 (g.S.SetMaker.given c.args.sets.now) c.in_ok-statement.statement.id c.args.stmt_id c.args.limit c.in_ok-statement.ensures.ok.1
     c.in_ok-put_prepare.ensures.ok.0)
     c.put_made_sets.ensures.err
 

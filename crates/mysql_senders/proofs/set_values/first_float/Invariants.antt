@@ -5,4 +5,4 @@ use Rattle.mysql_values.specs.Values.{content_of, first_float}
 use Rattle.mysql_senders.proofs.set_values.first_float.Given as goal
 
 abbrev pub invariant-loop-place : goal.invariant-loop-place
-invariant-loop-place l = position_from (λ value. is_none (content_of value)) l.place (map (λ value. value.now) (drop l.place l.values)) ≡ first_float (map (λ value. value.now) l.values)
+invariant-loop-place g l = position_from (λ value. is_none (content_of value)) l.place (map g.V.HasValue.value (drop l.place l.values)) ≡ first_float (map g.V.HasValue.value l.values)

@@ -4,7 +4,7 @@ use Rattle.mysql_stmt.proofs.LongData.{left}
 use Rattle.mysql_stmt.proofs.execute.size_within.Given as goal
 
 abbrev pub invariant-loop-value : goal.invariant-loop-value
-invariant-loop-value l = record {
-  sum : whole_size (map (λ value. value.now) l.values) + l.room ≡ l.most + left l.values l.value-index;
+invariant-loop-value g l = record {
+  sum : whole_size (map g.V.HasValue.value l.values) + l.room ≡ l.most + left g.V.HasValue.value l.values l.value-index;
   small : l.room ≤ l.most;
 }

@@ -7,8 +7,8 @@ use Rattle.mysql_stmt.proofs.LongData.{left}
 use Rattle.mysql_stmt.proofs.execute.size_without_floats.Given as goal
 
 abbrev pub invariant-loop-value : goal.invariant-loop-value
-invariant-loop-value l = record {
-  sum : whole_size (map (λ value. value.now) l.values) + l.room ≡ l.most + left l.values l.value-index;
+invariant-loop-value g l = record {
+  sum : whole_size (map g.V.HasValue.value l.values) + l.room ≡ l.most + left g.V.HasValue.value l.values l.value-index;
   small : l.room ≤ l.most;
-  floats : position_from (λ value. is_none (content_of value)) l.value-index (map (λ value. value.now) (drop l.value-index l.values)) ≡ first_float (map (λ value. value.now) l.values);
+  floats : position_from (λ value. is_none (content_of value)) l.value-index (map g.V.HasValue.value (drop l.value-index l.values)) ≡ first_float (map g.V.HasValue.value l.values);
 }

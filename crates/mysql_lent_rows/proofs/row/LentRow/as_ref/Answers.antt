@@ -1,21 +1,19 @@
-use Rattle.std.proofs.Common.{◌∙◌, ap, length, sym, List, Some}
-use Rattle.std.specs.List.{slice_get}
+use Rattle.std.proofs.Common.{◌∙◌, ap, length, sym, Some}
 use Rattle.mysql_lent_rows.specs.Lent.{is_inside}
-use Rattle.mysql_lent_rows.specs.declared.place.CellPlace.{CellPlace}
 use Rattle.mysql_lent_rows.proofs.LentCells.{found_cell, found_inside, no_cell}
 use Rattle.mysql_lent_rows.proofs.row.LentRow.as_ref.Goals as goal
 
 pub value_at-requires : goal.value_at-requires
 value_at-requires c =
-    found_inside (is_inside (length c.args.self.now.payload.now)) c.args.self.now.lender.now.places.items c.args.index c.in-Some.place c.args.self.now.inside
-    (ap (λ (xs : List CellPlace). slice_get xs c.args.index) (sym c.as_slice.ensures.value) ∙ sym c.place_at.ensures ∙ c.in-Some.is)
+    found_inside (is_inside (length c.args.self.now.payload.now)) c.args.self.now.places.now c.args.index c.in-Some.place c.args.self.now.inside
+    (sym c.place_at.ensures ∙ c.in-Some.is)
 
 pub returns-in-Some : goal.returns-in-Some
 returns-in-Some c =
-    ap (λ x. Some x) c.value_at.ensures ∙ found_cell c.args.self.now.payload.now c.args.self.now.lender.now.places.items c.args.index c.in-Some.place
-    (ap (λ (xs : List CellPlace). slice_get xs c.args.index) (sym c.as_slice.ensures.value) ∙ sym c.place_at.ensures ∙ c.in-Some.is)
+    ap (λ x. Some x) c.value_at.ensures ∙ found_cell c.args.self.now.payload.now c.args.self.now.places.now c.args.index c.in-Some.place
+    (sym c.place_at.ensures ∙ c.in-Some.is)
 
 pub returns-in-None : goal.returns-in-None
 returns-in-None c =
-    no_cell c.args.self.now.payload.now c.args.self.now.lender.now.places.items c.args.index
-    (ap (λ (xs : List CellPlace). slice_get xs c.args.index) (sym c.as_slice.ensures.value) ∙ sym c.place_at.ensures ∙ c.in-None.is)
+    no_cell c.args.self.now.payload.now c.args.self.now.places.now c.args.index
+    (sym c.place_at.ensures ∙ c.in-None.is)

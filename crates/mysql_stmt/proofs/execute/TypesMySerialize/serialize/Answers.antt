@@ -3,4 +3,4 @@ use Rattle.mysql_stmt.proofs.Lists.{appends_over}
 use Rattle.mysql_stmt.proofs.execute.TypesMySerialize.serialize.Goals as goal
 
 pub returns : goal.returns
-returns c = appends_over _ _ _ type_bytes _ c.put_types.ensures
+returns c = appends_over (λ value. value.now) _ _ _ type_bytes _ c.put_types.ensures

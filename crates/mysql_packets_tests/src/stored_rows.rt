@@ -1,0 +1,160 @@
+//! Rows that are kept, beside the same rows lent.
+
+use crate::lent_rows::{NO_FLAG, TEXTS, WIDE_ROW, WIDTHS, columns_of, lent_text};
+use crate::support::Asserting;
+use mysql_const::{ColumnFlags, ColumnType};
+use mysql_lent_rows::{LentRow, RowFormat, RowLender, StoredRows, ValueRef};
+use std::alloc::{AllocError, Global};
+use tests_support::{Assert, assert_equal, once_more};
+
+/// Keeps a row. Where memory is refused nothing changes, and the row is kept once more.
+fn keep(assert: &impl Assert, stored: &mut StoredRows, row: &LentRow) {
+    if row.len() != stored.columns_ref().len() {
+        assert.holds(false);
+        return;
+    }
+    let count = stored.len();
+    if stored.push(row).is_err() {
+        assert_equal(assert, stored.len(), count);
+        assert.holds(stored.push(row).is_ok());
+    }
+    assert.holds(stored.len() > count);
+}
+
+/// Keeps each payload's row.
+fn keep_all(
+    assert: &impl Assert,
+    lender: &mut RowLender,
+    stored: &mut StoredRows,
+    payloads: &[&[u8]],
+) {
+    for payload in payloads {
+        match lender.row(*payload) {
+            Ok(row) => keep(assert, stored, &row),
+            Err(_) => assert.holds(false),
+        }
+    }
+}
+
+/// Asserts that two rows have the same cells.
+fn assert_same_cells(assert: &impl Assert, found: LentRow, wanted: LentRow) {
+    assert_equal(assert, found.len(), wanted.len());
+    for index in 0..wanted.len() {
+        assert.holds(found.as_ref(index) == wanted.as_ref(index));
+    }
+}
+
+/// Asserts that the rows that are kept are those of the payloads, each looked at twice.
+fn assert_kept(
+    assert: &impl Assert,
+    lender: &mut RowLender,
+    stored: &StoredRows,
+    payloads: &[&[u8]],
+) {
+    assert_equal(assert, stored.len(), payloads.len());
+    assert_equal(assert, stored.is_empty(), payloads.is_empty());
+    for (index, payload) in payloads.iter().enumerate() {
+        match (stored.row(index), stored.row(index), lender.row(*payload)) {
+            (Some(found), Some(again), Ok(wanted)) => {
+                assert_same_cells(assert, found, wanted);
+                assert_same_cells(assert, again, wanted);
+            }
+            _ => assert.holds(false),
+        }
+    }
+    assert.holds(stored.row(payloads.len()).is_none());
+}
+
+/// Asserts it of rows that are kept, let go of, and kept again.
+fn assert_stored(
+    assert: &impl Assert,
+    alloc: Global,
+    kinds: &[(&[u8], ColumnType, ColumnFlags)],
+    format: RowFormat,
+    payloads: &[&[u8]],
+) -> Result<(), AllocError> {
+    let columns = columns_of(alloc, kinds)?;
+    let mut lender = RowLender::new(alloc, columns.clone()?, format)?;
+    let mut stored = StoredRows::new(alloc, columns);
+    assert_kept(assert, &mut lender, &stored, &[]);
+    keep_all(assert, &mut lender, &mut stored, payloads);
+    assert_kept(assert, &mut lender, &stored, payloads);
+    stored.clear();
+    assert_kept(assert, &mut lender, &stored, &[]);
+    keep_all(assert, &mut lender, &mut stored, payloads);
+    assert_kept(assert, &mut lender, &stored, payloads);
+    Ok(())
+}
+
+/// Rows of several lengths, with NULL, an empty text and an overlong length.
+const TEXT_ROWS: [&[u8]; 4] = [
+    b"\xfb\x00\x0242",
+    b"\xfc\x01\x00x\x03abc\xfb",
+    b"\xfb\xfb\xfb",
+    b"\x09something\x04else\x011",
+];
+
+#[test]
+fn text_rows_kept(rt: HostRuntime) {
+    let assert = Asserting(&rt);
+    let alloc = rt.alloc();
+    let first = assert_stored(&assert, alloc, &TEXTS, RowFormat::Text, &TEXT_ROWS);
+    let second = assert_stored(&assert, alloc, &TEXTS, RowFormat::Text, &TEXT_ROWS);
+    once_more(&assert, first, second);
+}
+
+/// A row with a cell of each width, and one of NULLs alone.
+const BINARY_ROWS: [&[u8]; 3] = [WIDE_ROW, b"\x00\xfc\x0f", WIDE_ROW];
+
+#[test]
+fn binary_rows_kept(rt: HostRuntime) {
+    let assert = Asserting(&rt);
+    let alloc = rt.alloc();
+    let first = assert_stored(&assert, alloc, &WIDTHS, RowFormat::Binary, &BINARY_ROWS);
+    let second = assert_stored(&assert, alloc, &WIDTHS, RowFormat::Binary, &BINARY_ROWS);
+    once_more(&assert, first, second);
+}
+
+/// Rows without cells are counted.
+#[test]
+fn rows_without_cells(rt: HostRuntime) {
+    let assert = Asserting(&rt);
+    let alloc = rt.alloc();
+    let payloads: [&[u8]; 3] = [b"", b"", b""];
+    let first = assert_stored(&assert, alloc, &[], RowFormat::Text, &payloads);
+    let second = assert_stored(&assert, alloc, &[], RowFormat::Text, &payloads);
+    once_more(&assert, first, second);
+}
+
+/// What stands in the columns of these names of each row.
+fn named(assert: &impl Assert, alloc: Global) -> Result<(), AllocError> {
+    let columns = columns_of(alloc, &TEXTS)?;
+    let mut lender = RowLender::new(alloc, columns.clone()?, RowFormat::Text)?;
+    let mut stored = StoredRows::new(alloc, columns);
+    keep_all(
+        assert,
+        &mut lender,
+        &mut stored,
+        &[b"\x02hi\x01x\x017", b"\x03abc\xfb\x0242"],
+    );
+    match (stored.row(0), stored.row(1)) {
+        (Some(first), Some(second)) => {
+            assert.holds(lent_text(first.get_opt("a")) == b"hi".as_slice());
+            assert.holds(lent_text(second.get_opt("a")) == b"abc".as_slice());
+            assert.holds(second.get("b") == Some(ValueRef::NULL));
+            assert.holds(first.get_opt::<u64, usize>(2) == Some(Ok(7)));
+            assert.holds(second.get_opt::<u64, usize>(2) == Some(Ok(42)));
+            assert.holds(second.get(3).is_none());
+        }
+        _ => assert.holds(false),
+    }
+    Ok(())
+}
+
+/// Cells of rows that are kept are found by number and name, and converted.
+#[test]
+fn cells_kept_by_name(rt: HostRuntime) {
+    let assert = Asserting(&rt);
+    let alloc = rt.alloc();
+    once_more(&assert, named(&assert, alloc), named(&assert, alloc));
+}

@@ -1,0 +1,39 @@
+-- A row that was lent where nothing else is listed is as one that was handed out.
+use Rattle.std.proofs.Common.{◌≡◌, ℕ, zero, suc, List, [], ◌∷◌, ◌++◌, None, Ok, refl, ap, sym, subst, arith, ◌∙◌}
+use Rattle.std.proofs.lemmas.List.{append-nil}
+use Rattle.mysql_columns.specs.Columns.{ColumnDefinition}
+use Rattle.mysql_rows.specs.Rows.{Row}
+use Rattle.mysql_wire.specs.Bytes.{AreBytes}
+use Rattle.mysql_replies.specs.Grammar.{Outcome, RowsResult}
+use Rattle.mysql_replies.specs.Holding.{ReaderState}
+use Rattle.mysql_replies.specs.Lending.{LentRowsAreHandedOut}
+use Rattle.mysql_replies.specs.Reply.{Progressing, Standing, GoingOn, Rows}
+use Rattle.mysql_replies.specs.Taking.{Runs, feeds, part_of, results_in, takes_results, without_results}
+
+front_bytes : (front back : List ℕ) → AreBytes (front ++ back) → AreBytes front
+front_bytes [] back are i = omega arith
+front_bytes (x ∷ front) back are zero = are zero
+front_bytes (x ∷ front) back are (suc i) = front_bytes front back (λ j. are (suc j)) i
+
+no_front : (front back : List Outcome) → front ++ back ≡ [] → (front ≡ []) × (back ≡ [])
+no_front [] back none = (refl, none)
+no_front (x ∷ front) back none = absurd cc
+
+no_rows : (columns : List ColumnDefinition) (rows : List Row) → part_of (Rows columns rows) ≡ [] → rows ≡ []
+no_rows columns [] none = refl
+no_rows columns (row ∷ rows) none = absurd cc
+
+pub lent_out : LentRowsAreHandedOut
+lent_out c first_id limit pieces taken reports old new piece rest row run are lent none =
+    let s = lent.s in
+    let listed = no_front s.results (part_of s.awaited) (ap results_in (sym lent.going) ∙ none) in
+    let empty : lent.rows ≡ [] = no_rows lent.columns lent.rows (ap part_of (sym lent.awaits) ∙ listed.1) in
+    let kept : Progressing = record s { awaited = Rows lent.columns (lent.rows ++ row ∷ []) } in
+    let alone : results_in (GoingOn kept) ≡ RowsResult lent.columns (row ∷ []) None ∷ [] =
+    ap (λ (k : List Outcome). k ++ part_of (Rows lent.columns (lent.rows ++ row ∷ []))) listed.0 ∙ ap (λ (these : List Row). part_of (Rows lent.columns (these ++ row ∷ []))) empty in
+    let left : without_results (GoingOn kept) ≡ new.standing =
+    sym (lent.going ∙ (λ i. GoingOn (record s { results = listed.0 i; awaited = (lent.awaits ∙ ap (Rows lent.columns) empty) i }))) in
+    let used : AreBytes lent.used = front_bytes lent.used rest (subst AreBytes lent.cut are) in
+    let fed = feeds lent.used (Ok tt) (record new { standing = GoingOn kept }) run used lent.feeds in
+    subst (λ (x : Standing). Runs c first_id limit (pieces ++ lent.used ∷ []) (taken ++ RowsResult lent.columns (row ∷ []) None ∷ []) reports (record new { standing = x })) left
+    (subst (λ (l : List Outcome). Runs c first_id limit (pieces ++ lent.used ∷ []) (taken ++ l) reports (record new { standing = without_results (GoingOn kept) })) alone (takes_results fed))

@@ -1,0 +1,219 @@
+//! A query that is kept for calls that each send or read sets of it.
+
+ghost use Rattle.std.specs.Prelude.{◌≡◌, ◌⊎◌, ◌≤◌, ◌++◌, ℕ, IfErr, IfOk, List, OnErr, OnOk, false, length, true};
+ghost use Rattle.mysql_values.specs.Binding.{IsBindCause, IsBound};
+ghost use Rattle.mysql_values.specs.Content.{Content};
+ghost use Rattle.mysql_values.specs.Params.{IsMeaning};
+ghost use Rattle.mysql_values.specs.Place.{Place as PlaceOf};
+ghost use Rattle.mysql_values.specs.Queries.{HasMixed, HasPlaces, Lexes, Slices};
+ghost use Rattle.mysql_values.specs.declared.bind.BindError.TheVariants as bind_error;
+ghost use Rattle.mysql_commands.specs.Audit.{IsAbout};
+ghost use Rattle.mysql_commands.specs.GoingOn.{fresh_receiver};
+ghost use Rattle.mysql_commands.specs.Received.{receiver_state};
+ghost use Rattle.mysql_session.specs.Delivery.{Delivers};
+ghost use Rattle.mysql_streams.specs.Reading.{SentReadable};
+ghost use Rattle.mysql_streams.specs.Sending.{RefusesGiven};
+ghost use Rattle.mysql_streams.specs.Sets.{all_given};
+ghost use Rattle.mysql_streams.specs.declared.refusal.Refusal.TheVariants as refusals;
+
+use crate::laws::readable_sets_are_delivered;
+use crate::sender::are_bytes;
+use mysql_bulk_sender::put_requests_over;
+use mysql_commands::Receiver;
+use mysql_senders::statement::{Statement, statement_over};
+use mysql_senders::{put_executions_over, put_queries_over};
+use mysql_streams::{Refusal, Road};
+use mysql_values::bind::bind_text_over;
+use mysql_values::laws::{pieces_of_a_query, tokens_of_a_text};
+use mysql_values::{BindError, Params, Place, first_not_alone, places};
+use std::alloc::{AllocError, Global};
+use std::marker::Model;
+
+/// The text of a query and the id of its statement, with what [`send`](crate::send), [`Receiver::new`] and `bind_text` find of
+/// a text: its placeholders, their names and the text with a question mark for each. So calls that each send or read sets of one
+/// query need find these once.
+#[derive(Drop)]
+pub struct Query<'q> {
+    text: &'q [u8],
+    places: Vec<Place>,
+    statement: Statement<'q>,
+}
+
+impl<'q> Model for Query<'q> {
+    ghost use Rattle.mysql_session.specs.Kept.{KeptQuery};
+
+    ghost Value = { KeptQuery };
+
+    ghost use Rattle.mysql_session.specs.Inside.{kept_query, IsFound};
+
+    ghost view = { kept_query };
+
+    ghost invariant = { IsFound };
+}
+
+impl<'q> Query<'q> {
+    /// The query of this text, whose statement has this id.
+    ///
+    /// # Errors
+    /// `Mixed` where both names and question marks occur in the text, `Memory`.
+    ///
+    /// (MySQL Reference Manual, "PREPARE Statement" (parameter markers).)
+    pub fn new(alloc: Global, text: &'q [u8], stmt_id: u32) -> Result<Query<'q>, Refusal>
+        ensures text { IfOk result (λ query. query.text ≡ text.entry.now) }
+        ensures id { IfOk result (λ query. query.id ≡ stmt_id) }
+        ensures one_kind { OnOk result (HasMixed text.entry.now false) }
+        ensures mixed { IfErr result (λ refusal. (refusal ≡ refusals.Memory) ⊎ ((refusal ≡ refusals.Mixed) × HasMixed text.entry.now true)) }
+    {
+        tokens_of_a_text();
+        let Ok(places) = places(alloc, text) else {
+            return Err(Refusal::Memory);
+        };
+        match statement_over(alloc, text, &places, stmt_id) {
+            Ok(statement) => Ok(Query {
+                text,
+                places,
+                statement,
+            }),
+            Err(refusal) => Err(refusal),
+        }
+    }
+
+    /// The text.
+    pub fn text(&self) -> &[u8]
+        ensures { result.now ≡ self.now.text }
+    {
+        self.text
+    }
+
+    /// The id of the statement.
+    pub fn stmt_id(&self) -> u32
+        ensures { result ≡ self.now.id }
+    {
+        self.statement.id
+    }
+
+    /// How many placeholders the text has.
+    pub fn place_count(&self) -> usize
+        ensures { (places : List PlaceOf) × HasPlaces self.now.text places × (result ≡ length places) }
+    {
+        self.places.len()
+    }
+
+    /// Sends sets by the calls over what was found.
+    fn send_sets(
+        &self,
+        alloc: Global,
+        sets: &[Params],
+        road: Road,
+        limit: usize,
+        out: &mut Vec<u8>,
+    ) -> Result<(), Refusal>
+        requires { 4 ≤ limit }
+        ensures refused { IfErr result (RefusesGiven road self.now.text (all_given sets.now) self.now.id limit) }
+        ensures kept { OnErr result (out.new.items ≡ out.old.items) }
+        ensures sent { OnOk result (SentReadable road self.now.text (all_given sets.now) self.now.id limit out.old.items out.new.items) }
+    {
+        pieces_of_a_query();
+        let start = out.len();
+        let statement = &self.statement;
+        let sent = match road {
+            Road::Text => put_queries_over(
+                alloc,
+                self.text,
+                &self.places,
+                statement.parsed.params(),
+                sets,
+                limit,
+                out,
+            ),
+            Road::Execute => put_executions_over(alloc, statement, sets, limit, out),
+            Road::Bulk => put_requests_over(alloc, statement, sets, None, limit, out),
+        };
+        if sent.is_err() {
+            out.truncate(start);
+        }
+        sent
+    }
+
+    /// Appends to `out` what [`send`](crate::send) appends of sets of this text and id, by the same road within the same limit,
+    /// and is refused as it is.
+    ///
+    /// # Errors
+    /// Those of [`send`](crate::send) but for `Mixed`, which [`Query::new`] refused, in its order. `out` is then as it was.
+    ///
+    /// (MySQL: Client/Server Protocol, "COM_QUERY", "COM_STMT_PREPARE", "COM_STMT_SEND_LONG_DATA", "COM_STMT_EXECUTE"; MariaDB:
+    /// Client/Server Protocol, "COM_STMT_BULK_EXECUTE".)
+    pub fn send(
+        &self,
+        alloc: Global,
+        sets: &[Params],
+        road: Road,
+        limit: usize,
+        out: &mut Vec<u8>,
+    ) -> Result<(), Refusal>
+        requires { 4 ≤ limit }
+        ensures refused { IfErr result (RefusesGiven road self.now.text (all_given sets.now) self.now.id limit) }
+        ensures kept { OnErr result (out.new.items ≡ out.old.items) }
+        ensures delivered { OnOk result (Delivers road self.now.text (all_given sets.now) self.now.id limit out.old.items out.new.items) }
+    {
+        readable_sets_are_delivered();
+        let _id = self.statement.id;
+        let sent = self.send_sets(alloc, sets, road, limit, out);
+        are_bytes(out);
+        sent
+    }
+
+    /// A receiver of a stream of commands about this query, as [`Receiver::new`] makes it of this text and id, with its limit.
+    /// Refused for want of memory alone.
+    ///
+    /// (MySQL: Client/Server Protocol, "MySQL Packets" and "Command Phase".)
+    pub fn receiver(&self, alloc: Global, limit: usize) -> Result<Receiver, AllocError>
+        requires { 4 ≤ limit }
+        ensures fresh { IfOk result (λ r. receiver_state r ≡ fresh_receiver) }
+        ensures about { IfOk result (λ r. IsAbout r.conversation self.now.text self.now.id) }
+        ensures limit { IfOk result (λ r. r.limit ≡ limit) }
+    {
+        Receiver::of_places(
+            alloc,
+            self.text,
+            self.statement.parsed.query(),
+            &self.places,
+            self.statement.id,
+            limit,
+        )
+    }
+
+    /// Appends the text with the literals of a set's values in the places of its placeholders, as `mysql_values::bind_text` does.
+    ///
+    /// # Errors
+    /// `NotAlone` with the first such placeholder, `Params`, `WrongCount`, `Float` with the first such placeholder, `Memory`;
+    /// nothing is appended then.
+    ///
+    /// (MySQL Reference Manual, "Literal Values".)
+    pub fn bind_text(
+        &self,
+        alloc: Global,
+        params: &Params,
+        out: &mut Vec<u8>,
+    ) -> Result<(), BindError>
+        // What is appended is the text of the set over the query, and reads as the set's meaning in both ways.
+        ensures ok { OnOk result ((text : List ℕ) × (contents : List Content) × (out.new.items ≡ out.old.items ++ text) × IsBound self.now.text params.now text
+            × IsMeaning self.now.text params.now contents × Slices self.now.text text contents × Lexes self.now.text text contents) }
+        ensures err { IfErr result (λ e. (e ≡ bind_error.Memory) ⊎ IsBindCause self.now.text params.now e) }
+        ensures kept { OnErr result (out.new.items ≡ out.old.items) }
+    {
+        pieces_of_a_query();
+        if let Some(place) = first_not_alone(&self.places) {
+            return Err(BindError::NotAlone(place));
+        }
+        let mut values = Vec::new(alloc);
+        bind_text_over(
+            self.text,
+            &self.places,
+            self.statement.parsed.params(),
+            params,
+            &mut values,
+            out,
+        )
+    }
+}
