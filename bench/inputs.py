@@ -130,6 +130,7 @@ write_sets("numbers", [[one[0]] for one in every])
 WORKS = """
 send-text text query sets 10000 100
 send-text-apart text query sets 10000 100
+send-text-kept text query sets 10000 100
 send-text-one text query sets 1 1000000
 send-text-named text named sets 10000 100
 send-text-long text long sets 10000 1
@@ -137,6 +138,8 @@ send-text-plain text query plain 1000 100
 send-text-quotes text query quotes 1000 100
 send-text-binary text query binary 1000 100
 send-execute execute query sets 10000 100
+send-execute-kept execute query sets 10000 100
+send-execute-plain-kept execute query plain 1000 100
 send-execute-one execute query sets 1 1000000
 send-execute-plain execute query plain 1000 100
 send-bulk bulk query sets 10000 100

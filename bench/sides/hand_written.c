@@ -161,12 +161,14 @@ static size_t send_text(Bytes query, const Value *all, size_t count, size_t time
     return out.len;
 }
 
-static size_t send_apart(Bytes query, const Value *all, size_t count, size_t times) {
+// Each set by itself into a buffer that is emptied before, with the marks found once (`kept`) or for each.
+static size_t send_apart(Bytes query, const Value *all, size_t count, size_t times, _Bool kept) {
     Out command = {0}, out = {0};
     size_t written = 0;
+    Marks marks = marks_of(query);
     for (size_t i = 0; i < count * times; i++) {
         out.len = 0;
-        Marks marks = marks_of(query);
+        if (!kept) marks = marks_of(query);
         put_query(&out, &command, query, &marks, all + i % count * WIDTH);
         written += out.len;
     }
@@ -198,6 +200,20 @@ static size_t send_execute(Bytes query, const Value *all, size_t count, size_t t
     }
     free(command.at), free(out.at);
     return out.len;
+}
+
+// Each set by itself, behind the statement's text.
+static size_t send_execute_kept(Bytes query, const Value *all, size_t count, size_t times) {
+    Out command = {0}, out = {0};
+    size_t written = 0;
+    for (size_t i = 0; i < count * times; i++) {
+        out.len = 0;
+        put_prepare(&out, &command, query);
+        put_execution(&out, &command, all + i % count * WIDTH);
+        written += out.len;
+    }
+    free(command.at), free(out.at);
+    return written / times;
 }
 
 // The types of the columns: of each the first value's that isn't NULL. All sets make one request here.
@@ -393,6 +409,98 @@ static size_t reply(Bytes stream, size_t piece, _Bool binary) {
     return read_reply(&sets, stream, piece) ? freed(&sets) : 0;
 }
 
+// Rows that are lent: each is looked at where it lies. What a piece cuts is put together in a buffer.
+
+typedef struct { Value cells[WIDTH]; const Byte *at; size_t len; } Lent;
+
+typedef struct { Out cut, payloads, rows; Byte number; _Bool binary, stored; int state; size_t sum; } Lender;
+
+static const Byte *lend_text(const Byte *at, const Byte *end, Value *value) {
+    if (at == end || *at > 250 || end - at <= *at) return 0;
+    value->kind = TEXT, value->len = *at, value->at = (Byte *)at + 1;
+    return at + 1 + value->len;
+}
+
+static _Bool lend_row(Lent *row, _Bool binary, const Byte *at, const Byte *end) {
+    static const int kinds[WIDTH] = {NUMBER, TEXT, TEXT, NUMBER};
+    if (binary && end - at < 2) return 0;
+    Byte nulls = binary ? at[1] : 0;
+    at += binary ? 2 : 0;
+    for (int k = 0; k < WIDTH; k++) {
+        Value *value = row->cells + k;
+        value->kind = NOTHING;
+        if (binary && nulls >> (k + 2) & 1) continue;
+        if (!binary && at < end && *at == 251) at++;
+        else if (binary && kinds[k] == NUMBER) {
+            if (end - at < 8) return 0;
+            value->kind = NUMBER, memcpy(&value->number, at, 8), at += 8;
+        } else if (!(at = lend_text(at, end, value))) return 0;
+    }
+    return at == end;
+}
+
+// What the cells of a row come to, of bytes how many, and 1 for the row.
+static size_t sum_of(const Value *cells) {
+    size_t sum = 1;
+    for (int k = 0; k < WIDTH; k++) sum += cells[k].kind == NUMBER ? (size_t)cells[k].number : cells[k].kind == TEXT ? cells[k].len : 0;
+    return sum;
+}
+
+// Keeps a row: its payload behind the others', and its cells, of texts by their place there.
+static void store(Lender *it, Lent *row) {
+    for (int k = 0; k < WIDTH; k++)
+        if (row->cells[k].kind == TEXT) row->cells[k].number = it->payloads.len + (row->cells[k].at - row->at);
+    put(&it->payloads, row->at, row->len);
+    put(&it->rows, row->cells, sizeof row->cells);
+}
+
+static _Bool lend(Lender *it, const Byte *at, size_t len) {
+    if (it->state < 6) return ++it->state;
+    if (*at == 254 && len < 9) return 1;
+    Lent row = {.at = at, .len = len};
+    if (!lend_row(&row, it->binary, at, at + len)) return 0;
+    if (it->stored) store(it, &row);
+    else it->sum += sum_of(row.cells);
+    return 1;
+}
+
+static size_t size_of(const Byte *head) { return head[0] | head[1] << 8 | head[2] << 16; }
+
+static _Bool lend_piece(Lender *it, const Byte *at, size_t len) {
+    while (it->cut.len) {
+        size_t want = it->cut.len < 4 ? 4 : 4 + size_of(it->cut.at), more = want - it->cut.len < len ? want - it->cut.len : len;
+        if (it->cut.len >= 4 && it->cut.len == want) {
+            if (it->cut.at[3] != it->number++ || !lend(it, it->cut.at + 4, want - 4)) return 0;
+            it->cut.len = 0;
+            break;
+        }
+        if (!more) return 1;
+        put(&it->cut, at, more), at += more, len -= more;
+    }
+    for (size_t size; len >= 4 && (size = size_of(at)) <= len - 4; at += 4 + size, len -= 4 + size)
+        if (at[3] != it->number++ || !lend(it, at + 4, size)) return 0;
+    put(&it->cut, at, len);
+    return 1;
+}
+
+static size_t sum_of_stored(const Lender *it) {
+    size_t sum = 0;
+    for (const Value *row = (Value *)it->rows.at, *end = (Value *)(it->rows.at + it->rows.len); row < end; row += WIDTH) {
+        for (int k = 0; k < WIDTH; k++) __asm__ volatile("" : : "r"(it->payloads.at + row[k].number));
+        sum += sum_of(row);
+    }
+    return sum;
+}
+
+static size_t reply_lent(Bytes stream, _Bool binary, _Bool stored) {
+    Lender it = {.number = 1, .binary = binary, .stored = stored};
+    _Bool good = 1;
+    for (size_t i = 0; good && i < stream.len; i += PIECE) good = lend_piece(&it, stream.at + i, stream.len - i < PIECE ? stream.len - i : PIECE);
+    size_t sum = stored ? sum_of_stored(&it) : it.sum;
+    free(it.cut.at), free(it.payloads.at), free(it.rows.at);
+    return good ? sum : 0;
+}
+
 // Cells and conversions. A text cell is copied, as the library hands out copies.
 
 static size_t number_of(const Value *value) {
@@ -448,8 +556,10 @@ static void send_sets(const char *what, Work work, int rounds) {
     Bytes query = load(work.query);
     Value *all = load_values(work.sets, work.count * WIDTH);
     double units = (double)work.count * work.times;
-    if (IS("send-text-apart")) {
-        MEASURE("hand-c", units, send_apart(query, all, work.count, work.times))
+    if (IS("send-text-apart") || IS("send-text-kept")) {
+        MEASURE("hand-c", units, send_apart(query, all, work.count, work.times, ENDS("-kept")))
+    } else if (ENDS("-kept")) {
+        MEASURE("hand-c", units, send_execute_kept(query, all, work.count, work.times))
     } else if (strcmp(work.road, "text") == 0) {
         MEASURE("hand-c", units, send_text(query, all, work.count, work.times))
     } else if (strcmp(work.road, "execute") == 0) {
@@ -481,7 +591,8 @@ static void run(const char *what, int rounds) {
         MEASURE("hand-c", 1e4 * copies, recode(query, stream))
     } else if (BEGINS("reply")) {
         Bytes stream = load(binary ? "reply-binary" : "reply-text");
-        MEASURE("hand-c", (double)ROWS, reply(stream, piece, binary))
+        if (ENDS("-lent") || ENDS("-stored")) MEASURE("hand-c", (double)ROWS, reply_lent(stream, binary, ENDS("-stored")))
+        else MEASURE("hand-c", (double)ROWS, reply(stream, piece, binary))
         MEASURE("copy", (double)ROWS, copied(stream))
     } else if (BEGINS("cells")) {
         Bytes stream = load(binary ? "cells-binary" : "cells-text");

@@ -190,7 +190,15 @@ fn bind(query: &[u8], marks: &[usize], set: &[Value], out: &mut Vec<u8>) {
     out.extend_from_slice(&query[at..]);
 }
 
-fn send_text(query: &[u8], sets: &[Vec<Value>], times: usize, apart: bool) -> usize {
+/// How sets are sent: all into one buffer, or each into a buffer that is emptied before, with the marks found for each set or once.
+#[derive(Clone, Copy, PartialEq)]
+enum Way {
+    Together,
+    Apart,
+    Kept,
+}
+
+fn send_text(query: &[u8], sets: &[Vec<Value>], times: usize, way: Way) -> usize {
     let (mut out, mut command, mut written) = (Vec::new(), Vec::new(), 0);
     for _ in 0..times {
         out.clear();
@@ -199,9 +207,11 @@ fn send_text(query: &[u8], sets: &[Vec<Value>], times: usize, apart: bool) -> us
         for set in sets {
             command.clear();
             command.push(3);
-            if apart {
+            if way != Way::Together {
                 written += out.len();
                 out.clear();
+            }
+            if way == Way::Apart {
                 bind(query, &marks(query), set, &mut command);
             } else {
                 bind(query, &once, set, &mut command);
@@ -269,6 +279,21 @@ fn send_execute(query: &[u8], sets: &[Vec<Value>], times: usize) -> usize {
         }
     }
     out.len()
+}
+
+/// Each set is sent by itself, behind the statement's text.
+fn send_execute_kept(query: &[u8], sets: &[Vec<Value>], times: usize) -> usize {
+    let (mut out, mut command, mut written) = (Vec::new(), Vec::new(), 0);
+    for _ in 0..times {
+        written = 0;
+        for set in sets {
+            out.clear();
+            put_prepare(query, &mut command, &mut out);
+            put_execution(set, &mut command, &mut out);
+            written += out.len();
+        }
+    }
+    written
 }
 
 /// All sets make one request here.
@@ -513,6 +538,164 @@ fn binary_row(payload: &[u8]) -> Option<Vec<Value>> {
     rest.is_empty().then_some(row)
 }
 
+/// Cuts packets out of pieces, and hands each payload over where it lies; what a piece cuts is put together in a buffer.
+#[derive(Default)]
+struct InPlace {
+    cut: Vec<u8>,
+    number: u8,
+}
+
+impl InPlace {
+    fn size(bytes: &[u8]) -> usize {
+        u32::from_le_bytes([bytes[0], bytes[1], bytes[2], 0]) as usize
+    }
+
+    fn next_number(&mut self, found: u8) -> Option<()> {
+        let number = self.number;
+        self.number = number.wrapping_add(1);
+        (found == number).then_some(())
+    }
+
+    fn feed(&mut self, mut piece: &[u8], take: &mut impl FnMut(&[u8]) -> Option<()>) -> Option<()> {
+        while !self.cut.is_empty() {
+            let has_head = self.cut.len() >= 4;
+            let want = if has_head { 4 + Self::size(&self.cut) } else { 4 };
+            if has_head && self.cut.len() == want {
+                self.next_number(self.cut[3])?;
+                take(&self.cut[4..])?;
+                self.cut.clear();
+                break;
+            }
+            let (more, rest) = piece.split_at((want - self.cut.len()).min(piece.len()));
+            if more.is_empty() {
+                return Some(());
+            }
+            self.cut.extend_from_slice(more);
+            piece = rest;
+        }
+        while let Some((head, rest)) = piece.split_at_checked(4) {
+            let Some((payload, rest)) = rest.split_at_checked(Self::size(head)) else { break };
+            self.next_number(head[3])?;
+            take(payload)?;
+            piece = rest;
+        }
+        self.cut.extend_from_slice(piece);
+        Some(())
+    }
+}
+
+/// A cell where it lies.
+#[derive(Clone, Copy)]
+enum Cell<'p> {
+    Null,
+    Number(i64),
+    Bytes(&'p [u8]),
+}
+
+fn lent_text_row(payload: &[u8]) -> Option<[Cell<'_>; WIDTH]> {
+    let (mut row, mut rest) = ([Cell::Null; WIDTH], payload);
+    for cell in &mut row {
+        if let Some(more) = rest.strip_prefix(&[251]) {
+            rest = more;
+        } else {
+            let (text, more) = lenenc(rest)?;
+            *cell = Cell::Bytes(text);
+            rest = more;
+        }
+    }
+    rest.is_empty().then_some(row)
+}
+
+fn lent_binary_row(payload: &[u8]) -> Option<[Cell<'_>; WIDTH]> {
+    let (nulls, mut rest) = payload.strip_prefix(&[0])?.split_first()?;
+    let mut row = [Cell::Null; WIDTH];
+    for (place, cell) in row.iter_mut().enumerate() {
+        if nulls >> (place + 2) & 1 == 1 {
+            continue;
+        }
+        if KINDS[place] == 8 {
+            let (number, more) = rest.split_at_checked(8)?;
+            *cell = Cell::Number(i64::from_le_bytes(number.try_into().ok()?));
+            rest = more;
+        } else {
+            let (text, more) = lenenc(rest)?;
+            *cell = Cell::Bytes(text);
+            rest = more;
+        }
+    }
+    rest.is_empty().then_some(row)
+}
+
+fn lent_row(payload: &[u8], binary: bool) -> Option<[Cell<'_>; WIDTH]> {
+    if binary { lent_binary_row(payload) } else { lent_text_row(payload) }
+}
+
+/// What the cells of a row come to, of bytes how many, and 1 for the row.
+fn sum_of(row: &[Cell<'_>; WIDTH]) -> usize {
+    let amount = |cell: &Cell<'_>| match cell {
+        Cell::Null => 0,
+        Cell::Number(number) => *number as usize,
+        Cell::Bytes(bytes) => bytes.len(),
+    };
+    row.iter().map(amount).sum::<usize>() + 1
+}
+
+/// Hands over each row of a reply, where it lies.
+fn lend_rows(stream: &[u8], binary: bool, take: &mut impl FnMut(&[u8], &[Cell<'_>; WIDTH])) -> Option<()> {
+    let mut reader = InPlace { number: 1, ..InPlace::default() };
+    let mut seen = 0;
+    for piece in stream.chunks(PIECE) {
+        reader.feed(piece, &mut |payload| {
+            seen += 1;
+            if seen > 6 && !(payload.first()? == &254 && payload.len() < 9) {
+                take(payload, &lent_row(payload, binary)?);
+            }
+            Some(())
+        })?;
+    }
+    Some(())
+}
+
+fn reply_lent(stream: &[u8], binary: bool) -> Option<usize> {
+    let mut sum = 0;
+    lend_rows(stream, binary, &mut |_, row| sum += sum_of(row))?;
+    Some(sum)
+}
+
+/// A cell of a row that is kept: its bytes lie from one place to another in the list of all payloads.
+#[derive(Clone, Copy)]
+enum Place {
+    Null,
+    Number(i64),
+    Bytes(usize, usize),
+}
+
+/// Keeps the rows in two lists, of payloads and of places, and then looks at them.
+fn reply_stored(stream: &[u8], binary: bool) -> Option<usize> {
+    let (mut payloads, mut places) = (Vec::new(), Vec::new());
+    lend_rows(stream, binary, &mut |payload, row| {
+        let start = payloads.len();
+        payloads.extend_from_slice(payload);
+        let begin = payload.as_ptr() as usize;
+        places.push(row.map(|cell| match cell {
+            Cell::Null => Place::Null,
+            Cell::Number(number) => Place::Number(number),
+            Cell::Bytes(bytes) => {
+                let from = start + (bytes.as_ptr() as usize - begin);
+                Place::Bytes(from, from + bytes.len())
+            }
+        }));
+    })?;
+    let lent = |row: &[Place; WIDTH]| {
+        row.map(|place| match place {
+            Place::Null => Cell::Null,
+            Place::Number(number) => Cell::Number(number),
+            Place::Bytes(from, to) => Cell::Bytes(&payloads[from..to]),
+        })
+    };
+    Some(black_box(&places).iter().map(|row| sum_of(&lent(row))).sum())
+}
+
 /// The count, four columns and an end come before the rows.
 fn reply(stream: &[u8], piece: usize, binary: bool) -> Option<Vec<Vec<Value>>> {
     let mut rows = Vec::new();
@@ -678,9 +861,11 @@ fn send_sets(what: &str, rounds: usize) {
         let lists: Vec<Objects> = sets.into_iter().map(boxed).collect();
         return measure(what, count * times, rounds, || Some(send_values(&query, &lists, times, words[1])));
     }
+    let way = if what.ends_with("-kept") { Way::Kept } else if what == "send-text-apart" { Way::Apart } else { Way::Together };
     measure(what, count * times, rounds, || {
         Some(match words[1] {
-            "text" => send_text(&query, &sets, times, what == "send-text-apart"),
+            "text" => send_text(&query, &sets, times, way),
+            "execute" if way == Way::Kept => send_execute_kept(&query, &sets, times),
             "execute" => send_execute(&query, &sets, times),
             _ => send_bulk(&query, &sets, times),
         })
@@ -711,7 +896,11 @@ fn run(what: &str, rounds: usize) {
         }
         "reply" => {
             let stream = load(if binary { "reply-binary" } else { "reply-text" });
-            measure(what, 1_000_000, rounds, || reply(&stream, piece, binary).map(|rows| rows.len()));
+            measure(what, 1_000_000, rounds, || match () {
+                _ if what.ends_with("-lent") => reply_lent(&stream, binary),
+                _ if what.ends_with("-stored") => reply_stored(&stream, binary),
+                _ => reply(&stream, piece, binary).map(|rows| rows.len()),
+            });
         }
         "write" => {
             let stream = load("cells-binary");

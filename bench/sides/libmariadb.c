@@ -107,11 +107,14 @@ static void bind_value(MYSQL_BIND *bind, Value *value) {
     bind->is_null = &bind->is_null_value, bind->is_null_value = value->kind == NOTHING;
 }
 
-static size_t send_execute(MYSQL *mysql, Value *all, Work work) {
+// All executions into one buffer, or each into a buffer that is emptied before (`apart`).
+static size_t send_execute(MYSQL *mysql, Value *all, Work work, _Bool apart) {
     MYSQL_STMT *statement = prepared(mysql);
     Out out = {0};
+    size_t written = 0;
     for (size_t i = 0; i < work.count * work.times; i++) {
-        if (i % work.count == 0) out.len = 0;
+        if (i % work.count == 0) written = out.len = 0;
+        if (apart) written += out.len, out.len = 0;
         for (int k = 0; k < WIDTH; k++) bind_value(statement->params + k, all + i % work.count * WIDTH + k);
         statement->send_types_to_server = 1;
         size_t len = 0;
@@ -121,26 +124,35 @@ static size_t send_execute(MYSQL *mysql, Value *all, Work work) {
         free(request);
     }
     free(out.at);
-    return out.len;
+    return written + out.len;
 }
 
-static size_t reply(MYSQL *mysql, Bytes stream, _Bool stored) {
+// Each row is looked at: the length of a cell, of which the rows are counted, or of all cells, and 1 for each row.
+static size_t reply(MYSQL *mysql, Bytes stream, _Bool stored, _Bool all) {
     source = stream, taken = 0;
     mysql->status = MYSQL_STATUS_READY;
     if (mysql_real_query(mysql, "SELECT", 6)) stop(mysql);
     MYSQL_RES *result = stored ? mysql_store_result(mysql) : mysql_use_result(mysql);
     size_t rows = 0, bytes = 0;
-    while (mysql_fetch_row(result)) rows++, bytes += mysql_fetch_lengths(result)[1];
+    while (mysql_fetch_row(result)) {
+        const unsigned long *lengths = mysql_fetch_lengths(result);
+        rows++, bytes += lengths[1];
+        if (all) bytes += lengths[0] + lengths[2] + lengths[3];
+    }
     mysql_free_result(result);
-    return bytes ? rows : 0;
+    return all ? rows + bytes : bytes ? rows : 0;
 }
 
 static void run(MYSQL *mysql, const char *what, int rounds) {
     Work work;
     if (IS("reply-text")) {
         Bytes stream = load("reply-text");
-        MEASURE("libmariadb-store", (double)ROWS, reply(mysql, stream, 1))
-        MEASURE("libmariadb-use", (double)ROWS, reply(mysql, stream, 0))
+        MEASURE("libmariadb-store", (double)ROWS, reply(mysql, stream, 1, 0))
+        MEASURE("libmariadb-use", (double)ROWS, reply(mysql, stream, 0, 0))
+    } else if (IS("reply-text-lent") || IS("reply-text-stored")) {
+        Bytes stream = load("reply-text");
+        _Bool stored = ENDS("-stored");
+        MEASURE(stored ? "libmariadb-store" : "libmariadb-use", (double)ROWS, reply(mysql, stream, stored, 1))
     } else if (find_work(what, &work)) {
         Bytes query = load(work.query);
         Value *all = load_values(work.sets, work.count * WIDTH);
@@ -148,7 +160,7 @@ static void run(MYSQL *mysql, const char *what, int rounds) {
         if (strcmp(work.road, "text") == 0) {
             MEASURE("libmariadb", units, send_text(mysql, query, all, work))
         } else {
-            MEASURE("libmariadb", units, send_execute(mysql, all, work))
+            MEASURE("libmariadb", units, send_execute(mysql, all, work, ENDS("-kept")))
         }
     }
 }

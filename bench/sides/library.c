@@ -7,11 +7,14 @@ size_t mysql_bench_frame(Pointer, size_t, size_t, size_t);
 size_t mysql_bench_split(Pointer, size_t, size_t);
 size_t mysql_bench_places(Pointer, size_t, size_t);
 size_t mysql_bench_send(Pointer, size_t, Pointer, size_t, size_t, size_t, _Bool, uint8_t, size_t, size_t);
+size_t mysql_bench_send_kept(Pointer, size_t, Pointer, size_t, size_t, size_t, _Bool, uint8_t, size_t, size_t);
 size_t mysql_bench_send_values(Pointer, size_t, Pointer, size_t, size_t, size_t, uint8_t, size_t);
 size_t mysql_bench_receive(Pointer, size_t, Pointer, size_t, size_t);
 size_t mysql_bench_receive_taken(Pointer, size_t, Pointer, size_t, Pointer, size_t, size_t, size_t);
 size_t mysql_bench_recode(Pointer, size_t, Pointer, size_t);
 size_t mysql_bench_read_reply(Pointer, size_t, size_t, _Bool);
+size_t mysql_bench_lend_rows(Pointer, size_t, size_t, _Bool);
+size_t mysql_bench_store_rows(Pointer, size_t, size_t, _Bool);
 size_t mysql_bench_write_reply(Pointer, size_t, _Bool, size_t);
 size_t mysql_bench_read_reply_taken(Pointer, size_t, Pointer, size_t, size_t, size_t, _Bool);
 size_t mysql_bench_cells(Pointer, size_t, _Bool, _Bool, size_t);
@@ -23,7 +26,9 @@ static void send_sets(const char *what, Work work, int rounds) {
     double units = (double)work.count * work.times;
     size_t at_once = BEGINS("send-text-apart") ? 1 : work.count;
     _Bool by_name = strstr(what, "named") != 0;
-    if (BEGINS("send-values")) {
+    if (ENDS("-kept")) {
+        MEASURE("library", units, mysql_bench_send_kept(query.at, query.len, sets.at, sets.len, work.count, WIDTH, by_name, road, 1, work.times))
+    } else if (BEGINS("send-values")) {
         MEASURE("library", units, mysql_bench_send_values(query.at, query.len, sets.at, sets.len, work.count, WIDTH, road, work.times))
     } else {
         MEASURE("library", units, mysql_bench_send(query.at, query.len, sets.at, sets.len, work.count, WIDTH, by_name, road, at_once, work.times))
@@ -54,6 +59,12 @@ static void run(const char *what, int rounds) {
     } else if (BEGINS("recode")) {
         Bytes query = load("query"), stream = commands(what, copies);
         MEASURE("library", 1e4 * copies, mysql_bench_recode(query.at, query.len, stream.at, stream.len))
+    } else if (BEGINS("reply") && ENDS("-lent")) {
+        Bytes stream = load(binary ? "reply-binary" : "reply-text");
+        MEASURE("library", (double)ROWS, mysql_bench_lend_rows(stream.at, stream.len, piece, binary))
+    } else if (BEGINS("reply") && ENDS("-stored")) {
+        Bytes stream = load(binary ? "reply-binary" : "reply-text");
+        MEASURE("library", (double)ROWS, mysql_bench_store_rows(stream.at, stream.len, piece, binary))
     } else if (BEGINS("reply")) {
         Bytes stream = load(binary ? "reply-binary" : "reply-text");
         if (taken) MEASURE("library", (double)ROWS, mysql_bench_read_reply_taken(stream.at, 0, stream.at, stream.len, 1, piece, binary))

@@ -94,3 +94,4 @@ __attribute__((unused)) static Bytes framed(size_t payload, size_t count) {
 
 #define IS(name) (strcmp(what, name) == 0)
 #define BEGINS(name) (strncmp(what, name, strlen(name)) == 0)
+#define ENDS(name) (strlen(what) >= strlen(name) && strcmp(what + strlen(what) - strlen(name), name) == 0)

@@ -140,8 +140,22 @@ func kept(dest []driver.Value) []driver.Value {
 	return row
 }
 
-// readAll reads a reply, keeps copies of its rows where asked for, and answers how many there are.
-func readAll(reply []byte, isBinary, keeps bool) int {
+// sumOf is what the cells of a row come to, of bytes how many, and 1 for the row.
+func sumOf(row []driver.Value) int {
+	sum := 1
+	for _, v := range row {
+		switch v := v.(type) {
+		case []byte:
+			sum += len(v)
+		case int64:
+			sum += int(v)
+		}
+	}
+	return sum
+}
+
+// readAll reads a reply, keeps copies of its rows where asked for, and answers how many there are, or what all cells come to.
+func readAll(reply []byte, isBinary, keeps, sums bool) int {
 	mc := connected(&memory{left: reply})
 	mc.sequence = 1
 	count, err := mc.readResultSetHeaderPacket()
@@ -160,14 +174,24 @@ func readAll(reply []byte, isBinary, keeps bool) int {
 			err = text.readRow(dest)
 		}
 		if err == io.EOF {
-			return n
+			break
 		}
 		check(err)
-		n++
 		if keeps {
 			all = append(all, kept(dest))
 		}
+		if sums && !keeps {
+			n += sumOf(dest)
+		} else if !sums {
+			n++
+		}
 	}
+	if sums && keeps {
+		for _, row := range all {
+			n += sumOf(row)
+		}
+	}
+	return n
 }
 
 func run(what string, rounds int) {
@@ -179,10 +203,16 @@ func run(what string, rounds int) {
 		}
 	}
 	if strings.HasPrefix(what, "reply-") {
-		reply := load(what)
-		isBinary := what == "reply-binary"
-		measure("go-sql-driver-row", what, rows, rounds, func() int { return readAll(reply, isBinary, false) })
-		measure("go-sql-driver-kept", what, rows, rounds, func() int { return readAll(reply, isBinary, true) })
+		isLent, isStored := strings.HasSuffix(what, "-lent"), strings.HasSuffix(what, "-stored")
+		sums := isLent || isStored
+		isBinary := strings.HasPrefix(what, "reply-binary")
+		reply := load(map[bool]string{false: "reply-text", true: "reply-binary"}[isBinary])
+		if !isStored {
+			measure("go-sql-driver-row", what, rows, rounds, func() int { return readAll(reply, isBinary, false, sums) })
+		}
+		if !isLent {
+			measure("go-sql-driver-kept", what, rows, rounds, func() int { return readAll(reply, isBinary, true, sums) })
+		}
 	}
 }
 

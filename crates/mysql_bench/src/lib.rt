@@ -8,11 +8,13 @@ mod commands;
 mod conversions;
 mod frames;
 mod kept;
+mod lent;
 mod objects;
 mod queries;
 mod replies;
 mod sending;
 mod sets;
+mod stored;
 
 /// The limit of packets: payloads of at most 16777215 bytes are sent.
 pub const LIMIT: usize = 16777219;

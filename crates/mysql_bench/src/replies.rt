@@ -29,7 +29,7 @@ pub fn rows_of(reply: &Reply) -> &[Row] {
 }
 
 /// A reader of a reply with its rows in binary or as text.
-fn reader_of(alloc: Global, binary: bool) -> ReplyReader {
+pub fn reader_of(alloc: Global, binary: bool) -> ReplyReader {
     let kind = if binary {
         ReplyKind::Binary
     } else {
