@@ -56,7 +56,7 @@ WORKLOADS = {
     "recode-texts": HAND,
     "recode-executes": HAND,
     "recode-bulks": HAND,
-    "reply-text": [*CLIENTS, "python"],
+    "reply-text": [*HAND, "go", "python"],
     "reply-text-bytewise": HAND,
     "reply-binary": [*HAND, "go"],
     "reply-text-lent": CLIENTS,

@@ -127,32 +127,27 @@ static size_t send_execute(MYSQL *mysql, Value *all, Work work, _Bool apart) {
     return written + out.len;
 }
 
-// Each row is looked at: the length of a cell, of which the rows are counted, or of all cells, and 1 for each row.
-static size_t reply(MYSQL *mysql, Bytes stream, _Bool stored, _Bool all) {
+// Each row is looked at: the lengths of all cells, and 1 for the row.
+static size_t reply(MYSQL *mysql, Bytes stream, _Bool stored) {
     source = stream, taken = 0;
     mysql->status = MYSQL_STATUS_READY;
     if (mysql_real_query(mysql, "SELECT", 6)) stop(mysql);
     MYSQL_RES *result = stored ? mysql_store_result(mysql) : mysql_use_result(mysql);
-    size_t rows = 0, bytes = 0;
+    size_t sum = 0;
     while (mysql_fetch_row(result)) {
         const unsigned long *lengths = mysql_fetch_lengths(result);
-        rows++, bytes += lengths[1];
-        if (all) bytes += lengths[0] + lengths[2] + lengths[3];
+        sum += 1 + lengths[0] + lengths[1] + lengths[2] + lengths[3];
     }
     mysql_free_result(result);
-    return all ? rows + bytes : bytes ? rows : 0;
+    return sum;
 }
 
 static void run(MYSQL *mysql, const char *what, int rounds) {
     Work work;
-    if (IS("reply-text")) {
-        Bytes stream = load("reply-text");
-        MEASURE("libmariadb-store", (double)ROWS, reply(mysql, stream, 1, 0))
-        MEASURE("libmariadb-use", (double)ROWS, reply(mysql, stream, 0, 0))
-    } else if (IS("reply-text-lent") || IS("reply-text-stored")) {
+    if (IS("reply-text-lent") || IS("reply-text-stored")) {
         Bytes stream = load("reply-text");
         _Bool stored = ENDS("-stored");
-        MEASURE(stored ? "libmariadb-store" : "libmariadb-use", (double)ROWS, reply(mysql, stream, stored, 1))
+        MEASURE(stored ? "libmariadb-store" : "libmariadb-use", (double)ROWS, reply(mysql, stream, stored))
     } else if (find_work(what, &work)) {
         Bytes query = load(work.query);
         Value *all = load_values(work.sets, work.count * WIDTH);

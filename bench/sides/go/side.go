@@ -207,7 +207,7 @@ func run(what string, rounds int) {
 		sums := isLent || isStored
 		isBinary := strings.HasPrefix(what, "reply-binary")
 		reply := load(map[bool]string{false: "reply-text", true: "reply-binary"}[isBinary])
-		if !isStored {
+		if isLent {
 			measure("go-sql-driver-row", what, rows, rounds, func() int { return readAll(reply, isBinary, false, sums) })
 		}
 		if !isLent {
