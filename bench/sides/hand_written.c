@@ -202,13 +202,12 @@ static size_t send_execute(Bytes query, const Value *all, size_t count, size_t t
     return out.len;
 }
 
-// Each set by itself, behind the statement's text.
-static size_t send_execute_kept(Bytes query, const Value *all, size_t count, size_t times) {
+// Each set by itself, of a statement that was prepared before.
+static size_t send_execute_kept(const Value *all, size_t count, size_t times) {
     Out command = {0}, out = {0};
     size_t written = 0;
     for (size_t i = 0; i < count * times; i++) {
         out.len = 0;
-        put_prepare(&out, &command, query);
         put_execution(&out, &command, all + i % count * WIDTH);
         written += out.len;
     }
@@ -559,7 +558,7 @@ static void send_sets(const char *what, Work work, int rounds) {
     if (IS("send-text-apart") || IS("send-text-kept")) {
         MEASURE("hand-c", units, send_apart(query, all, work.count, work.times, ENDS("-kept")))
     } else if (ENDS("-kept")) {
-        MEASURE("hand-c", units, send_execute_kept(query, all, work.count, work.times))
+        MEASURE("hand-c", units, send_execute_kept(all, work.count, work.times))
     } else if (strcmp(work.road, "text") == 0) {
         MEASURE("hand-c", units, send_text(query, all, work.count, work.times))
     } else if (strcmp(work.road, "execute") == 0) {

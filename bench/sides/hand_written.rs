@@ -281,14 +281,13 @@ fn send_execute(query: &[u8], sets: &[Vec<Value>], times: usize) -> usize {
     out.len()
 }
 
-/// Each set is sent by itself, behind the statement's text.
-fn send_execute_kept(query: &[u8], sets: &[Vec<Value>], times: usize) -> usize {
+/// Each set is sent by itself, of a statement that was prepared before.
+fn send_execute_kept(sets: &[Vec<Value>], times: usize) -> usize {
     let (mut out, mut command, mut written) = (Vec::new(), Vec::new(), 0);
     for _ in 0..times {
         written = 0;
         for set in sets {
             out.clear();
-            put_prepare(query, &mut command, &mut out);
             put_execution(set, &mut command, &mut out);
             written += out.len();
         }
@@ -865,7 +864,7 @@ fn send_sets(what: &str, rounds: usize) {
     measure(what, count * times, rounds, || {
         Some(match words[1] {
             "text" => send_text(&query, &sets, times, way),
-            "execute" if way == Way::Kept => send_execute_kept(&query, &sets, times),
+            "execute" if way == Way::Kept => send_execute_kept(&sets, times),
             "execute" => send_execute(&query, &sets, times),
             _ => send_bulk(&query, &sets, times),
         })

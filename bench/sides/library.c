@@ -8,6 +8,7 @@ size_t mysql_bench_split(Pointer, size_t, size_t);
 size_t mysql_bench_places(Pointer, size_t, size_t);
 size_t mysql_bench_send(Pointer, size_t, Pointer, size_t, size_t, size_t, _Bool, uint8_t, size_t, size_t);
 size_t mysql_bench_send_kept(Pointer, size_t, Pointer, size_t, size_t, size_t, _Bool, uint8_t, size_t, size_t);
+size_t mysql_bench_send_more(Pointer, size_t, Pointer, size_t, size_t, size_t, size_t);
 size_t mysql_bench_send_values(Pointer, size_t, Pointer, size_t, size_t, size_t, uint8_t, size_t);
 size_t mysql_bench_receive(Pointer, size_t, Pointer, size_t, size_t);
 size_t mysql_bench_receive_taken(Pointer, size_t, Pointer, size_t, Pointer, size_t, size_t, size_t);
@@ -26,7 +27,9 @@ static void send_sets(const char *what, Work work, int rounds) {
     double units = (double)work.count * work.times;
     size_t at_once = BEGINS("send-text-apart") ? 1 : work.count;
     _Bool by_name = strstr(what, "named") != 0;
-    if (ENDS("-kept")) {
+    if (ENDS("-kept") && road == 1) {
+        MEASURE("library", units, mysql_bench_send_more(query.at, query.len, sets.at, sets.len, work.count, WIDTH, work.times))
+    } else if (ENDS("-kept")) {
         MEASURE("library", units, mysql_bench_send_kept(query.at, query.len, sets.at, sets.len, work.count, WIDTH, by_name, road, 1, work.times))
     } else if (BEGINS("send-values")) {
         MEASURE("library", units, mysql_bench_send_values(query.at, query.len, sets.at, sets.len, work.count, WIDTH, road, work.times))

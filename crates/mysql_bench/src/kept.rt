@@ -3,9 +3,10 @@
 ghost use Rattle.std.specs.Prelude.{◌<◌};
 
 use crate::sending::road_of;
-use crate::sets::sets_of;
+use crate::sets::{sets_of, values_of};
 use crate::{LIMIT, STATEMENT};
-use mysql_session::{Params, Query, Road};
+use mysql_session::{Params, Query, Road, Value};
+use mysql_wire::{ParseBuf, WireError};
 use std::alloc::Global;
 
 /// Sends the sets, so many by a call, into a buffer that is emptied before each call. Answers the bytes.
@@ -56,6 +57,59 @@ pub extern "C" fn mysql_bench_send_kept(
     let mut written: usize = 0;
     for _ in 0..times {
         written = sent(alloc, &query, &sets, at_once, road_of(road), &mut out);
+    }
+    written
+}
+
+/// Sends the executions of sets behind a prepare, each by a call, into a buffer that is emptied before. Answers the bytes.
+fn sent_behind(alloc: Global, query: &Query<'_>, sets: &[Vec<Value>], out: &mut Vec<u8>) -> usize {
+    let mut written: usize = 0;
+    for one in sets.chunks(1) {
+        out.clear();
+        if query.send_more(alloc, 0, one, LIMIT, out).is_err() {
+            return 0;
+        }
+        written = written.wrapping_add(out.len());
+    }
+    written
+}
+
+/// So many sets of so many values each.
+fn lists_of(
+    alloc: Global,
+    bytes: &[u8],
+    count: usize,
+    width: usize,
+) -> Result<Vec<Vec<Value>>, WireError> {
+    let mut buf = ParseBuf(bytes);
+    let mut sets = Vec::new(alloc);
+    for _ in 0..count {
+        sets.push(values_of(alloc, &mut buf, width)?)?;
+    }
+    Ok(sets)
+}
+
+/// Sends the sets that the bytes hold as executions of one query that was prepared before, each by a call, and all of them so many
+/// times. Answers the bytes of one time.
+#[unsafe(no_mangle)]
+pub extern "C" fn mysql_bench_send_more(
+    alloc: Global,
+    query: &[u8],
+    bytes: &[u8],
+    count: usize,
+    width: usize,
+    times: usize,
+) -> usize {
+    let Ok(sets) = lists_of(alloc, bytes, count, width) else {
+        return 0;
+    };
+    let Ok(query) = Query::new(alloc, query, STATEMENT) else {
+        return 0;
+    };
+    let mut out = Vec::new(alloc);
+    let mut written: usize = 0;
+    for _ in 0..times {
+        written = sent_behind(alloc, &query, &sets, &mut out);
     }
     written
 }

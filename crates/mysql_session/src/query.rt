@@ -1,6 +1,6 @@
 //! A query that is kept for calls that each send or read sets of it.
 
-ghost use Rattle.std.specs.Prelude.{◌≡◌, ◌⊎◌, ◌≤◌, ◌++◌, ℕ, IfErr, IfOk, List, OnErr, OnOk, false, length, true};
+ghost use Rattle.std.specs.Prelude.{◌≡◌, ◌⊎◌, ◌≤◌, ◌++◌, ℕ, IfErr, IfOk, List, OnErr, OnOk, false, length, true, ◌+◌, ◌<◌, ◌^◌, map};
 ghost use Rattle.mysql_values.specs.Binding.{IsBindCause, IsBound};
 ghost use Rattle.mysql_values.specs.Content.{Content};
 ghost use Rattle.mysql_values.specs.Params.{IsMeaning};
@@ -11,6 +11,7 @@ ghost use Rattle.mysql_commands.specs.Audit.{IsAbout};
 ghost use Rattle.mysql_commands.specs.GoingOn.{fresh_receiver};
 ghost use Rattle.mysql_commands.specs.Received.{receiver_state};
 ghost use Rattle.mysql_session.specs.Delivery.{Delivers};
+ghost use Rattle.mysql_session.specs.Kept.{AppendsFurther, RefusesFurther};
 ghost use Rattle.mysql_streams.specs.Reading.{SentReadable};
 ghost use Rattle.mysql_streams.specs.Sending.{RefusesGiven};
 ghost use Rattle.mysql_streams.specs.Sets.{all_given};
@@ -20,12 +21,12 @@ use crate::laws::readable_sets_are_delivered;
 use crate::sender::are_bytes;
 use mysql_bulk_sender::put_requests_over;
 use mysql_commands::Receiver;
-use mysql_senders::statement::{Statement, statement_over};
-use mysql_senders::{put_executions_over, put_queries_over};
+use mysql_senders::statement::{Statement, check_count, statement_over};
+use mysql_senders::{put_executions_over, put_more_executions, put_queries_over};
 use mysql_streams::{Refusal, Road};
 use mysql_values::bind::bind_text_over;
 use mysql_values::laws::{pieces_of_a_query, tokens_of_a_text};
-use mysql_values::{BindError, Params, Place, first_not_alone, places};
+use mysql_values::{BindError, Params, Place, Value, first_not_alone, places};
 use std::alloc::{AllocError, Global};
 use std::marker::Model;
 
@@ -160,6 +161,39 @@ impl<'q> Query<'q> {
         let _id = self.statement.id;
         let sent = self.send_sets(alloc, sets, road, limit, out);
         are_bytes(out);
+        sent
+    }
+
+    /// Appends the executions of further sets of values, as [`Query::send`] by [`Road::Execute`] appends those behind its prepare: for a
+    /// statement that was prepared once. Sets are numbered on from `first`, the number of those that were sent before; their values
+    /// stand in the order of the placeholders. A payload has at most `limit - 4` bytes, and so has an execution with all its values.
+    ///
+    /// # Errors
+    /// `TooManyPlaces`; then the first cause that holds, set by set: `WrongCount`, `Float`, `PacketTooLarge`; `Memory` where a growth was
+    /// refused. `out` is then as it was.
+    ///
+    /// (MySQL: Client/Server Protocol, "COM_STMT_SEND_LONG_DATA", "COM_STMT_EXECUTE".)
+    pub fn send_more(
+        &self,
+        alloc: Global,
+        first: usize,
+        sets: &[Vec<Value>],
+        limit: usize,
+        out: &mut Vec<u8>,
+    ) -> Result<(), Refusal>
+        requires limit { 4 ≤ limit }
+        requires numbers { first + length sets.now < 2 ^ 64 }
+        ensures ok { OnOk result (AppendsFurther self.now limit first (map (λ set. set.items) sets.now) out.old.items out.new.items) }
+        ensures err { IfErr result (RefusesFurther self.now limit first (map (λ set. set.items) sets.now)) }
+        ensures kept { OnErr result (out.new.items ≡ out.old.items) }
+    {
+        let (id, places) = (self.statement.id, self.statement.places);
+        check_count(places)?;
+        let stood = out.len();
+        let sent = put_more_executions(alloc, id, places, first, sets, limit, out);
+        if sent.is_err() {
+            out.truncate(stood);
+        }
         sent
     }
 

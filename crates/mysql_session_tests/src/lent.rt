@@ -402,11 +402,7 @@ const STREAMS: [Stream; 9] = [
     (
         ReplyKind::Text,
         WITHOUT_EOF,
-        &[
-            ONE_COLUMN,
-            b"\x02\0\0\x03\x015",
-            b"\x02\0\0\x05\x016",
-        ],
+        &[ONE_COLUMN, b"\x02\0\0\x03\x015", b"\x02\0\0\x05\x016"],
         1,
         ReplyEnd::Fault(3, ReplyFault::OutOfSync),
     ),

@@ -1,10 +1,12 @@
 //! Queries that are kept: what they tell, receivers of them, texts bound to them, and where memory is refused. That they send
 //! what `send` sends is asserted with each row of the other tests.
 
+ghost use Rattle.std.specs.Prelude.{◌+◌, ◌<◌, ◌≤◌, ◌^◌, length};
+
 use crate::audits::{Want, WantedSet, are_sets};
 use crate::sending::{Given, Set, all_params, front};
 use crate::support::Asserting;
-use mysql_session::{BindError, End, Params, Query, Receiver, Refusal, Road, StreamFault};
+use mysql_session::{BindError, End, Params, Query, Receiver, Refusal, Road, StreamFault, Value};
 use std::alloc::{AllocError, Global};
 use tests_support::{Assert, assert_bytes, once_more};
 
@@ -227,4 +229,68 @@ fn bound_texts(rt: HostRuntime) {
     assert_bound(&assert, alloc, b"SELECT 1-:a", set, apart, b"front");
     let count = Err(BindError::WrongCount);
     assert_bound(&assert, alloc, QUERY, &Params::Empty, count, b"front");
+}
+
+/// Two sets of a number each.
+fn numbers(alloc: Global) -> Result<Vec<Vec<Value>>, AllocError> {
+    let mut sets = Vec::new(alloc);
+    for number in [1, 2] {
+        let mut set = Vec::new(alloc);
+        set.push(Value::Int(number))?;
+        sets.push(set)?;
+    }
+    Ok(sets)
+}
+
+/// What a query answers to these sets behind its prepare, numbered on from 7; asked once more where memory was refused.
+fn more_sent(
+    alloc: Global,
+    query: &Query<'_>,
+    sets: &[Vec<Value>],
+    limit: usize,
+    out: &mut Vec<u8>,
+) -> Result<(), Refusal>
+    requires limit { 4 ≤ limit }
+    requires numbers { 7 + length sets.now < 2 ^ 64 }
+{
+    match query.send_more(alloc, 7, sets, limit, out) {
+        Err(Refusal::Memory) => query.send_more(alloc, 7, sets, limit, out),
+        answer => answer,
+    }
+}
+
+/// Asserts what sending two numbers behind the prepare of a query answers, and what then stands behind `front`.
+fn assert_more(
+    assert: &impl Assert,
+    alloc: Global,
+    text: &[u8],
+    limit: usize,
+    wanted: Result<(), Refusal>,
+    stands: &[u8],
+)
+    requires { 4 ≤ limit }
+{
+    let query = kept(assert, alloc, text);
+    let sets = once_more(assert, numbers(alloc), numbers(alloc));
+    if sets.len() > 2 {
+        assert.holds(false);
+        return;
+    }
+    let mut out = front(assert, alloc);
+    assert.holds(more_sent(alloc, &query, &sets, limit, &mut out) == wanted);
+    assert.holds(out.as_slice().strip_prefix(b"front") == Some(stands));
+}
+
+/// Executions behind a prepare that was sent before; the first refusal counts, and its set by its number.
+#[test]
+fn sent_behind_a_prepare(rt: HostRuntime) {
+    let assert = Asserting(&rt);
+    let alloc = rt.alloc();
+    let stands =
+        b"\x16\0\0\0\x17\x01\0\0\0\0\x01\0\0\0\0\x01\x08\0\x01\0\0\0\0\0\0\0\x16\0\0\0\x17\x01\0\0\0\0\x01\0\0\0\0\x01\x08\0\x02\0\0\0\0\0\0\0";
+    assert_more(&assert, alloc, QUERY, 31, Ok(()), stands);
+    let large = Err(Refusal::PacketTooLarge(7));
+    assert_more(&assert, alloc, QUERY, 25, large, b"");
+    let count = Err(Refusal::WrongCount(7));
+    assert_more(&assert, alloc, b"SELECT ?, ?", 31, count, b"");
 }
