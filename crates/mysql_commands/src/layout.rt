@@ -11,6 +11,7 @@ use crate::fields::{front, is_type_number, number1, number2, number4};
 use crate::param_type::{OwnTypes, ParamType};
 use crate::refusal::Refusal;
 use crate::statement::Statement;
+use mysql_wire::ParseBuf;
 use std::alloc::Global;
 
 /// What stands before an execute's cells.
@@ -71,19 +72,30 @@ pub fn types(
     Ok((types, rest))
 }
 
+/// What follows the pair of a type in force, where the bytes begin with it.
+#[inline(always)]
+fn behind_pair<'a>(short: StreamFault, kept: ParamType, bytes: &'a [u8]) -> Option<&'a [u8]>
+    ensures { IfSome result (λ rest. type_at short bytes.now ≡ Ok (kept, rest.now)) }
+{
+    let mut buf = ParseBuf(bytes);
+    let number = buf.checked_eat_u8()?;
+    let flags = buf.checked_eat_u8()?;
+    let unsigned = flags == 128;
+    let kind = ParamType { number, unsigned };
+    if kind == kept && (unsigned || flags == 0) && is_type_number(number) {
+        Some(buf.0)
+    } else {
+        None
+    }
+}
+
 /// What follows the pairs of the types in force, where the bytes begin with them.
 fn behind_kept<'a>(short: StreamFault, kept: &[ParamType], bytes: &'a [u8]) -> Option<&'a [u8]>
     ensures { IfSome result (λ rest. types_at short (length kept.now) bytes.now ≡ Ok (kept.now, rest.now)) }
 {
     let mut rest = bytes;
     for kind in kept {
-        let Ok((next, after)) = type_pair(short, rest) else {
-            return None;
-        };
-        if next != *kind {
-            return None;
-        }
-        rest = after;
+        rest = behind_pair(short, *kind, rest)?;
     }
     Some(rest)
 }

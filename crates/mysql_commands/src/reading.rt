@@ -41,6 +41,7 @@ fn counting<'a>(
 
 /// What a place of an execute holds.
 #[tactic(auto, unfolding(crate::specs::Reading::content_at))]
+#[inline(always)]
 fn parameter<'a>(
     alloc: Global,
     statement: &StatementState,

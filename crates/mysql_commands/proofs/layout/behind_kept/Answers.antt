@@ -1,4 +1,4 @@
-use Rattle.std.proofs.Common.{rules, ◌≡◌, ◌+◌, ◌++◌, ◌∷◌, [], get_or, take, length, false, ap, sym, ◌∙◌, Ok}
+use Rattle.std.proofs.Common.{get_or, take, length, false, ap, ◌∙◌, Ok}
 use Rattle.std.proofs.lemmas.List.{take_more, take_all}
 use Rattle.mysql_commands.specs.declared.param_type.ParamType.{ParamType}
 use Rattle.mysql_commands.specs.Layout.{Types, types_at}
@@ -12,9 +12,7 @@ pub loop-kind-preserved : goal.loop-kind-preserved
 loop-kind-preserved c =
     let kept = c.args.kept.now in
     let i = c.loop-kind.kind-index in
-    let same : c.in-Ok.next ≡ get_or c.args.kept.now c.loop-kind.kind-index zero_type = search rules in
-    let one : take (c.loop-kind.kind-index + 1) c.args.kept.now ≡ take c.loop-kind.kind-index c.args.kept.now ++ c.in-Ok.next ∷ [] = take_more kept i zero_type c.loop-kind-test.true ∙ ap (λ (t : ParamType). take c.loop-kind.kind-index c.args.kept.now ++ t ∷ []) (sym same) in
-    rw one (types_go_on (take i kept) c.args.short (length kept) i c.loop-kind.rest.now c.in-Ok.next c.in-Ok.after.now (types_at c.args.short (length kept) c.args.bytes.now) c.loop-kind-test.true c.in-Ok.ensures c.loop-kind.invariant)
+    rw (take_more kept i zero_type c.loop-kind-test.true) (types_go_on (take i kept) c.args.short (length kept) i c.loop-kind.rest.now (get_or kept i zero_type) c.in_ok-rest.rest.now (types_at c.args.short (length kept) c.args.bytes.now) c.loop-kind-test.true c.in_ok-rest.ensures c.loop-kind.invariant)
 
 pub returns : goal.returns
 returns c =
