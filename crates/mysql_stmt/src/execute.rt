@@ -1,6 +1,6 @@
 //! Executions of prepared statements.
 
-ghost use Rattle.std.specs.Prelude.{◌≡◌, ◌++◌, ◌∷◌, ◌≤◌, IfOk, None, OnOk, Some, SomeIff, flat_map, if◌then◌else◌, is_none, length, map, nat_lt, take};
+ghost use Rattle.std.specs.Prelude.{◌≡◌, ◌++◌, ◌∷◌, ◌<◌, ◌≤◌, IfOk, None, OnOk, Some, SomeIff, flat_map, if◌then◌else◌, is_none, length, map, nat_lt, take};
 ghost use Rattle.byteorder.specs.Endian.{little_bytes};
 ghost use Rattle.mysql_buf.specs.Writing.{lenenc_str};
 ghost use Rattle.mysql_cells.specs.Cells.{bin_len, cell};
@@ -312,11 +312,30 @@ fn put_text(text: &[u8], buf: &mut Vec<u8>) -> Result<(), AllocError>
     Ok(())
 }
 
+// The same of one whose length has two bytes behind its mark.
+#[inline(always)]
+fn put_marked_text(text: &[u8], buf: &mut Vec<u8>) -> Result<(), AllocError>
+    requires least { 250 < length text.now }
+    requires most { length text.now < 65536 }
+    ensures { Appends result buf.old.items buf.new.items (lenenc_str text.now) }
+{
+    make_room(text.len() + 3, buf)?;
+    let [low, high] = (text.len() as u16).to_le_bytes();
+    buf.push_reserved(0xfc);
+    buf.push_reserved(low);
+    buf.push_reserved(high);
+    buf.extend_from_slice(text).unwrap();
+    Ok(())
+}
+
 // The same of one that isn't short, by a call that copies it.
 #[inline(never)]
 fn put_long_text(text: &[u8], buf: &mut Vec<u8>) -> Result<(), AllocError>
     ensures { Appends result buf.old.items buf.new.items (lenenc_str text.now) }
 {
+    if 250 < text.len() && text.len() < 65536 {
+        return put_marked_text(text, buf);
+    }
     buf.put_lenenc_str(text)
 }
 
