@@ -45,9 +45,9 @@ form_tail Whole4 unsigned bytes rest value h = number_tail 4 _ bytes rest value 
 form_tail Whole8 unsigned bytes rest value h = number_tail 8 _ bytes rest value h
 form_tail FloatBits unsigned bytes rest value h = number_tail 4 _ bytes rest value h
 form_tail DoubleBits unsigned bytes rest value h = number_tail 8 _ bytes rest value h
-form_tail Counted unsigned bytes rest value h = made_tail (lenenc_str_at bytes) (λ x. Bytes x) bytes rest value (λ x after e. (lenenc_str_tail bytes x after e).1) h
-form_tail DateAndTime unsigned bytes rest value h = made_tail (u8_str_at bytes) date_of bytes rest value (λ x after e. (u8_str_tail bytes x after e).1) h
-form_tail Duration unsigned bytes rest value h = made_tail (u8_str_at bytes) time_of bytes rest value (λ x after e. (u8_str_tail bytes x after e).1) h
+form_tail Counted unsigned bytes rest value h = made_tail (lenenc_str_at bytes) (λ x. Bytes x) bytes rest value (lenenc_str_tail bytes) h
+form_tail DateAndTime unsigned bytes rest value h = made_tail (u8_str_at bytes) date_of bytes rest value (u8_str_tail bytes) h
+form_tail Duration unsigned bytes rest value h = made_tail (u8_str_at bytes) time_of bytes rest value (u8_str_tail bytes) h
 form_tail Without unsigned bytes rest value h = absurd (cc)
 
 column_tail : (column : ColumnDefinition) (bytes rest : List ℕ) (value : Value) → column_cell_at (column.column_type, column.flags) bytes ≡ Ok (value, rest) → IsTail bytes rest
@@ -62,7 +62,7 @@ by_byte : (null bad : Bool) (bytes behind rest : List ℕ) (value : Value) → I
     → (if null then null_read behind else if bad then Err BadLength else (or_end (lenenc_str_at bytes) >>= made_of (λ x. Bytes x))) ≡ Ok (value, rest) → IsTail bytes rest
 by_byte true bad bytes behind rest value t h = null_tail bytes behind rest value t h
 by_byte false true bytes behind rest value t h = absurd (cc)
-by_byte false false bytes behind rest value t h = made_tail (lenenc_str_at bytes) (λ x. Bytes x) bytes rest value (λ x after e. (lenenc_str_tail bytes x after e).1) h
+by_byte false false bytes behind rest value t h = made_tail (lenenc_str_at bytes) (λ x. Bytes x) bytes rest value (lenenc_str_tail bytes) h
 
 pub text_tail : (bytes rest : List ℕ) (value : Value) → text_cell_at bytes ≡ Ok (value, rest) → IsTail bytes rest
 unfolding text_cell_at

@@ -68,7 +68,7 @@ module _ (count : ℕ) (payloads payload : List ℕ) (places cells : List CellPl
       rw (here, others) refl
 
   -- the row that was appended is kept
-  pub kept_behind : list_all (is_inside (length payload)) cells ≡ true → length cells ≡ count → IsKept count (payloads ++ payload) (places ++ cells) (place_behind payloads payload places cells)
+  pub kept_behind : list_all (is_inside payload) cells ≡ true → length cells ≡ count → IsKept count (payloads ++ payload) (places ++ cells) (place_behind payloads payload places cells)
   kept_behind inside as_long =
       let p : length payloads ≤ length (payloads ++ payload) = omega (arith, length-append payloads payload) in
       let c : length places ≤ length (places ++ cells) = omega (arith, length-append places cells) in
@@ -79,7 +79,7 @@ module _ (count : ℕ) (payloads payload : List ℕ) (places cells : List CellPl
         as_long = rw (part_behind places cells) as_long;
       }
 
-  pub all_kept : (rows : List RowPlace) → All (IsKept count payloads places) rows → list_all (is_inside (length payload)) cells ≡ true → length cells ≡ count
+  pub all_kept : (rows : List RowPlace) → All (IsKept count payloads places) rows → list_all (is_inside payload) cells ≡ true → length cells ≡ count
       → All (IsKept count (payloads ++ payload) (places ++ cells)) (rows ++ place_behind payloads payload places cells ∷ [])
   all_kept rows h inside as_long =
       All-push (IsKept count (payloads ++ payload) (places ++ cells)) rows (place_behind payloads payload places cells) (λ k d lt. kept_more (get_or rows k d) (h k d lt)) (kept_behind inside as_long)
@@ -95,7 +95,7 @@ module _ (count : ℕ) (payloads payload : List ℕ) (places cells : List CellPl
   -- the same after an attempt that may have been refused
   module _ {T E : Type 0} (rows : List RowPlace) (payloads_after : List ℕ) (places_after : List CellPlace) (rows_after : List RowPlace) (h : All (IsKept count payloads places) rows) where
     pub kept_after : (r : Result T E) → OnOk r (payloads_after ≡ payloads ++ payload) → OnOk r (places_after ≡ places ++ cells) → OnOk r (rows_after ≡ rows ++ place_behind payloads payload places cells ∷ [])
-        → OnErr r ((payloads_after ≡ payloads) × (places_after ≡ places) × (rows_after ≡ rows)) → list_all (is_inside (length payload)) cells ≡ true → length cells ≡ count
+        → OnErr r ((payloads_after ≡ payloads) × (places_after ≡ places) × (rows_after ≡ rows)) → list_all (is_inside payload) cells ≡ true → length cells ≡ count
         → All (IsKept count payloads_after places_after) rows_after
     kept_after (Ok x) p c m e inside as_long = rw (p, c, m) (all_kept rows h inside as_long)
     kept_after (Err x) p c m e inside as_long = rw (e.0, e.1, e.2) h

@@ -20,8 +20,8 @@ use Rattle.mysql_lent_rows.specs.declared.place.CellPlace.{CellPlace}
 pub held_more : (payload : List ℕ) (places : List CellPlace) (place : CellPlace) → map (held payload) (places ++ place ∷ []) ≡ map (held payload) places ++ held payload place ∷ []
 held_more payload places place = map-append (held payload) places (place ∷ [])
 
-pub inside_more : (len : ℕ) (places : List CellPlace) (place : CellPlace) → list_all (is_inside len) places ≡ true → is_inside len place ≡ true → list_all (is_inside len) (places ++ place ∷ []) ≡ true
-inside_more len places place h g = rw (list_all-append (is_inside len) places (place ∷ []), h, g) refl
+pub inside_more : (payload : List ℕ) (places : List CellPlace) (place : CellPlace) → list_all (is_inside payload) places ≡ true → is_inside payload place ≡ true → list_all (is_inside payload) (places ++ place ∷ []) ≡ true
+inside_more payload places place h g = rw (list_all-append (is_inside payload) places (place ∷ []), h, g) refl
 
 pub one_longer : {X : Type 0} (xs : List X) (x : X) (i : ℕ) → length xs ≡ i → length (xs ++ x ∷ []) ≡ i + 1
 one_longer xs x i h = omega (arith, h, length-append xs (x ∷ []))

@@ -1,10 +1,11 @@
--- The last bytes of a payload, and the places of those that stand before them.
-use Rattle.std.proofs.Common.{◌≡◌, ℕ, ◌+◌, ◌-◌, ◌≤◌, Bool, true, false, List, [], ◌∷◌, ◌++◌, length, take, drop, Option, Some, None, refl, sym, ap, ◌∙◌, arith, length-append, length-drop, length-take, if◌then◌else◌}
-use Rattle.std.proofs.lemmas.List.{drop-drop, take-append-drop}
-use Rattle.std.proofs.Math.Seq.{take-append_seam}
+-- The last bytes of a payload, and what is read at a place.
+use Rattle.std.proofs.Common.{◌≡◌, ℕ, suc, ◌+◌, ◌-◌, ◌≤◌, ◌<◌, Bool, true, false, List, [], ◌∷◌, inl, inr, length, take, drop, get_or, Option, Some, None, refl, ap, ◌∙◌, arith, drop-cons, length-drop, length-take, if◌then◌else◌}
+use Rattle.std.proofs.lemmas.Bool.{cases_lt, lt-ltb}
 use Rattle.std.proofs.lemmas.Bool.Decides.{nat_tests}
-use Rattle.std.specs.Prelude.{slice_range}
-use Rattle.mysql_buf.specs.FirstBytes.{first-some}
+use Rattle.std.proofs.lemmas.List.{drop-drop, drop_all}
+use Rattle.std.specs.Option.{IsSome, is_some}
+use Rattle.std.specs.Prelude.{nat_lt}
+use Rattle.mysql_buf.specs.FirstBytes.{first-enough, first-short, first-some}
 use Rattle.mysql_buf.specs.Reading.{bytes_at, first, lenenc_int_at, lenenc_str_at, little_at, then_at, u8_str_at}
 use Rattle.byteorder.specs.Endian.{little_number}
 use Rattle.mysql_lent_rows.specs.Lent.{IsTail, is_within}
@@ -42,20 +43,6 @@ tail_of_tail payload bytes rest p q =
       same = one ∙ drop-drop (length bytes - length rest) (length payload - length bytes) payload ∙ ap (λ n. drop n payload) k;
     }
 
--- n bytes, and those after them
-pub bytes_tail : (n : ℕ) (bytes text rest : List ℕ) → bytes_at n bytes ≡ Some (text, rest) → (text ++ rest ≡ bytes) × IsTail bytes rest
-bytes_tail n bytes text rest h =
-    let p = first-some n (take n) bytes (text, rest) h in
-    let t : text ≡ take n bytes = ap (λ (z : List ℕ × List ℕ). z.0) p.1 in
-    let r : rest ≡ drop n bytes = ap (λ (z : List ℕ × List ℕ). z.1) p.1 in
-    (rw (t, r) (take-append-drop n bytes), rw r (dropped_tail n bytes p.0))
-
-pub bytes_len : (n : ℕ) (bytes text rest : List ℕ) → bytes_at n bytes ≡ Some (text, rest) → length text ≡ n
-bytes_len n bytes text rest h =
-    let p = first-some n (take n) bytes (text, rest) h in
-    let t : text ≡ take n bytes = ap (λ (z : List ℕ × List ℕ). z.0) p.1 in
-    rw t (omega (arith, p.0, length-take n bytes))
-
 -- a number of n bytes
 pub first_tail : {X : Type 0} (n : ℕ) (value : List ℕ → X) (bytes rest : List ℕ) (x : X) → first n value bytes ≡ Some (x, rest) → IsTail bytes rest
 first_tail {X = X} n value bytes rest x h =
@@ -63,14 +50,23 @@ first_tail {X = X} n value bytes rest x h =
     let r : rest ≡ drop n bytes = ap (λ (z : X × List ℕ). z.1) p.1 in
     rw r (dropped_tail n bytes p.0)
 
+-- n bytes, and those after them
+pub bytes_tail : (n : ℕ) (bytes text rest : List ℕ) → bytes_at n bytes ≡ Some (text, rest) → IsTail bytes rest
+bytes_tail n bytes text rest h = first_tail n (take n) bytes rest text h
+
+pub bytes_len : (n : ℕ) (bytes text rest : List ℕ) → bytes_at n bytes ≡ Some (text, rest) → length text ≡ n
+bytes_len n bytes text rest h =
+    let p = first-some n (take n) bytes (text, rest) h in
+    let t : text ≡ take n bytes = ap (λ (z : List ℕ × List ℕ). z.0) p.1 in
+    rw t (omega (arith, p.0, length-take n bytes))
+
 -- what stands behind its length
 counted_tail : (count : Option (ℕ × List ℕ)) (bytes text rest : List ℕ) → ((n : ℕ) (from : List ℕ) → count ≡ Some (n, from) → IsTail bytes from)
-    → then_at count bytes_at ≡ Some (text, rest) → IsTail bytes (text ++ rest) × IsTail bytes rest
+    → then_at count bytes_at ≡ Some (text, rest) → IsTail bytes rest
 counted_tail None bytes text rest t h = absurd (cc)
 counted_tail (Some p) bytes text rest t h =
     let from : IsTail bytes p.1 = t p.0 p.1 refl in
-    let b : (text ++ rest ≡ p.1) × IsTail p.1 rest = bytes_tail p.0 p.1 text rest h in
-    (rw (b.0) from, tail_of_tail bytes p.1 rest from b.1)
+    tail_of_tail bytes p.1 rest from (bytes_tail p.0 p.1 text rest h)
 
 inner : {A : Type 0} (p q : A) → Some p ≡ Some q → p ≡ q
 inner p q h = cc
@@ -91,19 +87,35 @@ pub lenenc_int_tail : (bytes : List ℕ) (n : ℕ) (rest : List ℕ) → lenenc_
 lenenc_int_tail [] n rest h = absurd (cc)
 lenenc_int_tail (b ∷ bs) n rest h = behind_first b bs rest (by_first _ _ _ _ b n bs rest h)
 
-pub lenenc_str_tail : (bytes text rest : List ℕ) → lenenc_str_at bytes ≡ Some (text, rest) → IsTail bytes (text ++ rest) × IsTail bytes rest
+pub lenenc_str_tail : (bytes text rest : List ℕ) → lenenc_str_at bytes ≡ Some (text, rest) → IsTail bytes rest
 lenenc_str_tail bytes text rest h = counted_tail (lenenc_int_at bytes) bytes text rest (λ n from e. lenenc_int_tail bytes n from e) h
 
-pub u8_str_tail : (bytes text rest : List ℕ) → u8_str_at bytes ≡ Some (text, rest) → IsTail bytes (text ++ rest) × IsTail bytes rest
+pub u8_str_tail : (bytes text rest : List ℕ) → u8_str_at bytes ≡ Some (text, rest) → IsTail bytes rest
 u8_str_tail bytes text rest h = counted_tail (little_at 1 bytes) bytes text rest (λ n from e. first_tail 1 (little_number 1) bytes from n e) h
 
--- the place of bytes that stand right before the rest
-pub placed : (payload text rest : List ℕ) → IsTail payload (text ++ rest)
-    → slice_range payload (length payload - length rest - length text) (length payload - length rest) ≡ text
-placed payload text rest t =
-    let len : length (text ++ rest) ≡ length text + length rest = length-append text rest in
-    let le : length (text ++ rest) ≤ length payload = t.len in
-    let start : length payload - length (text ++ rest) ≡ length payload - length rest - length text = omega (arith, len, le) in
-    let count : (length payload - length rest) - (length payload - length rest - length text) ≡ length text = omega (arith, len, le) in
-    let from : drop (length payload - length rest - length text) payload ≡ text ++ rest = ap (λ n. drop n payload) (sym start) ∙ sym t.same in
-    rw (count, from) (take-append_seam text rest)
+-- where something is read, the place lies within the payload
+read_within : (read : List ℕ → Option (List ℕ × List ℕ)) (payload : List ℕ) (at : ℕ) → read [] ≡ None → IsSome (read (drop at payload)) → at < length payload
+read_within read payload at none some = elim (cases_lt at (length payload)) [
+  | inl within ↦ within
+  | inr beyond ↦
+      let all : drop at payload ≡ [] = drop_all at payload beyond in
+      let nothing : read (drop at payload) ≡ None = rw all none in
+      let is : is_some (read (drop at payload)) ≡ false = rw nothing refl in
+      absurd (cc)
+]
+
+pub short_within : (payload : List ℕ) (at : ℕ) → IsSome (u8_str_at (drop at payload)) → at < length payload
+short_within payload at some = read_within u8_str_at payload at (rw (first-short 1 (little_number 1) [] (omega arith)) refl) some
+
+-- a length below 251 stands in one byte
+by_one_byte : (b : ℕ) (bs : List ℕ) → b < 251 → lenenc_str_at (b ∷ bs) ≡ u8_str_at (b ∷ bs)
+by_one_byte b bs h =
+    let small : nat_lt b 251 ≡ true = lt-ltb b 251 h in
+    let one = first-enough 1 (little_number 1) (b ∷ bs) (omega arith) in
+    let n : little_number 1 (b ∷ bs) ≡ b = omega arith in
+    rw (small, one, n) refl
+
+pub short_lenenc : (payload : List ℕ) (at : ℕ) → IsSome (lenenc_str_at (drop at payload)) → get_or payload at 0 < 251 → lenenc_str_at (drop at payload) ≡ u8_str_at (drop at payload)
+short_lenenc payload at some h =
+    let within : at < length payload = read_within lenenc_str_at payload at refl some in
+    rw (drop-cons payload at 0 within) (by_one_byte (get_or payload at 0) (drop (suc at) payload) h)

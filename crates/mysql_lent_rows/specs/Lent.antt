@@ -1,6 +1,7 @@
 -- What lent cells hold: the values that reading gives.
 -- MySQL: Client/Server Protocol, "Text Resultset Row" and "Binary Protocol Value".
-use Rattle.std.specs.Prelude.{◌≡◌, ℕ, ◌-◌, ◌≤◌, nat_le, Bool, true, ◌&&◌, List, length, drop, slice_range}
+use Rattle.std.specs.Prelude.{◌≡◌, ℕ, ◌-◌, ◌≤◌, nat_le, Bool, true, ◌&&◌, List, [], length, drop, Option, Some, None, is_some}
+use Rattle.mysql_buf.specs.Reading.{lenenc_str_at, u8_str_at}
 use Rattle.mysql_cells.specs.Cells.{date_of, time_of}
 use Rattle.mysql_cells.specs.declared.cell_form.CellForm as cells
 use Rattle.mysql_cells.specs.declared.cell_form.CellForm.TheVariants as cells_form
@@ -25,31 +26,36 @@ value_of (lent.Double bits) = value.Double bits
 value_of (lent.Date year month day hour minute second micros) = value.Date year month day hour minute second micros
 value_of (lent.Time negative days hours minutes seconds micros) = value.Time negative days hours minutes seconds micros
 
+-- the bytes that were read, none where nothing was
+abbrev pub bytes_read : Option (List ℕ × List ℕ) → List ℕ
+bytes_read None = []
+bytes_read (Some x) = x.0
+
 -- the value of a cell of a payload at a place
 abbrev pub held : List ℕ → CellPlace → Value
 held payload place.Null = value.NULL
-held payload (place.Bytes span) = value.Bytes (slice_range payload span.start span.end)
+held payload (place.Bytes at) = value.Bytes (bytes_read (lenenc_str_at (drop at payload)))
 held payload (place.Int z) = value.Int z
 held payload (place.UInt n) = value.UInt n
 held payload (place.Float bits) = value.Float bits
 held payload (place.Double bits) = value.Double bits
-held payload (place.Date span) = date_of (slice_range payload span.start span.end)
-held payload (place.Time span) = time_of (slice_range payload span.start span.end)
+held payload (place.Date at) = date_of (bytes_read (u8_str_at (drop at payload)))
+held payload (place.Time at) = time_of (bytes_read (u8_str_at (drop at payload)))
 
 -- whether bytes lie within so many
 abbrev pub is_within : ℕ → Span → Bool
 is_within len span = nat_le span.start span.end && nat_le span.end len
 
--- whether the bytes of a cell lie within so many
-abbrev pub is_inside : ℕ → CellPlace → Bool
-is_inside len place.Null = true
-is_inside len (place.Bytes span) = is_within len span
-is_inside len (place.Int z) = true
-is_inside len (place.UInt n) = true
-is_inside len (place.Float bits) = true
-is_inside len (place.Double bits) = true
-is_inside len (place.Date span) = is_within len span
-is_inside len (place.Time span) = is_within len span
+-- whether the bytes of a cell stand whole in a payload, behind their length
+abbrev pub is_inside : List ℕ → CellPlace → Bool
+is_inside payload place.Null = true
+is_inside payload (place.Bytes at) = is_some (lenenc_str_at (drop at payload))
+is_inside payload (place.Int z) = true
+is_inside payload (place.UInt n) = true
+is_inside payload (place.Float bits) = true
+is_inside payload (place.Double bits) = true
+is_inside payload (place.Date at) = is_some (u8_str_at (drop at payload))
+is_inside payload (place.Time at) = is_some (u8_str_at (drop at payload))
 
 -- the last bytes of a payload
 pub record IsTail (payload rest : List ℕ) : Type 0 where

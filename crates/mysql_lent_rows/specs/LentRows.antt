@@ -45,7 +45,7 @@ row_held lender payload = whole_row (shared_columns lender.columns) (map (held p
 
 -- a lender's places lie in a payload, one for each column
 pub record HoldsRow (lender : RowLender) (payload : List ℕ) : Type 0 where
-  pub inside : list_all (is_inside (length payload)) lender.places.items ≡ true
+  pub inside : list_all (is_inside payload) lender.places.items ≡ true
   pub as_long : length lender.places.items ≡ length (rc_slice_items lender.columns)
 
 -- what a conversion answered: what it gave, or the value that doesn't convert

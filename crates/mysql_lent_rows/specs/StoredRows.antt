@@ -45,5 +45,5 @@ place_behind payloads payload places cells = record {
 pub record IsKept (count : ℕ) (payloads : List ℕ) (places : List CellPlace) (row : RowPlace) : Type 0 where
   pub payload : is_within (length payloads) row.payload ≡ true
   pub cells : is_within (length places) row.cells ≡ true
-  pub inside : list_all (is_inside (length (part_at payloads row.payload))) (part_at places row.cells) ≡ true
+  pub inside : list_all (is_inside (part_at payloads row.payload)) (part_at places row.cells) ≡ true
   pub as_long : length (part_at places row.cells) ≡ count

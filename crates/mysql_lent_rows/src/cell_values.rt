@@ -46,7 +46,7 @@ pub fn whole4(unsigned: bool, number: u32) -> i64
 /// A whole number of eight bytes.
 pub fn whole8(unsigned: bool, number: u64) -> CellPlace
     ensures value { (payload : List ℕ) → held payload result ≡ whole_value w64 unsigned number }
-    ensures inside { (len : ℕ) → is_inside len result ≡ true }
+    ensures inside { (payload : List ℕ) → is_inside payload result ≡ true }
 {
     if !unsigned {
         CellPlace::Int(number.cast_signed())

@@ -1,59 +1,47 @@
 //! Cells that are read where they lie.
 
-ghost use Rattle.std.specs.Prelude.{◌≡◌, ◌≢◌, ◌++◌, Err, IfNone, IfOk, IfSome, None, Ok, Some, length, slice_range, true};
+ghost use Rattle.std.specs.Prelude.{◌≡◌, ◌≢◌, Err, IfNone, IfOk, IfSome, IsSome, None, Ok, Some, drop, true};
 ghost use Rattle.mysql_buf.specs.Reading.{lenenc_str_at, u8_str_at};
 ghost use Rattle.mysql_raw.specs.Wire.{TellsPart, or_end};
 ghost use Rattle.mysql_raw.specs.WireError.TheVariants as wire;
 ghost use Rattle.mysql_cells.specs.Cells.{column_cell_at, has_no_sign, text_cell_at, value_at};
 ghost use Rattle.mysql_columns.specs.Views.{column_view};
 ghost use Rattle.mysql_lent_rows.specs.declared.cell_form.CellForm.TheVariants as cell_form;
-ghost use Rattle.mysql_lent_rows.specs.Lent.{IsTail, form_view, held, is_inside, is_within};
+ghost use Rattle.mysql_lent_rows.specs.Lent.{IsTail, bytes_read, form_view, held, is_inside};
 
 use crate::cell_form::{CellForm, form_of_type};
 use crate::cell_values::{whole1, whole2, whole4, whole8};
-use crate::place::{CellPlace, Span};
+use crate::place::CellPlace;
 use bitflags::Flags;
 use mysql_buf::ParseBuf;
 use mysql_columns::Column;
 use mysql_const::{ColumnFlags, ColumnType};
 use mysql_raw::WireError;
 
-/// The place of the bytes that stand in a payload right before its rest.
-#[inline(always)]
-fn place_before(payload: &[u8], bytes: &[u8], rest: &[u8]) -> Span
-    requires { IsTail payload.now (bytes.now ++ rest.now) }
-    ensures held { slice_range payload.now result.start result.end ≡ bytes.now }
-    ensures within { is_within (length payload.now) result ≡ true }
-{
-    let end = payload.len() - rest.len();
-    Span {
-        start: end - bytes.len(),
-        end,
-    }
-}
-
 /// The place of the length-encoded bytes that stand first.
 #[inline(always)]
-fn lenenc_place(payload: &[u8], rest: &mut ParseBuf) -> Option<Span>
+fn lenenc_place(payload: &[u8], rest: &mut ParseBuf) -> Option<usize>
     requires { IsTail payload.now rest.old.0.now }
-    ensures some { IfSome result (λ span. lenenc_str_at rest.old.0.now ≡ Some (slice_range payload.now span.start span.end, rest.new.0.now)) }
-    ensures within { IfSome result (λ span. is_within (length payload.now) span ≡ true) }
+    ensures some { IfSome result (λ at. lenenc_str_at rest.old.0.now ≡ Some (bytes_read (lenenc_str_at (drop at payload.now)), rest.new.0.now)) }
+    ensures inside { IfSome result (λ at. IsSome (lenenc_str_at (drop at payload.now))) }
     ensures none { result ≡ None → lenenc_str_at rest.old.0.now ≡ None }
 {
-    let bytes = rest.checked_eat_lenenc_str()?;
-    Some(place_before(payload, bytes, rest.0))
+    let at = payload.len() - rest.len();
+    rest.checked_eat_lenenc_str()?;
+    Some(at)
 }
 
 /// The place of the bytes that stand first behind a length of one byte.
 #[inline(always)]
-fn short_place(payload: &[u8], rest: &mut ParseBuf) -> Option<Span>
+fn short_place(payload: &[u8], rest: &mut ParseBuf) -> Option<usize>
     requires { IsTail payload.now rest.old.0.now }
-    ensures some { IfSome result (λ span. u8_str_at rest.old.0.now ≡ Some (slice_range payload.now span.start span.end, rest.new.0.now)) }
-    ensures within { IfSome result (λ span. is_within (length payload.now) span ≡ true) }
+    ensures some { IfSome result (λ at. u8_str_at rest.old.0.now ≡ Some (bytes_read (u8_str_at (drop at payload.now)), rest.new.0.now)) }
+    ensures inside { IfSome result (λ at. IsSome (u8_str_at (drop at payload.now))) }
     ensures none { result ≡ None → u8_str_at rest.old.0.now ≡ None }
 {
-    let bytes = rest.checked_eat_u8_str()?;
-    Some(place_before(payload, bytes, rest.0))
+    let at = payload.len() - rest.len();
+    rest.checked_eat_u8_str()?;
+    Some(at)
 }
 
 /// The cell that stands first, by the form of its type's cells; None where the bytes end before it does.
@@ -66,7 +54,7 @@ fn form_place(
 ) -> Option<CellPlace>
     requires { IsTail payload.now rest.old.0.now }
     ensures some { IfSome result (λ place. value_at (form_view form) unsigned rest.old.0.now ≡ Ok (held payload.now place, rest.new.0.now)) }
-    ensures inside { IfSome result (λ place. is_inside (length payload.now) place ≡ true) }
+    ensures inside { IfSome result (λ place. is_inside payload.now place ≡ true) }
     ensures none { IfNone result (form ≢ cell_form.Without → value_at (form_view form) unsigned rest.old.0.now ≡ Err wire.UnexpectedEof) }
 {
     match form {
@@ -102,7 +90,7 @@ pub fn binary_place(
 ) -> Result<CellPlace, WireError>
     requires { IsTail payload.now rest.old.0.now }
     ensures cell { TellsPart (held payload.now) rest.new.0.now result (column_cell_at ((column_view column.now).column_type, (column_view column.now).flags) rest.old.0.now) }
-    ensures inside { IfOk result (λ place. is_inside (length payload.now) place ≡ true) }
+    ensures inside { IfOk result (λ place. is_inside payload.now place ≡ true) }
 {
     match form_of_type(column.column_type()) {
         CellForm::Without => Err(WireError::UnsupportedType),
@@ -119,7 +107,7 @@ pub fn binary_place(
 pub fn text_place(payload: &[u8], rest: &mut ParseBuf) -> Result<CellPlace, WireError>
     requires { IsTail payload.now rest.old.0.now }
     ensures cell { TellsPart (held payload.now) rest.new.0.now result (text_cell_at rest.old.0.now) }
-    ensures inside { IfOk result (λ place. is_inside (length payload.now) place ≡ true) }
+    ensures inside { IfOk result (λ place. is_inside payload.now place ≡ true) }
 {
     match rest.0 {
         [] => Err(WireError::UnexpectedEof),
@@ -129,7 +117,7 @@ pub fn text_place(payload: &[u8], rest: &mut ParseBuf) -> Result<CellPlace, Wire
         }
         [255, ..] => Err(WireError::BadLength),
         _ => match lenenc_place(payload, rest) {
-            Some(span) => Ok(CellPlace::Bytes(span)),
+            Some(at) => Ok(CellPlace::Bytes(at)),
             None => Err(WireError::UnexpectedEof),
         },
     }

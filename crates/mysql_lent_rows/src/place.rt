@@ -1,10 +1,12 @@
 //! Cells of a payload by their places.
 
-ghost use Rattle.std.specs.Prelude.{◌≡◌, length, slice_range, true};
-ghost use Rattle.mysql_lent_rows.specs.Lent.{held, is_inside, is_within, value_of};
+ghost use Rattle.std.specs.Prelude.{◌≡◌, IsSome, drop, length, slice_range, true};
+ghost use Rattle.mysql_buf.specs.Reading.{lenenc_str_at, u8_str_at};
+ghost use Rattle.mysql_lent_rows.specs.Lent.{bytes_read, held, is_inside, is_within, value_of};
 
 use crate::cell_values::{date, time};
 use crate::value_ref::ValueRef;
+use mysql_buf::ParseBuf;
 
 /// Bytes of a payload: those from `start` on, before `end`.
 #[derive(Clone, Copy, Debug, PartialEq, Eq)]
@@ -13,17 +15,17 @@ pub struct Span {
     pub end: usize,
 }
 
-/// What a cell of a payload holds, its bytes by their place. Of a date or a time the place of its cell is kept, behind the length.
+/// What a cell of a payload holds. Of bytes, a date or a time the place is kept where its length stands, right before it.
 #[derive(Clone, Copy, Debug, PartialEq, Eq)]
 pub enum CellPlace {
     Null,
-    Bytes(Span),
+    Bytes(usize),
     Int(i64),
     UInt(u64),
     Float(u32),
     Double(u64),
-    Date(Span),
-    Time(Span),
+    Date(usize),
+    Time(usize),
 }
 
 /// Where a row lies that is kept: its payload, and the places of its cells.
@@ -43,20 +45,44 @@ pub fn bytes_in<'p>(payload: &'p [u8], span: Span) -> &'p [u8]
     &payload[span.start..span.end]
 }
 
+/// The bytes at a place of a payload, behind a length of one byte.
+#[inline(always)]
+#[tactic(auto, using(crate::proofs::Tails::short_within))]
+fn short_bytes<'p>(payload: &'p [u8], at: usize) -> &'p [u8]
+    requires { IsSome (u8_str_at (drop at payload.now)) }
+    ensures { result.now ≡ bytes_read (u8_str_at (drop at payload.now)) }
+{
+    let mut rest = ParseBuf(&payload[at..]);
+    rest.eat_u8_str()
+}
+
+/// The length-encoded bytes at a place of a payload. Most have a length of one byte.
+#[inline(always)]
+fn lenenc_bytes<'p>(payload: &'p [u8], at: usize) -> &'p [u8]
+    requires { IsSome (lenenc_str_at (drop at payload.now)) }
+    ensures { result.now ≡ bytes_read (lenenc_str_at (drop at payload.now)) }
+{
+    if payload[at] < 251 {
+        return short_bytes(payload, at);
+    }
+    let mut rest = ParseBuf(&payload[at..]);
+    rest.eat_lenenc_str()
+}
+
 /// The value of the cell of a payload at a place.
 #[inline(always)]
 pub fn value_at<'p>(payload: &'p [u8], place: CellPlace) -> ValueRef<'p>
-    requires { is_inside (length payload.now) place ≡ true }
+    requires { is_inside payload.now place ≡ true }
     ensures { value_of result ≡ held payload.now place }
 {
     match place {
         CellPlace::Null => ValueRef::NULL,
-        CellPlace::Bytes(span) => ValueRef::Bytes(bytes_in(payload, span)),
+        CellPlace::Bytes(at) => ValueRef::Bytes(lenenc_bytes(payload, at)),
         CellPlace::Int(number) => ValueRef::Int(number),
         CellPlace::UInt(number) => ValueRef::UInt(number),
         CellPlace::Float(bits) => ValueRef::Float(bits),
         CellPlace::Double(bits) => ValueRef::Double(bits),
-        CellPlace::Date(span) => date(bytes_in(payload, span)),
-        CellPlace::Time(span) => time(bytes_in(payload, span)),
+        CellPlace::Date(at) => date(short_bytes(payload, at)),
+        CellPlace::Time(at) => time(short_bytes(payload, at)),
     }
 }

@@ -17,6 +17,6 @@ pub struct LentRow<'r, 'p> {
     pub(crate) payload: &'p [u8],
     pub(crate) columns: &'r RcSlice<Column>,
     pub(crate) places: &'r [CellPlace],
-    ghost inside: { list_all (is_inside (length payload.now)) places.now ≡ true },
+    ghost inside: { list_all (is_inside payload.now) places.now ≡ true },
     ghost as_long: { length places.now ≡ length (rc_slice_items columns.now) },
 }

@@ -30,7 +30,7 @@ pub fn text_places(
     requires empty { places.old.items ≡ [] }
     requires room { count ≤ vec_capacity places.old }
     ensures cells { TellsPart (λ _. map (held payload.now) places.new.items) rest.new.0.now result (elements_at text_cell_at count rest.old.0.now) }
-    ensures inside { list_all (is_inside (length payload.now)) places.new.items ≡ true }
+    ensures inside { list_all (is_inside payload.now) places.new.items ≡ true }
     ensures len { OnOk result (length places.new.items ≡ count) }
     ensures capacity { vec_capacity places.new ≡ vec_capacity places.old }
 {
@@ -62,7 +62,7 @@ fn null_or_place(
 ) -> Result<CellPlace, WireError>
     requires { IsTail payload.now rest.old.0.now }
     ensures cell { TellsPart (held payload.now) rest.new.0.now result (binary_cell_at is_null (column_view column.now) rest.old.0.now) }
-    ensures inside { IfOk result (λ place. is_inside (length payload.now) place ≡ true) }
+    ensures inside { IfOk result (λ place. is_inside payload.now place ≡ true) }
 {
     if is_null {
         return Ok(CellPlace::Null);
@@ -83,7 +83,7 @@ fn binary_places(
     requires empty { places.old.items ≡ [] }
     requires room { length columns.now ≤ vec_capacity places.old }
     ensures cells { TellsPart (λ _. map (held payload.now) places.new.items) rest.new.0.now result (binary_cells_at 2 bitmap.now 0 (column_views columns.now) rest.old.0.now) }
-    ensures inside { list_all (is_inside (length payload.now)) places.new.items ≡ true }
+    ensures inside { list_all (is_inside payload.now) places.new.items ≡ true }
     ensures len { OnOk result (length places.new.items ≡ length columns.now) }
     ensures capacity { vec_capacity places.new ≡ vec_capacity places.old }
 {
@@ -109,7 +109,7 @@ fn binary_body_places(
     requires empty { places.old.items ≡ [] }
     requires room { length columns.now ≤ vec_capacity places.old }
     ensures cells { TellsPart (λ _. map (held payload.now) places.new.items) rest.new.0.now result (binary_row_body_at 2 (column_views columns.now) rest.old.0.now) }
-    ensures inside { list_all (is_inside (length payload.now)) places.new.items ≡ true }
+    ensures inside { list_all (is_inside payload.now) places.new.items ≡ true }
     ensures len { OnOk result (length places.new.items ≡ length columns.now) }
     ensures capacity { vec_capacity places.new ≡ vec_capacity places.old }
 {
@@ -132,7 +132,7 @@ pub fn binary_row_places(
     requires empty { places.old.items ≡ [] }
     requires room { length columns.now ≤ vec_capacity places.old }
     ensures cells { TellsPart (λ _. map (held payload.now) places.new.items) rest.new.0.now result (binary_resultset_row_at (column_views columns.now) rest.old.0.now) }
-    ensures inside { list_all (is_inside (length payload.now)) places.new.items ≡ true }
+    ensures inside { list_all (is_inside payload.now) places.new.items ≡ true }
     ensures len { OnOk result (length places.new.items ≡ length columns.now) }
     ensures capacity { vec_capacity places.new ≡ vec_capacity places.old }
 {

@@ -12,7 +12,7 @@ use std::rc::RcSlice;
 ///     stored.push(&lender.row(payload)?)?;
 ///     let id: Option<Result<u64, _>> = stored.row(0)?.get_opt(0);
 ///
-/// A row takes the bytes of its payload, 24 bytes a cell, and 32 more.
+/// A row takes the bytes of its payload, 16 bytes a cell, and 32 more.
 ///
 /// MySQL: C API, `mysql_store_result()`.
 #[derive(Drop)]

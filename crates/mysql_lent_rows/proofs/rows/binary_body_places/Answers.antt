@@ -9,4 +9,4 @@ binary_places-requires-clause-bitmap c =
 
 pub binary_places-requires-clause-tail : goal.binary_places-requires-clause-tail
 binary_places-requires-clause-tail c =
-    tail_of_tail c.args.payload.now c.args.rest.now.0.now c.checked_eat.new.self.0.now c.requires.tail (bytes_tail c.bitmap_len-len.result c.args.rest.now.0.now c.in-Some.bitmap.now c.checked_eat.new.self.0.now c.in-Some.ensures).1
+    tail_of_tail c.args.payload.now c.args.rest.now.0.now c.checked_eat.new.self.0.now c.requires.tail (bytes_tail c.bitmap_len-len.result c.args.rest.now.0.now c.in-Some.bitmap.now c.checked_eat.new.self.0.now c.in-Some.ensures)

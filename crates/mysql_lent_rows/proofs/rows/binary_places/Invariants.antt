@@ -14,7 +14,7 @@ invariant-loop-column l = record {
   bits : bits_left l.nulls ≡ map (is_null_at 2 l.fn.bitmap) (range_with_len l.column-index (length l.columns - l.column-index));
   cells : with_front (map (held l.payload) l.places.items) (cells_from l.fn.bitmap l.columns l.column-index l.rest.0.now) ≡ binary_cells_at 2 l.fn.bitmap 0 (column_views l.columns) l.initial.rest.0.now;
   tail : IsTail l.payload l.rest.0.now;
-  inside : list_all (is_inside (length l.payload)) l.places.items ≡ true;
+  inside : list_all (is_inside l.payload) l.places.items ≡ true;
   len : length l.places.items ≡ l.column-index;
   capacity : vec_capacity l.places ≡ vec_capacity l.initial.places;
 }

@@ -10,7 +10,7 @@ abbrev pub invariant-loop : goal.invariant-loop
 invariant-loop l = record {
   cells : with_front (map (held l.payload) l.places.items) (elements_at text_cell_at (l.count - l.counter) l.rest.0.now) ≡ elements_at text_cell_at l.count l.initial.rest.0.now;
   tail : IsTail l.payload l.rest.0.now;
-  inside : list_all (is_inside (length l.payload)) l.places.items ≡ true;
+  inside : list_all (is_inside l.payload) l.places.items ≡ true;
   len : length l.places.items ≡ l.counter;
   capacity : vec_capacity l.places ≡ vec_capacity l.initial.places;
 }

@@ -1,11 +1,11 @@
-use Rattle.std.proofs.Common.{◌∙◌, ap, length, sym, Some}
+use Rattle.std.proofs.Common.{◌∙◌, ap, sym, Some}
 use Rattle.mysql_lent_rows.specs.Lent.{is_inside}
 use Rattle.mysql_lent_rows.proofs.LentCells.{found_cell, found_inside, no_cell}
 use Rattle.mysql_lent_rows.proofs.row.LentRow.as_ref.Goals as goal
 
 pub value_at-requires : goal.value_at-requires
 value_at-requires c =
-    found_inside (is_inside (length c.args.self.now.payload.now)) c.args.self.now.places.now c.args.index c.in-Some.place c.args.self.now.inside
+    found_inside (is_inside c.args.self.now.payload.now) c.args.self.now.places.now c.args.index c.in-Some.place c.args.self.now.inside
     (sym c.place_at.ensures ∙ c.in-Some.is)
 
 pub returns-in-Some : goal.returns-in-Some
