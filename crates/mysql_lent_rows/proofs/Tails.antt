@@ -1,22 +1,13 @@
 -- The last bytes of a payload, and what is read at a place.
 use Rattle.std.proofs.Common.{◌≡◌, ℕ, suc, ◌+◌, ◌-◌, ◌≤◌, ◌<◌, Bool, true, false, List, [], ◌∷◌, inl, inr, length, take, drop, get_or, Option, Some, None, refl, ap, ◌∙◌, arith, drop-cons, length-drop, length-take, if◌then◌else◌}
 use Rattle.std.proofs.lemmas.Bool.{cases_lt, lt-ltb}
-use Rattle.std.proofs.lemmas.Bool.Decides.{nat_tests}
 use Rattle.std.proofs.lemmas.List.{drop-drop, drop_all}
 use Rattle.std.specs.Option.{IsSome, is_some}
 use Rattle.std.specs.Prelude.{nat_lt}
 use Rattle.mysql_buf.specs.FirstBytes.{first-enough, first-short, first-some}
 use Rattle.mysql_buf.specs.Reading.{bytes_at, first, lenenc_int_at, lenenc_str_at, little_at, then_at, u8_str_at}
 use Rattle.byteorder.specs.Endian.{little_number}
-use Rattle.mysql_lent_rows.specs.Lent.{IsTail, is_within}
-use Rattle.mysql_lent_rows.specs.declared.place.Span.{Span}
-
--- what the test says
-pub within_holds : (len : ℕ) (span : Span) → is_within len span ≡ true → (span.start ≤ span.end) × (span.end ≤ len)
-within_holds len span h = grind (arith, nat_tests, h)
-
-pub holds_within : (len : ℕ) (span : Span) → span.start ≤ span.end → span.end ≤ len → is_within len span ≡ true
-holds_within len span s e = grind (arith, nat_tests, s, e)
+use Rattle.mysql_lent_rows.specs.Lent.{IsTail}
 
 -- all bytes are the last ones
 pub all_tail : (bytes : List ℕ) → IsTail bytes bytes

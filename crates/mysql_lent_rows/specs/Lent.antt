@@ -1,6 +1,6 @@
 -- What lent cells hold: the values that reading gives.
 -- MySQL: Client/Server Protocol, "Text Resultset Row" and "Binary Protocol Value".
-use Rattle.std.specs.Prelude.{◌≡◌, ℕ, ◌-◌, ◌≤◌, nat_le, Bool, true, ◌&&◌, List, [], length, drop, Option, Some, None, is_some}
+use Rattle.std.specs.Prelude.{◌≡◌, ℕ, ◌-◌, ◌≤◌, Bool, true, List, [], length, drop, Option, Some, None, is_some}
 use Rattle.mysql_buf.specs.Reading.{lenenc_str_at, u8_str_at}
 use Rattle.mysql_cells.specs.Cells.{date_of, time_of}
 use Rattle.mysql_cells.specs.declared.cell_form.CellForm as cells
@@ -11,7 +11,6 @@ use Rattle.mysql_lent_rows.specs.declared.cell_form.CellForm.{CellForm}
 use Rattle.mysql_lent_rows.specs.declared.cell_form.CellForm.TheVariants as form
 use Rattle.mysql_lent_rows.specs.declared.place.CellPlace.{CellPlace}
 use Rattle.mysql_lent_rows.specs.declared.place.CellPlace.TheVariants as place
-use Rattle.mysql_lent_rows.specs.declared.place.Span.{Span}
 use Rattle.mysql_lent_rows.specs.declared.value_ref.ValueRef.{ValueRef}
 use Rattle.mysql_lent_rows.specs.declared.value_ref.ValueRef.TheVariants as lent
 
@@ -41,10 +40,6 @@ held payload (place.Float bits) = value.Float bits
 held payload (place.Double bits) = value.Double bits
 held payload (place.Date at) = date_of (bytes_read (u8_str_at (drop at payload)))
 held payload (place.Time at) = time_of (bytes_read (u8_str_at (drop at payload)))
-
--- whether bytes lie within so many
-abbrev pub is_within : ℕ → Span → Bool
-is_within len span = nat_le span.start span.end && nat_le span.end len
 
 -- whether the bytes of a cell stand whole in a payload, behind their length
 abbrev pub is_inside : List ℕ → CellPlace → Bool

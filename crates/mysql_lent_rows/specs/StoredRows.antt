@@ -1,13 +1,11 @@
 -- Rows of a result set that are kept, one after another, in lists that all rows share.
 -- MySQL: Client/Server Protocol, "Text Resultset" and "Binary Protocol Resultset"; C API, mysql_store_result().
-use Rattle.std.specs.Prelude.{◌≡◌, ℕ, List, [], ◌∷◌, ◌++◌, length, map, slice_range, true}
-use Rattle.std.specs.List.{list_all}
+use Rattle.std.specs.Prelude.{◌≡◌, ℕ, ◌+◌, ◌*◌, ◌<◌, ◌≤◌, List, [], ◌∷◌, ◌++◌, length, map, get_or, slice_range, true}
+use Rattle.std.specs.List.{list_all, range_with_len}
 use Rattle.mysql_columns.specs.Columns.{ColumnDefinition}
 use Rattle.mysql_rows.specs.Rows.{Row, whole_row}
-use Rattle.mysql_lent_rows.specs.Lent.{held, is_inside, is_within}
+use Rattle.mysql_lent_rows.specs.Lent.{held, is_inside}
 use Rattle.mysql_lent_rows.specs.declared.place.CellPlace.{CellPlace}
-use Rattle.mysql_lent_rows.specs.declared.place.RowPlace.{RowPlace}
-use Rattle.mysql_lent_rows.specs.declared.place.Span.{Span}
 
 -- columns, and rows with a cell for each
 pub record ResultSet : Type 0 where
@@ -26,24 +24,34 @@ under columns row = record { columns = columns; cells = row.cells }
 abbrev pub with_row : ResultSet → Row → ResultSet
 with_row set row = record { columns = set.columns; rows = set.rows ++ under set.columns row ∷ [] }
 
--- what lies at a place of a list
-abbrev pub part_at : {X : Type 0} → List X → Span → List X
-part_at items span = slice_range items span.start span.end
+-- where the payload of the row of this number begins: where the one before it ends
+abbrev pub payload_start : List ℕ → ℕ → ℕ
+payload_start ends index = get_or (0 ∷ ends) index 0
 
--- the row whose payload, and the places of whose cells, lie here
-abbrev pub row_kept : List ColumnDefinition → List ℕ → List CellPlace → RowPlace → Row
-row_kept columns payloads places row = whole_row columns (map (held (part_at payloads row.payload)) (part_at places row.cells))
+-- the payload of the row of this number
+abbrev pub payload_of : List ℕ → List ℕ → ℕ → List ℕ
+payload_of payloads ends index = slice_range payloads (payload_start ends index) (get_or ends index 0)
 
--- where a payload and the places of cells lie once they are appended
-abbrev pub place_behind : List ℕ → List ℕ → List CellPlace → List CellPlace → RowPlace
-place_behind payloads payload places cells = record {
-  payload = record { start = length payloads; end = length (payloads ++ payload) };
-  cells = record { start = length places; end = length (places ++ cells) };
-}
+-- the places of the cells of the row of this number, where each row has so many
+abbrev pub places_of : ℕ → List CellPlace → ℕ → List CellPlace
+places_of count places index = slice_range places (index * count) (index * count + count)
 
--- a row lies within these lists, and so many cells within its payload
-pub record IsKept (count : ℕ) (payloads : List ℕ) (places : List CellPlace) (row : RowPlace) : Type 0 where
-  pub payload : is_within (length payloads) row.payload ≡ true
-  pub cells : is_within (length places) row.cells ≡ true
-  pub inside : list_all (is_inside (part_at payloads row.payload)) (part_at places row.cells) ≡ true
-  pub as_long : length (part_at places row.cells) ≡ count
+-- the row of this number
+abbrev pub row_kept : List ColumnDefinition → List ℕ → List ℕ → List CellPlace → ℕ → Row
+row_kept columns payloads ends places index = whole_row columns (map (held (payload_of payloads ends index)) (places_of (length columns) places index))
+
+-- the rows whose payloads end at these places
+abbrev pub rows_kept : List ColumnDefinition → List ℕ → List ℕ → List CellPlace → List Row
+rows_kept columns payloads ends places = map (row_kept columns payloads ends places) (range_with_len 0 (length ends))
+
+-- the payload of the row of this number lies in these lists, and its cells in the payload
+pub record IsKept (count : ℕ) (payloads ends : List ℕ) (places : List CellPlace) (index : ℕ) : Type 0 where
+  pub starts : payload_start ends index ≤ get_or ends index 0
+  pub within : get_or ends index 0 ≤ length payloads
+  pub inside : list_all (is_inside (payload_of payloads ends index)) (places_of count places index) ≡ true
+
+-- each row lies in these lists, and nothing else does
+pub record AreKept (count : ℕ) (payloads ends : List ℕ) (places : List CellPlace) : Type 0 where
+  pub all_used : payload_start ends (length ends) ≡ length payloads
+  pub as_many : length places ≡ length ends * count
+  pub each : (index : ℕ) → index < length ends → IsKept count payloads ends places index

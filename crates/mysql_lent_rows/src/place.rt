@@ -1,19 +1,12 @@
 //! Cells of a payload by their places.
 
-ghost use Rattle.std.specs.Prelude.{◌≡◌, IsSome, drop, length, slice_range, true};
+ghost use Rattle.std.specs.Prelude.{◌≡◌, IsSome, drop, true};
 ghost use Rattle.mysql_buf.specs.Reading.{lenenc_str_at, u8_str_at};
-ghost use Rattle.mysql_lent_rows.specs.Lent.{bytes_read, held, is_inside, is_within, value_of};
+ghost use Rattle.mysql_lent_rows.specs.Lent.{bytes_read, held, is_inside, value_of};
 
 use crate::cell_values::{date, time};
 use crate::value_ref::ValueRef;
 use mysql_buf::ParseBuf;
-
-/// Bytes of a payload: those from `start` on, before `end`.
-#[derive(Clone, Copy, Debug, PartialEq, Eq)]
-pub struct Span {
-    pub start: usize,
-    pub end: usize,
-}
 
 /// What a cell of a payload holds. Of bytes, a date or a time the place is kept where its length stands, right before it.
 #[derive(Clone, Copy, Debug, PartialEq, Eq)]
@@ -26,23 +19,6 @@ pub enum CellPlace {
     Double(u64),
     Date(usize),
     Time(usize),
-}
-
-/// Where a row lies that is kept: its payload, and the places of its cells.
-#[derive(Clone, Copy, Debug, PartialEq, Eq)]
-pub struct RowPlace {
-    pub payload: Span,
-    pub cells: Span,
-}
-
-/// The bytes of a payload at a place.
-#[inline(always)]
-#[tactic(auto, using(crate::proofs::Tails::within_holds))]
-pub fn bytes_in<'p>(payload: &'p [u8], span: Span) -> &'p [u8]
-    requires { is_within (length payload.now) span ≡ true }
-    ensures { result.now ≡ slice_range payload.now span.start span.end }
-{
-    &payload[span.start..span.end]
 }
 
 /// The bytes at a place of a payload, behind a length of one byte.

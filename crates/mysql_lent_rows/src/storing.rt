@@ -1,56 +1,65 @@
 //! How rows are kept, and lent again.
 
-ghost use Rattle.std.specs.Prelude.{◌≡◌, ◌==◌, ◌++◌, ◌∷◌, [], IfErr, OnErr, OnOk, length, slice_get, true};
+ghost use Rattle.std.specs.Prelude.{◌≡◌, ◌==◌, ◌+◌, ◌*◌, ◌<◌, ◌≤◌, ◌++◌, ◌∷◌, [], OnErr, OnOk, get_or, length, slice_get};
 ghost use Rattle.std.specs.Option.{option_map};
-ghost use Rattle.std.specs.Rc.{rc_slice_items};
 ghost use Rattle.mysql_rows.specs.Views.{column_views, shared_columns};
-ghost use Rattle.mysql_lent_rows.specs.Lent.{is_within};
 ghost use Rattle.mysql_lent_rows.specs.LentRows.{lent_view};
-ghost use Rattle.mysql_lent_rows.specs.StoredRows.{IsKept, no_rows, part_at, place_behind, row_kept, with_row};
+ghost use Rattle.mysql_lent_rows.specs.StoredRows.{AreKept, no_rows, payload_of, payload_start, places_of, row_kept, with_row};
 
-use crate::place::{CellPlace, RowPlace, Span, bytes_in};
+use crate::place::CellPlace;
 use crate::row::LentRow;
 use crate::stored::StoredRows;
 use mysql_columns::Column;
 use std::alloc::{AllocError, Global};
 use std::rc::RcSlice;
 
-/// The places of cells at a place of their list.
+/// Where the payload of the row of this number begins.
 #[inline(always)]
-#[tactic(auto, using(crate::proofs::Tails::within_holds))]
-fn places_in<'r>(places: &'r [CellPlace], span: Span) -> &'r [CellPlace]
-    requires { is_within (length places.now) span ≡ true }
-    ensures { result.now ≡ part_at places.now span }
+fn start_at(ends: &[usize], index: usize) -> usize
+    requires { index ≤ length ends.now }
+    ensures { result ≡ payload_start ends.now index }
 {
-    &places[span.start..span.end]
+    if index == 0 { 0 } else { ends[index - 1] }
 }
 
-/// The row that lies at a place of these lists.
+/// The payload of the row of this number.
 #[inline(always)]
-fn lent_from<'r>(
+fn payload_at<'r>(payloads: &'r [u8], ends: &[usize], index: usize) -> &'r [u8]
+    requires index { index < length ends.now }
+    requires starts { payload_start ends.now index ≤ get_or ends.now index 0 }
+    requires within { get_or ends.now index 0 ≤ length payloads.now }
+    ensures { result.now ≡ payload_of payloads.now ends.now index }
+{
+    &payloads[start_at(ends, index)..ends[index]]
+}
+
+/// The places of the cells of the row of this number, where each row has so many.
+#[inline(always)]
+fn places_at<'r>(count: usize, places: &'r [CellPlace], index: usize) -> &'r [CellPlace]
+    requires { index * count + count ≤ length places.now }
+    ensures { result.now ≡ places_of count places.now index }
+{
+    let start = index * count;
+    &places[start..start + count]
+}
+
+/// The row of this number, lent by these lists.
+#[inline(always)]
+fn lent_at<'r>(
     columns: &'r RcSlice<Column>,
     payloads: &'r [u8],
+    ends: &[usize],
     places: &'r [CellPlace],
-    row: RowPlace,
+    index: usize,
 ) -> LentRow<'r, 'r>
-    requires { IsKept (length (rc_slice_items columns.now)) payloads.now places.now row }
-    ensures { lent_view result ≡ row_kept (shared_columns columns.now) payloads.now places.now row }
+    requires index { index < length ends.now }
+    requires kept { AreKept (length (shared_columns columns.now)) payloads.now ends.now places.now }
+    ensures { lent_view result ≡ row_kept (shared_columns columns.now) payloads.now ends.now places.now index }
 {
     LentRow {
-        payload: bytes_in(payloads, row.payload),
+        payload: payload_at(payloads, ends, index),
         columns,
-        places: places_in(places, row.cells),
-    }
-}
-
-/// Where the row of this number lies, if there is one.
-#[inline(always)]
-fn row_place_at(rows: &[RowPlace], index: usize) -> Option<RowPlace>
-    ensures { result ≡ slice_get rows.now index }
-{
-    match rows.get(index) {
-        Some(row) => Some(*row),
-        None => None,
+        places: places_at(columns.len(), places, index),
     }
 }
 
@@ -60,30 +69,19 @@ fn put_row(
     payload: &[u8],
     cells: &[CellPlace],
     payloads: &mut Vec<u8>,
+    ends: &mut Vec<usize>,
     places: &mut Vec<CellPlace>,
-    rows: &mut Vec<RowPlace>,
 ) -> Result<(), AllocError>
     ensures payloads { OnOk result (payloads.new.items ≡ payloads.old.items ++ payload.now) }
+    ensures ends { OnOk result (ends.new.items ≡ ends.old.items ++ length (payloads.old.items ++ payload.now) ∷ []) }
     ensures places { OnOk result (places.new.items ≡ places.old.items ++ cells.now) }
-    ensures rows { OnOk result (rows.new.items ≡ rows.old.items ++ place_behind payloads.old.items payload.now places.old.items cells.now ∷ []) }
-    ensures err { OnErr result ((payloads.new.items ≡ payloads.old.items) × (places.new.items ≡ places.old.items) × (rows.new.items ≡ rows.old.items)) }
+    ensures err { OnErr result ((payloads.new.items ≡ payloads.old.items) × (ends.new.items ≡ ends.old.items) × (places.new.items ≡ places.old.items)) }
 {
-    rows.reserve(1)?;
+    ends.reserve(1)?;
     places.reserve(cells.len())?;
-    let payload_start = payloads.len();
     payloads.extend_from_slice(payload)?;
-    let cells_start = places.len();
     places.extend_from_slice(cells)?;
-    rows.push_reserved(RowPlace {
-        payload: Span {
-            start: payload_start,
-            end: payloads.len(),
-        },
-        cells: Span {
-            start: cells_start,
-            end: places.len(),
-        },
-    });
+    ends.push_reserved(payloads.len());
     Ok(())
 }
 
@@ -95,8 +93,8 @@ impl StoredRows {
         StoredRows {
             columns,
             payloads: Vec::new(alloc),
+            payload_ends: Vec::new(alloc),
             places: Vec::new(alloc),
-            row_places: Vec::new(alloc),
         }
     }
 
@@ -113,17 +111,18 @@ impl StoredRows {
             row.payload,
             row.places,
             &mut self.payloads,
+            &mut self.payload_ends,
             &mut self.places,
-            &mut self.row_places,
         )
     }
 
     /// How many rows are kept.
     #[inline(always)]
+    #[tactic(auto, using(crate::proofs::KeptRows::rows_len))]
     pub fn len(&self) -> usize
         ensures { result ≡ length self.now.rows }
     {
-        self.row_places.len()
+        self.payload_ends.len()
     }
 
     /// Whether no row is kept.
@@ -131,7 +130,7 @@ impl StoredRows {
     pub fn is_empty(&self) -> bool
         ensures { result ≡ (length self.now.rows == 0) }
     {
-        self.row_places.is_empty()
+        self.payload_ends.is_empty()
     }
 
     /// The columns.
@@ -147,23 +146,25 @@ impl StoredRows {
         ensures { self.new ≡ no_rows self.old.columns }
     {
         self.payloads.clear();
+        self.payload_ends.clear();
         self.places.clear();
-        self.row_places.clear();
     }
 
     /// The row of this number, from 0 on, lent; None where there is no such row. No memory is asked for.
     #[inline(always)]
+    #[tactic(auto, using(crate::proofs::KeptRows::no_row, crate::proofs::KeptRows::row_found))]
     pub fn row(&self, index: usize) -> Option<LentRow<'_, '_>>
         ensures { option_map lent_view result ≡ slice_get self.now.rows index }
     {
-        match row_place_at(self.row_places.as_slice(), index) {
-            Some(row) => Some(lent_from(
-                &self.columns,
-                self.payloads.as_slice(),
-                self.places.as_slice(),
-                row,
-            )),
-            None => None,
+        if index >= self.payload_ends.len() {
+            return None;
         }
+        Some(lent_at(
+            &self.columns,
+            self.payloads.as_slice(),
+            self.payload_ends.as_slice(),
+            self.places.as_slice(),
+            index,
+        ))
     }
 }
