@@ -17,7 +17,8 @@ import (
 	"time"
 )
 
-// What is written is kept in one list, as the other sides keep it, where the workload sends all sets so; else it is let go.
+// What is written is kept in one list, as the other sides keep it, where the workload sends all sets so; else it is let go. The
+// list has room for all from the start.
 type memory struct {
 	net.Conn
 	left    []byte
@@ -48,6 +49,7 @@ func (m *memory) Close() error { return nil }
 const (
 	width = 4
 	rows  = 1e6
+	room  = 128 << 20
 )
 
 func check(err error) {
@@ -121,6 +123,9 @@ func sendText(mc *mysqlConn, query string, set []driver.Value) {
 func send(what, road, query string, all [][]driver.Value, times, rounds int) {
 	measure("go-sql-driver", what, float64(len(all)*times), rounds, func() int {
 		m := &memory{keeps: !strings.HasSuffix(what, "-kept")}
+		if m.keeps {
+			m.list = make([]byte, 0, room)
+		}
 		mc := connected(m)
 		stmt := &mysqlStmt{mc: mc, id: 1, paramCount: width}
 		for t := 0; t < times; t++ {
