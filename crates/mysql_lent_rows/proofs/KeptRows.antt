@@ -42,25 +42,26 @@ same_over f g a (suc n) h =
     rw (here, others) refl
 
 -- the cells of a row, and those before them
-pub cells_within : (count rows index len : ℕ) → len ≡ rows * count → index < rows → index * count + count ≤ len
+cells_within : (count rows index len : ℕ) → len ≡ rows * count → index < rows → index * count + count ≤ len
 cells_within count rows index len e h =
     let all : suc index * count ≤ rows * count = mul-le-mul_right count h in
     omega (arith, e, all, suc-mul index count)
 
+-- where payloads end once one more is appended
+abbrev ends_more : List ℕ → List ℕ → List ℕ → List ℕ
+ends_more payloads payload ends = ends ++ length (payloads ++ payload) ∷ []
+
 module _ (count : ℕ) (payloads payload ends : List ℕ) (places cells : List CellPlace) (kept : AreKept count payloads ends places) where
-  abbrev end : ℕ
-  end = length (payloads ++ payload)
+  start_same : (index : ℕ) → index ≤ length ends → payload_start (ends_more payloads payload ends) index ≡ payload_start ends index
+  start_same index h = get_or-append (0 ∷ ends) (length (payloads ++ payload) ∷ []) 0 index (omega (arith, h))
 
-  start_same : (index : ℕ) → index ≤ length ends → payload_start (ends ++ end ∷ []) index ≡ payload_start ends index
-  start_same index h = get_or-append (0 ∷ ends) (end ∷ []) 0 index (omega (arith, h))
+  end_same : (index : ℕ) → index < length ends → get_or (ends_more payloads payload ends) index 0 ≡ get_or ends index 0
+  end_same index h = get_or-append ends (length (payloads ++ payload) ∷ []) 0 index h
 
-  end_same : (index : ℕ) → index < length ends → get_or (ends ++ end ∷ []) index 0 ≡ get_or ends index 0
-  end_same index h = get_or-append ends (end ∷ []) 0 index h
-
-  payload_same : (index : ℕ) → index < length ends → payload_of (payloads ++ payload) (ends ++ end ∷ []) index ≡ payload_of payloads ends index
+  payload_same : (index : ℕ) → index < length ends → payload_of (payloads ++ payload) (ends_more payloads payload ends) index ≡ payload_of payloads ends index
   payload_same index h =
       let k = kept.each index h in
-      ap (λ a. slice_range (payloads ++ payload) a (get_or (ends ++ end ∷ []) index 0)) (start_same index (omega (arith, h)))
+      ap (λ a. slice_range (payloads ++ payload) a (get_or (ends_more payloads payload ends) index 0)) (start_same index (omega (arith, h)))
       ∙ ap (slice_range (payloads ++ payload) (payload_start ends index)) (end_same index h)
       ∙ part_more payloads payload (payload_start ends index) (get_or ends index 0) k.starts k.within
 
@@ -68,7 +69,7 @@ module _ (count : ℕ) (payloads payload ends : List ℕ) (places cells : List C
   places_same index h = part_more places cells (index * count) (index * count + count) (omega arith) (cells_within count (length ends) index (length places) kept.as_many h)
 
   -- a row that is kept stays kept
-  stays_kept : (index : ℕ) → index < length ends → IsKept count (payloads ++ payload) (ends ++ end ∷ []) (places ++ cells) index
+  stays_kept : (index : ℕ) → index < length ends → IsKept count (payloads ++ payload) (ends_more payloads payload ends) (places ++ cells) index
   stays_kept index h =
       let k = kept.each index h in
       let s = start_same index (omega (arith, h)) in
@@ -81,20 +82,20 @@ module _ (count : ℕ) (payloads payload ends : List ℕ) (places cells : List C
       }
 
   -- the row that was appended
-  start_new : payload_start (ends ++ end ∷ []) (length ends) ≡ length payloads
+  start_new : payload_start (ends_more payloads payload ends) (length ends) ≡ length payloads
   start_new = start_same (length ends) (omega arith) ∙ kept.all_used
 
-  end_new : get_or (ends ++ end ∷ []) (length ends) 0 ≡ end
-  end_new = get_or-append_seam ends end [] 0
+  end_new : get_or (ends_more payloads payload ends) (length ends) 0 ≡ length (payloads ++ payload)
+  end_new = get_or-append_seam ends (length (payloads ++ payload)) [] 0
 
-  payload_new : payload_of (payloads ++ payload) (ends ++ end ∷ []) (length ends) ≡ payload
-  payload_new = part_behind payloads payload (payload_start (ends ++ end ∷ []) (length ends)) (get_or (ends ++ end ∷ []) (length ends) 0) start_new end_new
+  payload_new : payload_of (payloads ++ payload) (ends_more payloads payload ends) (length ends) ≡ payload
+  payload_new = part_behind payloads payload (payload_start (ends_more payloads payload ends) (length ends)) (get_or (ends_more payloads payload ends) (length ends) 0) start_new end_new
 
   places_new : length cells ≡ count → places_of count (places ++ cells) (length ends) ≡ cells
   places_new as_long =
       part_behind places cells (length ends * count) (length ends * count + count) (sym kept.as_many) (omega (arith, kept.as_many, as_long, length-append places cells))
 
-  new_kept : list_all (is_inside payload) cells ≡ true → length cells ≡ count → IsKept count (payloads ++ payload) (ends ++ end ∷ []) (places ++ cells) (length ends)
+  new_kept : list_all (is_inside payload) cells ≡ true → length cells ≡ count → IsKept count (payloads ++ payload) (ends_more payloads payload ends) (places ++ cells) (length ends)
   new_kept inside as_long = record {
     starts = omega (arith, start_new, end_new, length-append payloads payload);
     within = omega (arith, end_new);
@@ -102,29 +103,26 @@ module _ (count : ℕ) (payloads payload ends : List ℕ) (places cells : List C
         ∙ ap (list_all (is_inside payload)) (places_new as_long) ∙ inside;
   }
 
-  pub all_kept : list_all (is_inside payload) cells ≡ true → length cells ≡ count → AreKept count (payloads ++ payload) (ends ++ end ∷ []) (places ++ cells)
+  pub all_kept : list_all (is_inside payload) cells ≡ true → length cells ≡ count → AreKept count (payloads ++ payload) (ends_more payloads payload ends) (places ++ cells)
   all_kept inside as_long =
-      let n : length (ends ++ end ∷ []) ≡ suc (length ends) = omega (arith, length-append ends (end ∷ [])) in
+      let n : length (ends_more payloads payload ends) ≡ suc (length ends) = omega (arith, length-append ends (length (payloads ++ payload) ∷ [])) in
       record {
-        all_used = ap (payload_start (ends ++ end ∷ [])) n ∙ end_new;
+        all_used = ap (payload_start (ends_more payloads payload ends)) n ∙ end_new;
         as_many = length-append places cells ∙ (omega (arith, kept.as_many, as_long, suc-mul (length ends) count) ∙ ap (λ k. k * count) (sym n));
         each = λ index h. elim (cases_lt index (length ends)) [
           | inl lt ↦ stays_kept index lt
           | inr ge ↦
               let is : length ends ≡ index = omega (arith, h, ge, n) in
-              subst (λ (k : ℕ). IsKept count (payloads ++ payload) (ends ++ end ∷ []) (places ++ cells) k) is (new_kept inside as_long)
+              subst (λ (k : ℕ). IsKept count (payloads ++ payload) (ends_more payloads payload ends) (places ++ cells) k) is (new_kept inside as_long)
         ];
       }
 
 module _ (columns : List ColumnDefinition) (payloads payload ends : List ℕ) (places cells : List CellPlace) (kept : AreKept (length columns) payloads ends places) where
-  abbrev end_of : ℕ
-  end_of = length (payloads ++ payload)
-
   -- the rows that were kept, and the one that was appended
-  pub rows_more : length cells ≡ length columns → rows_kept columns (payloads ++ payload) (ends ++ end_of ∷ []) (places ++ cells) ≡ rows_kept columns payloads ends places ++ whole_row columns (map (held payload) cells) ∷ []
+  pub rows_more : length cells ≡ length columns → rows_kept columns (payloads ++ payload) (ends_more payloads payload ends) (places ++ cells) ≡ rows_kept columns payloads ends places ++ whole_row columns (map (held payload) cells) ∷ []
   rows_more as_long =
-      let row = row_kept columns (payloads ++ payload) (ends ++ end_of ∷ []) (places ++ cells) in
-      let n : length (ends ++ end_of ∷ []) ≡ length ends + 1 = omega (arith, length-append ends (end_of ∷ [])) in
+      let row = row_kept columns (payloads ++ payload) (ends_more payloads payload ends) (places ++ cells) in
+      let n : length (ends_more payloads payload ends) ≡ length ends + 1 = omega (arith, length-append ends (length (payloads ++ payload) ∷ [])) in
       let same : map row (range_with_len 0 (length ends)) ≡ rows_kept columns payloads ends places =
       same_over row (row_kept columns payloads ends places) 0 (length ends) (λ k below.
       let lt : k < length ends = omega (arith, below) in
@@ -138,13 +136,13 @@ module _ (columns : List ColumnDefinition) (payloads payload ends : List ℕ) (p
 
   -- the same after an attempt that may have been refused
   module _ {T E : Type 0} (payloads_after ends_after : List ℕ) (places_after : List CellPlace) (as_long : length cells ≡ length columns) where
-    pub kept_after : (r : Result T E) → OnOk r (payloads_after ≡ payloads ++ payload) → OnOk r (ends_after ≡ ends ++ end_of ∷ []) → OnOk r (places_after ≡ places ++ cells)
+    pub kept_after : (r : Result T E) → OnOk r (payloads_after ≡ payloads ++ payload) → OnOk r (ends_after ≡ ends_more payloads payload ends) → OnOk r (places_after ≡ places ++ cells)
         → OnErr r ((payloads_after ≡ payloads) × (ends_after ≡ ends) × (places_after ≡ places)) → list_all (is_inside payload) cells ≡ true
         → AreKept (length columns) payloads_after ends_after places_after
     kept_after (Ok x) p n c e inside = rw (p, n, c) (all_kept (length columns) payloads payload ends places cells kept inside as_long)
     kept_after (Err x) p n c e inside = rw (e.0, e.1, e.2) kept
 
-    pub set_after : (r : Result T E) → OnOk r (payloads_after ≡ payloads ++ payload) → OnOk r (ends_after ≡ ends ++ end_of ∷ []) → OnOk r (places_after ≡ places ++ cells)
+    pub set_after : (r : Result T E) → OnOk r (payloads_after ≡ payloads ++ payload) → OnOk r (ends_after ≡ ends_more payloads payload ends) → OnOk r (places_after ≡ places ++ cells)
         → OnOk r (set_of columns (rows_kept columns payloads_after ends_after places_after) ≡ set_of columns (rows_kept columns payloads ends places ++ whole_row columns (map (held payload) cells) ∷ []))
     set_after (Ok x) p n c = rw (p, n, c) (ap (set_of columns) (rows_more as_long))
     set_after (Err x) p n c = tt
