@@ -1,6 +1,6 @@
 //! Cells of the binary protocol, and what they mean.
 
-ghost use Rattle.std.specs.Prelude.{◌≡◌};
+ghost use Rattle.std.specs.Prelude.{◌≡◌, Bool};
 ghost use Rattle.mysql_values.specs.Cells.{cell_at, is_float as is_float_type};
 ghost use Rattle.mysql_commands.specs.Reading.{content_at, or_cell_fault};
 ghost use Rattle.mysql_commands.specs.Views.{Gives};
@@ -70,10 +70,9 @@ fn number_content(
 fn text_content(
     alloc: Global,
     short: StreamFault,
-    unsigned: bool,
     bytes: &[u8],
 ) -> Result<(Content, &[u8]), Refusal>
-    ensures { Gives (λ x. (x.0, x.1.now)) result (content_at short (record { number = 253; unsigned = unsigned }) bytes.now) }
+    ensures { (unsigned : Bool) → Gives (λ x. (x.0, x.1.now)) result (content_at short (record { number = 253; unsigned = unsigned }) bytes.now) }
 {
     let mut buf = ParseBuf(bytes);
     let Some(held) = buf.checked_eat_lenenc_str() else {
@@ -115,7 +114,7 @@ pub fn cell_content(
 {
     match kind.number {
         LONGLONG => number_content(short, kind.unsigned, bytes),
-        VAR_STRING => text_content(alloc, short, kind.unsigned, bytes),
+        VAR_STRING => text_content(alloc, short, bytes),
         _ => any_content(alloc, short, kind, bytes),
     }
 }
