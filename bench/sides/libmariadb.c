@@ -67,15 +67,16 @@ static void put_form(char *to, Bytes query) {
     *to = 0;
 }
 
-// Escapes the texts and prints the query, as C programs do.
-static size_t send_text(MYSQL *mysql, Bytes query, const Value *all, Work work) {
+// Escapes the texts and prints the query, as C programs do. All queries into one buffer, or each into a buffer that is emptied before (`apart`).
+static size_t send_text(MYSQL *mysql, Bytes query, const Value *all, Work work, _Bool apart) {
     static char form[16384], age[32], name[2048], note[2048], command[32768];
     Out out = {0};
     put_form(form, query);
     command[0] = 3;
     size_t written = 0;
     for (size_t i = 0; i < work.count * work.times; i++) {
-        if (i % work.count == 0) out.len = 0;
+        if (i % work.count == 0) written = out.len = 0;
+        if (apart) written += out.len, out.len = 0;
         const Value *value = all + i % work.count * WIDTH;
         mysql_real_escape_string(mysql, name, (char *)value[1].at, value[1].len);
         mysql_real_escape_string(mysql, note, (char *)value[2].at, value[2].len);
@@ -83,9 +84,8 @@ static size_t send_text(MYSQL *mysql, Bytes query, const Value *all, Work work) 
         int len = snprintf(command + 1, sizeof command - 1, form, (long long)value[0].number, name, note, age);
         put_packet(&out, command, len + 1);
     }
-    written = out.len;
     free(out.at);
-    return written;
+    return written + out.len;
 }
 
 static MYSQL_STMT *prepared(MYSQL *mysql) {
@@ -107,7 +107,7 @@ static void bind_value(MYSQL_BIND *bind, Value *value) {
     bind->is_null = &bind->is_null_value, bind->is_null_value = value->kind == NOTHING;
 }
 
-// All executions into one buffer, or each into a buffer that is emptied before (`apart`).
+// The same of executions.
 static size_t send_execute(MYSQL *mysql, Value *all, Work work, _Bool apart) {
     MYSQL_STMT *statement = prepared(mysql);
     Out out = {0};
@@ -153,7 +153,7 @@ static void run(MYSQL *mysql, const char *what, int rounds) {
         Value *all = load_values(work.sets, work.count * WIDTH);
         double units = (double)work.count * work.times;
         if (strcmp(work.road, "text") == 0) {
-            MEASURE("libmariadb", units, send_text(mysql, query, all, work))
+            MEASURE("libmariadb", units, send_text(mysql, query, all, work, ENDS("-kept")))
         } else {
             MEASURE("libmariadb", units, send_execute(mysql, all, work, ENDS("-kept")))
         }
