@@ -4,6 +4,7 @@ ghost use Rattle.std.specs.Prelude.{◌≡◌, ℕ, ◌+◌, ◌/◌, ◌<◌, �
 ghost use Rattle.std.specs.Option.{option_map};
 ghost use Rattle.mysql_commands.specs.Layout.{type_at, types_at, id_at, piece_at, binding_at, execute_head, bulk_head};
 ghost use Rattle.mysql_commands.specs.Query.{place_count};
+ghost use Rattle.mysql_commands.specs.declared.fault.StreamFault.{StreamFault};
 ghost use Rattle.mysql_commands.specs.Views.{Gives, statement_view, execute_head_of, bulk_head_of, piece_of, types_carried, types_kept, some_types};
 
 use crate::fault::StreamFault;
@@ -74,8 +75,8 @@ pub fn types(
 
 /// What follows the pair of a type in force, where the bytes begin with it.
 #[inline(always)]
-fn behind_pair<'a>(short: StreamFault, kept: ParamType, bytes: &'a [u8]) -> Option<&'a [u8]>
-    ensures { IfSome result (λ rest. type_at short bytes.now ≡ Ok (kept, rest.now)) }
+fn behind_pair(kept: ParamType, bytes: &[u8]) -> Option<&[u8]>
+    ensures { IfSome result (λ rest. (short : StreamFault) → type_at short bytes.now ≡ Ok (kept, rest.now)) }
 {
     let mut buf = ParseBuf(bytes);
     let number = buf.checked_eat_u8()?;
@@ -90,12 +91,12 @@ fn behind_pair<'a>(short: StreamFault, kept: ParamType, bytes: &'a [u8]) -> Opti
 }
 
 /// What follows the pairs of the types in force, where the bytes begin with them.
-fn behind_kept<'a>(short: StreamFault, kept: &[ParamType], bytes: &'a [u8]) -> Option<&'a [u8]>
-    ensures { IfSome result (λ rest. types_at short (length kept.now) bytes.now ≡ Ok (kept.now, rest.now)) }
+fn behind_kept<'a>(kept: &[ParamType], bytes: &'a [u8]) -> Option<&'a [u8]>
+    ensures { IfSome result (λ rest. (short : StreamFault) → types_at short (length kept.now) bytes.now ≡ Ok (kept.now, rest.now)) }
 {
     let mut rest = bytes;
     for kind in kept {
-        rest = behind_pair(short, *kind, rest)?;
+        rest = behind_pair(*kind, rest)?;
     }
     Some(rest)
 }
@@ -112,7 +113,7 @@ fn own_types<'a>(
 {
     if let Some(kept) = kept {
         if kept.len() == count {
-            if let Some(rest) = behind_kept(short, kept, bytes) {
+            if let Some(rest) = behind_kept(kept, bytes) {
                 return Ok((OwnTypes::Kept, rest));
             }
         }
