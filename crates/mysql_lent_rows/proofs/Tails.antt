@@ -106,6 +106,10 @@ by_one_byte b bs h =
     let n : little_number 1 (b ∷ bs) ≡ b = omega arith in
     rw (small, one, n) refl
 
+pub one_byte : (bytes : List ℕ) → 0 < length bytes → get_or bytes 0 0 < 251 → lenenc_str_at bytes ≡ u8_str_at bytes
+one_byte [] some h = absurd (omega (arith, some))
+one_byte (b ∷ bs) some h = by_one_byte b bs h
+
 pub short_lenenc : (payload : List ℕ) (at : ℕ) → IsSome (lenenc_str_at (drop at payload)) → get_or payload at 0 < 251 → lenenc_str_at (drop at payload) ≡ u8_str_at (drop at payload)
 short_lenenc payload at some h =
     let within : at < length payload = read_within lenenc_str_at payload at refl some in

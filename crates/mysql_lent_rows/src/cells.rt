@@ -1,6 +1,6 @@
 //! Cells that are read where they lie.
 
-ghost use Rattle.std.specs.Prelude.{◌≡◌, ◌≢◌, Err, IfNone, IfOk, IfSome, IsSome, None, Ok, Some, drop, true};
+ghost use Rattle.std.specs.Prelude.{◌≡◌, ◌≢◌, ◌<◌, Err, IfNone, IfOk, IfSome, IsSome, None, Ok, Some, drop, get_or, length, true};
 ghost use Rattle.mysql_buf.specs.Reading.{lenenc_str_at, u8_str_at};
 ghost use Rattle.mysql_raw.specs.Wire.{TellsPart, or_end};
 ghost use Rattle.mysql_raw.specs.WireError.TheVariants as wire;
@@ -38,6 +38,22 @@ fn short_place(payload: &[u8], rest: &mut ParseBuf) -> Option<usize>
     ensures some { IfSome result (λ at. u8_str_at rest.old.0.now ≡ Some (bytes_read (u8_str_at (drop at payload.now)), rest.new.0.now)) }
     ensures inside { IfSome result (λ at. IsSome (u8_str_at (drop at payload.now))) }
     ensures none { result ≡ None → u8_str_at rest.old.0.now ≡ None }
+{
+    let at = payload.len() - rest.len();
+    rest.checked_eat_u8_str()?;
+    Some(at)
+}
+
+/// The place of the length-encoded bytes that stand first, whose length has one byte, as most have.
+#[inline(always)]
+#[tactic(auto, using(crate::proofs::Tails::one_byte))]
+fn one_byte_place(payload: &[u8], rest: &mut ParseBuf) -> Option<usize>
+    requires tail { IsTail payload.now rest.old.0.now }
+    requires some { 0 < length rest.old.0.now }
+    requires one_byte { get_or rest.old.0.now 0 0 < 251 }
+    ensures some { IfSome result (λ at. lenenc_str_at rest.old.0.now ≡ Some (bytes_read (lenenc_str_at (drop at payload.now)), rest.new.0.now)) }
+    ensures inside { IfSome result (λ at. IsSome (lenenc_str_at (drop at payload.now))) }
+    ensures none { result ≡ None → lenenc_str_at rest.old.0.now ≡ None }
 {
     let at = payload.len() - rest.len();
     rest.checked_eat_u8_str()?;
@@ -111,6 +127,10 @@ pub fn text_place(payload: &[u8], rest: &mut ParseBuf) -> Result<CellPlace, Wire
 {
     match rest.0 {
         [] => Err(WireError::UnexpectedEof),
+        [first, ..] if *first < 251 => match one_byte_place(payload, rest) {
+            Some(at) => Ok(CellPlace::Bytes(at)),
+            None => Err(WireError::UnexpectedEof),
+        },
         [251, behind @ ..] => {
             *rest = ParseBuf(behind);
             Ok(CellPlace::Null)
