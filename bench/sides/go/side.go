@@ -1,6 +1,6 @@
 package mysql
 
-// The same work by go-sql-driver, over a connection that reads from memory and writes into a list, or nowhere: INPUTS ROUNDS WORKLOAD..
+// The same work by go-sql-driver, over a connection that reads from memory and writes nowhere: INPUTS ROUNDS WORKLOAD..
 // This file is compiled inside a copy of the driver's package, since what it calls is internal.
 
 import (
@@ -17,14 +17,10 @@ import (
 	"time"
 )
 
-// What is written is kept in one list, as the other sides keep it, where the workload sends all sets so; else it is let go. The
-// list has room for all from the start.
 type memory struct {
 	net.Conn
 	left    []byte
 	written int
-	keeps   bool
-	list    []byte
 }
 
 func (m *memory) Read(to []byte) (int, error) {
@@ -36,20 +32,12 @@ func (m *memory) Read(to []byte) (int, error) {
 	return n, nil
 }
 
-func (m *memory) Write(b []byte) (int, error) {
-	m.written += len(b)
-	if m.keeps {
-		m.list = append(m.list, b...)
-	}
-	return len(b), nil
-}
-
-func (m *memory) Close() error { return nil }
+func (m *memory) Write(b []byte) (int, error) { m.written += len(b); return len(b), nil }
+func (m *memory) Close() error                { return nil }
 
 const (
 	width = 4
 	rows  = 1e6
-	room  = 128 << 20
 )
 
 func check(err error) {
@@ -122,14 +110,11 @@ func sendText(mc *mysqlConn, query string, set []driver.Value) {
 
 func send(what, road, query string, all [][]driver.Value, times, rounds int) {
 	measure("go-sql-driver", what, float64(len(all)*times), rounds, func() int {
-		m := &memory{keeps: !strings.HasSuffix(what, "-kept")}
-		if m.keeps {
-			m.list = make([]byte, 0, room)
-		}
+		m := &memory{}
 		mc := connected(m)
 		stmt := &mysqlStmt{mc: mc, id: 1, paramCount: width}
 		for t := 0; t < times; t++ {
-			m.written, m.list = 0, m.list[:0]
+			m.written = 0
 			for _, set := range all {
 				if road == "execute" {
 					check(stmt.writeExecutePacket(set))
