@@ -302,9 +302,16 @@ fn put_listed_set<'a>(
     )
 }
 
-/// Appends the execution of one set: of a list as it lies; any other set's values are listed in place of what the list holds.
+/// Appends the execution of the set of this number, framed and numbered from 0, to what stands: of a list as it lies; any other
+/// set's values are listed in place of what `values` holds. Payloads have at most `room` bytes. The lists `values` and `command`
+/// keep their room from set to set. After a refusal what stood before stands in front of `out`.
+///
+/// # Errors
+/// `Params`, `WrongCount`, `Float`, `PacketTooLarge`; `Memory` where a growth was refused.
+///
+/// MySQL: Client/Server Protocol, "COM_STMT_SEND_LONG_DATA", "COM_STMT_EXECUTE".
 #[inline(always)]
-pub(crate) fn put_set<'a>(
+pub fn put_set<'a>(
     statement: &Statement<'_>,
     set: usize,
     params: &'a Params,

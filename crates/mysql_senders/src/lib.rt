@@ -9,7 +9,7 @@ mod text_queries;
 
 pub use executions::{
     packet_header, put_executions, put_executions_of_values, put_executions_over,
-    put_more_executions,
+    put_more_executions, put_set,
 };
 pub use made_sets::{SetMaker, put_made_executions, put_made_queries};
-pub use text_queries::{put_queries, put_queries_over};
+pub use text_queries::{check_places, put_queries, put_queries_over, put_query};

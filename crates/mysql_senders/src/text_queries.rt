@@ -25,7 +25,12 @@ use std::alloc::Global;
 use std::borrow::CowSlice;
 
 /// Whether a text query can carry literals in these placeholders.
-fn check_places(places: &[Place]) -> Result<(), Refusal>
+///
+/// # Errors
+/// `Mixed`, then `NotAlone` with the first such placeholder.
+///
+/// MySQL Reference Manual, "PREPARE Statement" (parameter markers).
+pub fn check_places(places: &[Place]) -> Result<(), Refusal>
     ensures ok { OnOk result (places_cause places.now ≡ None) }
     ensures one_kind { OnOk result (has_both_kinds places.now ≡ false) }
     ensures alone { OnOk result (first_apart places.now ≡ None) }
@@ -103,9 +108,15 @@ fn frame_in_place(start: usize, command: &mut Vec<u8>, out: &mut Vec<u8>) -> Res
     Ok(())
 }
 
-/// Appends the text query of one set, over what is found of the query once: its placeholders and the names among them. It is
-/// written behind room for its header. The lists `values` and `command` keep their room from set to set.
-pub(crate) fn put_query<'a>(
+/// Appends the text query of the set of this number, framed and numbered from 0, over what is found of the query once: its
+/// placeholders and the names among them. It is written behind room for its header. A payload has at most `limit - 4` bytes. The
+/// lists `values` and `command` keep their room from set to set.
+///
+/// # Errors
+/// `Params`, `WrongCount`, `Float`, `PacketTooLarge`; `Memory` where a growth was refused. `out` is then as it was.
+///
+/// MySQL: Client/Server Protocol, "COM_QUERY".
+pub fn put_query<'a>(
     query: &[u8],
     places: &[Place],
     names: &[CowSlice<'_, u8>],

@@ -26,6 +26,7 @@ pub use mysql_replies::{
 };
 pub use mysql_reply_writer::{ReplyRefusal, ReplyWriter, write_reply};
 pub use mysql_rows::{ColumnIndex, Row};
+pub use mysql_set_writer::SendToError;
 pub use mysql_streams::{Refusal, Road};
 pub use mysql_values::{
     BindError, ByteString, Content, MissingNamedParameterError, Params, ParamsConfusionError,

@@ -12,6 +12,9 @@ ghost use Rattle.mysql_commands.specs.GoingOn.{fresh_receiver};
 ghost use Rattle.mysql_commands.specs.Received.{receiver_state};
 ghost use Rattle.mysql_session.specs.Delivery.{Delivers};
 ghost use Rattle.mysql_session.specs.Kept.{AppendsFurther, RefusesFurther};
+ghost use Rattle.mysql_session.specs.Handing.{DeliversTo, StopsSending};
+ghost use Rattle.mysql_set_writer.specs.Writing.{Writes};
+ghost use Rattle.mysql_streams.specs.declared.road.Road.TheVariants as roads;
 ghost use Rattle.mysql_streams.specs.Reading.{SentReadable};
 ghost use Rattle.mysql_streams.specs.Sending.{RefusesGiven};
 ghost use Rattle.mysql_streams.specs.Sets.{all_given};
@@ -23,11 +26,13 @@ use mysql_bulk_sender::put_requests_over;
 use mysql_commands::Receiver;
 use mysql_senders::statement::{Statement, check_count, statement_over};
 use mysql_senders::{put_executions_over, put_more_executions, put_queries_over};
+use mysql_set_writer::{SendToError, hand_on, write_executions_over, write_queries_over};
 use mysql_streams::{Refusal, Road};
 use mysql_values::bind::bind_text_over;
 use mysql_values::laws::{pieces_of_a_query, tokens_of_a_text};
 use mysql_values::{BindError, Params, Place, Value, first_not_alone, places};
 use std::alloc::{AllocError, Global};
+use std::io::Write;
 use std::marker::Model;
 
 /// The text of a query and the id of its statement, with what [`send`](crate::send), [`Receiver::new`] and `bind_text` find of
@@ -195,6 +200,85 @@ impl<'q> Query<'q> {
             out.truncate(stood);
         }
         sent
+    }
+
+    /// Sends sets by bulk to a writer.
+    fn send_requests_to<W: Write>(
+        &self,
+        alloc: Global,
+        sets: &[Params],
+        limit: usize,
+        to: &mut W,
+    ) -> Result<(), SendToError>
+        requires { 4 ≤ limit }
+        ensures written { OnOk result (Writes roads.Bulk self.now.text (all_given sets.now) self.now.id limit (W.contents to.old) (W.contents to.new)) }
+        ensures stopped { IfErr result (StopsSending roads.Bulk self.now.text sets.now self.now.id limit (W.contents to.old) (W.contents to.new)) }
+    {
+        let mut requests = Vec::new(alloc);
+        match put_requests_over(alloc, &self.statement, sets, None, limit, &mut requests) {
+            Ok(()) => Ok(hand_on(&mut requests, to)?),
+            Err(refusal) => Err(SendToError::Refused(refusal, 0)),
+        }
+    }
+
+    /// Sends sets to a writer by the calls over what was found.
+    fn send_sets_to<W: Write>(
+        &self,
+        alloc: Global,
+        sets: &[Params],
+        road: Road,
+        limit: usize,
+        to: &mut W,
+    ) -> Result<(), SendToError>
+        requires { 4 ≤ limit }
+        ensures written { OnOk result (Writes road self.now.text (all_given sets.now) self.now.id limit (W.contents to.old) (W.contents to.new)) }
+        ensures stopped { IfErr result (StopsSending road self.now.text sets.now self.now.id limit (W.contents to.old) (W.contents to.new)) }
+    {
+        pieces_of_a_query();
+        match road {
+            Road::Text => write_queries_over(
+                alloc,
+                self.text,
+                &self.places,
+                self.statement.parsed.params(),
+                sets,
+                limit,
+                to,
+            ),
+            Road::Execute => write_executions_over(alloc, &self.statement, sets, limit, to),
+            Road::Bulk => self.send_requests_to(alloc, sets, limit, to),
+        }
+    }
+
+    /// Writes to `to`, as to a connection, what [`Query::send`] appends of sets of this text and id, by the same road within the same
+    /// limit: by text and execute some packets at a time, as soon as they have 8192 bytes together, so that no more than these and one
+    /// set's packets are held, whichever sets there are; by bulk all requests together, since what speaks against any set comes
+    /// before the first of them. The writer is asked again where it was interrupted; it isn't flushed.
+    ///
+    /// # Errors
+    /// [`SendToError::Refused`] with what [`Query::send`] is refused for, and how many sets were written before: by text `NotAlone`
+    /// and by execute `TooManyPlaces` and `PrepareTooLarge`, before anything is written; at a set by `Params`, `WrongCount`, `Float`,
+    /// `PacketTooLarge`, or `Memory` where a growth was refused, when all sets before it are written, each whole; by bulk each
+    /// refusal before anything is written. [`SendToError::Io`] where the writer fails: it has taken a front of what carries the
+    /// first sets, of which a receiver reads those that stand whole in it.
+    ///
+    /// (MySQL: Client/Server Protocol, "COM_QUERY", "COM_STMT_PREPARE", "COM_STMT_SEND_LONG_DATA", "COM_STMT_EXECUTE"; MariaDB:
+    /// Client/Server Protocol, "COM_STMT_BULK_EXECUTE".)
+    pub fn send_to<W: Write>(
+        &self,
+        alloc: Global,
+        sets: &[Params],
+        road: Road,
+        limit: usize,
+        to: &mut W,
+    ) -> Result<(), SendToError>
+        requires { 4 ≤ limit }
+        ensures delivered { OnOk result (DeliversTo road self.now.text (all_given sets.now) self.now.id limit (W.contents to.old) (W.contents to.new)) }
+        ensures stopped { IfErr result (StopsSending road self.now.text sets.now self.now.id limit (W.contents to.old) (W.contents to.new)) }
+    {
+        readable_sets_are_delivered();
+        let _id = self.statement.id;
+        self.send_sets_to(alloc, sets, road, limit, to)
     }
 
     /// A receiver of a stream of commands about this query, as [`Receiver::new`] makes it of this text and id, with its limit.
