@@ -1,1 +1,5 @@
-
+pub mod Stands
+pub mod OneMore
+pub mod Stopping
+pub mod Executions
+pub mod Queries

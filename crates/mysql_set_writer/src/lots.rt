@@ -16,6 +16,7 @@ const LOT_LEN: usize = 8192;
 fn write_bytes<W: Write>(bytes: &[u8], to: &mut W) -> io::Result<()>
     ensures ok { OnOk result (Appends (W.contents to.old) (W.contents to.new) bytes.now) }
     ensures err { OnErr result (TakesFront (W.contents to.old) (W.contents to.new) bytes.now) }
+    ensures bytes { AreBytes bytes.now }
 {
     let mut rest = bytes;
     'writes: for _ in 0..u64::MAX {

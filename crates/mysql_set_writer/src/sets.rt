@@ -1,9 +1,11 @@
 //! Parameter sets written as text queries and as executions.
 
 ghost use Rattle.std.specs.Cow.{cow_slice_items};
-ghost use Rattle.std.specs.Prelude.{◌≡◌, ◌≤◌, ℕ, IfErr, List, OnOk, map};
+ghost use Rattle.std.specs.Prelude.{◌≡◌, ◌≤◌, ℕ, [], IfErr, List, OnOk, map};
 ghost use Rattle.mysql_values.specs.Parsed.{names_at};
 ghost use Rattle.mysql_values.specs.Queries.{HasPlaces};
+ghost use Rattle.mysql_streams.specs.Reading.{SentReadable};
+ghost use Rattle.mysql_streams.specs.Sending.{RefusesGiven};
 ghost use Rattle.mysql_streams.specs.Sets.{all_given};
 ghost use Rattle.mysql_streams.specs.declared.road.Road.TheVariants as roads;
 ghost use Rattle.mysql_senders.specs.OneSet.{IsStatement};
@@ -11,8 +13,9 @@ ghost use Rattle.mysql_set_writer.specs.Writing.{Stops, Writes};
 
 use crate::SendToError;
 use crate::lots::{hand_on, hand_on_set};
-use mysql_senders::statement::Statement;
+use mysql_senders::statement::{Statement, check_count};
 use mysql_senders::{check_places, put_executions_over, put_query, put_set};
+use mysql_streams::Refusal;
 use mysql_values::laws::tokens_of_a_text;
 use mysql_values::{Params, Place};
 use std::alloc::Global;
@@ -23,7 +26,7 @@ use std::io::Write;
 /// some at a time. The writer isn't flushed.
 ///
 /// # Errors
-/// `Refused` with the first cause that holds, in the order of [`Refusal`](mysql_streams::Refusal): `NotAlone`, before anything is
+/// `Refused` with the first cause that holds, in the order of [`Refusal`]: `NotAlone`, before anything is
 /// written; set by set `Params`, `WrongCount`, `Float`, `PacketTooLarge`, and `Memory` where a growth was refused, when all sets
 /// before that one are written. `Io` where the writer fails.
 ///
@@ -68,11 +71,27 @@ pub fn write_queries_over<W: Write>(
     Ok(())
 }
 
+/// Appends what stands before the executions of a statement: its prepare. Refuses `TooManyPlaces`, `PrepareTooLarge`.
+fn put_front(
+    alloc: Global,
+    statement: &Statement<'_>,
+    limit: usize,
+    out: &mut Vec<u8>,
+) -> Result<(), Refusal>
+    requires { 4 ≤ limit }
+    ensures few { OnOk result (statement.now.places ≤ 65535) }
+    ensures ok { OnOk result ((query : List ℕ) → IsStatement query statement.now.parsed statement.now.places → SentReadable roads.Execute query (all_given []) statement.now.id limit out.old.items out.new.items) }
+    ensures err { IfErr result (λ refusal. (query : List ℕ) → IsStatement query statement.now.parsed statement.now.places → RefusesGiven roads.Execute query (all_given []) statement.now.id limit refusal) }
+{
+    check_count(statement.places)?;
+    put_executions_over(alloc, statement, &[], limit, out)
+}
+
 /// Writes the commands that carry parameter sets of a query as executions of its statement, as
 /// `mysql_senders::put_executions_over` appends them, some at a time. The writer isn't flushed.
 ///
 /// # Errors
-/// `Refused` with the first cause that holds, in the order of [`Refusal`](mysql_streams::Refusal): `TooManyPlaces`,
+/// `Refused` with the first cause that holds, in the order of [`Refusal`]: `TooManyPlaces`,
 /// `PrepareTooLarge`, before anything is written; set by set `Params`, `WrongCount`, `Float`, `PacketTooLarge`, and `Memory` where a
 /// growth was refused, when the prepare and all sets before that one are written. `Io` where the writer fails.
 ///
@@ -91,7 +110,7 @@ pub fn write_executions_over<W: Write>(
 {
     tokens_of_a_text();
     let (mut lot, mut values, mut command) = (Vec::new(alloc), Vec::new(alloc), Vec::new(alloc));
-    if let Err(refusal) = put_executions_over(alloc, statement, &[], limit, &mut lot) {
+    if let Err(refusal) = put_front(alloc, statement, limit, &mut lot) {
         return Err(SendToError::Refused(refusal, 0));
     }
     let room = limit - 4;
