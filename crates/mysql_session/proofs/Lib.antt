@@ -1,3 +1,4 @@
 pub mod OnAnswers
 pub mod ObjectSets
 pub mod Deliveries
+pub mod Handing
