@@ -215,6 +215,48 @@ static size_t send_execute_kept(const Value *all, size_t count, size_t times) {
     return written / times;
 }
 
+// All sets to a writer: packets are gathered in one buffer, which is handed on once it has so many bytes.
+
+enum { LOT = 8192 };
+
+// The writer counts the bytes and keeps none.
+__attribute__((noinline)) static void hand_on(Out *out, size_t *written) {
+    __asm__ volatile("" : : "r"(out->at) : "memory");
+    *written += out->len, out->len = 0;
+}
+
+static size_t send_text_to(Bytes query, const Value *all, size_t count, size_t times) {
+    Out command = {0}, out = {0};
+    size_t written = 0;
+    Marks marks = marks_of(query);
+    for (size_t t = 0; t < times; t++) {
+        written = 0;
+        for (size_t i = 0; i < count; i++) {
+            put_query(&out, &command, query, &marks, all + i * WIDTH);
+            if (out.len >= LOT) hand_on(&out, &written);
+        }
+        hand_on(&out, &written);
+    }
+    free(command.at), free(out.at);
+    return written;
+}
+
+static size_t send_execute_to(Bytes query, const Value *all, size_t count, size_t times) {
+    Out command = {0}, out = {0};
+    size_t written = 0;
+    for (size_t t = 0; t < times; t++) {
+        written = 0;
+        put_prepare(&out, &command, query);
+        for (size_t i = 0; i < count; i++) {
+            put_execution(&out, &command, all + i * WIDTH);
+            if (out.len >= LOT) hand_on(&out, &written);
+        }
+        hand_on(&out, &written);
+    }
+    free(command.at), free(out.at);
+    return written;
+}
+
 // The types of the columns: of each the first value's that isn't NULL. All sets make one request here.
 static void put_request(Out *out, Out *command, const Value *all, size_t count) {
     Byte types[2 * WIDTH] = {0};
@@ -557,6 +599,10 @@ static void send_sets(const char *what, Work work, int rounds) {
     double units = (double)work.count * work.times;
     if (IS("send-text-apart") || IS("send-text-kept")) {
         MEASURE("hand-c", units, send_apart(query, all, work.count, work.times, ENDS("-kept")))
+    } else if (ENDS("-to") && strcmp(work.road, "text") == 0) {
+        MEASURE("hand-c", units, send_text_to(query, all, work.count, work.times))
+    } else if (ENDS("-to")) {
+        MEASURE("hand-c", units, send_execute_to(query, all, work.count, work.times))
     } else if (ENDS("-kept")) {
         MEASURE("hand-c", units, send_execute_kept(all, work.count, work.times))
     } else if (strcmp(work.road, "text") == 0) {

@@ -5,6 +5,7 @@ use std::time::Instant;
 const WIDTH: usize = 4;
 const PIECE: usize = 65_536;
 const FULL: usize = 16_777_215;
+const LOT: usize = 8_192;
 const KINDS: [u8; WIDTH] = [8, 253, 253, 8];
 const NAMES: [&str; WIDTH] = ["id", "name", "note", "age"];
 
@@ -291,6 +292,49 @@ fn send_execute_kept(sets: &[Vec<Value>], times: usize) -> usize {
             put_execution(set, &mut command, &mut out);
             written += out.len();
         }
+    }
+    written
+}
+
+/// What stands in the buffer goes to a writer that counts the bytes and keeps none.
+#[inline(never)]
+fn hand_on(out: &mut Vec<u8>, written: &mut usize) {
+    *written += black_box(&out[..]).len();
+    out.clear();
+}
+
+/// All sets to a writer: packets are gathered in one buffer, which is handed on once it has so many bytes.
+fn send_text_to(query: &[u8], sets: &[Vec<Value>], times: usize) -> usize {
+    let (mut out, mut command, mut written) = (Vec::new(), Vec::new(), 0);
+    let marks = marks(query);
+    for _ in 0..times {
+        written = 0;
+        for set in sets {
+            command.clear();
+            command.push(3);
+            bind(query, &marks, set, &mut command);
+            packet_to_chunks(0, &command, &mut out);
+            if out.len() >= LOT {
+                hand_on(&mut out, &mut written);
+            }
+        }
+        hand_on(&mut out, &mut written);
+    }
+    written
+}
+
+fn send_execute_to(query: &[u8], sets: &[Vec<Value>], times: usize) -> usize {
+    let (mut out, mut command, mut written) = (Vec::new(), Vec::new(), 0);
+    for _ in 0..times {
+        written = 0;
+        put_prepare(query, &mut command, &mut out);
+        for set in sets {
+            put_execution(set, &mut command, &mut out);
+            if out.len() >= LOT {
+                hand_on(&mut out, &mut written);
+            }
+        }
+        hand_on(&mut out, &mut written);
     }
     written
 }
@@ -859,6 +903,10 @@ fn send_sets(what: &str, rounds: usize) {
         let boxed = |set: Vec<Value>| set.into_iter().map(|value| Box::new(value) as Box<dyn ToValue>).collect();
         let lists: Vec<Objects> = sets.into_iter().map(boxed).collect();
         return measure(what, count * times, rounds, || Some(send_values(&query, &lists, times, words[1])));
+    }
+    if what.ends_with("-to") {
+        let send_to = if words[1] == "text" { send_text_to } else { send_execute_to };
+        return measure(what, count * times, rounds, || Some(send_to(&query, &sets, times)));
     }
     let way = if what.ends_with("-kept") { Way::Kept } else if what == "send-text-apart" { Way::Apart } else { Way::Together };
     measure(what, count * times, rounds, || {

@@ -8,6 +8,7 @@ size_t mysql_bench_split(Pointer, size_t, size_t);
 size_t mysql_bench_places(Pointer, size_t, size_t);
 size_t mysql_bench_send(Pointer, size_t, Pointer, size_t, size_t, size_t, _Bool, uint8_t, size_t, size_t);
 size_t mysql_bench_send_kept(Pointer, size_t, Pointer, size_t, size_t, size_t, _Bool, uint8_t, size_t, size_t);
+size_t mysql_bench_send_to(Pointer, size_t, Pointer, size_t, size_t, size_t, _Bool, uint8_t, size_t);
 size_t mysql_bench_send_more(Pointer, size_t, Pointer, size_t, size_t, size_t, size_t);
 size_t mysql_bench_send_values(Pointer, size_t, Pointer, size_t, size_t, size_t, uint8_t, size_t);
 size_t mysql_bench_receive(Pointer, size_t, Pointer, size_t, size_t);
@@ -31,6 +32,8 @@ static void send_sets(const char *what, Work work, int rounds) {
         MEASURE("library", units, mysql_bench_send_more(query.at, query.len, sets.at, sets.len, work.count, WIDTH, work.times))
     } else if (ENDS("-kept")) {
         MEASURE("library", units, mysql_bench_send_kept(query.at, query.len, sets.at, sets.len, work.count, WIDTH, by_name, road, 1, work.times))
+    } else if (ENDS("-to")) {
+        MEASURE("library", units, mysql_bench_send_to(query.at, query.len, sets.at, sets.len, work.count, WIDTH, by_name, road, work.times))
     } else if (BEGINS("send-values")) {
         MEASURE("library", units, mysql_bench_send_values(query.at, query.len, sets.at, sets.len, work.count, WIDTH, road, work.times))
     } else {

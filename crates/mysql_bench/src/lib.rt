@@ -15,6 +15,7 @@ mod replies;
 mod sending;
 mod sets;
 mod stored;
+mod to_writer;
 
 /// The limit of packets: payloads of at most 16777215 bytes are sent.
 pub const LIMIT: usize = 16777219;
