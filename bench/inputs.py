@@ -129,23 +129,23 @@ write_sets("numbers", [[one[0]] for one in every])
 # Workloads over sets: the name, the road, the query, the sets, how many there are, and how many times all of them are sent.
 WORKS = """
 send-text text query sets 10000 100
+send-text-listed text query sets 10000 100
 send-text-apart text query sets 10000 100
 send-text-kept text query sets 10000 100
-send-text-to text query sets 10000 100
-send-text-plain-to text query plain 1000 100
 send-text-one text query sets 1 1000000
 send-text-named text named sets 10000 100
 send-text-long text long sets 10000 1
 send-text-plain text query plain 1000 100
+send-text-plain-listed text query plain 1000 100
 send-text-quotes text query quotes 1000 100
 send-text-binary text query binary 1000 100
 send-execute execute query sets 10000 100
+send-execute-listed execute query sets 10000 100
 send-execute-kept execute query sets 10000 100
-send-execute-plain-kept execute query plain 1000 100
-send-execute-to execute query sets 10000 100
-send-execute-plain-to execute query plain 1000 100
 send-execute-one execute query sets 1 1000000
 send-execute-plain execute query plain 1000 100
+send-execute-plain-listed execute query plain 1000 100
+send-execute-plain-kept execute query plain 1000 100
 send-bulk bulk query sets 10000 100
 send-bulk-plain bulk query plain 1000 100
 send-values-text text query sets 10000 100

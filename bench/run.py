@@ -20,7 +20,8 @@ SIDES = {
     "python": ["/usr/bin/python3", os.path.join(HERE, "sides", "pymysql_side.py")],
 }
 HAND = ["library", "c", "rust"]
-CLIENTS = [*HAND, "mariadb", "go"]
+LISTS = [*HAND, "mariadb"]
+CLIENTS = [*LISTS, "go"]
 THROUGH_C = ["library", "through-c"]
 WORKLOADS = {
     "frame-16M": HAND,
@@ -29,21 +30,21 @@ WORKLOADS = {
     "split-100": HAND,
     "places": ["library"],
     "send-text": [*CLIENTS, "python"],
+    "send-text-listed": LISTS,
     "send-text-apart": HAND,
     "send-text-kept": CLIENTS,
-    "send-text-to": [*CLIENTS, "python"],
     "send-text-named": ["library"],
     "send-text-long": CLIENTS,
     "send-text-plain": [*CLIENTS, "python"],
-    "send-text-plain-to": [*CLIENTS, "python"],
+    "send-text-plain-listed": LISTS,
     "send-text-quotes": [*CLIENTS, "python"],
     "send-text-binary": CLIENTS,
     "send-execute": CLIENTS,
-    "send-execute-plain": CLIENTS,
+    "send-execute-listed": LISTS,
     "send-execute-kept": CLIENTS,
+    "send-execute-plain": CLIENTS,
+    "send-execute-plain-listed": LISTS,
     "send-execute-plain-kept": CLIENTS,
-    "send-execute-to": CLIENTS,
-    "send-execute-plain-to": CLIENTS,
     "send-bulk": HAND,
     "send-bulk-plain": HAND,
     "send-values-text": HAND,

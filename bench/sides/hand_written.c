@@ -597,20 +597,17 @@ static void send_sets(const char *what, Work work, int rounds) {
     Bytes query = load(work.query);
     Value *all = load_values(work.sets, work.count * WIDTH);
     double units = (double)work.count * work.times;
+    _Bool listed = ENDS("-listed") || BEGINS("send-values"), text = strcmp(work.road, "text") == 0;
     if (IS("send-text-apart") || IS("send-text-kept")) {
         MEASURE("hand-c", units, send_apart(query, all, work.count, work.times, ENDS("-kept")))
-    } else if (ENDS("-to") && strcmp(work.road, "text") == 0) {
-        MEASURE("hand-c", units, send_text_to(query, all, work.count, work.times))
-    } else if (ENDS("-to")) {
-        MEASURE("hand-c", units, send_execute_to(query, all, work.count, work.times))
     } else if (ENDS("-kept")) {
         MEASURE("hand-c", units, send_execute_kept(all, work.count, work.times))
-    } else if (strcmp(work.road, "text") == 0) {
-        MEASURE("hand-c", units, send_text(query, all, work.count, work.times))
-    } else if (strcmp(work.road, "execute") == 0) {
-        MEASURE("hand-c", units, send_execute(query, all, work.count, work.times))
-    } else {
+    } else if (strcmp(work.road, "bulk") == 0) {
         MEASURE("hand-c", units, send_bulk(query, all, work.count, work.times))
+    } else if (listed) {
+        MEASURE("hand-c", units, (text ? send_text : send_execute)(query, all, work.count, work.times))
+    } else {
+        MEASURE("hand-c", units, (text ? send_text_to : send_execute_to)(query, all, work.count, work.times))
     }
 }
 

@@ -904,16 +904,15 @@ fn send_sets(what: &str, rounds: usize) {
         let lists: Vec<Objects> = sets.into_iter().map(boxed).collect();
         return measure(what, count * times, rounds, || Some(send_values(&query, &lists, times, words[1])));
     }
-    if what.ends_with("-to") {
-        let send_to = if words[1] == "text" { send_text_to } else { send_execute_to };
-        return measure(what, count * times, rounds, || Some(send_to(&query, &sets, times)));
-    }
+    let listed = what.ends_with("-listed");
     let way = if what.ends_with("-kept") { Way::Kept } else if what == "send-text-apart" { Way::Apart } else { Way::Together };
     measure(what, count * times, rounds, || {
         Some(match words[1] {
+            "text" if way == Way::Together && !listed => send_text_to(&query, &sets, times),
             "text" => send_text(&query, &sets, times, way),
             "execute" if way == Way::Kept => send_execute_kept(&sets, times),
-            "execute" => send_execute(&query, &sets, times),
+            "execute" if listed => send_execute(&query, &sets, times),
+            "execute" => send_execute_to(&query, &sets, times),
             _ => send_bulk(&query, &sets, times),
         })
     });

@@ -152,8 +152,8 @@ static void run(MYSQL *mysql, const char *what, int rounds) {
         Bytes query = load(work.query);
         Value *all = load_values(work.sets, work.count * WIDTH);
         double units = (double)work.count * work.times;
-        // To a writer each packet goes by itself.
-        _Bool apart = ENDS("-kept") || ENDS("-to");
+        // Each packet goes to the connection by itself, but where all go into one list.
+        _Bool apart = !ENDS("-listed");
         if (strcmp(work.road, "text") == 0) {
             MEASURE("libmariadb", units, send_text(mysql, query, all, work, apart))
         } else {

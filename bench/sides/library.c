@@ -27,17 +27,19 @@ static void send_sets(const char *what, Work work, int rounds) {
     uint8_t road = strcmp(work.road, "text") == 0 ? 0 : strcmp(work.road, "execute") == 0 ? 1 : 2;
     double units = (double)work.count * work.times;
     size_t at_once = BEGINS("send-text-apart") ? 1 : work.count;
+    // By bulk, and beside the interface for C, into one list too.
+    _Bool listed = ENDS("-listed") || BEGINS("send-text-apart") || road == 2 || strstr(what, "through-c");
     _Bool by_name = strstr(what, "named") != 0;
     if (ENDS("-kept") && road == 1) {
         MEASURE("library", units, mysql_bench_send_more(query.at, query.len, sets.at, sets.len, work.count, WIDTH, work.times))
     } else if (ENDS("-kept")) {
         MEASURE("library", units, mysql_bench_send_kept(query.at, query.len, sets.at, sets.len, work.count, WIDTH, by_name, road, 1, work.times))
-    } else if (ENDS("-to")) {
-        MEASURE("library", units, mysql_bench_send_to(query.at, query.len, sets.at, sets.len, work.count, WIDTH, by_name, road, work.times))
     } else if (BEGINS("send-values")) {
         MEASURE("library", units, mysql_bench_send_values(query.at, query.len, sets.at, sets.len, work.count, WIDTH, road, work.times))
-    } else {
+    } else if (listed) {
         MEASURE("library", units, mysql_bench_send(query.at, query.len, sets.at, sets.len, work.count, WIDTH, by_name, road, at_once, work.times))
+    } else {
+        MEASURE("library", units, mysql_bench_send_to(query.at, query.len, sets.at, sets.len, work.count, WIDTH, by_name, road, work.times))
     }
 }
 

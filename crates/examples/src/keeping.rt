@@ -1,4 +1,4 @@
-//! A query that is kept, sent again and again and read back.
+//! A query that is kept, sent again and again and read back, and to a connection.
 
 use crate::cents::Cents;
 use mysql_session::{IntoParams, Query, Road};
@@ -21,5 +21,21 @@ pub fn send_each<W: Write>(alloc: Global, out: &mut W) -> anyhow::Result<()> {
     }
     let audit = receiver.finish();
     writeln!(out, "{} sets: {}", audit.sets.len(), audit.end)?;
+    Ok(())
+}
+
+/// Sends many sets to a connection, some packets at a time.
+pub fn send_all<C: Write, W: Write>(
+    alloc: Global,
+    connection: &mut C,
+    out: &mut W,
+) -> anyhow::Result<()> {
+    let query = Query::new(alloc, b"INSERT INTO goods VALUES (?, ?)", 1)?;
+    let mut sets = Vec::new(alloc);
+    for number in 0..1000_i64 {
+        sets.push(("tea", number).into_params(alloc)?)?;
+    }
+    query.send_to(alloc, &sets, Road::Execute, 1 << 24, connection)?;
+    writeln!(out, "{} sets sent", sets.len())?;
     Ok(())
 }

@@ -1,6 +1,6 @@
 //! Short programs over the public calls, one in each file: they audit a captured stream, send a query, load rows in bulk, read a
 //! reply, log in, sort what a client sends, look on at what passes between a client and a server, answer in a server's place, let
-//! rows go that were looked at, and keep a query.
+//! rows go that were looked at, and keep a query, by which sets go to a connection.
 #![tactic(auto)]
 
 mod answering;
@@ -35,5 +35,7 @@ fn main(rt: HostRuntime) -> anyhow::Result<()> {
     let mut reply = File::open(&rt, "reply.bin")?;
     looking::look(alloc, &mut reply, &mut out)?;
     keeping::send_each(alloc, &mut out)?;
+    let mut connection = Vec::new(alloc);
+    keeping::send_all(alloc, &mut connection, &mut out)?;
     Ok(())
 }

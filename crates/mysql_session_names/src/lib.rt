@@ -6,7 +6,7 @@ use mysql_session::{
     Audit, BindError, CapabilityFlags, End, Flags, FromValueRef, Intermediate, LentRow,
     PacketReader, ParseIr, Query, Receiver, ReceiverError, RecodeError, Recoder, Refusal, Reply,
     ReplyEnd, ReplyFault, ReplyKind, ReplyReader, ReplyRefusal, ReplyResult, ReplyWriter, Road,
-    RowError, RowFormat, RowLender, StatusFlags, StoredRows, StreamFault, ValueRef,
+    RowError, RowFormat, RowLender, SendToError, StatusFlags, StoredRows, StreamFault, ValueRef,
     packet_to_chunks, read_reply, receive, recode, send, send_values, write_reply,
 };
 

@@ -1,4 +1,4 @@
-use Rattle.std.proofs.Common.{ℕ, List, [], length, take, arith, refl, subst, sym}
+use Rattle.std.proofs.Common.{ℕ, List, [], length, arith, refl, subst, sym}
 use Rattle.std.proofs.KnownBytes.{Keeps-refl}
 use Rattle.std.proofs.lemmas.List.{take_all}
 use Rattle.std.proofs.lemmas.Result.{err_from_is_err_and}
@@ -41,7 +41,8 @@ returns-in-Ok-clause-written g c =
 
 pub returns-clause-stopped : goal.returns-clause-stopped
 returns-clause-stopped g c =
-    let query = c.self.inside in
-    (subst (λ (k : KeptQuery). RefusesGiven Bulk k.text (all_given c.args.sets.now) k.id c.args.limit c.in-Err.refusal) c.self.view_is (c.in-Err.ensures.err query.text.now c.self.invariant.statement),
-    refl,
-    Keeps-refl _)
+    let query = c.self.inside in (
+      subst (λ (k : KeptQuery). RefusesGiven Bulk k.text (all_given c.args.sets.now) k.id c.args.limit c.in-Err.refusal) c.self.view_is (c.in-Err.ensures.err query.text.now c.self.invariant.statement),
+      refl,
+      Keeps-refl _,
+    )
