@@ -57,14 +57,14 @@ writes_first road query sets id limit old mid new lot i s bytes taken =
 module _ (road : Road) (query : List ℕ) (sets : List Params) (id limit : ℕ) (old mid new : Option (List ℕ)) (lot gathered : List ℕ) (i : ℕ) (put : Result (Unit {0}) Refusal)
     (step : (front : List ℕ) → put ≡ Ok tt → FirstStand road query sets id limit i (front ++ lot) → FirstStand road query sets id limit (i + 1) (front ++ gathered))
     (refused : (refusal : Refusal) (stream : List ℕ) → put ≡ Err refusal → FirstStand road query sets id limit i stream → RefusedAt road query sets id limit i refusal)
-    (kept : take (length lot) gathered ≡ lot) (s : Stands (FirstStand road query sets id limit) old mid lot i) where
+    (inside : i < length sets) (kept : take (length lot) gathered ≡ lot) (s : Stands (FirstStand road query sets id limit) old mid lot i) where
   -- the set is refused, or the writer fails
   pub stops : (error : SendToError) → StopsAt mid new put i (length lot) gathered error → Stops road query sets id limit old new error
   stops (Refused refusal count) (was, at, bytes, taken) =
       let why : RefusedAt road query sets id limit i refusal = refused refusal (s.handed ++ lot) was s.holds in
       let written : Writes road query (all_given (take i sets)) id limit old new =
       writes_first road query sets id limit old mid new lot i s (subst (λ (l : List ℕ). AreBytes l) kept bytes) (subst (λ (l : List ℕ). Appends mid new l) kept taken) in
-      (why.0, inr (subst (λ (n : ℕ). StopsAtSet road query sets id limit old new refusal n) (sym at) (record { why = why.1; before = written })))
+      (why.0, inr (subst (λ (n : ℕ). StopsAtSet road query sets id limit old new refusal n) (sym at) (record { inside = inside; why = why.1; before = written })))
   stops (Io error) f =
       let (count, among) = fails_at (FirstStand road query sets id limit) old mid lot i s new gathered put step kept f in
       let (stream, taken, stands) = among in

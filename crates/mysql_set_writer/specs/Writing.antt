@@ -1,6 +1,6 @@
 -- Sets that are written to a writer: what it takes where all of them are written, and where not.
 -- MySQL: Client/Server Protocol, "COM_QUERY", "COM_STMT_PREPARE", "COM_STMT_SEND_LONG_DATA", "COM_STMT_EXECUTE".
-use Rattle.std.specs.Prelude.{◌≡◌, ◌⊎◌, ◌+◌, ℕ, List, [], take, Option}
+use Rattle.std.specs.Prelude.{◌≡◌, ◌⊎◌, ◌+◌, ◌<◌, ℕ, List, [], length, take, Option}
 use Rattle.std.specs.Io.KnownBytes.{Appends, Keeps}
 use Rattle.mysql_wire.specs.Bytes.{AreBytes}
 use Rattle.mysql_values.specs.declared.params.Params.{Params}
@@ -26,8 +26,9 @@ pub record StopsAtQuery (road : Road) (query : List ℕ) (id limit : ℕ) (old n
   pub none : count ≡ 0
   pub kept : Keeps old new
 
--- a set is refused, and all sets before it are written
+-- one of the sets is refused, and all sets before it are written
 pub record StopsAtSet (road : Road) (query : List ℕ) (sets : List Params) (id limit : ℕ) (old new : Option (List ℕ)) (refusal : Refusal) (count : ℕ) : Type 0 where
+  pub inside : count < length sets
   pub why : RefusesGiven road query (all_given (take (count + 1) sets)) id limit refusal
   pub before : Writes road query (all_given (take count sets)) id limit old new
 

@@ -31,7 +31,7 @@ returns-in_err-hand_on_set-clause-err g c =
     (front ++ lot) stands lot c.put_set-put.new.out.items front refl (where_put _ c.put_set-put.result was c.put_set-put.ensures.ok))
     (λ refusal stream was stands. execution_refused c.tokens_of_a_text.ensures.one query statement.parsed statement.places is statement.id c.args.limit sets c.sets.set c.index-sets-set.result c.sets-test.true c.index-sets-set.is
     stream stands refusal (where_refused _ c.put_set-put.result refusal was c.put_set-put.ensures.err))
-    c.put_set-put.ensures.kept
+    c.sets-test.true c.put_set-put.ensures.kept
     (of_query statement.parsed statement.places statement.id sets c.args.limit (g.W.Write.contents c.args.to.now) (g.W.Write.contents c.sets.to) lot c.sets.set c.sets.invariant query is)
     c.in_err-hand_on_set.field-0.0
     (subst (λ (n : ℕ). StopsAt (g.W.Write.contents c.sets.to) (g.W.Write.contents c.hand_on_set.new.to) c.put_set-put.result c.sets.set n c.put_set-put.new.out.items c.in_err-hand_on_set.field-0.0) at

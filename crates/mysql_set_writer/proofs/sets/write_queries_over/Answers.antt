@@ -39,7 +39,7 @@ returns-in_err-hand_on_set-clause-err g c =
     (front ++ lot) stands lot c.put_query-put.new.out.items front refl (where_put _ c.put_query-put.result was c.put_query-put.ensures.ok))
     (λ refusal stream was stands. query_refused c.tokens_of_a_text.ensures.one query id c.args.limit sets c.sets.set c.index-sets-set.result c.sets-test.true c.index-sets-set.is
     stream stands refusal (where_refused _ c.put_query-put.result refusal was c.put_query-put.ensures.err))
-    (kept_front query c.index-sets-set.result c.sets.set c.args.limit lot c.put_query-put.new.out.items c.put_query-put.result c.put_query-put.ensures.ok c.put_query-put.ensures.kept)
+    c.sets-test.true (kept_front query c.index-sets-set.result c.sets.set c.args.limit lot c.put_query-put.new.out.items c.put_query-put.result c.put_query-put.ensures.ok c.put_query-put.ensures.kept)
     (of_id query sets c.args.limit (g.W.Write.contents c.args.to.now) (g.W.Write.contents c.sets.to) lot c.sets.set c.sets.invariant id)
     c.in_err-hand_on_set.field-0.0
     (subst (λ (n : ℕ). StopsAt (g.W.Write.contents c.sets.to) (g.W.Write.contents c.hand_on_set.new.to) c.put_query-put.result c.sets.set n c.put_query-put.new.out.items c.in_err-hand_on_set.field-0.0) at
