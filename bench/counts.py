@@ -16,7 +16,7 @@ def by_hand():
     """The workloads of the runner that have a side by hand."""
     with open(os.path.join(os.path.dirname(os.path.abspath(__file__)), "run.py")) as it:
         rows = re.findall(r'^    "([\w-]+)": (.*),$', it.read(), re.M)
-    return [name for name, sides in rows if re.search(r'HAND|CLIENTS|"rust"', sides)]
+    return [name for name, sides in rows if re.search(r'HAND|LISTS|CLIENTS|"rust"', sides)]
 
 
 def instructions(side, workload):
