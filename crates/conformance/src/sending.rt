@@ -6,7 +6,9 @@ use crate::reading::{Reading, check};
 use crate::sets::{json_list, list_of, sets_of};
 use crate::tokens::{Token, put_field, words_of};
 use crate::trouble::Trouble;
-use mysql_session::{Content, RecodeError, Refusal, Road, recode, send, send_contents};
+use mysql_session::{
+    Content, Params, Query, RecodeError, Refusal, Road, SendToError, recode, send, send_contents,
+};
 use serde_json::Value as Json;
 use std::alloc::Global;
 use std::fmt::Debug;
@@ -65,6 +67,79 @@ fn road_of(field: &[Token<'_>]) -> Result<Road, Trouble> {
     }
 }
 
+/// How many sets a writer takes before the one that is refused; None where it takes nothing.
+fn taken_before(road: Road, refusal: &Refusal) -> Option<usize> {
+    match refusal {
+        _ if road == Road::Bulk => None,
+        Refusal::Params(set, _)
+        | Refusal::WrongCount(set)
+        | Refusal::Float(set, _)
+        | Refusal::PacketTooLarge(set) => Some(*set),
+        _ => None,
+    }
+}
+
+/// What a writer has to take: what was appended, and where a set is refused what carries those before it.
+fn wanted_of(
+    alloc: Global,
+    (query, id, limit): &Statement,
+    first: Option<&[Params]>,
+    road: Road,
+    out: &[u8],
+) -> Result<Vec<u8>, Trouble> {
+    let mut wanted = Vec::from_slice(alloc, out)?;
+    if let Some(first) = first {
+        match send(alloc, query, first, road, *id, (*limit).max(4), &mut wanted) {
+            Ok(()) => {}
+            Err(Refusal::Memory) => return Err(Trouble::Memory),
+            Err(_) => return Err(Trouble::Malformed("an earlier set is refused too")),
+        }
+    }
+    Ok(wanted)
+}
+
+/// Sends sets to a writer by a query that is kept, and compares the answer and what was written with what [`send`] answered and appended.
+fn check_sent_to(
+    alloc: Global,
+    statement: &Statement,
+    sets: &[Params],
+    road: Road,
+    sent: &Result<(), Refusal>,
+    out: &[u8],
+) -> Result<(), Trouble> {
+    let count = match sent {
+        Ok(()) => None,
+        Err(refusal) => taken_before(road, refusal),
+    };
+    let first = match count {
+        Some(count) => sets.get(..count),
+        None => None,
+    };
+    let wanted = wanted_of(alloc, statement, first, road, out)?;
+    let mut taken = Vec::from_slice(alloc, FRONT)?;
+    let (query, id, limit) = statement;
+    let answer = match Query::new(alloc, query, *id) {
+        Ok(query) => query.send_to(alloc, sets, road, (*limit).max(4), &mut taken),
+        Err(refusal) => Err(SendToError::Refused(refusal, 0)),
+    };
+    let is_answer = match (&answer, sent) {
+        (Err(SendToError::Refused(Refusal::Memory, _) | SendToError::Io(_)), _) => {
+            return Err(Trouble::Memory);
+        }
+        (Err(SendToError::Refused(found, before)), Err(refusal)) => {
+            *found == *refusal && *before == count.unwrap_or(0)
+        }
+        (Ok(()), Ok(())) => true,
+        _ => false,
+    };
+    if !is_answer || taken != wanted {
+        let mut found = format!(in alloc; "to a writer: {answer:?}, written")?;
+        put_bytes(&mut found, &taken)?;
+        return Err(Trouble::Differs(found));
+    }
+    Ok(())
+}
+
 /// Sends the sets of a field.
 pub fn check_sent(
     alloc: Global,
@@ -82,9 +157,13 @@ pub fn check_sent(
     let sets = sets_of(alloc, &json)?;
     let mut out = Vec::from_slice(alloc, FRONT)?;
     let (query, id, limit) = &statement;
-    match send(alloc, query, &sets, road, *id, (*limit).max(4), &mut out) {
+    let sent = send(alloc, query, &sets, road, *id, (*limit).max(4), &mut out);
+    if matches!(sent, Err(Refusal::Memory)) {
+        return Err(Trouble::Memory);
+    }
+    check_sent_to(alloc, &statement, &sets, road, &sent, &out)?;
+    match sent {
         Ok(()) => check_stream(alloc, statement, &out, first, lines),
-        Err(Refusal::Memory) => Err(Trouble::Memory),
         Err(refusal) => check_refusal(alloc, refusal, &out, first),
     }
 }

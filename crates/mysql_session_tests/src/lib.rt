@@ -56,4 +56,6 @@ mod texts;
 #[cfg(test)]
 mod texts_of_errors;
 #[cfg(test)]
+mod to_writer;
+#[cfg(test)]
 mod wide;
