@@ -134,7 +134,7 @@ send-text-apart text query sets 10000 100
 send-text-kept text query sets 10000 100
 send-text-one text query sets 1 1000000
 send-text-named text named sets 10000 100
-send-text-long text long sets 10000 1
+send-text-long text long sets 10000 10
 send-text-plain text query plain 1000 100
 send-text-plain-listed text query plain 1000 100
 send-text-quotes text query quotes 1000 100
