@@ -171,7 +171,7 @@ fn put_text(
 
 /// [`bind_text_at`] for one of many sets of a query: what doesn't depend on the set is found once. The placeholders are of one
 /// kind and stand alone, and `names` are those among them, as [`names_among`] lists them. `values` keeps its room from set to
-/// set; what it held leaves it, and what it then holds isn't said.
+/// set; what it held leaves it, and what it then holds isn't said. Safe for the servers that [`bind_text`] names.
 ///
 /// # Errors
 /// `Params`, `WrongCount`, `Float` with the first such placeholder, `Memory`; nothing is appended then.
@@ -206,7 +206,8 @@ pub fn bind_text_over<'a>(
     }
 }
 
-/// [`bind_text`] over the placeholders of the query, as [`places`] lists them, so that many sets need them found once.
+/// [`bind_text`] over the placeholders of the query, as [`places`] lists them, so that many sets need them found once. Safe for
+/// the servers that [`bind_text`] names.
 ///
 /// # Errors
 /// Those of [`bind_text`], in its order; nothing is appended then.
@@ -237,7 +238,10 @@ pub fn bind_text_at(
 /// set gives values by these names, without the colon. Names end at the first other byte: `:aB` is the placeholder `a` before
 /// a `B`. `:Name` is none: over `SELECT :Name` a set that names values is refused by `Params`.
 ///
-/// The literals are for a server that takes backslash escapes; an all-zero time is written without its sign.
+/// **Safe for** a server that takes backslash escapes (NO_BACKSLASH_ESCAPES isn't in its SQL mode) over a connection in UTF-8. For
+/// any other a value may end its literal, and what stands behind the quote is read as SQL: send by execution there.
+///
+/// An all-zero time is written without its sign.
 ///
 /// # Errors
 /// `Mixed`, `NotAlone` with the first such placeholder, `Params`, `WrongCount`, `Float` with the first such placeholder, `Memory`; nothing is appended then.
