@@ -1,0 +1,244 @@
+"""The public items of the crates, read from their sources: what `tools/api` and `tools/faces` go by."""
+import pathlib
+import re
+import sys
+
+ROOT = pathlib.Path(__file__).resolve().parent.parent
+CRATES = ROOT / 'crates'
+FACES = ['mysql_session', 'mysql_convert', 'mysql_values', 'mysql_packets', 'mysql_wire', 'mysql_buf', 'mysql_login']
+
+
+class Item:
+    """A public item: its kind, its name, its comment, its signature, and what stands in it."""
+
+    def __init__(self, kind, name, doc, signature, condition=False):
+        self.kind, self.name, self.doc = kind, name, doc
+        self.signature, self.condition = signature, condition
+        self.parts = []
+
+
+ITEM = re.compile(r'pub (?:const )?(fn|struct|enum|trait|const|type) (\w+)')
+METHOD = re.compile(r'(?:pub |final )?(?:const )?fn (\w+)')
+
+
+def indent_of(line):
+    return len(line) - len(line.lstrip(' '))
+
+
+def signature_at(lines, at):
+    """The signature that begins there, in one line, and whether clauses behind it have a condition."""
+    parts, condition, clauses = [], False, False
+    for line in lines[at:]:
+        text = line.strip()
+        clauses |= re.match(r'(requires|ensures|ghost)\b', text) is not None
+        condition |= text.startswith('requires')
+        if text in ('{', '{}') or (clauses and text.endswith('};')):
+            break
+        if clauses or text.startswith('//'):
+            continue
+        parts.append(re.sub(r'\s*(\{\}?|;)$', '', text))
+        if text.endswith(('{', '{}', ';')):
+            break
+    text = ' '.join(parts)
+    text = re.sub(r',? where\b.*$', '', text)
+    text = re.sub(r'([(<]) ', r'\1', text)
+    text = re.sub(r',? ([)>])(?!=)', r'\1', re.sub(r' -> ', ' \0-> ', text)).replace('\0', '')
+    return re.sub(r'^(pub|final) ', '', text), condition
+
+
+def body_end(lines, at):
+    """The line that closes what begins at a line."""
+    start = indent_of(lines[at])
+    while at < len(lines):
+        text = lines[at]
+        if indent_of(text) == start and re.match(r'\s*(\}|.*(;|\{\}|\{ .* \})\s*$)', text):
+            return at
+        at += 1
+    return at - 1
+
+
+def documented(lines, first, last, wanted):
+    """The lines of so many that begin what is wanted, each with the comment above it."""
+    doc = []
+    for at in range(first, last):
+        text = lines[at].strip()
+        if text.startswith('///'):
+            doc.append(text[3:].strip())
+        elif text.startswith('#['):
+            pass
+        else:
+            found = wanted(lines[at])
+            if found:
+                yield at, found, doc
+            doc = []
+
+
+def fields_and_variants(lines, item, first):
+    last = body_end(lines, first)
+    if last == first:
+        return
+    pattern = r'    (\w+)(.*)$' if item.kind == 'enum' else r'    pub (\w+)(: .*)$'
+    def wanted(line):
+        return re.match(pattern, line) if not line.strip().startswith('ghost') else None
+    for at, found, doc in documented(lines, first + 1, last, wanted):
+        rest = re.sub(r'( = .*)?,$', '', found.group(2)).strip()
+        if rest == '{':
+            names = []
+            for line in lines[at + 1:last]:
+                if indent_of(line) == 4:
+                    break
+                field = re.match(r'\s+(\w+: .*?),?$', line)
+                if field and not line.strip().startswith('//'):
+                    names.append(field.group(1))
+            rest = ' { ' + ', '.join(names) + ' }'
+        item.parts.append(Item('part', found.group(1), doc, found.group(1) + rest))
+
+
+def methods(lines, first, public):
+    last = body_end(lines, first)
+    def wanted(line):
+        if indent_of(line) != 4 or (public and not line.startswith('    pub ')):
+            return None
+        return METHOD.match(line.strip())
+    for at, found, doc in documented(lines, first + 1, last, wanted):
+        text, condition = signature_at(lines, at)
+        yield Item('fn', found.group(1), doc, text, condition)
+
+
+class Module:
+    """A file: its public items, the names that it passes on, and its modules."""
+
+    def __init__(self, path):
+        self.items, self.uses, self.modules, self.doc = {}, [], {}, []
+        self.impls = []
+        lines = path.read_text().split('\n')
+        self.doc = [line[3:].strip() for line in lines if line.startswith('//!')]
+        folder = path.parent if path.name == 'lib.rt' else path.with_suffix('')
+        for at, found, doc in documented(lines, 0, len(lines), lambda line: re.match(r'[a-z]\w*.*', line)):
+            self.take(lines, at, lines[at], doc, folder)
+
+    def take(self, lines, at, line, doc, folder):
+        found = re.match(r'(pub )?mod (\w+);', line)
+        if found and (folder / (found.group(2) + '.rt')).exists():
+            self.modules[found.group(2)] = (bool(found.group(1)), Module(folder / (found.group(2) + '.rt')))
+            return
+        if line.startswith('pub use '):
+            text = line
+            while not text.endswith(';'):
+                at += 1
+                text += ' ' + lines[at].strip()
+            self.uses += used_names(text[len('pub use '):-1])
+            return
+        found = ITEM.match(line)
+        if found:
+            text, condition = signature_at(lines, at)
+            item = Item(found.group(1), found.group(2), doc, text, condition)
+            self.items[item.name] = item
+            if item.kind in ('struct', 'enum'):
+                fields_and_variants(lines, item, at)
+            elif item.kind == 'trait':
+                item.parts += methods(lines, at, False)
+            return
+        if line.startswith('pub '):
+            sys.exit(f'{folder}: tools/sources.py doesn\'t read: {line}')
+        found = re.match(r'impl(?:<.*?>)? (\w+)(?:<.*>)?(?: where .*)? \{$', line)
+        if found and ' for ' not in line:
+            self.impls.append((found.group(1), list(methods(lines, at, True))))
+        elif line.startswith('bitflag_items!'):
+            end = body_end(lines, at)
+            name = re.match(r'\s+impl (\w+)', lines[at + 1]).group(1)
+            names = [re.match(r'\s+const (\w+)', text) for text in lines[at + 2:end]]
+            flags = [Item('part', name.group(1), [], name.group(1)) for name in names if name]
+            self.impls.append((name, flags))
+
+    def all_impls(self):
+        yield from self.impls
+        for _, module in self.modules.values():
+            yield from module.all_impls()
+
+    def find(self, name):
+        """The item of this name in the file or below it."""
+        if name in self.items:
+            return self.items[name]
+        for _, module in self.modules.values():
+            item = module.find(name)
+            if item:
+                return item
+        return None
+
+
+def used_names(text):
+    """The pairs of a path and a name that a `use` brings in."""
+    text = re.sub(r'\s+', ' ', text.strip())
+    found = re.match(r'(.*)::\{(.*)\}$', text)
+    if found:
+        names = [name.strip() for name in found.group(2).split(',') if name.strip()]
+        return [(found.group(1), *name_as(name)) for name in names]
+    if '::' in text:
+        path, name = text.rsplit('::', 1)
+        return [(path, *name_as(name))]
+    return [('', *name_as(text))]
+
+
+def name_as(name):
+    found = re.match(r'(\w+) as (\w+)$', name)
+    return (found.group(1), found.group(2)) if found else (name, name)
+
+
+LOADED = {}
+
+
+def crate(name):
+    if name not in LOADED:
+        path = CRATES / name / 'src' / 'lib.rt'
+        LOADED[name] = Module(path) if path.exists() else None
+    return LOADED[name]
+
+
+def resolve(owner, module, path, name):
+    """The crate and the item that a name stands for, which a module of a crate passes on."""
+    parts = [part for part in path.split('::') if part]
+    if not parts:
+        return name, None
+    if parts[0] == 'crate':
+        module, parts = crate(owner), parts[1:]
+    elif parts[0] == 'self':
+        parts = parts[1:]
+    elif parts[0] not in module.modules:
+        owner, module, parts = parts[0], crate(parts[0]), parts[1:]
+        if not module:
+            return owner, None
+    for part in parts:
+        if part in module.modules:
+            module = module.modules[part][1]
+    return look_in(owner, module, name)
+
+
+def look_in(owner, module, name):
+    if name in module.items:
+        return owner, module.items[name]
+    for path, used, shown in module.uses:
+        if shown == name:
+            return resolve(owner, module, path, used)
+    if name in module.modules:
+        return owner, module.modules[name][1]
+    return owner, module.find(name)
+
+
+def items_of(owner, module, path):
+    """Each item that a module shows, by its path, and the modules that it passes on."""
+    seen = []
+    for name, item in module.items.items():
+        seen.append((path + name, owner, item))
+    for used_path, used, shown in module.uses:
+        home, item = resolve(owner, module, used_path, used)
+        if isinstance(item, Item):
+            seen.append((path + shown, home, item))
+        elif isinstance(item, Module):
+            seen.append((path + shown, home, item))
+        else:
+            seen.append((path + shown, home, None))
+    for name, (public, below) in module.modules.items():
+        if public:
+            seen.append((path + name, owner, below))
+    return seen
