@@ -51,8 +51,14 @@ const CAPABILITIES: [(CapabilityFlags, u32); 32] = [
     (CapabilityFlags::CLIENT_PS_MULTI_RESULTS, 1 << 18),
     (CapabilityFlags::CLIENT_PLUGIN_AUTH, 1 << 19),
     (CapabilityFlags::CLIENT_CONNECT_ATTRS, 1 << 20),
-    (CapabilityFlags::CLIENT_PLUGIN_AUTH_LENENC_CLIENT_DATA, 1 << 21),
-    (CapabilityFlags::CLIENT_CAN_HANDLE_EXPIRED_PASSWORDS, 1 << 22),
+    (
+        CapabilityFlags::CLIENT_PLUGIN_AUTH_LENENC_CLIENT_DATA,
+        1 << 21,
+    ),
+    (
+        CapabilityFlags::CLIENT_CAN_HANDLE_EXPIRED_PASSWORDS,
+        1 << 22,
+    ),
     (CapabilityFlags::CLIENT_SESSION_TRACK, 1 << 23),
     (CapabilityFlags::CLIENT_DEPRECATE_EOF, 1 << 24),
     (CapabilityFlags::CLIENT_OPTIONAL_RESULTSET_METADATA, 1 << 25),
@@ -103,14 +109,13 @@ const CURSOR_TYPES: [(CursorType, u8); 4] = [
 ];
 
 // MySQL: Client/Server Protocol, "COM_STMT_EXECUTE" (new_params_bind_flag).
-const EXECUTE_PARAMS: [(StmtExecuteParamsFlags, u8); 1] = [
-    (StmtExecuteParamsFlags::NEW_PARAMS_BOUND, 1),
-];
+const EXECUTE_PARAMS: [(StmtExecuteParamsFlags, u8); 1] = [(
+    StmtExecuteParamsFlags::NEW_PARAMS_BOUND,
+    1,
+)];
 
 // The same (parameter_type).
-const EXECUTE_PARAM: [(StmtExecuteParamFlags, u8); 1] = [
-    (StmtExecuteParamFlags::UNSIGNED, 128),
-];
+const EXECUTE_PARAM: [(StmtExecuteParamFlags, u8); 1] = [(StmtExecuteParamFlags::UNSIGNED, 128)];
 
 // MariaDB: Client/Server Protocol, "COM_STMT_BULK_EXECUTE".
 const BULK: [(StmtBulkExecuteFlags, u16); 2] = [

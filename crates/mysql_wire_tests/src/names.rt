@@ -103,7 +103,10 @@ const SESSION_STATE_TYPES: [(SessionStateType, u8); 6] = [
     (SessionStateType::SESSION_TRACK_SCHEMA, 1),
     (SessionStateType::SESSION_TRACK_STATE_CHANGE, 2),
     (SessionStateType::SESSION_TRACK_GTIDS, 3),
-    (SessionStateType::SESSION_TRACK_TRANSACTION_CHARACTERISTICS, 4),
+    (
+        SessionStateType::SESSION_TRACK_TRANSACTION_CHARACTERISTICS,
+        4,
+    ),
     (SessionStateType::SESSION_TRACK_TRANSACTION_STATE, 5),
 ];
 

@@ -10,7 +10,8 @@ use mysql_raw_bytes::{
 use std::alloc::Global;
 use std::test::*;
 use tests_support::{
-    Assert, assert_bytes, assert_copied, assert_reads_back, assert_refused, assert_written, first_of, once_more,
+    Assert, assert_bytes, assert_copied, assert_reads_back, assert_refused, assert_written,
+    first_of, once_more,
 };
 
 // Asserts that a text in a representation, through its bound, is written as these bytes.
