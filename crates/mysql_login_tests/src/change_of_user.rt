@@ -48,6 +48,37 @@ fn a_command(rt: HostRuntime) {
     assert_reads_back::<ComChangeUser, CapabilityFlags>(&assert, alloc, FLAGS, COMMAND);
 }
 
+// Capabilities, commands, and the same commands as they are written: attributes always stand where anything follows the
+// database. First a plugin alone, then attributes alone, then a character set alone, then nothing.
+const OTHERS: [(u32, &[u8], &[u8]); 4] = [
+    (
+        0x80000,
+        b"\x11root\0\x02abdb\0\x2d\0mysql_native_password\0",
+        b"\x11root\0\x02abdb\0\x2d\0mysql_native_password\0\0",
+    ),
+    (
+        0x100000,
+        b"\x11root\0\x02abdb\0\x2d\0\x04\x01a\x011",
+        b"\x11root\0\x02abdb\0\x2d\0\x04\x01a\x011",
+    ),
+    (
+        0,
+        b"\x11root\0\x02abdb\0\x2d\0",
+        b"\x11root\0\x02abdb\0\x2d\0\0",
+    ),
+    (0x180000, b"\x11root\0\x02abdb\0", b"\x11root\0\x02abdb\0"),
+];
+
+#[test]
+fn other_commands(rt: HostRuntime) {
+    let assert = Asserting(&rt);
+    for (capabilities, bytes, again) in OTHERS {
+        let flags = CapabilityFlags(capabilities);
+        let command = whole::<ComChangeUser, CapabilityFlags>(&assert, rt.alloc(), flags, bytes);
+        assert_writes(&assert, rt.alloc(), command, again);
+    }
+}
+
 #[test]
 fn copies_of_a_command(rt: HostRuntime) {
     let assert = Asserting(&rt);

@@ -5,7 +5,7 @@ use mysql_login::{BinlogDumpFlags, ComBinlogDump};
 use mysql_raw::WireError;
 use std::alloc::Global;
 use std::borrow::CowSlice;
-use tests_support::{Assert, assert_equal, assert_reads_back};
+use tests_support::{Assert, assert_bytes, assert_equal, assert_reads_back};
 
 const DUMP: &[u8] = b"\x12\x04\x00\x00\x00\x01\x00\x07\x00\x00\x00log.1";
 
@@ -42,6 +42,7 @@ fn assert_fields(assert: &impl Assert, alloc: Global, packet: &ComBinlogDump<'_>
     assert_equal(assert, packet.pos(), 0);
     assert_equal(assert, packet.flags().0, 0);
     assert_equal(assert, packet.server_id(), 7);
+    assert_bytes(assert, packet.filename_raw(), b"f");
     assert_text(assert, packet.filename(alloc), packet.filename(alloc), "f");
 }
 

@@ -13,12 +13,19 @@ use tests_support::{
 const SET: &[u8] =
     b"aaaaaaaaaaaaaaaa\x01\x00\x00\x00\x00\x00\x00\x00\x01\x00\x00\x00\x00\x00\x00\x00\x64\x00\x00\x00\x00\x00\x00\x00";
 
+// Asserts that a set has this tag.
+fn assert_tag(assert: &impl Assert, sid: &Sid<'_>, wanted: &str) {
+    let found = sid.tag().map(|tag| tag.as_str());
+    assert_equal(assert, found, Some(wanted));
+}
+
 #[test]
 fn a_set_is_written(rt: HostRuntime) {
     let assert = Asserting(&rt);
     // Its tag is not written with it.
     let tagged = tagged_set(&assert, rt.alloc());
     assert_written(&assert, rt.alloc(), &tagged, SET);
+    assert_tag(&assert, &tagged, "app");
     assert_makes(
         &assert,
         tagged.clone(rt.alloc()),

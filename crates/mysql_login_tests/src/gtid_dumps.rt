@@ -8,7 +8,9 @@ use mysql_login::{BinlogDumpFlags, ComBinlogDumpGtid};
 use mysql_raw::WireError;
 use std::alloc::Global;
 use std::borrow::CowSlice;
-use tests_support::{Assert, assert_cut_off, assert_equal, assert_reads_back, once_more, whole};
+use tests_support::{
+    Assert, assert_bytes, assert_cut_off, assert_equal, assert_reads_back, once_more, whole,
+};
 
 // A set of the tag `app` with the transactions 1 to 99, and one without a tag with 1 to 49. The block has 93 bytes.
 const TAGGED: &[u8] =
@@ -89,18 +91,37 @@ fn refused_requests(rt: HostRuntime) {
     assert_each_refused::<ComBinlogDumpGtid>(&Asserting(&rt), rt.alloc(), &NO_REQUESTS);
 }
 
-// A block may say no sets and have more bytes.
-const WITHOUT_SETS: [&[u8]; 2] = [
-    b"\x1e\x04\x00\x07\x00\x00\x00\x01\x00\x00\x00f\x04\x00\x00\x00\x00\x00\x00\x00\x08\x00\x00\x00\x07\x00\x00\x00\x00\x00\x00\x01",
-    b"\x1e\x04\x00\x07\x00\x00\x00\x01\x00\x00\x00f\x04\x00\x00\x00\x00\x00\x00\x00\x0a\x00\x00\x00\x00\x00\x00\x00\x00\x00\x00\x02zz",
+// Requests whose blocks count their sets in other ways than they are written, and how many sets they have. With a highest
+// byte of 1 the lowest one doesn't count, with any other one the seven lower ones do, and bytes behind the sets are skipped.
+const COUNTED: [(&[u8], usize); 5] = [
+    (
+        b"\x1e\x04\x00\x07\x00\x00\x00\x01\x00\x00\x00f\x04\x00\x00\x00\x00\x00\x00\x00\x08\x00\x00\x00\x07\x00\x00\x00\x00\x00\x00\x01",
+        0,
+    ),
+    (
+        b"\x1e\x04\x00\x07\x00\x00\x00\x01\x00\x00\x00f\x04\x00\x00\x00\x00\x00\x00\x00\x0a\x00\x00\x00\x00\x00\x00\x00\x00\x00\x00\x02zz",
+        0,
+    ),
+    (
+        b"\x1e\x04\x00\x07\x00\x00\x00\x01\x00\x00\x00f\x04\x00\x00\x00\x00\x00\x00\x00\x30\x00\x00\x00\x01\x00\x00\x00\x00\x00\x00\x02bbbbbbbbbbbbbbbb\x01\x00\x00\x00\x00\x00\x00\x00\x01\x00\x00\x00\x00\x00\x00\x00\x32\x00\x00\x00\x00\x00\x00\x00",
+        1,
+    ),
+    (
+        b"\x1e\x04\x00\x07\x00\x00\x00\x01\x00\x00\x00f\x04\x00\x00\x00\x00\x00\x00\x00\x30\x00\x00\x00\x01\x00\x00\x00\x00\x00\x00\xffbbbbbbbbbbbbbbbb\x01\x00\x00\x00\x00\x00\x00\x00\x01\x00\x00\x00\x00\x00\x00\x00\x32\x00\x00\x00\x00\x00\x00\x00",
+        1,
+    ),
+    (
+        b"\x1e\x04\x00\x07\x00\x00\x00\x01\x00\x00\x00f\x04\x00\x00\x00\x00\x00\x00\x00\x36\x00\x00\x00\x07\x01\x00\x00\x00\x00\x00\x01bbbbbbbbbbbbbbbb\x06app\x01\x00\x00\x00\x00\x00\x00\x00\x01\x00\x00\x00\x00\x00\x00\x00\x32\x00\x00\x00\x00\x00\x00\x00zz",
+        1,
+    ),
 ];
 
 #[test]
-fn blocks_without_sets(rt: HostRuntime) {
+fn counts_of_sets(rt: HostRuntime) {
     let assert = Asserting(&rt);
-    for bytes in WITHOUT_SETS {
+    for (bytes, count) in COUNTED {
         let packet = whole::<ComBinlogDumpGtid, ()>(&assert, rt.alloc(), (), bytes);
-        assert_equal(&assert, packet.sids().len(), 0);
+        assert_equal(&assert, packet.sids().len(), count);
         drop(packet);
     }
 }
@@ -122,11 +143,19 @@ fn flags_say_whether_there_are_sets(rt: HostRuntime) {
     drop(sids);
 }
 
+// Asserts that a request has the fields of the one above.
+fn assert_fields(assert: &impl Assert, alloc: Global, packet: &ComBinlogDumpGtid<'_>) {
+    assert_equal(assert, packet.server_id(), 7);
+    assert_equal(assert, packet.pos(), 4);
+    assert_bytes(assert, packet.filename_raw(), b"f");
+    assert_text(assert, packet.filename(alloc), packet.filename(alloc), "f");
+}
+
 #[test]
 fn a_request_with_sets(rt: HostRuntime) {
     let assert = Asserting(&rt);
     let alloc = rt.alloc();
     let packet = with_both(&assert, alloc);
-    assert_text(&assert, packet.filename(alloc), packet.filename(alloc), "f");
+    assert_fields(&assert, alloc, &packet);
     assert_makes(&assert, packet.clone(alloc), packet.clone(alloc), packet);
 }

@@ -61,14 +61,20 @@ fn of_mariadb(rt: HostRuntime) {
     assert_writes(&assert, rt.alloc(), packet, MARIADB);
 }
 
+/// The same with one more zero behind the name, which is written without it.
+const WITH_A_ZERO_MORE: &[u8] =
+    b"\x0a5.6.4-m7-log\x00\x56\x0a\x00\x00RB3vz&Gr\x00\xff\xff\x08\x02\x00\x0f\xc0\x15\x00\x00\x00\x00\x00\x00\x00\x00\x00\x00+yD&/ZZ305ZG\x00mysql_native_password\x00\x00";
+
 #[test]
 fn of_mysql(rt: HostRuntime) {
     let assert = Asserting(&rt);
-    let packet = read(&assert, rt.alloc(), MYSQL);
-    let plugin = Some(AuthPlugin::MysqlNativePassword);
-    assert_versions(&assert, &packet, Some((5, 6, 4)), None);
-    assert_connection(&assert, &packet, 2646, 0xc00f_ffff, plugin);
-    assert_writes(&assert, rt.alloc(), packet, MYSQL);
+    for bytes in [MYSQL, WITH_A_ZERO_MORE] {
+        let packet = read(&assert, rt.alloc(), bytes);
+        let plugin = Some(AuthPlugin::MysqlNativePassword);
+        assert_versions(&assert, &packet, Some((5, 6, 4)), None);
+        assert_connection(&assert, &packet, 2646, 0xc00f_ffff, plugin);
+        assert_writes(&assert, rt.alloc(), packet, MYSQL);
+    }
 }
 
 // Asserts that a packet has the numbers of the handshake of a MySQL server.

@@ -17,6 +17,8 @@ mod gtid_dumps;
 #[cfg(test)]
 mod handshakes;
 #[cfg(test)]
+mod headers;
+#[cfg(test)]
 mod plugins;
 #[cfg(test)]
 mod registration;

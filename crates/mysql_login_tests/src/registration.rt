@@ -5,7 +5,7 @@ use mysql_login::{ComRegisterSlave, ComTableDump, SemiSyncAckPacket};
 use mysql_raw::WireError;
 use std::alloc::Global;
 use std::borrow::CowSlice;
-use tests_support::{Assert, assert_bytes};
+use tests_support::{Assert, assert_bytes, assert_equal};
 
 const TABLE: &[u8] = b"\x13\x02db\x01t";
 
@@ -66,6 +66,14 @@ const NO_REPLICAS: [(&[u8], WireError); 2] = [
     (b"\x14\x01\x00\x00", WireError::UnexpectedEof),
 ];
 
+// Asserts that a replica has the numbers of the one above.
+fn assert_numbers(assert: &impl Assert, packet: &ComRegisterSlave<'_>) {
+    assert_equal(assert, packet.server_id(), 0x102);
+    assert_equal(assert, packet.port(), 3306);
+    assert_equal(assert, packet.replication_rank(), 3);
+    assert_equal(assert, packet.master_id(), 4);
+}
+
 #[test]
 fn a_replica(rt: HostRuntime) {
     let assert = Asserting(&rt);
@@ -73,13 +81,22 @@ fn a_replica(rt: HostRuntime) {
         .with_port(3306)
         .with_replication_rank(3)
         .with_master_id(4);
+    assert_numbers(&assert, &packet);
     assert_packet(&assert, rt.alloc(), packet, REPLICA, REPLICA.len());
     assert_each_refused::<ComRegisterSlave>(&assert, rt.alloc(), &NO_REPLICAS);
 }
 
-// Asserts that a replica has these names.
+// Asserts that a replica has these names, of which the first is no text.
 fn assert_names_of_a_replica(assert: &impl Assert, alloc: Global, packet: &ComRegisterSlave<'_>) {
-    assert_text(assert, packet.hostname(alloc), packet.hostname(alloc), "h");
+    assert_bytes(assert, packet.hostname_raw(), b"h\xff");
+    assert_bytes(assert, packet.user_raw(), b"u");
+    assert_bytes(assert, packet.password_raw(), b"p");
+    assert_text(
+        assert,
+        packet.hostname(alloc),
+        packet.hostname(alloc),
+        "h\u{fffd}",
+    );
     assert_text(assert, packet.user(alloc), packet.user(alloc), "u");
     assert_text(assert, packet.password(alloc), packet.password(alloc), "p");
 }
@@ -88,7 +105,7 @@ fn assert_names_of_a_replica(assert: &impl Assert, alloc: Global, packet: &ComRe
 fn names_of_a_replica(rt: HostRuntime) {
     let assert = Asserting(&rt);
     let alloc = rt.alloc();
-    let packet = with_names(ComRegisterSlave::new(1), b"h", b"u", b"p");
+    let packet = with_names(ComRegisterSlave::new(1), b"h\xff", b"u", b"p");
     assert_names_of_a_replica(&assert, alloc, &packet);
     assert_makes(&assert, packet.clone(alloc), packet.clone(alloc), packet);
 }
@@ -105,18 +122,25 @@ const NO_ACKNOWLEDGEMENTS: [(&[u8], WireError); 2] = [
     ),
 ];
 
+// Asserts which place an acknowledgement names.
+fn assert_acknowledges(assert: &impl Assert, alloc: Global, packet: &SemiSyncAckPacket<'_>) {
+    assert_equal(assert, packet.position(), 0x201);
+    assert_bytes(assert, packet.filename_raw(), b"binlog.1");
+    assert_text(
+        assert,
+        packet.filename(alloc),
+        packet.filename(alloc),
+        "binlog.1",
+    );
+}
+
 #[test]
 fn an_acknowledgement(rt: HostRuntime) {
     let assert = Asserting(&rt);
     let packet = SemiSyncAckPacket::new(0, CowSlice::Borrowed(b""))
         .with_position(0x201)
         .with_filename(CowSlice::Borrowed(b"binlog.1"));
-    assert_text(
-        &assert,
-        packet.filename(rt.alloc()),
-        packet.filename(rt.alloc()),
-        "binlog.1",
-    );
+    assert_acknowledges(&assert, rt.alloc(), &packet);
     assert_packet(&assert, rt.alloc(), packet, ACKNOWLEDGED, 9);
     assert_each_refused::<SemiSyncAckPacket>(&assert, rt.alloc(), &NO_ACKNOWLEDGEMENTS);
 }

@@ -4,7 +4,7 @@ use crate::support::{Asserting, assert_makes, assert_text, assert_writes, untagg
 use mysql_login::{BinlogDumpFlags, BinlogRequest, Sid};
 use std::alloc::{AllocError, Global};
 use std::borrow::CowSlice;
-use tests_support::{Assert, assert_equal, once_more};
+use tests_support::{Assert, assert_bytes, assert_equal, assert_same, once_more};
 
 fn sids(alloc: Global, sid: Sid<'static>) -> Result<Vec<Sid<'static>>, AllocError> {
     let mut sids = Vec::new(alloc);
@@ -49,10 +49,21 @@ fn packets(rt: HostRuntime) {
     }
 }
 
-// Asserts that a request has these fields.
-fn assert_fields(assert: &impl Assert, alloc: Global, request: &BinlogRequest<'_>) {
-    assert_equal(assert, request.pos(), 4);
+// Asserts that a request has these numbers, and the one set without a tag.
+fn assert_fields(
+    assert: &impl Assert,
+    alloc: Global,
+    request: &BinlogRequest<'_>,
+    (server_id, flags, pos): (u32, u16, u64),
+) {
+    assert_equal(assert, request.server_id(), server_id);
+    assert_equal(assert, request.flags().0, flags);
+    assert_equal(assert, request.pos(), pos);
     assert_equal(assert, request.use_gtid(), false);
+    let sids = one_set(assert, alloc);
+    assert_same(assert, &request.sids(), &sids.as_slice());
+    drop(sids);
+    assert_bytes(assert, request.filename_raw(), b"f");
     assert_text(
         assert,
         request.filename(alloc),
@@ -68,6 +79,9 @@ fn fields_of_a_request(rt: HostRuntime) {
     let request = BinlogRequest::new(alloc, 7)
         .with_filename(CowSlice::Borrowed(b"f"))
         .with_sids(one_set(&assert, alloc));
-    assert_fields(&assert, alloc, &request);
+    assert_fields(&assert, alloc, &request, (7, 0, 4));
     assert_makes(&assert, request.clone(alloc), request.clone(alloc), request);
+    let request = self::request(&assert, alloc);
+    assert_fields(&assert, alloc, &request, (7, 3, 0x1_0000_0005));
+    drop(request);
 }

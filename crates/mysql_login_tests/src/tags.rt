@@ -1,8 +1,9 @@
 //! Tags of texts.
 
 use crate::support::{Asserting, assert_makes};
-use mysql_login::{InvalidTag, Tag};
+use mysql_login::{InvalidTag, Tag, UUID_LEN};
 use std::borrow::CowStr;
+use std::cmp::Ordering;
 use tests_support::{Assert, assert_equal, once_more};
 
 // A text as a tag, twice: by either call.
@@ -28,6 +29,30 @@ fn tags(rt: HostRuntime) {
     for text in ["_", "domain_1", "abcdefghijklmnopqrstuvwxyz123456"] {
         assert_accepted(&assert, text);
     }
+    assert_equal(&assert, (Tag::MAX_LEN, UUID_LEN), (32, 16));
+}
+
+// Texts of tags in their order, which is that of their bytes.
+const IN_ORDER: [&str; 6] = ["_", "a", "a1", "a_", "aa", "b"];
+
+// Asserts how two texts are ordered as tags.
+fn assert_order(assert: &impl Assert, texts: (&str, &str), wanted: Ordering) {
+    let (one, other) = (tag(assert, texts.0), tag(assert, texts.1));
+    let found = (one.cmp(&other), one.partial_cmp(&other));
+    drop(one);
+    drop(other);
+    assert_equal(assert, found, (wanted, Some(wanted)));
+}
+
+#[test]
+fn tags_in_order(rt: HostRuntime) {
+    let assert = Asserting(&rt);
+    for at in 1..6 {
+        let (one, other) = (IN_ORDER[at - 1], IN_ORDER[at]);
+        assert_order(&assert, (one, other), Ordering::Less);
+        assert_order(&assert, (other, one), Ordering::Greater);
+        assert_order(&assert, (one, one), Ordering::Equal);
+    }
 }
 
 #[test]
@@ -35,7 +60,7 @@ fn refused_tags(rt: HostRuntime) {
     let assert = Asserting(&rt);
     let rows = [
         ("", InvalidTag::Empty),
-        ("abcdefghijklmnopqrstuvwxyz1234567", InvalidTag::TooLong(33)),
+        ("abcdefghijklmnopqrstuvwxyzabcdefg", InvalidTag::TooLong(33)),
         ("1tag", InvalidTag::InvalidFirstChar('1')),
         ("tAg", InvalidTag::InvalidChar('A')),
         ("t\u{e9}g", InvalidTag::InvalidChar('\u{e9}')),

@@ -21,7 +21,32 @@ type Binary = ValueDeserializer<BinValue>;
 type Text = ValueDeserializer<TextValue>;
 
 /// Types, flags and cells with two bytes behind them, and the values that are read.
-const BINARY: [(ColumnType, ColumnFlags, &[u8], Given); 10] = [
+const BINARY: [(ColumnType, ColumnFlags, &[u8], Given); 15] = [
+    (ColumnType::MYSQL_TYPE_NULL, SIGNED, b"..", Given::Null),
+    (
+        ColumnType::MYSQL_TYPE_SHORT,
+        SIGNED,
+        b"\xfe\xff..",
+        Given::Int(-2),
+    ),
+    (
+        ColumnType::MYSQL_TYPE_SHORT,
+        UNSIGNED,
+        b"\xfe\xff..",
+        Given::Int(65534),
+    ),
+    (
+        ColumnType::MYSQL_TYPE_LONG,
+        SIGNED,
+        b"\xfd\xff\xff\xff..",
+        Given::Int(-3),
+    ),
+    (
+        ColumnType::MYSQL_TYPE_INT24,
+        UNSIGNED,
+        b"\xfd\xff\xff\x00..",
+        Given::Int(16777213),
+    ),
     (
         ColumnType::MYSQL_TYPE_TINY,
         UNSIGNED,
@@ -111,6 +136,146 @@ fn binary_cells(rt: HostRuntime) {
     }
 }
 
+/// The types whose cells are bytes behind their length.
+const COUNTED: [ColumnType; 15] = [
+    ColumnType::MYSQL_TYPE_DECIMAL,
+    ColumnType::MYSQL_TYPE_NEWDECIMAL,
+    ColumnType::MYSQL_TYPE_VARCHAR,
+    ColumnType::MYSQL_TYPE_VAR_STRING,
+    ColumnType::MYSQL_TYPE_STRING,
+    ColumnType::MYSQL_TYPE_TINY_BLOB,
+    ColumnType::MYSQL_TYPE_MEDIUM_BLOB,
+    ColumnType::MYSQL_TYPE_LONG_BLOB,
+    ColumnType::MYSQL_TYPE_BLOB,
+    ColumnType::MYSQL_TYPE_ENUM,
+    ColumnType::MYSQL_TYPE_SET,
+    ColumnType::MYSQL_TYPE_BIT,
+    ColumnType::MYSQL_TYPE_JSON,
+    ColumnType::MYSQL_TYPE_GEOMETRY,
+    ColumnType::MYSQL_TYPE_VECTOR,
+];
+
+/// Cells of each length of dates, and those dates. Of a length between two forms the fields of the shorter one count, and
+/// bytes behind the last field are skipped.
+const DATES: [(&[u8], Given); 14] = [
+    (b"\x00..", Given::Date(0, 0, 0, 0, 0, 0, 0)),
+    (b"\x01\xe8..", Given::Date(0, 0, 0, 0, 0, 0, 0)),
+    (b"\x02\xe8\x07..", Given::Date(0, 0, 0, 0, 0, 0, 0)),
+    (b"\x03\xe8\x07\x02..", Given::Date(0, 0, 0, 0, 0, 0, 0)),
+    (
+        b"\x04\xe8\x07\x02\x1d..",
+        Given::Date(2024, 2, 29, 0, 0, 0, 0),
+    ),
+    (
+        b"\x05\xe8\x07\x02\x1d\x0c..",
+        Given::Date(2024, 2, 29, 0, 0, 0, 0),
+    ),
+    (
+        b"\x06\xe8\x07\x02\x1d\x0c\x22..",
+        Given::Date(2024, 2, 29, 0, 0, 0, 0),
+    ),
+    (
+        b"\x07\xe8\x07\x02\x1d\x0c\x22\x38..",
+        Given::Date(2024, 2, 29, 12, 34, 56, 0),
+    ),
+    (
+        b"\x08\xe8\x07\x02\x1d\x0c\x22\x38\x15..",
+        Given::Date(2024, 2, 29, 12, 34, 56, 0),
+    ),
+    (
+        b"\x09\xe8\x07\x02\x1d\x0c\x22\x38\x15\x03..",
+        Given::Date(2024, 2, 29, 12, 34, 56, 0),
+    ),
+    (
+        b"\x0a\xe8\x07\x02\x1d\x0c\x22\x38\x15\x03\x01..",
+        Given::Date(2024, 2, 29, 12, 34, 56, 0),
+    ),
+    (
+        b"\x0b\xe8\x07\x02\x1d\x0c\x22\x38\x15\x03\x01\x00..",
+        Given::Date(2024, 2, 29, 12, 34, 56, 66325),
+    ),
+    (
+        b"\x0c\xe8\x07\x02\x1d\x0c\x22\x38\x15\x03\x01\x00\x63..",
+        Given::Date(2024, 2, 29, 12, 34, 56, 66325),
+    ),
+    (
+        b"\x0d\xe8\x07\x02\x1d\x0c\x22\x38\x15\x03\x01\x00\x63\x63..",
+        Given::Date(2024, 2, 29, 12, 34, 56, 66325),
+    ),
+];
+
+/// Cells of each length of times, and those times. A sign of 1 alone is negative.
+const TIMES: [(&[u8], Given); 12] = [
+    (b"\x00..", Given::Time(false, 0, 0, 0, 0, 0)),
+    (b"\x01\x01..", Given::Time(false, 0, 0, 0, 0, 0)),
+    (
+        b"\x07\x01\x22\x00\x00\x00\x16\x3b..",
+        Given::Time(false, 0, 0, 0, 0, 0),
+    ),
+    (
+        b"\x08\x01\x22\x00\x00\x00\x16\x3b\x3a..",
+        Given::Time(true, 34, 22, 59, 58, 0),
+    ),
+    (
+        b"\x08\x00\x22\x00\x00\x00\x16\x3b\x3a..",
+        Given::Time(false, 34, 22, 59, 58, 0),
+    ),
+    (
+        b"\x08\x02\x22\x00\x00\x00\x16\x3b\x3a..",
+        Given::Time(false, 34, 22, 59, 58, 0),
+    ),
+    (
+        b"\x08\xff\x22\x00\x00\x00\x16\x3b\x3a..",
+        Given::Time(false, 34, 22, 59, 58, 0),
+    ),
+    (
+        b"\x09\x01\x22\x00\x00\x00\x16\x3b\x3a\x15..",
+        Given::Time(true, 34, 22, 59, 58, 0),
+    ),
+    (
+        b"\x0b\x01\x22\x00\x00\x00\x16\x3b\x3a\x15\x03\x01..",
+        Given::Time(true, 34, 22, 59, 58, 0),
+    ),
+    (
+        b"\x0c\x01\x22\x00\x00\x00\x16\x3b\x3a\x15\x03\x01\x00..",
+        Given::Time(true, 34, 22, 59, 58, 66325),
+    ),
+    (
+        b"\x0c\x02\x22\x00\x00\x00\x16\x3b\x3a\x15\x03\x01\x00..",
+        Given::Time(false, 34, 22, 59, 58, 66325),
+    ),
+    (
+        b"\x0d\x01\x22\x00\x00\x00\x16\x3b\x3a\x15\x03\x01\x00\x63..",
+        Given::Time(true, 34, 22, 59, 58, 66325),
+    ),
+];
+
+/// Asserts what each cell of a table is as one of this type.
+fn assert_cells(
+    assert: &impl Assert,
+    alloc: Global,
+    column_type: ColumnType,
+    cells: &[(&'static [u8], Given)],
+) {
+    for (cell, wanted) in cells {
+        assert_binary(assert, alloc, (column_type, SIGNED), *cell, *wanted);
+    }
+}
+
+#[test]
+fn binary_cells_of_any_length(rt: HostRuntime) {
+    let assert = Asserting(&rt);
+    let alloc = rt.alloc();
+    assert_cells(&assert, alloc, ColumnType::MYSQL_TYPE_DATE, &DATES);
+    assert_cells(&assert, alloc, ColumnType::MYSQL_TYPE_DATETIME, &DATES);
+    assert_cells(&assert, alloc, ColumnType::MYSQL_TYPE_TIMESTAMP, &DATES);
+    assert_cells(&assert, alloc, ColumnType::MYSQL_TYPE_TIME, &TIMES);
+    for column_type in COUNTED {
+        let cell = [(b"\x01a..".as_slice(), Given::Bytes(b"a"))];
+        assert_cells(&assert, alloc, column_type, &cell);
+    }
+}
+
 /// Types, and cells that are refused wherever they are cut off.
 const WHOLE: [(ColumnType, &[u8]); 3] = [
     (
@@ -122,6 +287,16 @@ const WHOLE: [(ColumnType, &[u8]); 3] = [
         ColumnType::MYSQL_TYPE_TIME,
         b"\x08\x01\x01\x00\x00\x00\x02\x03\x04",
     ),
+];
+
+/// The types that have no cells.
+const WITHOUT_CELLS: [ColumnType; 6] = [
+    ColumnType::MYSQL_TYPE_NEWDATE,
+    ColumnType::MYSQL_TYPE_TIMESTAMP2,
+    ColumnType::MYSQL_TYPE_DATETIME2,
+    ColumnType::MYSQL_TYPE_TIME2,
+    ColumnType::MYSQL_TYPE_TYPED_ARRAY,
+    ColumnType::MYSQL_TYPE_UNKNOWN,
 ];
 
 #[test]
@@ -137,13 +312,15 @@ fn refused_cells(rt: HostRuntime) {
             cell.len(),
         );
     }
-    assert_refused::<Binary, (ColumnType, ColumnFlags)>(
-        &assert,
-        rt.alloc(),
-        (ColumnType::MYSQL_TYPE_NEWDATE, SIGNED),
-        b"",
-        WireError::UnsupportedType,
-    );
+    for column_type in WITHOUT_CELLS {
+        assert_refused::<Binary, (ColumnType, ColumnFlags)>(
+            &assert,
+            rt.alloc(),
+            (column_type, SIGNED),
+            b"",
+            WireError::UnsupportedType,
+        );
+    }
 }
 
 fn assert_text(assert: &impl Assert, alloc: Global, cell: &[u8], wanted: Given) {

@@ -186,6 +186,30 @@ fn signed_integers(rt: HostRuntime) {
     assert_range(
         &a,
         alloc,
+        7i16,
+        (b"-32768", -32768),
+        (b"32767", 32767),
+        [b"-32769", b"32768"],
+    );
+    assert_range(
+        &a,
+        alloc,
+        7i32,
+        (b"-2147483648", -2147483648),
+        (b"2147483647", 2147483647),
+        [b"-2147483649", b"2147483648"],
+    );
+    assert_range(
+        &a,
+        alloc,
+        7isize,
+        (b"-9223372036854775808", isize::MIN),
+        (b"9223372036854775807", isize::MAX),
+        [b"-9223372036854775809", b"9223372036854775808"],
+    );
+    assert_range(
+        &a,
+        alloc,
         7i64,
         (b"-9223372036854775808", i64::MIN),
         (b"9223372036854775807", i64::MAX),
@@ -212,6 +236,30 @@ fn unsigned_integers(rt: HostRuntime) {
     assert_range(
         &a,
         alloc,
+        7u16,
+        (b"0", 0),
+        (b"65535", 65535),
+        [b"-1", b"65536"],
+    );
+    assert_range(
+        &a,
+        alloc,
+        7u32,
+        (b"0", 0),
+        (b"4294967295", 4294967295),
+        [b"-1", b"4294967296"],
+    );
+    assert_range(
+        &a,
+        alloc,
+        7usize,
+        (b"0", 0),
+        (b"18446744073709551615", usize::MAX),
+        [b"-1", b"18446744073709551616"],
+    );
+    assert_range(
+        &a,
+        alloc,
         7u64,
         (b"0", 0),
         (b"18446744073709551615", u64::MAX),
@@ -234,6 +282,12 @@ fn numbers_past_a_range(rt: HostRuntime) {
     let alloc = rt.alloc();
     assert_converts::<u8>(&a, alloc, Given::Int(256), None);
     assert_converts::<u64>(&a, alloc, Given::Int(-1), None);
+    assert_converts::<usize>(&a, alloc, Given::Int(-1), None);
+    assert_converts::<u16>(&a, alloc, Given::UInt(65536), None);
+    assert_converts::<u32>(&a, alloc, Given::Int(4294967296), None);
+    assert_converts::<i16>(&a, alloc, Given::Int(-32769), None);
+    assert_converts::<i32>(&a, alloc, Given::UInt(2147483648), None);
+    assert_converts::<isize>(&a, alloc, Given::UInt(9223372036854775808), None);
     assert_converts::<i64>(&a, alloc, Given::UInt(9223372036854775808), None);
     assert_converts(&a, alloc, Given::UInt(u64::MAX), Some(u64::MAX));
     assert_converts(&a, alloc, Given::Int(i64::MIN), Some(i64::MIN));

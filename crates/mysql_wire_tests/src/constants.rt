@@ -46,6 +46,9 @@ fn constants_read_back(rt: HostRuntime) {
     assert_reads_back::<ConstU32<Header, 1>, ()>(&assert, alloc, (), &[1, 0, 0, 0]);
     assert_reads_back::<ConstBytes<Catalog, 4>, ()>(&assert, alloc, (), b"\x03def");
     assert_reads_back::<Skip<2>, ()>(&assert, alloc, (), &[0, 0]);
+    // Whatever is skipped, zeros are written.
+    let skipped = whole::<Skip<2>, ()>(&assert, alloc, (), &[7, 0xff]);
+    assert_written(&assert, alloc, &skipped, &[0, 0]);
 }
 
 /// A number of one byte or of two.

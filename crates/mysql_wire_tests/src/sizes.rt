@@ -1,8 +1,13 @@
-//! How many bytes a value takes in its representation.
+//! How many bytes a value takes in its representation, the protocol's sizes, and the numbers of its collations.
 
 use crate::support::Asserting;
-use mysql_raw::{IntRepr, LeU32, LenEnc, RawInt, Readable};
-use mysql_raw_bytes::{BytesRepr, FixedLengthText, NullBytes, RawBytes, U8Bytes};
+use mysql_const::{
+    DEFAULT_MAX_ALLOWED_PACKET, MAX_PAYLOAD_LEN, UTF8_GENERAL_CI, UTF8MB4_GENERAL_CI,
+};
+use mysql_raw::{IntRepr, LeU32, LenEnc, RawInt, Readable, VarLen};
+use mysql_raw_bytes::{
+    BareU8Bytes, BareU16Bytes, BytesRepr, FixedLengthText, NullBytes, RawBytes, U8Bytes, U32Bytes,
+};
 use mysql_raw_consts::{ConstU32, Skip};
 use mysql_raw_lists::Seq;
 use std::test::*;
@@ -20,6 +25,10 @@ fn assert_size<T: Readable>(assert: &impl Assert, size: Option<usize>) {
 fn sizes(rt: HostRuntime) {
     let assert = Asserting(&rt);
     assert.holds((LeU32::SIZE == Some(4)) & (U8Bytes::MAX_LEN == 255));
+    assert.holds((U32Bytes::MAX_LEN == 4294967295) & (VarLen::MAX_LEN == 4294967295));
+    assert.holds((BareU8Bytes::MAX_LEN == 255) & (BareU16Bytes::MAX_LEN == 65535));
+    assert.holds((MAX_PAYLOAD_LEN == 16777215) & (DEFAULT_MAX_ALLOWED_PACKET == 4194304));
+    assert.holds((UTF8_GENERAL_CI == 33) & (UTF8MB4_GENERAL_CI == 45));
     assert_size::<RawInt<LeU32>>(&assert, Some(4));
     assert_size::<ConstU32<Header, 1>>(&assert, Some(4));
     assert_size::<Skip<10>>(&assert, Some(10));

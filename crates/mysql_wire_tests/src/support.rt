@@ -20,6 +20,18 @@ impl<R: Abort> Assert for Asserting<'_, R> {
     }
 }
 
+/// Asserts of each row of a table that the value has its number, and the number its value.
+pub fn assert_numbered<
+    Value: Copy + PartialEq + TryFrom<Number, Error = Unknown> + Drop,
+    Number: Copy + PartialEq + From<Value> + Drop,
+    Unknown: Drop,
+>(assert: &impl Assert, rows: &[(Value, Number)]) {
+    for (value, number) in rows {
+        assert.holds(Number::from(*value) == *number);
+        assert.holds(Value::try_from(*number).ok() == Some(*value));
+    }
+}
+
 /// `SELECT 1` as a command: a header with the length 9 and the number 0, and its payload.
 pub const SELECT_1: [u8; 13] = [
     9, 0, 0, 0, 3, 0x53, 0x45, 0x4c, 0x45, 0x43, 0x54, 0x20, 0x31,

@@ -2,7 +2,7 @@
 
 use crate::support::Asserting;
 use mysql_buf::ParseBuf;
-use mysql_raw::{LenEnc, VarLen};
+use mysql_raw::{LenEnc, VarLen, WireError};
 use mysql_raw_bytes::{
     BareBytes, BareU8Bytes, BareU16Bytes, BytesRepr, EofBytes, FixedLengthText, NullBytes,
     RawBytes, U8Bytes, U32Bytes,
@@ -10,7 +10,8 @@ use mysql_raw_bytes::{
 use std::alloc::Global;
 use std::test::*;
 use tests_support::{
-    Assert, assert_bytes, assert_copied, assert_reads_back, assert_written, first_of, once_more,
+    Assert, assert_bytes, assert_copied, assert_reads_back, assert_refused, assert_written,
+    first_of, once_more,
 };
 
 // Asserts that a text in a representation, through its bound, is written as these bytes.
@@ -42,6 +43,16 @@ fn assert_without_a_length(assert: &impl Assert, alloc: Global, row: usize) {
     }
 }
 
+// Asserts that of a text of 256 bytes, behind a length of one byte, the first 255 count and are written.
+fn assert_cut_at_its_bound(assert: &impl Assert, alloc: Global) {
+    let text = [b'a'; 256];
+    let mut bytes = [b'a'; 256];
+    bytes[0] = 255;
+    let value: RawBytes<U8Bytes> = RawBytes::from(text.as_slice());
+    assert_bytes(assert, value.as_bytes(), &text[..255]);
+    assert_written(assert, alloc, &value, &bytes);
+}
+
 #[test]
 fn texts_written(rt: HostRuntime) {
     let assert = Asserting(&rt);
@@ -51,6 +62,21 @@ fn texts_written(rt: HostRuntime) {
     for row in 0..7 {
         assert_without_a_length(&assert, rt.alloc(), row);
     }
+    assert_cut_at_its_bound(&assert, rt.alloc());
+}
+
+// Asserts that a text may not have so many bytes, be they there or not.
+fn assert_too_many<T: BytesRepr<Ctx = usize>>(assert: &impl Assert, alloc: Global, count: usize) {
+    let cause = WireError::TooManyBytes;
+    assert_refused::<RawBytes<T>, usize>(assert, alloc, count, b"abcd", cause);
+}
+
+#[test]
+fn texts_with_too_many_bytes(rt: HostRuntime) {
+    let assert = Asserting(&rt);
+    assert_too_many::<BareBytes<3>>(&assert, rt.alloc(), 4);
+    assert_too_many::<BareU8Bytes>(&assert, rt.alloc(), 256);
+    assert_too_many::<BareU16Bytes>(&assert, rt.alloc(), 65536);
 }
 
 // Asserts that a text that was read is this one.
@@ -62,11 +88,13 @@ fn assert_is<T: BytesRepr>(assert: &impl Assert, text: RawBytes<'_, T>, wanted: 
 fn texts_read(rt: HostRuntime) {
     let assert = Asserting(&rt);
     let alloc = rt.alloc();
-    let mut buf = ParseBuf(b"\x02ab\x01c\x06appde\x00fghijkl");
+    let mut buf = ParseBuf(b"\x02ab\x01c\x01\x00\x00\x00m\x06appde\x00fghijkl");
     let text = first_of::<RawBytes<LenEnc>, ()>(&assert, alloc, (), &mut buf);
     assert_is(&assert, text, b"ab");
     let text = first_of::<RawBytes<U8Bytes>, ()>(&assert, alloc, (), &mut buf);
     assert_is(&assert, text, b"c");
+    let text = first_of::<RawBytes<U32Bytes>, ()>(&assert, alloc, (), &mut buf);
+    assert_is(&assert, text, b"m");
     let text = first_of::<RawBytes<VarLen>, ()>(&assert, alloc, (), &mut buf);
     assert_is(&assert, text, b"app");
     let text = first_of::<RawBytes<NullBytes>, ()>(&assert, alloc, (), &mut buf);

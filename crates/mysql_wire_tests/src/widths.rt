@@ -1,5 +1,7 @@
 //! Whole numbers of every sign, width and order of bytes, at the front of a buffer.
 
+ghost use Rattle.std.specs.Prelude.{◌≤◌, length};
+
 use crate::support::Asserting;
 use mysql_buf::ParseBuf;
 use std::test::*;
@@ -166,6 +168,92 @@ fn assert_signed(assert: &impl Assert, bytes: &[u8]) {
     }
 }
 
+// The unsigned number of so many bytes, lowest first, which is there.
+fn unsigned_there_lowest_first(buf: &mut ParseBuf<'_>, width: usize) -> u128
+    requires { 16 ≤ length buf.old.0.now }
+{
+    match width {
+        1 => buf.eat_u8().into(),
+        2 => buf.eat_u16_le().into(),
+        3 => buf.eat_u24_le().into(),
+        4 => buf.eat_u32_le().into(),
+        5 => buf.eat_u40_le().into(),
+        6 => buf.eat_u48_le().into(),
+        7 => buf.eat_u56_le().into(),
+        8 => buf.eat_u64_le().into(),
+        _ => buf.eat_u128_le(),
+    }
+}
+
+// The unsigned number of so many bytes, highest first, which is there.
+fn unsigned_there_highest_first(buf: &mut ParseBuf<'_>, width: usize) -> u128
+    requires { 16 ≤ length buf.old.0.now }
+{
+    match width {
+        2 => buf.eat_u16_be().into(),
+        3 => buf.eat_u24_be().into(),
+        4 => buf.eat_u32_be().into(),
+        5 => buf.eat_u40_be().into(),
+        6 => buf.eat_u48_be().into(),
+        7 => buf.eat_u56_be().into(),
+        8 => buf.eat_u64_be().into(),
+        _ => buf.eat_u128_be(),
+    }
+}
+
+// The signed number of so many bytes, lowest first, which is there.
+fn signed_there_lowest_first(buf: &mut ParseBuf<'_>, width: usize) -> i128
+    requires { 16 ≤ length buf.old.0.now }
+{
+    match width {
+        1 => buf.eat_i8().into(),
+        2 => buf.eat_i16_le().into(),
+        3 => buf.eat_i24_le().into(),
+        4 => buf.eat_i32_le().into(),
+        5 => buf.eat_i40_le().into(),
+        6 => buf.eat_i48_le().into(),
+        7 => buf.eat_i56_le().into(),
+        8 => buf.eat_i64_le().into(),
+        _ => buf.eat_i128_le(),
+    }
+}
+
+// The signed number of so many bytes, highest first, which is there.
+fn signed_there_highest_first(buf: &mut ParseBuf<'_>, width: usize) -> i128
+    requires { 16 ≤ length buf.old.0.now }
+{
+    match width {
+        2 => buf.eat_i16_be().into(),
+        3 => buf.eat_i24_be().into(),
+        4 => buf.eat_i32_be().into(),
+        5 => buf.eat_i40_be().into(),
+        6 => buf.eat_i48_be().into(),
+        7 => buf.eat_i56_be().into(),
+        8 => buf.eat_i64_be().into(),
+        _ => buf.eat_i128_be(),
+    }
+}
+
+// Whether the row's number is eaten where it is there, and so many bytes with it.
+fn unsigned_is_there((order, width, number): Row<u128>) -> bool {
+    let mut buf = ParseBuf(&BYTES);
+    let found = match order {
+        Order::LowestFirst => unsigned_there_lowest_first(&mut buf, width),
+        Order::HighestFirst => unsigned_there_highest_first(&mut buf, width),
+    };
+    (found == number) & (Some(buf.0) == BYTES.get(width..))
+}
+
+// The same of a signed number.
+fn signed_is_there((order, width, number): Row<i128>) -> bool {
+    let mut buf = ParseBuf(&BYTES);
+    let found = match order {
+        Order::LowestFirst => signed_there_lowest_first(&mut buf, width),
+        Order::HighestFirst => signed_there_highest_first(&mut buf, width),
+    };
+    (found == number) & (Some(buf.0) == BYTES.get(width..))
+}
+
 // Each number stands whole in as many bytes as it takes and in more, and is cut off in fewer.
 #[test]
 fn numbers_whole_and_cut_off(rt: HostRuntime) {
@@ -174,5 +262,8 @@ fn numbers_whole_and_cut_off(rt: HostRuntime) {
         let bytes = &BYTES[..len];
         assert_unsigned(&assert, bytes);
         assert_signed(&assert, bytes);
+    }
+    for i in 0..17 {
+        assert.holds(unsigned_is_there(UNSIGNED[i]) & signed_is_there(SIGNED[i]));
     }
 }
