@@ -10,7 +10,7 @@ use mysql_session_states::{
 };
 use mysql_stmt::ComStmtSendLongData;
 use mysql_values::{ByteString, Content, MissingNamedParameterError, ParamsError};
-use std::alloc::{AllocError, Global};
+use std::alloc::Global;
 use std::borrow::CowSlice;
 use tests_support::{Assert, assert_copied, once_more};
 
