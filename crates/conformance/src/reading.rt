@@ -20,7 +20,7 @@ pub enum Reading {
     Reply(ReplyKind, CapabilityFlags, u8, usize),
 }
 
-/// How bytes are fed: the size of the pieces, and how many times in a row what stands is taken before the first piece and behind each.
+/// How bytes are fed: the size of the pieces, and how many times in a row an empty piece follows each and what stands is taken.
 type Feeding = (usize, usize);
 
 /// What a stream of commands says that is fed so: the sets that were taken, and behind them those of the end.
@@ -33,6 +33,7 @@ fn fed_audit(
     for piece in stream.chunks(size.max(1)) {
         let _answer = receiver.feed(piece);
         for _ in 0..takes {
+            let _answer = receiver.feed(&[]);
             sets.append(&mut receiver.take_sets())?;
         }
     }
@@ -51,7 +52,8 @@ fn audited(
 ) -> Result<String, Trouble> {
     let limit = limit.max(4);
     let audit = if feeding == (stream.len(), 0) {
-        receive(alloc, query, id, limit, &[stream])?
+        let (front, back) = stream.split_at(stream.len() / 2);
+        receive(alloc, query, id, limit, &[front, &[], back])?
     } else {
         fed_audit(Receiver::new(alloc, query, id, limit)?, stream, feeding)?
     };
@@ -73,6 +75,7 @@ fn fed_reply(
     for piece in stream.chunks(size.max(1)) {
         let _answer = reader.feed(piece);
         for _ in 0..takes {
+            let _answer = reader.feed(&[]);
             results.append(&mut reader.take_results())?;
             progress.append(&mut reader.take_progress())?;
         }
@@ -93,7 +96,8 @@ fn replied(
     feeding: Feeding,
 ) -> Result<String, Trouble> {
     let reply = if feeding == (stream.len(), 0) {
-        read_reply(alloc, kind, capabilities, first_id, limit, &[stream])
+        let (front, back) = stream.split_at(stream.len() / 2);
+        read_reply(alloc, kind, capabilities, first_id, limit, &[front, &[], back])
     } else {
         let reader = ReplyReader::new(alloc, kind, capabilities, first_id, limit);
         fed_reply(reader, stream, feeding)?
@@ -122,8 +126,8 @@ fn words_said(
     }
 }
 
-/// Compares what bytes say with what is wanted: in one piece, byte by byte, and where they are few in pieces of each size; and once more, in at
-/// most some 10000 pieces, where what stands is taken in between.
+/// Compares what bytes say with what is wanted: in two halves with an empty piece between them, byte by byte, and where they are few in pieces of
+/// each size; and once more, in one piece, and in at most some 10000, where empty pieces come and what stands is taken in between.
 fn check_bytes(
     alloc: Global,
     reading: &Reading,

@@ -6,7 +6,8 @@ use crate::results::reply_words;
 use crate::tokens::{Token, words_of};
 use crate::trouble::Trouble;
 use mysql_session::{
-    CapabilityFlags, Reply, ReplyEnd, ReplyFault, ReplyKind, ReplyRefusal, read_reply, write_reply,
+    CapabilityFlags, Reply, ReplyEnd, ReplyFault, ReplyKind, ReplyRefusal, ReplyResult, ReplyWriter,
+    read_reply, write_reply,
 };
 use std::alloc::Global;
 
@@ -30,12 +31,80 @@ pub fn reply_of(
     Ok(reply)
 }
 
-/// The bytes that a reply is written as, or why it is not.
-pub fn written(
+/// Writes a result part by part.
+fn put_result(
+    writer: &mut ReplyWriter,
+    found: &ReplyResult,
+    more: bool,
+    out: &mut Vec<u8>,
+) -> Result<(), ReplyRefusal> {
+    match found {
+        ReplyResult::Ok(packet) => writer.ok(packet, more, out),
+        ReplyResult::Rows {
+            columns,
+            rows,
+            terminator,
+        } => {
+            writer.columns(columns, out)?;
+            for row in rows {
+                writer.row(row, out)?;
+            }
+            match terminator {
+                Some(packet) => writer.end_rows(packet, more, out),
+                None => Ok(()),
+            }
+        }
+        ReplyResult::Prepared {
+            stmt,
+            params,
+            columns,
+        } => writer.prepared(stmt, params, columns, out),
+        ReplyResult::Error(error) => writer.error(error, out),
+        ReplyResult::File(packet) => writer.file(packet, out),
+    }
+}
+
+/// The bytes that a reply is written as part by part, or why it is not.
+fn written_in_parts(
     alloc: Global,
     (kind, capabilities, first_id, limit): Sides,
     reply: &Reply,
+) -> Result<Vec<u8>, ReplyRefusal> {
+    let mut writer = ReplyWriter::new(alloc, kind, capabilities, first_id, limit);
+    let mut out = Vec::new(alloc);
+    for report in &reply.progress {
+        writer.report(report, &mut out)?;
+    }
+    let last = reply.results.len().saturating_sub(1);
+    for (place, found) in reply.results.iter().enumerate() {
+        put_result(&mut writer, found, place < last, &mut out)?;
+    }
+    writer.finish()?;
+    Ok(out)
+}
+
+/// Compares what a reply is written as part by part with these bytes, or with this refusal.
+fn check_parts(
+    alloc: Global,
+    sides: Sides,
+    reply: &Reply,
+    wanted: &Result<Vec<u8>, ReplyRefusal>,
+) -> Result<(), Trouble> {
+    match (written_in_parts(alloc, sides, reply), wanted) {
+        (Ok(found), Ok(bytes)) if found == *bytes => Ok(()),
+        (Err(ReplyRefusal::Memory), _) => Err(Trouble::Memory),
+        (Err(found), Err(refusal)) if found == *refusal => Ok(()),
+        _ => Err(Trouble::Malformed("part by part it is written in another way")),
+    }
+}
+
+/// The bytes that a reply is written as, or why it is not; part by part it is written in the same way.
+pub fn written(
+    alloc: Global,
+    sides: Sides,
+    reply: &Reply,
 ) -> Result<Result<Vec<u8>, ReplyRefusal>, Trouble> {
+    let (kind, capabilities, first_id, limit) = sides;
     let mut out = Vec::from_slice(alloc, FRONT)?;
     let answer = write_reply(
         alloc,
@@ -47,12 +116,16 @@ pub fn written(
         &reply.progress,
         &mut out,
     );
-    match answer {
-        Ok(()) => Ok(Ok(Vec::from_slice(alloc, out.get(FRONT.len()..).unwrap_or(&[]))?)),
-        Err(ReplyRefusal::Memory) => Err(Trouble::Memory),
-        Err(_) if out.as_slice() != FRONT => Err(Trouble::Malformed("a refusal appended bytes")),
-        Err(refusal) => Ok(Err(refusal)),
-    }
+    let found = match answer {
+        Ok(()) => Ok(Vec::from_slice(alloc, out.get(FRONT.len()..).unwrap_or(&[]))?),
+        Err(ReplyRefusal::Memory) => return Err(Trouble::Memory),
+        Err(_) if out.as_slice() != FRONT => {
+            return Err(Trouble::Malformed("a refusal appended bytes"));
+        }
+        Err(refusal) => Err(refusal),
+    };
+    check_parts(alloc, sides, reply, &found)?;
+    Ok(found)
 }
 
 /// Writes what a reply says that was read with packets of up to 32 MB, perhaps of another kind, and compares the bytes, or the

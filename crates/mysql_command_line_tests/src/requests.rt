@@ -2,7 +2,7 @@
 
 use crate::runs::{Row, assert_rows};
 use crate::support::Asserting;
-use mysql_command_line::Status::{Done, Refused};
+use mysql_command_line::Status::{Done, Failed, Refused};
 
 /// The number 1 for the one place, by text.
 const ONE_BY_TEXT: &[u8] = b"\x09\0\0\0\x03SELECT 1";
@@ -116,6 +116,14 @@ const REFUSED: &[Row] = &[
         b"[[null],[1]]",
         b"refused: RowTooLarge\n",
         Refused,
+    ),
+    // A number that isn't whole, and a limit that is none.
+    (BY_TEXT, b"[{\"a\":1.5}]", b"bad json\n", Failed),
+    (
+        &["encode", "text", "1", "3", "SELECT :a"],
+        b"[]",
+        b"bad limit\n",
+        Failed,
     ),
 ];
 

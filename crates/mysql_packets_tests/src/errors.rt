@@ -11,7 +11,7 @@ use std::borrow::CowSlice;
 use std::fmt::Display;
 use tests_support::{
     Assert, assert_bytes, assert_copied, assert_cut_off, assert_equal, assert_reads_back,
-    assert_refused, once_more, whole,
+    assert_refused, assert_written, once_more, whole,
 };
 
 const NONE: CapabilityFlags = CapabilityFlags(0);
@@ -45,22 +45,17 @@ const SERVER_ERRORS: [(&[u8], CapabilityFlags, Says, &str); 2] = [
     ),
 ];
 
-fn assert_error(assert: &impl Assert, packet: &ErrPacket, says: &Says) {
-    match packet {
-        ErrPacket::Error(error) => {
-            assert_equal(assert, error.error_code(), says.0);
-            let state = error.sql_state_ref().map(|state| state.as_bytes());
-            assert_equal(assert, state, says.1);
-            assert_bytes(assert, error.message_ref(), says.2);
-        }
-        ErrPacket::Progress(_) => assert.holds(false),
-    }
+fn assert_error(assert: &impl Assert, error: &ServerError, says: &Says) {
+    assert_equal(assert, error.error_code(), says.0);
+    let state = error.sql_state_ref().map(|state| state.as_bytes());
+    assert_equal(assert, state, says.1);
+    assert_bytes(assert, error.message_ref(), says.2);
 }
 
 #[test]
 fn errors(rt: HostRuntime) {
     let assert = Asserting(&rt);
-    for (bytes, capabilities, says, _) in &SERVER_ERRORS {
+    for (bytes, capabilities, says, text) in &SERVER_ERRORS {
         let packet = whole::<ErrPacket, CapabilityFlags>(
             &assert,
             rt.alloc(),
@@ -68,7 +63,8 @@ fn errors(rt: HostRuntime) {
             *bytes,
         );
         assert.holds(packet.is_error());
-        assert_error(&assert, &packet, says);
+        assert_error(&assert, packet.server_error(), says);
+        assert_prints(&assert, rt.alloc(), &packet, *text);
     }
 }
 
@@ -95,28 +91,29 @@ fn read_back(rt: HostRuntime) {
     }
 }
 
-fn assert_report(assert: &impl Assert, packet: &ErrPacket) {
-    match packet {
-        ErrPacket::Progress(report) => {
-            assert_equal(assert, report.stage(), 1);
-            assert_equal(assert, report.max_stage(), 10);
-            assert_equal(assert, report.progress(), 23500);
-            assert_bytes(assert, report.stage_info_ref(), b"stage name");
-        }
-        ErrPacket::Error(_) => assert.holds(false),
-    }
+fn assert_report(assert: &impl Assert, report: &ProgressReport) {
+    assert_equal(assert, report.stage(), 1);
+    assert_equal(assert, report.max_stage(), 10);
+    assert_equal(assert, report.progress(), 23500);
+    assert_bytes(assert, report.stage_info_ref(), b"stage name");
 }
+
+/// The same with another count of strings, which is passed over, and is 1 where the report is written.
+const OTHER_COUNT: &[u8] = b"\xff\xff\xff\x07\x01\x0a\xcc\x5b\0\x0astage name";
 
 #[test]
 fn a_progress_report(rt: HostRuntime) {
     let assert = Asserting(&rt);
-    let packet = whole::<ErrPacket, CapabilityFlags>(&assert, rt.alloc(), WITH_PROGRESS, PROGRESS);
-    assert.holds(packet.is_progress_report());
-    assert_report(&assert, &packet);
+    for bytes in [PROGRESS, OTHER_COUNT] {
+        let packet = whole::<ErrPacket, CapabilityFlags>(&assert, rt.alloc(), WITH_PROGRESS, bytes);
+        assert.holds(packet.is_progress_report());
+        assert_report(&assert, packet.progress_report());
+        assert_written(&assert, rt.alloc(), &packet, PROGRESS);
+    }
 }
 
 /// Asserts how a value prints.
-fn assert_prints<T: Display>(assert: &impl Assert, alloc: Global, value: &T, wanted: &str) {
+pub fn assert_prints<T: Display>(assert: &impl Assert, alloc: Global, value: &T, wanted: &str) {
     let text = once_more(assert, value.to_string(alloc), value.to_string(alloc));
     assert_bytes(assert, text.as_bytes(), wanted.as_bytes());
 }

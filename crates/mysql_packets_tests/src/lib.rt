@@ -9,9 +9,13 @@ mod bulk;
 #[cfg(test)]
 mod columns;
 #[cfg(test)]
+mod copies;
+#[cfg(test)]
 mod errors;
 #[cfg(test)]
 mod given;
+#[cfg(test)]
+mod headers;
 #[cfg(test)]
 mod lent_rows;
 #[cfg(test)]

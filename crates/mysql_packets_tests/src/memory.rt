@@ -20,7 +20,7 @@ use mysql_packets::{
 use mysql_raw::{MyDeserialize, MySerialize, Readable, Text};
 use mysql_rows::{Row, RowDeserializer};
 use mysql_session_states::SessionStateInfo;
-use mysql_values::{BindError, Params, ParamsError, bind_text};
+use mysql_values::{BindError, Params, ParamsError, bind_text, bind_text_at, places};
 use mysql_wire::packet_to_chunks;
 use std::alloc::Global;
 use std::borrow::CowSlice;
@@ -127,6 +127,7 @@ fn bulk_requests(rt: HostRuntime) {
     let kind = ColumnType::MYSQL_TYPE_LONGLONG;
     let sent = StmtBulkExecuteParamType::new(kind, StmtExecuteParamFlags::UNSIGNED);
     assert_appended(&assert, alloc, &sent, b"\x08\x80");
+    assert.holds(StmtBulkExecuteParamType::size() == Some(2));
     let values = once_more(&assert, param_values(alloc, ONE), param_values(alloc, ONE));
     assert_appended(&assert, alloc, &values, b"\0\x01\0\0\0\0\0\0\0");
     let value = StmtBulkExecuteParamValue::new(Value::Int(1));
@@ -149,16 +150,33 @@ fn one(assert: &impl Assert, alloc: Global) -> Params {
     once_more(assert, named(alloc, b"a", 1), named(alloc, b"a", 1))
 }
 
+const QUERY: &[u8] = b"SELECT :a";
+
+/// Appends the text of the set over the query, or over its placeholders.
+fn bind(
+    alloc: Global,
+    by_places: bool,
+    set: &Params,
+    out: &mut Vec<u8>,
+) -> Result<(), BindError> {
+    if by_places {
+        let places = places(alloc, QUERY)?;
+        bind_text_at(alloc, QUERY, &places, set, out)
+    } else {
+        bind_text(alloc, QUERY, set, out)
+    }
+}
+
 /// Asserts that a text is bound behind `front`, which stands alone where memory is refused: whether it sufficed.
-fn is_bound(assert: &impl Assert, alloc: Global, set: &Params, out: &mut Vec<u8>) -> bool {
-    match bind_text(alloc, b"SELECT :a", set, out) {
+fn is_bound(assert: &impl Assert, answer: Result<(), BindError>, out: &[u8]) -> bool {
+    match answer {
         Ok(()) => {
-            assert_behind(assert, out.as_slice(), b"SELECT 1");
+            assert_behind(assert, out, b"SELECT 1");
             true
         }
         Err(error) => {
             assert.holds(error == BindError::Memory);
-            assert_bytes(assert, out.as_slice(), b"front");
+            assert_bytes(assert, out, b"front");
             false
         }
     }
@@ -169,9 +187,14 @@ fn bound_texts(rt: HostRuntime) {
     let assert = Asserting(&rt);
     let alloc = rt.alloc();
     let set = one(&assert, alloc);
-    let mut out = front(&assert, alloc);
-    let first = is_bound(&assert, alloc, &set, &mut out);
-    assert.holds(first || is_bound(&assert, alloc, &set, &mut out));
+    for by_places in [false, true] {
+        let mut out = front(&assert, alloc);
+        let answer = bind(alloc, by_places, &set, &mut out);
+        if !is_bound(&assert, answer, &out) {
+            let answer = bind(alloc, by_places, &set, &mut out);
+            assert.holds(is_bound(&assert, answer, &out));
+        }
+    }
 }
 
 /// Asserts that the set that gives the name `a` 1 has that value for a query: whether memory sufficed.

@@ -3,6 +3,7 @@
 use crate::memory::{assert_behind, front};
 use crate::session_states::{Told, assert_decoded};
 use crate::support::Asserting;
+use mysql_buf::ParseBuf;
 use mysql_const::{CapabilityFlags, StatusFlags};
 use mysql_ok_packets::{
     CommonOkPacket, NetworkStreamTerminator, OkPacket, OkPacketDeserializer, OkPacketKind,
@@ -89,8 +90,10 @@ const STATE: &[u8] = b"\x00\x0f\x0aautocommit\x03OFF";
 const CHANGED: &[u8] = b"\x00\x00\x00\x02\x40\x00\x00\x00\x11\x00\x0f\x0aautocommit\x03OFF";
 
 /// The client's capabilities, a packet, and what it says.
-const COMMON: [(CapabilityFlags, &[u8], Says); 3] = [
+const COMMON: [(CapabilityFlags, &[u8], Says); 5] = [
     (NONE, DONE, (1, None, AUTOCOMMIT, 0, None, None)),
+    (NONE, WITH_INFO, (1, None, AUTOCOMMIT, 0, Some(b"ok"), None)),
+    (TRACKED, WITH_INFO, (1, None, AUTOCOMMIT, 0, Some(b"ok"), None)),
     (TRACKED, DONE, (1, None, AUTOCOMMIT, 0, None, None)),
     (
         TRACKED,
@@ -106,7 +109,82 @@ fn common(rt: HostRuntime) {
     }
 }
 
-/// The terminator's numbers are passed over; its info follows.
+/// Asserts what is read behind the header of a packet of the kind `T`, and how many bytes are left. It is read once more where
+/// memory was refused.
+fn assert_body<T: OkPacketKind>(
+    assert: &impl Assert,
+    alloc: Global,
+    capabilities: CapabilityFlags,
+    (bytes, says, left): &(&'static [u8], Says, usize),
+) {
+    let mut buf = ParseBuf(*bytes);
+    let mut found = T::parse_body(alloc, capabilities, &mut buf);
+    if found.is_err() {
+        found = T::parse_body(alloc, capabilities, &mut buf);
+    }
+    match found {
+        Ok(body) => {
+            let packet = OkPacket::try_from(body);
+            assert_says(assert, &once_more(assert, packet, Err(WireError::Memory)), says);
+        }
+        Err(_) => assert.holds(false),
+    }
+    assert_equal(assert, buf.len(), *left);
+}
+
+/// What stands behind the header, what it says, and how many bytes are left. Where no session states are sent a zero in the place
+/// of the info's length is left.
+const BODIES: [(&[u8], Says, usize); 4] = [
+    (b"\x01\x00\x02\x00\x00\x00", (1, None, AUTOCOMMIT, 0, None, None), 0),
+    (
+        b"\x01\x00\x02\x00\x00\x00\x00",
+        (1, None, AUTOCOMMIT, 0, None, None),
+        1,
+    ),
+    (
+        b"\x01\x00\x02\x00\x00\x00\x00\x02ok",
+        (1, None, AUTOCOMMIT, 0, None, None),
+        4,
+    ),
+    (
+        b"\x01\x05\x02\x00\x03\x00\x02ok!",
+        (1, Some(5), AUTOCOMMIT, 3, Some(b"ok"), None),
+        1,
+    ),
+];
+
+/// The two numbers of a terminator are passed over.
+const TERMINATOR_BODIES: [(&[u8], Says, usize); 2] = [
+    (
+        b"\x05\xfc\x2c\x01\x02\x00\x03\x00",
+        (0, None, AUTOCOMMIT, 3, None, None),
+        0,
+    ),
+    (
+        b"\x01\x01\x02\x00\x00\x00\x02ok",
+        (0, None, AUTOCOMMIT, 0, Some(b"ok"), None),
+        0,
+    ),
+];
+
+const EOF_BODY: (&[u8], Says, usize) =
+    (b"\x01\x00\x02\x00!", (0, None, AUTOCOMMIT, 1, None, None), 1);
+
+#[test]
+fn bodies(rt: HostRuntime) {
+    let assert = Asserting(&rt);
+    let alloc = rt.alloc();
+    for row in &BODIES {
+        assert_body::<CommonOkPacket>(&assert, alloc, NONE, row);
+    }
+    for row in &TERMINATOR_BODIES {
+        assert_body::<ResultSetTerminator>(&assert, alloc, NONE, row);
+    }
+    assert_body::<OldEofPacket>(&assert, alloc, NONE, &EOF_BODY);
+    assert_body::<NetworkStreamTerminator>(&assert, alloc, NONE, &EOF_BODY);
+}
+
+/// A terminator's info follows its numbers.
 const TERMINATOR: &[u8] = b"\xfe\x00\x00\x00\x00\x00\x00\x02ok";
 
 /// Read as a terminator, a common OK packet is refused.
@@ -244,7 +322,8 @@ fn tracked<'a>(assert: &impl Assert, alloc: Global, bytes: &'a [u8]) -> OkPacket
     let read = whole::<OkPacketDeserializer<CommonOkPacket>, CapabilityFlags>(
         assert, alloc, TRACKED, bytes,
     );
-    read.into_inner()
+    assert_copied(assert, &read, read.clone(alloc), read.clone(alloc));
+    OkPacket::from(read)
 }
 
 /// Asserts what the states of a packet are decoded to.
@@ -264,7 +343,10 @@ fn assert_states(assert: &impl Assert, alloc: Global, packet: &OkPacket, told: &
 /// and the state are read, and the state isn't decoded.
 const WITH_STATES: [(&[u8], &[Told]); 6] = [
     (DONE, &[]),
-    (CHANGED, &[Told::Variable(b"autocommit", b"OFF")]),
+    (
+        CHANGED,
+        &[Told::Variables(&[(b"autocommit", b"OFF")])],
+    ),
     (
         b"\x00\x00\x00\x02\x40\x00\x00\x00\x07\x01\x05\x04test",
         &[Told::Schema(b"test")],

@@ -8,7 +8,7 @@ use mysql_convert::FromValueError;
 use mysql_null_bitmap::{ClientSide, ServerSide};
 use mysql_packets::Column;
 use mysql_raw::{Binary, MyDeserialize, ParseExt, Readable, Text, WireError};
-use mysql_rows::{Row, RowDeserializer, new_row, new_row_raw};
+use mysql_rows::{ColumnIndex, Row, RowDeserializer, new_row, new_row_raw};
 use mysql_values::ByteString;
 use std::alloc::{AllocError, Global};
 use std::rc::RcSlice;
@@ -83,11 +83,17 @@ const BINARY_NULL: &[u8] = b"\x00\x04\x01x";
 /// Of a client the bits begin with the first.
 const CLIENT_NULL: &[u8] = b"\x00\x01\x01x";
 
+/// Any byte may come first.
+const OTHER_FIRST_BYTE: &[u8] = b"\xff\x00\x05\0\0\0\0\0\0\0\x01x";
+
 #[test]
 fn binary_rows(rt: HostRuntime) {
     let assert = Asserting(&rt);
-    let row = row_of::<RowDeserializer<ServerSide, Binary>>(&assert, rt.alloc(), BINARY);
-    assert_cells(&assert, &row.into_inner(), Some(5), Some(b"x"));
+    for bytes in [BINARY, OTHER_FIRST_BYTE] {
+        let row = row_of::<RowDeserializer<ServerSide, Binary>>(&assert, rt.alloc(), bytes);
+        assert_copied(&assert, &row, row.clone(rt.alloc()), row.clone(rt.alloc()));
+        assert_cells(&assert, &Row::from(row), Some(5), Some(b"x"));
+    }
     let row = row_of::<RowDeserializer<ServerSide, Binary>>(&assert, rt.alloc(), BINARY_NULL);
     assert_cells(&assert, &row.into_inner(), None, Some(b"x"));
     let row = row_of::<RowDeserializer<ClientSide, Binary>>(&assert, rt.alloc(), CLIENT_NULL);
@@ -114,6 +120,17 @@ fn assert_second_refused(assert: &impl Assert, row: &mut Row) {
     }
 }
 
+/// Asserts which columns a number and a name are those of.
+fn assert_columns(assert: &impl Assert, columns: &[Column]) {
+    assert_equal(assert, 0usize.idx(columns), Some(0));
+    assert_equal(assert, 1usize.idx(columns), Some(1));
+    assert_equal(assert, 2usize.idx(columns), None);
+    assert_equal(assert, "id".idx(columns), Some(0));
+    assert_equal(assert, "name".idx(columns), Some(1));
+    assert_equal(assert, "Name".idx(columns), None);
+    assert_equal(assert, "".idx(columns), None);
+}
+
 fn assert_placed(assert: &impl Assert, row: &mut Row) {
     assert.holds(row.len() == 2);
     row.place(0, Value::Int(1));
@@ -125,6 +142,7 @@ fn taken_once(rt: HostRuntime) {
     let assert = Asserting(&rt);
     let read = row_of::<RowDeserializer<ServerSide, Text>>(&assert, rt.alloc(), b"\x017\x01x");
     let mut row = read.into_inner();
+    assert_columns(&assert, row.columns_ref());
     assert_first_taken(&assert, &mut row);
     assert_second_refused(&assert, &mut row);
     assert_placed(&assert, &mut row);

@@ -18,7 +18,7 @@ use tests_support::{
 pub enum Told {
     Tracked(bool),
     Schema(&'static [u8]),
-    Variable(&'static [u8], &'static [u8]),
+    Variables(&'static [(&'static [u8], &'static [u8])]),
     Gtids(&'static [u8]),
     Characteristics(&'static [u8]),
     Transaction(&'static [u8]),
@@ -26,11 +26,13 @@ pub enum Told {
 }
 
 fn assert_variables(assert: &impl Assert, all: &[SystemVariable], told: &Told) {
-    match all {
-        [variable] => assert.holds(
-            matches!(told, Told::Variable(name, value) if *name == variable.name_bytes() && *value == variable.value_bytes()),
-        ),
-        _ => assert.holds(false),
+    let Told::Variables(wanted) = told else {
+        return assert.holds(false);
+    };
+    assert_equal(assert, all.len(), wanted.len());
+    for (variable, (name, value)) in all.iter().zip(wanted.iter()) {
+        assert_bytes(assert, variable.name_bytes(), *name);
+        assert_bytes(assert, variable.value_bytes(), *value);
     }
 }
 
@@ -68,12 +70,30 @@ pub fn assert_decoded(assert: &impl Assert, alloc: Global, state: &SessionStateI
     }
 }
 
-/// States, the type of each, and what it is decoded to.
-const STATES: [(&[u8], SessionStateType, Told); 9] = [
+/// A state, its type, and what it is decoded to.
+type State = (&'static [u8], SessionStateType, Told);
+
+const STATES: [State; 12] = [
     (
         b"\x00\x0f\x0aautocommit\x03OFF",
         SessionStateType::SESSION_TRACK_SYSTEM_VARIABLES,
-        Told::Variable(b"autocommit", b"OFF"),
+        Told::Variables(&[(b"autocommit", b"OFF")]),
+    ),
+    // Two variables, of which the second has an empty value; none; and one whose value is lacking.
+    (
+        b"\x00\x19\x0aautocommit\x03OFF\x08sql_mode\x00",
+        SessionStateType::SESSION_TRACK_SYSTEM_VARIABLES,
+        Told::Variables(&[(b"autocommit", b"OFF"), (b"sql_mode", b"")]),
+    ),
+    (
+        b"\x00\x00",
+        SessionStateType::SESSION_TRACK_SYSTEM_VARIABLES,
+        Told::Variables(&[]),
+    ),
+    (
+        b"\x00\x0b\x0aautocommit",
+        SessionStateType::SESSION_TRACK_SYSTEM_VARIABLES,
+        Told::Refused(WireError::UnexpectedEof),
     ),
     (
         b"\x01\x05\x04test",
@@ -119,26 +139,63 @@ const STATES: [(&[u8], SessionStateType, Told); 9] = [
     ),
 ];
 
-#[test]
-fn states(rt: HostRuntime) {
-    let assert = Asserting(&rt);
-    let alloc = rt.alloc();
-    for (bytes, kind, told) in &STATES {
-        let state = whole::<SessionStateInfo, ()>(&assert, alloc, (), *bytes);
-        assert_equal(&assert, state.data_type(), *kind);
-        assert_bytes(&assert, state.data_ref(), &bytes[2..]);
-        assert_decoded(&assert, alloc, &state, told);
-        assert_copied(&assert, &state, state.clone(alloc), state.clone(alloc));
-    }
+/// Bytes behind a text are passed over: what tells the change is shorter than these.
+const LEFT_OVER: [State; 5] = [
+    (
+        b"\x01\x06\x04test!",
+        SessionStateType::SESSION_TRACK_SCHEMA,
+        Told::Schema(b"test"),
+    ),
+    (
+        b"\x02\x03\x011!",
+        SessionStateType::SESSION_TRACK_STATE_CHANGE,
+        Told::Tracked(true),
+    ),
+    (
+        b"\x02\x04\x0211!",
+        SessionStateType::SESSION_TRACK_STATE_CHANGE,
+        Told::Tracked(false),
+    ),
+    (
+        b"\x04\x06\x03abc\x03!",
+        SessionStateType::SESSION_TRACK_TRANSACTION_CHARACTERISTICS,
+        Told::Characteristics(b"abc"),
+    ),
+    (
+        b"\x05\x06\x03abc\x03!",
+        SessionStateType::SESSION_TRACK_TRANSACTION_STATE,
+        Told::Transaction(b"abc"),
+    ),
+];
+
+const ALL: [&[State]; 2] = [&STATES, &LEFT_OVER];
+
+fn assert_state(assert: &impl Assert, alloc: Global, (bytes, kind, told): &State) {
+    let state = whole::<SessionStateInfo, ()>(assert, alloc, (), *bytes);
+    assert_equal(assert, state.data_type(), *kind);
+    assert_bytes(assert, state.data_ref(), &bytes[2..]);
+    assert_decoded(assert, alloc, &state, told);
+    assert_reads_back::<SessionStateInfo, ()>(assert, alloc, (), *bytes);
+    assert_cut_off::<SessionStateInfo, ()>(assert, alloc, (), *bytes, 0, bytes.len());
 }
 
 #[test]
-fn read_back(rt: HostRuntime) {
-    let assert = Asserting(&rt);
-    for (bytes, _, _) in &STATES {
-        assert_reads_back::<SessionStateInfo, ()>(&assert, rt.alloc(), (), *bytes);
-        assert_cut_off::<SessionStateInfo, ()>(&assert, rt.alloc(), (), *bytes, 0, bytes.len());
+fn states(rt: HostRuntime) {
+    for states in &ALL {
+        for state in *states {
+            assert_state(&Asserting(&rt), rt.alloc(), state);
+        }
     }
+}
+
+/// Asserts that copies of a state and of the change that it tells are equal to these.
+fn assert_change_copied(assert: &impl Assert, alloc: Global, state: &SessionStateInfo) {
+    assert_copied(assert, state, state.clone(alloc), state.clone(alloc));
+    let change = once_more(assert, state.decode(alloc), state.decode(alloc));
+    assert_copied(assert, &change, change.clone(alloc), change.clone(alloc));
+    let first = once_more(assert, state.decode(alloc), state.decode(alloc));
+    let second = once_more(assert, state.decode(alloc), state.decode(alloc));
+    assert_copied(assert, &change, first.into_owned(alloc), second.into_owned(alloc));
 }
 
 /// The state that tells a change is the one that the change was read of.
@@ -158,6 +215,7 @@ fn made_of_changes(rt: HostRuntime) {
             SessionStateInfo::of_change(alloc, &change),
         );
         assert.holds(matches!(&made, Some(again) if *again == state));
+        assert_change_copied(&assert, alloc, &state);
     }
     let none = SessionStateChange::Unsupported(Unsupported::new(CowSlice::Borrowed(b"abc")));
     let first = SessionStateInfo::of_change(alloc, &none);

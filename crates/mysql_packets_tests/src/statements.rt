@@ -40,6 +40,13 @@ fn a_reset(rt: HostRuntime) {
     assert_written(&assert, rt.alloc(), &ComStmtReset::new(1), bytes);
     assert_reads_back::<ComStmtReset, ()>(&assert, rt.alloc(), (), bytes);
     assert_cut_off::<ComStmtReset, ()>(&assert, rt.alloc(), (), bytes, 0, 5);
+    assert_refused::<ComStmtReset, ()>(
+        &assert,
+        rt.alloc(),
+        (),
+        b"\x19\x01\0\0\0",
+        WireError::BadConstant,
+    );
 }
 
 /// Asserts that the bytes of an execution of values are appended, and are as many as was said before.

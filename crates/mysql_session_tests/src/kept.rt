@@ -18,12 +18,20 @@ const KEPT: [(usize, &[u8], usize); 6] = [
     (LARGE, b"\xff\xff\xff\0", 0),
 ];
 
-/// How many bytes a receiver holds that was fed these; None where memory was refused.
-fn kept_of(assert: &impl Assert, alloc: Global, limit: usize, stream: &[u8]) -> Option<usize> {
+/// How many bytes a receiver holds that was fed these in pieces of this size, behind an empty one; None where memory was refused.
+fn kept_of(
+    assert: &impl Assert,
+    alloc: Global,
+    (limit, size): (usize, usize),
+    stream: &[u8],
+) -> Option<usize> {
     assert.holds(4 <= limit);
     match Receiver::new(alloc, b"SELECT :a", 1, limit) {
         Ok(mut receiver) => {
-            let fed = receiver.feed(stream);
+            let mut fed = receiver.feed(&[]);
+            for piece in stream.chunks(size.max(1)) {
+                fed = receiver.feed(piece);
+            }
             assert.holds(fed.is_ok() || fed == Err(StreamFault::Memory));
             if fed.is_ok() {
                 Some(receiver.kept())
@@ -38,13 +46,16 @@ fn kept_of(assert: &impl Assert, alloc: Global, limit: usize, stream: &[u8]) -> 
     }
 }
 
-/// Asserts how many bytes a receiver holds. They are fed once more where memory was refused.
+/// Asserts how many bytes a receiver holds of what came in one piece, and byte by byte. They are fed once more where memory was
+/// refused.
 fn assert_kept(assert: &impl Assert, alloc: Global, limit: usize, stream: &[u8], wanted: usize) {
-    let mut found = kept_of(assert, alloc, limit, stream);
-    if found.is_none() {
-        found = kept_of(assert, alloc, limit, stream);
+    for size in [usize::MAX, 1] {
+        let mut found = kept_of(assert, alloc, (limit, size), stream);
+        if found.is_none() {
+            found = kept_of(assert, alloc, (limit, size), stream);
+        }
+        assert.holds(found == Some(wanted));
     }
-    assert.holds(found == Some(wanted));
 }
 
 #[test]
