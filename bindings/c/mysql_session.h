@@ -37,7 +37,7 @@ extern "C" {
 
 /* The number of this interface. mysql_session_abi() answers the library's: compare them before
  * any other call. It changes with each change of a declaration below. */
-#define MYSQL_SESSION_ABI 2
+#define MYSQL_SESSION_ABI 3
 
 uint32_t mysql_session_abi(void);
 
@@ -409,9 +409,11 @@ uint32_t mysql_session_reply_result(mysql_session_handle *handle, size_t number,
 
 /* A change of the session's state that the OK packet of this number tells, or that which ended its
  * rows: its type (of the protocol's Session State Information) and the bytes of that type, which
- * are good as a result's text is. Answers OK, OUT_OF_RANGE, BAD_PACKET (the packet's changes can't
- * be read), MEMORY, .. */
-uint32_t mysql_session_reply_state(mysql_session_handle *handle, size_t number, size_t state,
+ * are good as a result's text is. `*position` is 0 for the first change, and each call that answers
+ * OK moves it on to the next one, of which it alone is read. Answers OK, OUT_OF_RANGE (behind the
+ * last change, or no OK packet), BAD_PACKET (the bytes there are no change), ..; but for OK the
+ * position stays. */
+uint32_t mysql_session_reply_state(mysql_session_handle *handle, size_t number, size_t *position,
                                    uint8_t *type, const uint8_t **data, size_t *len);
 
 /* Kinds of values in cells: those of mysql_session_kind, and these. */

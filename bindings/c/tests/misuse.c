@@ -162,7 +162,8 @@ static uint32_t reply_result(mysql_session_handle *handle)
 
 static uint32_t reply_state(mysql_session_handle *handle)
 {
-    return mysql_session_reply_state(handle, 0, 0, &number, &data, &count);
+    used = 0;
+    return mysql_session_reply_state(handle, 0, &used, &number, &data, &count);
 }
 
 static uint32_t reply_cell(mysql_session_handle *handle)

@@ -233,30 +233,85 @@ static void binary_kinds(void)
     mysql_session_free(&reply);
 }
 
-/* What an OK packet tells of the session: a variable and the schema. */
+/* Shows the next change of the session's state of the result 0. */
+static uint32_t next_state(mysql_session_handle *reply, size_t *position, text *shown)
+{
+    const uint8_t *data = NULL;
+    size_t len = 0, before = *position;
+    uint8_t type = 77;
+    uint32_t code = mysql_session_reply_state(reply, 0, position, &type, &data, &len);
+    if (code == MYSQL_SESSION_OK) {
+        CHECK(*position > before);
+        text_add_unsigned(shown, type);
+        text_add(shown, " ");
+        text_add_bytes(shown, data, len);
+        text_add(shown, "; ");
+    } else {
+        CHECK_NUMBER(*position, before);
+        CHECK_NUMBER(type, 77);
+    }
+    return code;
+}
+
+/* What an OK packet tells of the session: a variable and the schema, shown in one pass. */
 static void states(void)
 {
     mysql_session_handle reply = MYSQL_SESSION_NOTHING;
     mysql_session_result result = no_result();
     const uint8_t *data = NULL;
-    size_t len = 0;
+    size_t len = 0, position = 0, first;
     uint8_t type = 77;
+    text shown;
+    text_clear(&shown);
     read_whole(&reply, TO_QUERY, PROTOCOL_41 | SESSION_TRACK,
                "21 00 00 01 00 00 00 02 40 00 00 00 18 00 0f 0a |autocommit| 03 |OFF| "
                "01 05 04 |test|");
     CHECK_DONE(mysql_session_reply_result(&reply, 0, &result));
     CHECK_NUMBER(result.states, 2);
-    CHECK_DONE(mysql_session_reply_state(&reply, 0, 0, &type, &data, &len));
-    CHECK_NUMBER(type, 0);
-    CHECK_BYTES(data, len, bytes_of("\012autocommit\003OFF"), 15);
-    CHECK_DONE(mysql_session_reply_state(&reply, 0, 1, &type, &data, &len));
-    CHECK_NUMBER(type, 1);
-    CHECK_BYTES(data, len, bytes_of("\004test"), 5);
-    CHECK_CODE(mysql_session_reply_state(&reply, 0, 2, &type, &data, &len),
+    CHECK_DONE(next_state(&reply, &position, &shown));
+    first = position;
+    CHECK_DONE(next_state(&reply, &position, &shown));
+    CHECK_WRITTEN(&shown, "0 x0a6175746f636f6d6d6974034f4646; 1 x0474657374; ");
+    CHECK_NUMBER(position, 24);
+    CHECK_CODE(next_state(&reply, &position, &shown), MYSQL_SESSION_OUT_OF_RANGE);
+    /* A position that was kept shows the same change again; behind all there is none. */
+    text_clear(&shown);
+    CHECK_DONE(next_state(&reply, &first, &shown));
+    CHECK_WRITTEN(&shown, "1 x0474657374; ");
+    position = (size_t)-1;
+    CHECK_CODE(next_state(&reply, &position, &shown), MYSQL_SESSION_OUT_OF_RANGE);
+    position = 0;
+    CHECK_CODE(mysql_session_reply_state(&reply, 1, &position, &type, &data, &len),
                MYSQL_SESSION_OUT_OF_RANGE);
-    CHECK_CODE(mysql_session_reply_state(&reply, 1, 0, &type, &data, &len),
-               MYSQL_SESSION_OUT_OF_RANGE);
+    CHECK_NUMBER(position, 0);
     mysql_session_free(&reply);
+}
+
+/* The schema, and behind it a change that is cut off or of no known type: none is counted, and the
+ * first is shown. Rows have no OK packet until they end. */
+static void bad_states(void)
+{
+    static const char *const streams[] = {
+        "11 00 00 01 00 00 00 02 40 00 00 00 08 01 05 04 |test| 01 05",
+        "11 00 00 01 00 00 00 02 40 00 00 00 08 01 05 04 |test| 06 00",
+    };
+    size_t i;
+    for (i = 0; i < sizeof streams / sizeof streams[0]; i++) {
+        mysql_session_handle reply = MYSQL_SESSION_NOTHING;
+        mysql_session_result result = no_result();
+        size_t position = 0;
+        text shown;
+        text_clear(&shown);
+        check_note(streams[i], 0);
+        read_whole(&reply, TO_QUERY, PROTOCOL_41 | SESSION_TRACK, streams[i]);
+        CHECK_DONE(mysql_session_reply_result(&reply, 0, &result));
+        CHECK_NUMBER(result.states, 0);
+        CHECK_DONE(next_state(&reply, &position, &shown));
+        CHECK_WRITTEN(&shown, "1 x0474657374; ");
+        CHECK_CODE(next_state(&reply, &position, &shown), MYSQL_SESSION_BAD_PACKET);
+        mysql_session_free(&reply);
+    }
+    check_note(NULL, 0);
 }
 
 static void no_such_kind(void)
@@ -274,6 +329,7 @@ int main(void)
     prepared();
     binary_kinds();
     states();
+    bad_states();
     no_such_kind();
     return check_end("replies");
 }

@@ -9,7 +9,7 @@ use std::ptr::null;
 use std::slice;
 
 /// `MYSQL_SESSION_ABI`: the interface that is declared here.
-pub const ABI: u32 = 2;
+pub const ABI: u32 = 3;
 
 /// `mysql_session_handle`.
 #[repr(C)]
@@ -324,7 +324,7 @@ extern "C" {
     pub fn mysql_session_reply_state(
         handle: *mut Handle,
         number: usize,
-        state: usize,
+        position: *mut usize,
         kind: *mut u8,
         data: *mut *const u8,
         len: *mut usize,

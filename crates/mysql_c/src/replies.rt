@@ -4,9 +4,8 @@ ghost use Rattle.std.specs.Prelude.{MatchOption, None, [], drop, false, length, 
 ghost use Rattle.mysql_c_handles.specs.Codes.{code_number};
 ghost use Rattle.mysql_c_handles.specs.declared.code.Code.TheVariants as code;
 ghost use Rattle.mysql_c_replies.specs.Replies.{IsNewReply, IsReply, IsReplyFedBy, OfReply, OutcomesAreTaken, RepliesEnd, kind_numbered};
-ghost use Rattle.mysql_ok_packets.specs.OkPackets.{all_states_at};
-ghost use Rattle.mysql_c_replies.specs.Finding.{cell_in, column_in, listing_code, outcomes_held, packet_in, param_in, unlisted_code};
-ghost use Rattle.mysql_c_replies.specs.Shown.{ShowsChangeOf, ShowsColumn, ShowsOutcome, ShowsValue, UnlessMemory};
+ghost use Rattle.mysql_c_replies.specs.Finding.{ShowsChangeIn, cell_in, column_in, listing_code, outcomes_held, param_in, unlisted_code};
+ghost use Rattle.mysql_c_replies.specs.Shown.{ShowsColumn, ShowsOutcome, ShowsValue, UnlessMemory};
 ghost use Rattle.mysql_const.specs.ColumnTypes.{column_type_named};
 ghost use Rattle.mysql_reply_packets.specs.Written.{ColumnsStep, EndStep, ErrorStep, OkStep, PreparedStep};
 ghost use Rattle.mysql_c_handles.specs.Sets.{unheld_code, values_held};
@@ -92,21 +91,22 @@ pub extern "C" fn mysql_session_reply_result(
     mysql_c_replies::reply_result(alloc, handle, number, shown)
 }
 
-/// Shows a change of the session's state that an OK packet tells, by the numbers of its result and its own: its type and its bytes.
+/// Shows a change of the session's state that an OK packet tells, by the number of its result and the position where it begins: its
+/// type and its bytes. The position is 0 for the first change, and is moved on to the next one.
 #[unsafe(no_mangle)]
 pub extern "C" fn mysql_session_reply_state(
     alloc: Global,
     handle: &mut Handle,
     number: usize,
-    state: usize,
+    position: &mut usize,
     kind: &mut u8,
     data: &mut *const u8,
     len: &mut usize,
 ) -> u32
     ensures kept { handle.new.object ≡ handle.old.object }
-    ensures shown { MatchOption (packet_in (outcomes_held handle.old.object) number) (result ≡ code_number (unlisted_code handle.old.object)) (λ ok. ShowsChangeOf (all_states_at ok.session_state_info) state result kind.new len.new) }
+    ensures shown { ShowsChangeIn handle.old.object number position.old result position.new kind.new len.new }
 {
-    mysql_c_replies::reply_state(alloc, handle, number, state, kind, data, len)
+    mysql_c_replies::reply_state(alloc, handle, number, position, kind, data, len)
 }
 
 /// Shows the value in a cell, by the numbers of its result, its row and its column.

@@ -1,5 +1,5 @@
 -- Where the results, cells and columns are that an object holds.
-use Rattle.std.specs.Prelude.{ℕ, List, [], Option, Some, None, slice_get}
+use Rattle.std.specs.Prelude.{◌≡◌, ℕ, List, [], Option, Some, None, MatchOption, slice_get}
 use Rattle.std.specs.Option.{option_and_then}
 use Rattle.mysql_cells.specs.declared.value.Value.{Value}
 use Rattle.mysql_columns.specs.Columns.{ColumnDefinition}
@@ -11,7 +11,8 @@ use Rattle.mysql_c_handles.specs.declared.code.Code.{Code}
 use Rattle.mysql_c_handles.specs.declared.code.Code.TheVariants as code
 use Rattle.mysql_c_handles.specs.declared.object.Object.{Object}
 use Rattle.mysql_c_handles.specs.declared.object.Object.TheVariants as object
-use Rattle.mysql_c_handles.specs.Codes.{misuse}
+use Rattle.mysql_c_handles.specs.Codes.{code_number, misuse}
+use Rattle.mysql_c_replies.specs.States.{ShowsChangeAt}
 
 -- the results that an object holds: those that were taken last, or those of the end
 abbrev pub outcomes_held : Object → List Outcome
@@ -69,3 +70,9 @@ param_in outcomes number param = option_and_then (λ outcome. slice_get (params_
 -- the OK packet of the result of a number
 abbrev pub packet_in : List Outcome → ℕ → Option OkPacket
 packet_in outcomes number = option_and_then packet_of (slice_get outcomes number)
+
+-- A change of the session's state is shown that the OK packet of the result of a number tells; where there is none the position stays.
+abbrev pub ShowsChangeIn : Object → ℕ → ℕ → ℕ → ℕ → ℕ → ℕ → Type 0
+ShowsChangeIn held at position number next type len =
+    MatchOption (packet_in (outcomes_held held) at) ((number ≡ code_number (unlisted_code held)) × (next ≡ position))
+    (λ ok. ShowsChangeAt ok.session_state_info position number next type len)

@@ -68,17 +68,6 @@ ShowsOutcome (grammar.FileResult name) shown = (shown.kind ≡ 4) × (shown.ende
 abbrev pub UnlessMemory : ℕ → Type 0 → Type 0
 UnlessMemory number Holds = ((number ≡ 0) × Holds) ⊎ (number ≡ code_number code.Memory)
 
--- a change of the session's state: its type, and its bytes by their length
-abbrev pub ShowsChange : State → ℕ → ℕ → Type 0
-ShowsChange change type len = (type ≡ session_state_number change.data_type) × (len ≡ length change.content)
-
--- The change of this number is shown; or there is none, or the changes can't be read, or memory was refused.
-abbrev pub ShowsChangeOf : Reading (List State) → ℕ → ℕ → ℕ → ℕ → Type 0
-ShowsChangeOf (Ok x) state number type len =
-    MatchOption (slice_get x.0 state) (number ≡ code_number code.OutOfRange) (λ change. (number ≡ 0) × ShowsChange change type len)
-    ⊎ (number ≡ code_number code.Memory)
-ShowsChangeOf (Err e) state number type len = (number ≡ code_number code.BadPacket) ⊎ (number ≡ code_number code.Memory)
-
 -- a column by its numbers, and its names by their lengths
 abbrev pub ShowsColumn : ColumnDefinition → ShownColumn → Type 0
 ShowsColumn column shown =

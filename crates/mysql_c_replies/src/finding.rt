@@ -3,13 +3,12 @@
 ghost use Rattle.std.specs.Prelude.{◌≡◌, ◌≢◌, IfOk, MatchOption, MatchResult, length, slice_get};
 ghost use Rattle.std.specs.Option.{option_copied, option_map};
 ghost use Rattle.mysql_columns.specs.Views.{column_view};
-ghost use Rattle.mysql_ok_packets.specs.OkPackets.{all_states_at};
 ghost use Rattle.mysql_ok_packets.specs.Views.{ok_packet_view};
 ghost use Rattle.mysql_replies.specs.Views.{outcome_views};
 ghost use Rattle.mysql_c_handles.specs.Codes.{code_number};
 ghost use Rattle.mysql_c_handles.specs.declared.code.Code.TheVariants as code;
-ghost use Rattle.mysql_c_replies.specs.Finding.{cell_in, column_in, listing_code, outcomes_held, packet_in, param_in, unlisted_code};
-ghost use Rattle.mysql_c_replies.specs.Shown.{ShowsChangeOf, ShowsColumn, ShowsOutcome, ShowsValue, UnlessMemory};
+ghost use Rattle.mysql_c_replies.specs.Finding.{ShowsChangeIn, cell_in, column_in, listing_code, outcomes_held, packet_in, param_in, unlisted_code};
+ghost use Rattle.mysql_c_replies.specs.Shown.{ShowsColumn, ShowsOutcome, ShowsValue, UnlessMemory};
 
 use crate::shown::{
     ShownColumn, ShownResult, ShownValue, show_column, show_result, show_state, show_value,
@@ -136,21 +135,21 @@ fn result_of(alloc: Global, object: &Object, number: usize, shown: &mut ShownRes
     }
 }
 
-/// Shows a change of the session's state.
+/// Shows the change of the session's state at a position.
 fn state_of(
     alloc: Global,
     object: &Object,
     number: usize,
-    state: usize,
+    position: &mut usize,
     kind: &mut u8,
     data: &mut *const u8,
     len: &mut usize,
 ) -> Code
-    ensures { MatchOption (packet_in (outcomes_held object.now) number) (result ≡ unlisted_code object.now) (λ ok. ShowsChangeOf (all_states_at ok.session_state_info) state (code_number result) kind.new len.new) }
+    ensures { ShowsChangeIn object.now number position.old (code_number result) position.new kind.new len.new }
 {
     match results_of(object) {
         Ok(results) => match packet_of(results, number) {
-            Some(ok) => show_state(alloc, ok, state, kind, data, len),
+            Some(ok) => show_state(alloc, ok, position, kind, data, len),
             None => Code::OutOfRange,
         },
         Err(code) => code,
@@ -244,23 +243,25 @@ pub fn reply_result(
     code.number()
 }
 
-/// Shows a change of the session's state that an OK packet tells, by the numbers of its result and its own: its type and its bytes.
+/// Shows a change of the session's state that an OK packet tells, by the number of its result and the position where it begins: its
+/// type and its bytes. The position is 0 for the first change, and is moved on to the next one; behind the last, and where the bytes
+/// there are no change, it stays.
 pub fn reply_state(
     alloc: Global,
     handle: &mut Handle,
     number: usize,
-    state: usize,
+    position: &mut usize,
     kind: &mut u8,
     data: &mut *const u8,
     len: &mut usize,
 ) -> u32
     ensures kept { handle.new.object ≡ handle.old.object }
-    ensures shown { MatchOption (packet_in (outcomes_held handle.old.object) number) (result ≡ code_number (unlisted_code handle.old.object)) (λ ok. ShowsChangeOf (all_states_at ok.session_state_info) state result kind.new len.new) }
+    ensures shown { ShowsChangeIn handle.old.object number position.old result position.new kind.new len.new }
 {
     let Some(object) = handle.take(alloc) else {
         return Code::EmptyHandle.number();
     };
-    let code = state_of(alloc, &object, number, state, kind, data, len);
+    let code = state_of(alloc, &object, number, position, kind, data, len);
     handle.put(object);
     code.number()
 }

@@ -8,15 +8,18 @@ ghost use Rattle.mysql_packets.specs.Views.{server_error_view, sql_state_view};
 ghost use Rattle.mysql_replies.specs.Grammar.{ErrorResult};
 ghost use Rattle.mysql_replies.specs.Views.{outcome_view};
 ghost use Rattle.mysql_c_handles.specs.Codes.{code_number};
-ghost use Rattle.mysql_c_replies.specs.Shown.{CountsChanges, ShowsChangeOf, ShowsColumn, ShowsOutcome, ShowsPacket, ShowsReplyEnd, ShowsState, ShowsTerminator, ShowsValue, UnlessMemory};
+ghost use Rattle.mysql_c_replies.specs.Shown.{CountsChanges, ShowsColumn, ShowsOutcome, ShowsPacket, ShowsReplyEnd, ShowsState, ShowsTerminator, ShowsValue, UnlessMemory};
+ghost use Rattle.mysql_c_replies.specs.States.{ShowsChangeAt};
 
 use mysql_c_handles::{Code, ShownEnd, number_of_reply_fault, start_of};
+use mysql_buf::ParseBuf;
 use mysql_cells::Value;
 use mysql_columns::Column;
 use mysql_ok_packets::OkPacket;
 use mysql_packets::{ServerError, SqlState};
-use mysql_raw::WireError;
+use mysql_raw::{ParseExt, WireError};
 use mysql_replies::{ReplyEnd, ReplyResult};
+use mysql_session_states::SessionStateInfo;
 use std::alloc::Global;
 
 /// A result: its kind (0 OK, 1 rows, 2 a prepared statement, 3 an error, 4 a request for a file), and what that kind has. The text is
@@ -227,30 +230,32 @@ pub(crate) fn show_result(alloc: Global, found: &ReplyResult, shown: &mut ShownR
     }
 }
 
-/// Shows a change of the session's state that a packet tells. Its bytes stand in the packet.
+/// Shows the change of the session's state at a position of those that a packet tells, and moves the position behind it. Its bytes
+/// stand in the packet.
 pub(crate) fn show_state(
     alloc: Global,
     ok: &OkPacket<'_>,
-    state: usize,
+    position: &mut usize,
     kind: &mut u8,
     data: &mut *const u8,
     len: &mut usize,
 ) -> Code
-    ensures { ShowsChangeOf (all_states_at (ok_packet_view ok.now).session_state_info) state (code_number result) kind.new len.new }
+    ensures { ShowsChangeAt (ok_packet_view ok.now).session_state_info position.old (code_number result) position.new kind.new len.new }
 {
-    match ok.session_state_info(alloc) {
-        Ok(changes) => match changes.get(state) {
-            Some(change) => {
-                *kind = u8::from(change.data_type());
-                *data = start_of(change.data_ref());
-                *len = change.data_ref().len();
-                Code::Done
-            }
-            None => Code::OutOfRange,
-        },
-        Err(WireError::Memory) => Code::Memory,
-        Err(_) => Code::BadPacket,
+    let bytes = ok.session_state_info_ref().unwrap_or(&[]);
+    if *position >= bytes.len() {
+        return Code::OutOfRange;
     }
+    let mut rest = ParseBuf(&bytes[*position..]);
+    let read: Result<SessionStateInfo<'_>, WireError> = rest.parse(alloc, ());
+    let Ok(change) = read else {
+        return Code::BadPacket;
+    };
+    *kind = u8::from(change.data_type());
+    *data = start_of(change.data_ref());
+    *len = change.data_ref().len();
+    *position = bytes.len() - rest.0.len();
+    Code::Done
 }
 
 /// Shows a column. Its names stay where they are.
