@@ -292,8 +292,8 @@ static void states(void)
 static void bad_states(void)
 {
     static const char *const streams[] = {
-        "11 00 00 01 00 00 00 02 40 00 00 00 08 01 05 04 |test| 01 05",
-        "11 00 00 01 00 00 00 02 40 00 00 00 08 01 05 04 |test| 06 00",
+        "12 00 00 01 00 00 00 02 40 00 00 00 09 01 05 04 |test| 01 05",
+        "12 00 00 01 00 00 00 02 40 00 00 00 09 01 05 04 |test| 06 00",
     };
     size_t i;
     for (i = 0; i < sizeof streams / sizeof streams[0]; i++) {
@@ -311,7 +311,7 @@ static void bad_states(void)
         CHECK_CODE(next_state(&reply, &position, &shown), MYSQL_SESSION_BAD_PACKET);
         mysql_session_free(&reply);
     }
-    check_note(NULL, 0);
+    check_note("", 0);
 }
 
 static void no_such_kind(void)

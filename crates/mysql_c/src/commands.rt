@@ -4,7 +4,7 @@ ghost use Rattle.mysql_c_commands.specs.Adding.{AddsSetIn};
 ghost use Rattle.mysql_c_commands.specs.Receivers.{EndsAs, IsFedBy, IsNew, IsReceiver, LetsGo, OfReceiver, content_at, missing_code, reading_code, sets_held};
 ghost use Rattle.mysql_c_commands.specs.Recoding.{IsRecoder, IsWhyNoRecoder, RecoderEnds, RecodesFrom};
 ghost use Rattle.mysql_c_commands.specs.Sending.{SendsFrom};
-ghost use Rattle.mysql_c_commands.specs.Sets.{CountsSets, EndsSetIn, HasNone, LosesAll, TakesBytes, TakesValueIn};
+ghost use Rattle.mysql_c_commands.specs.Sets.{CountsSets, EndsSetIn, HasNone, LosesAll, TakesValueIn};
 ghost use Rattle.mysql_c_commands.specs.Shown.{Shows};
 ghost use Rattle.mysql_c_commands.specs.Texts.{BindsTextFrom, PutsLiteralFrom};
 ghost use Rattle.mysql_c_handles.specs.Bytes.{HasLength, IsBytes, IsCleared, OfBytes};
@@ -67,6 +67,7 @@ pub extern "C" fn mysql_session_receiver_new(
 ) -> u32
     ensures made { result ≡ 0 → IsReceiver handle.new.object (IsNew query.now id limit) × HasMixed query.now false }
     ensures kept { result ≢ 0 → handle.new.object ≡ handle.old.object }
+    ensures small { limit < 4 → result ≡ code_number code.LimitTooSmall }
     ensures cause { (result ≡ 0) ⊎ (result ≡ code_number code.Memory) ⊎ ((result ≡ code_number code.LimitTooSmall) × (limit < 4)) ⊎ ((result ≡ code_number code.Mixed) × HasMixed query.now true) }
 {
     receiver_new(alloc, handle, query, id, limit)
@@ -196,7 +197,7 @@ pub extern "C" fn mysql_session_sets_push_bytes(
     handle: &mut Handle,
     bytes: &[u8],
 ) -> u32
-    ensures { TakesBytes bytes.now handle.old.object result handle.new.object }
+    ensures { OfSets handle.old.object result handle.new.object (TakesValueIn (value.Bytes bytes.now) result handle.new.object) }
 {
     sets_push_bytes(alloc, handle, bytes)
 }
@@ -345,6 +346,7 @@ pub extern "C" fn mysql_session_recoder_new(
 ) -> u32
     ensures made { result ≡ 0 → IsRecoder handle.new.object (λ r. IsNewRecoder query.now id limit (recoder_state r)) }
     ensures kept { result ≢ 0 → handle.new.object ≡ handle.old.object }
+    ensures small { limit < 4 → result ≡ code_number code.LimitTooSmall }
     ensures cause { (result ≡ 0) ⊎ IsWhyNoRecoder query.now id limit result }
 {
     recoder_new(alloc, handle, query, id, limit)

@@ -16,7 +16,7 @@ use Rattle.mysql_c_handles.specs.declared.object.Object.{Object}
 use Rattle.mysql_c_handles.specs.declared.object.Object.TheVariants as object
 use Rattle.mysql_c_handles.specs.declared.shown.ShownEnd.{ShownEnd}
 use Rattle.mysql_c_handles.specs.Codes.{Stays, code_number, fault_code, misuse}
-use Rattle.mysql_c_commands.specs.Shown.{ShowsEnd}
+use Rattle.mysql_c_commands.specs.Shown.{end_shown}
 
 -- the object is a receiver that holds what is said
 abbrev pub IsReceiver : Object → (Received → Type 0) → Type 0
@@ -67,13 +67,13 @@ IsAudited held new = new ≡ held
 
 -- the end of an audit is shown
 abbrev pub ShowsEndOf : Object → ℕ → ShownEnd → Type 0
-ShowsEndOf (object.Audit a) number shown = (number ≡ 0) × ShowsEnd a.end shown
+ShowsEndOf (object.Audit a) number shown = (number ≡ 0) × (shown ≡ end_shown a.end)
 ShowsEndOf held number shown = number ≡ code_number (misuse held)
 
 -- A receiver becomes the audit of what it was fed, and an audit stays; its end is shown.
 abbrev pub EndsAs : Object → ℕ → Object → ShownEnd → Type 0
-EndsAs (object.Receiver r) number new shown = (number ≡ 0) × IsAudit new (λ a. IsAuditOf r a × ShowsEnd a.end shown)
-EndsAs (object.Audit a) number new shown = (number ≡ 0) × (new ≡ object.Audit a) × ShowsEnd a.end shown
+EndsAs (object.Receiver r) number new shown = (number ≡ 0) × IsAudit new (λ a. IsAuditOf r a × (shown ≡ end_shown a.end))
+EndsAs (object.Audit a) number new shown = (number ≡ 0) × (new ≡ object.Audit a) × (shown ≡ end_shown a.end)
 EndsAs held number new shown = Stays held number new
 
 -- the sets that an object holds: those that were read and not let go

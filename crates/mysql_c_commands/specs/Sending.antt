@@ -1,5 +1,5 @@
 -- What sending says of the objects that two handles stand for, and of what C is shown.
-use Rattle.std.specs.Prelude.{◌≡◌, ◌≢◌, ◌<◌, ◌⊎◌, ◌==◌, ℕ, List, Option, Some, None, IfSome, if◌then◌else◌}
+use Rattle.std.specs.Prelude.{◌≡◌, ◌≢◌, ◌<◌, ◌≤◌, ◌⊎◌, ◌==◌, ℕ, List, Option, Some, None, MatchOption, if◌then◌else◌}
 use Rattle.mysql_values.specs.declared.params.Params.{Params}
 use Rattle.mysql_streams.specs.declared.refusal.Refusal.{Refusal}
 use Rattle.mysql_streams.specs.declared.refusal.Refusal.TheVariants as refusals
@@ -56,16 +56,15 @@ pub record IsRefused (road : Road) (query : List ℕ) (sets : List Params) (id l
   pub refuses : RefusesGiven road query (all_given sets) id limit refusal
   pub shows : ShowsRefusal refusal number place
 
--- why nothing is sent
+-- Why nothing is sent, by the first cause: no road has the number, the limit is below 4, or the sets are refused.
 abbrev pub IsWhy : ℕ → List ℕ → List Params → ℕ → ℕ → ℕ → ShownPlace → Type 0
 IsWhy road query sets id limit number place =
-    ((number ≡ code_number code.NoSuchRoad) × (road_numbered road ≡ None))
-    ⊎ ((number ≡ code_number code.LimitTooSmall) × (limit < 4))
-    ⊎ IfSome (road_numbered road) (λ r. IsRefused r query sets id limit number place)
+    MatchOption (road_numbered road) (number ≡ code_number code.NoSuchRoad)
+    (λ r. ((number ≡ code_number code.LimitTooSmall) × (limit < 4)) ⊎ ((4 ≤ limit) × IsRefused r query sets id limit number place))
 
 -- Sets are delivered, appended to the old bytes; or the bytes stay, and the number and the place say why.
 pub record Sends (road : ℕ) (query : List ℕ) (sets : List Params) (id limit : ℕ) (old : List ℕ) (number : ℕ) (place : ShownPlace) (new : List ℕ) : Type 0 where
-  pub delivered : number ≡ 0 → IfSome (road_numbered road) (λ r. Delivers r query (all_given sets) id limit old new)
+  pub delivered : number ≡ 0 → MatchOption (road_numbered road) ⊥ (λ r. (4 ≤ limit) × Delivers r query (all_given sets) id limit old new)
   pub kept : number ≢ 0 → new ≡ old
   pub why : number ≢ 0 → IsWhy road query sets id limit number place
 

@@ -2,7 +2,6 @@
 use Rattle.std.specs.Prelude.{◌≡◌, ◌⊎◌, ℕ, List, [], ◌∷◌, ◌++◌, Vec, length}
 use Rattle.mysql_cells.specs.declared.value.Value.{Value}
 use Rattle.std.specs.declared.alloc.Global.{Global}
-use Rattle.mysql_cells.specs.declared.value.Value.TheVariants.{Bytes}
 use Rattle.mysql_values.specs.declared.params.Params.{Params}
 use Rattle.mysql_values.specs.declared.params.Params.TheVariants.{Positional}
 use Rattle.mysql_c_handles.specs.declared.object.ParameterSets.{ParameterSets}
@@ -10,7 +9,7 @@ use Rattle.mysql_c_handles.specs.declared.code.Code.TheVariants.{Done, Memory}
 use Rattle.mysql_c_handles.specs.declared.object.Object.{Object}
 use Rattle.mysql_c_handles.specs.declared.object.Object.TheVariants as object
 use Rattle.mysql_c_handles.specs.Codes.{code_number, misuse}
-use Rattle.mysql_c_handles.specs.Sets.{IsSets, OfSets}
+use Rattle.mysql_c_handles.specs.Sets.{IsSets}
 
 -- no sets, and no value of the next one
 abbrev pub HasNone : ParameterSets → Type 0
@@ -29,11 +28,6 @@ TakesValue value number old new =
 -- the same of what the handle stands for
 abbrev pub TakesValueIn : Value → ℕ → Object → ParameterSets → Type 0
 TakesValueIn value number new old = IsSets new (TakesValue value number old)
-
--- The bytes stand behind the values of the next set, as they are; or memory was refused and nothing changed.
-abbrev pub TakesBytes : List ℕ → Object → ℕ → Object → Type 0
-TakesBytes bytes old number new =
-    OfSets old number new (TakesValueIn (Bytes bytes) number new) ⊎ ((number ≡ code_number Memory) × (new ≡ old))
 
 -- a set by its order has these values
 abbrev pub HasValues : Params → Vec Value Global → Type 0

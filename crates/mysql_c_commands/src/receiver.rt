@@ -1,6 +1,6 @@
 //! Receivers of streams of commands.
 
-ghost use Rattle.std.specs.Prelude.{◌≡◌, ◌≢◌, ◌≤◌, ◌<◌, ◌⊎◌, false, true, IfErr, IfOk, MatchOption, MatchResult, OnErr, OnOk, length, slice_get};
+ghost use Rattle.std.specs.Prelude.{◌≡◌, ◌≢◌, ◌≤◌, ◌<◌, ◌⊎◌, false, true, Err, IfErr, IfOk, MatchOption, MatchResult, OnErr, OnOk, length, slice_get};
 ghost use Rattle.mysql_values.specs.Queries.{HasMixed};
 ghost use Rattle.mysql_commands.specs.Views.{sets_of};
 ghost use Rattle.mysql_c_handles.specs.Codes.{code_number, fault_code};
@@ -8,7 +8,7 @@ ghost use Rattle.mysql_c_handles.specs.declared.code.Code.TheVariants as code;
 ghost use Rattle.mysql_c_commands.specs.Receivers.{EndsAs, IsFed, IsAudited, IsFedBy, IsNew, IsReceiver, LetsGo, OfReceiver, ShowsEndOf, content_at, missing_code, reading_code, sets_held};
 ghost use Rattle.mysql_c_commands.specs.Shown.{Shows};
 
-use crate::shown::{ShownContent, show, show_end};
+use crate::shown::{ShownContent, show, shown_end};
 use mysql_c_handles::{Code, Handle, Object, ShownEnd};
 use mysql_commands::{Content, Receiver, ReceiverError};
 use std::alloc::Global;
@@ -18,6 +18,7 @@ use std::mem::replace;
 fn made(alloc: Global, query: &[u8], id: u32, limit: usize) -> Result<Object, Code>
     ensures made { IfOk result (λ object. IsReceiver object (IsNew query.now id limit)) }
     ensures one_kind { OnOk result (HasMixed query.now false) }
+    ensures small { limit < 4 → result ≡ Err code.LimitTooSmall }
     ensures cause { IfErr result (λ e. (e ≡ code.Memory) ⊎ ((e ≡ code.LimitTooSmall) × (limit < 4)) ⊎ ((e ≡ code.Mixed) × HasMixed query.now true)) }
 {
     if limit < 4 {
@@ -81,7 +82,7 @@ fn show_end_of(object: &Object, end: &mut ShownEnd) -> Code
 {
     match object {
         Object::Audit(audit) => {
-            show_end(audit.end, end);
+            *end = shown_end(audit.end);
             Code::Done
         }
         Object::Empty => Code::EmptyHandle,
@@ -162,6 +163,7 @@ fn clear_sets(object: &mut Object) -> Code
 pub fn receiver_new(alloc: Global, handle: &mut Handle, query: &[u8], id: u32, limit: usize) -> u32
     ensures made { result ≡ 0 → IsReceiver handle.new.object (IsNew query.now id limit) × HasMixed query.now false }
     ensures kept { result ≢ 0 → handle.new.object ≡ handle.old.object }
+    ensures small { limit < 4 → result ≡ code_number code.LimitTooSmall }
     ensures cause { (result ≡ 0) ⊎ (result ≡ code_number code.Memory) ⊎ ((result ≡ code_number code.LimitTooSmall) × (limit < 4)) ⊎ ((result ≡ code_number code.Mixed) × HasMixed query.now true) }
 {
     match made(alloc, query, id, limit) {

@@ -1,6 +1,6 @@
 //! Recoders: streams of commands as executions, as their bytes come.
 
-ghost use Rattle.std.specs.Prelude.{◌≡◌, ◌≢◌, ◌⊎◌, ◌<◌, IfErr, IfOk};
+ghost use Rattle.std.specs.Prelude.{◌≡◌, ◌≢◌, ◌⊎◌, ◌<◌, Err, IfErr, IfOk};
 ghost use Rattle.mysql_recoding.specs.AsItComes.{IsNewRecoder, RefusesQuery, recoder_state};
 ghost use Rattle.mysql_c_handles.specs.declared.code.Code.TheVariants as code;
 ghost use Rattle.mysql_c_handles.specs.declared.object.Object.TheVariants as object;
@@ -73,6 +73,7 @@ fn show_stop(error: RecodeError, stop: &mut ShownStop) -> Code
 /// A new recoder.
 fn made(alloc: Global, query: &[u8], id: u32, limit: usize) -> Result<Object, Code>
     ensures made { IfOk result (λ object. IsRecoder object (λ r. IsNewRecoder query.now id limit (recoder_state r))) }
+    ensures small { limit < 4 → result ≡ Err code.LimitTooSmall }
     ensures cause { IfErr result (λ e. IsWhyNoRecoder query.now id limit (code_number e) × (code_number e ≢ 0)) }
 {
     if limit < 4 {
@@ -199,6 +200,7 @@ fn end_from(alloc: Global, held: &mut Object, out: &mut Handle, stop: &mut Shown
 pub fn recoder_new(alloc: Global, handle: &mut Handle, query: &[u8], id: u32, limit: usize) -> u32
     ensures made { result ≡ 0 → IsRecoder handle.new.object (λ r. IsNewRecoder query.now id limit (recoder_state r)) }
     ensures kept { result ≢ 0 → handle.new.object ≡ handle.old.object }
+    ensures small { limit < 4 → result ≡ code_number code.LimitTooSmall }
     ensures cause { (result ≡ 0) ⊎ IsWhyNoRecoder query.now id limit result }
 {
     match made(alloc, query, id, limit) {

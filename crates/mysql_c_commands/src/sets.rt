@@ -5,7 +5,7 @@ ghost use Rattle.mysql_cells.specs.declared.value.Value.TheVariants as value;
 ghost use Rattle.mysql_c_handles.specs.Codes.{code_number};
 ghost use Rattle.mysql_c_handles.specs.Sets.{IsSets, OfSets};
 ghost use Rattle.mysql_c_commands.specs.Adding.{AddsSet, AddsSetIn};
-ghost use Rattle.mysql_c_commands.specs.Sets.{CountsSets, EndsSet, EndsSetIn, HasNone, HasValues, LosesAll, PutsSet, TakesBytes, TakesValue, TakesValueIn};
+ghost use Rattle.mysql_c_commands.specs.Sets.{CountsSets, EndsSet, EndsSetIn, HasNone, HasValues, LosesAll, PutsSet, TakesValue, TakesValueIn};
 
 use crate::parameter::{self, Parameter};
 use mysql_c_handles::{Code, Handle, Object, ParameterSets};
@@ -73,6 +73,27 @@ fn take_value_in(object: &mut Object, value: Value) -> Code
 {
     match object {
         Object::Sets(sets) => take_value(sets, value),
+        Object::Empty => Code::EmptyHandle,
+        _ => Code::OtherKind,
+    }
+}
+
+/// Takes a copy of bytes as the next value.
+fn take_bytes(alloc: Global, sets: &mut ParameterSets, bytes: &[u8]) -> Code
+    ensures { TakesValue (value.Bytes bytes.now) (code_number result) sets.old sets.new }
+{
+    match ByteString::copy(alloc, bytes) {
+        Ok(copy) => take_value(sets, Value::Bytes(copy)),
+        Err(_) => Code::Memory,
+    }
+}
+
+/// Takes a copy of bytes as the next value of parameter sets.
+fn take_bytes_in(alloc: Global, object: &mut Object, bytes: &[u8]) -> Code
+    ensures { OfSets object.old (code_number result) object.new (TakesValueIn (value.Bytes bytes.now) (code_number result) object.new) }
+{
+    match object {
+        Object::Sets(sets) => take_bytes(alloc, sets, bytes),
         Object::Empty => Code::EmptyHandle,
         _ => Code::OtherKind,
     }
@@ -179,12 +200,14 @@ pub fn sets_push_uint(alloc: Global, handle: &mut Handle, number: u64) -> u32
 
 /// Gives the next set a copy of bytes.
 pub fn sets_push_bytes(alloc: Global, handle: &mut Handle, bytes: &[u8]) -> u32
-    ensures { TakesBytes bytes.now handle.old.object result handle.new.object }
+    ensures { OfSets handle.old.object result handle.new.object (TakesValueIn (value.Bytes bytes.now) result handle.new.object) }
 {
-    match ByteString::copy(alloc, bytes) {
-        Ok(copy) => push(alloc, handle, Value::Bytes(copy)),
-        Err(_) => Code::Memory.number(),
-    }
+    let Some(mut object) = handle.take(alloc) else {
+        return Code::EmptyHandle.number();
+    };
+    let code = take_bytes_in(alloc, &mut object, bytes);
+    handle.put(object);
+    code.number()
 }
 
 /// Gives the next set a date with its time of day. No field is checked: a date may have month 13.

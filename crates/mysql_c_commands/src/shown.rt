@@ -1,9 +1,8 @@
 //! What C sees of contents and of the end of a stream.
 
 ghost use Rattle.std.specs.Prelude.{◌≡◌};
-ghost use Rattle.mysql_values.specs.Content.TheVariants.{Number};
 ghost use Rattle.mysql_c_handles.specs.Codes.{code_number};
-ghost use Rattle.mysql_c_commands.specs.Shown.{Shows, ShowsEnd, end_kind};
+ghost use Rattle.mysql_c_commands.specs.Shown.{Shows, ShowsNumber, end_kind, end_shown};
 
 use mysql_c_handles::{Code, ShownEnd, number_of_fault, start_of};
 use mysql_commands::{Content, End};
@@ -39,7 +38,7 @@ pub struct ShownStop {
 
 /// Shows a number. One that no content has, of more than 64 bits, is out of range.
 fn show_number(number: i128, shown: &mut ShownContent) -> Code
-    ensures { Shows (Number number) (code_number result) shown.new }
+    ensures { ShowsNumber number (code_number result) shown.new }
 {
     if let Ok(int) = i64::try_from(number) {
         shown.kind = 1;
@@ -86,13 +85,20 @@ pub fn kind_of_end(end: End) -> u32
     }
 }
 
-/// Shows an end.
-pub fn show_end(end: End, shown: &mut ShownEnd)
-    ensures { ShowsEnd end shown.new }
+/// What C sees of an end.
+pub fn shown_end(end: End) -> ShownEnd
+    ensures { result ≡ end_shown end }
 {
-    shown.kind = kind_of_end(end);
-    if let End::Fault(payload, fault) = end {
-        shown.payload = payload;
-        shown.fault = number_of_fault(fault);
+    match end {
+        End::Fault(payload, fault) => ShownEnd {
+            kind: 3,
+            fault: number_of_fault(fault),
+            payload,
+        },
+        other => ShownEnd {
+            kind: kind_of_end(other),
+            fault: 0,
+            payload: 0,
+        },
     }
 }

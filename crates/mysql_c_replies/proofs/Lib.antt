@@ -1,1 +1,2 @@
 mod RowsOfSets
+mod States

@@ -1,5 +1,5 @@
 -- What the calls that read replies say of the object that a handle stands for.
-use Rattle.std.specs.Prelude.{◌≡◌, ℕ, ◌==◌, List, [], Option, Some, None, Result, Ok, Err, IfSome, if◌then◌else◌}
+use Rattle.std.specs.Prelude.{◌≡◌, ℕ, ◌==◌, List, [], Option, Some, None, Result, Ok, Err, MatchOption, if◌then◌else◌}
 use Rattle.mysql_replies.specs.declared.context.ReplyKind.{ReplyKind}
 use Rattle.mysql_replies.specs.declared.context.ReplyKind.TheVariants.{Text, Binary, Prepare}
 use Rattle.mysql_replies.specs.declared.fault.ReplyFault.{ReplyFault}
@@ -14,7 +14,7 @@ use Rattle.mysql_c_handles.specs.declared.object.Object.TheVariants as object
 use Rattle.mysql_c_handles.specs.declared.object.ReplyInParts.{ReplyInParts}
 use Rattle.mysql_c_handles.specs.declared.shown.ShownEnd.{ShownEnd}
 use Rattle.mysql_c_handles.specs.Codes.{Stays, code_number}
-use Rattle.mysql_c_replies.specs.Shown.{ShowsReplyEnd}
+use Rattle.mysql_c_replies.specs.Shown.{reply_end_shown}
 
 -- the object is a reader of a reply of which this is said
 abbrev pub IsReply : Object → (ReplyInParts → Type 0) → Type 0
@@ -35,10 +35,10 @@ OfReply held number new Says = Stays held number new
 abbrev pub kind_numbered : ℕ → Option ReplyKind
 kind_numbered number = if number == 0 then Some Text else (if number == 1 then Some Binary else (if number == 2 then Some Prepare else None))
 
--- a reader of a reply of which nothing came
+-- a reader of a reply of which nothing came; none is made for a number that names no kind
 abbrev pub IsNewReply : ℕ → ℕ → ℕ → ℕ → ReplyInParts → Type 0
 IsNewReply kind capabilities first limit r =
-    IfSome (kind_numbered kind) (λ k. r.reader ≡ fresh_reader (record { kind = k; capabilities = record { 0 = capabilities } }) first limit)
+    MatchOption (kind_numbered kind) ⊥ (λ k. r.reader ≡ fresh_reader (record { kind = k; capabilities = record { 0 = capabilities } }) first limit)
     × (r.taken.items ≡ [])
 
 -- what a reader answers that has met this fault, or none
@@ -69,6 +69,6 @@ OutcomesAreTaken number new old =
 -- A reader becomes what was read and not taken, and that stays; its end is shown.
 abbrev pub RepliesEnd : Object → ℕ → Object → ShownEnd → Type 0
 RepliesEnd (object.Reply r) number new shown =
-    (number ≡ 0) × IsAnswer new (λ a. ReaderDecides r.reader [] (answer_view a) × ShowsReplyEnd a.end shown)
-RepliesEnd (object.Answer a) number new shown = (number ≡ 0) × (new ≡ object.Answer a) × ShowsReplyEnd a.end shown
+    (number ≡ 0) × IsAnswer new (λ a. ReaderDecides r.reader [] (answer_view a) × (shown ≡ reply_end_shown a.end))
+RepliesEnd (object.Answer a) number new shown = (number ≡ 0) × (new ≡ object.Answer a) × (shown ≡ reply_end_shown a.end)
 RepliesEnd held number new shown = Stays held number new

@@ -1,9 +1,8 @@
 -- What C sees of the results of a reply, of values, columns and changes of the session's state, and of the reply's end.
-use Rattle.std.specs.Prelude.{◌≡◌, ◌⊎◌, ℕ, List, true, false, Option, Some, None, Ok, Err, length, slice_get, MatchOption}
+use Rattle.std.specs.Prelude.{◌≡◌, ◌⊎◌, ℕ, List, [], ◌∷◌, true, false, Option, Some, None, Ok, Err, length}
 use Rattle.mysql_cells.specs.declared.value.Value.{Value}
 use Rattle.mysql_cells.specs.declared.value.Value.TheVariants as value
 use Rattle.mysql_const.specs.ColumnTypes.{column_type_number}
-use Rattle.mysql_const.specs.SessionStates.{session_state_number}
 use Rattle.mysql_columns.specs.Columns.{ColumnDefinition}
 use Rattle.mysql_ok_packets.specs.OkPackets.{OkPacket, all_states_at}
 use Rattle.mysql_ok_packets.specs.Written.{or_empty, or_zero}
@@ -19,11 +18,11 @@ use Rattle.mysql_c_replies.specs.declared.shown.ShownColumn.{ShownColumn}
 use Rattle.mysql_c_replies.specs.declared.shown.ShownResult.{ShownResult}
 use Rattle.mysql_c_replies.specs.declared.shown.ShownValue.{ShownValue}
 
--- whole is kind 0, a reply that isn't whole 1, a fault 3 with its payload and its number
-abbrev pub ShowsReplyEnd : ReplyEnd → ShownEnd → Type 0
-ShowsReplyEnd ending.Whole shown = shown.kind ≡ 0
-ShowsReplyEnd ending.Unfinished shown = shown.kind ≡ 1
-ShowsReplyEnd (ending.Fault payload fault) shown = (shown.kind ≡ 3) × (shown.payload ≡ payload) × (shown.fault ≡ reply_fault_number fault)
+-- whole is kind 0, a reply that isn't whole 1, a fault 3 with its payload and its number; other ends have 0 there
+abbrev pub reply_end_shown : ReplyEnd → ShownEnd
+reply_end_shown ending.Whole = record { kind = 0; fault = 0; payload = 0 }
+reply_end_shown ending.Unfinished = record { kind = 1; fault = 0; payload = 0 }
+reply_end_shown (ending.Fault payload fault) = record { kind = 3; fault = reply_fault_number fault; payload = payload }
 
 -- how many changes of the session's state were read: none where they can't be
 abbrev pub count_read : Reading (List State) → ℕ
@@ -35,34 +34,66 @@ abbrev pub CountsChanges : Reading (List State) → Option ℕ → Type 0
 CountsChanges read None = Unit {0}
 CountsChanges read (Some count) = count ≡ count_read read
 
--- what an OK packet tells, its text by its length
-abbrev pub ShowsPacket : OkPacket → ShownResult → Type 0
-ShowsPacket ok shown =
-    (shown.affected_rows ≡ ok.affected_rows) × (shown.last_insert_id ≡ or_zero ok.last_insert_id) × (shown.status ≡ ok.status_flags)
-    × (shown.warnings ≡ ok.warnings) × (shown.len ≡ length (or_empty ok.info)) × (shown.states ≡ count_read (all_states_at ok.session_state_info))
+-- a result that tells nothing, but for where a text of no bytes stands
+abbrev pub nothing_shown : ShownResult → ShownResult
+nothing_shown shown = record shown {
+  kind = 0;
+  status = 0;
+  warnings = 0;
+  error_code = 0;
+  statement = 0;
+  affected_rows = 0;
+  last_insert_id = 0;
+  columns = 0;
+  rows = 0;
+  params = 0;
+  states = 0;
+  len = 0;
+  state = 0 ∷ 0 ∷ 0 ∷ 0 ∷ 0 ∷ [];
+  state_len = 0;
+  ended = true;
+}
+
+-- what an OK packet tells beside, its text by its length
+abbrev pub packet_shown : OkPacket → ShownResult → ShownResult
+packet_shown ok shown = record shown {
+  affected_rows = ok.affected_rows;
+  last_insert_id = or_zero ok.last_insert_id;
+  status = ok.status_flags;
+  warnings = ok.warnings;
+  len = length (or_empty ok.info);
+  states = count_read (all_states_at ok.session_state_info);
+}
 
 -- what the packet tells that ended rows, where it came
-abbrev pub ShowsTerminator : Option OkPacket → ShownResult → Type 0
-ShowsTerminator None shown = shown.ended ≡ false
-ShowsTerminator (Some ok) shown = (shown.ended ≡ true) × ShowsPacket ok shown
+abbrev pub terminator_shown : Option OkPacket → ShownResult → ShownResult
+terminator_shown None shown = record shown { ended = false }
+terminator_shown (Some ok) shown = packet_shown ok shown
 
 -- the SQL state of an error, by its bytes
-abbrev pub ShowsState : Option (List ℕ) → ShownResult → Type 0
-ShowsState None shown = shown.state_len ≡ 0
-ShowsState (Some state) shown = (shown.state_len ≡ 5) × (shown.state ≡ state)
+abbrev pub state_shown : Option (List ℕ) → ShownResult → ShownResult
+state_shown None shown = shown
+state_shown (Some state) shown = record shown { state = state; state_len = 5 }
 
--- OK is kind 0, rows 1, a prepared statement 2, an error 3, a request for a file 4
+-- OK is kind 0, rows 1, a prepared statement 2, an error 3, a request for a file 4. What a kind doesn't have is 0.
+abbrev pub outcome_shown : grammar.Outcome → ShownResult → ShownResult
+outcome_shown (grammar.OkResult ok) shown = packet_shown ok (nothing_shown shown)
+outcome_shown (grammar.RowsResult columns rows terminator) shown =
+    record (terminator_shown terminator (nothing_shown shown)) { kind = 1; columns = length columns; rows = length rows }
+outcome_shown (grammar.PreparedResult statement params columns) shown = record (nothing_shown shown) {
+  kind = 2;
+  statement = statement.statement_id;
+  params = length params;
+  columns = length columns;
+  warnings = statement.warning_count;
+}
+outcome_shown (grammar.ErrorResult error) shown =
+    record (state_shown error.sql_state (nothing_shown shown)) { kind = 3; error_code = error.error_code; len = length error.error_message }
+outcome_shown (grammar.FileResult name) shown = record (nothing_shown shown) { kind = 4; len = length name }
+
+-- Each field is that of the result, but where its text stands; of an earlier result nothing stays.
 abbrev pub ShowsOutcome : grammar.Outcome → ShownResult → Type 0
-ShowsOutcome (grammar.OkResult ok) shown = (shown.kind ≡ 0) × (shown.ended ≡ true) × ShowsPacket ok shown
-ShowsOutcome (grammar.RowsResult columns rows terminator) shown =
-    (shown.kind ≡ 1) × (shown.columns ≡ length columns) × (shown.rows ≡ length rows) × ShowsTerminator terminator shown
-ShowsOutcome (grammar.PreparedResult statement params columns) shown =
-    (shown.kind ≡ 2) × (shown.ended ≡ true) × (shown.statement ≡ statement.statement_id) × (shown.params ≡ length params)
-    × (shown.columns ≡ length columns) × (shown.warnings ≡ statement.warning_count)
-ShowsOutcome (grammar.ErrorResult error) shown =
-    (shown.kind ≡ 3) × (shown.ended ≡ true) × (shown.error_code ≡ error.error_code) × (shown.len ≡ length error.error_message)
-    × ShowsState error.sql_state shown
-ShowsOutcome (grammar.FileResult name) shown = (shown.kind ≡ 4) × (shown.ended ≡ true) × (shown.len ≡ length name)
+ShowsOutcome outcome shown = shown ≡ outcome_shown outcome shown
 
 -- A call is done and this holds, or it was refused memory.
 abbrev pub UnlessMemory : ℕ → Type 0 → Type 0

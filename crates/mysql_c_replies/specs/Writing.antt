@@ -1,5 +1,5 @@
 -- What the calls that write replies say of the objects that handles stand for.
-use Rattle.std.specs.Prelude.{◌≡◌, ◌⊎◌, ℕ, List, [], ◌∷◌, ◌++◌, Option, Some, None, IfSome, MatchOption, map}
+use Rattle.std.specs.Prelude.{◌≡◌, ◌⊎◌, ℕ, List, [], ◌∷◌, ◌++◌, Option, Some, None, MatchOption, map}
 use Rattle.mysql_cells.specs.declared.value.Value.{Value}
 use Rattle.mysql_columns.specs.Columns.{ColumnDefinition}
 use Rattle.mysql_const.specs.declared.column_type.ColumnType.{ColumnType}
@@ -20,10 +20,10 @@ use Rattle.mysql_c_replies.specs.Replies.{kind_numbered}
 use Rattle.mysql_c_replies.specs.Spots.{spot_of}
 use Rattle.mysql_c_replies.specs.Steps.{IsWriter, WritesFrom, columns_given}
 
--- a writer of a reply of which nothing is written, to which no column was given
+-- a writer of a reply of which nothing is written, to which no column was given; none is made for a number that names no kind
 abbrev pub IsNewWriter : ℕ → ℕ → ℕ → ℕ → WrittenReply → Type 0
 IsNewWriter kind capabilities first limit reply =
-    IfSome (kind_numbered kind) (λ k. reply.writer ≡ fresh_writer (record { kind = k; capabilities = record { 0 = capabilities } }) first limit)
+    MatchOption (kind_numbered kind) ⊥ (λ k. reply.writer ≡ fresh_writer (record { kind = k; capabilities = record { 0 = capabilities } }) first limit)
     × (reply.columns.items ≡ [])
 
 -- the OK packet that says this; an id of 0 is none, and so is an empty text

@@ -7,7 +7,7 @@ ghost use Rattle.mysql_c_handles.specs.Codes.{code_number};
 ghost use Rattle.mysql_c_handles.specs.declared.code.Code.TheVariants as code;
 ghost use Rattle.mysql_c_replies.specs.Replies.{IsNewReply, IsReply, IsReplyFedBy, OfReply, OutcomesAreTaken, RepliesEnd, answer_of, kind_numbered, reply_code};
 
-use crate::shown::show_reply_end;
+use crate::shown::shown_reply_end;
 use mysql_c_handles::{Code, Handle, Object, ReplyInParts, ShownEnd};
 use mysql_const::CapabilityFlags;
 use mysql_replies::{ReplyKind, ReplyReader};
@@ -76,7 +76,7 @@ fn end(object: &mut Object, end: &mut ShownEnd) -> Code
         other => (other, Code::OtherKind),
     };
     if let Object::Answer(reply) = &ended {
-        show_reply_end(reply.end, end);
+        *end = shown_reply_end(reply.end);
     }
     *object = ended;
     code

@@ -1,22 +1,22 @@
 //! What C sees of the results of a reply, of values, columns and changes of the session's state, and of the reply's end.
 
-ghost use Rattle.std.specs.Prelude.{◌≡◌, length, option_map};
+ghost use Rattle.std.specs.Prelude.{◌≡◌, IfSome, false, length, option_map};
 ghost use Rattle.mysql_columns.specs.Views.{column_view};
 ghost use Rattle.mysql_ok_packets.specs.OkPackets.{all_states_at};
 ghost use Rattle.mysql_ok_packets.specs.Views.{ok_packet_view};
-ghost use Rattle.mysql_packets.specs.Views.{server_error_view, sql_state_view};
+ghost use Rattle.mysql_packets.specs.Views.{prepare_ok_view, server_error_view};
 ghost use Rattle.mysql_replies.specs.Grammar.{ErrorResult};
 ghost use Rattle.mysql_replies.specs.Views.{outcome_view};
 ghost use Rattle.mysql_c_handles.specs.Codes.{code_number};
-ghost use Rattle.mysql_c_replies.specs.Shown.{CountsChanges, ShowsColumn, ShowsOutcome, ShowsPacket, ShowsReplyEnd, ShowsState, ShowsTerminator, ShowsValue, UnlessMemory};
+ghost use Rattle.mysql_c_replies.specs.Shown.{CountsChanges, ShowsColumn, ShowsOutcome, ShowsValue, UnlessMemory, nothing_shown, packet_shown, reply_end_shown, terminator_shown};
 ghost use Rattle.mysql_c_replies.specs.States.{ShowsChangeAt};
 
-use mysql_c_handles::{Code, ShownEnd, number_of_reply_fault, start_of};
 use mysql_buf::ParseBuf;
+use mysql_c_handles::{Code, ShownEnd, number_of_reply_fault, start_of};
 use mysql_cells::Value;
 use mysql_columns::Column;
 use mysql_ok_packets::OkPacket;
-use mysql_packets::{ServerError, SqlState};
+use mysql_packets::{ServerError, StmtPacket};
 use mysql_raw::{ParseExt, WireError};
 use mysql_replies::{ReplyEnd, ReplyResult};
 use mysql_session_states::SessionStateInfo;
@@ -87,39 +87,50 @@ pub struct ShownColumn {
     pub org_name_len: usize,
 }
 
-/// Shows how a reply ends.
-pub(crate) fn show_reply_end(end: ReplyEnd, shown: &mut ShownEnd)
-    ensures { ShowsReplyEnd end shown.new }
+/// What C sees of a reply's end.
+pub(crate) fn shown_reply_end(end: ReplyEnd) -> ShownEnd
+    ensures { result ≡ reply_end_shown end }
 {
     match end {
-        ReplyEnd::Whole => shown.kind = 0,
-        ReplyEnd::Unfinished => shown.kind = 1,
-        ReplyEnd::Fault(payload, fault) => {
-            shown.kind = 3;
-            shown.payload = payload;
-            shown.fault = number_of_reply_fault(fault);
-        }
+        ReplyEnd::Whole => ShownEnd {
+            kind: 0,
+            fault: 0,
+            payload: 0,
+        },
+        ReplyEnd::Unfinished => ShownEnd {
+            kind: 1,
+            fault: 0,
+            payload: 0,
+        },
+        ReplyEnd::Fault(payload, fault) => ShownEnd {
+            kind: 3,
+            fault: number_of_reply_fault(fault),
+            payload,
+        },
     }
 }
 
-/// Shows a text where it stands.
-fn show_text(text: &[u8], shown: &mut ShownResult)
-    ensures { shown.new ≡ record shown.old { text = shown.new.text; len = length text.now } }
+/// A result of this kind with this text, which tells nothing else.
+fn telling(kind: u32, text: &[u8]) -> ShownResult
+    ensures { result ≡ record (nothing_shown result) { kind = kind; len = length text.now } }
 {
-    shown.text = start_of(text);
-    shown.len = text.len();
-}
-
-/// Shows the SQL state of an error.
-fn show_sql_state(state: Option<&SqlState>, shown: &mut ShownResult)
-    ensures { ShowsState (option_map (λ state. sql_state_view state.now) state.entry) shown.new }
-{
-    match state {
-        Some(state) => {
-            shown.state = state.as_bytes();
-            shown.state_len = 5;
-        }
-        None => shown.state_len = 0,
+    ShownResult {
+        kind,
+        status: 0,
+        warnings: 0,
+        error_code: 0,
+        statement: 0,
+        affected_rows: 0,
+        last_insert_id: 0,
+        columns: 0,
+        rows: 0,
+        params: 0,
+        states: 0,
+        text: start_of(text),
+        len: text.len(),
+        state: [0; 5],
+        state_len: 0,
+        ended: true,
     }
 }
 
@@ -134,99 +145,103 @@ fn count_changes(alloc: Global, ok: &OkPacket<'_>) -> Option<usize>
     }
 }
 
-/// Shows what an OK packet tells.
-fn show_packet(alloc: Global, ok: &OkPacket<'_>, shown: &mut ShownResult) -> Code
-    ensures { UnlessMemory (code_number result) (ShowsPacket (ok_packet_view ok.now) shown.new) }
+/// A result of this kind that tells what an OK packet does. Nothing is told for want of memory.
+fn telling_packet(alloc: Global, kind: u32, ok: &OkPacket<'_>) -> Option<ShownResult>
+    ensures { IfSome result (λ shown. shown ≡ record (packet_shown (ok_packet_view ok.now) (nothing_shown shown)) { kind = kind }) }
 {
-    let Some(states) = count_changes(alloc, ok) else {
-        return Code::Memory;
-    };
-    show_text(ok.info_ref().unwrap_or(&[]), shown);
+    let states = count_changes(alloc, ok)?;
+    let mut shown = telling(kind, ok.info_ref().unwrap_or(&[]));
     shown.affected_rows = ok.affected_rows();
     shown.last_insert_id = ok.last_insert_id().unwrap_or(0);
     shown.status = ok.status_flags().0;
     shown.warnings = ok.warnings();
     shown.states = states;
-    Code::Done
+    Some(shown)
 }
 
-/// Shows what the packet tells that ended rows, where it came.
-fn show_terminator(
+/// Rows, so many under so many columns, and what the packet tells that ended them, where it came. Nothing is told for want of memory.
+fn telling_rows(
     alloc: Global,
+    columns: usize,
+    rows: usize,
     terminator: &Option<OkPacket<'static>>,
-    shown: &mut ShownResult,
-) -> Code
-    ensures { UnlessMemory (code_number result) (ShowsTerminator (option_map ok_packet_view terminator.now) shown.new) }
+) -> Option<ShownResult>
+    ensures { IfSome result (λ shown. shown ≡ record (terminator_shown (option_map ok_packet_view terminator.now) (nothing_shown shown)) { kind = 1; columns = columns; rows = rows }) }
 {
-    match terminator {
-        Some(ok) => {
-            let code = show_packet(alloc, ok, shown);
-            shown.ended = true;
-            code
-        }
-        None => {
-            shown.ended = false;
-            Code::Done
-        }
-    }
+    let mut shown = match terminator {
+        Some(ok) => telling_packet(alloc, 1, ok)?,
+        None => telling_open_rows(),
+    };
+    shown.columns = columns;
+    shown.rows = rows;
+    Some(shown)
 }
 
-/// Shows an error.
-fn show_error(error: &ServerError<'static>, shown: &mut ShownResult)
-    ensures { ShowsOutcome (ErrorResult (server_error_view error.now)) shown.new }
+/// Rows that go on.
+fn telling_open_rows() -> ShownResult
+    ensures { result ≡ record (nothing_shown result) { kind = 1; ended = false } }
 {
-    show_sql_state(error.sql_state_ref(), shown);
-    show_text(error.message_ref(), shown);
-    shown.kind = 3;
-    shown.ended = true;
+    let mut shown = telling(1, &[]);
+    shown.ended = false;
+    shown
+}
+
+/// A prepared statement with so many parameters and columns.
+fn telling_prepared(stmt: &StmtPacket, params: usize, columns: usize) -> ShownResult
+    ensures { result ≡ record (nothing_shown result) { kind = 2; statement = (prepare_ok_view stmt.now).statement_id; params = params; columns = columns; warnings = (prepare_ok_view stmt.now).warning_count } }
+{
+    let mut shown = telling(2, &[]);
+    shown.statement = stmt.statement_id();
+    shown.params = params;
+    shown.columns = columns;
+    shown.warnings = stmt.warning_count();
+    shown
+}
+
+/// An error.
+fn telling_error(error: &ServerError<'static>) -> ShownResult
+    ensures { ShowsOutcome (ErrorResult (server_error_view error.now)) result }
+{
+    let mut shown = telling(3, error.message_ref());
     shown.error_code = error.error_code();
+    if let Some(state) = error.sql_state_ref() {
+        shown.state = state.as_bytes();
+        shown.state_len = 5;
+    }
+    shown
 }
 
-/// Shows a result.
-pub(crate) fn show_result(alloc: Global, found: &ReplyResult, shown: &mut ShownResult) -> Code
-    ensures { UnlessMemory (code_number result) (ShowsOutcome (outcome_view found.now) shown.new) }
+/// What C sees of a result. Nothing is told for want of memory.
+fn telling_result(alloc: Global, found: &ReplyResult) -> Option<ShownResult>
+    ensures { IfSome result (ShowsOutcome (outcome_view found.now)) }
 {
     match found {
-        ReplyResult::Ok(ok) => {
-            let code = show_packet(alloc, ok, shown);
-            shown.kind = 0;
-            shown.ended = true;
-            code
-        }
+        ReplyResult::Ok(ok) => telling_packet(alloc, 0, ok),
         ReplyResult::Rows {
             columns,
             rows,
             terminator,
-        } => {
-            let code = show_terminator(alloc, terminator, shown);
-            shown.kind = 1;
-            shown.columns = columns.as_slice().len();
-            shown.rows = rows.len();
-            code
-        }
+        } => telling_rows(alloc, columns.as_slice().len(), rows.len(), terminator),
         ReplyResult::Prepared {
             stmt,
             params,
             columns,
-        } => {
-            shown.kind = 2;
-            shown.ended = true;
-            shown.statement = stmt.statement_id();
-            shown.params = params.len();
-            shown.columns = columns.len();
-            shown.warnings = stmt.warning_count();
+        } => Some(telling_prepared(stmt, params.len(), columns.len())),
+        ReplyResult::Error(error) => Some(telling_error(error)),
+        ReplyResult::File(file) => Some(telling(4, file.file_name_ref())),
+    }
+}
+
+/// Shows a result, in place of all that was shown before.
+pub(crate) fn show_result(alloc: Global, found: &ReplyResult, shown: &mut ShownResult) -> Code
+    ensures { UnlessMemory (code_number result) (ShowsOutcome (outcome_view found.now) shown.new) }
+{
+    match telling_result(alloc, found) {
+        Some(told) => {
+            *shown = told;
             Code::Done
         }
-        ReplyResult::Error(error) => {
-            show_error(error, shown);
-            Code::Done
-        }
-        ReplyResult::File(file) => {
-            show_text(file.file_name_ref(), shown);
-            shown.kind = 4;
-            shown.ended = true;
-            Code::Done
-        }
+        None => Code::Memory,
     }
 }
 
