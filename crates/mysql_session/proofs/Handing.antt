@@ -1,8 +1,8 @@
--- What a writer took delivers sets; of a writer that failed, what is read of the front that it took.
+-- What a writer took delivers sets, and what is read of the front that a failed writer took.
 use Rattle.std.proofs.Common.{◌≡◌, ◌⊎◌, ℕ, ◌<◌, ◌≤◌, ◌^◌, List, [], ◌∷◌, ◌++◌, length, map, take, drop, get_or, Option, Some, inl, inr, refl, sym, ◌∙◌, ap, subst, arith, take-append-drop}
 use Rattle.std.specs.Prelude.{◌↔◌}
 use Rattle.std.specs.List.{concat}
-use Rattle.std_io.specs.declared.io.error.Error.{Error}
+use Rattle.std.specs.declared.io.Error.{Error}
 use Rattle.std.proofs.lemmas.Bool.{cases_lt}
 use Rattle.std.proofs.lemmas.Grind.{flat_map-append}
 use Rattle.std.proofs.lemmas.List.{append-nil, get_or_past, length-map, map-append, take-map, take_all, take_at}
@@ -105,7 +105,7 @@ module _ (law : ReadableSetsAreDelivered) (audits : StreamHasOneAudit) (once : O
       }
 
   module _ (small : id < 2 ^ 32) (room : 4 ≤ limit) (sets : List Params) (old new : Option (List ℕ)) where
-    -- what a writer took that failed within the first sets
+    -- what a writer took that failed within the first sets, so many
     takes : (road : Road) (count : ℕ) → count ≤ length sets → (road ≡ Bulk → count ≡ length sets) → FailsWithin road query (all_given (take count sets)) id limit old new
         → TakesReadable road query sets id limit old new
     takes road count inside all f = record {

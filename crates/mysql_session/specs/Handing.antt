@@ -3,7 +3,7 @@
 use Rattle.std.specs.Prelude.{◌≡◌, ◌↔◌, ◌<◌, ◌≤◌, ◌^◌, ℕ, List, [], length, take, Option}
 use Rattle.std.specs.Io.KnownBytes.{Appends, Keeps}
 use Rattle.std.specs.List.{concat}
-use Rattle.std_io.specs.declared.io.error.Error.{Error}
+use Rattle.std.specs.declared.io.Error.{Error}
 use Rattle.mysql_wire.specs.Bytes.{AreBytes}
 use Rattle.mysql_wire.specs.Stream.{StandWhole}
 use Rattle.mysql_wire.specs.Stream.Numbering.{EachFromZero}
@@ -22,8 +22,8 @@ use Rattle.mysql_set_writer.specs.declared.error.SendToError.{SendToError}
 use Rattle.mysql_set_writer.specs.declared.error.SendToError.TheVariants.{Refused, Io}
 use Rattle.mysql_session.specs.Delivery.{Delivers}
 
--- Sets that give this for the query's names are delivered to a writer: it takes a stream that carries them, so that no cause speaks against them,
--- and that delivers them where it has fewer than 2 ^ 64 bytes.
+-- Sets that give this for the query's names are delivered to a writer: it takes a stream that carries them, so that no
+-- cause speaks against them, and that delivers them where it has fewer than 2 ^ 64 bytes.
 pub record DeliversTo (road : Road) (query : List ℕ) (sets : List (List ℕ) → List Given) (id limit : ℕ) (old new : Option (List ℕ)) : Type 0 where
   pub stream : List ℕ
   pub bytes : AreBytes stream
@@ -42,10 +42,10 @@ StopsSending Text query sets id limit old new error = Stops Text query sets id l
 StopsSending Execute query sets id limit old new error = Stops Execute query sets id limit old new error
 StopsSending Bulk query sets id limit old new error = StopsRequests query sets id limit old new error
 
--- ---- what is read of what a writer took that failed
+-- ---- what is read of what a failed writer took
 
--- A front of a stream that delivers sets has one audit, which is what `receive` answers of it in whichever pieces, but Memory: no fault, and as many
--- of the sets' contents as stand whole in the front, from the first on.
+-- A front of a stream that delivers sets has one audit, and `receive` answers this of it in whichever pieces, but
+-- Memory: no fault, and from the first on as many of the sets' contents as stand whole in the front.
 pub record FrontReads (road : Road) (query : List ℕ) (sets : List (List ℕ) → List Given) (id limit : ℕ) (stream front : List ℕ) : Type 0 where
   pub delivery : Delivers road query sets id limit [] stream
   pub count : ℕ
@@ -56,8 +56,8 @@ pub record FrontReads (road : Road) (query : List ℕ) (sets : List (List ℕ) �
   pub no_fault : IsNoFault audit.ending
   pub reads : audit.sets ≡ take (length (sets_of (take count delivery.sent))) delivery.contents
 
--- A writer took a front of what carries the first sets, so many, by bulk all, and not all of it; in fewer than 2 ^ 64 bytes the front reads as the
--- sets that stand whole in it.
+-- A failed writer took a front of a stream that carries the first sets, so many, by bulk all, and not all of that
+-- stream. Where the stream has fewer than 2 ^ 64 bytes, the front reads as the sets that stand whole in it.
 pub record TakesReadable (road : Road) (query : List ℕ) (sets : List Params) (id limit : ℕ) (old new : Option (List ℕ)) : Type 0 where
   pub count : ℕ
   pub inside : count ≤ length sets
@@ -67,7 +67,7 @@ pub record TakesReadable (road : Road) (query : List ℕ) (sets : List Params) (
   pub taken : TakesFront old new stream
   pub read : length stream < 2 ^ 64 → FrontReads road query (all_given (take count sets)) id limit stream taken.front
 
--- What a writer took that failed while sets were sent to it is such a front.
+-- A writer that failed while sets were sent to it took such a front.
 abbrev pub FailedWritersAreRead : Type 0
 FailedWritersAreRead =
     (road : Road) (query : List ℕ) (sets : List Params) (id limit : ℕ) (old new : Option (List ℕ)) (error : Error) → id < 2 ^ 32 → 4 ≤ limit

@@ -40,9 +40,10 @@ pub fn deliveries_are_received()
     ensures { DeliveriesAreReceived }
 {}
 
-/// What a writer took that failed while sets were sent to it by `Query::send_to` is a front of a stream that carries the first of
-/// them, by bulk all, and not all of it. In fewer than 2^64 bytes that front reads, without a fault, as exactly the sets that stand
-/// whole in it: so `receive` answers of it, in whichever pieces, but Memory.
+/// Where a writer fails while sets are sent to it by `Query::send_to`, it has taken a front of a stream that carries the
+/// first of them, by bulk all, and not all of that stream. Where the stream has fewer than 2^64 bytes, the front reads,
+/// without a fault, as exactly the sets that stand whole in it: that is what `receive` answers of it, in whichever
+/// pieces, but Memory.
 pub fn failed_writers_are_read()
     ensures { FailedWritersAreRead }
 {

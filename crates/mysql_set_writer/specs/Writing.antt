@@ -32,7 +32,7 @@ pub record StopsAtSet (road : Road) (query : List ℕ) (sets : List Params) (id 
   pub why : RefusesGiven road query (all_given (take (count + 1) sets)) id limit refusal
   pub before : Writes road query (all_given (take count sets)) id limit old new
 
--- the writer fails within a stream that carries sets that give this for the query's names: it takes a front of it, and not all
+-- the writer fails within a stream that carries sets which give this for the query's names: it takes a front, not all of it
 pub record FailsWithin (road : Road) (query : List ℕ) (sets : List (List ℕ) → List Given) (id limit : ℕ) (old new : Option (List ℕ)) : Type 0 where
   pub stream : List ℕ
   pub bytes : AreBytes stream
