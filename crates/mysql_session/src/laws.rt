@@ -1,10 +1,11 @@
 //! The laws of the crates below, of sets that are delivered, and of lists of objects. A function without a result does nothing: its
 //! contract is the law.
 
+ghost use Rattle.mysql_session.specs.Handing.{FailedWritersAreRead};
 ghost use Rattle.mysql_session.specs.Laws.{DeliveriesAreReadBack, DeliveriesAreReceived, MadeSetsGiveTheSame, ReadableSetsAreDelivered, RecodingsAreDelivered};
 
 pub use mysql_commands::laws as commands;
-use mysql_commands::laws::cuttings_agree;
+use mysql_commands::laws::{cuttings_agree, stream_has_one_audit};
 pub use mysql_recoding::laws as recoding;
 use mysql_recoding::laws::recodings_are_sent;
 pub use mysql_replies::laws as replies;
@@ -17,6 +18,7 @@ pub use mysql_streams::laws::{roads_read_equally, sent_streams_join};
 pub use mysql_values::laws as values;
 use mysql_values::laws::tokens_of_a_text;
 pub use mysql_wire::laws as wire;
+use mysql_wire::laws::one_count_stands_whole;
 
 /// Sets that were sent in a form that can be read back are delivered: what `send_contents` appends too.
 pub fn readable_sets_are_delivered()
@@ -37,6 +39,19 @@ pub fn deliveries_are_read_back()
 pub fn deliveries_are_received()
     ensures { DeliveriesAreReceived }
 {}
+
+/// Where a writer fails while sets are sent to it by `Query::send_to`, it has taken a front of a stream that carries the
+/// first of them, by bulk all, and not all of that stream. Where the stream has fewer than 2^64 bytes, the front reads,
+/// without a fault, as exactly the sets that stand whole in it: that is what `receive` answers of it, in whichever
+/// pieces, but Memory.
+pub fn failed_writers_are_read()
+    ensures { FailedWritersAreRead }
+{
+    readable_sets_are_delivered();
+    stream_has_one_audit();
+    tokens_of_a_text();
+    one_count_stands_whole();
+}
 
 /// What `recode` appends delivers, by execute, the values that the stream's contents are sent as.
 pub fn recodings_are_delivered()

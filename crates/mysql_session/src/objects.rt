@@ -139,6 +139,8 @@ fn send_lists(
 /// for a packet's header in it: a payload has at most `limit - 4` bytes. Calls that read count the payload alone: it has at most
 /// `limit` bytes.
 ///
+/// By text **safe for** the servers that `mysql_values::bind_text` names; by execute and bulk for any.
+///
 /// # Errors
 /// The first cause that holds, in the order of [`Refusal`]: `Mixed`; by text `NotAlone`; by execute and bulk `TooManyPlaces`,
 /// `PrepareTooLarge`; by bulk `NoPlaces`; list by list `Params` with `TooLong` and the least place whose object is too long for

@@ -144,6 +144,8 @@ impl<'q> Query<'q> {
     /// Appends to `out` what [`send`](crate::send) appends of sets of this text and id, by the same road within the same limit,
     /// and is refused as it is.
     ///
+    /// By text **safe for** the servers that `mysql_values::bind_text` names; by execute and bulk for any.
+    ///
     /// # Errors
     /// Those of [`send`](crate::send) but for `Mixed`, which [`Query::new`] refused, in its order. `out` is then as it was.
     ///
@@ -250,20 +252,24 @@ impl<'q> Query<'q> {
         }
     }
 
-    /// Writes to `to`, as to a connection, what [`Query::send`] appends of sets of this text and id, by the same road within the same
-    /// limit: by text and execute some packets at a time, as soon as they have 8192 bytes together, so that no more than these and one
-    /// set's packets are held, whichever sets there are; by bulk all requests together, since what speaks against any set comes
-    /// before the first of them. The writer is asked again where it was interrupted; it isn't flushed.
+    /// Writes to `to`, as to a connection, what [`Query::send`] appends of sets of this text and id, by the same road
+    /// within the same limit: by text and execute in parts, as the sets are made packets; by bulk when all requests
+    /// stand, since what speaks against any set comes before the first of them. What `to` holds back itself, as a
+    /// `BufWriter` does, is flushed by who gave it.
+    ///
+    /// By text **safe for** the servers that `mysql_values::bind_text` names; by execute and bulk for any.
     ///
     /// # Errors
-    /// [`SendToError::Refused`] with what [`Query::send`] is refused for, and how many sets were written before: by text `NotAlone`
-    /// and by execute `TooManyPlaces` and `PrepareTooLarge`, before anything is written; at a set by `Params`, `WrongCount`, `Float`,
-    /// `PacketTooLarge`, or `Memory` where a growth was refused, when all sets before it are written, each whole; by bulk each
-    /// refusal before anything is written. [`SendToError::Io`] where the writer fails: it has taken a front of what carries the
-    /// first sets, of which a receiver reads those that stand whole in it.
+    /// [`SendToError::Refused`] with what [`Query::send`] is refused for, and how many sets were written before: by
+    /// text `NotAlone` and by execute `TooManyPlaces` and `PrepareTooLarge`, before anything is written; at a set by
+    /// `Params`, `WrongCount`, `Float`, `PacketTooLarge`, or `Memory` where a growth was refused, when all sets before
+    /// it are written, each whole; by bulk each refusal before anything is written. [`SendToError::Io`] where the
+    /// writer fails: it has taken a front of a stream that carries the first sets, by bulk all, and not all of that
+    /// stream. A receiver reads of the front, without a fault, exactly the sets that stand whole in it: the law
+    /// `laws::failed_writers_are_read`.
     ///
-    /// (MySQL: Client/Server Protocol, "COM_QUERY", "COM_STMT_PREPARE", "COM_STMT_SEND_LONG_DATA", "COM_STMT_EXECUTE"; MariaDB:
-    /// Client/Server Protocol, "COM_STMT_BULK_EXECUTE".)
+    /// (MySQL: Client/Server Protocol, "COM_QUERY", "COM_STMT_PREPARE", "COM_STMT_SEND_LONG_DATA", "COM_STMT_EXECUTE";
+    /// MariaDB: Client/Server Protocol, "COM_STMT_BULK_EXECUTE".)
     pub fn send_to<W: Write>(
         &self,
         alloc: Global,
@@ -302,6 +308,8 @@ impl<'q> Query<'q> {
     }
 
     /// Appends the text with the literals of a set's values in the places of its placeholders, as `mysql_values::bind_text` does.
+    ///
+    /// **Safe for** the servers that `mysql_values::bind_text` names.
     ///
     /// # Errors
     /// `NotAlone` with the first such placeholder, `Params`, `WrongCount`, `Float` with the first such placeholder, `Memory`;

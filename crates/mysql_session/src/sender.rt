@@ -69,6 +69,10 @@ fn send_sets(
 /// for a packet's header in it: a payload has at most `limit - 4` bytes. Calls that read count the payload alone: it has at most
 /// `limit` bytes.
 ///
+/// By execute and bulk **safe for** any server. By text for one that takes backslash escapes (NO_BACKSLASH_ESCAPES
+/// isn't in its SQL mode) over a connection in UTF-8, as `mysql_values::bind_text` is: for any other a value may end
+/// its literal, and what stands behind the quote is read as SQL.
+///
 /// # Errors
 /// The first cause that holds, in the order of [`Refusal`]: `Mixed`; by text `NotAlone`; by execute and bulk `TooManyPlaces`,
 /// `PrepareTooLarge`; by bulk `NoPlaces`; set by set `Params`, `WrongCount`, `Float`, and but by bulk `PacketTooLarge`; by bulk

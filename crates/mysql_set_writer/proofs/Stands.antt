@@ -16,6 +16,13 @@ pub record Stands (P : ℕ → List ℕ → Type 0) (old now : Option (List ℕ)
   pub taken : Appends old now handed
   pub holds : P count (handed ++ lot)
 
+-- a writer failed within a stream in which so many sets stand
+pub record Failed (P : ℕ → List ℕ → Type 0) (old new : Option (List ℕ)) (count : ℕ) : Type 0 where
+  pub stream : List ℕ
+  pub bytes : AreBytes stream
+  pub taken : TakesFront old new stream
+  pub holds : P count stream
+
 bytes_append : (xs ys : List ℕ) → AreBytes xs → AreBytes ys → AreBytes (xs ++ ys)
 bytes_append xs ys p q i = at (cases_lt i (length xs))
   where
@@ -47,25 +54,24 @@ module _ (P : ℕ → List ℕ → Type 0) (old mid : Option (List ℕ)) (lot : 
   pub all : (new : Option (List ℕ)) → AreBytes lot → Appends mid new lot → (stream : List ℕ) × AreBytes stream × Appends old new stream × P i stream
   all new bytes taken = (s.handed ++ lot, bytes_append s.handed lot s.bytes bytes, Appends-trans old mid new s.handed lot s.taken taken, s.holds)
 
+  -- what a writer took of what is gathered, behind what it took before
+  behind : (new : Option (List ℕ)) (gathered : List ℕ) → TakesFront mid new gathered → TakesFront old new (s.handed ++ gathered)
+  behind new gathered f = record {
+    front = s.handed ++ f.front;
+    back = f.back;
+    taken = Appends-trans old mid new s.handed f.front s.taken f.taken;
+    parts = ap (λ l. s.handed ++ l) f.parts ∙ sym (append_assoc s.handed f.front f.back);
+    untaken = f.untaken;
+  }
+
   -- the writer failed within what is gathered
-  pub fails : (new : Option (List ℕ)) → TakesFront mid new lot → (stream : List ℕ) × TakesFront old new stream × P i stream
-  fails new f =
-      let (front, back, taken, parts) = f in (
-        s.handed ++ lot,
-        (s.handed ++ front, back, Appends-trans old mid new s.handed front s.taken taken, ap (λ l. s.handed ++ l) parts ∙ sym (append_assoc s.handed front back)),
-        s.holds,
-      )
+  pub fails : (new : Option (List ℕ)) → AreBytes lot → TakesFront mid new lot → Failed P old new i
+  fails new bytes f = record { stream = s.handed ++ lot; bytes = bytes_append s.handed lot s.bytes bytes; taken = behind new lot f; holds = s.holds }
 
   -- the writer failed behind a set that was put, or that was refused
   pub fails_at : (new : Option (List ℕ)) (gathered : List ℕ) (put : Result (Unit {0}) Refusal) → ((front : List ℕ) → put ≡ Ok tt → P i (front ++ lot) → P (i + 1) (front ++ gathered)) → take (length lot) gathered ≡ lot
-      → TakesFront mid new (standing put (length lot) gathered) → (count : ℕ) × ((stream : List ℕ) × TakesFront old new stream × P count stream)
-  fails_at new gathered (Ok tt) step kept f =
-      let (front, back, taken, parts) = f in (
-        i + 1,
-        (
-          s.handed ++ gathered,
-          (s.handed ++ front, back, Appends-trans old mid new s.handed front s.taken taken, ap (λ l. s.handed ++ l) parts ∙ sym (append_assoc s.handed front back)),
-          step s.handed refl s.holds,
-        ),
-      )
-  fails_at new gathered (Err refusal) step kept f = (i, fails new (subst (λ (l : List ℕ). TakesFront mid new l) kept f))
+      → AreBytes (standing put (length lot) gathered) → TakesFront mid new (standing put (length lot) gathered) → (count : ℕ) × (count ≤ i + 1) × Failed P old new count
+  fails_at new gathered (Ok tt) step kept bytes f =
+      (i + 1, omega arith, record { stream = s.handed ++ gathered; bytes = bytes_append s.handed gathered s.bytes bytes; taken = behind new gathered f; holds = step s.handed refl s.holds })
+  fails_at new gathered (Err refusal) step kept bytes f =
+      (i, omega arith, fails new (subst (λ (l : List ℕ). AreBytes l) kept bytes) (subst (λ (l : List ℕ). TakesFront mid new l) kept f))

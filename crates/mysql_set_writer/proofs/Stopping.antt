@@ -1,5 +1,5 @@
 -- What is written where not all sets are.
-use Rattle.std.proofs.Common.{◌≡◌, ℕ, ◌+◌, ◌<◌, List, [], ◌++◌, length, take, drop, get_or, Option, Some, Result, Ok, Err, sym, subst, inr}
+use Rattle.std.proofs.Common.{◌≡◌, ℕ, ◌+◌, ◌<◌, ◌≤◌, List, [], ◌++◌, length, take, drop, get_or, Option, Some, Result, Ok, Err, sym, subst, inr, arith}
 use Rattle.std.specs.Prelude.{IfErr, OnOk}
 use Rattle.std.specs.Io.KnownBytes.{Appends}
 use Rattle.mysql_wire.specs.Bytes.{AreBytes}
@@ -15,7 +15,7 @@ use Rattle.mysql_set_writer.specs.Lots.{StopsAt, TakesFront}
 use Rattle.mysql_set_writer.specs.Writing.{FailsAmong, Stops, StopsAtSet, Writes}
 use Rattle.mysql_streams.specs.Sets.{given_by}
 use Rattle.mysql_set_writer.proofs.OneMore.{IsApart, around, cause, names, one_refused, up_to}
-use Rattle.mysql_set_writer.proofs.Stands.{Stands, all, fails, fails_at}
+use Rattle.mysql_set_writer.proofs.Stands.{Failed, Stands, all, fails, fails_at}
 
 -- what holds where a set was put, and what of why it is refused
 pub where_put : {E : Type 0} (P : Type 0) (put : Result (Unit {0}) E) → put ≡ Ok tt → OnOk put P → P
@@ -41,11 +41,16 @@ refused_at road apart query id limit sets i params inside is stream s refusal th
   subst (λ (l : List Params). RefusesGiven road query (all_given l) id limit refusal) (sym (up_to sets i params inside is)) (one_refused road apart query id limit (take i sets) stream s params [] refusal this),
 )
 
+-- a writer that failed within a stream of the first sets failed among them
+among : (road : Road) (query : List ℕ) (sets : List Params) (id limit : ℕ) (old new : Option (List ℕ)) (count : ℕ) → count ≤ length sets → Failed (FirstStand road query sets id limit) old new count → FailsAmong road query sets id limit old new
+among road query sets id limit old new count inside f =
+    record { count = count; inside = inside; within = record { stream = f.stream; bytes = f.bytes; taken = f.taken; carries = f.holds } }
+
 -- the writer fails within what is gathered
-pub fails_within : (road : Road) (query : List ℕ) (sets : List Params) (id limit : ℕ) (old mid new : Option (List ℕ)) (lot : List ℕ) (i : ℕ) → Stands (FirstStand road query sets id limit) old mid lot i → TakesFront mid new lot → FailsAmong road query sets id limit old new
-fails_within road query sets id limit old mid new lot i s f =
-    let (stream, taken, stands) = fails (FirstStand road query sets id limit) old mid lot i s new f in
-    record { count = i; stream = stream; taken = taken; carries = stands }
+pub fails_within : (road : Road) (query : List ℕ) (sets : List Params) (id limit : ℕ) (old mid new : Option (List ℕ)) (lot : List ℕ) (i : ℕ) → i ≤ length sets → Stands (FirstStand road query sets id limit) old mid lot i
+    → AreBytes lot → TakesFront mid new lot → FailsAmong road query sets id limit old new
+fails_within road query sets id limit old mid new lot i inside s bytes f =
+    among road query sets id limit old new i inside (fails (FirstStand road query sets id limit) old mid lot i s new bytes f)
 
 -- all that is gathered is handed on
 pub writes_first : (road : Road) (query : List ℕ) (sets : List Params) (id limit : ℕ) (old mid new : Option (List ℕ)) (lot : List ℕ) (i : ℕ) → Stands (FirstStand road query sets id limit) old mid lot i → AreBytes lot → Appends mid new lot
@@ -65,7 +70,6 @@ module _ (road : Road) (query : List ℕ) (sets : List Params) (id limit : ℕ) 
       let written : Writes road query (all_given (take i sets)) id limit old new =
       writes_first road query sets id limit old mid new lot i s (subst (λ (l : List ℕ). AreBytes l) kept bytes) (subst (λ (l : List ℕ). Appends mid new l) kept taken) in
       (why.0, inr (subst (λ (n : ℕ). StopsAtSet road query sets id limit old new refusal n) (sym at) (record { inside = inside; why = why.1; before = written })))
-  stops (Io error) f =
-      let (count, among) = fails_at (FirstStand road query sets id limit) old mid lot i s new gathered put step kept f in
-      let (stream, taken, stands) = among in
-      record { count = count; stream = stream; taken = taken; carries = stands }
+  stops (Io error) (bytes, f) =
+      let (count, few, failed) = fails_at (FirstStand road query sets id limit) old mid lot i s new gathered put step kept bytes f in
+      among road query sets id limit old new count (omega (arith, few, inside)) failed

@@ -1,6 +1,6 @@
 -- Sets that are written to a writer: what it takes where all of them are written, and where not.
 -- MySQL: Client/Server Protocol, "COM_QUERY", "COM_STMT_PREPARE", "COM_STMT_SEND_LONG_DATA", "COM_STMT_EXECUTE".
-use Rattle.std.specs.Prelude.{◌≡◌, ◌⊎◌, ◌+◌, ◌<◌, ℕ, List, [], length, take, Option}
+use Rattle.std.specs.Prelude.{◌≡◌, ◌⊎◌, ◌+◌, ◌<◌, ◌≤◌, ℕ, List, [], length, take, Option}
 use Rattle.std.specs.Io.KnownBytes.{Appends, Keeps}
 use Rattle.mysql_wire.specs.Bytes.{AreBytes}
 use Rattle.mysql_values.specs.declared.params.Params.{Params}
@@ -32,12 +32,18 @@ pub record StopsAtSet (road : Road) (query : List ℕ) (sets : List Params) (id 
   pub why : RefusesGiven road query (all_given (take (count + 1) sets)) id limit refusal
   pub before : Writes road query (all_given (take count sets)) id limit old new
 
--- the writer fails, and took a front of a stream that carries the first sets, so many
+-- the writer fails within a stream that carries sets which give this for the query's names: it takes a front, not all of it
+pub record FailsWithin (road : Road) (query : List ℕ) (sets : List (List ℕ) → List Given) (id limit : ℕ) (old new : Option (List ℕ)) : Type 0 where
+  pub stream : List ℕ
+  pub bytes : AreBytes stream
+  pub taken : TakesFront old new stream
+  pub carries : SentReadable road query sets id limit [] stream
+
+-- the writer fails within the first sets, so many
 pub record FailsAmong (road : Road) (query : List ℕ) (sets : List Params) (id limit : ℕ) (old new : Option (List ℕ)) : Type 0 where
   pub count : ℕ
-  pub stream : List ℕ
-  pub taken : TakesFront old new stream
-  pub carries : SentReadable road query (all_given (take count sets)) id limit [] stream
+  pub inside : count ≤ length sets
+  pub within : FailsWithin road query (all_given (take count sets)) id limit old new
 
 -- Why not all sets are written, and what then is: sets are refused as they are where they are appended, or the writer fails.
 abbrev pub Stops : Road → List ℕ → List Params → ℕ → ℕ → Option (List ℕ) → Option (List ℕ) → SendToError → Type 0

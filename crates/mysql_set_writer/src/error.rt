@@ -11,7 +11,7 @@ pub enum SendToError {
     /// Why the sets are refused, and how many of them were written before, each whole.
     #[error("{0}")]
     Refused(Refusal, usize),
-    /// The writer failed: what it took is a front of what carries the sets.
+    /// The writer failed: it took a front of what carries the sets, and not all of it.
     #[error("{0}")]
     Io(io::Error),
 }

@@ -12,7 +12,7 @@ use std::io::{self, ErrorKind, Write};
 /// So many bytes are handed on together, and what was gathered beyond them.
 const LOT_LEN: usize = 8192;
 
-/// Writes all bytes. A writer that was interrupted is asked again; after a failure it has taken a front of them.
+/// Writes all bytes. A writer that was interrupted is asked again; one that failed has taken a front of them, and not all.
 fn write_bytes<W: Write>(bytes: &[u8], to: &mut W) -> io::Result<()>
     ensures ok { OnOk result (Appends (W.contents to.old) (W.contents to.new) bytes.now) }
     ensures err { OnErr result (TakesFront (W.contents to.old) (W.contents to.new) bytes.now) }
@@ -33,13 +33,18 @@ fn write_bytes<W: Write>(bytes: &[u8], to: &mut W) -> io::Result<()>
             }
         }
     }
-    Err(io::Error::from(ErrorKind::Interrupted))
+    // The last of the writes may have taken the last bytes.
+    if rest.is_empty() {
+        Ok(())
+    } else {
+        Err(io::Error::from(ErrorKind::Interrupted))
+    }
 }
 
-/// Writes what was gathered, and empties it. The writer isn't flushed.
+/// Writes what was gathered, and empties it.
 ///
 /// # Errors
-/// Those of the writer, which has then taken a front of it.
+/// Those of the writer, which has then taken a front of it, and not all.
 pub fn hand_on<W: Write>(lot: &mut Vec<u8>, to: &mut W) -> io::Result<()>
     ensures ok { OnOk result (Appends (W.contents to.old) (W.contents to.new) lot.old.items) }
     ensures err { OnErr result (TakesFront (W.contents to.old) (W.contents to.new) lot.old.items) }

@@ -22,13 +22,14 @@ use std::alloc::Global;
 use std::borrow::CowSlice;
 use std::io::Write;
 
-/// Writes the commands that carry parameter sets of a query as text queries, as `mysql_senders::put_queries_over` appends them,
-/// some at a time. The writer isn't flushed.
+/// Writes the commands that carry parameter sets of a query as text queries, as `mysql_senders::put_queries_over`
+/// appends them, some at a time. Safe for the servers that `mysql_values::bind_text` names.
 ///
 /// # Errors
-/// `Refused` with the first cause that holds, in the order of [`Refusal`]: `NotAlone`, before anything is
-/// written; set by set `Params`, `WrongCount`, `Float`, `PacketTooLarge`, and `Memory` where a growth was refused, when all sets
-/// before that one are written. `Io` where the writer fails.
+/// `Refused` with the first cause that holds, in the order of [`Refusal`]: `NotAlone`, before anything is written; set
+/// by set `Params`, `WrongCount`, `Float`, `PacketTooLarge`, and `Memory` where a growth was refused, when all sets
+/// before that one are written. `Io` where the writer fails: it has taken a front of what carries the first sets, and
+/// not all of it.
 ///
 /// MySQL: Client/Server Protocol, "COM_QUERY".
 pub fn write_queries_over<W: Write>(
@@ -88,12 +89,13 @@ fn put_front(
 }
 
 /// Writes the commands that carry parameter sets of a query as executions of its statement, as
-/// `mysql_senders::put_executions_over` appends them, some at a time. The writer isn't flushed.
+/// `mysql_senders::put_executions_over` appends them, some at a time.
 ///
 /// # Errors
-/// `Refused` with the first cause that holds, in the order of [`Refusal`]: `TooManyPlaces`,
-/// `PrepareTooLarge`, before anything is written; set by set `Params`, `WrongCount`, `Float`, `PacketTooLarge`, and `Memory` where a
-/// growth was refused, when the prepare and all sets before that one are written. `Io` where the writer fails.
+/// `Refused` with the first cause that holds, in the order of [`Refusal`]: `TooManyPlaces`, `PrepareTooLarge`, before
+/// anything is written; set by set `Params`, `WrongCount`, `Float`, `PacketTooLarge`, and `Memory` where a growth was
+/// refused, when the prepare and all sets before that one are written. `Io` where the writer fails: it has taken a
+/// front of what carries the first sets, and not all of it.
 ///
 /// MySQL: Client/Server Protocol, "COM_STMT_PREPARE", "COM_STMT_SEND_LONG_DATA", "COM_STMT_EXECUTE".
 pub fn write_executions_over<W: Write>(

@@ -53,9 +53,9 @@ returns-in_err-hand_on-clause-err g c =
     let statement = c.args.statement.now in
     let p = err_from_is_err_and c.from_residual-in_err-hand_on.result c.from_residual-in_err-hand_on.ensures.1 in
     rw (p.1, p.2) (λ query is.
-    fails_within Execute query c.args.sets.now statement.id c.args.limit (g.W.Write.contents c.args.to.now) (g.W.Write.contents c.sets.to) (g.W.Write.contents c.hand_on.new.to) c.sets.lot.items c.sets.set
+    fails_within Execute query c.args.sets.now statement.id c.args.limit (g.W.Write.contents c.args.to.now) (g.W.Write.contents c.sets.to) (g.W.Write.contents c.hand_on.new.to) c.sets.lot.items c.sets.set (omega arith)
     (of_query statement.parsed statement.places statement.id c.args.sets.now c.args.limit (g.W.Write.contents c.args.to.now) (g.W.Write.contents c.sets.to) c.sets.lot.items c.sets.set c.sets.invariant query is)
-    c.in_err-hand_on.ensures.err)
+    c.hand_on.ensures.bytes c.in_err-hand_on.ensures.err)
 
 pub returns-clause-ok : goal.returns-clause-ok
 returns-clause-ok g c = λ query is.

@@ -60,9 +60,9 @@ pub returns-in_err-hand_on-clause-err : goal.returns-in_err-hand_on-clause-err
 returns-in_err-hand_on-clause-err g c =
     let p = err_from_is_err_and c.from_residual-in_err-hand_on.result c.from_residual-in_err-hand_on.ensures.1 in
     rw (p.1, p.2) (λ id.
-    fails_within Text c.args.query.now c.args.sets.now id c.args.limit (g.W.Write.contents c.args.to.now) (g.W.Write.contents c.sets.to) (g.W.Write.contents c.hand_on.new.to) c.sets.lot.items c.sets.set
+    fails_within Text c.args.query.now c.args.sets.now id c.args.limit (g.W.Write.contents c.args.to.now) (g.W.Write.contents c.sets.to) (g.W.Write.contents c.hand_on.new.to) c.sets.lot.items c.sets.set (omega arith)
     (of_id c.args.query.now c.args.sets.now c.args.limit (g.W.Write.contents c.args.to.now) (g.W.Write.contents c.sets.to) c.sets.lot.items c.sets.set c.sets.invariant id)
-    c.in_err-hand_on.ensures.err)
+    c.hand_on.ensures.bytes c.in_err-hand_on.ensures.err)
 
 pub returns-clause-ok : goal.returns-clause-ok
 returns-clause-ok g c = λ id.

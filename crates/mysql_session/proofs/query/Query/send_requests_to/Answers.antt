@@ -1,13 +1,11 @@
-use Rattle.std.proofs.Common.{ℕ, List, [], length, arith, refl, subst, sym}
+use Rattle.std.proofs.Common.{ℕ, List, [], refl, subst}
 use Rattle.std.proofs.KnownBytes.{Keeps-refl}
-use Rattle.std.proofs.lemmas.List.{take_all}
 use Rattle.std.proofs.lemmas.Result.{err_from_is_err_and}
-use Rattle.mysql_values.specs.declared.params.Params.{Params}
 use Rattle.mysql_streams.specs.declared.road.Road.TheVariants.{Bulk}
 use Rattle.mysql_streams.specs.Reading.{SentReadable}
 use Rattle.mysql_streams.specs.Sending.{RefusesGiven}
 use Rattle.mysql_streams.specs.Sets.{all_given}
-use Rattle.mysql_set_writer.specs.Writing.{FailsAmong, Writes}
+use Rattle.mysql_set_writer.specs.Writing.{FailsWithin, Writes}
 use Rattle.mysql_session.specs.Kept.{KeptQuery}
 use Rattle.mysql_session.proofs.query.Query.send_requests_to.Goals as goal
 
@@ -18,13 +16,8 @@ returns-in_err-hand_on-in-Ok-clause-stopped g c =
     let stream = c.put_requests_over.new.out.items in
     let p = err_from_is_err_and c.from_residual.result c.from_residual.ensures.1 in
     let carries = subst (λ (l : List ℕ). SentReadable Bulk query.text.now (all_given sets) query.statement.id c.args.limit l stream) c.new-requests.ensures.items (c.in-Ok.ensures.ok query.text.now c.self.invariant.statement) in
-    rw (p.1, p.2) (subst (λ (k : KeptQuery). FailsAmong Bulk k.text sets k.id c.args.limit (g.W.Write.contents c.args.to.now) (g.W.Write.contents c.hand_on.new.to)) c.self.view_is
-    (record {
-      count = length sets;
-      stream = stream;
-      taken = c.in_err-hand_on-in-Ok.ensures.err;
-      carries = subst (λ (l : List Params). SentReadable Bulk query.text.now (all_given l) query.statement.id c.args.limit [] stream) (sym (take_all (length sets) sets (omega arith))) carries;
-    }))
+    rw (p.1, p.2) (subst (λ (k : KeptQuery). FailsWithin Bulk k.text (all_given sets) k.id c.args.limit (g.W.Write.contents c.args.to.now) (g.W.Write.contents c.hand_on.new.to)) c.self.view_is
+    (record { stream = stream; bytes = c.hand_on.ensures.bytes; taken = c.in_err-hand_on-in-Ok.ensures.err; carries = carries }))
 
 pub returns-in-Ok-clause-written : goal.returns-in-Ok-clause-written
 returns-in-Ok-clause-written g c =
