@@ -17,7 +17,7 @@ no_fault_at reply.Nothing = refl
 no_fault_at awaited = refl
 
 -- What the parts of a reader keep where no fault was met has none.
-found_none : FramingLaws → (s : ReplyState) (codec : Codec) (src dst : List ℕ) → IsReading s → s.fault ≡ None → IsPaused s codec src dst → HasFoundNoFault (reader_state_of s codec src dst)
+pub found_none : FramingLaws → (s : ReplyState) (codec : Codec) (src dst : List ℕ) → IsReading s → s.fault ≡ None → IsPaused s codec src dst → HasFoundNoFault (reader_state_of s codec src dst)
 found_none laws s codec src dst reading going paused answer decides =
     let same : answer ≡ answer_of s =
     readers_agree laws.one (reader_state_of s codec src dst) [] answer (answer_of s) (bytes_append (held codec src dst) [] paused.bytes (λ i. omega arith)) decides

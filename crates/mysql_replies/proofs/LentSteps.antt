@@ -26,7 +26,7 @@ use Rattle.mysql_replies.specs.declared.fault.ReplyFault.TheVariants as faults
 use Rattle.mysql_replies.specs.declared.lending.Place.{Place}
 use Rattle.mysql_replies.specs.declared.state.ReplyState.{ReplyState}
 use Rattle.mysql_replies.specs.Grammar.{Payload, has_report_form, is_binary, row, whole_or_fault}
-use Rattle.mysql_replies.specs.Holding.{ReaderState, ReaderGoesOn, StandsShort, TakesAll}
+use Rattle.mysql_replies.specs.Holding.{HasFoundNoFault, ReaderState, ReaderGoesOn, StandsShort, TakesAll}
 use Rattle.mysql_replies.specs.Lending.{LendsNext, LendsRow, rows_listed}
 use Rattle.mysql_replies.specs.LentSteps.{HasRead, LendStep, Lends, LendsAwaited, LendsBehind, LendsOne, format_of, keeping, or_bad_row, passed_as, payload_at, with_row}
 use Rattle.mysql_replies.specs.OpenRows.{RowsSoFar}
@@ -277,8 +277,8 @@ lends_row start next old new piece rest place found behind lends began going =
 pub next_lent : (start next : ReplyState) (old new : Incoming) (piece rest : List ℕ) (place : Place) (found : LentRow) → LendsBehind (reader_state start old) piece place next new rest → LendsAwaited next.awaited (payload_at place new) (lent_view found) → start.fault ≡ None → next.fault ≡ None → rows_listed (standing_of next) ≡ rows_listed (standing_of start) → LendsNext (reader_state start old) piece (Ok (Some found)) (reader_state next new) rest
 next_lent start next old new piece rest place found behind lends began going none = record { advances = lends_row start next old new piece rest place (lent_view found) behind lends began going; keeps_none = none }
 
-pub next_none : (start next : ReplyState) (old new : Incoming) (piece rest : List ℕ) → rest ≡ [] → start.fault ≡ None → next.fault ≡ None → TakesAll (reader_state start old) ((reader_state start old).bytes ++ piece) (reader_state next new) → ReaderGoesOn (reader_state start old) piece (reader_state next new) → rows_listed (standing_of next) ≡ rows_listed (standing_of start) → LendsNext (reader_state start old) piece (Ok None) (reader_state next new) rest
-next_none start next old new piece rest used began going takes goes none = record { advances = (feeds_all start next old new piece began going takes goes, used); keeps_none = none }
+pub next_none : (start next : ReplyState) (old new : Incoming) (piece rest : List ℕ) → rest ≡ [] → start.fault ≡ None → next.fault ≡ None → TakesAll (reader_state start old) ((reader_state start old).bytes ++ piece) (reader_state next new) → ReaderGoesOn (reader_state start old) piece (reader_state next new) → HasFoundNoFault (reader_state next new) → rows_listed (standing_of next) ≡ rows_listed (standing_of start) → LendsNext (reader_state start old) piece (Ok None) (reader_state next new) rest
+next_none start next old new piece rest used began going takes goes found none = record { advances = (feeds_all start next old new piece began going takes goes, found, used); keeps_none = none }
 
 pub next_fails : (start next : ReplyState) (old new : Incoming) (piece : List ℕ) (fault : ReplyFault) → start.fault ≡ None → next.fault ≡ Some fault → UnlessMemory {X = Unit {0}} (Err fault) (ReaderGoesOn (reader_state start old) piece (reader_state next new)) → OnMemory {X = Unit {0}} (Err fault) (StandsShort (reader_state start old) ((reader_state start old).bytes ++ piece) (reader_state next new)) → rows_listed (standing_of next) ≡ rows_listed (standing_of start) → LendsNext (reader_state start old) piece (Err fault) (reader_state next new) piece
 next_fails start next old new piece fault began wrong goes short none = record { advances = (feeds_fails start next old new piece fault began wrong goes short, refl); keeps_none = none }

@@ -13,7 +13,7 @@ use Rattle.mysql_replies.specs.declared.context.Context.{Context}
 use Rattle.mysql_replies.specs.declared.fault.ReplyFault.{ReplyFault}
 use Rattle.mysql_replies.specs.Grammar.{Outcome, RowsResult}
 use Rattle.mysql_replies.specs.Reply.{Progressing, Standing, Rows, GoingOn, Answered}
-use Rattle.mysql_replies.specs.Holding.{ReaderState}
+use Rattle.mysql_replies.specs.Holding.{HasFoundNoFault, ReaderState}
 use Rattle.mysql_replies.specs.Taking.{Feeds, Runs, results_in, rows_awaited}
 
 -- The rows of a result.
@@ -39,10 +39,10 @@ pub record LendsRow (old : ReaderState) (piece : List ℕ) (row : Row) (new : Re
   pub feeds : Feeds old (record new { standing = GoingOn (record s { awaited = Rows columns (rows ++ row ∷ []) }) }) used (Ok tt)
   pub whole : new.bytes ≡ []
 
--- What follows of a piece: its next row is lent; or it has no further row, and the reader was fed it, or met a fault.
+-- What follows of a piece: its next row is lent; or it has no further row, and the reader was fed it and has found no fault, or met one.
 abbrev pub Advances : ReaderState → List ℕ → Result (Option LentRow) ReplyFault → ReaderState → List ℕ → Type 0
 Advances old piece (Ok (Some row)) new rest = LendsRow old piece (lent_view row) new rest
-Advances old piece (Ok None) new rest = Feeds old new piece (Ok tt) × (rest ≡ [])
+Advances old piece (Ok None) new rest = Feeds old new piece (Ok tt) × HasFoundNoFault new × (rest ≡ [])
 Advances old piece (Err fault) new rest = Feeds old new piece (Err fault) × (rest ≡ piece)
 
 -- The next row is lent, and no row is kept.

@@ -1,6 +1,8 @@
-use Rattle.std.proofs.Common.{Ok, Err, Some, None, refl, subst}
+use Rattle.std.proofs.Common.{[], Ok, Err, Some, None, refl, subst}
 use Rattle.mysql_replies.specs.Lending.{LendsNext}
 use Rattle.mysql_replies.specs.Standings.{reader_state}
+use Rattle.mysql_wire.specs.Incoming.{codec_by}
+use Rattle.mysql_replies.proofs.Found.{found_none}
 use Rattle.mysql_replies.proofs.LentSteps.{next_fails, next_lent, next_none, next_stays}
 use Rattle.mysql_replies.proofs.reader.ReplyReader.next_row.Goals as goal
 
@@ -39,12 +41,14 @@ returns-in-Ok-None c =
     let new = c.advance_to_row.new.self.packets in
     let piece = c.args.rest.now.now in
     let rest = c.advance_to_row.new.rest.now in
-    let all = rw c.in-Ok-None.field-0-is at c.in-Ok-None.ensures.lends in (
+    let all = rw c.in-Ok-None.field-0-is at c.in-Ok-None.ensures.lends in
+    let paused = c.in-Ok-None.ensures.paused in
+    let found = found_none c.framing_laws.ensures next (codec_by new) new.bytes [] c.advance_to_row.ensures.reading paused.0 paused.1 in (
       (
         refl,
         (λ _. tt),
         subst (λ held. LendsNext held piece (Ok None) (reader_state next new) rest) c.self.view_is
-            (next_none start next old new piece rest all.0 c.in-None.is c.in-Ok-None.ensures.paused.0 all.1 all.2 c.in-Ok-None.ensures.keeps_none),
+            (next_none start next old new piece rest all.0 c.in-None.is paused.0 all.1 all.2 found c.in-Ok-None.ensures.keeps_none),
       ),
       record { after = tt; uses = all.0 },
     )
