@@ -1,6 +1,6 @@
 //! Parameter sets as bulk requests.
 
-ghost use Rattle.std.specs.Prelude.{◌≡◌, ◌⊎◌, ◌+◌, ◌<◌, ◌≤◌, ◌++◌, ℕ, All, IfErr, IfOk, List, None, OnErr, OnOk, Some, length, sum_by, take};
+ghost use Rattle.std.specs.Prelude.{◌≡◌, ◌⊎◌, ◌+◌, ◌<◌, ◌≤◌, ◌++◌, ℕ, All, IfErr, IfOk, IfSome, List, None, OnErr, OnOk, Some, false, length, sum_by, take};
 ghost use Rattle.mysql_wire.specs.Framing.{framing};
 ghost use Rattle.mysql_wire.specs.Stream.{framings};
 ghost use Rattle.mysql_wire.specs.Stream.Numbering.{EachFromZero};
@@ -15,6 +15,7 @@ ghost use Rattle.mysql_streams.specs.Sending.{RefusesGiven};
 ghost use Rattle.mysql_streams.specs.Sets.{given_up_to};
 ghost use Rattle.mysql_streams.specs.declared.refusal.Refusal.TheVariants as refusals;
 ghost use Rattle.mysql_streams.specs.declared.road.Road.TheVariants as roads;
+ghost use Rattle.mysql_senders.specs.MadeSets.{is_want_of_memory};
 ghost use Rattle.mysql_senders.specs.OneSet.{IsStatement};
 ghost use Rattle.mysql_bulk_sender.specs.BulkSets.{AppendsAll, AppendsRequests, RefusesAll, RefusesRows, requests_from};
 
@@ -189,7 +190,8 @@ pub fn put_requests_over(
     limit: usize,
     out: &mut Vec<u8>,
 ) -> Result<(), Refusal>
-    requires { 4 ≤ limit }
+    requires limit { 4 ≤ limit }
+    requires stop { IfSome stop (λ error. is_want_of_memory error ≡ false) }
     // This holds of each query whose statement it is.
     ensures ok { OnOk result ((query : List ℕ) → IsStatement query statement.now.parsed statement.now.places → SentReadable roads.Bulk query (given_up_to sets.now stop) statement.now.id limit out.old.items out.new.items) }
     ensures err { IfErr result (λ refusal. (query : List ℕ) → IsStatement query statement.now.parsed statement.now.places → RefusesGiven roads.Bulk query (given_up_to sets.now stop) statement.now.id limit refusal) }
@@ -206,8 +208,8 @@ pub fn put_requests_over(
 /// Appends the commands that carry parameter sets of a query to a server as bulk requests, each framed as packets that are
 /// numbered from 0: one prepare, and as few requests as there can be, each of as many sets as it has room for, with types
 /// where it has to bring them. Sets and places count from 0; a payload has at most `limit - 4` bytes, as the limit counts a
-/// packet with its header. `stop` says why one more set behind the given ones gives no values, where there is one. After a
-/// refusal what stood before stands in front of `out`.
+/// packet with its header. `stop` says why one more set behind the given ones gives no values, where there is one: never want of
+/// memory, which is the caller's to answer. After a refusal what stood before stands in front of `out`.
 ///
 /// # Errors
 /// The first cause that holds, in the order of [`Refusal`]: `Mixed`, `TooManyPlaces`, `PrepareTooLarge`, `NoPlaces`; set by
@@ -224,7 +226,8 @@ pub fn put_requests(
     limit: usize,
     out: &mut Vec<u8>,
 ) -> Result<(), Refusal>
-    requires { 4 ≤ limit }
+    requires limit { 4 ≤ limit }
+    requires stop { IfSome stop (λ error. is_want_of_memory error ≡ false) }
     ensures ok { OnOk result (SentReadable roads.Bulk query.now (given_up_to sets.now stop) stmt_id limit out.old.items out.new.items) }
     ensures err { IfErr result (RefusesGiven roads.Bulk query.now (given_up_to sets.now stop) stmt_id limit) }
     ensures kept { take (length out.old.items) out.new.items ≡ out.old.items }

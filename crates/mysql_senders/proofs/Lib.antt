@@ -7,3 +7,4 @@ pub mod PlainSizes
 pub mod StatementSets
 pub mod MadeSets
 pub mod MoreSets
+pub mod FurtherSets

@@ -1,2 +1,3 @@
 pub mod OneSet
 pub mod MadeSets
+pub mod Laws

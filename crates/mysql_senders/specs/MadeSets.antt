@@ -1,9 +1,17 @@
 -- Parameter sets that are made one at a time.
 -- MySQL: Client/Server Protocol, "COM_QUERY", "COM_STMT_EXECUTE".
-use Rattle.std.specs.Prelude.{◌≡◌, ℕ, List, slice_get, Some, Result, Err, Ok}
+use Rattle.std.specs.Prelude.{◌≡◌, ℕ, Bool, true, false, List, slice_get, Some, Result, Err, Ok}
 use Rattle.mysql_values.specs.declared.params.Params.{Params}
+use Rattle.mysql_values.specs.declared.params.ParamsError.TheVariants as params_error
 use Rattle.mysql_values.specs.declared.params.SetError.{SetError}
+use Rattle.mysql_values.specs.declared.params.SetError.TheVariants as set_error
 use Rattle.mysql_streams.specs.Sets.{Given, all_given, given_by}
+
+-- whether an error of a set is want of memory, which a refusal tells as its own and never as a set's
+abbrev pub is_want_of_memory : SetError → Bool
+is_want_of_memory set_error.Memory = true
+is_want_of_memory (set_error.Params params_error.Memory) = true
+is_want_of_memory _ = false
 
 -- what a set gives a query that is made, or that is refused
 abbrev pub given_by_made : List (List ℕ) → Result Params SetError → Given

@@ -2,6 +2,7 @@
 #![tactic(auto)]
 
 mod executions;
+pub mod laws;
 mod made_sets;
 pub mod set_values;
 pub mod statement;

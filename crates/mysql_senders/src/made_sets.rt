@@ -11,7 +11,7 @@ ghost use Rattle.mysql_streams.specs.Sending.{RefusesGiven};
 ghost use Rattle.mysql_streams.specs.Sets.{Given, given_by};
 ghost use Rattle.mysql_streams.specs.declared.refusal.Refusal.TheVariants as refusals;
 ghost use Rattle.mysql_streams.specs.declared.road.Road.TheVariants as roads;
-ghost use Rattle.mysql_senders.specs.MadeSets.{AllMade, IsSetAt};
+ghost use Rattle.mysql_senders.specs.MadeSets.{AllMade, IsSetAt, is_want_of_memory};
 ghost use Rattle.mysql_senders.specs.OneSet.{AppendsExecution, AppendsExecutions, AppendsQuery, RefusesQuery, RefusesSet, RefusesSets, whole_execution};
 
 use crate::executions::put_set;
@@ -33,10 +33,11 @@ pub trait SetMaker {
     fn len(&self) -> usize
         ensures { (names : List (List ℕ)) → length (given self.now names) ≡ result };
 
-    /// The set of this number, or why there is none. Refused for want of memory alone.
+    /// The set of this number, or why there is none, which is never want of memory. Refused for want of memory alone.
     fn set(&self, alloc: Global, number: usize) -> Result<Result<Params, SetError>, AllocError>
         requires { (names : List (List ℕ)) → number < length (given self.now names) }
-        ensures { IfOk result (IsSetAt (given self.now) number) };
+        ensures at { IfOk result (IsSetAt (given self.now) number) }
+        ensures why { IfOk result (λ made. IfErr made (λ error. is_want_of_memory error ≡ false)) };
 }
 
 /// The set of this number. Refuses `Params`.

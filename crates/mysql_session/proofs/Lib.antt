@@ -2,3 +2,4 @@ pub mod OnAnswers
 pub mod ObjectSets
 pub mod Deliveries
 pub mod Handing
+pub mod OneKind

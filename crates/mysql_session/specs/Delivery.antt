@@ -1,6 +1,6 @@
 -- The front page: what is promised of the sets that `send` and `send_values` append. docs/THEOREM.md reads it aloud, word by word.
 -- MySQL: Client/Server Protocol, "Protocol Basics: MySQL Packets", "Command Phase".
-use Rattle.std.specs.Prelude.{◌≡◌, ◌↔◌, ◌-◌, ℕ, List, ◌++◌, filter, length, map, None, Ok}
+use Rattle.std.specs.Prelude.{◌≡◌, ◌↔◌, ◌≤◌, ◌-◌, ℕ, List, ◌++◌, filter, length, map, None, Ok}
 use Rattle.std.specs.List.{AllByRecursion, concat}
 use Rattle.mysql_values.specs.Parsed.{names_of}
 use Rattle.mysql_values.specs.Queries.{is_place}
@@ -12,7 +12,7 @@ use Rattle.mysql_commands.specs.Query.{statement_of}
 use Rattle.mysql_commands.specs.Reading.{Set}
 use Rattle.mysql_streams.specs.declared.road.Road.{Road}
 use Rattle.mysql_streams.specs.Cause.{cause_of}
-use Rattle.mysql_streams.specs.Reading.{FrontsRead, HaveContents}
+use Rattle.mysql_streams.specs.Reading.{FrontsRead, HaveContents, IsReadable}
 use Rattle.mysql_streams.specs.Sending.{HasFewest}
 use Rattle.mysql_streams.specs.Sent.{AreSent, SentPayload, stream_of}
 use Rattle.mysql_streams.specs.Sets.{Given}
@@ -32,13 +32,16 @@ pub record Delivers (road : Road) (query : List ℕ) (sets : List (List ℕ) →
   pub counts : AllByRecursion (λ set. length set ≡ length (filter is_place tokens)) values
   -- No cause speaks against sending them.
   pub no_cause : cause_of road (statement_of query tokens id) limit (map Ok values) ≡ None
-  -- These payloads are sent of them, each within the limit with its header, and their stream is appended.
+  -- These payloads are sent of them, each within the limit with its header of four bytes, and their stream is appended.
   pub sent : List SentPayload
   pub are_sent : AreSent road (statement_of query tokens id) (limit - 4) values sent
+  pub within : AllByRecursion (λ s. length s.payload ≤ limit - 4) sent
   pub appended : new ≡ old ++ stream_of sent
   -- The stream reads as what the values mean, to its end, and as nothing else.
   pub contents : List Set
   pub meanings : HaveContents values contents
+  -- Each set can be read back: by text its query reads as its contents, by the other roads the numbers of its values fit their fields.
+  pub readable : AllByRecursion (IsReadable road (statement_of query tokens id).query) values
   pub read_back : ReadsWholeAs query id limit (stream_of sent) contents
   -- Each front of it reads, without a fault, as the sets that stand whole in it.
   pub fronts : FrontsRead query id limit sent

@@ -3,6 +3,7 @@
 use Rattle.std.specs.Prelude.{◌≡◌, ℕ, ◌<◌, ◌≤◌, ◌^◌, List, ◌++◌, length, Option}
 use Rattle.std.specs.List.{concat}
 use Rattle.mysql_wire.specs.Bytes.{AreBytes}
+use Rattle.mysql_values.specs.Parsed.{names_of}
 use Rattle.mysql_values.specs.Value.{Value}
 use Rattle.mysql_values.specs.declared.params.Params.{Params}
 use Rattle.mysql_commands.specs.declared.audit.End.TheVariants.{Whole}
@@ -16,6 +17,7 @@ use Rattle.mysql_streams.specs.Sets.{GiveTheSame, Given, all_given, all_given_in
 use Rattle.mysql_recoding.specs.Causes.{values_of_sets}
 use Rattle.mysql_recoding.specs.Recoding.{Recodes}
 use Rattle.mysql_session.specs.Delivery.{Delivers}
+use Rattle.mysql_session.specs.Kept.{AppendsFurther, KeptQuery}
 use Rattle.mysql_session.specs.Objects.{AreMade, all_given_by_objects}
 
 -- Sets that were sent in a form that can be read back, in fewer than 2 ^ 64 bytes, are delivered.
@@ -42,6 +44,14 @@ abbrev pub RecodingsAreDelivered : Type 0
 RecodingsAreDelivered =
     (query : List ℕ) (id limit : ℕ) (stream old new : List ℕ) → id < 2 ^ 32 → 4 ≤ limit → limit < 2 ^ 64 → length new < 2 ^ 64 → AreBytes stream → AreBytes new
     → (is : Recodes query id limit stream old new) → Delivers Execute query (all_given_in_places (values_of_sets is.audit.sets)) id limit old new
+
+-- Sets of values that are sent further by execute, numbered on from sets that were delivered and appended behind them, are delivered with them, in fewer than
+-- 2 ^ 64 bytes.
+abbrev pub FurtherSetsAreDelivered : Type 0
+FurtherSetsAreDelivered =
+    (query : KeptQuery) (sets : List (List ℕ) → List Given) (limit first : ℕ) (more : List (List Value)) (old mid new : List ℕ) → query.id < 2 ^ 32 → 4 ≤ limit → length new < 2 ^ 64 → AreBytes new
+    → (delivery : Delivers Execute query.text sets query.id limit old mid) → length (sets (names_of delivery.tokens)) ≡ first → AppendsFurther query limit first more mid new
+    → Delivers Execute query.text (λ names. sets names ++ all_given_in_places more names) query.id limit old new
 
 -- Parameter sets that are made of lists of objects give every query what the lists give.
 abbrev pub MadeSetsGiveTheSame : Type 0

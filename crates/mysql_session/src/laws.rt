@@ -2,7 +2,7 @@
 //! contract is the law.
 
 ghost use Rattle.mysql_session.specs.Handing.{FailedWritersAreRead};
-ghost use Rattle.mysql_session.specs.Laws.{DeliveriesAreReadBack, DeliveriesAreReceived, MadeSetsGiveTheSame, ReadableSetsAreDelivered, RecodingsAreDelivered};
+ghost use Rattle.mysql_session.specs.Laws.{DeliveriesAreReadBack, DeliveriesAreReceived, FurtherSetsAreDelivered, MadeSetsGiveTheSame, ReadableSetsAreDelivered, RecodingsAreDelivered};
 
 pub use mysql_commands::laws as commands;
 use mysql_commands::laws::{cuttings_agree, stream_has_one_audit};
@@ -12,8 +12,10 @@ pub use mysql_replies::laws as replies;
 pub use mysql_reply_fronts::laws as reply_fronts;
 pub use mysql_reply_packets::laws as reply_packets;
 pub use mysql_reply_writer::laws as reply_writer;
+pub use mysql_senders::laws as senders;
+use mysql_senders::laws::further_sets_are_sent;
 pub use mysql_streams::laws as streams;
-use mysql_streams::laws::sent_sets_are_delivered;
+use mysql_streams::laws::{sent_payloads_fit, sent_sets_are_delivered};
 pub use mysql_streams::laws::{roads_read_equally, sent_streams_join};
 pub use mysql_values::laws as values;
 use mysql_values::laws::tokens_of_a_text;
@@ -25,6 +27,7 @@ pub fn readable_sets_are_delivered()
     ensures { ReadableSetsAreDelivered }
 {
     sent_sets_are_delivered();
+    sent_payloads_fit();
     cuttings_agree();
     tokens_of_a_text();
 }
@@ -59,6 +62,16 @@ pub fn recodings_are_delivered()
 {
     recodings_are_sent();
     readable_sets_are_delivered();
+}
+
+/// Sets of values that [`Query::send_more`](crate::Query::send_more) appends behind sets that were delivered by execute, numbered on
+/// from them, are delivered with them.
+pub fn further_sets_are_delivered()
+    ensures { FurtherSetsAreDelivered }
+{
+    further_sets_are_sent();
+    readable_sets_are_delivered();
+    tokens_of_a_text();
 }
 
 /// Parameter sets that are made of lists of objects give every query what the lists give. So by [`roads_read_equally`] what

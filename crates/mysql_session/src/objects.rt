@@ -1,11 +1,12 @@
 //! Lists of objects as commands.
 
-ghost use Rattle.std.specs.Prelude.{◌≡◌, ◌≤◌, IfErr, IfOk, MatchResult, OnErr, OnOk, Some, length, map, take};
+ghost use Rattle.std.specs.Prelude.{◌≡◌, ◌≤◌, IfErr, IfOk, IfSome, MatchResult, OnErr, OnOk, Some, false, length, map, take};
 ghost use Rattle.mysql_convert.specs.Sets.{IsMadeOf, too_long};
 ghost use Rattle.mysql_convert.specs.Sets.Parts.{InOrder};
 ghost use Rattle.mysql_session.specs.Delivery.{Delivers};
 ghost use Rattle.mysql_session.specs.Made.{AreMadeUpTo};
 ghost use Rattle.mysql_session.specs.Objects.{all_given_by_objects};
+ghost use Rattle.mysql_senders.specs.MadeSets.{is_want_of_memory};
 ghost use Rattle.mysql_streams.specs.Reading.{SentReadable};
 ghost use Rattle.mysql_streams.specs.Sending.{RefusesGiven};
 ghost use Rattle.mysql_streams.specs.declared.road.Road.TheVariants as roads;
@@ -26,12 +27,13 @@ struct MadeSets {
     refusal: Option<SetError>,
 }
 
-/// A set of the objects' values, or why they make none.
+/// A set of the objects' values, or why they make none: want of memory is refused by itself.
 fn set_or_refusal<T: ToValue>(
     alloc: Global,
     objects: &[T],
 ) -> Result<Result<Params, SetError>, AllocError>
-    ensures { IfOk result (λ made. MatchResult made (λ set. IsMadeOf (InOrder (map T.as_value objects.now)) set) (λ error. too_long 0 (map T.as_value objects.now) ≡ Some error)) }
+    ensures made { IfOk result (λ made. MatchResult made (λ set. IsMadeOf (InOrder (map T.as_value objects.now)) set) (λ error. too_long 0 (map T.as_value objects.now) ≡ Some error)) }
+    ensures why { IfOk result (λ made. IfErr made (λ error. is_want_of_memory error ≡ false)) }
 {
     match objects.to_params(alloc) {
         Ok(params) => Ok(Ok(params)),
@@ -65,7 +67,8 @@ fn sets_of_objects(
     alloc: Global,
     lists: &[Vec<Box<dyn ToValue + Drop>>],
 ) -> Result<MadeSets, AllocError>
-    ensures { IfOk result (λ made. AreMadeUpTo (map (λ list. map (λ object. as_value object) list.items) lists.now) made.sets.items made.refusal) }
+    ensures made { IfOk result (λ made. AreMadeUpTo (map (λ list. map (λ object. as_value object) list.items) lists.now) made.sets.items made.refusal) }
+    ensures why { IfOk result (λ made. IfSome made.refusal (λ error. is_want_of_memory error ≡ false)) }
 {
     let mut sets = Vec::with_capacity(alloc, lists.len())?;
     for list in lists {

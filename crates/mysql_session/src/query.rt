@@ -1,9 +1,10 @@
 //! A query that is kept for calls that each send or read sets of it.
 
-ghost use Rattle.std.specs.Prelude.{◌≡◌, ◌⊎◌, ◌≤◌, ◌++◌, ℕ, IfErr, IfOk, List, OnErr, OnOk, false, length, true, ◌+◌, ◌<◌, ◌^◌, map};
+ghost use Rattle.std.specs.Prelude.{◌≡◌, ◌≢◌, ◌⊎◌, ◌≤◌, ◌++◌, ℕ, IfErr, IfOk, List, OnErr, OnOk, false, length, true, ◌+◌, ◌<◌, ◌^◌, map};
 ghost use Rattle.mysql_values.specs.Binding.{IsBindCause, IsBound};
 ghost use Rattle.mysql_values.specs.Content.{Content};
 ghost use Rattle.mysql_values.specs.Params.{IsMeaning};
+ghost use Rattle.mysql_values.specs.Parsed.{names_of};
 ghost use Rattle.mysql_values.specs.Place.{Place as PlaceOf};
 ghost use Rattle.mysql_values.specs.Queries.{HasMixed, HasPlaces, Lexes, Slices};
 ghost use Rattle.mysql_values.specs.declared.bind.BindError.TheVariants as bind_error;
@@ -17,10 +18,10 @@ ghost use Rattle.mysql_set_writer.specs.Writing.{Writes};
 ghost use Rattle.mysql_streams.specs.declared.road.Road.TheVariants as roads;
 ghost use Rattle.mysql_streams.specs.Reading.{SentReadable};
 ghost use Rattle.mysql_streams.specs.Sending.{RefusesGiven};
-ghost use Rattle.mysql_streams.specs.Sets.{all_given};
+ghost use Rattle.mysql_streams.specs.Sets.{Given, all_given, all_given_in_places};
 ghost use Rattle.mysql_streams.specs.declared.refusal.Refusal.TheVariants as refusals;
 
-use crate::laws::readable_sets_are_delivered;
+use crate::laws::{further_sets_are_delivered, readable_sets_are_delivered};
 use crate::sender::are_bytes;
 use mysql_bulk_sender::put_requests_over;
 use mysql_commands::Receiver;
@@ -84,9 +85,10 @@ impl<'q> Query<'q> {
         }
     }
 
-    /// The text.
+    /// The text, in which not both names and question marks occur.
     pub fn text(&self) -> &[u8]
-        ensures { result.now ≡ self.now.text }
+        ensures text { result.now ≡ self.now.text }
+        ensures one_kind { HasMixed self.now.text false }
     {
         self.text
     }
@@ -161,26 +163,20 @@ impl<'q> Query<'q> {
     ) -> Result<(), Refusal>
         requires { 4 ≤ limit }
         ensures refused { IfErr result (RefusesGiven road self.now.text (all_given sets.now) self.now.id limit) }
+        ensures never_mixed { IfErr result (λ refusal. refusal ≢ refusals.Mixed) }
         ensures kept { OnErr result (out.new.items ≡ out.old.items) }
         ensures delivered { OnOk result (Delivers road self.now.text (all_given sets.now) self.now.id limit out.old.items out.new.items) }
     {
         readable_sets_are_delivered();
+        tokens_of_a_text();
         let _id = self.statement.id;
         let sent = self.send_sets(alloc, sets, road, limit, out);
         are_bytes(out);
         sent
     }
 
-    /// Appends the executions of further sets of values, as [`Query::send`] by [`Road::Execute`] appends those behind its prepare: for a
-    /// statement that was prepared once. Sets are numbered on from `first`, the number of those that were sent before; their values
-    /// stand in the order of the placeholders. A payload has at most `limit - 4` bytes, and so has an execution with all its values.
-    ///
-    /// # Errors
-    /// `TooManyPlaces`; then the first cause that holds, set by set: `WrongCount`, `Float`, `PacketTooLarge`; `Memory` where a growth was
-    /// refused. `out` is then as it was.
-    ///
-    /// (MySQL: Client/Server Protocol, "COM_STMT_SEND_LONG_DATA", "COM_STMT_EXECUTE".)
-    pub fn send_more(
+    /// Appends the executions of further sets by the call over what was found.
+    fn put_further(
         &self,
         alloc: Global,
         first: usize,
@@ -201,6 +197,44 @@ impl<'q> Query<'q> {
         if sent.is_err() {
             out.truncate(stood);
         }
+        sent
+    }
+
+    /// Appends the executions of further sets of values, as [`Query::send`] by [`Road::Execute`] appends those behind its prepare: for a
+    /// statement that was prepared once. Sets are numbered on from `first`, the number of those that were sent before; their values
+    /// stand in the order of the placeholders. A payload has at most `limit - 4` bytes, and so has an execution with all its values.
+    /// Behind sets that were delivered by execute, with their number as `first`, they are delivered with them.
+    ///
+    /// # Condition
+    /// `first` and the number of the sets together are less than 2^64, so that each set has a number.
+    ///
+    /// # Errors
+    /// `TooManyPlaces`; then the first cause that holds, set by set: `WrongCount`, `Float`, `PacketTooLarge`; `Memory` where a growth was
+    /// refused. `out` is then as it was.
+    ///
+    /// (MySQL: Client/Server Protocol, "COM_STMT_SEND_LONG_DATA", "COM_STMT_EXECUTE".)
+    pub fn send_more(
+        &self,
+        alloc: Global,
+        first: usize,
+        sets: &[Vec<Value>],
+        limit: usize,
+        out: &mut Vec<u8>,
+    ) -> Result<(), Refusal>
+        requires limit { 4 ≤ limit }
+        requires numbers { first + length sets.now < 2 ^ 64 }
+        ensures ok { OnOk result (AppendsFurther self.now limit first (map (λ set. set.items) sets.now) out.old.items out.new.items) }
+        ensures err { IfErr result (RefusesFurther self.now limit first (map (λ set. set.items) sets.now)) }
+        ensures kept { OnErr result (out.new.items ≡ out.old.items) }
+        // Whatever stood in front of the sets that were delivered.
+        ensures delivered { OnOk result ((before : List (List ℕ) → List Given) (start : List ℕ) → (delivery : Delivers roads.Execute self.now.text before self.now.id limit start out.old.items)
+            → length (before (names_of delivery.tokens)) ≡ first
+            → Delivers roads.Execute self.now.text (λ names. before names ++ all_given_in_places (map (λ set. set.items) sets.now) names) self.now.id limit start out.new.items) }
+    {
+        further_sets_are_delivered();
+        let _id = self.statement.id;
+        let sent = self.put_further(alloc, first, sets, limit, out);
+        are_bytes(out);
         sent
     }
 
@@ -296,6 +330,7 @@ impl<'q> Query<'q> {
         ensures fresh { IfOk result (λ r. receiver_state r ≡ fresh_receiver) }
         ensures about { IfOk result (λ r. IsAbout r.conversation self.now.text self.now.id) }
         ensures limit { IfOk result (λ r. r.limit ≡ limit) }
+        ensures one_kind { HasMixed self.now.text false }
     {
         Receiver::of_places(
             alloc,
@@ -326,9 +361,11 @@ impl<'q> Query<'q> {
         ensures ok { OnOk result ((text : List ℕ) × (contents : List Content) × (out.new.items ≡ out.old.items ++ text) × IsBound self.now.text params.now text
             × IsMeaning self.now.text params.now contents × Slices self.now.text text contents × Lexes self.now.text text contents) }
         ensures err { IfErr result (λ e. (e ≡ bind_error.Memory) ⊎ IsBindCause self.now.text params.now e) }
+        ensures never_mixed { IfErr result (λ e. e ≢ bind_error.Mixed) }
         ensures kept { OnErr result (out.new.items ≡ out.old.items) }
     {
         pieces_of_a_query();
+        tokens_of_a_text();
         if let Some(place) = first_not_alone(&self.places) {
             return Err(BindError::NotAlone(place));
         }

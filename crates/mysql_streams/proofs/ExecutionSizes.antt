@@ -1,5 +1,6 @@
 -- What is sent of a set by execute is no longer than the execution that carries all of its values.
-use Rattle.std.proofs.Common.{◌≡◌, ℕ, ◌+◌, ◌≤◌, Bool, true, false, List, [], ◌∷◌, ◌++◌, length, map, sym, subst, arith, le_refl, length-append}
+use Rattle.std.proofs.Common.{◌≡◌, ℕ, ◌+◌, ◌≤◌, Bool, true, false, List, [], ◌∷◌, ◌++◌, length, map, sym, subst, arith, le_refl, le_trans, length-append}
+use Rattle.std.specs.Prelude.{if◌then◌else◌}
 use Rattle.std.specs.List.{AllByRecursion, flat_map}
 use Rattle.byteorder.specs.Endian.{little_bytes}
 use Rattle.byteorder.specs.Numbers.{length-bytes_low_first}
@@ -12,7 +13,7 @@ use Rattle.mysql_wire.specs.Writing.{lenenc_int}
 use Rattle.mysql_stmt.specs.Commands.{long_data}
 use Rattle.mysql_stmt.specs.Executions.{execute_command, execution, null_bitmap, parameters, sent_cell, type_bytes}
 use Rattle.mysql_streams.specs.Commands.{pieces_from}
-use Rattle.mysql_streams.specs.Sent.{SentPayload, on_the_way, payloads_of}
+use Rattle.mysql_streams.specs.Sent.{SentPayload, last_of, on_the_way, payloads_of}
 
 -- no payload is longer than this
 abbrev pub Within : ℕ → List (List ℕ) → Type 0
@@ -123,3 +124,20 @@ pieces_within most id place (value ∷ values) short = pieces_within most id (pl
   where
     behind_cell : (xs cells : List ℕ) → 7 + length (xs ++ cells) ≤ most → 7 + length cells ≤ most
     behind_cell xs cells all = omega (arith, all, length-append xs cells)
+
+-- ---- a set
+
+-- a set as an execution, with its byte strings before it or in it
+abbrev pub sent_as : Bool → ℕ → List Value → List SentPayload
+sent_as apart id values = map on_the_way (if apart then pieces_from id 0 values else []) ++ last_of values (execute_command id values apart) ∷ []
+
+-- its payloads are no longer than the execution that carries all of its values
+pub one_within : (most id : ℕ) (values : List Value) (apart : Bool) → length (execute_command id values false) ≤ most → Within most (payloads_of (sent_as apart id values))
+one_within most id values false short = (short, tt)
+one_within most id values true short =
+    within_append most (map on_the_way (pieces_from id 0 values)) (last_of values (execute_command id values true) ∷ [])
+    (within_on_the_way most (pieces_from id 0 values) (pieces_within most id 0 values (room _ _ (cells_in_execution id values) short)))
+    (le_trans (execution_fewer id values true) short, tt)
+  where
+    room : (n m : ℕ) → 10 + n ≤ m → m ≤ most → 7 + n ≤ most
+    room n m inside whole = omega (arith, inside, whole)

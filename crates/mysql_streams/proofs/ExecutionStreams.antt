@@ -15,7 +15,7 @@ use Rattle.mysql_streams.specs.Laws.{SentPayloadsRead}
 use Rattle.mysql_streams.specs.Sent.{SentPayload, as_execution, last_of, on_the_way, payloads_of, prepare_of, whole_command}
 use Rattle.mysql_streams.proofs.Contents.{neither}
 use Rattle.mysql_streams.proofs.Executable.{IsPreparable, IsSendable, all_sendable, preparable}
-use Rattle.mysql_streams.proofs.ExecutionSizes.{Within, cells_in_execution, execution_fewer, pieces_within, within_append, within_on_the_way}
+use Rattle.mysql_streams.proofs.ExecutionSizes.{Within, one_within, sent_as, within_append}
 use Rattle.mysql_streams.proofs.Executions.{execution_reads, nothing_apart}
 use Rattle.mysql_streams.proofs.Held.{held}
 use Rattle.mysql_streams.proofs.LongData.{AfterPieces, after_pieces}
@@ -23,25 +23,6 @@ use Rattle.mysql_streams.proofs.Preparing.{FreshlyPrepared, prepare_leaves, prep
 use Rattle.mysql_streams.proofs.ReadEach.{ReadFrom, not_waiting, read_each}
 use Rattle.mysql_streams.proofs.SentSets.{ReadsHeld, reads_contents}
 use Rattle.mysql_streams.proofs.States.{IsReady, behind, behind_append, behind_is, execution_leaves, read_behind}
-
--- a set as an execution, with its byte strings before it or in it
-abbrev sent_as : Bool → ℕ → List Value → List SentPayload
-sent_as apart id values = map on_the_way (if apart then pieces_from id 0 values else []) ++ last_of values (execute_command id values apart) ∷ []
-
--- ---- sizes
-
--- its payloads are no longer than the execution that carries all of its values
-one_within : (most id : ℕ) (values : List Value) (apart : Bool) → length (execute_command id values false) ≤ most → Within most (payloads_of (sent_as apart id values))
-one_within most id values false short = (short, tt)
-one_within most id values true short =
-    within_append most (map on_the_way (pieces_from id 0 values)) (last_of values (execute_command id values true) ∷ [])
-    (within_on_the_way most (pieces_from id 0 values) (pieces_within most id 0 values (room _ _ (cells_in_execution id values) short)))
-    (le_trans (execution_fewer id values true) short, tt)
-  where
-    room : (n m : ℕ) → 10 + n ≤ m → m ≤ most → 7 + n ≤ most
-    room n m inside whole = omega (arith, inside, whole)
-
--- ---- a set
 
 module _ (law : WrittenCellsAreHeld) (statement : Statement) (small : statement.id < 2 ^ 32) (room : ℕ) (few : place_count statement.query ≤ max_places) where
   -- a set reads, and leaves the statement as it was

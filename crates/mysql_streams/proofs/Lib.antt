@@ -11,6 +11,7 @@ pub mod Held
 pub mod JoinedStreams
 pub mod LongData
 pub mod OneMeaning
+pub mod PayloadSizes
 pub mod Preparing
 pub mod Queries
 pub mod ReadEach

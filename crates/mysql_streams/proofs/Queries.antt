@@ -42,7 +42,7 @@ places_alone places none =
     unmapped (Some place) none = cc
 
 -- the queries of sets, in a row
-payloads_are : (statement : Statement) (sets : List (List Value)) → payloads_of (flat_map (as_text statement) sets) ≡ map (whole_command Text statement) sets
+pub payloads_are : (statement : Statement) (sets : List (List Value)) → payloads_of (flat_map (as_text statement) sets) ≡ map (whole_command Text statement) sets
 payloads_are statement [] = refl
 payloads_are statement (values ∷ sets) = ap (λ l. whole_command Text statement values ∷ l) (payloads_are statement sets)
 

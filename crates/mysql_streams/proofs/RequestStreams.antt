@@ -80,15 +80,15 @@ good_rows command places room number (row ∷ rows) none fit (suc k) inside =
 
 module _ (room id columns : ℕ) (rows : List Row) where
   -- the requests of the parts from a row on
-  abbrev requests_from : ℕ → List Part → List SentPayload
+  abbrev pub requests_from : ℕ → List Part → List SentPayload
   requests_from start cut = map (λ p. record { payload = bulk_request id columns rows p.0 p.1.typing p.1.count; sets = rows_of rows p.0 p.1.count }) (placed_from start cut)
 
   -- parts that fit
-  abbrev AllFit : List (ℕ × Part) → Type 0
+  abbrev pub AllFit : List (ℕ × Part) → Type 0
   AllFit parts = AllByRecursion (λ p. PartFits room columns rows p.0 p.1.typing p.1.count) parts
 
   -- those of a tight cut do
-  all_fit : (parts : List (ℕ × Part)) → AllByRecursion (λ p. IsTightTypedPart room columns rows p.0 p.1) parts → AllFit parts
+  pub all_fit : (parts : List (ℕ × Part)) → AllByRecursion (λ p. IsTightTypedPart room columns rows p.0 p.1) parts → AllFit parts
   all_fit [] tight = tt
   all_fit (p ∷ parts) tight = (tight.0.fits, all_fit parts tight.1)
 
@@ -98,7 +98,7 @@ module _ (room id columns : ℕ) (rows : List Row) where
   fits_by start Untyped count fits = omega (arith, fits.1)
 
   -- the requests of parts that fit have room
-  short_requests : RequestsHaveTheirSize → (start : ℕ) (cut : List Part) → AllFit (placed_from start cut) → AllByRecursion (λ payload. length payload ≤ room) (payloads_of (requests_from start cut))
+  pub short_requests : RequestsHaveTheirSize → (start : ℕ) (cut : List Part) → AllFit (placed_from start cut) → AllByRecursion (λ payload. length payload ≤ room) (payloads_of (requests_from start cut))
   short_requests sizes start [] fits = tt
   short_requests sizes start (part ∷ cut) fits =
       (subst (λ (n : ℕ). n ≤ room) (sym (sizes id columns rows start part.typing part.count)) (fits_by start part.typing part.count fits.0), short_requests sizes (start + part.count) cut fits.1)

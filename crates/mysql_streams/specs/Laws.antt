@@ -36,6 +36,12 @@ SentPayloadsRead road =
     → cause_of road (statement_of query tokens id) limit (map Ok values) ≡ None → AreSent road (statement_of query tokens id) (limit - 4) values sent
     → AllByRecursion (IsReadable road (statement_of query tokens id).query) values → ReadsEach (statement_of query tokens id) limit sent
 
+-- Each payload that is sent of sets without a cause has at most `limit - 4` bytes: the limit counts a packet with its header.
+abbrev pub SentPayloadsFit : Type 0
+SentPayloadsFit =
+    (road : Road) (statement : Statement) (limit : ℕ) (values : List (List Value)) (sent : List SentPayload)
+    → cause_of road statement limit (map Ok values) ≡ None → AreSent road statement (limit - 4) values sent → AllByRecursion (λ s. length s.payload ≤ limit - 4) sent
+
 -- what was appended reads, to its end, as the contents of these sets of values
 pub record CarriesValues (query : List ℕ) (values : List (List Value)) (id limit : ℕ) (old new : List ℕ) : Type 0 where
   pub stream : List ℕ

@@ -1,6 +1,6 @@
 //! Laws of what is sent. Functions without a result do nothing: their contracts are the laws.
 
-ghost use Rattle.mysql_streams.specs.Laws.{OneStatement, RequestsHaveTheirSize, RoadsReadEqually, SentPayloadsRead, SentSetsAreDelivered, SentStreamsJoin, SentValuesAreCarried, SetsMeanEach};
+ghost use Rattle.mysql_streams.specs.Laws.{OneStatement, RequestsHaveTheirSize, RoadsReadEqually, SentPayloadsFit, SentPayloadsRead, SentSetsAreDelivered, SentStreamsJoin, SentValuesAreCarried, SetsMeanEach};
 ghost use Rattle.mysql_streams.specs.declared.road.Road.TheVariants as roads;
 
 use mysql_bulk_builder::laws::{tight_typed_has_fewest, types_in_force_serve};
@@ -29,6 +29,13 @@ pub fn requests_have_their_size()
     ensures { RequestsHaveTheirSize }
 {
     cells_have_lengths();
+}
+
+/// Each payload that is sent of sets without a cause has at most `limit - 4` bytes.
+pub fn sent_payloads_fit()
+    ensures { SentPayloadsFit }
+{
+    requests_have_their_size();
 }
 
 /// A prepare and bulk requests read as the sets whose values they carry.

@@ -1,6 +1,9 @@
-use Rattle.std.proofs.Common.{◌<◌, ◌^◌, subst, arith}
+use Rattle.std.proofs.Common.{◌<◌, ◌^◌, false, subst, arith}
+use Rattle.mysql_values.specs.Queries.{HasMixed}
+use Rattle.mysql_streams.specs.Sets.{all_given}
 use Rattle.mysql_session.specs.Kept.{KeptQuery}
-use Rattle.mysql_session.proofs.OnAnswers.{on_ok}
+use Rattle.mysql_session.proofs.OnAnswers.{on_err, on_ok}
+use Rattle.mysql_session.proofs.OneKind.{never_mixed, of_statement}
 use Rattle.mysql_session.proofs.query.Query.send.Goals as goal
 
 pub returns-clause-delivered : goal.returns-clause-delivered
@@ -9,3 +12,11 @@ returns-clause-delivered c =
     (λ sent. c.readable_sets_are_delivered.ensures c.args.road c.args.self.now.text _ c.args.self.now.id c.args.limit c.args.out.now.items c.send_sets-sent.new.out.items
     (subst (λ (k : KeptQuery). k.id < 2 ^ 32) c.self.view_is (omega arith)) c.requires c.are_bytes.ensures.few c.are_bytes.ensures.bytes sent)
     c.send_sets-sent.ensures.sent
+
+pub returns-clause-never_mixed : goal.returns-clause-never_mixed
+returns-clause-never_mixed c =
+    let query = c.self.inside in
+    let one = subst (λ (k : KeptQuery). HasMixed k.text false) c.self.view_is (of_statement query.text.now query.statement.parsed query.statement.places c.self.invariant.statement) in
+    on_err c.send_sets-sent.result
+    (λ refusal why. never_mixed c.tokens_of_a_text.ensures.one c.args.road c.args.self.now.text (all_given c.args.sets.now) c.args.self.now.id c.args.limit refusal one why)
+    c.send_sets-sent.ensures.refused

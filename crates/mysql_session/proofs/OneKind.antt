@@ -1,0 +1,146 @@
+-- A query whose placeholders are of one kind is never refused for both.
+use Rattle.std.proofs.Common.{◌≡◌, ◌≢◌, ◌⊎◌, inl, inr, ℕ, ◌+◌, ◌-◌, ◌==◌, Bool, true, false, List, [], ◌∷◌, length, map, Option, Some, None, Result, Ok, Err, refl, sym, ◌∙◌, ap, subst, nat_lt, if◌then◌else◌}
+use Rattle.std.specs.Option.{option_map, option_or}
+use Rattle.mysql_values.specs.Binding.{IsBindCause, alone_cause, bind_cause, given_cause, values_cause}
+use Rattle.mysql_values.specs.Laws.{OneTokens}
+use Rattle.mysql_values.specs.Params.{values_over}
+use Rattle.mysql_values.specs.Parsed.{Parsed, names_of}
+use Rattle.mysql_values.specs.Place.{Place}
+use Rattle.mysql_values.specs.Queries.{HasMixed, first_not_alone, is_mixed, places_from}
+use Rattle.mysql_values.specs.Tokens.{HasTokens}
+use Rattle.mysql_values.specs.Value.{Value}
+use Rattle.mysql_values.specs.Values.{first_float}
+use Rattle.mysql_values.specs.declared.bind.BindError.{BindError}
+use Rattle.mysql_values.specs.declared.bind.BindError.TheVariants as bind_error
+use Rattle.mysql_values.specs.declared.params.Params.{Params}
+use Rattle.mysql_values.specs.declared.params.ParamsError.{ParamsError}
+use Rattle.mysql_bulk_builder.specs.Causes.{mixed_kinds, row_too_large}
+use Rattle.mysql_commands.specs.Query.{Query, Statement, place_count, statement_of}
+use Rattle.mysql_streams.specs.declared.refusal.Refusal.{Refusal}
+use Rattle.mysql_streams.specs.declared.refusal.Refusal.TheVariants as refusals
+use Rattle.mysql_streams.specs.declared.road.Road.{Road}
+use Rattle.mysql_streams.specs.declared.road.Road.TheVariants.{Text, Execute, Bulk}
+use Rattle.mysql_streams.specs.Cause.{bulk_cause, cause_if, first_of_sets, max_places, places_cause, prepare_cause, query_cause, set_cause, sets_cause}
+use Rattle.mysql_streams.specs.Commands.{prepare_command}
+use Rattle.mysql_streams.specs.Sending.{RefusesGiven}
+use Rattle.mysql_streams.specs.Sent.{whole_command}
+use Rattle.mysql_streams.specs.Sets.{Given, values_of}
+use Rattle.mysql_senders.specs.OneSet.{IsStatement}
+
+-- a cause, if any, is not that both kinds occur
+abbrev NotMixed : Option Refusal → Type 0
+NotMixed cause = cause ≢ Some refusals.Mixed
+
+none_is_not : NotMixed None
+none_is_not = λ same. cc same
+
+or_not : (first rest : Option Refusal) → NotMixed first → NotMixed rest → NotMixed (option_or first rest)
+or_not None rest not_first not_rest = not_rest
+or_not (Some cause) rest not_first not_rest = not_first
+
+if_not : (test : Bool) (cause : Refusal) → cause ≢ refusals.Mixed → NotMixed (cause_if test cause)
+if_not true cause other = λ same. let is : cause ≡ refusals.Mixed = cc in other is
+if_not false cause other = none_is_not
+
+mapped_not : {A : Type 0} (cause : A → Refusal) (found : Option A) → ((a : A) → cause a ≢ refusals.Mixed) → NotMixed (option_map (λ a. cause a) found)
+mapped_not cause None other = none_is_not
+mapped_not cause (Some a) other = λ same. let is : cause a ≡ refusals.Mixed = cc in other a is
+
+-- ---- against the query
+
+kinds_not : (places : List Place) → is_mixed places ≡ false → NotMixed (cause_if (is_mixed places) refusals.Mixed)
+kinds_not places one = subst (λ (b : Bool). NotMixed (cause_if b refusals.Mixed)) (sym one) none_is_not
+
+places_not : (places : List Place) → is_mixed places ≡ false → NotMixed (places_cause places)
+places_not places one =
+    or_not (cause_if (is_mixed places) refusals.Mixed) (option_map (λ place. refusals.NotAlone place) (first_not_alone places)) (kinds_not places one)
+    (mapped_not (λ place. refusals.NotAlone place) (first_not_alone places) (λ place same. cc same))
+
+prepare_not : (query : Query) (room : ℕ) → is_mixed query.places ≡ false → NotMixed (prepare_cause query room)
+prepare_not query room one =
+    let many : Option Refusal = cause_if (nat_lt max_places (place_count query)) refusals.TooManyPlaces in
+    let long : Option Refusal = cause_if (nat_lt room (length (prepare_command query.parsed))) refusals.PrepareTooLarge in
+    or_not (cause_if (is_mixed query.places) refusals.Mixed) (option_or many (option_or long None)) (kinds_not query.places one)
+    (or_not many (option_or long None) (if_not (nat_lt max_places (place_count query)) refusals.TooManyPlaces (λ same. cc same))
+    (or_not long None (if_not (nat_lt room (length (prepare_command query.parsed))) refusals.PrepareTooLarge (λ same. cc same)) none_is_not))
+
+query_not : (road : Road) (statement : Statement) (room : ℕ) → is_mixed statement.query.places ≡ false → NotMixed (query_cause road statement room)
+query_not Text statement room one = places_not statement.query.places one
+query_not Execute statement room one = prepare_not statement.query room one
+query_not Bulk statement room one =
+    or_not (prepare_cause statement.query room) (cause_if (place_count statement.query == 0) refusals.NoPlaces) (prepare_not statement.query room one)
+    (if_not (place_count statement.query == 0) refusals.NoPlaces (λ same. cc same))
+
+-- ---- against sets
+
+values_not : (set places : ℕ) (values : List Value) → NotMixed (values_cause (refusals.WrongCount set) (λ place. refusals.Float set place) places values)
+values_not set places values = by (length values == places)
+  where
+    by : (many : Bool) → NotMixed (if many then option_map (λ place. refusals.Float set place) (first_float values) else Some (refusals.WrongCount set))
+    by true = mapped_not (λ place. refusals.Float set place) (first_float values) (λ place same. cc same)
+    by false = λ same. cc same
+
+set_not : (command : List Value → List ℕ) (places room set : ℕ) (given : Given) → NotMixed (set_cause command places room set given)
+set_not command places room set (Err error) = λ same. cc same
+set_not command places room set (Ok values) =
+    or_not (values_cause (refusals.WrongCount set) (λ place. refusals.Float set place) places values) (cause_if (nat_lt room (length (command values))) (refusals.PacketTooLarge set))
+    (values_not set places values) (if_not (nat_lt room (length (command values))) (refusals.PacketTooLarge set) (λ same. cc same))
+
+each_not : (command : List Value → List ℕ) (places room number : ℕ) (sets : List Given) → NotMixed (first_of_sets (set_cause command places room) number sets)
+each_not command places room number [] = none_is_not
+each_not command places room number (given ∷ sets) =
+    or_not (set_cause command places room number given) (first_of_sets (set_cause command places room) (number + 1) sets) (set_not command places room number given) (each_not command places room (number + 1) sets)
+
+together_not : (road : Road) (statement : Statement) (room : ℕ) (rows : List (List Value)) → NotMixed (sets_cause road statement room rows)
+together_not Text statement room rows = none_is_not
+together_not Execute statement room rows = none_is_not
+together_not Bulk statement room rows =
+    let columns : ℕ = place_count statement.query in
+    let kinds : Option Refusal = option_map (λ at. refusals.MixedKinds at.0 at.1) (mixed_kinds rows) in
+    let large : Option Refusal = option_map (λ set. refusals.RowTooLarge set) (row_too_large room columns rows) in
+    or_not kinds (option_or large None) (mapped_not (λ at. refusals.MixedKinds at.0 at.1) (mixed_kinds rows) (λ at same. cc same))
+    (or_not large None (mapped_not (λ set. refusals.RowTooLarge set) (row_too_large room columns rows) (λ set same. cc same)) none_is_not)
+
+-- ---- what is refused
+
+-- the placeholders of a query of one kind are of one kind
+one_kind : OneTokens → (query : List ℕ) (tokens : List (List ℕ)) → HasTokens query tokens → HasMixed query false → is_mixed (places_from query 0 tokens) ≡ false
+one_kind once query tokens has (places, (others, (others_has, are)), mixed) =
+    ap (λ t. is_mixed (places_from query 0 t)) (once query tokens others has others_has) ∙ ap is_mixed (sym are) ∙ sym mixed
+
+-- so are those of a query that is found to be a statement
+pub of_statement : (query : List ℕ) (parsed : Parsed) (places : ℕ) → IsStatement query parsed places → HasMixed query false
+of_statement query parsed places is = (places_from query 0 is.tokens, (is.tokens, is.has, refl), sym is.one_kind)
+
+pub never_mixed : OneTokens → (road : Road) (query : List ℕ) (sets : List (List ℕ) → List Given) (id limit : ℕ) (refusal : Refusal) → HasMixed query false → RefusesGiven road query sets id limit refusal → refusal ≢ refusals.Mixed
+never_mixed once road query sets id limit refusal one (inl memory) = λ same. cc (sym memory ∙ same)
+never_mixed once road query sets id limit refusal one (inr why) = λ same.
+    let statement : Statement = statement_of query why.tokens id in
+    let given : List Given = sets (names_of why.tokens) in
+    let first : Option Refusal = first_of_sets (set_cause (whole_command road statement) (place_count statement.query) (limit - 4)) 0 given in
+    let together : Option Refusal = sets_cause road statement (limit - 4) (values_of given) in
+    or_not (query_cause road statement (limit - 4)) (option_or first (option_or together None)) (query_not road statement (limit - 4) (one_kind once query why.tokens why.has one))
+    (or_not first (option_or together None) (each_not (whole_command road statement) (place_count statement.query) (limit - 4) 0 given)
+    (or_not together None (together_not road statement (limit - 4) (values_of given)) none_is_not))
+    (why.first ∙ ap Some same)
+
+-- ---- what is not bound
+
+pub never_mixed_text : OneTokens → (query : List ℕ) (params : Params) (error : BindError) → HasMixed query false → (error ≡ bind_error.Memory) ⊎ IsBindCause query params error → error ≢ bind_error.Mixed
+never_mixed_text once query params error one (inl memory) = λ same. cc (sym memory ∙ same)
+never_mixed_text once query params error one (inr why) =
+    by (is_mixed (places_from query 0 why.0)) (one_kind once query why.0 why.1 one) (first_not_alone (places_from query 0 why.0)) (length (places_from query 0 why.0)) (values_over (names_of why.0) params) why.2
+  where
+    given_not : (count : ℕ) (over : Result (List Value) ParamsError) → given_cause count over ≢ Some bind_error.Mixed
+    given_not count (Err wrong) = λ same. cc same
+    given_not count (Ok values) = by_count (length values == count) (first_float values)
+      where
+        by_count : (many : Bool) (float : Option ℕ) → (if many then option_map (λ place. bind_error.Float place) float else Some bind_error.WrongCount) ≢ Some bind_error.Mixed
+        by_count true None = λ same. cc same
+        by_count true (Some place) = λ same. cc same
+        by_count false float = λ same. cc same
+    by : (mixed : Bool) → mixed ≡ false → (apart : Option ℕ) (count : ℕ) (over : Result (List Value) ParamsError)
+        → (if mixed then Some bind_error.Mixed else alone_cause apart (given_cause count over)) ≡ Some error → error ≢ bind_error.Mixed
+    by true is apart count over first = cc
+    by false is (Some place) count over first = λ same. cc (first ∙ ap Some same)
+    by false is None count over first = λ same. given_not count over (first ∙ ap Some same)
