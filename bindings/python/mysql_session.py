@@ -19,11 +19,24 @@ A limit is the max_allowed_packet of the side that packets go to, at least 4. `s
 count a packet's header in it (a payload has at most `limit - 4` bytes), all other calls the payload
 alone. `DEFAULT_LIMIT` is that of most servers.
 
-An object stays in the thread that made it: another thread's call raises RuntimeError. Objects of
-different threads share nothing, and a call lets other threads run. What an object holds is freed
-by `close`, at the end of `with`, or when it is collected. Where that happens in another thread, its
-own thread frees it when it makes its next object, and nobody where that thread has ended: `close`
-what a thread leaves. A closed object's calls raise `MySQLSessionError` with `Code.EMPTY_HANDLE`.
+An object stays in the thread that made it, and does one call at a time: a call in another thread,
+and one that a signal's handler or a finalizer makes while another call of the object runs, raises
+RuntimeError and changes nothing. Objects of different threads share nothing, and a call lets other
+threads run. What goes in is copied first where it may change, as a bytearray, and what comes out is
+a copy.
+
+Nothing is lost where a call can't give what it has: where MySQLSessionError by `Code.MEMORY`,
+MemoryError or KeyboardInterrupt ends it on the way, `take` and `payload` give the same at the next
+call, and what `Recoder` and `ReplyWriter` wrote is given by the next call that writes, or by `rest`.
+
+What an object holds is freed by `close`, at the end of `with`, or when it is collected. Where that
+happens in another thread, its own thread frees it when it makes its next object, and nobody where
+that thread has ended: `close` what a thread leaves. A closed object's calls raise
+`MySQLSessionError` with `Code.EMPTY_HANDLE`.
+
+Texts of values (`Road.TEXT`, `bind_text`, `literal`) are safe for a server that takes backslash
+escapes (NO_BACKSLASH_ESCAPES isn't in its SQL mode) over a connection in UTF-8; for any other a
+value may end its literal: send by execution there.
 
 Numbers that are too large for their field raise OverflowError.
 """
@@ -53,7 +66,7 @@ __all__ = [
 ]
 
 # The number of the interface that this module calls.
-ABI = 2
+ABI = 3
 
 # The max_allowed_packet that most servers have.
 DEFAULT_LIMIT = 1 << 24
@@ -140,7 +153,9 @@ class Road(enum.IntEnum):
     """How parameter sets are sent."""
 
     TEXT = 0
-    """A text query for each set."""
+    """A text query for each set. Safe for a server that takes backslash escapes
+    (NO_BACKSLASH_ESCAPES isn't in its SQL mode) over a connection in UTF-8; for any other a value
+    may end its literal: send by execution there."""
     EXECUTE = 1
     """One prepare, and an execution for each set."""
     BULK = 2
@@ -456,7 +471,8 @@ class _Login(ctypes.Structure):
 _U8, _U16, _U32, _U64 = ctypes.c_uint8, ctypes.c_uint16, ctypes.c_uint32, ctypes.c_uint64
 _SIZE, _BOOL, _OUT = ctypes.c_size_t, ctypes.c_bool, ctypes.c_void_p
 _HANDLE = ctypes.POINTER(_Handle)
-# Bytes that go in. A pointer of this type to a bytes object is never NULL.
+# Bytes that go in. A pointer of this type to a bytes object is never NULL, and the call's arguments
+# hold the object until the call returns.
 _BYTES = (ctypes.c_char_p, _SIZE)
 
 _ARGUMENTS: Dict[str, Tuple[Any, ...]] = {
@@ -485,7 +501,7 @@ _ARGUMENTS: Dict[str, Tuple[Any, ...]] = {
     "reply_take": (_HANDLE,),
     "reply_results": (_HANDLE, _OUT),
     "reply_result": (_HANDLE, _SIZE, _OUT),
-    "reply_state": (_HANDLE, _SIZE, _SIZE, _OUT, _OUT, _OUT),
+    "reply_state": (_HANDLE, _SIZE, _OUT, _OUT, _OUT, _OUT),
     "reply_cell": (_HANDLE, _SIZE, _SIZE, _SIZE, _OUT),
     "reply_column": (_HANDLE, _SIZE, _SIZE, _OUT),
     "reply_param": (_HANDLE, _SIZE, _SIZE, _OUT),
@@ -646,11 +662,11 @@ _SIZE_BITS = 8 * ctypes.sizeof(_SIZE)
 
 
 def _as_bytes(text: Union[str, bytes, bytearray, memoryview]) -> bytes:
-    """A text or bytes as bytes."""
-    if isinstance(text, bytes):
+    """A text or bytes as bytes, of no class but bytes itself: C reads as many as `len` says."""
+    if type(text) is bytes:
         return text
     if isinstance(text, str):
-        return text.encode("utf-8")
+        return str.encode(text, "utf-8")
     return memoryview(text).tobytes()
 
 
@@ -660,9 +676,18 @@ def _lent(text: Union[str, bytes, bytearray, memoryview]) -> Tuple[bytes, int]:
     return data, len(data)
 
 
+# The most bytes that ctypes.string_at copies: it takes their number as a C int, and cuts off what
+# that lacks.
+_STRING_AT_MOST = (1 << 31) - 1
+
+
 def _bytes_at(address: Optional[int], length: int) -> bytes:
     """A copy of the bytes that a call shows. A pointer to none isn't read."""
-    return ctypes.string_at(address, length) if address and length else b""
+    if not address or not length:
+        return b""
+    if length <= _STRING_AT_MOST:
+        return ctypes.string_at(address, length)
+    return (ctypes.c_char * length).from_address(address).raw
 
 
 def _texts(shown: ctypes.Structure, names: Iterable[str]) -> Dict[str, bytes]:
@@ -699,16 +724,33 @@ class _Object:
     the end of `with`, or when it is collected."""
 
     def __init__(self) -> None:
+        if hasattr(self, "_at"):
+            raise RuntimeError("an object of mysql_session is made once")
         self._left = _thread.left
         while self._left:
             _library.mysql_session_free(self._left.popleft())
+        self._lock = threading.Lock()
         self._at = _Handle()
         self._finalizer = weakref.finalize(self, _release, self._at, self._left)
 
     @property
     def _handle(self) -> _Handle:
-        self._check_thread()
+        """The handle, for a call of one step."""
+        self._check()
         return self._at
+
+    def _alone(self) -> threading.Lock:
+        """What a call of several steps holds by `with`: bytes that the library shows in one step
+        are read in the next, and no other call on the handle may come between."""
+        self._check()
+        return self._lock
+
+    def _check(self) -> None:
+        """Refuses a call in another thread, and one within another call of this object."""
+        self._check_thread()
+        if self._lock.locked():
+            raise RuntimeError("an object of mysql_session does one call at a time, also where a"
+                               " signal's handler or a finalizer makes the other one")
 
     def _check_thread(self) -> None:
         if _thread.left is not self._left:
@@ -716,10 +758,11 @@ class _Object:
 
     def close(self) -> None:
         """Frees what the object holds. A second call does nothing."""
-        self._check_thread()
+        self._check()
         self._finalizer()
 
     def __enter__(self: _Self) -> _Self:
+        self._check()
         return self
 
     def __exit__(self, kind: Optional[Type[BaseException]], error: Optional[BaseException],
@@ -728,25 +771,36 @@ class _Object:
 
 
 class _Output(_Object):
-    """Bytes that the library writes."""
+    """Bytes that the library writes. Those that were given stay until others are written: so they
+    are let go only once they are with the caller."""
 
     def __init__(self) -> None:
         super().__init__()
-        _call("bytes_new", self._handle)
+        self._given = False
+        _call("bytes_new", self._at)
+
+    def to_write(self) -> _Handle:
+        """The handle, for a call that appends to the bytes that weren't given."""
+        if self._given:
+            _call("bytes_clear", self._handle)
+            self._given = False
+        return self._handle
 
     def take(self) -> bytes:
         """The bytes that were appended since the last call."""
         data, length = ctypes.c_void_p(), _SIZE()
         _call("bytes_data", self._handle, ctypes.byref(data), ctypes.byref(length))
+        if self._given:
+            return b""
         taken = _bytes_at(data.value, length.value)
-        _call("bytes_clear", self._handle)
+        self._given = True
         return taken
 
 
 def _written(name: str, *arguments: object) -> bytes:
     """What a call whose first argument is the bytes to append to appends."""
     with _Output() as out:
-        _call(name, out._handle, *arguments)
+        _call(name, out.to_write(), *arguments)
         return out.take()
 
 
@@ -760,10 +814,8 @@ class End(NamedTuple):
     """Of FAULT which payload is, from 0."""
 
 
-def _ended(name: str, handle: _Handle) -> End:
-    """How a call says that a stream ends."""
-    end = _End()
-    _call(name, handle, ctypes.byref(end))
+def _end_of(end: _End) -> End:
+    """How a stream ends, as it is shown."""
     if end.kind == EndKind.FAULT:
         return End(EndKind.FAULT, Code(end.fault), end.payload)
     return End(EndKind(end.kind))
@@ -792,8 +844,7 @@ class Receiver(_Object):
 
     def __init__(self, query: Text, statement: int = 1, limit: int = DEFAULT_LIMIT) -> None:
         super().__init__()
-        self._end: Optional[End] = None
-        self._taken_whole = False
+        self._given = 0
         _call("receiver_new", self._handle, *_lent(query), _fitting(statement, 32),
               _fitting(limit, _SIZE_BITS))
 
@@ -803,17 +854,25 @@ class Receiver(_Object):
         Raises MySQLSessionError with the stream's fault, from the first on at each call. The sets
         before the fault are there, and `end` says where it is.
         """
-        _call("receiver_feed", self._handle, *_lent(piece))
+        data, length = _lent(piece)
+        with self._alone():
+            if self._given:
+                # Nothing came behind the sets that were given: they alone are let go.
+                _call("receiver_clear", self._at)
+                self._given = 0
+            _call("receiver_feed", self._at, data, length)
 
     def take(self) -> List[Tuple[Content, ...]]:
-        """The sets that were read since the last call, in their order; they are let go."""
-        if self._taken_whole:
-            return []
-        sets = [self._set(it) for it in range(_count("receiver_sets", self._handle))]
-        if self._end is None:
-            _call("receiver_clear", self._handle)
-        self._taken_whole = self._end is not None
-        return sets
+        """The sets that were read since the last call, in their order.
+
+        Where MemoryError or KeyboardInterrupt ends the call, the next one gives them. They are let
+        go by the next `feed`, or with the receiver.
+        """
+        with self._alone():
+            count = _count("receiver_sets", self._at)
+            sets = [self._set(it) for it in range(self._given, count)]
+            self._given = count
+            return sets
 
     def __iter__(self) -> Iterator[Tuple[Content, ...]]:
         """The sets as `take` gives them."""
@@ -821,12 +880,13 @@ class Receiver(_Object):
 
     def end(self) -> End:
         """Ends the stream, and says how it ends. The sets that weren't taken stay."""
-        self._end = _ended("receiver_end", self._handle)
-        return self._end
+        end = _End()
+        _call("receiver_end", self._handle, ctypes.byref(end))
+        return _end_of(end)
 
     def _set(self, number: int) -> Tuple[Content, ...]:
         """The set of this number."""
-        handle, call, shown = self._handle, _calls["receiver_content"], _Content()
+        handle, call, shown = self._at, _calls["receiver_content"], _Content()
         contents: List[Content] = []
         for place in range(_count("receiver_width", handle, number)):
             code = call(handle, number, place, ctypes.byref(shown))
@@ -957,7 +1017,11 @@ def send(query: Text, sets: Union[ParameterSets, Iterable[Sequence[Parameter]]],
 
     By `Road.EXECUTE` and `Road.BULK` the first packet is the prepare, and the others name the
     statement by this id: a server answers the prepare with an id of its own. A receiver of the same
-    query, id and limit reads the sets back.
+    query, id and limit reads the sets back. The sets stay as they are.
+
+    By `Road.TEXT` values are literals in the query's text. Safe for a server that takes backslash
+    escapes (NO_BACKSLASH_ESCAPES isn't in its SQL mode) over a connection in UTF-8; for any other a
+    value may end its literal: send by execution there.
 
     The query has question marks as placeholders; where it has names, send for its `positional`.
 
@@ -969,7 +1033,7 @@ def send(query: Text, sets: Union[ParameterSets, Iterable[Sequence[Parameter]]],
             return send(query, made, road, statement, limit)
     with _Output() as out:
         _call_at(_Place(), "send", sets._handle, *_lent(query), _fitting(road, 32),
-                 _fitting(statement, 32), _fitting(limit, _SIZE_BITS), out._handle)
+                 _fitting(statement, 32), _fitting(limit, _SIZE_BITS), out.to_write())
         return out.take()
 
 
@@ -978,6 +1042,7 @@ def positional(query: Text) -> bytes:
 
     Raises MySQLSessionError: MIXED, REFUSED_TOO_MANY_PLACES.
     """
+    query = _as_bytes(query)
     limit = max(DEFAULT_LIMIT, 2 * len(query) + 4)
     with PacketReader(0, limit) as reader:
         reader.feed(send(query, (), Road.EXECUTE, limit=limit))
@@ -988,17 +1053,24 @@ def bind_text(query: Text, values: Sequence[Parameter]) -> bytes:
     """The query with a literal in the place of each placeholder, as a COM_QUERY has it. The query
     is `positional`.
 
+    Safe for a server that takes backslash escapes (NO_BACKSLASH_ESCAPES isn't in its SQL mode) over
+    a connection in UTF-8; for any other a value may end its literal: send by execution there.
+
     Raises MySQLSessionError: MIXED, REFUSED_NOT_ALONE, REFUSED_PARAMS, REFUSED_WRONG_COUNT.
     """
     with ParameterSets([values]) as sets, _Output() as out:
-        _call_at(_Place(), "bind_text", sets._handle, 0, *_lent(query), out._handle)
+        _call_at(_Place(), "bind_text", sets._handle, 0, *_lent(query), out.to_write())
         return out.take()
 
 
 def literal(value: Parameter) -> bytes:
-    """The literal of a value, as it stands in the text of a query."""
+    """The literal of a value, as it stands in the text of a query.
+
+    Safe for a server that takes backslash escapes (NO_BACKSLASH_ESCAPES isn't in its SQL mode) over
+    a connection in UTF-8; for any other a value may end its literal: send by execution there.
+    """
     with ParameterSets([(value,)]) as sets, _Output() as out:
-        _call("value_text", sets._handle, 0, 0, out._handle)
+        _call("value_text", sets._handle, 0, 0, out.to_write())
         return out.take()
 
 
@@ -1025,8 +1097,10 @@ class Recoder(_Object):
         Raises MySQLSessionError with the fault and its payload, or REFUSED_PACKET_TOO_LARGE with
         its set, and from then on the same at each call.
         """
-        _call_at(_Stop(), "recoder_feed", self._handle, *_lent(piece), self._out._handle)
-        return self._out.take()
+        data, length = _lent(piece)
+        with self._alone():
+            _call_at(_Stop(), "recoder_feed", self._at, data, length, self._out.to_write())
+            return self._out.take()
 
     def end(self) -> bytes:
         """Ends the stream; gives the prepare where it carried no set, else nothing. The recoder
@@ -1034,8 +1108,15 @@ class Recoder(_Object):
 
         Raises MySQLSessionError by UNFINISHED where the stream isn't whole, and as `feed` did.
         """
-        _call_at(_Stop(), "recoder_end", self._handle, self._out._handle)
-        return self._out.take()
+        with self._alone():
+            _call_at(_Stop(), "recoder_end", self._at, self._out.to_write())
+            return self._out.take()
+
+    def rest(self) -> bytes:
+        """What a call made and couldn't give, as MemoryError or KeyboardInterrupt ended it: mostly
+        nothing. The next `feed` or `end` gives it too, before its own."""
+        with self._alone():
+            return self._out.take()
 
     def close(self) -> None:
         super().close()
@@ -1183,6 +1264,10 @@ def _cell(shown: Any, column_type: int) -> Cell:
     return _content(shown)
 
 
+# Where a reply goes on, this stands in the place of the kind of its end.
+_GOES_ON = (1 << 32) - 1
+
+
 class ReplyReader(_Object):
     """Reads a server's reply to one command as it comes.
 
@@ -1193,8 +1278,11 @@ class ReplyReader(_Object):
     def __init__(self, kind: ReplyKind, capabilities: int, first: int = 1,
                  limit: int = DEFAULT_LIMIT) -> None:
         super().__init__()
-        self._end: Optional[End] = None
-        self._taken_whole = False
+        self._end = _End(_GOES_ON)
+        # Results that wait to be given, and how many of those that the library lists are among
+        # them or were given.
+        self._shown: List[Result] = []
+        self._seen = 0
         _call("reply_new", self._handle, _fitting(kind, 32), _fitting(capabilities, 32),
               _fitting(first, 8), _fitting(limit, _SIZE_BITS))
 
@@ -1208,24 +1296,56 @@ class ReplyReader(_Object):
 
     def take(self) -> List[Result]:
         """The results so far that weren't taken before: those that stand whole, and of rows that
-        go on those so far. `ends_reply` says of the last whether the reply is whole."""
-        if self._taken_whole:
-            return []
-        if self._end is None:
-            _call("reply_take", self._handle)
-        results = [self._result(it) for it in range(_count("reply_results", self._handle))]
-        self._taken_whole = self._end is not None
-        return results
+        go on those so far. `ends_reply` says of the last whether the reply is whole.
+
+        All of them are shown before any is let go. Where that ends by MySQLSessionError with
+        MEMORY, by MemoryError or by KeyboardInterrupt, the next call gives them, and what came
+        since behind them.
+        """
+        with self._alone():
+            self._show()
+            if self._end.kind == _GOES_ON:
+                self._list_others("reply_take")
+                self._show()
+            given, self._shown = self._shown, []
+            return given
 
     def end(self) -> End:
-        """Ends the reply, and says how it ends. The results that weren't taken stay."""
-        self._end = _ended("reply_end", self._handle)
-        return self._end
+        """Ends the reply, and says how it ends. The results that weren't taken stay.
+
+        Where a `take` failed, its results are shown first, and may raise as they did: the reply
+        goes on then.
+        """
+        with self._alone():
+            if self._end.kind == _GOES_ON:
+                self._show()
+                self._list_others("reply_end", ctypes.byref(self._end))
+            else:
+                _call("reply_end", self._at, ctypes.byref(self._end))
+            return _end_of(self._end)
+
+    def _show(self) -> None:
+        """Shows the listed results that weren't seen; they wait to be given."""
+        count = _count("reply_results", self._at)
+        results = [self._result(it) for it in range(self._seen, count)]
+        self._shown += results
+        self._seen = count
+
+    def _list_others(self, name: str, *arguments: object) -> None:
+        """Makes a call by which the library lists other results in the place of those that were
+        seen, which it frees."""
+        call = _calls[name]
+        # No signal is handled between these two lines, from Python 3.10 on: behind an interrupt no
+        # result is given twice, and none is lost.
+        self._seen = 0
+        code = call(self._at, *arguments)
+        if code:
+            raise MySQLSessionError(code)
 
     def _result(self, number: int) -> Result:
         """The result of this number."""
         shown = _Result()
-        _call("reply_result", self._handle, number, ctypes.byref(shown))
+        _call("reply_result", self._at, number, ctypes.byref(shown))
         text = _bytes_at(shown.text, shown.len)
         if shown.kind == _ResultKind.ROWS:
             return self._rows(number, shown, text)
@@ -1242,7 +1362,7 @@ class ReplyReader(_Object):
 
     def _rows(self, number: int, result: Any, info: bytes) -> Rows:
         """The rows of the result of this number."""
-        handle, call, shown = self._handle, _calls["reply_cell"], _Value()
+        handle, call, shown = self._at, _calls["reply_cell"], _Value()
         columns = self._columns("reply_column", number, result.columns)
         rows: List[Tuple[Cell, ...]] = []
         for row in range(result.rows):
@@ -1261,17 +1381,21 @@ class ReplyReader(_Object):
         columns = []
         for place in range(count):
             shown = _Column()
-            _call(name, self._handle, number, place, ctypes.byref(shown))
+            _call(name, self._at, number, place, ctypes.byref(shown))
             columns.append(_column(shown))
         return tuple(columns)
 
     def _states(self, number: int, count: int) -> Tuple[State, ...]:
-        """The changes of the session's state that the result of this number tells."""
+        """The changes of the session's state that the result of this number tells, each from the
+        position at which the one before ends."""
+        handle, call = self._at, _calls["reply_state"]
+        position, kind, data, length = _SIZE(), _U8(), ctypes.c_void_p(), _SIZE()
+        to = [ctypes.byref(it) for it in (position, kind, data, length)]
         states = []
-        for place in range(count):
-            kind, data, length = _U8(), ctypes.c_void_p(), _SIZE()
-            _call("reply_state", self._handle, number, place, ctypes.byref(kind),
-                  ctypes.byref(data), ctypes.byref(length))
+        for _ in range(count):
+            code = call(handle, number, *to)
+            if code:
+                raise MySQLSessionError(code)
             states.append(State(kind.value, _bytes_at(data.value, length.value)))
         return tuple(states)
 
@@ -1306,47 +1430,60 @@ class ReplyWriter(_Object):
         super().__init__()
         self._out = _Output()
         self._row = ParameterSets()
+        self._kind = kind
         _call("writer_new", self._handle, _fitting(kind, 32), _fitting(capabilities, 32),
               _fitting(first, 8), _fitting(limit, _SIZE_BITS))
 
     def ok(self, affected_rows: int = 0, last_insert_id: int = 0, status: int = AUTOCOMMIT,
            warnings: int = 0, info: Text = b"", more: bool = False) -> bytes:
         """An OK packet."""
-        return self._put("writer_ok", _fitting(affected_rows, 64), _fitting(last_insert_id, 64),
-                         _fitting(status, 16), _fitting(warnings, 16), *_lent(info), more)
+        with self._alone():
+            return self._put("writer_ok", _fitting(affected_rows, 64), _fitting(last_insert_id, 64),
+                             _fitting(status, 16), _fitting(warnings, 16), *_lent(info), more)
 
     def error(self, code: int, state: Text, message: Text) -> bytes:
         """An error, which ends the reply. The SQL state has five bytes, or none."""
-        return self._put("writer_error", _fitting(code, 16), *_lent(state), *_lent(message))
+        with self._alone():
+            return self._put("writer_error", _fitting(code, 16), *_lent(state), *_lent(message))
 
     def rows(self, columns: Iterable[Column]) -> bytes:
         """Begins rows under these columns. Their schemas, tables and original names aren't sent."""
-        self._give(columns)
-        return self._put("writer_rows")
+        with self._alone():
+            self._give(columns)
+            return self._put("writer_rows")
 
     def row(self, values: Sequence[Parameter]) -> bytes:
         """A row: a value for each column. In the reply to an execution the value has to be of its
         column's type."""
-        self._row.clear()
-        self._row.add(values)
-        return self._put("writer_row", self._row._handle, 0)
+        with self._alone():
+            self._row.clear()
+            self._row.add(values)
+            return self._put("writer_row", self._row._handle, 0)
 
     def end_rows(self, status: int = AUTOCOMMIT, warnings: int = 0, more: bool = False) -> bytes:
         """Ends the rows."""
-        return self._put("writer_end_rows", _fitting(status, 16), _fitting(warnings, 16), more)
+        with self._alone():
+            return self._put("writer_end_rows", _fitting(status, 16), _fitting(warnings, 16), more)
 
-    def prepared(self, statement: int, params: Sequence[Column], columns: Iterable[Column],
+    def prepared(self, statement: int, params: Iterable[Column], columns: Iterable[Column],
                  warnings: int = 0) -> bytes:
         """A prepared statement: its id, its parameters and its columns."""
-        self._give(params)
-        self._give(columns)
-        return self._put("writer_prepared", _fitting(statement, 32), len(params),
-                         _fitting(warnings, 16))
+        with self._alone():
+            params = tuple(params)
+            self._give([*params, *columns])
+            return self._put("writer_prepared", _fitting(statement, 32), len(params),
+                             _fitting(warnings, 16))
 
     def end(self) -> None:
         """Raises MySQLSessionError where the reply isn't whole: WRITE_NO_RESULTS or
         WRITE_NOT_ENDED."""
         _call_at(_Spot(), "writer_end", self._handle)
+
+    def rest(self) -> bytes:
+        """What a call wrote and couldn't give, as MemoryError or KeyboardInterrupt ended it: mostly
+        nothing. The next call that writes gives it too, before its own."""
+        with self._alone():
+            return self._out.take()
 
     def close(self) -> None:
         super().close()
@@ -1355,18 +1492,52 @@ class ReplyWriter(_Object):
 
     def _give(self, columns: Iterable[Column]) -> None:
         """Gives columns for what is begun next."""
-        for column in columns:
-            _call("writer_column", self._handle, _fitting(column.type, 8), *_lent(column.name),
-                  _fitting(column.flags, 16), _fitting(column.charset, 16),
-                  _fitting(column.length, 32), _fitting(column.decimals, 8))
+        described = [(_fitting(it.type, 8), *_lent(it.name), _fitting(it.flags, 16),
+                      _fitting(it.charset, 16), _fitting(it.length, 32), _fitting(it.decimals, 8))
+                     for it in columns]
+        self._use_up()
+        for column in described:
+            _call("writer_column", self._at, *column)
+
+    def _use_up(self) -> None:
+        """Uses up the columns that a call gave which failed between, by results of which a reply to
+        this kind of command has none: nothing is written."""
+        other = "writer_rows" if self._kind == ReplyKind.PREPARE else "writer_prepared"
+        none = () if self._kind == ReplyKind.PREPARE else (0, 0, 0)
+        _calls[other](self._at, *none, self._out.to_write(), ctypes.byref(_Spot()))
 
     def _put(self, name: str, *arguments: object) -> bytes:
         """What a call appends."""
-        _call_at(_Spot(), name, self._handle, *arguments, self._out._handle)
+        _call_at(_Spot(), name, self._at, *arguments, self._out.to_write())
         return self._out.take()
 
 
 # ---- Packets ------------------------------------------------------------------------------------
+
+
+class _Piece:
+    """Bytes of a stream of packets from a place on, and what the library's call over them told: how
+    many it used, and whether a payload stands whole."""
+
+    def __init__(self, data: bytes, start: int = 0) -> None:
+        self.data = data
+        self.start = start
+        self.used = _SIZE()
+        self.whole = _BOOL()
+
+    def left(self) -> int:
+        """How many bytes weren't used."""
+        return len(self.data) - self.start - self.used.value
+
+    def behind(self) -> _Piece:
+        """The bytes that weren't used."""
+        return _Piece(self.data, len(self.data) - self.left())
+
+    def joined(self, more: bytes) -> _Piece:
+        """The bytes that weren't used, and more. A payload that stands whole still does."""
+        piece = _Piece(self.data[len(self.data) - self.left():] + more)
+        piece.whole = self.whole
+        return piece
 
 
 class PacketReader(_Object):
@@ -1381,44 +1552,62 @@ class PacketReader(_Object):
 
     def __init__(self, first: int = 0, limit: int = DEFAULT_LIMIT) -> None:
         super().__init__()
-        self._piece = b""
-        self._read = 0
+        self._piece = _Piece(b"")
         self._limit = _fitting(limit, _SIZE_BITS)
         _call("packets_new", self._handle, _fitting(first, 8), self._limit)
 
     def feed(self, piece: Union[bytes, bytearray, memoryview]) -> None:
         """Takes the next bytes. They are read as payloads are asked for."""
-        self._piece = self._piece[self._read:] + _as_bytes(piece)
-        self._read = 0
+        data = _as_bytes(piece)
+        with self._alone():
+            self._piece = self._piece.joined(data)
 
     def payload(self) -> Optional[bytes]:
-        """The next payload; None where the bytes so far have no other whole one.
+        """The next payload; None where the bytes so far have no other whole one. Where MemoryError
+        or KeyboardInterrupt ends the call, the next one gives it.
 
         Raises MySQLSessionError: FAULT_TOO_LARGE, FAULT_OUT_OF_SYNC, each from then on.
         """
-        start = ctypes.cast(ctypes.c_char_p(self._piece), ctypes.c_void_p).value or 0
-        used, whole = _SIZE(), _BOOL()
-        _call("packets_feed", self._handle, start + self._read, len(self._piece) - self._read,
-              ctypes.byref(used), ctypes.byref(whole))
-        self._read += used.value
-        if not whole.value:
-            return None
-        data, length = ctypes.c_void_p(), _SIZE()
-        _call("packets_payload", self._handle, ctypes.byref(data), ctypes.byref(length))
-        return _bytes_at(data.value, length.value)
+        with self._alone():
+            if not self._piece.whole.value:
+                self._read_on()
+            # The library writes to it, and what it reads there stays: also where an interrupt
+            # comes between, what was used is used.
+            whole = self._piece.whole
+            if not whole.value:
+                return None
+            data, length = ctypes.c_void_p(), _SIZE()
+            _call("packets_payload", self._at, ctypes.byref(data), ctypes.byref(length))
+            payload = _bytes_at(data.value, length.value)
+            whole.value = False
+            return payload
 
     def __iter__(self) -> Iterator[bytes]:
         """The payloads that stand whole, each read when it is asked for."""
+        self._check()
         return iter(self.payload, None)
 
     def restart(self, number: int = 0) -> None:
         """The next packet has this number: 0 as the first of each command has, or as what the other
-        side sent in between makes it. Raises MySQLSessionError by UNFINISHED within a packet."""
+        side sent in between makes it. Raises MySQLSessionError by UNFINISHED within a packet, and
+        where a payload stands whole that `payload` couldn't give."""
         first = _fitting(number, 8)
-        _call("packets_restart", self._handle)
-        if first:
-            # The library restarts at 0 alone; between packets a new reader differs in nothing else.
-            _call("packets_new", self._handle, first, self._limit)
+        with self._alone():
+            if self._piece.whole.value:
+                raise MySQLSessionError(Code.UNFINISHED)
+            _call("packets_restart", self._at)
+            if first:
+                # The library restarts at 0 alone; between packets a new reader differs in nothing
+                # else.
+                _call("packets_new", self._at, first, self._limit)
+
+    def _read_on(self) -> None:
+        """Has the library read on to the end of the next packet, or of the piece."""
+        piece = self._piece = self._piece.behind()
+        # `piece` holds the bytes until the call returns.
+        start = ctypes.cast(ctypes.c_char_p(piece.data), ctypes.c_void_p).value or 0
+        _call("packets_feed", self._at, start + piece.start, piece.left(),
+              ctypes.byref(piece.used), ctypes.byref(piece.whole))
 
 
 def put_packet(payload: Union[bytes, bytearray, memoryview], number: int = 0,
@@ -1466,6 +1655,7 @@ class Login(NamedTuple):
 def read_greeting(payload: Union[bytes, bytearray, memoryview]) -> Greeting:
     """The greeting in the payload of a server's first packet. Raises MySQLSessionError:
     BAD_PACKET."""
+    # The texts that are shown lie in `data`, which holds them until they are copied.
     data, length = _lent(payload)
     shown = _Greeting()
     _call("greeting_read", data, length, ctypes.byref(shown))
@@ -1499,6 +1689,7 @@ def read_login(payload: Union[bytes, bytearray, memoryview], offered: int = 2**3
     """
     data = _as_bytes(payload)
     counted = int.from_bytes(data[:4], "little") & _fitting(offered, 32)
+    # The texts that are shown lie in `data`, which holds them until they are copied.
     data = counted.to_bytes(len(data[:4]), "little") + data[4:]
     shown = _Login()
     _call("login_read", *_lent(data), ctypes.byref(shown))
