@@ -1,22 +1,31 @@
 """Tests of mysql_session: `make check`.
 
 The rows of replies are those of crates/conformance/data/replies.txt, with what they have to give.
+Where the environment variable MYSQL_SESSION_LARGE is set, bytes of 2 and of 4 GiB come out too: that
+takes 13 GB of memory, and a minute.
 """
 
 from __future__ import annotations
 
+import contextlib
 import ctypes
 import datetime
 import gc
+import itertools
+import mmap
 import os
 import pathlib
 import pickle
 import re
+import signal
 import subprocess
 import tempfile
 import threading
+import time
 import unittest
-from typing import Any, Callable, Dict, Iterable, List, Optional, Sequence, Tuple
+import unittest.mock
+from typing import (Any, Callable, Dict, Generator, Iterable, Iterator, List, Optional, Sequence,
+                    Set, Tuple, Type)
 
 import mysql_session as ms
 from mysql_session import Code, Column, ColumnType, EndKind, ReplyKind, Road
@@ -48,7 +57,7 @@ def received(query: ms.Text, stream: Iterable[bytes], statement: int = 1,
 
 
 class Case(unittest.TestCase):
-    """A test that looks at errors by their codes."""
+    """A test that looks at errors by their codes, and at calls of other threads."""
 
     def refuses(self, code: Code, call: Callable[[], object], **where: int) -> None:
         """The call is refused by this code, at this place and no other."""
@@ -61,6 +70,21 @@ class Case(unittest.TestCase):
         self.assertIs(type(error.code), Code)
         self.assertEqual(error.text, ms.code_text(code))
         self.assertIn(error.text, str(error))
+
+    def in_thread(self, call: Callable[[], object]) -> Optional[BaseException]:
+        """What a call in a thread of its own raises."""
+        raised: List[BaseException] = []
+
+        def run() -> None:
+            try:
+                call()
+            except BaseException as error:  # handed on to the test
+                raised.append(error)
+
+        thread = threading.Thread(target=run)
+        thread.start()
+        thread.join()
+        return raised[0] if raised else None
 
 
 class Interface(Case):
@@ -879,28 +903,6 @@ class Objects(Case):
             gc.collect()
             self.assertIsNone(at.at)
 
-    def in_thread(self, call: Callable[[], object]) -> Optional[BaseException]:
-        """What a call in a thread of its own raises."""
-        raised: List[BaseException] = []
-
-        def run() -> None:
-            try:
-                call()
-            except BaseException as error:  # handed on to the test
-                raised.append(error)
-
-        thread = threading.Thread(target=run)
-        thread.start()
-        thread.join()
-        return raised[0] if raised else None
-
-    def test_other_thread(self) -> None:
-        receiver = ms.Receiver("SELECT ?")
-        for call in (lambda: receiver.feed(b""), receiver.take, receiver.end, receiver.close):
-            self.assertIsInstance(self.in_thread(call), RuntimeError)
-        receiver.feed(b"")
-        receiver.close()
-
     def test_collected_in_other_thread(self) -> None:
         kept = [ms.Receiver("SELECT ?")]
         at = kept[0]._at
@@ -929,6 +931,601 @@ class Objects(Case):
         for thread in threads:
             thread.join()
         self.assertEqual(raised, [None] * 4)
+
+
+# ---- Calls of other threads, and within other calls ---------------------------------------------
+
+TWO = "INSERT INTO t VALUES (?, ?)"
+ROWS = [(1, b"tea"), (None, b"x" * 300), (3, None), (4, b"")]
+SESSION_TRACK = PROTOCOL_41 | int(ms.Capability.SESSION_TRACK)
+
+
+def written_reply() -> List[bytes]:
+    """Rows in four packets, and an OK packet behind them."""
+    columns = [Column(b"id", ColumnType.LONGLONG), Column(b"name", ColumnType.VAR_STRING)]
+    with ms.ReplyWriter(ReplyKind.EXECUTE, PROTOCOL_41) as writer:
+        return [writer.rows(columns), *(writer.row(it) for it in ROWS),
+                writer.end_rows(more=True), writer.ok(5, info="done")]
+
+
+# What an object does step by step: it is handed out between, and what it gave comes at the end.
+Steps = Generator[ms._Object, None, object]
+
+
+def receiver_steps() -> Steps:
+    stream = ms.send(TWO, ROWS, Road.TEXT)
+    found: List[object] = []
+    with ms.Receiver(TWO) as receiver:
+        for piece in cut(stream, 50):
+            yield receiver
+            receiver.feed(piece)
+            yield receiver
+            found += receiver.take()
+        yield receiver
+        found.append(receiver.end())
+        yield receiver
+        return found + receiver.take()
+
+
+def sets_steps() -> Steps:
+    with ms.ParameterSets([(1, 2)]) as sets:
+        yield sets
+        sets.add((3, "x"))
+        yield sets
+        return len(sets), ms.send(TWO, sets, Road.EXECUTE)
+
+
+def recoder_steps() -> Steps:
+    found = b""
+    with ms.Recoder(TWO) as recoder:
+        for piece in cut(ms.send(TWO, ROWS, Road.TEXT), 50):
+            yield recoder
+            found += recoder.feed(piece)
+        yield recoder
+        return found + recoder.end() + recoder.rest()
+
+
+def reply_steps() -> Steps:
+    found: List[object] = []
+    with ms.ReplyReader(ReplyKind.EXECUTE, PROTOCOL_41) as reader:
+        for piece in written_reply():
+            yield reader
+            reader.feed(piece)
+            yield reader
+            found += reader.take()
+        yield reader
+        found.append(reader.end())
+        yield reader
+        return found + reader.take()
+
+
+def writer_steps() -> Steps:
+    with ms.ReplyWriter(ReplyKind.QUERY, PROTOCOL_41) as writer:
+        yield writer
+        found = writer.rows([Column(b"a", ColumnType.LONG)])
+        yield writer
+        found += writer.row((1,))
+        yield writer
+        found += writer.end_rows() + writer.rest()
+        writer.end()
+        return found
+
+
+def packet_steps() -> Steps:
+    found: List[bytes] = []
+    with ms.PacketReader() as reader:
+        for size in (0, 1, 70, 300):
+            packet, _ = ms.put_packet(b"x" * size)
+            for piece in cut(packet, 64):
+                yield reader
+                reader.feed(piece)
+                yield reader
+                found += reader
+            reader.restart()
+        return found
+
+
+STEPS: Dict[Type[ms._Object], Callable[[], Steps]] = {
+    ms.Receiver: receiver_steps, ms.ParameterSets: sets_steps, ms.Recoder: recoder_steps,
+    ms.ReplyReader: reply_steps, ms.ReplyWriter: writer_steps, ms.PacketReader: packet_steps,
+}
+
+# Each call of each class, with arguments by which it changes something where it may.
+CALLS: Dict[Type[ms._Object], Dict[str, Callable[[Any], object]]] = {
+    ms.Receiver: {
+        "__init__": lambda it: it.__init__(TWO), "__iter__": iter, "end": ms.Receiver.end,
+        "feed": lambda it: it.feed(b"\x01\0\0\0\x0e"), "take": ms.Receiver.take},
+    ms.ParameterSets: {
+        "__init__": lambda it: it.__init__([(5, 6)]), "__len__": len,
+        "add": lambda it: it.add((7, 8)), "clear": ms.ParameterSets.clear},
+    ms.Recoder: {
+        "__init__": lambda it: it.__init__(TWO), "end": ms.Recoder.end, "rest": ms.Recoder.rest,
+        "feed": lambda it: it.feed(b"\x01\0\0\0\x0e")},
+    ms.ReplyReader: {
+        "__init__": lambda it: it.__init__(ReplyKind.QUERY, 0), "end": ms.ReplyReader.end,
+        "feed": lambda it: it.feed(b"\x01\0\0\0\x0e"), "take": ms.ReplyReader.take},
+    ms.ReplyWriter: {
+        "__init__": lambda it: it.__init__(ReplyKind.QUERY, 0), "ok": ms.ReplyWriter.ok,
+        "error": lambda it: it.error(1, "", ""), "end": ms.ReplyWriter.end,
+        "rows": lambda it: it.rows([Column(b"b", ColumnType.LONG)]),
+        "row": lambda it: it.row((1,)), "end_rows": ms.ReplyWriter.end_rows,
+        "prepared": lambda it: it.prepared(1, [], []), "rest": ms.ReplyWriter.rest},
+    ms.PacketReader: {
+        "__init__": lambda it: it.__init__(), "__iter__": lambda it: next(iter(it)),
+        "feed": lambda it: it.feed(b"\x01\0\0\0\x0e"), "payload": ms.PacketReader.payload,
+        "restart": lambda it: it.restart(7)},
+}
+for given in CALLS.values():
+    given["close"] = lambda it: it.close()
+    given["__enter__"] = lambda it: it.__enter__()
+    given["__exit__"] = lambda it: it.__exit__(None, None, None)
+
+
+def through(steps: Steps, between: Callable[[Any], object] = lambda it: None) -> object:
+    """Goes through an object's steps, with a call between them; gives what they gave."""
+    while True:
+        try:
+            between(next(steps))
+        except StopIteration as ended:
+            return ended.value
+
+
+@contextlib.contextmanager
+def wrapped(wrap: Callable[[str, Callable[..., int], Tuple[object, ...]], int]) -> Iterator[None]:
+    """Within it, each call of the library that answers a code is made by `wrap`, from its name, the
+    call and its arguments."""
+    calls = {name: lambda *arguments, name=name, call=call: wrap(name, call, arguments)
+             for name, call in ms._calls.items()}
+    with unittest.mock.patch.dict(ms._calls, calls):
+        yield
+
+
+class OneCall(Case):
+    """An object does one call at a time, in the thread that made it."""
+
+    def refuses_all(self, made: Any) -> None:
+        """Each call of the object is refused, here."""
+        for name, call in CALLS[type(made)].items():
+            with self.assertRaises(RuntimeError, msg=name):
+                call(made)
+
+    def test_each_call_is_listed(self) -> None:
+        plain = {"__init__", "__enter__", "__exit__"}
+        for kind, calls in CALLS.items():
+            found: Set[str] = {it for it in dir(kind) if not it.startswith("_")} | plain
+            found |= {it for it in ("__iter__", "__len__") if hasattr(kind, it)}
+            self.assertEqual(set(calls), found, kind)
+        kinds = {it for it in vars(ms).values()
+                 if isinstance(it, type) and issubclass(it, ms._Object)}
+        self.assertEqual(set(CALLS), kinds - {ms._Object, ms._Output})
+        self.assertEqual(set(STEPS), set(CALLS))
+
+    def test_other_thread(self) -> None:
+        """Each call of another thread raises RuntimeError, and changes nothing."""
+        for kind, steps in STEPS.items():
+            wanted = through(steps())
+
+            def refused(made: Any) -> None:
+                self.assertIs(type(made), kind)
+                self.assertIsNone(self.in_thread(lambda: self.refuses_all(made)))
+
+            self.assertEqual(through(steps(), refused), wanted, kind)
+
+    def test_functions_in_other_thread(self) -> None:
+        """Sets of another thread aren't sent."""
+        with ms.ParameterSets([(1, 2)]) as sets:
+            raised = self.in_thread(lambda: ms.send(TWO, sets, Road.TEXT))
+            self.assertIsInstance(raised, RuntimeError)
+
+    def test_made_once(self) -> None:
+        for kind, steps in STEPS.items():
+            def refused(made: Any) -> None:
+                with self.assertRaises(RuntimeError):
+                    CALLS[kind]["__init__"](made)
+
+            self.assertEqual(through(steps(), refused), through(steps()), kind)
+
+    def test_within_another_call(self) -> None:
+        """Between the steps of a call, as a signal's handler may, each other one is refused."""
+        for kind, steps in STEPS.items():
+            wanted, seen = through(steps()), set()
+
+            def wrap(name: str, call: Callable[..., int], arguments: Tuple[object, ...]) -> int:
+                for made in list(held):
+                    if made._lock.locked():
+                        seen.add(name)
+                        self.refuses_all(made)
+                code = call(*arguments)
+                for made in list(held):
+                    if made._lock.locked():
+                        self.refuses_all(made)
+                return code
+
+            held: List[Any] = []
+            with wrapped(wrap):
+                found = through(steps(), lambda made: held.__setitem__(slice(None), [made]))
+            self.assertEqual(found, wanted, kind)
+            self.assertEqual(bool(seen), kind is not ms.ParameterSets, kind)
+
+    def test_feed_while_bytes_are_read(self) -> None:
+        """The bytes that the library reads stay, whoever feeds the reader meanwhile."""
+        packet, _ = ms.put_packet(bytes(range(256)) * 100)
+        refused: List[Optional[BaseException]] = []
+
+        def wrap(name: str, call: Callable[..., int], arguments: Tuple[object, ...]) -> int:
+            if name == "packets_feed":
+                start, length = arguments[1:3]
+                assert isinstance(start, int) and isinstance(length, int)
+                wanted = ctypes.string_at(start, length)
+                refused.append(self.in_thread(lambda: reader.feed(b"x" * 100000)))
+                with self.assertRaises(RuntimeError):
+                    reader.feed(b"x" * 100000)  # as a signal's handler would
+                gc.collect()
+                self.assertTrue(ctypes.string_at(start, length) == wanted)
+            return call(*arguments)
+
+        with ms.PacketReader() as reader, wrapped(wrap):
+            for piece in cut(packet, 10000):
+                reader.feed(piece)
+                payload = reader.payload()
+        self.assertTrue(payload == packet[4:])
+        self.assertEqual([type(it) for it in refused], [RuntimeError] * 3)
+
+    def test_feed_in_other_thread(self) -> None:
+        """Another thread feeds while large payloads are read."""
+        packets, _ = ms.put_packet(b"x" * LARGE, 0, LARGE_LIMIT)
+        raised: List[Optional[BaseException]] = []
+        done = threading.Event()
+
+        def feed() -> None:
+            while not done.is_set():
+                try:
+                    reader.feed(b"y")
+                    raised.append(None)
+                except BaseException as error:  # handed on to the test
+                    raised.append(error)
+
+        with ms.PacketReader(0, LARGE_LIMIT) as reader:
+            thread = threading.Thread(target=feed)
+            thread.start()
+            found = []
+            for _ in range(4):
+                reader.feed(packets)
+                found.append(reader.payload())
+                reader.restart()
+            done.set()
+            thread.join()
+        self.assertTrue(found == [b"x" * LARGE] * 4)
+        self.assertEqual({type(it) for it in raised}, {RuntimeError})
+
+    def test_signals(self) -> None:
+        """A handler of a signal reads on too: each payload comes once, here or there."""
+        stream = b"".join(ms.put_packet(b"%d" % it, it % 256)[0] for it in range(60000))
+        found: List[bytes] = []
+        refused = 0
+
+        def handle(*_: object) -> None:
+            nonlocal refused
+            try:
+                reader.feed(b"")
+                found.append(reader.payload() or b"")
+            except RuntimeError:
+                refused += 1
+
+        before = signal.signal(signal.SIGALRM, handle)
+        try:
+            with ms.PacketReader() as reader:
+                reader.feed(stream)
+                signal.setitimer(signal.ITIMER_REAL, 0.0005, 0.0005)
+                for payload in reader:
+                    found.append(payload)
+                signal.setitimer(signal.ITIMER_REAL, 0)
+        finally:
+            signal.setitimer(signal.ITIMER_REAL, 0)
+            signal.signal(signal.SIGALRM, before)
+        self.assertEqual(sorted(map(int, filter(None, found))), list(range(60000)))
+        self.assertGreater(refused, 0)
+
+
+# ---- Nothing is lost ----------------------------------------------------------------------------
+
+
+class Failing:
+    """Has a call of the library fail: that of a number, by one of these ways."""
+
+    WAYS = ("interrupted", "no memory", "no memory for bytes")
+
+    def __init__(self, way: str, number: int) -> None:
+        self.way, self.left, self.failed = way, number, ""
+        self.made: List[str] = []
+
+    def wrap(self, name: str, call: Callable[..., int], arguments: Tuple[object, ...]) -> int:
+        """An interrupt comes when the library's call is done. Results are refused by MEMORY."""
+        if self.way == "no memory" and name == "reply_result" and self.falls():
+            self.failed = name
+            return int(Code.MEMORY)
+        code = call(*arguments)
+        self.made.append(name)
+        if self.way == "interrupted" and self.falls():
+            self.failed = name
+            raise KeyboardInterrupt
+        return code
+
+    def bytes_at(self, address: Optional[int], length: int) -> bytes:
+        """Python has no memory for a copy."""
+        if self.way == "no memory for bytes" and self.falls():
+            self.failed = "bytes"
+            raise MemoryError
+        return bytes_at(address, length)
+
+    def falls(self) -> bool:
+        """Whether it is this one."""
+        self.left -= 1
+        return self.left == -1
+
+    def run(self, call: Callable[[], Any]) -> Any:
+        """What a call gives; None where it fails."""
+        with wrapped(self.wrap), unittest.mock.patch.object(ms, "_bytes_at", self.bytes_at):
+            try:
+                return call()
+            except (KeyboardInterrupt, MemoryError):
+                return None
+            except ms.MySQLSessionError as error:
+                assert error.code == Code.MEMORY, error
+                return None
+
+
+bytes_at = ms._bytes_at
+
+
+class Kept(Case):
+    """What can't be given is given by the next call, once."""
+
+    def each(self, test: Callable[[Failing], None]) -> None:
+        """Runs a test with each of its calls failing in each way."""
+        for way in Failing.WAYS:
+            for number in itertools.count():
+                failing = Failing(way, number)
+                with self.subTest(way=way, number=number):
+                    test(failing)
+                if not failing.failed:
+                    break
+
+    def test_sets(self) -> None:
+        stream = ms.send(TWO, ROWS, Road.TEXT)
+        front = len(ms.send(TWO, ROWS[:2], Road.TEXT))
+
+        def test(failing: Failing) -> None:
+            for ends in (False, True):
+                with ms.Receiver(TWO) as receiver:
+                    receiver.feed(stream[:front])
+                    found = failing.run(receiver.take) or []
+                    receiver.feed(stream[front:])
+                    if ends:
+                        failing.run(receiver.end)
+                        receiver.end()
+                    for _ in range(3):
+                        found += failing.run(receiver.take) or []
+                    self.assertEqual(found, ROWS)
+
+        self.each(test)
+
+    def test_results(self) -> None:
+        packets = written_reply()
+        wanted, end = ms.read_reply(ReplyKind.EXECUTE, PROTOCOL_41, b"".join(packets))
+
+        def test(failing: Failing) -> None:
+            for ends in (False, True):
+                with ms.ReplyReader(ReplyKind.EXECUTE, PROTOCOL_41) as reader:
+                    found = []
+                    for packet in packets:
+                        reader.feed(packet)
+                        found += failing.run(reader.take) or []
+                    if ends:
+                        self.assertIn(failing.run(reader.end), (None, end))
+                        self.assertEqual(reader.end(), end)
+                    for _ in range(3):
+                        found += failing.run(reader.take) or []
+                    self.assertEqual(Replies().joined(found), wanted)
+
+        self.each(test)
+
+    def test_untaken_results(self) -> None:
+        """Results that no call took before the end, and those of a take that failed before it."""
+        packets = written_reply()
+        wanted, end = ms.read_reply(ReplyKind.EXECUTE, PROTOCOL_41, b"".join(packets))
+
+        def test(failing: Failing) -> None:
+            for front in (0, 3):
+                with ms.ReplyReader(ReplyKind.EXECUTE, PROTOCOL_41) as reader:
+                    reader.feed(b"".join(packets[:front]))
+                    found = failing.run(reader.take) or []
+                    reader.feed(b"".join(packets[front:]))
+                    failing.run(reader.end)
+                    self.assertEqual(reader.end(), end)
+                    for _ in range(2):
+                        found += failing.run(reader.take) or []
+                    self.assertEqual(Replies().joined(found), wanted)
+
+        self.each(test)
+
+    def test_payloads(self) -> None:
+        wanted = [b"", b"a", b"x" * 300, b"", b"end"]
+        stream, number = b"", 0
+        for payload in wanted:
+            packet, number = ms.put_packet(payload, number)
+            stream += packet
+
+        def test(failing: Failing) -> None:
+            with ms.PacketReader() as reader:
+                found = []
+                for piece in cut(stream, 100):
+                    reader.feed(piece)
+                    found += failing.run(lambda: [reader.payload()]) or []
+                    if reader._piece.whole.value:
+                        self.refuses(Code.UNFINISHED, reader.restart)
+                        reader.feed(b"")
+                    found += list(reader)
+                self.assertEqual([it for it in found if it is not None], wanted)
+                self.assertIsNone(reader.payload())
+
+        self.each(test)
+
+    def test_recoded(self) -> None:
+        pieces = cut(ms.send(TWO, ROWS, Road.TEXT), 60)
+        wanted = ms.send(TWO, ROWS, Road.EXECUTE)
+
+        def test(failing: Failing) -> None:
+            for asks in (False, True):
+                with ms.Recoder(TWO) as recoder:
+                    found = b""
+                    for piece in pieces:
+                        failing.made.clear()
+                        given = failing.run(lambda: recoder.feed(piece))
+                        if given is None and "recoder_feed" not in failing.made:
+                            given = recoder.feed(piece)
+                        found += given or b""
+                        if asks:
+                            found += recoder.rest()
+                    failing.made.clear()
+                    given = failing.run(recoder.end)
+                    if given is None and "recoder_end" not in failing.made:
+                        given = recoder.end()
+                    self.assertEqual(found + (given or b"") + recoder.rest(), wanted)
+                    self.assertEqual(recoder.rest(), b"")
+
+        self.each(test)
+
+    def test_written(self) -> None:
+        columns = [Column(b"id", ColumnType.LONGLONG), Column(b"name", ColumnType.VAR_STRING)]
+        steps: List[Tuple[str, Callable[[ms.ReplyWriter], bytes]]] = [
+            ("writer_rows", lambda it: it.rows(columns)),
+            *(("writer_row", lambda it, row=row: it.row(row)) for row in ROWS),
+            ("writer_end_rows", lambda it: it.end_rows(more=True)),
+            ("writer_ok", lambda it: it.ok(5, info="done"))]
+        wanted = b"".join(written_reply())
+
+        def test(failing: Failing) -> None:
+            with ms.ReplyWriter(ReplyKind.EXECUTE, PROTOCOL_41) as writer:
+                found = b""
+                for name, step in steps:
+                    failing.made.clear()
+                    given = failing.run(lambda: step(writer))
+                    if given is None and name not in failing.made:
+                        given = step(writer)
+                    found += given or b""
+                found += writer.rest()
+                writer.end()
+                self.assertEqual((found, writer.rest()), (wanted, b""))
+
+        self.each(test)
+
+    def test_columns(self) -> None:
+        """Columns of a call that was refused aren't those of the next one."""
+        good, bad = Column(b"a", ColumnType.LONG), Column(b"b", 100)
+        for kind in (ReplyKind.QUERY, ReplyKind.EXECUTE):
+            with ms.ReplyWriter(kind, PROTOCOL_41) as writer, \
+                    ms.ReplyWriter(kind, PROTOCOL_41) as other:
+                self.refuses(Code.NO_SUCH_KIND, lambda: writer.rows([good, bad]))
+                self.assertEqual(writer.rows([good]), other.rows([good]))
+        with ms.ReplyWriter(ReplyKind.PREPARE, PROTOCOL_41) as writer:
+            self.refuses(Code.NO_SUCH_KIND, lambda: writer.prepared(1, [good], [good, bad]))
+            packets = writer.prepared(1, [good], [])
+        self.assertEqual(read_back(ReplyKind.PREPARE, [packets]),
+                         [ms.Prepared(1, 0, (good,), ())])
+
+    def test_no_class_but_bytes(self) -> None:
+        """The library reads as many bytes as there are, whatever a class of bytes says."""
+        class Long(bytes):
+            def __len__(self) -> int:
+                return 1 << 40
+
+        class Text(str):
+            def encode(self, *_: object) -> bytes:  # type: ignore[override]
+                return Long(b"SELECT ?")
+
+        stream = ms.send("SELECT ?", [(1,)], Road.TEXT)
+        self.assertEqual(ms.send(Text("SELECT ?"), [(1,)], Road.TEXT), stream)
+        self.assertEqual(received(Long(b"SELECT ?"), [Long(stream)])[0], [(1,)])
+        self.assertEqual(ms.bind_text("SELECT ?", (Long(b"a"),)), b"SELECT 'a'")
+
+
+class States(Case):
+    """Changes of the session's state."""
+
+    def reply(self, changes: bytes) -> bytes:
+        """An OK packet that tells these changes."""
+        length = b"\xfd" + len(changes).to_bytes(3, "little")
+        return ms.put_packet(b"\0\0\0\x02\x40\0\0\0" + length + changes, 1)[0]
+
+    def states(self, changes: bytes) -> Tuple[ms.State, ...]:
+        (result,) = read_back(ReplyKind.QUERY, [self.reply(changes)], SESSION_TRACK)
+        assert isinstance(result, ms.Ok)
+        return result.states
+
+    def test_in_their_order(self) -> None:
+        many = [ms.State(it % 4, b"\x02%02d" % (it % 100)) for it in range(2000)]
+        changes = b"".join(bytes([it.type, len(it.data)]) + it.data for it in many)
+        self.assertEqual(self.states(changes), tuple(many))
+        self.assertEqual(self.states(changes + b"\x00\xfc\x2c\x01" + b"x" * 300),
+                         (*many, ms.State(0, b"x" * 300)))
+
+    def test_unreadable(self) -> None:
+        """None is shown where one of them can't be read."""
+        self.assertEqual(self.states(b"\x01\0\x01\x05a"), ())
+
+    def test_time(self) -> None:
+        """Twenty times as many take less than a hundred times as long."""
+        def seconds(count: int) -> float:
+            reply = self.reply(b"\x01\0" * count)
+            with ms.ReplyReader(ReplyKind.QUERY, SESSION_TRACK) as reader:
+                reader.feed(reply)
+                began = time.perf_counter()
+                (result,) = reader.take()
+                ended = time.perf_counter()
+            assert isinstance(result, ms.Ok)
+            self.assertEqual(len(result.states), count)
+            return ended - began
+
+        few = min(seconds(10000) for _ in range(3))
+        self.assertLess(seconds(200000), 100 * few)
+
+
+# ---- Bytes of 2 and 4 GiB -----------------------------------------------------------------------
+
+
+@unittest.skipUnless(os.environ.get("MYSQL_SESSION_LARGE"), "MYSQL_SESSION_LARGE isn't set")
+class Large(Case):
+    """More bytes than a C int counts come out whole."""
+
+    def test_copies(self) -> None:
+        """Copies of so many bytes of memory that reads as zeros."""
+        for length in ((1 << 31) - 1, 1 << 31, (1 << 32) + 5):
+            with mmap.mmap(-1, length) as zeros:
+                # The end stands out.
+                zeros[-3:] = b"end"
+                at = ctypes.addressof(ctypes.c_char.from_buffer(zeros))
+                copy = ms._bytes_at(at, length)
+                self.assertEqual((len(copy), copy[:2], copy[-4:]), (length, b"\0\0", b"\0end"))
+                del copy
+                gc.collect()
+
+    def test_packets(self) -> None:
+        """A payload is framed and cut again."""
+        for length in ((1 << 31) + 5, (1 << 32) + 5):
+            packets, number = ms.put_packet(bytes(length), 0, 1 << 33)
+            chunks = length // 0xFFFFFF + 1
+            self.assertEqual((len(packets), number), (length + 4 * chunks, chunks % 256))
+            if length > 1 << 32:
+                continue  # three times as many bytes would stand in memory
+            with ms.PacketReader(0, 1 << 33) as reader:
+                reader.feed(packets)
+                del packets
+                payload = reader.payload()
+            assert payload is not None
+            self.assertEqual((len(payload), payload.count(0)), (length, length))
+            del payload
+            gc.collect()
 
 
 if __name__ == "__main__":
