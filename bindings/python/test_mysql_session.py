@@ -1051,7 +1051,7 @@ CALLS: Dict[Type[ms._Object], Dict[str, Callable[[Any], object]]] = {
         "row": lambda it: it.row((1,)), "end_rows": ms.ReplyWriter.end_rows,
         "prepared": lambda it: it.prepared(1, [], []), "rest": ms.ReplyWriter.rest},
     ms.PacketReader: {
-        "__init__": lambda it: it.__init__(), "__iter__": lambda it: next(iter(it)),
+        "__init__": lambda it: it.__init__(), "__iter__": iter,
         "feed": lambda it: it.feed(b"\x01\0\0\0\x0e"), "payload": ms.PacketReader.payload,
         "restart": lambda it: it.restart(7)},
 }

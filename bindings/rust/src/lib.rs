@@ -16,6 +16,10 @@
 //! or a row's cells, borrows from that value, and nothing is copied. A value stays in the thread
 //! that made it; values in different threads share nothing.
 //!
+//! Texts of values ([`Road::Text`], [`bind_text`], [`value_text`]) are safe for a server that takes
+//! backslash escapes (NO_BACKSLASH_ESCAPES isn't in its SQL mode) over a connection in UTF-8; for any
+//! other a value may end its literal: send by execution there.
+//!
 //! A call that isn't done answers an [`Error`], and a stream that can't be read on a [`Fault`], by
 //! a [`Code`] that the library has a text for. A call panics only where the linked library isn't
 //! the one that this crate declares.
@@ -49,7 +53,8 @@ pub use recoder::{recode, Recoder};
 pub use replication::{BinlogDump, BinlogDumpGtid, RegisterReplica, BINLOG_DUMP_NON_BLOCK};
 pub use reply::{Reply, ReplyKind, ReplyReader};
 pub use results::{
-    Column, ColumnType, Done, ErrorPacket, OkPacket, Prepared, ReplyResult, Row, Rows, SessionState,
+    Column, ColumnType, Done, ErrorPacket, OkPacket, Prepared, ReplyResult, Row, Rows,
+    SessionState, SessionStates,
 };
 pub use sending::{bind_text, send, value_text, Road};
 pub use sets::ParameterSets;

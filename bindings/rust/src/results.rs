@@ -8,6 +8,7 @@ use crate::codes::{answer, certain, in_range, Code, Error};
 use crate::handle::Handle;
 use crate::raw;
 use crate::values::Value;
+use std::iter::FusedIterator;
 
 /// SERVER_MORE_RESULTS_EXISTS: the bit of a status by which another result follows.
 const MORE_RESULTS: u16 = 8;
@@ -174,43 +175,85 @@ impl<'a> Done<'a> {
         self.packet.status & MORE_RESULTS != 0
     }
 
-    /// The changes of the session's state that the packet tells of.
+    /// The changes of the session's state that the packet tells of, in their order. Each is read as
+    /// it is asked for, so that all of them take one pass over the packet.
+    ///
+    /// ```
+    /// use mysql_session::{capability, ReplyKind, ReplyReader, ReplyResult, SessionState};
+    ///
+    /// # fn main() -> Result<(), mysql_session::Error> {
+    /// let capabilities = capability::CLIENT_PROTOCOL_41 | capability::CLIENT_SESSION_TRACK;
+    /// let mut reader = ReplyReader::new(ReplyKind::Query, capabilities, 1, 1 << 24)?;
+    /// reader.feed(b"\x10\0\0\x01\0\0\0\x02\x40\0\0\x02hi\x05\x01\x03\x02db")?;
+    /// let results = reader.take()?;
+    /// let [ReplyResult::Ok(done)] = &results[..] else {
+    ///     panic!("an OK packet is the only result");
+    /// };
+    /// let states = done.states().collect::<Result<Vec<_>, _>>()?;
+    /// assert_eq!(states, [SessionState { kind: 1, data: b"\x02db" }]);
+    /// # Ok(())
+    /// # }
+    /// ```
+    ///
+    /// They can't outlive a call that may free the packet:
+    ///
+    /// ```compile_fail,E0499
+    /// # use mysql_session::{ReplyKind, ReplyReader, ReplyResult};
+    /// # let mut reader = ReplyReader::new(ReplyKind::Query, 512, 1, 1 << 24).unwrap();
+    /// let ReplyResult::Ok(done) = reader.take().unwrap()[0] else { return };
+    /// let mut states = done.states();
+    /// reader.take();
+    /// states.next();
+    /// ```
     ///
     /// # Errors
-    /// [`Code::BAD_PACKET`] where they can't be read, [`Code::MEMORY`].
-    pub fn states(&self) -> Result<Vec<SessionState<'a>>, Error> {
-        let mut states = Vec::new();
-        while let Some(state) = state_of(self.of, states.len())? {
-            states.push(state);
+    /// [`Code::BAD_PACKET`] in the place of the first that can't be read, and none behind it.
+    pub fn states(&self) -> SessionStates<'a> {
+        SessionStates {
+            of: Some(self.of),
+            position: 0,
         }
-        Ok(states)
     }
 }
 
-/// The change of a number from 0; none behind the last one.
-fn state_of(of: Number<'_>, state: usize) -> Result<Option<SessionState<'_>>, Error> {
-    let (mut kind, mut data) = (0, raw::Text::default());
-    // SAFETY: "Handles": by `Handle::get`; "Results go out": different locals and fields.
-    let code = answer(unsafe {
-        raw::mysql_session_reply_state(
-            of.handle.get(),
-            of.number,
-            state,
-            &mut kind,
-            &mut data.at,
-            &mut data.len,
-        )
-    });
-    match code {
-        Ok(()) => {
-            // SAFETY: the bytes "are good as a result's text is".
-            let data = unsafe { data.bytes() };
-            Ok(Some(SessionState { kind, data }))
+/// The changes of the session's state that an OK packet tells of, as [`Done::states`] gives them.
+#[derive(Clone, Debug)]
+pub struct SessionStates<'a> {
+    /// The result; none behind the last change and behind an error.
+    of: Option<Number<'a>>,
+    /// Where the next change begins, as the library tells.
+    position: usize,
+}
+
+impl<'a> Iterator for SessionStates<'a> {
+    type Item = Result<SessionState<'a>, Error>;
+
+    fn next(&mut self) -> Option<Self::Item> {
+        let Number { handle, number } = self.of?;
+        let (mut kind, mut data) = (0, raw::Text::default());
+        // SAFETY: "Handles": by `Handle::get`; "Results go out": a field of this object, and
+        // different locals and fields of these.
+        let code = answer(unsafe {
+            raw::mysql_session_reply_state(
+                handle.get(),
+                number,
+                &mut self.position,
+                &mut kind,
+                &mut data.at,
+                &mut data.len,
+            )
+        });
+        if let Err(code) = code {
+            self.of = None;
+            return (code != Code::OUT_OF_RANGE).then(|| Err(code.into()));
         }
-        Err(Code::OUT_OF_RANGE) => Ok(None),
-        Err(code) => Err(code.into()),
+        // SAFETY: the bytes "are good as a result's text is".
+        let data = unsafe { data.bytes() };
+        Some(Ok(SessionState { kind, data }))
     }
 }
+
+impl FusedIterator for SessionStates<'_> {}
 
 /// A result set's rows, as far as they came and weren't taken before.
 #[derive(Clone, Copy, Debug)]

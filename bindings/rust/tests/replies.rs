@@ -1,8 +1,9 @@
 //! Replies read in pieces, and replies written.
 
 use mysql_session::{
-    capability, At, Bytes, Code, ColumnType, Date, End, Error, ErrorPacket, OkPacket,
-    ParameterSets, ReplyKind, ReplyReader, ReplyResult, ReplyWriter, Time, Value,
+    capability, put_packet, At, Bytes, Code, ColumnType, Date, Done, End, Error, ErrorPacket,
+    OkPacket, ParameterSets, ReplyKind, ReplyReader, ReplyResult, ReplyWriter, SessionState, Time,
+    Value,
 };
 
 const CAPABILITIES: u32 = capability::CLIENT_PROTOCOL_41;
@@ -168,7 +169,7 @@ fn a_reply_that_goes_on_has_more_results() -> Result<(), Error> {
     };
     assert_eq!(done.packet, wanted);
     assert!(done.has_more() && !results[0].is_last());
-    assert_eq!(done.states()?, []);
+    assert!(done.states().next().is_none());
     reader.feed(b"\x07\0\0\x02\xfba file")?;
     let results = reader.take()?;
     assert!(
@@ -189,10 +190,77 @@ fn changes_of_the_session_are_shown() -> Result<(), Error> {
         panic!("{results:?}");
     };
     assert_eq!(done.packet.info, b"hi");
-    let states = done.states()?;
-    assert_eq!(states.len(), 1);
-    assert_eq!(states[0].kind, 1);
-    assert!(states[0].data.ends_with(b"db"), "{states:?}");
+    let states = done.states().collect::<Result<Vec<_>, _>>()?;
+    assert_eq!(
+        states,
+        [SessionState {
+            kind: 1,
+            data: b"\x02db"
+        }]
+    );
+    Ok(())
+}
+
+/// An OK packet that tells these changes of the session's state.
+fn ok_with_changes(changes: &[u8]) -> Result<Bytes, Error> {
+    let mut payload = b"\0\0\0\x02\x40\0\0\0\xfd".to_vec();
+    payload.extend(&changes.len().to_le_bytes()[..3]);
+    payload.extend(changes);
+    let mut out = Bytes::new()?;
+    put_packet(&payload, &mut 1, LIMIT, &mut out)?;
+    Ok(out)
+}
+
+/// The one result of a reader, an OK packet.
+fn taken_ok(reader: &mut ReplyReader) -> Result<Done<'_>, Error> {
+    let results = reader.take()?;
+    match results[..] {
+        [ReplyResult::Ok(done)] => Ok(done),
+        _ => panic!("{results:?}"),
+    }
+}
+
+#[test]
+fn changes_are_shown_in_their_order_by_one_pass() -> Result<(), Error> {
+    let capabilities = CAPABILITIES | capability::CLIENT_SESSION_TRACK;
+    let mut changes = Vec::new();
+    for number in 0..50_000_u32 {
+        changes.extend([(number % 4) as u8, 3, 2]);
+        changes.extend([(number % 251) as u8, (number % 241) as u8]);
+    }
+    let mut reader = ReplyReader::new(ReplyKind::Query, capabilities, 1, LIMIT)?;
+    reader.feed(&ok_with_changes(&changes)?)?;
+    let done = taken_ok(&mut reader)?;
+    let mut count = 0;
+    for (number, state) in (0_u32..).zip(done.states()) {
+        let data = [2, (number % 251) as u8, (number % 241) as u8];
+        let kind = (number % 4) as u8;
+        assert_eq!(state?, SessionState { kind, data: &data });
+        count += 1;
+    }
+    assert_eq!(count, 50_000);
+    // A copy of the iterator goes on by itself; both read the same packet.
+    let mut states = done.states();
+    states.next();
+    let mut again = states.clone();
+    assert_eq!(states.next().transpose()?, again.next().transpose()?);
+    assert_eq!(states.count(), 49_998);
+    Ok(())
+}
+
+#[test]
+fn a_change_that_cant_be_read_is_an_error_and_the_last() -> Result<(), Error> {
+    let capabilities = CAPABILITIES | capability::CLIENT_SESSION_TRACK;
+    for bad in [&b"\x01\x05a"[..], b"\x01", b"\x06\0"] {
+        let changes = [&b"\x01\x03\x02db"[..], bad].concat();
+        let mut reader = ReplyReader::new(ReplyKind::Query, capabilities, 1, LIMIT)?;
+        reader.feed(&ok_with_changes(&changes)?)?;
+        let mut states = taken_ok(&mut reader)?.states();
+        assert_eq!(states.next().transpose()?.map(|state| state.kind), Some(1));
+        let error = states.next().expect("one more change is told").unwrap_err();
+        assert_eq!(error.code(), Code::BAD_PACKET);
+        assert!(states.next().is_none() && states.next().is_none());
+    }
     Ok(())
 }
 
