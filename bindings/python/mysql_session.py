@@ -27,7 +27,7 @@ a copy.
 
 Nothing is lost where a call can't give what it has: where MySQLSessionError by `Code.MEMORY`,
 MemoryError or KeyboardInterrupt ends it on the way, `take` and `payload` give the same at the next
-call, and what `Recoder` and `ReplyWriter` wrote is given by the next call that writes, or by `rest`.
+call, and what `Recoder` and `ReplyWriter` wrote comes with what they write next, or by `rest`.
 
 What an object holds is freed by `close`, at the end of `with`, or when it is collected. Where that
 happens in another thread, its own thread frees it when it makes its next object, and nobody where
@@ -1324,6 +1324,10 @@ class ReplyReader(_Object):
                 _call("reply_end", self._at, ctypes.byref(self._end))
             return _end_of(self._end)
 
+    def close(self) -> None:
+        super().close()
+        self._shown = []
+
     def _show(self) -> None:
         """Shows the listed results that weren't seen; they wait to be given."""
         count = _count("reply_results", self._at)
@@ -1560,6 +1564,8 @@ class PacketReader(_Object):
         """Takes the next bytes. They are read as payloads are asked for."""
         data = _as_bytes(piece)
         with self._alone():
+            if not self._at.at:
+                raise MySQLSessionError(Code.EMPTY_HANDLE)
             self._piece = self._piece.joined(data)
 
     def payload(self) -> Optional[bytes]:
@@ -1569,10 +1575,10 @@ class PacketReader(_Object):
         Raises MySQLSessionError: FAULT_TOO_LARGE, FAULT_OUT_OF_SYNC, each from then on.
         """
         with self._alone():
+            # What the library has done it notes in the piece itself: so an interrupt behind its
+            # call has no bytes read twice, and no payload lost.
             if not self._piece.whole.value:
                 self._read_on()
-            # The library writes to it, and what it reads there stays: also where an interrupt
-            # comes between, what was used is used.
             whole = self._piece.whole
             if not whole.value:
                 return None
@@ -1600,6 +1606,10 @@ class PacketReader(_Object):
                 # The library restarts at 0 alone; between packets a new reader differs in nothing
                 # else.
                 _call("packets_new", self._at, first, self._limit)
+
+    def close(self) -> None:
+        super().close()
+        self._piece = _Piece(b"")
 
     def _read_on(self) -> None:
         """Has the library read on to the end of the next packet, or of the piece."""

@@ -17,8 +17,8 @@
 //! that made it; values in different threads share nothing.
 //!
 //! Texts of values ([`Road::Text`], [`bind_text`], [`value_text`]) are safe for a server that takes
-//! backslash escapes (NO_BACKSLASH_ESCAPES isn't in its SQL mode) over a connection in UTF-8; for any
-//! other a value may end its literal: send by execution there.
+//! backslash escapes (NO_BACKSLASH_ESCAPES isn't in its SQL mode) over a connection in UTF-8; for
+//! any other a value may end its literal: send by execution there.
 //!
 //! A call that isn't done answers an [`Error`], and a stream that can't be read on a [`Fault`], by
 //! a [`Code`] that the library has a text for. A call panics only where the linked library isn't

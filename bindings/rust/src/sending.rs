@@ -26,9 +26,9 @@ pub enum Road {
 /// set that wasn't ended aren't sent. The query's placeholders are question marks: sets have no
 /// names, so that a query with `:name` refuses them by [`Code::REFUSED_PARAMS`].
 ///
-/// By [`Road::Text`] values are literals in the query's text. Safe for a server that takes backslash
-/// escapes (NO_BACKSLASH_ESCAPES isn't in its SQL mode) over a connection in UTF-8; for any other a
-/// value may end its literal: send by execution there.
+/// By [`Road::Text`] values are literals in the query's text. Safe for a server that takes
+/// backslash escapes (NO_BACKSLASH_ESCAPES isn't in its SQL mode) over a connection in UTF-8; for
+/// any other a value may end its literal: send by execution there.
 ///
 /// The limit is the `max_allowed_packet` of the receiving side, at least 4; a payload has at most
 /// `limit - 4` bytes.
@@ -85,8 +85,8 @@ pub fn send(
 /// Appends to `out` the text of one set, by its number from 0: the query with a literal in the
 /// place of each placeholder. It is what a text query has behind its first byte.
 ///
-/// Safe for a server that takes backslash escapes (NO_BACKSLASH_ESCAPES isn't in its SQL mode) over a
-/// connection in UTF-8; for any other a value may end its literal: send by execution there.
+/// Safe for a server that takes backslash escapes (NO_BACKSLASH_ESCAPES isn't in its SQL mode) over
+/// a connection in UTF-8; for any other a value may end its literal: send by execution there.
 ///
 /// # Errors
 /// [`Code::OUT_OF_RANGE`] where there is no such set, [`Code::MIXED`], [`Code::MEMORY`],
@@ -128,8 +128,8 @@ pub fn bind_text(
 
 /// Appends to `out` the literal of one value, by the numbers of its set and its place, from 0.
 ///
-/// Safe for a server that takes backslash escapes (NO_BACKSLASH_ESCAPES isn't in its SQL mode) over a
-/// connection in UTF-8; for any other a value may end its literal: send by execution there.
+/// Safe for a server that takes backslash escapes (NO_BACKSLASH_ESCAPES isn't in its SQL mode) over
+/// a connection in UTF-8; for any other a value may end its literal: send by execution there.
 ///
 /// # Errors
 /// [`Code::OUT_OF_RANGE`], [`Code::MEMORY`]; nothing is appended then.
