@@ -949,8 +949,9 @@ def written_reply() -> List[bytes]:
     """Rows in four packets, and an OK packet behind them."""
     columns = [Column(b"id", ColumnType.LONGLONG), Column(b"name", ColumnType.VAR_STRING)]
     with ms.ReplyWriter(ReplyKind.EXECUTE, PROTOCOL_41) as writer:
-        return [writer.rows(columns), *(writer.row(it) for it in ROWS),
-                writer.end_rows(more=True), writer.ok(5, info="done")]
+        packets = [writer.rows(columns)]
+        packets += [writer.row(it) for it in ROWS]
+        return packets + [writer.end_rows(more=True), writer.ok(5, info="done")]
 
 
 # What an object does step by step: it is handed out between, and what it gave comes at the end.
