@@ -1199,6 +1199,8 @@ class OneCall(Case):
                 reader.feed(packets)
                 found.append(reader.payload())
                 reader.restart()
+            while not raised:
+                time.sleep(0.001)
             done.set()
             thread.join()
         self.assertTrue(found == [b"x" * LARGE] * 4)
@@ -1486,9 +1488,9 @@ class States(Case):
             reply = self.reply(b"\x01\0" * count)
             with ms.ReplyReader(ReplyKind.QUERY, SESSION_TRACK) as reader:
                 reader.feed(reply)
-                began = time.perf_counter()
+                began = time.process_time()
                 (result,) = reader.take()
-                ended = time.perf_counter()
+                ended = time.process_time()
             assert isinstance(result, ms.Ok)
             self.assertEqual(len(result.states), count)
             return ended - began
