@@ -7,6 +7,9 @@ is printed, and how the recorded stream ends.
 
     replay.py captured.bin 127.0.0.1:3306 --user root --database test --query 'SELECT :a'
 
+By text, values are literals: for a server that takes backslash escapes (NO_BACKSLASH_ESCAPES isn't
+in its SQL mode). The connection is in UTF-8. For any other server choose another road.
+
 The status is 0 where the stream is whole and the server answered no error, 1 where not, and 2 where
 the replay itself failed.
 """
