@@ -12,7 +12,7 @@ use mysql_login::{
 use mysql_raw::{MyDeserialize, MySerialize, Readable, WireError};
 use std::alloc::Global;
 use std::error::Error;
-use tests_support::{Assert, assert_reads_back, assert_refused, once_more};
+use tests_support::{Assert, assert_bytes, assert_reads_back, assert_refused, once_more};
 
 // Asserts that a header is this byte alone.
 fn assert_header<T: MySerialize + MyDeserialize<'static> + Readable<Ctx = ()> + Drop>(
@@ -40,25 +40,35 @@ fn headers(rt: HostRuntime) {
     assert_header::<SemiSyncAckPacketPacketHeader>(&assert, alloc, b"\xef");
 }
 
-// Asserts that an error says that something is invalid.
-fn assert_says_invalid<E: Error + Drop>(assert: &impl Assert, alloc: Global, error: E) {
+// Asserts what an error says.
+fn assert_prints<E: Error + Drop>(assert: &impl Assert, alloc: Global, error: E, wanted: &str) {
     let text = once_more(assert, error.to_string(alloc), error.to_string(alloc));
     drop(error);
-    assert.holds(text.as_str().starts_with("Invalid "));
+    assert_bytes(assert, text.as_str().as_bytes(), wanted.as_bytes());
 }
 
 #[test]
 fn errors_of_headers(rt: HostRuntime) {
     let assert = Asserting(&rt);
     let alloc = rt.alloc();
-    assert_says_invalid(&assert, alloc, InvalidAuthMoreDataHeader);
-    assert_says_invalid(&assert, alloc, InvalidAuthSwitchRequestHeader);
-    assert_says_invalid(&assert, alloc, InvalidPublicKeyRequest);
-    assert_says_invalid(&assert, alloc, InvalidPublicKeyResponse);
-    assert_says_invalid(&assert, alloc, InvalidComChangeUserHeader);
-    assert_says_invalid(&assert, alloc, InvalidComRegisterSlaveHeader);
-    assert_says_invalid(&assert, alloc, InvalidComTableDumpHeader);
-    assert_says_invalid(&assert, alloc, InvalidComBinlogDumpHeader);
-    assert_says_invalid(&assert, alloc, InvalidComBinlogDumpGtidHeader);
-    assert_says_invalid(&assert, alloc, InvalidSemiSyncAckPacketPacketHeader);
+    let more = "Invalid AuthMoreData header";
+    assert_prints(&assert, alloc, InvalidAuthMoreDataHeader, more);
+    let switch = "Invalid auth switch request header";
+    assert_prints(&assert, alloc, InvalidAuthSwitchRequestHeader, switch);
+    let request = "Invalid PublicKeyRequest header";
+    assert_prints(&assert, alloc, InvalidPublicKeyRequest, request);
+    let response = "Invalid PublicKeyResponse header";
+    assert_prints(&assert, alloc, InvalidPublicKeyResponse, response);
+    let user = "Invalid COM_CHANGE_USER header";
+    assert_prints(&assert, alloc, InvalidComChangeUserHeader, user);
+    let replica = "Invalid header for COM_REGISTER_SLAVE";
+    assert_prints(&assert, alloc, InvalidComRegisterSlaveHeader, replica);
+    let table = "Invalid header for COM_TABLE_DUMP";
+    assert_prints(&assert, alloc, InvalidComTableDumpHeader, table);
+    let dump = "Invalid header for COM_BINLOG_DUMP";
+    assert_prints(&assert, alloc, InvalidComBinlogDumpHeader, dump);
+    let by_gtid = "Invalid header for COM_BINLOG_DUMP_GTID";
+    assert_prints(&assert, alloc, InvalidComBinlogDumpGtidHeader, by_gtid);
+    let ack = "Invalid semi-sync ack packet header";
+    assert_prints(&assert, alloc, InvalidSemiSyncAckPacketPacketHeader, ack);
 }

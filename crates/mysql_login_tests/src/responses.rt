@@ -6,7 +6,8 @@ use mysql_login::{AuthPlugin, HandshakeResponse};
 use std::alloc::{AllocError, Global};
 use std::borrow::CowSlice;
 use tests_support::{
-    Assert, assert_bytes, assert_cut_off, assert_made, assert_same, once_more, whole, written,
+    Assert, assert_bytes, assert_cut_off, assert_made, assert_reads_back, assert_same, once_more,
+    whole, written,
 };
 
 const OF_ROOT: &[u8] =
@@ -63,6 +64,7 @@ fn answers_of_root(rt: HostRuntime) {
             response_of_root(alloc, database, attribute),
             bytes,
         );
+        assert_reads_back::<HandshakeResponse, ()>(&assert, alloc, (), bytes);
     }
     let response = once_more(
         &assert,
