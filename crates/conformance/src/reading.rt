@@ -97,7 +97,14 @@ fn replied(
 ) -> Result<String, Trouble> {
     let reply = if feeding == (stream.len(), 0) {
         let (front, back) = stream.split_at(stream.len() / 2);
-        read_reply(alloc, kind, capabilities, first_id, limit, &[front, &[], back])
+        read_reply(
+            alloc,
+            kind,
+            capabilities,
+            first_id,
+            limit,
+            &[front, &[], back],
+        )
     } else {
         let reader = ReplyReader::new(alloc, kind, capabilities, first_id, limit);
         fed_reply(reader, stream, feeding)?

@@ -6,8 +6,8 @@ use crate::results::reply_words;
 use crate::tokens::{Token, words_of};
 use crate::trouble::Trouble;
 use mysql_session::{
-    CapabilityFlags, Reply, ReplyEnd, ReplyFault, ReplyKind, ReplyRefusal, ReplyResult, ReplyWriter,
-    read_reply, write_reply,
+    CapabilityFlags, Reply, ReplyEnd, ReplyFault, ReplyKind, ReplyRefusal, ReplyResult,
+    ReplyWriter, read_reply, write_reply,
 };
 use std::alloc::Global;
 

@@ -20,11 +20,11 @@ use std::alloc::Global;
 use tests_support::{Assert, assert_cut_off, assert_reads_back, assert_refused};
 
 /// Asserts that a constant is these bytes, and no others.
-fn assert_constant<T: MySerialize + MyDeserialize<'static> + Readable<Ctx = ()> + Drop>(
+fn assert_constant<'a, T: MySerialize + MyDeserialize<'a> + Readable<Ctx = ()> + Drop>(
     assert: &impl Assert,
     alloc: Global,
-    bytes: &'static [u8],
-    others: &'static [u8],
+    bytes: &'a [u8],
+    others: &'a [u8],
 ) {
     assert_reads_back::<T, ()>(assert, alloc, (), bytes);
     assert_cut_off::<T, ()>(assert, alloc, (), bytes, 0, bytes.len());

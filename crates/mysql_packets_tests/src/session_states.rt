@@ -173,7 +173,7 @@ const ALL: [&[State]; 2] = [&STATES, &LEFT_OVER];
 fn assert_state(assert: &impl Assert, alloc: Global, (bytes, kind, told): &State) {
     let state = whole::<SessionStateInfo, ()>(assert, alloc, (), *bytes);
     assert_equal(assert, state.data_type(), *kind);
-    assert_bytes(assert, state.data_ref(), &bytes[2..]);
+    assert_equal(assert, bytes.get(2..), Some(state.data_ref()));
     assert_decoded(assert, alloc, &state, told);
     assert_reads_back::<SessionStateInfo, ()>(assert, alloc, (), *bytes);
     assert_cut_off::<SessionStateInfo, ()>(assert, alloc, (), *bytes, 0, bytes.len());
