@@ -6,7 +6,7 @@ use Rattle.mysql_values.specs.Laws.{OneTokens}
 use Rattle.mysql_values.specs.Params.{values_over}
 use Rattle.mysql_values.specs.Parsed.{Parsed, names_of}
 use Rattle.mysql_values.specs.Place.{Place}
-use Rattle.mysql_values.specs.Queries.{HasMixed, first_not_alone, is_mixed, places_from}
+use Rattle.mysql_values.specs.Queries.{HasMixed, HasPlaces, first_not_alone, is_mixed, places_from}
 use Rattle.mysql_values.specs.Tokens.{HasTokens}
 use Rattle.mysql_values.specs.Value.{Value}
 use Rattle.mysql_values.specs.Values.{first_float}
@@ -14,13 +14,12 @@ use Rattle.mysql_values.specs.declared.bind.BindError.{BindError}
 use Rattle.mysql_values.specs.declared.bind.BindError.TheVariants as bind_error
 use Rattle.mysql_values.specs.declared.params.Params.{Params}
 use Rattle.mysql_values.specs.declared.params.ParamsError.{ParamsError}
-use Rattle.mysql_bulk_builder.specs.Causes.{mixed_kinds, row_too_large}
 use Rattle.mysql_commands.specs.Query.{Query, Statement, place_count, statement_of}
 use Rattle.mysql_streams.specs.declared.refusal.Refusal.{Refusal}
 use Rattle.mysql_streams.specs.declared.refusal.Refusal.TheVariants as refusals
 use Rattle.mysql_streams.specs.declared.road.Road.{Road}
 use Rattle.mysql_streams.specs.declared.road.Road.TheVariants.{Text, Execute, Bulk}
-use Rattle.mysql_streams.specs.Cause.{bulk_cause, cause_if, first_of_sets, max_places, places_cause, prepare_cause, query_cause, set_cause, sets_cause}
+use Rattle.mysql_streams.specs.Cause.{cause_if, first_of_sets, max_places, places_cause, prepare_cause, query_cause, set_cause, sets_cause}
 use Rattle.mysql_streams.specs.Commands.{prepare_command}
 use Rattle.mysql_streams.specs.Sending.{RefusesGiven}
 use Rattle.mysql_streams.specs.Sent.{whole_command}
@@ -95,18 +94,15 @@ together_not : (road : Road) (statement : Statement) (room : ℕ) (rows : List (
 together_not Text statement room rows = none_is_not
 together_not Execute statement room rows = none_is_not
 together_not Bulk statement room rows =
-    let columns : ℕ = place_count statement.query in
-    let kinds : Option Refusal = option_map (λ at. refusals.MixedKinds at.0 at.1) (mixed_kinds rows) in
-    let large : Option Refusal = option_map (λ set. refusals.RowTooLarge set) (row_too_large room columns rows) in
-    or_not kinds (option_or large None) (mapped_not (λ at. refusals.MixedKinds at.0 at.1) (mixed_kinds rows) (λ at same. cc same))
-    (or_not large None (mapped_not (λ set. refusals.RowTooLarge set) (row_too_large room columns rows) (λ set same. cc same)) none_is_not)
+    or_not _ _ (mapped_not (λ at. refusals.MixedKinds at.0 at.1) _ (λ at same. cc same)) (or_not _ None (mapped_not (λ set. refusals.RowTooLarge set) _ (λ set same. cc same)) none_is_not)
 
 -- ---- what is refused
 
 -- the placeholders of a query of one kind are of one kind
 one_kind : OneTokens → (query : List ℕ) (tokens : List (List ℕ)) → HasTokens query tokens → HasMixed query false → is_mixed (places_from query 0 tokens) ≡ false
-one_kind once query tokens has (places, (others, (others_has, are)), mixed) =
-    ap (λ t. is_mixed (places_from query 0 t)) (once query tokens others has others_has) ∙ ap is_mixed (sym are) ∙ sym mixed
+one_kind once query tokens has mixed =
+    let found : HasPlaces query mixed.0 = mixed.1 in
+    ap (λ t. is_mixed (places_from query 0 t)) (once query tokens found.0 has found.1) ∙ ap is_mixed (sym found.2) ∙ sym mixed.2
 
 -- so are those of a query that is found to be a statement
 pub of_statement : (query : List ℕ) (parsed : Parsed) (places : ℕ) → IsStatement query parsed places → HasMixed query false

@@ -200,13 +200,11 @@ impl<'q> Query<'q> {
         sent
     }
 
-    /// Appends the executions of further sets of values, as [`Query::send`] by [`Road::Execute`] appends those behind its prepare: for a
-    /// statement that was prepared once. Sets are numbered on from `first`, the number of those that were sent before; their values
-    /// stand in the order of the placeholders. A payload has at most `limit - 4` bytes, and so has an execution with all its values.
-    /// Behind sets that were delivered by execute, with their number as `first`, they are delivered with them.
-    ///
-    /// # Condition
-    /// `first` and the number of the sets together are less than 2^64, so that each set has a number.
+    /// Appends the executions of further sets of values, numbered on from `first` and with it fewer than 2^64, as [`Query::send`] by
+    /// [`Road::Execute`] appends those behind its prepare: for a statement that was prepared once. `first` is the number of the sets
+    /// that were sent before; values stand in the order of the placeholders. A payload has at most `limit - 4` bytes, and so has an
+    /// execution with all its values. Behind sets that were delivered by execute, with their number as `first`, they are delivered
+    /// with them.
     ///
     /// # Errors
     /// `TooManyPlaces`; then the first cause that holds, set by set: `WrongCount`, `Float`, `PacketTooLarge`; `Memory` where a growth was
