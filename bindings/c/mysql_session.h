@@ -11,18 +11,24 @@
  * that again after mysql_session_free. A call on a handle that stands for nothing, or for an
  * object of another kind, answers a code and changes nothing. Never use two copies of a handle,
  * never change its pointer, and keep it in the thread that made it: calls in different threads
- * on handles of their own share nothing.
+ * on handles of their own share nothing. All handles of a call are different ones: the same handle
+ * twice is the program's fault, which no call looks for.
  *
  * Bytes go in as a pointer and a length. The pointer is never NULL, not even where the length
- * is 0, and the bytes stay as they are until the call returns; no call keeps the pointer.
+ * is 0, and the bytes stay as they are until the call returns; no call keeps the pointer. Never
+ * bytes that a handle of the same call lent: what it lends may move while the call reads it.
+ * Of a struct that goes in all fields are set, also those that its kind doesn't have (zeros will
+ * do), and a `bool` is 0 or 1.
  * Results go out through pointers, which are never NULL either and point to different objects.
- * What such a pointer points to is set before the call (an initialiser of zeros will do): where a
- * call answers anything but MYSQL_SESSION_OK it may be as it was.
+ * What such a pointer points to is set before the call (an initialiser of zeros will do). Where a
+ * call answers anything but MYSQL_SESSION_OK, what it holds then isn't said, but where the call
+ * says so. A value, a content and a column have the fields of their kind; others stay as they were.
  *
  * Bytes come out as a pointer and a length. They belong to the handle, are never written to, and
  * stay as they are until the next call on that handle. A pointer to no bytes must not be read.
  *
  * Each call answers a code. MYSQL_SESSION_OK is 0; the others stand in enum mysql_session_code.
+ * Where two of a call's codes hold, it isn't said which is the answer, but where the call says so.
  */
 #ifndef MYSQL_SESSION_H
 #define MYSQL_SESSION_H
@@ -146,8 +152,8 @@ void mysql_session_code_text(uint32_t code, const uint8_t **text, size_t *len);
 /* Kinds of contents. */
 enum mysql_session_kind {
     MYSQL_SESSION_NULL = 0,
-    MYSQL_SESSION_INT = 1,  /* `int_value` */
-    MYSQL_SESSION_UINT = 2, /* `uint_value`, which is 2^63 or more */
+    MYSQL_SESSION_INT = 1,  /* `int_value`; of a content each number that fits it */
+    MYSQL_SESSION_UINT = 2, /* `uint_value`; of a content 2^63 or more */
     MYSQL_SESSION_BYTES = 3 /* `bytes` and `len` */
 };
 
@@ -172,14 +178,14 @@ enum mysql_session_end_kind {
 
 typedef struct mysql_session_end {
     uint32_t kind;
-    uint32_t fault;
+    uint32_t fault;   /* 0 but for END_FAULT, as is `payload` */
     uint64_t payload;
 } mysql_session_end;
 
 /* Makes the handle stand for a receiver of a stream of commands about this query, whose statement
  * was given this id. What the handle stood for before is freed; where the answer isn't OK it stays.
  * The limit is the max_allowed_packet of the receiving side, at least 4. The query is copied.
- * Answers OK, MEMORY, LIMIT_TOO_SMALL, MIXED. */
+ * Answers OK, LIMIT_TOO_SMALL (before any other), MEMORY, MIXED. */
 uint32_t mysql_session_receiver_new(mysql_session_handle *handle, const uint8_t *query,
                                     size_t len, uint32_t statement, size_t limit);
 
@@ -196,12 +202,13 @@ uint32_t mysql_session_receiver_sets(mysql_session_handle *handle, size_t *count
 uint32_t mysql_session_receiver_width(mysql_session_handle *handle, size_t set, size_t *width);
 
 /* The content at a place of a set, both from 0. Its bytes are good until the next call on the
- * handle other than mysql_session_receiver_sets, _width and _content.
- * Answers OK, OUT_OF_RANGE, .. */
+ * handle other than mysql_session_receiver_sets, _width and _content. Answers OK, OUT_OF_RANGE
+ * (also of a number of more than 64 bits, which no stream carries), .. */
 uint32_t mysql_session_receiver_content(mysql_session_handle *handle, size_t set, size_t place,
                                         mysql_session_content *content);
 
-/* Lets go of the sets that were read; those that come next are numbered from 0. */
+/* Lets go of the sets that were read; those that come next are numbered from 0. After
+ * mysql_session_receiver_end it answers OTHER_KIND. */
 uint32_t mysql_session_receiver_clear(mysql_session_handle *handle);
 
 /* Ends the stream, and tells how. The handle stands for the audit then: it has the sets that
@@ -235,7 +242,8 @@ uint32_t mysql_session_sets_end_set(mysql_session_handle *handle);
 
 /* A value of an array: its kind (of mysql_session_kind or mysql_session_value_kind, but no float),
  * and the fields of that kind. Those of a BYTES value are `len` bytes from `start` on, in the bytes
- * that are handed over beside the array. */
+ * that are handed over beside the array. All fields are set (zeros will do), `negative` to 0 or 1:
+ * the whole struct is copied. */
 typedef struct mysql_session_parameter {
     uint32_t kind;
     bool negative;
@@ -297,14 +305,20 @@ typedef struct mysql_session_place {
  * receiver of the same query, id and limit reads the sets back, to the end of what was appended.
  * Values of a set that wasn't ended aren't sent; the sets stay. The limit is the
  * max_allowed_packet of the receiving side, at least 4. The two handles are different ones.
- * Answers OK, or why nothing is appended: MEMORY, EMPTY_HANDLE, OTHER_KIND, LIMIT_TOO_SMALL,
- * MIXED, NO_SUCH_ROAD, or REFUSED_.. with the set and the place. */
+ * By MYSQL_SESSION_TEXT: safe for a server that takes backslash escapes (NO_BACKSLASH_ESCAPES isn't
+ * in its SQL mode) over a connection in UTF-8; for any other a value may end its literal: send by
+ * execute there.
+ * Answers OK, or why nothing is appended, by the first that holds: EMPTY_HANDLE or OTHER_KIND of
+ * `sets`, then of `out`, NO_SUCH_ROAD, LIMIT_TOO_SMALL, MIXED, REFUSED_.. with the set and the
+ * place; or MEMORY. */
 uint32_t mysql_session_send(mysql_session_handle *sets, const uint8_t *query, size_t len,
                             uint32_t road, uint32_t statement, size_t limit,
                             mysql_session_handle *out, mysql_session_place *place);
 
 /* Appends to the bytes of `out` the text of one set, by its number from 0: the query with a literal
  * in the place of each placeholder. It is what a COM_QUERY has behind its first byte.
+ * Safe for a server that takes backslash escapes (NO_BACKSLASH_ESCAPES isn't in its SQL mode) over
+ * a connection in UTF-8; for any other a value may end its literal: send by execute there.
  * Answers OK, or why nothing is appended: EMPTY_HANDLE, OTHER_KIND, OUT_OF_RANGE (no such set),
  * MIXED, REFUSED_NOT_ALONE, REFUSED_PARAMS, REFUSED_WRONG_COUNT, REFUSED_FLOAT, MEMORY. */
 uint32_t mysql_session_bind_text(mysql_session_handle *sets, size_t set, const uint8_t *query,
@@ -312,6 +326,8 @@ uint32_t mysql_session_bind_text(mysql_session_handle *sets, size_t set, const u
                                  mysql_session_place *place);
 
 /* Appends to the bytes of `out` the literal of one value, by the numbers of its set and its place.
+ * Safe for a server that takes backslash escapes (NO_BACKSLASH_ESCAPES isn't in its SQL mode) over
+ * a connection in UTF-8; for any other a value may end its literal: send by execute there.
  * Answers OK, EMPTY_HANDLE, OTHER_KIND, OUT_OF_RANGE, MEMORY; and REFUSED_FLOAT of a float, which
  * has no literal, but no call here puts a float into a set. */
 uint32_t mysql_session_value_text(mysql_session_handle *sets, size_t set, size_t place,
@@ -329,8 +345,8 @@ typedef struct mysql_session_stop {
 } mysql_session_stop;
 
 /* Makes the handle stand for a recoder of a stream of commands about this query, whose statement
- * was given this id. Answers OK, LIMIT_TOO_SMALL, MIXED, REFUSED_TOO_MANY_PLACES,
- * REFUSED_PREPARE_TOO_LARGE, MEMORY; but for OK the handle stays. */
+ * was given this id. Answers OK, or the first that holds of LIMIT_TOO_SMALL, MIXED,
+ * REFUSED_TOO_MANY_PLACES, REFUSED_PREPARE_TOO_LARGE, or MEMORY; but for OK the handle stays. */
 uint32_t mysql_session_recoder_new(mysql_session_handle *handle, const uint8_t *query, size_t len,
                                    uint32_t statement, size_t limit);
 
@@ -384,8 +400,11 @@ typedef struct mysql_session_result {
     bool ended;          /* of rows: the packet that ends them came; else true */
 } mysql_session_result;
 
-/* Makes the handle stand for a reader of the reply to a command of this kind, whose first chunk
- * has the number `first`. Answers OK, MEMORY, NO_SUCH_KIND. */
+/* Makes the handle stand for a reader of the reply to a command of this kind (of
+ * mysql_session_reply_kind), whose first chunk has the number `first`. The capabilities are those
+ * that client and server agreed on: they say how packets are read. A payload has at most `limit`
+ * bytes, any number; a longer one is the fault REPLY_TOO_LARGE. Answers OK, NO_SUCH_KIND (before
+ * any other), MEMORY. */
 uint32_t mysql_session_reply_new(mysql_session_handle *handle, uint32_t kind,
                                  uint32_t capabilities, uint8_t first, size_t limit);
 
@@ -395,15 +414,17 @@ uint32_t mysql_session_reply_feed(mysql_session_handle *handle, const uint8_t *p
 
 /* Takes the results so far: those that stand whole, and of a result set that goes on its rows so
  * far. They are numbered from 0; those that were taken before are freed, and so are the progress
- * reports that came. */
+ * reports that came. After mysql_session_reply_end it answers OTHER_KIND. */
 uint32_t mysql_session_reply_take(mysql_session_handle *handle);
 
 /* How many results were taken last, or after the end are left. */
 uint32_t mysql_session_reply_results(mysql_session_handle *handle, size_t *count);
 
-/* The result of this number. Its text is good until the next call on the handle other than
- * mysql_session_reply_results, _result, _state, _cell, _column and _param. `states` is 0 also where
- * mysql_session_reply_state answers BAD_PACKET. Answers OK, OUT_OF_RANGE, MEMORY, .. */
+/* The result of this number, in place of all that the struct held: what its kind doesn't have is 0,
+ * and `text` points to no bytes there. Its text is good until the next call on the handle other
+ * than mysql_session_reply_results, _result, _state, _cell, _column and _param. `states` is 0 also
+ * where not all changes can be read; mysql_session_reply_state shows those before the first bad
+ * one. Answers OK, OUT_OF_RANGE, MEMORY, .. */
 uint32_t mysql_session_reply_result(mysql_session_handle *handle, size_t number,
                                     mysql_session_result *result);
 
@@ -491,14 +512,16 @@ typedef struct mysql_session_spot {
 
 /* Makes the handle stand for a writer of the reply to a command of this kind (of
  * mysql_session_reply_kind) for a client with these capabilities. The reply's first chunk has the
- * number `first`; a payload has at most `limit` bytes. Answers OK, NO_SUCH_KIND, MEMORY. */
+ * number `first`; a payload has at most `limit` bytes, any number. Answers OK, NO_SUCH_KIND (before
+ * any other), MEMORY. */
 uint32_t mysql_session_writer_new(mysql_session_handle *handle, uint32_t kind,
                                   uint32_t capabilities, uint8_t first, size_t limit);
 
 /* Each appends to the bytes of `out` the packets of the next result, or of a part of it, or nothing
  * and tells why: by MEMORY, EMPTY_HANDLE, OTHER_KIND or one of WRITE_.., whose place `spot` has.
  * SERVER_MORE_RESULTS_EXISTS is set or cleared in a status by `more`. An error's SQL state has five
- * bytes or none; else BAD_PACKET is the answer. */
+ * bytes or none; else BAD_PACKET is the answer, before any other. For a client with
+ * CLIENT_PROTOCOL_41 an error without a state is written with HY000. */
 uint32_t mysql_session_writer_ok(mysql_session_handle *handle, uint64_t affected_rows,
                                  uint64_t last_insert_id, uint16_t status, uint16_t warnings,
                                  const uint8_t *info, size_t len, bool more,
@@ -510,7 +533,7 @@ uint32_t mysql_session_writer_error(mysql_session_handle *handle, uint16_t code,
 
 /* One more column for the next mysql_session_writer_rows or _prepared. These use all columns up,
  * also where they refuse the result, but for EMPTY_HANDLE, OTHER_KIND and OUT_OF_RANGE. The name is
- * copied. Answers OK, NO_SUCH_KIND (of a column type), MEMORY, .. */
+ * copied. Answers OK, NO_SUCH_KIND (of a column type, before any other), MEMORY, .. */
 uint32_t mysql_session_writer_column(mysql_session_handle *handle, uint8_t type,
                                      const uint8_t *name, size_t len, uint16_t flags,
                                      uint16_t charset, uint32_t length, uint8_t decimals);
@@ -540,7 +563,7 @@ uint32_t mysql_session_writer_end(mysql_session_handle *handle, mysql_session_sp
 /* ---- Packets: a stream cut into payloads, and payloads framed -------------------------------- */
 
 /* Makes the handle stand for a reader of packets, of which the first chunk has the number `first`.
- * Answers OK, MEMORY. */
+ * A payload has at most `limit` bytes, any number. Answers OK, MEMORY. */
 uint32_t mysql_session_packets_new(mysql_session_handle *handle, uint8_t first, size_t limit);
 
 /* Reads on to the end of the next packet, and tells how many bytes of the piece it used. `whole` is

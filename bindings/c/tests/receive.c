@@ -34,7 +34,10 @@ static const row rows[] = {
     { "SELECT :a", TEXT_1 "09 00 00 00 03 |SELECT 2| ", "1; 2; ", WHOLE },
     { "SELECT ?, ?", "0f 00 00 00 03 |SELECT 1, 'ab'| 22 00 00 00 03 |SELECT NULL, "
       "18446744073709551615| 12 00 00 00 03 |SELECT -7, 0x00ff| 05 00 00",
-      "1 |ab|; null 18446744073709551615; -7 x00ff; ", UNFINISHED },
+      "1 |ab|; null u18446744073709551615; -7 x00ff; ", UNFINISHED },
+    { "SELECT ?, ?, ?", "46 00 00 00 03 |SELECT 9223372036854775807, 9223372036854775808, "
+      "-9223372036854775808|",
+      "9223372036854775807 u9223372036854775808 -9223372036854775808; ", WHOLE },
     { "SELECT 1", TEXT_1, "; ", WHOLE },
     { "SELECT ?", PREPARE EXECUTE_1 EXECUTE_NULL, "1; null; ", WHOLE },
     { "SELECT ?", PREPARE EXECUTE_TINY_5 EXECUTE_7_UNTYPED, "5; 7; ", WHOLE },
@@ -76,6 +79,7 @@ static void add_content(text *shown, const mysql_session_content *content)
         text_add_signed(shown, content->int_value);
         break;
     case MYSQL_SESSION_UINT:
+        text_add(shown, "u");
         text_add_unsigned(shown, content->uint_value);
         break;
     default:
@@ -106,13 +110,13 @@ static void add_sets(text *shown, mysql_session_handle *receiver)
 
 static void check_audit(mysql_session_handle *receiver, const row *wanted)
 {
-    mysql_session_end end = { 0, 0, 0 };
+    mysql_session_end end = { 77, 77, 77 };
     int times;
     for (times = 0; times < 2; times++) {
         CHECK_DONE(mysql_session_receiver_end(receiver, &end));
         CHECK_NUMBER(end.kind, wanted->end);
-        CHECK_NUMBER(end.kind == MYSQL_SESSION_END_FAULT ? end.fault : 0, wanted->fault);
-        CHECK_NUMBER(end.kind == MYSQL_SESSION_END_FAULT ? end.payload : 0, wanted->payload);
+        CHECK_NUMBER(end.fault, wanted->fault);
+        CHECK_NUMBER(end.payload, wanted->payload);
     }
     CHECK_CODE(mysql_session_receiver_feed(receiver, bytes_of(""), 0), MYSQL_SESSION_OTHER_KIND);
 }

@@ -89,13 +89,13 @@ static const row rows[] = {
 
 static void check_reply_end(mysql_session_handle *reply, const row *wanted)
 {
-    mysql_session_end end = { 0, 0, 0 };
+    mysql_session_end end = { 77, 77, 77 };
     int times;
     for (times = 0; times < 2; times++) {
         CHECK_DONE(mysql_session_reply_end(reply, &end));
         CHECK_NUMBER(end.kind, wanted->end);
-        CHECK_NUMBER(end.kind == MYSQL_SESSION_END_FAULT ? end.fault : 0, wanted->fault);
-        CHECK_NUMBER(end.kind == MYSQL_SESSION_END_FAULT ? end.payload : 0, wanted->payload);
+        CHECK_NUMBER(end.fault, wanted->fault);
+        CHECK_NUMBER(end.payload, wanted->payload);
     }
     CHECK_CODE(mysql_session_reply_feed(reply, bytes_of(""), 0), MYSQL_SESSION_OTHER_KIND);
     CHECK_CODE(mysql_session_reply_take(reply), MYSQL_SESSION_OTHER_KIND);
@@ -314,12 +314,58 @@ static void bad_states(void)
     check_note("", 0);
 }
 
-static void no_such_kind(void)
+/* The result of the number 0, in a struct whose bytes are all the same before. */
+static mysql_session_result over_old(mysql_session_handle *reply, uint32_t kind)
+{
+    mysql_session_result result;
+    memset(&result, 1, sizeof result);
+    CHECK_DONE(mysql_session_reply_result(reply, 0, &result));
+    CHECK_NUMBER(result.kind, kind);
+    return result;
+}
+
+/* A struct that is used again holds nothing of what it held: what its kind doesn't have is 0. */
+static void reused(void)
 {
     mysql_session_handle reply = MYSQL_SESSION_NOTHING;
-    CHECK_CODE(mysql_session_reply_new(&reply, 3, PROTOCOL_41, 1, 1000),
-               MYSQL_SESSION_NO_SUCH_KIND);
-    CHECK(reply.at == NULL);
+    mysql_session_result result;
+    stream rows = stream_of(TWO_COLUMNS EOF_AT("04") "03 00 00 05 01 |5| fb");
+    CHECK_DONE(mysql_session_reply_new(&reply, TO_QUERY, PROTOCOL_41, 1, 1000));
+    CHECK_DONE(mysql_session_reply_feed(&reply, rows.bytes, rows.len));
+    CHECK_DONE(mysql_session_reply_take(&reply));
+    result = over_old(&reply, MYSQL_SESSION_RESULT_ROWS);
+    CHECK_NUMBER(result.columns, 2);
+    CHECK_NUMBER(result.rows, 1);
+    CHECK(!result.ended);
+    CHECK(result.text != NULL);
+    CHECK_NUMBER(result.len + result.states + result.params + result.state_len, 0);
+    CHECK_NUMBER(result.status + result.warnings + result.error_code + result.statement, 0);
+    CHECK_NUMBER(result.affected_rows + result.last_insert_id, 0);
+    mysql_session_free(&reply);
+    read_whole(&reply, TO_PREPARE, PROTOCOL_41,
+               "0c 00 00 01 00 01 00 00 00 00 00 00 00 00 00 00");
+    result = over_old(&reply, MYSQL_SESSION_RESULT_PREPARED);
+    CHECK(result.ended && result.text != NULL);
+    CHECK_NUMBER(result.len + result.states + result.rows + result.status, 0);
+    mysql_session_free(&reply);
+    read_whole(&reply, TO_QUERY, 0, "17 00 00 01 ff 10 04 |Too many connections|");
+    result = over_old(&reply, MYSQL_SESSION_RESULT_ERROR);
+    CHECK_NUMBER(result.error_code, 1040);
+    CHECK_NUMBER(result.states + result.state_len + result.state[0] + result.columns, 0);
+    mysql_session_free(&reply);
+}
+
+/* A number that names no kind makes no reader, whatever the limit is. */
+static void no_such_kind(void)
+{
+    static const uint32_t kinds[] = { 3, 4, 256, UINT32_MAX };
+    mysql_session_handle reply = MYSQL_SESSION_NOTHING;
+    size_t i;
+    for (i = 0; i < sizeof kinds / sizeof kinds[0]; i++) {
+        CHECK_CODE(mysql_session_reply_new(&reply, kinds[i], PROTOCOL_41, 1, 1000 * i),
+                   MYSQL_SESSION_NO_SUCH_KIND);
+        CHECK(reply.at == NULL);
+    }
 }
 
 int main(void)
@@ -330,6 +376,7 @@ int main(void)
     binary_kinds();
     states();
     bad_states();
+    reused();
     no_such_kind();
     return check_end("replies");
 }

@@ -4,6 +4,7 @@ ghost use Rattle.std.specs.Prelude.{◌≡◌, IfSome, false, length, option_map
 ghost use Rattle.mysql_columns.specs.Views.{column_view};
 ghost use Rattle.mysql_ok_packets.specs.OkPackets.{all_states_at};
 ghost use Rattle.mysql_ok_packets.specs.Views.{ok_packet_view};
+ghost use Rattle.mysql_ok_packets.specs.Written.{or_empty};
 ghost use Rattle.mysql_packets.specs.Views.{prepare_ok_view, server_error_view};
 ghost use Rattle.mysql_replies.specs.Grammar.{ErrorResult};
 ghost use Rattle.mysql_replies.specs.Views.{outcome_view};
@@ -245,6 +246,16 @@ pub(crate) fn show_result(alloc: Global, found: &ReplyResult, shown: &mut ShownR
     }
 }
 
+/// The changes of the session's state that a packet tells, as bytes.
+fn states_in<'a>(ok: &'a OkPacket<'_>) -> &'a [u8]
+    ensures { result.now ≡ or_empty (ok_packet_view ok.now).session_state_info }
+{
+    match ok.session_state_info_ref() {
+        Some(states) => states,
+        None => &[],
+    }
+}
+
 /// Shows the change of the session's state at a position of those that a packet tells, and moves the position behind it. Its bytes
 /// stand in the packet.
 pub(crate) fn show_state(
@@ -257,7 +268,7 @@ pub(crate) fn show_state(
 ) -> Code
     ensures { ShowsChangeAt (ok_packet_view ok.now).session_state_info position.old (code_number result) position.new kind.new len.new }
 {
-    let bytes = ok.session_state_info_ref().unwrap_or(&[]);
+    let bytes = states_in(ok);
     if *position >= bytes.len() {
         return Code::OutOfRange;
     }
