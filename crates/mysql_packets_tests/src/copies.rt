@@ -43,10 +43,22 @@ fn owned(rt: HostRuntime) {
     assert_owned!(&assert, alloc, TransactionCharacteristics::new(text()));
     assert_owned!(&assert, alloc, TransactionState::new(text()));
     assert_owned!(&assert, alloc, Unsupported::new(text()));
-    assert_owned!(&assert, alloc, SessionStateChange::Unsupported(Unsupported::new(text())));
-    assert_owned!(&assert, alloc, SessionStateInfo::new(SessionStateType::SESSION_TRACK_SCHEMA, text()));
+    assert_owned!(
+        &assert,
+        alloc,
+        SessionStateChange::Unsupported(Unsupported::new(text()))
+    );
+    assert_owned!(
+        &assert,
+        alloc,
+        SessionStateInfo::new(SessionStateType::SESSION_TRACK_SCHEMA, text())
+    );
     assert_owned!(&assert, alloc, ProgressReport::new(1, 10, 23500, text()));
-    assert_owned!(&assert, alloc, ServerError::new(1096, Some(SqlState::new(*b"HY000")), text()));
+    assert_owned!(
+        &assert,
+        alloc,
+        ServerError::new(1096, Some(SqlState::new(*b"HY000")), text())
+    );
     assert_owned!(&assert, alloc, LocalInfilePacket::new(text()));
     assert_owned!(&assert, alloc, ComStmtSendLongData::new(1, 2, text()));
 }
@@ -61,16 +73,32 @@ fn cloned(rt: HostRuntime) {
     assert_cloned!(&assert, alloc, TransactionCharacteristics::new(text()));
     assert_cloned!(&assert, alloc, TransactionState::new(text()));
     assert_cloned!(&assert, alloc, Unsupported::new(text()));
-    assert_cloned!(&assert, alloc, SessionStateChange::Unsupported(Unsupported::new(text())));
-    assert_cloned!(&assert, alloc, ErrPacket::Progress(ProgressReport::new(1, 10, 23500, text())));
-    assert_cloned!(&assert, alloc, ErrPacket::Error(ServerError::new(1040, None, text())));
+    assert_cloned!(
+        &assert,
+        alloc,
+        SessionStateChange::Unsupported(Unsupported::new(text()))
+    );
+    assert_cloned!(
+        &assert,
+        alloc,
+        ErrPacket::Progress(ProgressReport::new(1, 10, 23500, text()))
+    );
+    assert_cloned!(
+        &assert,
+        alloc,
+        ErrPacket::Error(ServerError::new(1040, None, text()))
+    );
     assert_cloned!(&assert, alloc, LocalInfilePacket::new(text()));
     assert_cloned!(&assert, alloc, ComStmtSendLongData::new(1, 2, text()));
 }
 
 /// The bytes, or once more.
 fn bytes(assert: &impl Assert, alloc: Global) -> ByteString {
-    once_more(assert, ByteString::copy(alloc, b"abc"), ByteString::copy(alloc, b"abc"))
+    once_more(
+        assert,
+        ByteString::copy(alloc, b"abc"),
+        ByteString::copy(alloc, b"abc"),
+    )
 }
 
 /// A parameter without a value.
@@ -83,7 +111,11 @@ fn cloned_errors(rt: HostRuntime) {
     let assert = Asserting(&rt);
     let alloc = rt.alloc();
     assert_cloned!(&assert, alloc, Content::Bytes(bytes(&assert, alloc)));
-    assert_cloned!(&assert, alloc, MissingNamedParameterError(bytes(&assert, alloc)));
+    assert_cloned!(
+        &assert,
+        alloc,
+        MissingNamedParameterError(bytes(&assert, alloc))
+    );
     assert_cloned!(&assert, alloc, missing(&assert, alloc));
     let values = once_more(&assert, row(alloc, SHORT), row(alloc, SHORT));
     let error = BulkExecuteRequestError::RowTooLarge(values);

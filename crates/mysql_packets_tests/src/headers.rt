@@ -59,11 +59,36 @@ fn of_commands(rt: HostRuntime) {
 fn errors_of_replies(rt: HostRuntime) {
     let assert = Asserting(&rt);
     let alloc = rt.alloc();
-    assert_prints(&assert, alloc, &InvalidErrPacketHeader, "Invalid error packet header");
-    assert_prints(&assert, alloc, &InvalidSqlStateMarker, "Invalid SqlStateMarker value");
-    assert_prints(&assert, alloc, &InvalidLocalInfileHeader, "Invalid LOCAL_INFILE header");
-    assert_prints(&assert, alloc, &InvalidStmtPacketStatus, "Invalid statement packet status");
-    assert_prints(&assert, alloc, &InvalidOkPacketHeader, "Invalid OK packet header");
+    assert_prints(
+        &assert,
+        alloc,
+        &InvalidErrPacketHeader,
+        "Invalid error packet header",
+    );
+    assert_prints(
+        &assert,
+        alloc,
+        &InvalidSqlStateMarker,
+        "Invalid SqlStateMarker value",
+    );
+    assert_prints(
+        &assert,
+        alloc,
+        &InvalidLocalInfileHeader,
+        "Invalid LOCAL_INFILE header",
+    );
+    assert_prints(
+        &assert,
+        alloc,
+        &InvalidStmtPacketStatus,
+        "Invalid statement packet status",
+    );
+    assert_prints(
+        &assert,
+        alloc,
+        &InvalidOkPacketHeader,
+        "Invalid OK packet header",
+    );
     let catalog = "Invalid catalog value in the column definition";
     assert_prints(&assert, alloc, &InvalidCatalog, catalog);
     let len = "Invalid fixed length field length in the column definition";

@@ -153,12 +153,7 @@ fn one(assert: &impl Assert, alloc: Global) -> Params {
 const QUERY: &[u8] = b"SELECT :a";
 
 /// Appends the text of the set over the query, or over its placeholders.
-fn bind(
-    alloc: Global,
-    by_places: bool,
-    set: &Params,
-    out: &mut Vec<u8>,
-) -> Result<(), BindError> {
+fn bind(alloc: Global, by_places: bool, set: &Params, out: &mut Vec<u8>) -> Result<(), BindError> {
     if by_places {
         let places = places(alloc, QUERY)?;
         bind_text_at(alloc, QUERY, &places, set, out)

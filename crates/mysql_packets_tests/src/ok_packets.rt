@@ -93,7 +93,11 @@ const CHANGED: &[u8] = b"\x00\x00\x00\x02\x40\x00\x00\x00\x11\x00\x0f\x0aautocom
 const COMMON: [(CapabilityFlags, &[u8], Says); 5] = [
     (NONE, DONE, (1, None, AUTOCOMMIT, 0, None, None)),
     (NONE, WITH_INFO, (1, None, AUTOCOMMIT, 0, Some(b"ok"), None)),
-    (TRACKED, WITH_INFO, (1, None, AUTOCOMMIT, 0, Some(b"ok"), None)),
+    (
+        TRACKED,
+        WITH_INFO,
+        (1, None, AUTOCOMMIT, 0, Some(b"ok"), None),
+    ),
     (TRACKED, DONE, (1, None, AUTOCOMMIT, 0, None, None)),
     (
         TRACKED,
@@ -125,7 +129,11 @@ fn assert_body<T: OkPacketKind>(
     match found {
         Ok(body) => {
             let packet = OkPacket::try_from(body);
-            assert_says(assert, &once_more(assert, packet, Err(WireError::Memory)), says);
+            assert_says(
+                assert,
+                &once_more(assert, packet, Err(WireError::Memory)),
+                says,
+            );
         }
         Err(_) => assert.holds(false),
     }
@@ -135,7 +143,11 @@ fn assert_body<T: OkPacketKind>(
 /// What stands behind the header, what it says, and how many bytes are left. Where no session states are sent a zero in the place
 /// of the info's length is left.
 const BODIES: [(&[u8], Says, usize); 4] = [
-    (b"\x01\x00\x02\x00\x00\x00", (1, None, AUTOCOMMIT, 0, None, None), 0),
+    (
+        b"\x01\x00\x02\x00\x00\x00",
+        (1, None, AUTOCOMMIT, 0, None, None),
+        0,
+    ),
     (
         b"\x01\x00\x02\x00\x00\x00\x00",
         (1, None, AUTOCOMMIT, 0, None, None),
@@ -167,8 +179,11 @@ const TERMINATOR_BODIES: [(&[u8], Says, usize); 2] = [
     ),
 ];
 
-const EOF_BODY: (&[u8], Says, usize) =
-    (b"\x01\x00\x02\x00!", (0, None, AUTOCOMMIT, 1, None, None), 1);
+const EOF_BODY: (&[u8], Says, usize) = (
+    b"\x01\x00\x02\x00!",
+    (0, None, AUTOCOMMIT, 1, None, None),
+    1,
+);
 
 #[test]
 fn bodies(rt: HostRuntime) {
@@ -343,10 +358,7 @@ fn assert_states(assert: &impl Assert, alloc: Global, packet: &OkPacket, told: &
 /// and the state are read, and the state isn't decoded.
 const WITH_STATES: [(&[u8], &[Told]); 6] = [
     (DONE, &[]),
-    (
-        CHANGED,
-        &[Told::Variables(&[(b"autocommit", b"OFF")])],
-    ),
+    (CHANGED, &[Told::Variables(&[(b"autocommit", b"OFF")])]),
     (
         b"\x00\x00\x00\x02\x40\x00\x00\x00\x07\x01\x05\x04test",
         &[Told::Schema(b"test")],

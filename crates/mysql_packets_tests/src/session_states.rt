@@ -195,7 +195,12 @@ fn assert_change_copied(assert: &impl Assert, alloc: Global, state: &SessionStat
     assert_copied(assert, &change, change.clone(alloc), change.clone(alloc));
     let first = once_more(assert, state.decode(alloc), state.decode(alloc));
     let second = once_more(assert, state.decode(alloc), state.decode(alloc));
-    assert_copied(assert, &change, first.into_owned(alloc), second.into_owned(alloc));
+    assert_copied(
+        assert,
+        &change,
+        first.into_owned(alloc),
+        second.into_owned(alloc),
+    );
 }
 
 /// The state that tells a change is the one that the change was read of.
