@@ -135,6 +135,7 @@ never_mixed_text once query params error one (inr why) =
         by_count true None = λ same. cc same
         by_count true (Some place) = λ same. cc same
         by_count false float = λ same. cc same
+
     by : (mixed : Bool) → mixed ≡ false → (apart : Option ℕ) (count : ℕ) (over : Result (List Value) ParamsError)
         → (if mixed then Some bind_error.Mixed else alone_cause apart (given_cause count over)) ≡ Some error → error ≢ bind_error.Mixed
     by true is apart count over first = cc

@@ -16,9 +16,9 @@ use mysql_session::{
 
 mod laws {
     use mysql_session::laws::{
-        deliveries_are_read_back, deliveries_are_received, made_sets_give_the_same,
-        readable_sets_are_delivered, recodings_are_delivered, roads_read_equally,
-        sent_streams_join,
+        deliveries_are_read_back, deliveries_are_received, failed_writers_are_read,
+        further_sets_are_delivered, made_sets_give_the_same, readable_sets_are_delivered,
+        recodings_are_delivered, roads_read_equally, sent_streams_join,
     };
 
     mod commands {
@@ -64,10 +64,14 @@ mod laws {
         use mysql_session::laws::reply_writer::{whole_writings_are_replies, writings_go_on};
     }
 
+    mod senders {
+        use mysql_session::laws::senders::further_sets_are_sent;
+    }
+
     mod streams {
         use mysql_session::laws::streams::{
             executions_read, queries_read, requests_have_their_size, requests_read,
-            roads_read_equally, sent_sets_are_delivered, sent_streams_join,
+            roads_read_equally, sent_payloads_fit, sent_sets_are_delivered, sent_streams_join,
             sent_values_are_carried, sets_mean_each, statements_are_one,
         };
     }
