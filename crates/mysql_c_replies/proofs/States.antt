@@ -272,8 +272,10 @@ ok_numbered states position next type len s rest less one behind within shows k 
   last : elements_at state_at (suc k) (or_empty states) ≡ Ok (here.1.0 ++ s ∷ [], drop next (or_empty states))
   last = more_elements state_at k (or_empty states) here.1.0 (drop position (or_empty states)) s rest here.1.1 one
       ∙ ap (λ (l : List ℕ). done (here.1.0 ++ s ∷ [], l)) behind
+
   moved : IsPositionOf (or_empty states) (suc k) next
   moved = (within, (here.1.0 ++ s ∷ [], last))
+
   go : (r : Reading (List State)) → all_states_at states ≡ r → ShowsNumbered r (or_empty states) k 0 next type len
   go (Ok x) e =
       let found = next_in states position k less here x e in
