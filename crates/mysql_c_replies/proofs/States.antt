@@ -1,5 +1,5 @@
 -- Changes of the session's state that are read one by one, by the positions where they begin, are those that are read all at once.
-use Rattle.std.proofs.Common.{◌≡◌, ◌==◌, ◌<◌, ◌≤◌, ◌-◌, ◌+◌, Bool, true, false, if◌then◌else◌, nat_lt, ℕ, zero, suc, List, [], ◌∷◌, ◌++◌, length, drop, Option, Some, None, Ok, Err, refl, sym, ap, subst, ◌∙◌, inl, inr, slice_get, MatchOption, arith}
+use Rattle.std.proofs.Common.{◌≡◌, ◌==◌, ◌<◌, ◌≤◌, ◌-◌, ◌+◌, Bool, true, false, if◌then◌else◌, nat_lt, ℕ, zero, suc, List, [], ◌∷◌, ◌++◌, length, drop, Option, Some, None, Ok, Err, refl, sym, ap, subst, ◌∙◌, inl, inr, slice_get, arith}
 use Rattle.std.proofs.lemmas.List.{drop-drop, length-drop}
 use Rattle.mysql_buf.specs.FirstBytes.{first-some}
 use Rattle.mysql_buf.specs.Reading.{first, little_at, lenenc_int_at, bytes_at, then_at}
@@ -8,14 +8,13 @@ use Rattle.mysql_ok_packets.specs.OkPackets.{all_states_at}
 use Rattle.mysql_ok_packets.specs.Written.{or_empty}
 use Rattle.mysql_raw.specs.Forms.{fixed_number_at}
 use Rattle.mysql_raw.specs.Laws.{bind_ok, done, eaten_first, fixed_number_at-sized, ok_same}
-use Rattle.mysql_raw.specs.Wire.{Reading, or_end, ◌>>=◌}
+use Rattle.mysql_raw.specs.Wire.{Reading, or_end}
 use Rattle.mysql_raw.specs.WireError.{WireError}
 use Rattle.mysql_raw_bytes.specs.Texts.{lenenc_text_at}
 use Rattle.mysql_raw_consts.specs.ConstantLaws.{named_at-sized}
 use Rattle.mysql_raw_consts.specs.Constants.{named_at}
 use Rattle.mysql_raw_lists.specs.Lists.{elements_at}
 use Rattle.mysql_session_states.specs.Reading.{EatsBytes, at_most_at, to_end_at}
-use Rattle.mysql_session_states.specs.ReadingLaws.{before_others}
 use Rattle.mysql_session_states.specs.SessionStates.{State, state_at}
 use Rattle.mysql_session_states.specs.StateLaws.{state_at-eats}
 use Rattle.mysql_c_replies.specs.States.{IsPositionOf, ShowsChange, ShowsChangeAt, ShowsNumbered}
@@ -272,8 +271,10 @@ ok_numbered states position next type len s rest less one behind within shows k 
   last : elements_at state_at (suc k) (or_empty states) ≡ Ok (here.1.0 ++ s ∷ [], drop next (or_empty states))
   last = more_elements state_at k (or_empty states) here.1.0 (drop position (or_empty states)) s rest here.1.1 one
       ∙ ap (λ (l : List ℕ). done (here.1.0 ++ s ∷ [], l)) behind
+
   moved : IsPositionOf (or_empty states) (suc k) next
   moved = (within, (here.1.0 ++ s ∷ [], last))
+
   go : (r : Reading (List State)) → all_states_at states ≡ r → ShowsNumbered r (or_empty states) k 0 next type len
   go (Ok x) e =
       let found = next_in states position k less here x e in
