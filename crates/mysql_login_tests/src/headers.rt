@@ -15,10 +15,10 @@ use std::error::Error;
 use tests_support::{Assert, assert_bytes, assert_reads_back, assert_refused, once_more};
 
 // Asserts that a header is this byte alone.
-fn assert_header<T: MySerialize + MyDeserialize<'static> + Readable<Ctx = ()> + Drop>(
+fn assert_header<'a, T: MySerialize + MyDeserialize<'a> + Readable<Ctx = ()> + Drop>(
     assert: &impl Assert,
     alloc: Global,
-    byte: &'static [u8],
+    byte: &'a [u8],
 ) {
     assert_reads_back::<T, ()>(assert, alloc, (), byte);
     assert_refused::<T, ()>(assert, alloc, (), b"\x55", WireError::BadConstant);
