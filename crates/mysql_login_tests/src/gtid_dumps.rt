@@ -91,8 +91,9 @@ fn refused_requests(rt: HostRuntime) {
     assert_each_refused::<ComBinlogDumpGtid>(&Asserting(&rt), rt.alloc(), &NO_REQUESTS);
 }
 
-// Requests whose blocks count their sets in other ways than they are written, and how many sets they have. With a highest
-// byte of 1 the lowest one doesn't count, with any other one the seven lower ones do, and bytes behind the sets are skipped.
+// Requests whose blocks count their sets in other ways than they are written, and how many sets they have. With a
+// highest byte of 1 the lowest one doesn't count, with any other one the seven lower ones do, and bytes behind the
+// sets are skipped.
 const COUNTED: [(&[u8], usize); 5] = [
     (
         b"\x1e\x04\x00\x07\x00\x00\x00\x01\x00\x00\x00f\x04\x00\x00\x00\x00\x00\x00\x00\x08\x00\x00\x00\x07\x00\x00\x00\x00\x00\x00\x01",

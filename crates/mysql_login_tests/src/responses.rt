@@ -176,8 +176,8 @@ fn assert_scramble(
 
 type Version = (u16, u16, u16);
 
-// Versions and capabilities, then the capabilities that are said, the collation, and the ending: after a length-encoded number,
-// after a byte, before a zero. The capabilities of parts that aren't given are cleared.
+// Versions and capabilities, then the capabilities that are said, the collation, and the ending: after a length-encoded
+// number, after a byte, before a zero. The capabilities of parts that aren't given are cleared.
 const ENDINGS: [((Version, u32), (u32, u8), &[u8]); 6] = [
     (((5, 5, 2), 0x200000), (0x200000, 33), b"\0\x02ab"),
     (((5, 5, 3), 0x8000), (0x8000, 45), b"\0\x02ab"),

@@ -155,8 +155,8 @@ const COUNTED: [ColumnType; 15] = [
     ColumnType::MYSQL_TYPE_VECTOR,
 ];
 
-/// Cells of each length of dates, and those dates. Of a length between two forms the fields of the shorter one count, and
-/// bytes behind the last field are skipped.
+/// Cells of each length of dates, and those dates. Of a length between two forms the fields of the shorter one count,
+/// and bytes behind the last field are skipped.
 const DATES: [(&[u8], Given); 14] = [
     (b"\x00..", Given::Date(0, 0, 0, 0, 0, 0, 0)),
     (b"\x01\xe8..", Given::Date(0, 0, 0, 0, 0, 0, 0)),
