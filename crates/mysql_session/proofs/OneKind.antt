@@ -1,7 +1,7 @@
 -- A query whose placeholders are of one kind is never refused for both.
-use Rattle.std.proofs.Common.{◌≡◌, ◌≢◌, ◌⊎◌, inl, inr, ℕ, ◌+◌, ◌-◌, ◌==◌, Bool, true, false, List, [], ◌∷◌, length, map, Option, Some, None, Result, Ok, Err, refl, sym, ◌∙◌, ap, subst, nat_lt, if◌then◌else◌}
+use Rattle.std.proofs.Common.{◌≡◌, ◌≢◌, ◌⊎◌, inl, inr, ℕ, ◌+◌, ◌-◌, ◌==◌, Bool, true, false, List, [], ◌∷◌, length, Option, Some, None, Result, Ok, Err, refl, sym, ◌∙◌, ap, subst, nat_lt, if◌then◌else◌}
 use Rattle.std.specs.Option.{option_map, option_or}
-use Rattle.mysql_values.specs.Binding.{IsBindCause, alone_cause, bind_cause, given_cause, values_cause}
+use Rattle.mysql_values.specs.Binding.{IsBindCause, alone_cause, given_cause, values_cause}
 use Rattle.mysql_values.specs.Laws.{OneTokens}
 use Rattle.mysql_values.specs.Params.{values_over}
 use Rattle.mysql_values.specs.Parsed.{Parsed, names_of}
@@ -135,6 +135,7 @@ never_mixed_text once query params error one (inr why) =
         by_count true None = λ same. cc same
         by_count true (Some place) = λ same. cc same
         by_count false float = λ same. cc same
+
     by : (mixed : Bool) → mixed ≡ false → (apart : Option ℕ) (count : ℕ) (over : Result (List Value) ParamsError)
         → (if mixed then Some bind_error.Mixed else alone_cause apart (given_cause count over)) ≡ Some error → error ≢ bind_error.Mixed
     by true is apart count over first = cc
