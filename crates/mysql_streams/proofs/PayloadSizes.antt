@@ -10,12 +10,12 @@ use Rattle.mysql_streams.specs.declared.refusal.Refusal.{Refusal}
 use Rattle.mysql_streams.specs.declared.refusal.Refusal.TheVariants as refusals
 use Rattle.mysql_streams.specs.declared.road.Road.{Road}
 use Rattle.mysql_streams.specs.declared.road.Road.TheVariants.{Text, Execute, Bulk}
-use Rattle.mysql_streams.specs.Cause.{cause_if, cause_of, first_of_sets, prepare_cause, query_cause, set_cause, sets_cause}
+use Rattle.mysql_streams.specs.Cause.{cause_if, first_of_sets, prepare_cause, query_cause, set_cause, sets_cause}
 use Rattle.mysql_streams.specs.Laws.{RequestsHaveTheirSize, SentPayloadsFit}
-use Rattle.mysql_streams.specs.Sent.{AreSent, SentPayload, as_execution, as_requests, as_text, payloads_of, prepare_of, whole_command}
+use Rattle.mysql_streams.specs.Sent.{AreSent, SentPayload, as_execution, payloads_of, prepare_of, whole_command}
 use Rattle.mysql_streams.specs.Sets.{values_of}
 use Rattle.mysql_streams.proofs.Contents.{good, neither, short_each}
-use Rattle.mysql_streams.proofs.Executable.{IsPreparable, preparable}
+use Rattle.mysql_streams.proofs.Executable.{preparable}
 use Rattle.mysql_streams.proofs.ExecutionSizes.{Within, one_within, within_append}
 use Rattle.mysql_streams.proofs.Queries.{payloads_are}
 use Rattle.mysql_streams.proofs.RequestStreams.{all_fit, short_requests}
