@@ -26,10 +26,10 @@ mod laws {
 }
 
 // The faces below: one item each, since each has a list of its own.
-mod mysql_values {
+mod values_face {
     use mysql_convert::mysql_values::AsSqlError;
 
-    mod mysql_wire {
+    mod wire_face {
         use mysql_convert::mysql_values::mysql_wire::BareBytes;
     }
 }

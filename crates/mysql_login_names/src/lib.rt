@@ -38,6 +38,6 @@ mod laws {
 }
 
 // The faces below: one item each, since each has a list of its own.
-mod mysql_wire {
+mod wire_face {
     use mysql_login::mysql_wire::BareBytes;
 }

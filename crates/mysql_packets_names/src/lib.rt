@@ -57,13 +57,13 @@ mod statement {
 }
 
 // The faces below: one item each, since each has a list of its own.
-mod mysql_convert {
+mod convert_face {
     use mysql_packets::mysql_convert::FromValue;
 
-    mod mysql_values {
+    mod values_face {
         use mysql_packets::mysql_convert::mysql_values::AsSqlError;
 
-        mod mysql_wire {
+        mod wire_face {
             use mysql_packets::mysql_convert::mysql_values::mysql_wire::BareBytes;
         }
     }

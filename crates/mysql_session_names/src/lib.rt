@@ -103,16 +103,16 @@ mod laws {
 }
 
 // The faces below: one item each, since each has a list of its own.
-mod mysql_packets {
+mod packets_face {
     use mysql_session::mysql_packets::BitmapBytes;
 
-    mod mysql_convert {
+    mod convert_face {
         use mysql_session::mysql_packets::mysql_convert::FromValue;
 
-        mod mysql_values {
+        mod values_face {
             use mysql_session::mysql_packets::mysql_convert::mysql_values::AsSqlError;
 
-            mod mysql_wire {
+            mod wire_face {
                 use mysql_session::mysql_packets::mysql_convert::mysql_values::mysql_wire::BareBytes;
             }
         }

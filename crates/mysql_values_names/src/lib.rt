@@ -29,6 +29,6 @@ mod params {
 }
 
 // The faces below: one item each, since each has a list of its own.
-mod mysql_wire {
+mod wire_face {
     use mysql_values::mysql_wire::BareBytes;
 }
