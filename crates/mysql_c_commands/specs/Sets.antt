@@ -1,5 +1,5 @@
 -- What the calls on parameter sets say of the object that a handle stands for.
-use Rattle.std.specs.Prelude.{◌≡◌, ◌⊎◌, ℕ, List, [], ◌∷◌, ◌++◌, Vec, length}
+use Rattle.std.specs.Prelude.{◌≡◌, ◌⊎◌, ℕ, [], ◌∷◌, ◌++◌, Vec, length}
 use Rattle.mysql_cells.specs.declared.value.Value.{Value}
 use Rattle.std.specs.declared.alloc.Global.{Global}
 use Rattle.mysql_values.specs.declared.params.Params.{Params}
