@@ -329,9 +329,9 @@ static void reused(void)
 {
     mysql_session_handle reply = MYSQL_SESSION_NOTHING;
     mysql_session_result result;
-    stream rows = stream_of(TWO_COLUMNS EOF_AT("04") "03 00 00 05 01 |5| fb");
+    stream open = stream_of(TWO_COLUMNS EOF_AT("04") "03 00 00 05 01 |5| fb");
     CHECK_DONE(mysql_session_reply_new(&reply, TO_QUERY, PROTOCOL_41, 1, 1000));
-    CHECK_DONE(mysql_session_reply_feed(&reply, rows.bytes, rows.len));
+    CHECK_DONE(mysql_session_reply_feed(&reply, open.bytes, open.len));
     CHECK_DONE(mysql_session_reply_take(&reply));
     result = over_old(&reply, MYSQL_SESSION_RESULT_ROWS);
     CHECK_NUMBER(result.columns, 2);
@@ -339,14 +339,16 @@ static void reused(void)
     CHECK(!result.ended);
     CHECK(result.text != NULL);
     CHECK_NUMBER(result.len + result.states + result.params + result.state_len, 0);
-    CHECK_NUMBER(result.status + result.warnings + result.error_code + result.statement, 0);
+    CHECK(result.status == 0 && result.warnings == 0);
+    CHECK(result.error_code == 0 && result.statement == 0);
     CHECK_NUMBER(result.affected_rows + result.last_insert_id, 0);
     mysql_session_free(&reply);
     read_whole(&reply, TO_PREPARE, PROTOCOL_41,
                "0c 00 00 01 00 01 00 00 00 00 00 00 00 00 00 00");
     result = over_old(&reply, MYSQL_SESSION_RESULT_PREPARED);
     CHECK(result.ended && result.text != NULL);
-    CHECK_NUMBER(result.len + result.states + result.rows + result.status, 0);
+    CHECK_NUMBER(result.len + result.states + result.rows, 0);
+    CHECK(result.status == 0);
     mysql_session_free(&reply);
     read_whole(&reply, TO_QUERY, 0, "17 00 00 01 ff 10 04 |Too many connections|");
     result = over_old(&reply, MYSQL_SESSION_RESULT_ERROR);
