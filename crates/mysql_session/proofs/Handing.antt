@@ -1,7 +1,5 @@
 -- What a writer took delivers sets, and what is read of the front that a failed writer took.
 use Rattle.std.proofs.Common.{◌≡◌, ◌⊎◌, ℕ, ◌<◌, ◌≤◌, ◌^◌, List, [], ◌∷◌, ◌++◌, length, map, take, drop, get_or, Option, Some, inl, inr, refl, sym, ◌∙◌, ap, subst, arith, take-append-drop}
-use Rattle.std.specs.Prelude.{◌↔◌}
-use Rattle.std.specs.List.{concat}
 use Rattle.std.specs.declared.io.Error.{Error}
 use Rattle.std.proofs.lemmas.Bool.{cases_lt}
 use Rattle.std.proofs.lemmas.Grind.{flat_map-append}
@@ -22,13 +20,12 @@ use Rattle.mysql_commands.specs.Query.{Statement, statement_of}
 use Rattle.mysql_commands.specs.Reading.{Set}
 use Rattle.mysql_streams.specs.declared.road.Road.{Road}
 use Rattle.mysql_streams.specs.declared.road.Road.TheVariants.{Text, Execute, Bulk}
-use Rattle.mysql_streams.specs.Reading.{HaveContents, SentReadable}
+use Rattle.mysql_streams.specs.Reading.{HaveContents}
 use Rattle.mysql_streams.specs.Sent.{SentPayload, payloads_of, sets_of, stream_of}
 use Rattle.mysql_streams.specs.Sets.{Given, all_given}
 use Rattle.mysql_streams.proofs.Held.{one_contents}
 use Rattle.mysql_streams.proofs.Statements.{query_is}
 use Rattle.mysql_set_writer.specs.declared.error.SendToError.TheVariants.{Io}
-use Rattle.mysql_set_writer.specs.Lots.{TakesFront}
 use Rattle.mysql_set_writer.specs.Writing.{FailsAmong, FailsWithin, Writes}
 use Rattle.mysql_session.specs.Delivery.{Delivers}
 use Rattle.mysql_session.specs.Handing.{DeliversTo, FailedWritersAreRead, FrontReads, StopsSending, TakesReadable}
