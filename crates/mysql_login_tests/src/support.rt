@@ -13,8 +13,7 @@ use std::borrow::CowStr;
 use std::fmt::Debug;
 use std::process::Abort;
 use tests_support::{
-    Assert, assert_bytes, assert_cut_off, assert_reads_back, assert_refused, assert_same,
-    assert_written, once_more,
+    Assert, assert_bytes, assert_cut_off, assert_reads_back, assert_refused, assert_same, once_more,
 };
 
 /// Ends a test by an assertion.
@@ -63,6 +62,29 @@ pub fn copy_of<T: Drop>(
     copy
 }
 
+/// What stands before a value is written.
+const FRONT: &[u8] = b"front";
+
+/// Asserts that a value is written as these bytes behind what stands, which stays where memory is refused too.
+fn assert_written_behind<T: MySerialize>(
+    assert: &impl Assert,
+    alloc: Global,
+    value: &T,
+    bytes: &[u8],
+) {
+    let mut out = once_more(
+        assert,
+        Vec::from_slice(alloc, FRONT),
+        Vec::from_slice(alloc, FRONT),
+    );
+    if value.serialize(&mut out).is_err() {
+        assert_bytes(assert, out.as_slice(), FRONT);
+        assert.holds(value.serialize(&mut out).is_ok());
+    }
+    assert_bytes(assert, out.get(..FRONT.len()).unwrap_or(&[]), FRONT);
+    assert_bytes(assert, out.get(FRONT.len()..).unwrap_or(&[]), bytes);
+}
+
 /// Asserts that a value is written as these bytes.
 pub fn assert_writes<T: MySerialize + Drop>(
     assert: &impl Assert,
@@ -70,7 +92,7 @@ pub fn assert_writes<T: MySerialize + Drop>(
     value: T,
     bytes: &[u8],
 ) {
-    assert_written(assert, alloc, &value, bytes);
+    assert_written_behind(assert, alloc, &value, bytes);
 }
 
 /// Asserts that a packet is written as these bytes, that they are read as a packet which is written as the same bytes, and
@@ -82,7 +104,7 @@ pub fn assert_packet<'a, T: MySerialize + MyDeserialize<'a> + Readable<Ctx = ()>
     bytes: &'a [u8],
     len: usize,
 ) {
-    assert_written(assert, alloc, &packet, bytes);
+    assert_written_behind(assert, alloc, &packet, bytes);
     assert_reads_back::<T, ()>(assert, alloc, (), bytes);
     assert_cut_off::<T, ()>(assert, alloc, (), bytes, 0, len);
 }

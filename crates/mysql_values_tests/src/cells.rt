@@ -3,13 +3,14 @@
 use crate::support::{Asserting, Given, assert_value, copied, made};
 use mysql_values::{
     BinValue, ClientSide, SerializationSide, ServerSide, TextValue, Value, ValueDeserializer,
-    read_text_cell,
+    read_cell, read_text_cell,
 };
 use mysql_wire::constants::{ColumnFlags, ColumnType};
 use mysql_wire::{MySerialize, ParseBuf, WireError};
 use std::alloc::Global;
 use tests_support::{
     Assert, assert_answer, assert_bytes, assert_cut_off, assert_equal, assert_refused, first_of,
+    once_more,
 };
 
 const SIGNED: ColumnFlags = ColumnFlags(0);
@@ -109,6 +110,28 @@ const BINARY: [(ColumnType, ColumnFlags, &[u8], Given); 15] = [
     ),
 ];
 
+/// Asserts what `read_cell` answers of a cell. It is read once more where memory was refused.
+fn assert_read(
+    assert: &impl Assert,
+    alloc: Global,
+    (column_type, flags): (ColumnType, ColumnFlags),
+    cell: &[u8],
+    wanted: Given,
+) {
+    let (number, unsigned) = (u8::from(column_type), flags.0 == UNSIGNED.0);
+    let mut buf = ParseBuf(cell);
+    let first = read_cell(alloc, number, unsigned, &mut buf);
+    let second = if first.is_err() {
+        read_cell(alloc, number, unsigned, &mut buf)
+    } else {
+        Err(WireError::Memory)
+    };
+    let value = once_more(assert, first, second);
+    assert_value(assert, alloc, &value, wanted);
+    drop(value);
+    assert_bytes(assert, buf.0, b"..");
+}
+
 fn assert_binary(
     assert: &impl Assert,
     alloc: Global,
@@ -121,6 +144,7 @@ fn assert_binary(
     assert_value(assert, alloc, &read.0, wanted);
     drop(read);
     assert_bytes(assert, buf.0, b"..");
+    assert_read(assert, alloc, ctx, cell, wanted);
 }
 
 #[test]
