@@ -1,4 +1,5 @@
-//! Rows of data, each an input beside what it has to give, run through the public calls. The head of each file in `data` says how its rows are written.
+//! Rows of data, each an input beside what it has to give, run through the public calls. The head
+//! of each file in `data` says how its rows are written.
 #![tactic(auto)]
 
 mod contents;
@@ -20,7 +21,8 @@ use std::process::ExitCode;
 use std::rt::Files;
 use std::{env, fs};
 
-/// Runs a line: whether it is a row. A line `NAME = ..` gives a name to tokens; an empty one and one that begins with `#` say nothing.
+/// Runs a line: whether it is a row. A line `NAME = ..` gives a name to tokens; an empty one and
+/// one that begins with `#` say nothing.
 fn run_line<'a>(alloc: Global, line: &'a str, names: &mut Names<'a>) -> Result<bool, Trouble> {
     let tokens = tokens_of(alloc, line, names)?;
     match tokens.as_slice() {

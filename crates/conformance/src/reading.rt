@@ -20,7 +20,8 @@ pub enum Reading {
     Reply(ReplyKind, CapabilityFlags, u8, usize),
 }
 
-/// How bytes are fed: the size of the pieces, and how many times in a row an empty piece follows each and what stands is taken.
+/// How bytes are fed: the size of the pieces, and how many times in a row an empty piece follows
+/// each and what stands is taken.
 type Feeding = (usize, usize);
 
 /// What a stream of commands says that is fed so: the sets that were taken, and behind them those of the end.
@@ -63,8 +64,8 @@ fn audited(
     Ok(audit_words(alloc, &audit)?)
 }
 
-/// What a reply says that is fed so: the results and reports that were taken, and behind them those of the end. A result set that was
-/// taken in parts stays in parts.
+/// What a reply says that is fed so: the results and reports that were taken, and behind them those
+/// of the end. A result set that was taken in parts stays in parts.
 fn fed_reply(
     mut reader: ReplyReader,
     stream: &[u8],
@@ -133,8 +134,9 @@ fn words_said(
     }
 }
 
-/// Compares what bytes say with what is wanted: in two halves with an empty piece between them, byte by byte, and where they are few in pieces of
-/// each size; and once more, in one piece, and in at most some 10000, where empty pieces come and what stands is taken in between.
+/// Compares what bytes say with what is wanted: in two halves with an empty piece between them,
+/// byte by byte, and where they are few in pieces of each size; and once more, in one piece, and in
+/// at most some 10000, where empty pieces come and what stands is taken in between.
 fn check_bytes(
     alloc: Global,
     reading: &Reading,

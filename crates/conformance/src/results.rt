@@ -69,7 +69,8 @@ fn put_error(words: &mut String, error: &ServerError<'_>) -> Result<(), AllocErr
     words.push_str(" |")
 }
 
-/// The columns that stand over rows: none, where the rows go on with those before them, which have no end and the same columns.
+/// The columns that stand over rows: none, where the rows go on with those before them, which have
+/// no end and the same columns.
 fn heading<'a>(columns: &'a [Column], before: Option<&ReplyResult>) -> &'a [Column] {
     match before {
         Some(

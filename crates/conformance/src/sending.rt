@@ -98,7 +98,8 @@ fn wanted_of(
     Ok(wanted)
 }
 
-/// Sends sets to a writer by a query that is kept, and compares the answer and what was written with what [`send`] answered and appended.
+/// Sends sets to a writer by a query that is kept, and compares the answer and what was written
+/// with what [`send`] answered and appended.
 fn check_sent_to(
     alloc: Global,
     statement: &Statement,

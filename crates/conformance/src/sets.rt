@@ -39,8 +39,9 @@ fn moment(fields: &[Json]) -> Option<Value> {
     Some(Value::Time(a == 1, b, small(c)?, small(d)?, small(e)?, f))
 }
 
-/// The value of an object: `bytes` with what a field of bytes is, `uint`, `float` and `double` with a number (a float's is that of its bits),
-/// `date` with seven numbers, `time` with six, of which the first is 1 where it is negative.
+/// The value of an object: `bytes` with what a field of bytes is, `uint`, `float` and `double` with
+/// a number (a float's is that of its bits), `date` with seven numbers, `time` with six, of which
+/// the first is 1 where it is negative.
 fn special(alloc: Global, members: &Map<String, Json>) -> Result<Option<Value>, Trouble> {
     let Some((name, member)) = members.iter().next() else {
         return Ok(None);

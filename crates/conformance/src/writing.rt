@@ -11,8 +11,8 @@ use mysql_session::{
 };
 use std::alloc::Global;
 
-/// What a reply is read and written by: the command's kind, the capabilities, the number of the first packet, and the limit of a
-/// packet.
+/// What a reply is read and written by: the command's kind, the capabilities, the number of the
+/// first packet, and the limit of a packet.
 pub type Sides = (ReplyKind, CapabilityFlags, u8, usize);
 
 /// What stands before a reply that is written.
@@ -128,8 +128,8 @@ pub fn written(
     Ok(found)
 }
 
-/// Writes what a reply says that was read with packets of up to 32 MB, perhaps of another kind, and compares the bytes, or the
-/// refusal, at which nothing is appended.
+/// Writes what a reply says that was read with packets of up to 32 MB, perhaps of another kind, and
+/// compares the bytes, or the refusal, at which nothing is appended.
 pub fn check_written(
     alloc: Global,
     read_kind: ReplyKind,

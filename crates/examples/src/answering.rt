@@ -11,7 +11,8 @@ use std::io;
 use std::io::Write;
 
 const GREETING: &[u8] =
-    b"\x0a5.6.4-m7-log\x00\x56\x0a\x00\x00RB3vz&Gr\x00\xff\xff\x08\x02\x00\x0f\xc0\x15\x00\x00\x00\x00\x00\x00\x00\x00\x00\x00+yD&/ZZ305ZG\x00mysql_native_password\x00";
+    b"\x0a5.6.4-m7-log\x00\x56\x0a\x00\x00RB3vz&Gr\x00\xff\xff\x08\x02\x00\x0f\xc0\x15\x00\x00\x00\
+    \x00\x00\x00\x00\x00\x00\x00+yD&/ZZ305ZG\x00mysql_native_password\x00";
 
 /// The packet that answers a greeting: `user` logs in, by the server's own plugin, with this scrambled password.
 fn answered(

@@ -39,7 +39,8 @@ impl FromValue for Cents {
     // The number of an amount.
     ghost shown = { λ cents. cents.0 };
 
-    // What a value converts to, if it does: the number that it holds, as a number or as a text of digits, where 64 bits hold it.
+    // What a value converts to, if it does: the number that it holds, as a number or as a text of
+    // digits, where 64 bits hold it.
     ghost converted = { integer_of (unsigned_in 64) };
 
     fn get_intermediate(value: Value) -> Result<ParseIr<Cents>, FromValueError> {

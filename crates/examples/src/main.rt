@@ -1,6 +1,7 @@
-//! Short programs over the public calls, one in each file: they audit a captured stream, send a query, load rows in bulk, read a
-//! reply, log in, sort what a client sends, look on at what passes between a client and a server, answer in a server's place, let
-//! rows go that were looked at, and keep a query, by which sets go to a connection.
+//! Short programs over the public calls, one in each file: they audit a captured stream, send a
+//! query, load rows in bulk, read a reply, log in, sort what a client sends, look on at what passes
+//! between a client and a server, answer in a server's place, let rows go that were looked at, and
+//! keep a query, by which sets go to a connection.
 #![tactic(auto)]
 
 mod answering;

@@ -4,9 +4,9 @@
 use Rattle.std.specs.Prelude.{ℕ, ◌∷◌, ◌++◌, [], List, Ok}
 use Rattle.std.specs.List.{concat}
 use Rattle.byteorder.specs.Endian.{little_bytes}
-use Rattle.mysql_raw.specs.Wire.{Reading, ◌>>=◌}
-use Rattle.mysql_raw_bytes.specs.Texts.{null_text, null_text_at}
-use Rattle.mysql_raw_consts.specs.Constants.{constant_at}
+use Rattle.mysql_fields.specs.Wire.{Reading, ◌>>=◌}
+use Rattle.mysql_fields.specs.Texts.{null_text, null_text_at}
+use Rattle.mysql_field_constants.specs.Constants.{constant_at}
 
 -- a byte, and a text to the end
 unfoldable pub headed : ℕ → List ℕ → List ℕ

@@ -1,8 +1,9 @@
 -- Authentication plugins: their names, and what they need beside the first data.
 -- (MySQL: Client/Server Protocol, "Authentication Methods"; MariaDB: "Pluggable Authentication".)
-use Rattle.std.specs.Prelude.{◌≡◌, ℕ, ◌*◌, ◌-◌, ◌^◌, ◌==◌, nat_le, ◌&&◌, if◌then◌else◌, List, [], ◌∷◌, codes, drop, length, replicate, slice_index_or, take, Option, None, Some, Ok}
+use Rattle.std.specs.Prelude.{◌≡◌, ℕ, ◌*◌, ◌-◌, ◌^◌, ◌==◌, nat_le, ◌&&◌, if◌then◌else◌, List, [], ◌∷◌, codes, drop}
+use Rattle.std.specs.Prelude.{length, replicate, slice_index_or, take, Option, None, Some, Ok}
 use Rattle.std.specs.Str.{bytes_eq}
-use Rattle.mysql_raw.specs.Wire.{Reading}
+use Rattle.mysql_fields.specs.Wire.{Reading}
 
 -- a text less one trailing zero
 abbrev pub without_zero : List ℕ → List ℕ
@@ -45,8 +46,8 @@ plugin_named name = named_among known_plugins name
 abbrev pub plugin_at : List ℕ → Reading Plugin
 plugin_at bytes = Ok (plugin_named (without_zero bytes), [])
 
--- A server's packet for PARSEC: `P`, a factor of at most 20 and 18 bytes of salt; the iterations are 1024 times two to the factor.
--- (MariaDB: "Authentication Plugin - PARSEC".)
+-- A server's packet for PARSEC: `P`, a factor of at most 20 and 18 bytes of salt; the iterations
+-- are 1024 times two to the factor. (MariaDB: "Authentication Plugin - PARSEC".)
 abbrev pub parsec_salt : List ℕ → Option (ℕ × List ℕ)
 parsec_salt packet =
     if (length packet == 20) && (slice_index_or packet 0 0 == 80) && nat_le (slice_index_or packet 1 0) 20

@@ -5,7 +5,8 @@ use Rattle.std.specs.Cow.{cow_slice_items}
 use Rattle.mysql_auth.specs.Packets.{SwitchFields}
 use Rattle.mysql_auth.specs.PluginData as content
 use Rattle.mysql_auth.specs.PluginData.{PluginData}
-use Rattle.mysql_auth.specs.Plugins.{Plugin, OldPassword, NativePassword, CachingSha2, ClearPassword, Ed25519, Parsec, Other}
+use Rattle.mysql_auth.specs.Plugins.{Plugin, OldPassword, NativePassword, CachingSha2, ClearPassword, Ed25519, Parsec}
+use Rattle.mysql_auth.specs.Plugins.{Other}
 use Rattle.mysql_auth.specs.declared.more_data.AuthMoreData.{AuthMoreData}
 use Rattle.mysql_auth.specs.declared.more_data.PublicKeyResponse.{PublicKeyResponse}
 use Rattle.mysql_auth.specs.declared.plugin_data.AuthPluginData.{AuthPluginData}
@@ -43,4 +44,8 @@ key_view packet = cow_slice_items packet.rsa_key
 
 -- the fields of a request for another plugin
 abbrev pub switch_view : AuthSwitchRequest → SwitchFields
-switch_view packet = record { auth_plugin = cow_slice_items packet.auth_plugin; plugin_data = cow_slice_items packet.plugin_data }
+switch_view packet = record {
+  auth_plugin = cow_slice_items packet.auth_plugin;
+  plugin_data =
+      cow_slice_items packet.plugin_data;
+}

@@ -2,12 +2,12 @@
 
 ghost use Rattle.std.specs.Prelude.{Some, ℕ, false};
 ghost use Rattle.byteorder.specs.Endian.{little_bytes};
-ghost use Rattle.mysql_raw_consts.specs.ConstantLaws.{constant_at-sized};
-ghost use Rattle.mysql_raw_consts.specs.Constants.{constant_at};
+ghost use Rattle.mysql_field_constants.specs.ConstantLaws.{constant_at-sized};
+ghost use Rattle.mysql_field_constants.specs.Constants.{constant_at};
 
 use crate::headers::PublicKeyRequestHeader;
 use mysql_buf::ParseBuf;
-use mysql_raw::{MyDeserialize, MySerialize, ParseExt, Readable, WireError};
+use mysql_fields::{MyDeserialize, MySerialize, ParseExt, Readable, WireError};
 use std::alloc::{AllocError, Global};
 
 /// A client's request for the server's public key.

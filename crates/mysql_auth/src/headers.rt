@@ -1,6 +1,6 @@
 //! The bytes that begin the packets of an exchange.
 
-use mysql_raw_consts::ConstU8;
+use mysql_field_constants::ConstU8;
 use thiserror::Error;
 
 /// Another byte than 01 begins a packet of more data.

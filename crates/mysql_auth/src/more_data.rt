@@ -8,14 +8,16 @@ ghost use Rattle.bstr.specs.Utf8.{lossy_chars};
 ghost use Rattle.mysql_auth.specs.PacketLaws.{headed_at-back};
 ghost use Rattle.mysql_auth.specs.Packets.{headed, headed_at};
 ghost use Rattle.mysql_auth.specs.Views.{key_view, more_data_view};
-ghost use Rattle.mysql_raw.specs.Laws.{unsized};
-ghost use Rattle.mysql_raw.specs.WireError.TheVariants as wire;
+ghost use Rattle.mysql_fields.specs.Laws.{unsized};
+ghost use Rattle.mysql_fields.specs.declared.error.WireError.TheVariants as wire;
 
 use crate::headers::{AuthMoreDataHeader, PublicKeyResponseHeader};
 use bstr::ByteSlice;
 use mysql_buf::ParseBuf;
-use mysql_raw::{MyDeserialize, MySerialize, ParseExt, Readable, ReadsBack, WireError, in_order};
-use mysql_raw_bytes::{EofBytes, RawBytes};
+use mysql_fields::{
+    EofBytes, MyDeserialize, MySerialize, ParseExt, RawBytes, Readable, ReadsBack, WireError,
+    in_order,
+};
 use std::alloc::{AllocError, Global};
 use std::borrow::{CowSlice, CowStr};
 

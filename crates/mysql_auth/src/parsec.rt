@@ -8,7 +8,8 @@ ghost use Rattle.mysql_auth.specs.Plugins.{parsec_salt};
 /// None of other bytes.
 /// (MariaDB: "Authentication Plugin - PARSEC".)
 pub fn parse_parsec_salt(packet: &[u8]) -> Option<(u32, &[u8; 18])>
-    ensures { MatchOption result (parsec_salt packet.now ≡ None) (λ found. parsec_salt packet.now ≡ Some (found.0, found.1.now)) }
+    ensures { MatchOption result (parsec_salt packet.now ≡ None) (λ found. parsec_salt packet.now ≡
+        Some (found.0, found.1.now)) }
 {
     if packet.len() != 20 {
         return None;

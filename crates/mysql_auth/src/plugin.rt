@@ -1,14 +1,15 @@
 //! Authentication plugins.
 
 ghost use Rattle.std.specs.Prelude.{◌≡◌, ◌++◌, ◌∷◌, [], IfOk, MatchOption, None, Ok, Some, ℕ, false};
-ghost use Rattle.mysql_auth.specs.Plugins.{Keeps, Plugin, plugin_name, plugin_named, plugin_at, with_data, without_zero};
+ghost use Rattle.mysql_auth.specs.Plugins.{Keeps, Plugin, plugin_name, plugin_named, plugin_at, with_data};
+ghost use Rattle.mysql_auth.specs.Plugins.{without_zero};
 ghost use Rattle.mysql_auth.specs.Views.{plugin_view};
-ghost use Rattle.mysql_raw.specs.Laws.{unsized};
+ghost use Rattle.mysql_fields.specs.Laws.{unsized};
 
 use crate::parsec::parse_parsec_salt;
 use crate::zero::{put_with_zero, without_zero};
 use mysql_buf::ParseBuf;
-use mysql_raw::{MyDeserialize, MySerialize, Readable, WireError};
+use mysql_fields::{MyDeserialize, MySerialize, Readable, WireError};
 use std::alloc::{AllocError, Global};
 use std::borrow::CowSlice;
 
@@ -148,7 +149,9 @@ impl<'a> AuthPlugin<'a> {
     /// packet doesn't hold them, and for each other plugin.
     /// (MariaDB: "Authentication Plugin - PARSEC".)
     pub fn read_add_data(&mut self, payload: &[u8]) -> Option<()>
-        ensures { MatchOption result (Keeps payload.now (plugin_view self.old) (plugin_view self.new)) (λ _. with_data payload.now (plugin_view self.old) ≡ Some (plugin_view self.new)) }
+        ensures { MatchOption result
+            (Keeps payload.now (plugin_view self.old) (plugin_view self.new))
+            (λ _. with_data payload.now (plugin_view self.old) ≡ Some (plugin_view self.new)) }
     {
         let AuthPlugin::MariadbParsec { .. } = self else {
             return None;

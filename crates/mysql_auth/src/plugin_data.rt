@@ -5,7 +5,7 @@ ghost use Rattle.mysql_auth.specs.PluginData.{data_bytes, data_written};
 ghost use Rattle.mysql_auth.specs.Views.{data_view};
 
 use crate::zero::put_with_zero;
-use mysql_raw::MySerialize;
+use mysql_fields::MySerialize;
 use std::alloc::{AllocError, Global};
 use std::borrow::CowSlice;
 

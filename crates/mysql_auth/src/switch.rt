@@ -6,16 +6,18 @@ ghost use Rattle.byteorder.specs.Endian.{little_bytes};
 ghost use Rattle.mysql_auth.specs.Packets.{SwitchFields, switch, switch_at};
 ghost use Rattle.mysql_auth.specs.Plugins.{OldPassword, plugin_named, without_zero};
 ghost use Rattle.mysql_auth.specs.Views.{plugin_view, switch_view};
-ghost use Rattle.mysql_raw.specs.Laws.{unsized};
-ghost use Rattle.mysql_raw_consts.specs.ConstantLaws.{constant_at-sized};
-ghost use Rattle.mysql_raw_consts.specs.Constants.{constant_at};
+ghost use Rattle.mysql_fields.specs.Laws.{unsized};
+ghost use Rattle.mysql_field_constants.specs.ConstantLaws.{constant_at-sized};
+ghost use Rattle.mysql_field_constants.specs.Constants.{constant_at};
 
 use crate::headers::AuthSwitchRequestHeader;
 use crate::plugin::AuthPlugin;
 use crate::zero::without_zero;
 use mysql_buf::ParseBuf;
-use mysql_raw::{MyDeserialize, MySerialize, ParseExt, Readable, WireError, in_order};
-use mysql_raw_bytes::{EofBytes, NullBytes, RawBytes};
+use mysql_fields::{
+    EofBytes, MyDeserialize, MySerialize, NullBytes, ParseExt, RawBytes, Readable, WireError,
+    in_order,
+};
 use std::alloc::{AllocError, Global};
 use std::borrow::CowSlice;
 
@@ -96,7 +98,12 @@ impl<'a> AuthSwitchRequest<'a> {
         auth_plugin: CowSlice<'a, u8>,
         plugin_data: CowSlice<'a, u8>,
     ) -> AuthSwitchRequest<'a>
-        ensures { switch_view result ≡ record { auth_plugin = cow_slice_items auth_plugin.entry; plugin_data = cow_slice_items plugin_data.entry } }
+        ensures { switch_view result ≡
+            record {
+              auth_plugin = cow_slice_items auth_plugin.entry;
+              plugin_data =
+                  cow_slice_items plugin_data.entry;
+            } }
     {
         AuthSwitchRequest {
             auth_plugin,

@@ -2,7 +2,7 @@
 
 ghost use Rattle.std.specs.Prelude.{◌≡◌, ◌++◌, ◌∷◌, []};
 ghost use Rattle.mysql_auth.specs.Plugins.{without_zero};
-ghost use Rattle.mysql_raw.specs.Wire.{Appends};
+ghost use Rattle.mysql_fields.specs.Wire.{Appends};
 
 use std::alloc::AllocError;
 

@@ -6,7 +6,8 @@ use crate::LIMIT;
 use mysql_wire::{PacketCodec, feed_all, packet_to_chunks};
 use std::alloc::{AllocError, Global};
 
-/// Frames a payload `count` times into a buffer that is emptied where it has at least `full` bytes. Answers the bytes written.
+/// Frames a payload `count` times into a buffer that is emptied where it has at least `full` bytes.
+/// Answers the bytes written.
 #[unsafe(no_mangle)]
 pub extern "C" fn mysql_bench_frame(
     alloc: Global,

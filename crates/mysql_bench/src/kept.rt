@@ -31,8 +31,8 @@ fn sent(
     written
 }
 
-/// Sends the sets that the bytes hold by one query, so many by a call, and all of them so many times. Answers the bytes of one
-/// time.
+/// Sends the sets that the bytes hold by one query, so many by a call, and all of them so many
+/// times. Answers the bytes of one time.
 #[unsafe(no_mangle)]
 pub extern "C" fn mysql_bench_send_kept(
     alloc: Global,
@@ -61,7 +61,8 @@ pub extern "C" fn mysql_bench_send_kept(
     written
 }
 
-/// Sends the executions of sets behind a prepare, each by a call, into a buffer that is emptied before. Answers the bytes.
+/// Sends the executions of sets behind a prepare, each by a call, into a buffer that is emptied
+/// before. Answers the bytes.
 fn sent_behind(alloc: Global, query: &Query<'_>, sets: &[Vec<Value>], out: &mut Vec<u8>) -> usize {
     let mut written: usize = 0;
     for one in sets.chunks(1) {
@@ -89,8 +90,8 @@ fn lists_of(
     Ok(sets)
 }
 
-/// Sends the sets that the bytes hold as executions of one query that was prepared before, each by a call, and all of them so many
-/// times. Answers the bytes of one time.
+/// Sends the sets that the bytes hold as executions of one query that was prepared before, each by
+/// a call, and all of them so many times. Answers the bytes of one time.
 #[unsafe(no_mangle)]
 pub extern "C" fn mysql_bench_send_more(
     alloc: Global,

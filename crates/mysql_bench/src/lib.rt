@@ -1,4 +1,5 @@
-//! What the benchmark of `bench/` calls from C. Each call does its work and answers a count that shows that it was done, or 0.
+//! What the benchmark of `bench/` calls from C. Each call does its work and answers a count that
+//! shows that it was done, or 0.
 //!
 //! An `alloc` takes no bytes, so that C passes nothing for it; a slice is a pointer and a length.
 #![tactic(auto)]

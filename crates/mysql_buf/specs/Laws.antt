@@ -1,11 +1,13 @@
 -- What is written reads back, whatever follows it, and is written in fewest bytes.
 -- (MySQL: Client/Server Protocol, "Protocol Basics: Integer Types" and "String Types".)
-use Rattle.std.specs.Prelude.{◌≡◌, ℕ, ℤ, pos, negsuc, ◌+◌, ◌-◌, ◌*◌, ◌^◌, ◌<◌, ◌≤◌, false, List, ◌∷◌, ◌++◌, length, slice_index, Option, Some}
+use Rattle.std.specs.Prelude.{◌≡◌, ℕ, ℤ, pos, negsuc, ◌+◌, ◌-◌, ◌*◌, ◌^◌, ◌<◌, ◌≤◌, false, List, ◌∷◌, ◌++◌, length}
+use Rattle.std.specs.Prelude.{slice_index, Option, Some}
 use Rattle.std.specs.Int.{Width, byte_len, cast_unsigned}
 use Rattle.std.specs.List.{AllByRecursion, after_first, before_first}
 use Rattle.byteorder.specs.Endian.{big_bytes, little_bytes}
 use Rattle.mysql_buf.specs.Bytes.{AreBytes}
-use Rattle.mysql_buf.specs.Reading.{big_at, big_signed_at, is_zero, little_at, little_signed_at, lenenc_int_at, lenenc_str_at, u8_str_at, u32_str_at}
+use Rattle.mysql_buf.specs.Reading.{big_at, big_signed_at, is_zero, little_at, little_signed_at, lenenc_int_at}
+use Rattle.mysql_buf.specs.Reading.{lenenc_str_at, u8_str_at, u32_str_at}
 use Rattle.mysql_buf.specs.Varlen.{varlen, varlen_at}
 use Rattle.mysql_buf.specs.Writing.{front, lenenc_int, lenenc_str, u8_str, u32_str}
 
@@ -44,7 +46,8 @@ LenencStrReadsBack = ReadsBack (λ text. length text < 2 ^ 64) lenenc_str lenenc
 -- a text after a length of one byte or four reads back as the front that is written
 abbrev pub CountedReadsBack : Type 0
 CountedReadsBack = (text rest : List ℕ) →
-    (u8_str_at (u8_str text ++ rest) ≡ Some (front text 255, rest)) × (u32_str_at (u32_str text ++ rest) ≡ Some (front text (2 ^ 32 - 1), rest))
+    (u8_str_at (u8_str text ++ rest) ≡ Some (front text 255, rest)) ×
+    (u32_str_at (u32_str text ++ rest) ≡ Some (front text (2 ^ 32 - 1), rest))
 
 -- a text without zeros, and a zero
 abbrev pub NullReadsBack : Type 0
@@ -57,7 +60,8 @@ VarlenReadsBack = ReadsBack (λ n. n < 2 ^ 64) varlen varlen_at
 
 -- no bytes that read as a number are fewer than those written
 abbrev pub IsShortest : (ℕ → List ℕ) → (List ℕ → Option (ℕ × List ℕ)) → Type 0
-IsShortest written at = (n : ℕ) (bytes rest : List ℕ) → AreBytes bytes → at bytes ≡ Some (n, rest) → length (written n) + length rest ≤ length bytes
+IsShortest written at = (n : ℕ) (bytes rest : List ℕ) → AreBytes bytes → at bytes ≡ Some (n, rest) →
+    length (written n) + length rest ≤ length bytes
 
 abbrev pub LenencIntIsShortest : Type 0
 LenencIntIsShortest = IsShortest lenenc_int lenenc_int_at

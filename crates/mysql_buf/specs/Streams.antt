@@ -19,7 +19,8 @@ Takes at None new x = ⊤
 Takes at (Some old) None x = ⊥
 Takes at (Some old) (Some new) x = at old ≡ Some (x, new)
 
--- a refusal before bytes that begin with fb or ff: the reader's own one, which takes none of them, or such a one, once the first was read
+-- a refusal before bytes that begin with fb or ff: the reader's own one, which takes none of them,
+-- or such a one, once the first was read
 abbrev pub RefusesToBegin : Option (List ℕ) → Option (List ℕ) → Type 0 → Type 0
 RefusesToBegin None new such = ⊤
 RefusesToBegin (Some []) new such = ⊤

@@ -1,5 +1,6 @@
 -- Length-encoded numbers and texts read back, and no spelling of a number is shorter.
-use Rattle.std.proofs.Common.{◌≡◌, ℕ, suc, ◌+◌, ◌-◌, ◌%◌, ◌^◌, ◌<◌, ◌≤◌, false, inl, inr, List, [], ◌∷◌, ◌++◌, length, take, drop, Some, refl, ap, ◌∙◌, arith, append_assoc}
+use Rattle.std.proofs.Common.{◌≡◌, ℕ, suc, ◌+◌, ◌-◌, ◌%◌, ◌^◌, ◌<◌, ◌≤◌, false, inl, inr, List, [], ◌∷◌, ◌++◌, length}
+use Rattle.std.proofs.Common.{take, drop, Some, refl, ap, ◌∙◌, arith, append_assoc}
 use Rattle.std.proofs.Math.Nat.{mod-eq_of_lt}
 use Rattle.std.proofs.lemmas.Bool.{cases_lt, le-ltb, lt-ltb}
 use Rattle.std.proofs.lemmas.Bool.Decides.{eqb_tells}
@@ -10,7 +11,8 @@ use Rattle.byteorder.specs.Numbers.{little_from-lt}
 use Rattle.mysql_buf.specs.NumberLaws.{little-reads_back, bytes_at-append}
 use Rattle.mysql_buf.specs.FirstBytes.{first-some}
 use Rattle.mysql_buf.specs.Bytes.{AreBytes}
-use Rattle.mysql_buf.specs.Reading.{is_zero, little_at, lenenc_int_at, lenenc_str_at, bytes_at, then_at, u8_str_at, u32_str_at}
+use Rattle.mysql_buf.specs.Reading.{is_zero, little_at, lenenc_int_at, lenenc_str_at, bytes_at, then_at, u8_str_at}
+use Rattle.mysql_buf.specs.Reading.{u32_str_at}
 use Rattle.mysql_buf.specs.Writing.{front, lenenc_int, lenenc_str, u8_str, u32_str}
 
 pub lenenc_int-reads_back : (n : ℕ) (rest : List ℕ) → n < 2 ^ 64 → lenenc_int_at (lenenc_int n ++ rest) ≡ Some (n, rest)
@@ -19,15 +21,19 @@ lenenc_int-reads_back n rest h = elim (cases_lt n 251) [
   | inr more ↦ elim (cases_lt n (2 ^ 16)) [
     | inl two ↦ rw (le-ltb n 251 more, lt-ltb n (2 ^ 16) two) (little-reads_back 2 n rest (omega arith))
     | inr more2 ↦ elim (cases_lt n (2 ^ 24)) [
-      | inl three ↦ rw (le-ltb n 251 more, le-ltb n (2 ^ 16) more2, lt-ltb n (2 ^ 24) three) (little-reads_back 3 n rest (omega arith))
-      | inr more3 ↦ rw (le-ltb n 251 more, le-ltb n (2 ^ 16) more2, le-ltb n (2 ^ 24) more3) (little-reads_back 8 n rest (omega arith))
+      | inl three ↦ rw (le-ltb n 251 more, le-ltb n (2 ^ 16) more2, lt-ltb n (2 ^ 24) three)
+          (little-reads_back 3 n rest (omega arith))
+      | inr more3 ↦ rw (le-ltb n 251 more, le-ltb n (2 ^ 16) more2, le-ltb n (2 ^ 24) more3)
+          (little-reads_back 8 n rest (omega arith))
     ]
   ]
 ]
 
-pub lenenc_str-reads_back : (text rest : List ℕ) → length text < 2 ^ 64 → lenenc_str_at (lenenc_str text ++ rest) ≡ Some (text, rest)
+pub lenenc_str-reads_back : (text rest : List ℕ) → length text < 2 ^ 64 →
+    lenenc_str_at (lenenc_str text ++ rest) ≡ Some (text, rest)
 lenenc_str-reads_back text rest h =
-    let regroup : lenenc_str text ++ rest ≡ lenenc_int (length text) ++ (text ++ rest) = append_assoc (lenenc_int (length text)) text rest in
+    let regroup : lenenc_str text ++ rest ≡ lenenc_int (length text) ++ (text ++ rest) =
+    append_assoc (lenenc_int (length text)) text rest in
     rw (regroup, lenenc_int-reads_back (length text) (text ++ rest) h) (bytes_at-append text rest)
 
 -- behind a text and one byte
@@ -58,7 +64,8 @@ u32_str-reads_back text rest =
     counted-reads_back 4 (front text (2 ^ 32 - 1)) rest (omega arith)
 
 -- the first zero stands behind the text
-zero-place : (text rest : List ℕ) → AllByRecursion (λ b. is_zero b ≡ false) text → position_or_len is_zero (text ++ 0 ∷ rest) ≡ length text
+zero-place : (text rest : List ℕ) → AllByRecursion (λ b. is_zero b ≡ false) text →
+    position_or_len is_zero (text ++ 0 ∷ rest) ≡ length text
 zero-place [] rest h = refl
 zero-place (b ∷ text) rest h = let e = zero-place text rest h.1 in rw (h.0, e) (omega arith)
 
@@ -66,10 +73,15 @@ pub null-reads_back : (text rest : List ℕ) → AllByRecursion (λ b. is_zero b
     → (before_first is_zero (text ++ 0 ∷ rest) ≡ text) × (after_first is_zero (text ++ 0 ∷ rest) ≡ rest)
 null-reads_back text rest h =
     let e = zero-place text rest h in
-    let taken : before_first is_zero (text ++ 0 ∷ rest) ≡ take (length text) (text ++ 0 ∷ rest) = ap (λ n. take n (text ++ 0 ∷ rest)) e in
-    let left : after_first is_zero (text ++ 0 ∷ rest) ≡ drop (length text + 1) (text ++ 0 ∷ rest) = ap (λ n. drop (n + 1) (text ++ 0 ∷ rest)) e in
-    let one : length text + 1 ≡ suc (length text) = omega arith in
-    (taken ∙ take_at text (0 ∷ rest) (length text) refl, left ∙ ap (λ n. drop n (text ++ 0 ∷ rest)) one ∙ drop-past text rest)
+    let taken : before_first is_zero (text ++ 0 ∷ rest) ≡ take (length text) (text ++ 0 ∷ rest) =
+    ap (λ n. take n (text ++ 0 ∷ rest)) e in
+    let left : after_first is_zero (text ++ 0 ∷ rest) ≡ drop (length text + 1) (text ++ 0 ∷ rest) =
+    ap (λ n. drop (n + 1) (text ++ 0 ∷ rest)) e in
+    let one : length text + 1 ≡ suc (length text) = omega arith in (
+      taken ∙ take_at text (0 ∷ rest) (length text) refl,
+      left ∙
+          ap (λ n. drop n (text ++ 0 ∷ rest)) one ∙ drop-past text rest,
+    )
 
 -- how many bytes a number takes at most
 length-below_16 : (n : ℕ) → n < 2 ^ 16 → length (lenenc_int n) ≤ 3
@@ -96,7 +108,8 @@ length-at_most n = elim (cases_lt n (2 ^ 24)) [
 ]
 
 -- what a number of k bytes leaves
-pub left-of : (k : ℕ) (bs : List ℕ) (n : ℕ) (rest : List ℕ) → AreBytes bs → little_at k bs ≡ Some (n, rest) → (n < 256 ^ k) × (length rest + k ≡ length bs)
+pub left-of : (k : ℕ) (bs : List ℕ) (n : ℕ) (rest : List ℕ) → AreBytes bs → little_at k bs ≡
+    Some (n, rest) → (n < 256 ^ k) × (length rest + k ≡ length bs)
 left-of k bs n rest small h =
     let p = first-some k (little_number k) bs (n, rest) h in
     let number : n ≡ little_number k bs = ap (λ p. p.0) p.1 in
@@ -110,7 +123,8 @@ some-injective : (p q : ℕ × List ℕ) → Some p ≡ Some q → p ≡ q
 some-injective p q h = cc
 
 -- no spelling of a number is shorter than the written one
-pub lenenc_int-shortest : (n : ℕ) (bytes rest : List ℕ) → AreBytes bytes → lenenc_int_at bytes ≡ Some (n, rest) → length (lenenc_int n) + length rest ≤ length bytes
+pub lenenc_int-shortest : (n : ℕ) (bytes rest : List ℕ) → AreBytes bytes → lenenc_int_at bytes ≡
+    Some (n, rest) → length (lenenc_int n) + length rest ≤ length bytes
 lenenc_int-shortest n [] rest small h = absurd (cc)
 lenenc_int-shortest n (b ∷ bs) rest small h = elim (cases_lt b 251) [
   | inl one ↦

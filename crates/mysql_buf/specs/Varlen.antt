@@ -1,5 +1,6 @@
--- Numbers of variable length, as the tags of transaction ids have them: each byte of a short one holds seven bits of the number.
--- (MySQL: Source Code Documentation, "mysql::serialization", "Variable-length integer".)
+-- Numbers of variable length, as the tags of transaction ids have them: each byte of a short one
+-- holds seven bits of the number. (MySQL: Source Code Documentation, "mysql::serialization",
+-- "Variable-length integer".)
 use Rattle.std.specs.Prelude.{ℕ, ◌+◌, ◌-◌, ◌*◌, ◌/◌, ◌^◌, ◌==◌, nat_lt, if◌then◌else◌, List, [], ◌∷◌, Option, None}
 use Rattle.std.specs.Int.{w8, trailing_ones}
 use Rattle.byteorder.specs.Endian.{little_bytes, little_number}
@@ -26,9 +27,11 @@ marked size n = n * 2 ^ size + (2 ^ (size - 1) - 1)
 abbrev pub varlen : ℕ → List ℕ
 varlen n = if nat_lt n (2 ^ 56) then little_bytes (varlen_size n) (marked (varlen_size n) n) else 255 ∷ little_bytes 8 n
 
--- a number whose first byte is b: as many bytes follow as b has low one bits; the value stands above those ones and the zero
+-- a number whose first byte is b: as many bytes follow as b has low one bits; the value stands
+-- above those ones and the zero
 abbrev pub short_at : ℕ → List ℕ → Option (ℕ × List ℕ)
-short_at b bytes = first (trailing_ones w8 b + 1) (λ bytes. little_number (trailing_ones w8 b + 1) bytes / 2 ^ (trailing_ones w8 b + 1)) bytes
+short_at b bytes = first (trailing_ones w8 b + 1)
+    (λ bytes. little_number (trailing_ones w8 b + 1) bytes / 2 ^ (trailing_ones w8 b + 1)) bytes
 
 -- a short number; after ff it is eight bytes
 abbrev pub varlen_at : List ℕ → Option (ℕ × List ℕ)

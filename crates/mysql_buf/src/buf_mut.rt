@@ -61,7 +61,8 @@ pub trait BufMutExt: BufMut {
     final fn put_i24_le(&mut self, number: i32) -> Result<(), AllocError>
     where
         Self: Sized,
-        ensures ok { OnOk result (Self.written self.new ≡ Self.written self.old ++ little_bytes 3 (cast_unsigned w32 number)) }
+        ensures ok { OnOk result (Self.written self.new ≡ Self.written self.old ++
+            little_bytes 3 (cast_unsigned w32 number)) }
         ensures err { OnErr result (Self.written self.new ≡ Self.written self.old) }
         ensures spare { UsesSpare result (Self.spare self.old) (Self.spare self.new) 3 }
     {
@@ -94,7 +95,8 @@ pub trait BufMutExt: BufMut {
     final fn put_i56_le(&mut self, number: i64) -> Result<(), AllocError>
     where
         Self: Sized,
-        ensures ok { OnOk result (Self.written self.new ≡ Self.written self.old ++ little_bytes 7 (cast_unsigned w64 number)) }
+        ensures ok { OnOk result (Self.written self.new ≡ Self.written self.old ++
+            little_bytes 7 (cast_unsigned w64 number)) }
         ensures err { OnErr result (Self.written self.new ≡ Self.written self.old) }
         ensures spare { UsesSpare result (Self.spare self.old) (Self.spare self.new) 7 }
     {

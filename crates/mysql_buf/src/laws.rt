@@ -1,6 +1,8 @@
 //! Laws of what is written and read, over the definitions alone.
 
-ghost use Rattle.mysql_buf.specs.Laws.{BigReadsBack, BigSignedReadsBack, CountedReadsBack, LenencIntIsShortest, LenencIntReadsBack, LenencStrReadsBack, LittleReadsBack, LittleSignedReadsBack, NullReadsBack, VarlenIsShortest, VarlenReadsBack};
+ghost use Rattle.mysql_buf.specs.Laws.{BigReadsBack, BigSignedReadsBack, CountedReadsBack, LenencIntIsShortest};
+ghost use Rattle.mysql_buf.specs.Laws.{LenencIntReadsBack, LenencStrReadsBack, LittleReadsBack, LittleSignedReadsBack};
+ghost use Rattle.mysql_buf.specs.Laws.{NullReadsBack, VarlenIsShortest, VarlenReadsBack};
 
 /// Numbers of any width, in either order of their bytes, read back with anything following.
 pub fn numbers_read_back()

@@ -23,7 +23,9 @@ pub trait ReadMysqlExt: Read {
     where
         Self: Sized,
         ensures taken { IfOk result (Takes begun_lenenc_int_at (Self.remaining self.old) (Self.remaining self.new)) }
-        ensures refused { IfErr result (λ e. RefusesToBegin (Self.remaining self.old) (Self.remaining self.new) (error_kind e ≡ ErrorKind.InvalidData)) }
+        ensures refused { IfErr result
+            (λ e. RefusesToBegin (Self.remaining self.old) (Self.remaining self.new) (error_kind e ≡
+            ErrorKind.InvalidData)) }
     {
         let first = first_byte(self)?;
         match first {
@@ -41,8 +43,12 @@ pub trait ReadMysqlExt: Read {
     final fn read_lenenc_str(&mut self, alloc: Global) -> io::Result<Vec<u8>>
     where
         Self: Sized,
-        ensures taken { IfOk result (λ text. Takes begun_lenenc_str_at (Self.remaining self.old) (Self.remaining self.new) text.items) }
-        ensures refused { IfErr result (λ e. RefusesToBegin (Self.remaining self.old) (Self.remaining self.new) (error_kind e ≡ ErrorKind.InvalidData)) }
+        ensures taken { IfOk result
+            (λ text. Takes begun_lenenc_str_at (Self.remaining self.old) (Self.remaining self.new)
+            text.items) }
+        ensures refused { IfErr result
+            (λ e. RefusesToBegin (Self.remaining self.old) (Self.remaining self.new) (error_kind e ≡
+            ErrorKind.InvalidData)) }
     {
         let count = self.read_lenenc_int()?;
         read_bytes(alloc, self, count)
@@ -60,7 +66,8 @@ pub trait WriteMysqlExt: Write {
     where
         Self: Sized,
         ensures count { IfOk result (λ count. count ≡ length (lenenc_int number)) }
-        ensures bytes { IfOk result (λ _. Appends (Self.contents self.old) (Self.contents self.new) (lenenc_int number)) }
+        ensures bytes { IfOk result
+            (λ _. Appends (Self.contents self.old) (Self.contents self.new) (lenenc_int number)) }
     {
         write_shortest(self, number)?;
         Ok(lenenc_int_len(number))
@@ -74,7 +81,8 @@ pub trait WriteMysqlExt: Write {
     where
         Self: Sized,
         ensures count { IfOk result (λ count. count ≡ length (lenenc_str text.now)) }
-        ensures bytes { IfOk result (λ _. Appends (Self.contents self.old) (Self.contents self.new) (lenenc_str text.now)) }
+        ensures bytes { IfOk result
+            (λ _. Appends (Self.contents self.old) (Self.contents self.new) (lenenc_str text.now)) }
     {
         let count = self.write_lenenc_int(text.len() as u64)?;
         self.write_all(text)?;

@@ -1,9 +1,9 @@
 -- Reading something for each column, as a loop does.
 use Rattle.std.proofs.Common.{◌≡◌, ℕ, zero, suc, ◌+◌, ◌≤◌, ◌<◌, List, [], ◌∷◌, ◌++◌, length, get_or, drop, Ok, Err, refl, sym, ap, ◌∙◌, append_assoc, append-nil, arith}
 use Rattle.std.proofs.lemmas.List.{drop_more}
-use Rattle.mysql_raw.specs.WireError.{WireError}
-use Rattle.mysql_raw.specs.Wire.{Reading, Refuses, ◌>>=◌}
-use Rattle.mysql_raw_lists.specs.ElementLaws.{with_front}
+use Rattle.mysql_fields.specs.declared.error.WireError.{WireError}
+use Rattle.mysql_fields.specs.Wire.{Reading, Refuses, ◌>>=◌}
+use Rattle.mysql_field_lists.specs.ElementLaws.{with_front}
 use Rattle.mysql_bulk.specs.Reading.{each_at}
 
 regroup : {Y : Type 0} (front : List Y) (y : Y) (read : Reading (List Y)) → with_front front (read >>= λ x. Ok (y ∷ x.0, x.1)) ≡ with_front (front ++ y ∷ []) read

@@ -1,6 +1,7 @@
 -- Bulk executions of a prepared statement: the types of their columns, and their bytes.
 -- MariaDB: Client/Server Protocol, "COM_STMT_BULK_EXECUTE".
-use Rattle.std.specs.Prelude.{ℕ, ◌+◌, ◌*◌, ◌==◌, ◌&&◌, ◌||◌, Bool, true, false, if◌then◌else◌, List, [], ◌∷◌, length, map, get_or, Option, Some, None}
+use Rattle.std.specs.Prelude.{ℕ, ◌+◌, ◌*◌, ◌==◌, ◌&&◌, ◌||◌, Bool, true, false, if◌then◌else◌, List, [], ◌∷◌, length}
+use Rattle.std.specs.Prelude.{map, get_or, Option, Some, None}
 use Rattle.std.specs.List.{concat, flat_map, range_with_len}
 use Rattle.byteorder.specs.Endian.{little_bytes}
 use Rattle.mysql_const.specs.BulkIndicators.{bulk_indicator_number}
@@ -43,7 +44,11 @@ param_value_bytes p = bulk_indicator_number p.indicator ∷ cell p.value
 
 -- the type that a value is sent by
 abbrev pub type_of_value : Value → StmtBulkExecuteParamType
-type_of_value value = record { column_type = type_of value; flags = record { 0 = if is_unsigned value then 0x80 else 0 } }
+type_of_value value = record {
+  column_type = type_of value;
+  flags =
+      record { 0 = if is_unsigned value then 0x80 else 0 };
+}
 
 -- a type's bytes: its number, its flags
 abbrev pub param_type_bytes : StmtBulkExecuteParamType → List ℕ
@@ -77,12 +82,17 @@ has_unsigned number (value ∷ values) = is_unsigned_of number value || has_unsi
 abbrev pub column_type : List Value → StmtBulkExecuteParamType
 column_type column =
     let first = first_value column in
-    record { column_type = type_of first; flags = record { 0 = if has_unsigned (type_number first) column then 0x80 else 0 } }
+    record {
+      column_type = type_of first;
+      flags =
+          record { 0 = if has_unsigned (type_number first) column then 0x80 else 0 };
+    }
 
 -- the type of the values so far and of one more
 abbrev pub merged : StmtBulkExecuteParamType → Value → StmtBulkExecuteParamType
 merged t value =
-    if (column_type_number t.column_type == 6) || is_unsigned_of (column_type_number t.column_type) value then type_of_value value else t
+    if (column_type_number t.column_type == 6) ||
+    is_unsigned_of (column_type_number t.column_type) value then type_of_value value else t
 
 -- the values of a column, where rows of so many values lie one after another
 abbrev pub column_of : ℕ → ℕ → List Value → ℕ → List Value
@@ -122,7 +132,13 @@ all_values rows = flat_map (λ row. row) rows
 -- the payload that carries rows by these types
 abbrev pub bulk_command : ℕ → ℕ → List StmtBulkExecuteParamType → List (List Value) → List ℕ
 bulk_command id flags types rows =
-    bulk_execution (record { stmt_id = id; flags = flags; types = types; values = map param_value_of (all_values rows) })
+    bulk_execution (record {
+      stmt_id = id;
+      flags = flags;
+      types = types;
+      values =
+          map param_value_of (all_values rows);
+    })
 
 -- how many values the first row has
 abbrev pub first_length : List (List Value) → ℕ
@@ -143,4 +159,5 @@ bulk_cause (row ∷ rows) = if have_length (length row) (row ∷ rows) then None
 abbrev pub bulk_cause_with_types : ℕ → ℕ → List (List Value) → Option BulkExecuteRequestError
 bulk_cause_with_types flags types [] = Some NoParams
 bulk_cause_with_types flags types (row ∷ rows) =
-    if have_length (length row) (row ∷ rows) && (if sends_types flags then types == length row else true) then None else Some MixedArity
+    if have_length (length row) (row ∷ rows) &&
+    (if sends_types flags then types == length row else true) then None else Some MixedArity

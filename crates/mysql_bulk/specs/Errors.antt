@@ -2,7 +2,8 @@
 use Rattle.std.specs.Prelude.{ℕ, List, []}
 use Rattle.mysql_cells.specs.declared.value.Value.{Value}
 use Rattle.mysql_bulk.specs.declared.error.BulkExecuteRequestError.{BulkExecuteRequestError}
-use Rattle.mysql_bulk.specs.declared.error.BulkExecuteRequestError.TheVariants.{NoParams, MixedArity, RowTooLarge, Memory}
+use Rattle.mysql_bulk.specs.declared.error.BulkExecuteRequestError.TheVariants.{NoParams, MixedArity, RowTooLarge}
+use Rattle.mysql_bulk.specs.declared.error.BulkExecuteRequestError.TheVariants.{Memory}
 
 -- which refusal it is, counted from 1, and the row that it carries
 abbrev pub refusal_parts : BulkExecuteRequestError → ℕ × List Value

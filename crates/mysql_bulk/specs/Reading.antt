@@ -9,7 +9,9 @@ use Rattle.mysql_const.specs.Commands.{command_number}
 use Rattle.mysql_const.specs.ExecuteFlags.{execute_param_flags}
 use Rattle.mysql_const.specs.FlagSets.{contains}
 use Rattle.mysql_const.specs.declared.bulk.MariadbBulkIndicator.{MariadbBulkIndicator}
-use Rattle.mysql_const.specs.declared.bulk.MariadbBulkIndicator.TheVariants.{BULK_INDICATOR_NONE, BULK_INDICATOR_NULL, BULK_INDICATOR_DEFAULT, BULK_INDICATOR_IGNORE}
+use Rattle.mysql_const.specs.declared.bulk.MariadbBulkIndicator.TheVariants.{BULK_INDICATOR_NONE, BULK_INDICATOR_NULL}
+use Rattle.mysql_const.specs.declared.bulk.MariadbBulkIndicator.TheVariants.{BULK_INDICATOR_DEFAULT}
+use Rattle.mysql_const.specs.declared.bulk.MariadbBulkIndicator.TheVariants.{BULK_INDICATOR_IGNORE}
 use Rattle.mysql_const.specs.declared.bulk.StmtBulkExecuteFlags.{StmtBulkExecuteFlags}
 use Rattle.mysql_const.specs.declared.column_flags.ColumnFlags.{ColumnFlags}
 use Rattle.mysql_const.specs.declared.column_type.ColumnType.{ColumnType}
@@ -18,11 +20,11 @@ use Rattle.mysql_const.specs.declared.execute.StmtExecuteParamFlags.{StmtExecute
 use Rattle.mysql_cells.specs.Cells.{column_cell_at}
 use Rattle.mysql_cells.specs.declared.value.Value.{Value}
 use Rattle.mysql_cells.specs.declared.value.Value.TheVariants.{NULL}
-use Rattle.mysql_raw.specs.Forms.{fixed_number_at}
-use Rattle.mysql_raw.specs.Wire.{Reading, from_block, ◌>>=◌}
-use Rattle.mysql_raw_consts.specs.Constants.{constant_at, named_at}
-use Rattle.mysql_raw_consts.specs.Flags.{flags_named}
-use Rattle.mysql_raw_lists.specs.Lists.{elements_at}
+use Rattle.mysql_fields.specs.Forms.{fixed_number_at}
+use Rattle.mysql_fields.specs.Wire.{Reading, from_block, ◌>>=◌}
+use Rattle.mysql_field_constants.specs.Constants.{constant_at, named_at}
+use Rattle.mysql_field_constants.specs.Flags.{flags_named}
+use Rattle.mysql_field_lists.specs.Lists.{elements_at}
 use Rattle.mysql_bulk.specs.Bulk.{BulkExecution, sends_types}
 use Rattle.mysql_bulk.specs.declared.param_type.StmtBulkExecuteParamType.{StmtBulkExecuteParamType}
 use Rattle.mysql_bulk.specs.declared.param_value.StmtBulkExecuteParamValue.{StmtBulkExecuteParamValue}
@@ -87,7 +89,8 @@ abbrev pub column_by : StmtBulkExecuteParamType → ColumnType × ColumnFlags
 column_by t = (t.column_type, record { 0 = if contains t.flags.0 0x80 then 0x20 else 0 })
 
 -- the columns by which rows are read: those of the types that were sent, else those that are known
-abbrev pub columns_by : ℕ → List StmtBulkExecuteParamType → List (ColumnType × ColumnFlags) → List (ColumnType × ColumnFlags)
+abbrev pub columns_by : ℕ → List StmtBulkExecuteParamType → List (ColumnType × ColumnFlags) →
+    List (ColumnType × ColumnFlags)
 columns_by flags types columns = if sends_types flags then map column_by types else columns
 
 -- as many types as there are columns, where they are sent

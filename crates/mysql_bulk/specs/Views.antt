@@ -3,4 +3,10 @@ use Rattle.mysql_bulk.specs.Bulk.{BulkExecution}
 use Rattle.mysql_bulk.specs.declared.request.ComStmtBulkExecuteRequest.{ComStmtBulkExecuteRequest}
 
 abbrev pub bulk_view : ComStmtBulkExecuteRequest → BulkExecution
-bulk_view r = record { stmt_id = r.stmt_id; flags = r.bulk_flags.0; types = r.types.items; values = r.values.values.items }
+bulk_view r = record {
+  stmt_id = r.stmt_id;
+  flags = r.bulk_flags.0;
+  types = r.types.items;
+  values =
+      r.values.values.items;
+}

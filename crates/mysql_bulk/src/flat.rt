@@ -1,7 +1,8 @@
 //! Rows in one flat list, and the types of their columns.
 
 ghost use Rattle.std.specs.Prelude.{◌≡◌, ◌<◌, ◌*◌, IfErr, IfOk, None, Some, length, map};
-ghost use Rattle.mysql_bulk.specs.Bulk.{all_values, bulk_cause, column_type_of as type_of_column, column_types_of, first_length, param_value_of};
+ghost use Rattle.mysql_bulk.specs.Bulk.{all_values, bulk_cause, column_type_of as type_of_column, column_types_of};
+ghost use Rattle.mysql_bulk.specs.Bulk.{first_length, param_value_of};
 
 use crate::error::BulkExecuteRequestError;
 use crate::param_type::StmtBulkExecuteParamType;
@@ -47,7 +48,8 @@ pub(crate) fn column_types(
 
 // How many values each row has. Refuses NoParams, then MixedArity.
 pub(crate) fn arity_of(rows: &[Vec<Value>]) -> Result<usize, BulkExecuteRequestError>
-    ensures ok { IfOk result (λ arity. (bulk_cause (map (λ row. row.items) rows.now) ≡ None) × (arity ≡ first_length (map (λ row. row.items) rows.now))) }
+    ensures ok { IfOk result (λ arity. (bulk_cause (map (λ row. row.items) rows.now) ≡ None) ×
+        (arity ≡ first_length (map (λ row. row.items) rows.now))) }
     ensures err { IfErr result (λ e. bulk_cause (map (λ row. row.items) rows.now) ≡ Some e) }
 {
     if rows.is_empty() {
@@ -67,7 +69,8 @@ pub(crate) fn flat(
     alloc: Global,
     rows: Vec<Vec<Value>>,
 ) -> Result<Vec<StmtBulkExecuteParamValue>, AllocError>
-    ensures { IfOk result (λ values. values.items ≡ map param_value_of (all_values (map (λ row. row.items) rows.items))) }
+    ensures { IfOk result (λ values. values.items ≡
+        map param_value_of (all_values (map (λ row. row.items) rows.items))) }
 {
     let mut values = Vec::new(alloc);
     for row in rows {

@@ -1,6 +1,6 @@
 //! The first byte of a bulk execution.
 
-use mysql_raw_consts::ConstU8;
+use mysql_field_constants::ConstU8;
 use thiserror::Error;
 
 /// Another first byte than that of COM_STMT_BULK_EXECUTE.

@@ -1,9 +1,9 @@
 //! The type of a column of parameters.
 
 ghost use Rattle.std.specs.Prelude.{◌≡◌, Some, false, true};
-ghost use Rattle.mysql_raw_consts.specs.Flags.{are_named};
+ghost use Rattle.mysql_field_constants.specs.Flags.{are_named};
 ghost use Rattle.mysql_const.specs.ExecuteFlags.{execute_param_flags};
-ghost use Rattle.mysql_raw.specs.Wire.{TellsPart};
+ghost use Rattle.mysql_fields.specs.Wire.{TellsPart};
 ghost use Rattle.mysql_bulk.specs.Bulk.{merged, param_type_bytes, type_of_value};
 ghost use Rattle.mysql_bulk.specs.Reading.{param_flags_named, param_type_at, param_type_fields_at};
 ghost use Rattle.mysql_bulk.specs.ReadingLaws.{param_type_at-back, param_type_at-sized};
@@ -13,8 +13,8 @@ use bitflags::Flags;
 use mysql_buf::ParseBuf;
 use mysql_cells::Value;
 use mysql_const::{ColumnType, StmtExecuteParamFlags};
-use mysql_raw::{MyDeserialize, MySerialize, ParseExt, Readable, ReadsBack, WireError};
-use mysql_raw_consts::Const;
+use mysql_field_constants::Const;
+use mysql_fields::{MyDeserialize, MySerialize, ParseExt, Readable, ReadsBack, WireError};
 use std::alloc::{AllocError, Global};
 
 /// The type of a column of parameters, and whether its whole numbers have no sign.
@@ -63,7 +63,8 @@ impl StmtBulkExecuteParamType {
         self.flags
     }
 
-    // The type of the values so far and of one more: the first one's that isn't NULL, without a sign where one of its type is.
+    // The type of the values so far and of one more: the first one's that isn't NULL, without a
+    // sign where one of its type is.
     pub(crate) fn merged(self, value: &Value) -> StmtBulkExecuteParamType
         ensures { result ≡ merged self value.now }
     {
@@ -134,8 +135,8 @@ fn fields_from(alloc: Global, rest: &mut ParseBuf) -> Result<StmtBulkExecutePara
     }
 }
 
-/// Reads a type. Refused by UnexpectedEof where there are fewer than two bytes, then by UnknownValue for a type or flags without
-/// a name.
+/// Reads a type. Refused by UnexpectedEof where there are fewer than two bytes, then by
+/// UnknownValue for a type or flags without a name.
 ///
 /// MariaDB: Client/Server Protocol, "COM_STMT_BULK_EXECUTE".
 #[tactic(auto, unfolding(crate::specs::Reading::param_type_at))]

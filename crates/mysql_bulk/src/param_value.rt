@@ -1,12 +1,12 @@
 //! Values of a bulk execution.
 
 ghost use Rattle.std.specs.Prelude.{◌≡◌, ◌++◌, IfOk, OnOk, flat_map, map};
-ghost use Rattle.mysql_raw.specs.Wire.{Appends};
+ghost use Rattle.mysql_fields.specs.Wire.{Appends};
 ghost use Rattle.mysql_bulk.specs.Bulk.{param_value_bytes, param_value_of};
 
 use mysql_cells::Value;
 use mysql_const::MariadbBulkIndicator;
-use mysql_raw::{MySerialize, in_order};
+use mysql_fields::{MySerialize, in_order};
 use std::alloc::{AllocError, Global};
 
 /// A value with what stands before it: that it is NULL, or that its cell follows.

@@ -1,17 +1,19 @@
 //! Rows of a bulk execution, as they are read.
 
 ghost use Rattle.std.specs.Prelude.{◌≡◌, List, None};
-ghost use Rattle.mysql_raw.specs.Laws.{unsized};
-ghost use Rattle.mysql_raw.specs.Wire.{Gives, GivesPart};
+ghost use Rattle.mysql_fields.specs.Laws.{unsized};
+ghost use Rattle.mysql_fields.specs.Wire.{Gives, GivesPart};
 ghost use Rattle.mysql_bulk.specs.Reading.{bulk_row_at, bulk_value_at, held_at, param_value_at, param_values_at};
-ghost use Rattle.mysql_bulk.specs.declared.param_value.StmtBulkExecuteParamValue.{StmtBulkExecuteParamValue as ParamValue};
+ghost use Rattle.mysql_bulk.specs.declared.param_value.StmtBulkExecuteParamValue.{
+  StmtBulkExecuteParamValue as ParamValue,
+};
 
 use crate::param_value::{StmtBulkExecuteParamValue, StmtBulkExecuteParamValues};
 use mysql_buf::ParseBuf;
 use mysql_cells::{BinValue, Value, ValueDeserializer};
 use mysql_const::{ColumnFlags, ColumnType, MariadbBulkIndicator};
-use mysql_raw::{MyDeserialize, ParseExt, Readable, WireError};
-use mysql_raw_consts::Const;
+use mysql_field_constants::Const;
+use mysql_fields::{MyDeserialize, ParseExt, Readable, WireError};
 use std::alloc::Global;
 
 // What an indicator holds: the cell where there is a value, else NULL.
@@ -56,9 +58,9 @@ impl Readable for StmtBulkExecuteParamValue {
     }
 }
 
-/// Reads a value by its column's type and flags: a cell behind the indicator 0, and NULL without a cell behind 1 (NULL), 2
-/// (DEFAULT) and 3 (IGNORE). Refused by UnexpectedEof where it is cut off, UnknownValue for another indicator, UnsupportedType
-/// for a cell of a type that has none, Memory.
+/// Reads a value by its column's type and flags: a cell behind the indicator 0, and NULL without a
+/// cell behind 1 (NULL), 2 (DEFAULT) and 3 (IGNORE). Refused by UnexpectedEof where it is cut off,
+/// UnknownValue for another indicator, UnsupportedType for a cell of a type that has none, Memory.
 ///
 /// MariaDB: Client/Server Protocol, "COM_STMT_BULK_EXECUTE".
 #[tactic(auto, unfolding(crate::specs::Reading::param_value_at))]
@@ -161,10 +163,11 @@ fn row_of(
     Ok(row)
 }
 
-/// Reads one row of a bulk execution by the types and flags of its columns, and leaves the rest. Behind the indicator 0 stands a
-/// cell; 1 (NULL), 2 (DEFAULT) and 3 (IGNORE) have none, and are NULL. Refused, at the first value that fails, by UnexpectedEof
-/// where it is cut off, UnknownValue for another indicator, UnsupportedType for a cell of a type that has none, Memory; all bytes
-/// are then left.
+/// Reads one row of a bulk execution by the types and flags of its columns, and leaves the rest.
+/// Behind the indicator 0 stands a cell; 1 (NULL), 2 (DEFAULT) and 3 (IGNORE) have none, and are
+/// NULL. Refused, at the first value that fails, by UnexpectedEof where it is cut off, UnknownValue
+/// for another indicator, UnsupportedType for a cell of a type that has none, Memory; all bytes are
+/// then left.
 ///
 /// MariaDB: Client/Server Protocol, "COM_STMT_BULK_EXECUTE".
 pub fn read_bulk_row(

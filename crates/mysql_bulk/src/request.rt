@@ -2,8 +2,9 @@
 
 ghost use Rattle.std.specs.Prelude.{◌≡◌, ◌≢◌, ◌⊎◌, ◌*◌, IfErr, IfOk, None, OnErr, Some, [], length, map, if◌then◌else◌};
 ghost use Rattle.std.specs.List.{flat_map};
-ghost use Rattle.mysql_raw.specs.Wire.{Appends};
-ghost use Rattle.mysql_bulk.specs.Bulk.{all_values, bulk_cause, bulk_cause_with_types, bulk_execution, column_types_of, first_length, param_type_bytes, param_value_of, sends_types};
+ghost use Rattle.mysql_fields.specs.Wire.{Appends};
+ghost use Rattle.mysql_bulk.specs.Bulk.{all_values, bulk_cause, bulk_cause_with_types, bulk_execution, column_types_of};
+ghost use Rattle.mysql_bulk.specs.Bulk.{first_length, param_type_bytes, param_value_of, sends_types};
 ghost use Rattle.mysql_bulk.specs.Views.{bulk_view};
 ghost use Rattle.mysql_bulk.specs.declared.error.BulkExecuteRequestError.TheVariants as errors;
 
@@ -15,7 +16,7 @@ use crate::param_value::{StmtBulkExecuteParamValue, StmtBulkExecuteParamValues};
 use bitflags::Flags;
 use mysql_cells::Value;
 use mysql_const::StmtBulkExecuteFlags;
-use mysql_raw::{LeU16, LeU32, MySerialize, RawInt, in_order};
+use mysql_fields::{LeU16, LeU32, MySerialize, RawInt, in_order};
 use std::alloc::{AllocError, Global};
 use std::mem;
 
@@ -38,10 +39,11 @@ pub(crate) fn sends(flags: StmtBulkExecuteFlags) -> bool
 }
 
 impl ComStmtBulkExecuteRequest {
-    /// The execution with these rows, by the types of their values where the flags say that types are sent: a column has the type
-    /// of its first value that isn't NULL, without a sign also where a later value of that type has none, and NULL where there is
-    /// no such value. Refuses NoParams where there are no rows, MixedArity where not all have as many values as the first, then
-    /// Memory.
+    /// The execution with these rows, by the types of their values where the flags say that types
+    /// are sent: a column has the type of its first value that isn't NULL, without a sign also
+    /// where a later value of that type has none, and NULL where there is no such value. Refuses
+    /// NoParams where there are no rows, MixedArity where not all have as many values as the first,
+    /// then Memory.
     ///
     /// MariaDB: Client/Server Protocol, "COM_STMT_BULK_EXECUTE".
     pub fn new(
@@ -51,8 +53,18 @@ impl ComStmtBulkExecuteRequest {
         rows: Vec<Vec<Value>>,
     ) -> Result<ComStmtBulkExecuteRequest, BulkExecuteRequestError>
         ensures none { let rows = map (λ row. row.items) rows.items in IfOk result (λ _. bulk_cause rows ≡ None) }
-        ensures ok { let rows = map (λ row. row.items) rows.items in IfOk result (λ r. bulk_view r ≡ record { stmt_id = stmt_id; flags = bulk_flags.0; types = if sends_types bulk_flags.0 then column_types_of (first_length rows) (length rows) (all_values rows) else []; values = map param_value_of (all_values rows) }) }
-        ensures err { let rows = map (λ row. row.items) rows.items in IfErr result (λ e. (e ≡ errors.Memory) ⊎ (bulk_cause rows ≡ Some e)) }
+        ensures ok { let rows = map (λ row. row.items) rows.items in
+            IfOk result (λ r. bulk_view r ≡
+            record {
+              stmt_id = stmt_id;
+              flags = bulk_flags.0;
+              types =
+                  if sends_types bulk_flags.0 then column_types_of (first_length rows) (length rows)
+                  (all_values rows) else [];
+              values = map param_value_of (all_values rows);
+            }) }
+        ensures err { let rows = map (λ row. row.items) rows.items in
+            IfErr result (λ e. (e ≡ errors.Memory) ⊎ (bulk_cause rows ≡ Some e)) }
     {
         let arity = arity_of(&rows)?;
         let count = rows.len();
@@ -68,8 +80,9 @@ impl ComStmtBulkExecuteRequest {
         Ok(made)
     }
 
-    /// The execution with these rows, one after another in one list of `count` times `arity` values, with types as in `new`. It
-    /// takes the values; refused for want of memory it leaves them.
+    /// The execution with these rows, one after another in one list of `count` times `arity`
+    /// values, with types as in `new`. It takes the values; refused for want of memory it leaves
+    /// them.
     pub fn from_flat(
         alloc: Global,
         stmt_id: u32,
@@ -79,7 +92,15 @@ impl ComStmtBulkExecuteRequest {
         values: &mut Vec<StmtBulkExecuteParamValue>,
     ) -> Result<ComStmtBulkExecuteRequest, AllocError>
         requires { length values.old.items ≡ count * arity }
-        ensures ok { IfOk result (λ r. bulk_view r ≡ record { stmt_id = stmt_id; flags = bulk_flags.0; types = if sends_types bulk_flags.0 then column_types_of arity count (map (λ value. value.value) values.old.items) else []; values = values.old.items }) }
+        ensures ok { IfOk result (λ r. bulk_view r ≡
+            record {
+              stmt_id = stmt_id;
+              flags = bulk_flags.0;
+              types =
+                  if sends_types bulk_flags.0 then column_types_of arity count
+                  (map (λ value. value.value) values.old.items) else [];
+              values = values.old.items;
+            }) }
         ensures taken { IfOk result (λ _. values.new.items ≡ []) }
         ensures kept { OnErr result (values.new.items ≡ values.old.items) }
     {
@@ -97,9 +118,10 @@ impl ComStmtBulkExecuteRequest {
         })
     }
 
-    /// The execution with these rows, by these types of their columns, which are ignored where the flags don't say that types are
-    /// sent. Refuses NoParams where there are no rows, MixedArity where not all have as many values as the first or where types are
-    /// sent and aren't as many, then Memory.
+    /// The execution with these rows, by these types of their columns, which are ignored where the
+    /// flags don't say that types are sent. Refuses NoParams where there are no rows, MixedArity
+    /// where not all have as many values as the first or where types are sent and aren't as many,
+    /// then Memory.
     ///
     /// MariaDB: Client/Server Protocol, "COM_STMT_BULK_EXECUTE".
     pub fn with_types(
@@ -109,9 +131,21 @@ impl ComStmtBulkExecuteRequest {
         types: Vec<StmtBulkExecuteParamType>,
         rows: Vec<Vec<Value>>,
     ) -> Result<ComStmtBulkExecuteRequest, BulkExecuteRequestError>
-        ensures none { let rows = map (λ row. row.items) rows.items in IfOk result (λ _. bulk_cause_with_types bulk_flags.0 (length types.items) rows ≡ None) }
-        ensures ok { let rows = map (λ row. row.items) rows.items in IfOk result (λ r. bulk_view r ≡ record { stmt_id = stmt_id; flags = bulk_flags.0; types = if sends_types bulk_flags.0 then types.items else []; values = map param_value_of (all_values rows) }) }
-        ensures err { let rows = map (λ row. row.items) rows.items in IfErr result (λ e. (e ≡ errors.Memory) ⊎ (bulk_cause_with_types bulk_flags.0 (length types.items) rows ≡ Some e)) }
+        ensures none { let rows = map (λ row. row.items) rows.items in
+            IfOk result (λ _. bulk_cause_with_types bulk_flags.0 (length types.items) rows ≡ None) }
+        ensures ok { let rows = map (λ row. row.items) rows.items in
+            IfOk result (λ r. bulk_view r ≡
+            record {
+              stmt_id = stmt_id;
+              flags = bulk_flags.0;
+              types =
+                  if sends_types bulk_flags.0 then types.items else [];
+              values =
+                  map param_value_of (all_values rows);
+            }) }
+        ensures err { let rows = map (λ row. row.items) rows.items in
+            IfErr result (λ e. (e ≡ errors.Memory) ⊎
+            (bulk_cause_with_types bulk_flags.0 (length types.items) rows ≡ Some e)) }
     {
         let arity = arity_of(&rows)?;
         let types = if sends(bulk_flags) {

@@ -1,11 +1,12 @@
 //! Bulk executions, as they are read.
 
 ghost use Rattle.std.specs.Prelude.{◌≡◌, IfOk, None, length, map};
-ghost use Rattle.mysql_raw.specs.Laws.{unsized};
-ghost use Rattle.mysql_raw.specs.Wire.{GivesPart, TellsPart};
-ghost use Rattle.mysql_raw_lists.specs.Lists.{elements_at};
+ghost use Rattle.mysql_fields.specs.Laws.{unsized};
+ghost use Rattle.mysql_fields.specs.Wire.{GivesPart, TellsPart};
+ghost use Rattle.mysql_field_lists.specs.Lists.{elements_at};
 ghost use Rattle.mysql_bulk.specs.Bulk.{BulkExecution};
-ghost use Rattle.mysql_bulk.specs.Reading.{bulk_execution_at, bulk_flags_named, bulk_head_at, column_by as column_of, columns_by as columns_of, param_type_at, sent_types_at};
+ghost use Rattle.mysql_bulk.specs.Reading.{bulk_execution_at, bulk_flags_named, bulk_head_at, column_by as column_of};
+ghost use Rattle.mysql_bulk.specs.Reading.{columns_by as columns_of, param_type_at, sent_types_at};
 ghost use Rattle.mysql_bulk.specs.Views.{bulk_view};
 
 use crate::headers::ComStmtBulkExecuteHeader;
@@ -16,7 +17,7 @@ use crate::request::{ComStmtBulkExecuteRequest, sends};
 use bitflags::Flags;
 use mysql_buf::ParseBuf;
 use mysql_const::{ColumnFlags, ColumnType, StmtBulkExecuteFlags, StmtExecuteParamFlags};
-use mysql_raw::{MyDeserialize, ParseExt, Readable, WireError};
+use mysql_fields::{MyDeserialize, ParseExt, Readable, WireError};
 use std::alloc::{AllocError, Global};
 
 // The flags of these bits, where they all have names.
@@ -159,10 +160,10 @@ fn request_of(
     })
 }
 
-/// Reads a bulk execution and its first row, and leaves the rest. The context gives the type and flags of each column; types that
-/// are sent take their place. Refused by UnexpectedEof where it is cut off, BadConstant for another first byte, UnknownValue for
-/// flags, types or indicators without names, UnsupportedType for a cell of a type that has none, whichever stands first, then
-/// Memory.
+/// Reads a bulk execution and its first row, and leaves the rest. The context gives the type and
+/// flags of each column; types that are sent take their place. Refused by UnexpectedEof where it is
+/// cut off, BadConstant for another first byte, UnknownValue for flags, types or indicators without
+/// names, UnsupportedType for a cell of a type that has none, whichever stands first, then Memory.
 ///
 /// MariaDB: Client/Server Protocol, "COM_STMT_BULK_EXECUTE".
 impl<'de> MyDeserialize<'de> for ComStmtBulkExecuteRequest {

@@ -17,15 +17,18 @@ Answer = Result (Option (Vec Value Global)) BulkExecuteRequestBuilderError
 
 -- refused: too large for a request of its own, or of another arity
 abbrev pub IsRefused : Builder → Row → BulkExecuteRequestError → Type 0
-IsRefused builder row (request_error.RowTooLarge back) = HasArity builder row × LacksRoom builder row × (builder.rows ≡ []) × (back.items ≡ row)
+IsRefused builder row (request_error.RowTooLarge back) = HasArity builder row ×
+    LacksRoom builder row × (builder.rows ≡ []) × (back.items ≡ row)
 IsRefused builder row request_error.MixedArity = HasArity builder row → ⊥
 IsRefused builder row request_error.NoParams = ⊥
 IsRefused builder row request_error.Memory = ⊥
 
--- Taken where it has the arity and there is room. Given back where rows are held and there is none. Else refused, which changes nothing.
+-- Taken where it has the arity and there is room. Given back where rows are held and there is none.
+-- Else refused, which changes nothing.
 abbrev pub Adds : Builder → Row → Builder → Answer → Type 0
 Adds old row new (Ok None) = HasArity old row × HasRoom old row × (new ≡ with_row old row)
-Adds old row new (Ok (Some back)) = HasArity old row × LacksRoom old row × (old.rows ≢ []) × (back.items ≡ row) × (new ≡ old)
+Adds old row new (Ok (Some back)) = HasArity old row × LacksRoom old row × (old.rows ≢ []) ×
+    (back.items ≡ row) × (new ≡ old)
 Adds old row new (Err (Request error)) = IsRefused old row error × (new ≡ old)
 Adds old row new (Err (Params error)) = ⊥
 Adds old row new (Err Memory) = new ≡ old

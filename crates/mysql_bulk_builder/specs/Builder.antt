@@ -1,6 +1,7 @@
 -- A builder of bulk execute requests, as callers see it.
 -- MariaDB: "COM_STMT_BULK_EXECUTE".
-use Rattle.std.specs.Prelude.{◌≡◌, ◌≢◌, ℕ, ◌+◌, ◌*◌, ◌<◌, ◌≤◌, ◌⊎◌, Bool, false, if◌then◌else◌, List, [], ◌∷◌, ◌++◌, length, Option, Some, IfSome, MatchOption, sum_by}
+use Rattle.std.specs.Prelude.{◌≡◌, ◌≢◌, ℕ, ◌+◌, ◌*◌, ◌<◌, ◌≤◌, ◌⊎◌, Bool, false, if◌then◌else◌, List, [], ◌∷◌, ◌++◌}
+use Rattle.std.specs.Prelude.{length, Option, Some, IfSome, MatchOption, sum_by}
 use Rattle.std.specs.List.{AllByRecursion}
 use Rattle.mysql_bulk_builder.specs.Cut.{Row, row_size}
 
@@ -11,8 +12,9 @@ pub record Request : Type 0 where
   pub typed : Bool
   pub rows : List Row
 
--- the statement, the most bytes of a request, the names of the query's places, whether requests ask for the result of each row,
--- whether the next request carries types, how many values a row has once one was taken, and the rows held
+-- the statement, the most bytes of a request, the names of the query's places, whether requests ask
+-- for the result of each row, whether the next request carries types, how many values a row has
+-- once one was taken, and the rows held
 pub record Builder : Type 0 where
   pub id : ℕ
   pub room : ℕ
@@ -41,10 +43,12 @@ most_rows = 0xffff_ffff_ffff_ffff
 
 -- the next request has room for one more row
 abbrev pub HasRoom : Builder → Row → Type 0
-HasRoom builder row = (length builder.rows < most_rows) × (request_size builder.typed (length row) (rows_with builder row) ≤ builder.room)
+HasRoom builder row = (length builder.rows < most_rows) ×
+    (request_size builder.typed (length row) (rows_with builder row) ≤ builder.room)
 
 abbrev pub LacksRoom : Builder → Row → Type 0
-LacksRoom builder row = (most_rows ≤ length builder.rows) ⊎ (builder.room < request_size builder.typed (length row) (rows_with builder row))
+LacksRoom builder row = (most_rows ≤ length builder.rows) ⊎
+    (builder.room < request_size builder.typed (length row) (rows_with builder row))
 
 -- the row has as many values as the rows before
 abbrev pub HasArity : Builder → Row → Type 0
@@ -65,7 +69,8 @@ request_of builder = record { id = builder.id; results = builder.results; typed 
 -- the rows held have one arity, and a request has room for them
 abbrev pub IsFilled : Builder → Type 0
 IsFilled builder = MatchOption builder.arity (builder.rows ≡ [])
-    (λ n. AllByRecursion (λ row. length row ≡ n) builder.rows × (builder.rows ≢ [] → request_size builder.typed n builder.rows ≤ builder.room))
+    (λ n. AllByRecursion (λ row. length row ≡ n) builder.rows ×
+    (builder.rows ≢ [] → request_size builder.typed n builder.rows ≤ builder.room))
 
 -- what the rows held and one more take, and how many they are; or nothing where the next request has no room for it
 abbrev pub HasOneMore : Builder → Row → Option (ℕ × ℕ) → Type 0

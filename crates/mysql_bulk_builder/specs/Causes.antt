@@ -1,5 +1,6 @@
 -- Why rows are not sent by bulk requests: the least row, and in it the least place, where a test holds.
-use Rattle.std.specs.Prelude.{ℕ, ◌+◌, ◌*◌, ◌||◌, Bool, not, nat_lt, if◌then◌else◌, List, [], ◌∷◌, take, map, Option, Some, None}
+use Rattle.std.specs.Prelude.{ℕ, ◌+◌, ◌*◌, ◌||◌, Bool, not, nat_lt, if◌then◌else◌, List, [], ◌∷◌, take, map, Option}
+use Rattle.std.specs.Prelude.{Some, None}
 use Rattle.std.specs.List.{enumerate_from}
 use Rattle.std.specs.Option.{option_map, option_or}
 use Rattle.mysql_cells.specs.declared.value.Value.{Value}
@@ -26,8 +27,12 @@ is_of_other_kind before column value =
 
 -- the least row, and in it the least place, with a value of another kind than its column's earlier ones
 abbrev pub mixed_kinds : List Row → Option (ℕ × ℕ)
-mixed_kinds rows = first_at (λ set row. option_map (λ place. (set, place)) (place_where (is_of_other_kind (take set rows)) row)) rows
+mixed_kinds rows = first_at
+    (λ set row. option_map (λ place. (set, place))
+    (place_where (is_of_other_kind (take set rows)) row)) rows
 
 -- the least row that no typed request of its own holds
 abbrev pub row_too_large : ℕ → ℕ → List Row → Option ℕ
-row_too_large room columns rows = first_at (λ set row. if nat_lt room (7 + 2 * columns + row_size row) then Some set else None) rows
+row_too_large room columns rows =
+    first_at (λ set row. if nat_lt room (7 + 2 * columns + row_size row) then Some set else None)
+    rows

@@ -1,7 +1,8 @@
 -- What holds of every tight cut.
 use Rattle.std.specs.Prelude.{◌≡◌, ℕ, ◌<◌, ◌≤◌, ◌↔◌, List, ◌++◌, length, sum}
 use Rattle.std.specs.List.{AllByRecursion}
-use Rattle.mysql_bulk_builder.specs.Cut.{Row, IsCut, Fits, IsTight, IsTightPart, parts, size, wire_bytes, max_payload_len}
+use Rattle.mysql_bulk_builder.specs.Cut.{Row, IsCut, Fits, IsTight, IsTightPart, parts, size, wire_bytes}
+use Rattle.mysql_bulk_builder.specs.Cut.{max_payload_len}
 
 -- each row fits a request of its own: the first row one with types
 abbrev pub EachRowFits : ℕ → ℕ → List Row → Type 0

@@ -1,6 +1,7 @@
 -- What an iterator of bulk requests gives.
 -- MariaDB: "COM_STMT_BULK_EXECUTE".
-use Rattle.std.specs.Prelude.{◌≡◌, ◌≢◌, ℕ, ◌+◌, ◌⊎◌, Bool, true, false, if◌then◌else◌, List, [], ◌∷◌, ◌++◌, length, map, Option, Some, None, Result, Ok, Err, Vec}
+use Rattle.std.specs.Prelude.{◌≡◌, ◌≢◌, ℕ, ◌+◌, ◌⊎◌, Bool, true, false, if◌then◌else◌, List, [], ◌∷◌, ◌++◌, length, map}
+use Rattle.std.specs.Prelude.{Option, Some, None, Result, Ok, Err, Vec}
 use Rattle.std.specs.declared.alloc.Global.{Global}
 use Rattle.mysql_cells.specs.declared.value.Value.{Value}
 use Rattle.mysql_bulk_builder.specs.declared.error.BulkExecuteRequestBuilderError.{BulkExecuteRequestBuilderError}
@@ -79,9 +80,12 @@ pub record GivesError (old : Iteration) (error : BulkExecuteRequestBuilderError)
   pub cause : IsCause new.builder at error
 
 -- There is no item where it has ended, or where no row is held or given.
-abbrev pub Gives : Iteration → Option (Result ComStmtBulkExecuteRequest BulkExecuteRequestBuilderError) → Iteration → Type 0
-Gives old None new = (new.ended ≡ true) × (new.builder ≡ old.builder) × ((old.ended ≡ true) ⊎ ((old.builder.rows ≡ []) × (old.given ≡ [])))
-Gives old (Some (Ok execution)) new = (request : Request) × (bulk_view execution ≡ execution_of request) × GivesRequest old request new
+abbrev pub Gives : Iteration →
+    Option (Result ComStmtBulkExecuteRequest BulkExecuteRequestBuilderError) → Iteration → Type 0
+Gives old None new = (new.ended ≡ true) × (new.builder ≡ old.builder) ×
+    ((old.ended ≡ true) ⊎ ((old.builder.rows ≡ []) × (old.given ≡ [])))
+Gives old (Some (Ok execution)) new = (request : Request) ×
+    (bulk_view execution ≡ execution_of request) × GivesRequest old request new
 Gives old (Some (Err error)) new = GivesError old error new
 
 -- one where there are rows

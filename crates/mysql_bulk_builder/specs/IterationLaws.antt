@@ -1,5 +1,6 @@
 -- What an iterator's requests are together.
-use Rattle.std.specs.Prelude.{◌≡◌, ℕ, zero, suc, ◌+◌, ◌*◌, ◌≤◌, Bool, false, if◌then◌else◌, List, [], ◌∷◌, ◌++◌, length, map, Ok, Err}
+use Rattle.std.specs.Prelude.{◌≡◌, ℕ, zero, suc, ◌+◌, ◌*◌, ◌≤◌, Bool, false, if◌then◌else◌, List, [], ◌∷◌, ◌++◌, length}
+use Rattle.std.specs.Prelude.{map, Ok, Err}
 use Rattle.std.specs.List.{AllByRecursion}
 use Rattle.mysql_bulk_builder.specs.Builder.{Builder, Request, columns_of, most_rows}
 use Rattle.mysql_bulk_builder.specs.Cut.{Row, IsTight, parts, rows_of, size}
@@ -27,7 +28,14 @@ typed_at typed (suc start) = false
 
 -- the request of a part of the rows
 abbrev pub request_at : Builder → List Row → ℕ → ℕ → Request
-request_at builder rows start count = record { id = builder.id; results = builder.results; typed = typed_at builder.typed start; rows = rows_of rows start count }
+request_at builder rows start count =
+    record {
+      id = builder.id;
+      results = builder.results;
+      typed =
+          typed_at builder.typed start;
+      rows = rows_of rows start count;
+    }
 
 -- how many rows each request has
 abbrev pub counts : List Request → List ℕ
@@ -41,10 +49,13 @@ Runs it (request ∷ requests) end = (next : Iteration) × GivesRequest it reque
 -- the requests of the first parts of the tight cut, with this rest; each has room
 pub record AreFirst (it : Iteration) (requests : List Request) (rest : List ℕ) : Type 0 where
   pub tight : IsTight it.builder.room (first_types it.builder.typed (waiting it)) (waiting it) (counts requests ++ rest)
-  pub fit : AllByRecursion (λ p. size (first_types it.builder.typed (waiting it)) (waiting it) p.0 p.1 ≤ it.builder.room) (parts (counts requests))
+  pub fit : AllByRecursion (λ p. size (first_types it.builder.typed (waiting it)) (waiting it) p.0
+      p.1 ≤ it.builder.room) (parts (counts requests))
   pub requests_are : requests ≡ map (λ p. request_at it.builder (waiting it) p.0 p.1) (parts (counts requests))
 
--- The requests given are those of the first parts of the tight cut of the rows held and given, and of all its parts where neither is left.
+-- The requests given are those of the first parts of the tight cut of the rows held and given, and
+-- of all its parts where neither is left.
 abbrev pub GivesFirst : Type 0
-GivesFirst = (it end : Iteration) (requests : List Request) → length it.builder.rows + length it.given ≤ most_rows → Runs it requests end →
+GivesFirst = (it end : Iteration) (requests : List Request) →
+    length it.builder.rows + length it.given ≤ most_rows → Runs it requests end →
     (rest : List ℕ) × AreFirst it requests rest × (end.builder.rows ≡ [] → end.given ≡ [] → rest ≡ [])

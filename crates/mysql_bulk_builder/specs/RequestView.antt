@@ -16,6 +16,7 @@ abbrev pub execution_of : Request → BulkExecution
 execution_of request = record {
   stmt_id = request.id;
   flags = bulk_flags request.results request.typed;
-  types = if request.typed then column_types_of (columns_of request.rows) (length request.rows) (all_values request.rows) else [];
+  types = if request.typed then column_types_of (columns_of request.rows) (length request.rows)
+      (all_values request.rows) else [];
   values = map param_value_of (all_values request.rows);
 }

@@ -10,5 +10,7 @@ EachIsWithin room rows = (k : ℕ) → k < length rows → row_size (slice_index
 
 -- the row takes more, and those before it don't
 abbrev pub IsPast : ℕ → List Row → BulkCutError → Type 0
-IsPast room rows (RowTooLarge k) = (k < length rows) × (room < row_size (slice_index_or rows k [])) × ((j : ℕ) → j < k → row_size (slice_index_or rows j []) ≤ room)
+IsPast room rows (RowTooLarge k) = (k < length rows) ×
+    (room < row_size (slice_index_or rows k [])) ×
+    ((j : ℕ) → j < k → row_size (slice_index_or rows j []) ≤ room)
 IsPast room rows Memory = Unit {0}

@@ -14,7 +14,8 @@ use Rattle.mysql_bulk_builder.specs.Builder.{Builder}
 abbrev pub values_held : Builder → List StmtBulkExecuteParamValue
 values_held builder = map param_value_of (all_values builder.rows)
 
--- all but names and values: the statement, the limit, what requests ask for and carry, how many values a row has, how many rows are held
+-- all but names and values: the statement, the limit, what requests ask for and carry, how many
+-- values a row has, how many rows are held
 abbrev pub same_settings : Builder → Builder → Bool
 same_settings =
     eq_of_both
@@ -30,7 +31,9 @@ same_settings =
 -- these, the names, and the values held by this test
 abbrev pub same_builder : (StmtBulkExecuteParamValue → StmtBulkExecuteParamValue → Bool) → Builder → Builder → Bool
 same_builder same_value =
-    eq_of_both (eq_of_both same_settings (on (λ (b : Builder). b.names) (pointwise (pointwise nat_eq)))) (on values_held (pointwise same_value))
+    eq_of_both (eq_of_both same_settings
+    (on (λ (b : Builder). b.names) (pointwise (pointwise nat_eq))))
+    (on values_held (pointwise same_value))
 
 numbers_per : IsPartialEquivalence nat_eq
 numbers_per = partial_equiv_from_equiv nat_eq_equiv
@@ -51,6 +54,9 @@ same_settings_per =
     (on_per (λ (b : Builder). length b.rows) numbers_per)
 
 -- equality is symmetric and transitive where the values' is
-pub same_builder_per : (same_value : StmtBulkExecuteParamValue → StmtBulkExecuteParamValue → Bool) → IsPartialEquivalence same_value → IsPartialEquivalence (same_builder same_value)
+pub same_builder_per : (same_value : StmtBulkExecuteParamValue → StmtBulkExecuteParamValue → Bool) →
+    IsPartialEquivalence same_value → IsPartialEquivalence (same_builder same_value)
 same_builder_per same_value values_per =
-    and_per (and_per same_settings_per (on_per (λ (b : Builder). b.names) (lists_per (lists_per numbers_per)))) (on_per values_held (lists_per values_per))
+    and_per (and_per same_settings_per
+    (on_per (λ (b : Builder). b.names) (lists_per (lists_per numbers_per))))
+    (on_per values_held (lists_per values_per))

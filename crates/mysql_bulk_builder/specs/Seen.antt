@@ -13,7 +13,8 @@ IsKnown seen row = (column : ℕ) → column < length seen → has_value_at colu
 
 -- one of the row's values is in a column whose flag is not set
 abbrev pub IsUnknown : List Bool → Row → Type 0
-IsUnknown seen row = (column : ℕ) × (column < length seen) × (has_value_at column row ≡ true) × (slice_index_or seen column false ≡ false)
+IsUnknown seen row = (column : ℕ) × (column < length seen) × (has_value_at column row ≡ true) ×
+    (slice_index_or seen column false ≡ false)
 
 -- the flags of the columns that have a value in the first n rows
 pub record AreSeen (columns : ℕ) (rows : List Row) (n : ℕ) (seen : List Bool) : Type 0 where

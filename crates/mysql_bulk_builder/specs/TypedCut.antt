@@ -1,5 +1,6 @@
 -- How rows are cut into bulk requests where each request may carry types of its own.
-use Rattle.std.specs.Prelude.{◌≡◌, ℕ, ◌+◌, ◌*◌, ◌<◌, ◌≤◌, Bool, not, List, [], ◌∷◌, length, take, sum_by, count_by, slice_index_or}
+use Rattle.std.specs.Prelude.{◌≡◌, ℕ, ◌+◌, ◌*◌, ◌<◌, ◌≤◌, Bool, not, List, [], ◌∷◌, length, take, sum_by, count_by}
+use Rattle.std.specs.Prelude.{slice_index_or}
 use Rattle.std.specs.List.{AllByRecursion}
 use Rattle.mysql_cells.specs.declared.value.Value.TheVariants.{NULL}
 use Rattle.mysql_bulk_builder.specs.ValueTypes.{is_null}
@@ -53,7 +54,8 @@ TypedCutFits room columns rows cut =
 -- a part that fits, that no longer one from its start can replace, and that is typed only where it must be
 pub record IsTightTypedPart (room columns : ℕ) (rows : List Row) (start : ℕ) (part : Part) : Type 0 where
   pub fits : PartFits room columns rows start part.typing part.count
-  pub longest : (typing : Typing) (count : ℕ) → part.count < count → start + count ≤ length rows → PartFits room columns rows start typing count → ⊥
+  pub longest : (typing : Typing) (count : ℕ) → part.count < count → start + count ≤ length rows →
+      PartFits room columns rows start typing count → ⊥
   pub typed_at_need : part.typing ≡ Typed → PartFits room columns rows start Untyped part.count → ⊥
 
 -- the cut that takes from each start the longest part, untyped where that one fits

@@ -9,7 +9,8 @@ EachRowFitsTyped room columns rows = (k : ℕ) → k < length rows → PartFits 
 
 -- each row fits a request of its own, typed or untyped
 abbrev pub EachRowFitsEither : ℕ → ℕ → List Row → Type 0
-EachRowFitsEither room columns rows = (k : ℕ) → k < length rows → (typing : Typing) × PartFits room columns rows k typing 1
+EachRowFitsEither room columns rows = (k : ℕ) → k < length rows → (typing : Typing) ×
+    PartFits room columns rows k typing 1
 
 -- A part that fits still fits from a later start, and up to an earlier end, with the same typing.
 abbrev pub PartFitsLater : Type 0
@@ -45,5 +46,6 @@ TightTypedHasFewest = (room columns : ℕ) (rows : List Row) (cut other : List P
 
 -- Where a typed request holds all rows, it alone is the tight cut.
 abbrev pub WholeIsTight : Type 0
-WholeIsTight = (room columns : ℕ) (rows : List Row) → 0 < length rows → PartFits room columns rows 0 Typed (length rows) →
+WholeIsTight = (room columns : ℕ) (rows : List Row) → 0 < length rows →
+    PartFits room columns rows 0 Typed (length rows) →
     IsTightTyped room columns rows (record { typing = Typed; count = length rows } ∷ [])

@@ -1,5 +1,5 @@
--- The types that values are sent by.
--- MariaDB: "COM_STMT_BULK_EXECUTE" (parameter types and their flags); MySQL: Client/Server Protocol, "Column Definition Flags".
+-- The types that values are sent by. MariaDB: "COM_STMT_BULK_EXECUTE" (parameter types and their
+-- flags); MySQL: Client/Server Protocol, "Column Definition Flags".
 use Rattle.std.specs.Prelude.{ℕ, ◌==◌, ◌&&◌, Bool, if◌then◌else◌, List, [], ◌∷◌, map, slice_index_or}
 use Rattle.std.specs.List.{range_with_len}
 use Rattle.mysql_cells.specs.Cells.{is_unsigned, type_number}

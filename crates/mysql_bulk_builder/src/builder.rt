@@ -1,6 +1,7 @@
 //! A builder of bulk execute requests.
 
-ghost use Rattle.std.specs.Prelude.{◌≡◌, ◌+◌, ◌*◌, ◌<◌, ◌≤◌, if◌then◌else◌, length, map, nat_eq, option_copied, ◌&&◌, MatchOption};
+ghost use Rattle.std.specs.Prelude.{◌≡◌, ◌+◌, ◌*◌, ◌<◌, ◌≤◌, if◌then◌else◌, length, map, nat_eq, option_copied, ◌&&◌};
+ghost use Rattle.std.specs.Prelude.{MatchOption};
 ghost use Rattle.std.specs.Cmp.Lexicographic.{pointwise};
 ghost use Rattle.mysql_values.specs.Params.{names_given};
 ghost use Rattle.mysql_bulk_builder.specs.Cut.{row_size};
@@ -18,7 +19,8 @@ use std::marker::Model;
 
 /// Fills bulk execute requests row by row.
 ///
-/// The first request built carries the types of its parameters, later ones don't. The rows are kept one after another in one list.
+/// The first request built carries the types of its parameters, later ones don't. The rows are kept
+/// one after another in one list.
 ///
 /// Follows MariaDB's "COM_STMT_BULK_EXECUTE".
 #[derive(Debug, Drop)]
@@ -82,7 +84,8 @@ fn names_of<'n>(names: Option<&'n [Vec<u8>]>) -> &'n [Vec<u8>]
 
 /// Whether two lists of names are the same; none is an empty one.
 fn same_names(names: Option<&[Vec<u8>]>, others: Option<&[Vec<u8>]>) -> bool
-    ensures { result ≡ pointwise (pointwise nat_eq) (names_given (option_copied names.entry)) (names_given (option_copied others.entry)) }
+    ensures { result ≡ pointwise (pointwise nat_eq) (names_given (option_copied names.entry))
+        (names_given (option_copied others.entry)) }
 {
     names_of(names) == names_of(others)
 }
@@ -99,7 +102,8 @@ fn same_fields(
     other_values: &[StmtBulkExecuteParamValue],
 ) -> bool
     ensures { result ≡ ((⟦<(u32, usize, bool, bool, Option<usize>, usize) as PartialEq>⟧.eq settings.0 settings.1
-        && pointwise (pointwise nat_eq) (names_given (option_copied names.entry)) (names_given (option_copied other_names.entry)))
+        && pointwise (pointwise nat_eq) (names_given (option_copied names.entry))
+        (names_given (option_copied other_names.entry)))
         && pointwise ⟦<StmtBulkExecuteParamValue as PartialEq>⟧.eq values.entry.now other_values.entry.now) }
 {
     settings.0 == settings.1 && same_names(names, other_names) && values == other_values
@@ -118,7 +122,8 @@ fn bulk_flags(with_results: bool, with_types: bool) -> StmtBulkExecuteFlags
 }
 
 impl<'a> ComStmtBulkExecuteRequestBuilder<'a> {
-    ghost use Rattle.std.specs.Prelude.{◌≡◌, ◌≢◌, ◌↔◌, ◌<◌, ◌≤◌, ◌-◌, length, option_copied, IsTrue, IfOk, IfErr, OnOk, OnErr, None, true, false, []};
+    ghost use Rattle.std.specs.Prelude.{◌≡◌, ◌≢◌, ◌↔◌, ◌<◌, ◌≤◌, ◌-◌, length, option_copied, IsTrue, IfOk, IfErr, OnOk};
+    ghost use Rattle.std.specs.Prelude.{OnErr, None, true, false, []};
     ghost use Rattle.std.specs.Prelude.{◌⊎◌, Ok, Err};
     ghost use Rattle.mysql_values.specs.declared.params.ParamsError.TheVariants as params_error;
     ghost use Rattle.mysql_values.specs.Params.{names_given, values_over};
@@ -135,7 +140,16 @@ impl<'a> ComStmtBulkExecuteRequestBuilder<'a> {
         max_allowed_packet: usize,
     ) -> ComStmtBulkExecuteRequestBuilder<'a>
         requires { 4 ≤ max_allowed_packet }
-        ensures { result ≡ record { id = stmt_id; room = max_allowed_packet - 4; names = []; results = false; typed = true; arity = None; rows = [] } }
+        ensures { result ≡ record {
+          id = stmt_id;
+          room = max_allowed_packet - 4;
+          names =
+              [];
+          results = false;
+          typed = true;
+          arity = None;
+          rows = [];
+        } }
     {
         ComStmtBulkExecuteRequestBuilder {
             alloc,
@@ -151,7 +165,8 @@ impl<'a> ComStmtBulkExecuteRequestBuilder<'a> {
         }
     }
 
-    /// The builder for sets over these names, in the order of the query's places. An empty list of names counts as none.
+    /// The builder for sets over these names, in the order of the query's places. An empty list of
+    /// names counts as none.
     pub fn with_named_params<'b>(
         self,
         named_params: Option<&'b [Vec<u8>]>,
@@ -172,7 +187,8 @@ impl<'a> ComStmtBulkExecuteRequestBuilder<'a> {
         }
     }
 
-    /// The builder of requests that ask for the result of each row (MariaDB 11.5.1, `MARIADB_CLIENT_BULK_UNIT_RESULTS`).
+    /// The builder of requests that ask for the result of each row (MariaDB 11.5.1,
+    /// `MARIADB_CLIENT_BULK_UNIT_RESULTS`).
     pub fn with_results(self) -> ComStmtBulkExecuteRequestBuilder<'a>
         ensures { result ≡ record self.entry { results = true } }
     {
@@ -213,11 +229,13 @@ impl<'a> ComStmtBulkExecuteRequestBuilder<'a> {
 
     /// Adds a row.
     ///
-    /// Answers None where the row was taken, and the row where the rows held leave no room for it, or where `usize::MAX` rows are held: build their request
-    /// first, and then add it again. The first row taken sets how many values each row has, over builds too.
+    /// Answers None where the row was taken, and the row where the rows held leave no room for it,
+    /// or where `usize::MAX` rows are held: build their request first, and then add it again. The
+    /// first row taken sets how many values each row has, over builds too.
     ///
     /// # Errors
-    /// `MixedArity`; `RowTooLarge` with the row where no rows are held and it fits no request; `Memory`. They change nothing.
+    /// `MixedArity`; `RowTooLarge` with the row where no rows are held and it fits no request;
+    /// `Memory`. They change nothing.
     pub fn add_row(
         &mut self,
         row: Vec<Value>,
@@ -287,7 +305,8 @@ impl<'a> ComStmtBulkExecuteRequestBuilder<'a> {
         ensures fits { OnOk result (IsFilled self.old) }
         ensures new { OnOk result (self.new ≡ after_build self.old) }
         ensures unchanged { OnErr result (self.new ≡ self.old) }
-        ensures err { IfErr result (λ e. (e ≡ request_error.Memory) ⊎ ((e ≡ request_error.NoParams) × (self.old.rows ≡ []))) }
+        ensures err { IfErr result (λ e. (e ≡ request_error.Memory) ⊎
+            ((e ≡ request_error.NoParams) × (self.old.rows ≡ []))) }
     {
         if self.count == 0 {
             return Err(BulkExecuteRequestError::NoParams);
@@ -307,9 +326,12 @@ impl<'a> ComStmtBulkExecuteRequestBuilder<'a> {
     }
 }
 
-/// Builders are equal where their statement, limit, names, flags and number of values in a row are, and they hold the same rows.
+/// Builders are equal where their statement, limit, names, flags and number of values in a row are,
+/// and they hold the same rows.
 impl<'a> PartialEq for ComStmtBulkExecuteRequestBuilder<'a> {
-    ghost use Rattle.mysql_bulk.specs.contracts.param_value.StmtBulkExecuteParamValuePartialEq.TheImpl.Laws.{laws-law as values_per};
+    ghost use Rattle.mysql_bulk.specs.contracts.param_value.StmtBulkExecuteParamValuePartialEq.TheImpl.Laws.{
+      laws-law as values_per,
+    };
     ghost use Rattle.mysql_bulk_builder.specs.SameBuilder.{same_builder, same_builder_per};
 
     ghost eq = { same_builder ⟦<StmtBulkExecuteParamValue as PartialEq>⟧.eq };

@@ -52,7 +52,8 @@ fn first_in_column<'a>(rows: &[&[&'a Value]], column: usize, null: &'a Value) ->
 /// The first values of more rows: each NULL gives way to the column's first value in them.
 pub fn put_first_values<'a>(firsts: &mut [&'a Value], rows: &[&[&'a Value]])
     requires { All (λ row. length row.now ≡ length firsts.old) rows.now }
-    ensures { (before : List Row) → row_in firsts.old ≡ first_values (length firsts.old) before → row_in firsts.new ≡ first_values (length firsts.old) (before ++ rows_in rows.now) }
+    ensures { (before : List Row) → row_in firsts.old ≡ first_values (length firsts.old) before →
+        row_in firsts.new ≡ first_values (length firsts.old) (before ++ rows_in rows.now) }
 {
     for column in 0..firsts.len() {
         if is_null(firsts[column]) {

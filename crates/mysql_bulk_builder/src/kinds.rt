@@ -41,14 +41,18 @@ fn is_other(first: &Value, value: &Value) -> bool
     }
 }
 
-/// The least place of a value of another kind than the first one of its column in the rows before. Where there is none, each
-/// NULL among these first values has given way to the row's value.
+/// The least place of a value of another kind than the first one of its column in the rows before.
+/// Where there is none, each NULL among these first values has given way to the row's value.
 ///
 /// MariaDB: Client/Server Protocol, "COM_STMT_BULK_EXECUTE" (parameter types).
 pub fn place_of_other<'a>(firsts: &mut [&'a Value], row: &[&'a Value]) -> Option<usize>
     requires { length row.now ≡ length firsts.old }
-    ensures place { (before : List Row) → row_in firsts.old ≡ first_values (length firsts.old) before → result ≡ place_where (is_of_other_kind before) (row_in row.now) }
-    ensures firsts { result ≡ None → (before : List Row) → row_in firsts.old ≡ first_values (length firsts.old) before → row_in firsts.new ≡ first_values (length firsts.old) (before ++ row_in row.now ∷ []) }
+    ensures place { (before : List Row) → row_in firsts.old ≡
+        first_values (length firsts.old) before → result ≡
+        place_where (is_of_other_kind before) (row_in row.now) }
+    ensures firsts { result ≡ None → (before : List Row) → row_in firsts.old ≡
+        first_values (length firsts.old) before → row_in firsts.new ≡
+        first_values (length firsts.old) (before ++ row_in row.now ∷ []) }
 {
     for (i, value) in row.iter().enumerate() {
         if is_null(firsts[i]) {

@@ -1,7 +1,11 @@
 //! Laws about the definitions that contracts cite. Nothing here runs.
-ghost use Rattle.mysql_bulk_builder.specs.CutLaws.{TightExists, TightIsUnique, TightFits, TightHasFewest, TightTakesFewestBytes, TightPartsComeFirst};
-ghost use Rattle.mysql_bulk_builder.specs.TypedCutLaws.{PartFitsLater, TightTypedExists, TightTypedExistsWhere, FittingCutWhere, TightTypedIsUnique, TightTypedHasFewest, WholeIsTight};
-ghost use Rattle.mysql_bulk_builder.specs.KindLaws.{OneKind, UntypedRunAddsNoColumn, FirstValueIsThere, NoneTooLarge, OneMoreMixesNone, WholeHasNoneTooLarge};
+ghost use Rattle.mysql_bulk_builder.specs.CutLaws.{TightExists, TightIsUnique, TightFits, TightHasFewest};
+ghost use Rattle.mysql_bulk_builder.specs.CutLaws.{TightTakesFewestBytes, TightPartsComeFirst};
+ghost use Rattle.mysql_bulk_builder.specs.TypedCutLaws.{PartFitsLater, TightTypedExists, TightTypedExistsWhere};
+ghost use Rattle.mysql_bulk_builder.specs.TypedCutLaws.{FittingCutWhere, TightTypedIsUnique, TightTypedHasFewest};
+ghost use Rattle.mysql_bulk_builder.specs.TypedCutLaws.{WholeIsTight};
+ghost use Rattle.mysql_bulk_builder.specs.KindLaws.{OneKind, UntypedRunAddsNoColumn, FirstValueIsThere, NoneTooLarge};
+ghost use Rattle.mysql_bulk_builder.specs.KindLaws.{OneMoreMixesNone, WholeHasNoneTooLarge};
 ghost use Rattle.mysql_bulk_builder.specs.InForce.{TypesInForceServe};
 ghost use Rattle.mysql_bulk_builder.specs.IterationLaws.{GivesFirst};
 
@@ -59,7 +63,8 @@ pub fn whole_is_tight()
     ensures none { WholeHasNoneTooLarge }
 {}
 
-/// Rows that mix no kinds mix none with one more row, none of whose values is of another kind than its column's first one.
+/// Rows that mix no kinds mix none with one more row, none of whose values is of another kind than
+/// its column's first one.
 pub fn one_more_mixes_none()
     ensures { OneMoreMixesNone }
 {}
@@ -69,8 +74,9 @@ pub fn types_in_force_serve()
     ensures { TypesInForceServe }
 {}
 
-/// The requests that an iterator gives one after another are those of the first parts of the tight cut of the rows held and given,
-/// and of all its parts where no row is left. Held and given rows are together at most `usize::MAX`.
+/// The requests that an iterator gives one after another are those of the first parts of the tight
+/// cut of the rows held and given, and of all its parts where no row is left. Held and given rows
+/// are together at most `usize::MAX`.
 pub fn iterators_give_the_tight_cut()
     ensures { GivesFirst }
 {}

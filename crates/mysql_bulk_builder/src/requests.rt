@@ -14,7 +14,8 @@ use mysql_values::Params;
 
 /// The requests of rows held by a builder and of rows or sets handed in, as few as there can be.
 ///
-/// Each request takes as many rows as it has room for. An error is the last item; the rows before the one that it speaks of stay with the builder.
+/// Each request takes as many rows as it has room for. An error is the last item; the rows before
+/// the one that it speaks of stay with the builder.
 #[derive(Debug, Drop)]
 pub struct BulkRequests<'b, 'a> {
     builder: &'b mut ComStmtBulkExecuteRequestBuilder<'a>,
@@ -27,7 +28,8 @@ fn fill(
     builder: &mut ComStmtBulkExecuteRequestBuilder<'_>,
     given: &mut Given,
 ) -> Result<(), BulkExecuteRequestBuilderError>
-    ensures { Fills builder.old (giving builder.old.names given.old) builder.new (giving builder.new.names given.new) result }
+    ensures { Fills builder.old (giving builder.old.names given.old) builder.new
+        (giving builder.new.names given.new) result }
 {
     while let Some(row) = given.next_row(builder)? {
         if let Some(back) = builder.add_row(row)? {
@@ -46,7 +48,8 @@ impl<'b, 'a> Iterator for BulkRequests<'b, 'a> {
 
     type Item = Result<ComStmtBulkExecuteRequest, BulkExecuteRequestBuilderError>;
 
-    ghost next_gives = { λ old item new. (new.builder.ghost_name ≡ old.builder.ghost_name) × Gives (iteration old) item (iteration new) };
+    ghost next_gives = { λ old item new. (new.builder.ghost_name ≡ old.builder.ghost_name) ×
+        Gives (iteration old) item (iteration new) };
 
     ghost remaining = { λ it. at_most (items_left (iteration it)) };
 
@@ -82,7 +85,13 @@ impl<'a> ComStmtBulkExecuteRequestBuilder<'a> {
     /// The requests of the rows held and of these rows.
     pub fn build_iter<'b>(&'b mut self, rows: Vec<Vec<Value>>) -> BulkRequests<'b, 'a>
         ensures same { result.builder.ghost_name ≡ self.entry.ghost_name }
-        ensures begins { iteration result ≡ record { builder = self.old; given = map (λ row. Ok row.items) rows.items; ended = false } }
+        ensures begins { iteration result ≡
+            record {
+              builder = self.old;
+              given = map (λ row. Ok row.items) rows.items;
+              ended =
+                  false;
+            } }
     {
         BulkRequests {
             builder: self,
@@ -97,7 +106,13 @@ impl<'a> ComStmtBulkExecuteRequestBuilder<'a> {
     /// The requests of the rows held and of the rows that these sets give over the builder's names.
     pub fn build_params_iter<'b>(&'b mut self, params: Vec<Params>) -> BulkRequests<'b, 'a>
         ensures same { result.builder.ghost_name ≡ self.entry.ghost_name }
-        ensures begins { iteration result ≡ record { builder = self.old; given = map (λ set. values_over self.old.names set) params.items; ended = false } }
+        ensures begins { iteration result ≡
+            record {
+              builder = self.old;
+              given =
+                  map (λ set. values_over self.old.names set) params.items;
+              ended = false;
+            } }
     {
         BulkRequests {
             builder: self,

@@ -34,7 +34,8 @@ pub(crate) fn row_size_within(row: &[Value], room: usize) -> Option<usize>
 
 /// What a row of borrowed values takes in a request, where that is at most `room`.
 pub(crate) fn refs_size_within(row: &[&Value], room: usize) -> Option<usize>
-    ensures { MatchOption result (room < row_size (row_in row.now)) (λ n. (n ≡ row_size (row_in row.now)) × (n ≤ room)) }
+    ensures { MatchOption result (room < row_size (row_in row.now))
+        (λ n. (n ≡ row_size (row_in row.now)) × (n ≤ room)) }
 {
     let mut left = room;
     for value in row {

@@ -1,5 +1,6 @@
 //! The longest part of the rows that fits one request.
-ghost use Rattle.std.specs.Prelude.{◌≡◌, ℕ, ◌+◌, ◌*◌, ◌<◌, ◌≤◌, ◌||◌, false, length, map, take, sum, None, All, MatchBool, MatchOption, IfOk, IfErr, ◌-◌, slice_index_or, []};
+ghost use Rattle.std.specs.Prelude.{◌≡◌, ℕ, ◌+◌, ◌*◌, ◌<◌, ◌≤◌, ◌||◌, false, length, map, take, sum, None, All};
+ghost use Rattle.std.specs.Prelude.{MatchBool, MatchOption, IfOk, IfErr, ◌-◌, slice_index_or, []};
 ghost use Rattle.mysql_bulk_builder.specs.Causes.{row_too_large};
 ghost use Rattle.mysql_bulk_builder.specs.Cut.{row_size};
 ghost use Rattle.mysql_bulk_builder.specs.TypedCut.{has_value_at};
@@ -98,7 +99,8 @@ fn longest_known(rows: &[&[&Value]], seen: &[bool], most: usize) -> usize
 /// Marks the columns in which the row has a value.
 fn mark(seen: &mut [bool], row: &[&Value])
     requires { length row.now ≡ length seen.old }
-    ensures { (column : ℕ) → column < length seen.old → slice_index_or seen.new column false ≡ (slice_index_or seen.old column false || has_value_at column (row_in row.now)) }
+    ensures { (column : ℕ) → column < length seen.old → slice_index_or seen.new column false ≡
+        (slice_index_or seen.old column false || has_value_at column (row_in row.now)) }
 {
     for (i, value) in row.iter().enumerate() {
         if !is_null(*value) {
@@ -158,7 +160,8 @@ fn next_part(
 
 /// What each row takes. Refuses the first row that takes more than `room` bytes.
 fn sizes_within(alloc: Global, rows: &[&[&Value]], room: usize) -> Result<Vec<usize>, BulkCutError>
-    ensures ok { IfOk result (λ sizes. (sizes.items ≡ map row_size (rows_in rows.now)) × EachIsWithin room (rows_in rows.now)) }
+    ensures ok { IfOk result (λ sizes. (sizes.items ≡ map row_size (rows_in rows.now)) ×
+        EachIsWithin room (rows_in rows.now)) }
     ensures err { IfErr result (IsPast room (rows_in rows.now)) }
 {
     let mut sizes = Vec::with_capacity(alloc, rows.len())?;

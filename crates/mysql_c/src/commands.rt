@@ -1,7 +1,8 @@
 //! Commands: bytes that were written, receivers, parameter sets, sending, texts and recoders.
 
 ghost use Rattle.mysql_c_commands.specs.Adding.{AddsSetIn};
-ghost use Rattle.mysql_c_commands.specs.Receivers.{EndsAs, IsFedBy, IsNew, IsReceiver, LetsGo, OfReceiver, content_at, missing_code, reading_code, sets_held};
+ghost use Rattle.mysql_c_commands.specs.Receivers.{EndsAs, IsFedBy, IsNew, IsReceiver, LetsGo, OfReceiver, content_at};
+ghost use Rattle.mysql_c_commands.specs.Receivers.{missing_code, reading_code, sets_held};
 ghost use Rattle.mysql_c_commands.specs.Recoding.{IsRecoder, IsWhyNoRecoder, RecoderEnds, RecodesFrom};
 ghost use Rattle.mysql_c_commands.specs.Sending.{SendsFrom};
 ghost use Rattle.mysql_c_commands.specs.Sets.{CountsSets, EndsSetIn, HasNone, LosesAll, TakesValueIn};
@@ -68,7 +69,9 @@ pub extern "C" fn mysql_session_receiver_new(
     ensures made { result ≡ 0 → IsReceiver handle.new.object (IsNew query.now id limit) × HasMixed query.now false }
     ensures kept { result ≢ 0 → handle.new.object ≡ handle.old.object }
     ensures small { limit < 4 → result ≡ code_number code.LimitTooSmall }
-    ensures cause { (result ≡ 0) ⊎ (result ≡ code_number code.Memory) ⊎ ((result ≡ code_number code.LimitTooSmall) × (limit < 4)) ⊎ ((result ≡ code_number code.Mixed) × HasMixed query.now true) }
+    ensures cause { (result ≡ 0) ⊎ (result ≡ code_number code.Memory) ⊎
+        ((result ≡ code_number code.LimitTooSmall) × (limit < 4)) ⊎
+        ((result ≡ code_number code.Mixed) × HasMixed query.now true) }
 {
     receiver_new(alloc, handle, query, id, limit)
 }
@@ -85,8 +88,8 @@ pub extern "C" fn mysql_session_receiver_feed(
     receiver_feed(alloc, handle, piece)
 }
 
-/// Ends a receiver: the handle stands for the audit of what was fed, and holds the sets that weren't let go. Shows how the stream ends.
-/// Of an audit it shows the same again.
+/// Ends a receiver: the handle stands for the audit of what was fed, and holds the sets that
+/// weren't let go. Shows how the stream ends. Of an audit it shows the same again.
 #[unsafe(no_mangle)]
 pub extern "C" fn mysql_session_receiver_end(
     alloc: Global,
@@ -121,7 +124,9 @@ pub extern "C" fn mysql_session_receiver_width(
     width: &mut usize,
 ) -> u32
     ensures kept { handle.new.object ≡ handle.old.object }
-    ensures width { MatchOption (slice_get (sets_held handle.old.object) set) (result ≡ code_number (missing_code handle.old.object)) (λ contents. (result ≡ 0) × (width.new ≡ length contents)) }
+    ensures width { MatchOption (slice_get (sets_held handle.old.object) set) (result ≡
+        code_number (missing_code handle.old.object)) (λ contents. (result ≡ 0) ×
+        (width.new ≡ length contents)) }
 {
     receiver_width(alloc, handle, set, width)
 }
@@ -136,7 +141,8 @@ pub extern "C" fn mysql_session_receiver_content(
     content: &mut ShownContent,
 ) -> u32
     ensures kept { handle.new.object ≡ handle.old.object }
-    ensures shown { MatchOption (content_at handle.old.object set place) (result ≡ code_number (missing_code handle.old.object)) (λ c. Shows c result content.new) }
+    ensures shown { MatchOption (content_at handle.old.object set place) (result ≡
+        code_number (missing_code handle.old.object)) (λ c. Shows c result content.new) }
 {
     receiver_content(alloc, handle, set, place, content)
 }
@@ -173,7 +179,8 @@ pub extern "C" fn mysql_session_sets_push_int(
     handle: &mut Handle,
     number: i64,
 ) -> u32
-    ensures { OfSets handle.old.object result handle.new.object (TakesValueIn (value.Int number) result handle.new.object) }
+    ensures { OfSets handle.old.object result handle.new.object
+        (TakesValueIn (value.Int number) result handle.new.object) }
 {
     sets_push_int(alloc, handle, number)
 }
@@ -185,7 +192,8 @@ pub extern "C" fn mysql_session_sets_push_uint(
     handle: &mut Handle,
     number: u64,
 ) -> u32
-    ensures { OfSets handle.old.object result handle.new.object (TakesValueIn (value.UInt number) result handle.new.object) }
+    ensures { OfSets handle.old.object result handle.new.object
+        (TakesValueIn (value.UInt number) result handle.new.object) }
 {
     sets_push_uint(alloc, handle, number)
 }
@@ -197,7 +205,8 @@ pub extern "C" fn mysql_session_sets_push_bytes(
     handle: &mut Handle,
     bytes: &[u8],
 ) -> u32
-    ensures { OfSets handle.old.object result handle.new.object (TakesValueIn (value.Bytes bytes.now) result handle.new.object) }
+    ensures { OfSets handle.old.object result handle.new.object
+        (TakesValueIn (value.Bytes bytes.now) result handle.new.object) }
 {
     sets_push_bytes(alloc, handle, bytes)
 }
@@ -215,7 +224,9 @@ pub extern "C" fn mysql_session_sets_push_date(
     second: u8,
     micros: u32,
 ) -> u32
-    ensures { OfSets handle.old.object result handle.new.object (TakesValueIn (value.Date year month day hour minute second micros) result handle.new.object) }
+    ensures { OfSets handle.old.object result handle.new.object
+        (TakesValueIn (value.Date year month day hour minute second micros) result
+        handle.new.object) }
 {
     sets_push_date(
         alloc, handle, year, month, day, hour, minute, second, micros,
@@ -234,7 +245,9 @@ pub extern "C" fn mysql_session_sets_push_time(
     seconds: u8,
     micros: u32,
 ) -> u32
-    ensures { OfSets handle.old.object result handle.new.object (TakesValueIn (value.Time negative days hours minutes seconds micros) result handle.new.object) }
+    ensures { OfSets handle.old.object result handle.new.object
+        (TakesValueIn (value.Time negative days hours minutes seconds micros) result
+        handle.new.object) }
 {
     sets_push_time(
         alloc, handle, negative, days, hours, minutes, seconds, micros,
@@ -249,8 +262,8 @@ pub extern "C" fn mysql_session_sets_end_set(alloc: Global, handle: &mut Handle)
     sets_end_set(alloc, handle)
 }
 
-/// Puts one more set behind the whole ones: the values that an array describes, whose bytes lie in `bytes`. The values of the next set
-/// stay.
+/// Puts one more set behind the whole ones: the values that an array describes, whose bytes lie in
+/// `bytes`. The values of the next set stay.
 #[unsafe(no_mangle)]
 pub extern "C" fn mysql_session_sets_add(
     alloc: Global,
@@ -258,7 +271,8 @@ pub extern "C" fn mysql_session_sets_add(
     parameters: &[Parameter],
     bytes: &[u8],
 ) -> u32
-    ensures { OfSets handle.old.object result handle.new.object (AddsSetIn bytes.now parameters.now result handle.new.object) }
+    ensures { OfSets handle.old.object result handle.new.object
+        (AddsSetIn bytes.now parameters.now result handle.new.object) }
 {
     sets_add(alloc, handle, parameters, bytes)
 }
@@ -284,8 +298,9 @@ pub extern "C" fn mysql_session_sets_clear(alloc: Global, handle: &mut Handle) -
     sets_clear(alloc, handle)
 }
 
-/// Appends the whole ones of the parameter sets of one handle to the bytes of another, by the road of this number: 0 is text, 1 is
-/// execute, 2 is bulk. Where they aren't sent it shows the set and the place that are refused, and the bytes stay.
+/// Appends the whole ones of the parameter sets of one handle to the bytes of another, by the road
+/// of this number: 0 is text, 1 is execute, 2 is bulk. Where they aren't sent it shows the set and
+/// the place that are refused, and the bytes stay.
 #[unsafe(no_mangle)]
 pub extern "C" fn mysql_session_send(
     alloc: Global,
@@ -303,8 +318,8 @@ pub extern "C" fn mysql_session_send(
     send(alloc, sets, query, road, id, limit, out, place)
 }
 
-/// Appends the text of the set of this number over a query to the bytes of another handle. Where there is none it shows the set and
-/// the place that are refused, and the bytes stay.
+/// Appends the text of the set of this number over a query to the bytes of another handle. Where
+/// there is none it shows the set and the place that are refused, and the bytes stay.
 #[unsafe(no_mangle)]
 pub extern "C" fn mysql_session_bind_text(
     alloc: Global,
@@ -352,8 +367,9 @@ pub extern "C" fn mysql_session_recoder_new(
     recoder_new(alloc, handle, query, id, limit)
 }
 
-/// Feeds a recoder with the next piece of its stream, and appends the executions of the sets that are whole with it to the bytes of
-/// another handle, before the first of all the prepare. Where it is refused it shows where, and the bytes stay.
+/// Feeds a recoder with the next piece of its stream, and appends the executions of the sets that
+/// are whole with it to the bytes of another handle, before the first of all the prepare. Where it
+/// is refused it shows where, and the bytes stay.
 #[unsafe(no_mangle)]
 pub extern "C" fn mysql_session_recoder_feed(
     alloc: Global,
@@ -367,8 +383,8 @@ pub extern "C" fn mysql_session_recoder_feed(
     recoder_feed(alloc, handle, piece, out, stop)
 }
 
-/// Ends a recoder: where its stream carried no set the prepare is appended to the bytes of another handle. The handle stands for
-/// nothing then, also where the end is refused.
+/// Ends a recoder: where its stream carried no set the prepare is appended to the bytes of another
+/// handle. The handle stands for nothing then, also where the end is refused.
 #[unsafe(no_mangle)]
 pub extern "C" fn mysql_session_recoder_end(
     alloc: Global,

@@ -1,8 +1,8 @@
-//! The library for C: objects behind handles, with a code as the answer of each call. `bindings/c/mysql_session.h` says how they are
-//! called.
+//! The library for C: objects behind handles, with a code as the answer of each call.
+//! `bindings/c/mysql_session.h` says how they are called.
 //!
-//! A handle that C holds is one pointer; a call takes its address. An `alloc` takes no bytes, so that C passes nothing for it; a slice
-//! is a pointer, which isn't null, and a length.
+//! A handle that C holds is one pointer; a call takes its address. An `alloc` takes no bytes, so
+//! that C passes nothing for it; a slice is a pointer, which isn't null, and a length.
 //!
 //! Each export is a call of a function of a crate below, with the same contract.
 #![tactic(auto)]
@@ -35,7 +35,8 @@ pub extern "C" fn mysql_session_free(alloc: Global, handle: &mut Handle)
     drop(replace(handle, Handle::empty(alloc)));
 }
 
-/// Shows the text of a code, and its length without the NUL byte that stands behind it. A number that is no code has a text too.
+/// Shows the text of a code, and its length without the NUL byte that stands behind it. A number
+/// that is no code has a text too.
 #[unsafe(no_mangle)]
 pub extern "C" fn mysql_session_code_text(code: u32, text: &mut *const u8, len: &mut usize)
     ensures { (shown : List ℕ) × IsTrue (ends_at_nul shown) × (len.new ≡ length shown - 1) }

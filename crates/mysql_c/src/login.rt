@@ -8,7 +8,8 @@ ghost use Rattle.mysql_c_login.specs.Gtids.{PutsBySids};
 ghost use Rattle.mysql_c_login.specs.Logins.{Login, ReadsLogin, is_login, login_payload};
 ghost use Rattle.mysql_c_login.specs.Packets.{FramesIn, IsPackets, IsReadOnIn, OfPackets, RestartsIn, ShowsPayload};
 ghost use Rattle.mysql_c_login.specs.Putting.{Puts, PutsIf};
-ghost use Rattle.mysql_c_login.specs.Replication.{Dump, Replica, dump_payload, is_replica, replica_payload, sids_payload};
+ghost use Rattle.mysql_c_login.specs.Replication.{Dump, Replica, dump_payload, is_replica, replica_payload};
+ghost use Rattle.mysql_c_login.specs.Replication.{sids_payload};
 
 use mysql_c_handles::Handle;
 use mysql_c_login::{
@@ -32,7 +33,8 @@ pub extern "C" fn mysql_session_packets_new(
     packets_new(alloc, handle, first, limit)
 }
 
-/// Reads on to the end of the next packet. Tells how many bytes of the piece were used, and whether a payload stands whole then.
+/// Reads on to the end of the next packet. Tells how many bytes of the piece were used, and whether
+/// a payload stands whole then.
 #[unsafe(no_mangle)]
 pub extern "C" fn mysql_session_packets_feed(
     alloc: Global,
@@ -41,7 +43,8 @@ pub extern "C" fn mysql_session_packets_feed(
     used: &mut usize,
     whole: &mut bool,
 ) -> u32
-    ensures { OfPackets handle.old.object result handle.new.object (IsReadOnIn piece.now used.new whole.new result handle.new.object) }
+    ensures { OfPackets handle.old.object result handle.new.object
+        (IsReadOnIn piece.now used.new whole.new result handle.new.object) }
 {
     packets_feed(alloc, handle, piece, used, whole)
 }
@@ -67,7 +70,8 @@ pub extern "C" fn mysql_session_packets_restart(alloc: Global, handle: &mut Hand
     packets_restart(alloc, handle)
 }
 
-/// Appends a payload to the bytes that a handle stands for, framed in chunks from this number on, which goes on behind the last one.
+/// Appends a payload to the bytes that a handle stands for, framed in chunks from this number on,
+/// which goes on behind the last one.
 #[unsafe(no_mangle)]
 pub extern "C" fn mysql_session_packet_put(
     alloc: Global,
@@ -76,7 +80,8 @@ pub extern "C" fn mysql_session_packet_put(
     number: &mut u8,
     limit: usize,
 ) -> u32
-    ensures framed { OfBytes out.old.object result out.new.object (FramesIn payload.now limit number.old number.new result out.new.object) }
+    ensures framed { OfBytes out.old.object result out.new.object
+        (FramesIn payload.now limit number.old number.new result out.new.object) }
     ensures kept { result ≢ 0 → number.new ≡ number.old }
 {
     packet_put(alloc, out, payload, number, limit)
@@ -109,8 +114,23 @@ pub extern "C" fn mysql_session_greeting_put(
     scramble_2: &[u8],
     plugin: &[u8],
 ) -> u32
-    ensures { let g : Greeting = record { connection = connection; capabilities = capabilities; mariadb_capabilities = mariadb_capabilities; collation = collation; status = status; version = version.now; scramble_1 = scramble_1.now; scramble_2 = scramble_2.now ++ 0 ∷ []; plugin = plugin.now } in
-        PutsIf (is_greeting scramble_1.now scramble_2.now version.now plugin.now) (greeting_payload g) out.old.object result out.new.object }
+    ensures { let g : Greeting =
+        record {
+          connection = connection;
+          capabilities = capabilities;
+          mariadb_capabilities =
+              mariadb_capabilities;
+          collation = collation;
+          status = status;
+          version =
+              version.now;
+          scramble_1 = scramble_1.now;
+          scramble_2 = scramble_2.now ++ 0 ∷ [];
+          plugin =
+              plugin.now;
+        } in
+        PutsIf (is_greeting scramble_1.now scramble_2.now version.now plugin.now)
+        (greeting_payload g) out.old.object result out.new.object }
 {
     greeting_put(
         alloc,
@@ -152,8 +172,20 @@ pub extern "C" fn mysql_session_login_put(
     database: &[u8],
     plugin: &[u8],
 ) -> u32
-    ensures { let login : Login = record { capabilities = capabilities; mariadb_capabilities = mariadb_capabilities; max_packet_size = max_packet_size; user = user.now; response = response.now; database = database.now; plugin = plugin.now } in
-        PutsIf (is_login capabilities user.now response.now database.now plugin.now) (login_payload login) out.old.object result out.new.object }
+    ensures { let login : Login =
+        record {
+          capabilities = capabilities;
+          mariadb_capabilities =
+              mariadb_capabilities;
+          max_packet_size = max_packet_size;
+          user = user.now;
+          response =
+              response.now;
+          database = database.now;
+          plugin = plugin.now;
+        } in
+        PutsIf (is_login capabilities user.now response.now database.now plugin.now)
+        (login_payload login) out.old.object result out.new.object }
 {
     login_put(
         alloc,
@@ -179,7 +211,15 @@ pub extern "C" fn mysql_session_register_replica_put(
     password: &[u8],
     port: u16,
 ) -> u32
-    ensures { let r : Replica = record { server = server; host = host.now; user = user.now; password = password.now; port = port } in PutsIf (is_replica r) (replica_payload r) out.old.object result out.new.object }
+    ensures { let r : Replica =
+        record {
+          server = server;
+          host = host.now;
+          user = user.now;
+          password = password.now;
+          port =
+              port;
+        } in PutsIf (is_replica r) (replica_payload r) out.old.object result out.new.object }
 {
     register_replica_put(alloc, out, server, host, user, password, port)
 }
@@ -194,12 +234,15 @@ pub extern "C" fn mysql_session_binlog_dump_put(
     flags: u16,
     file: &[u8],
 ) -> u32
-    ensures { Puts (dump_payload (record { server = server; position = position; flags = flags; file = file.now })) out.old.object result out.new.object }
+    ensures { Puts (dump_payload
+        (record { server = server; position = position; flags = flags; file = file.now }))
+        out.old.object result out.new.object }
 {
     binlog_dump_put(alloc, out, server, position, flags, file)
 }
 
-/// Appends to the bytes that a handle stands for the request for the binary log without the transactions of the sets that a text names.
+/// Appends to the bytes that a handle stands for the request for the binary log without the
+/// transactions of the sets that a text names.
 #[unsafe(no_mangle)]
 pub extern "C" fn mysql_session_binlog_dump_gtid_put(
     alloc: Global,
@@ -210,7 +253,9 @@ pub extern "C" fn mysql_session_binlog_dump_gtid_put(
     file: &[u8],
     gtids: &[u8],
 ) -> u32
-    ensures { let dump : Dump = record { server = server; position = position; flags = flags; file = file.now } in PutsBySids gtids.now (sids_payload dump) out.old.object result out.new.object }
+    ensures { let dump : Dump =
+        record { server = server; position = position; flags = flags; file = file.now } in
+        PutsBySids gtids.now (sids_payload dump) out.old.object result out.new.object }
 {
     binlog_dump_gtid_put(alloc, out, server, position, flags, file, gtids)
 }

@@ -3,21 +3,25 @@
 ghost use Rattle.std.specs.Prelude.{MatchOption, None, [], drop, false, length, slice_get, take, true, ◌≡◌, ◌≢◌, ◌⊎◌};
 ghost use Rattle.mysql_c_handles.specs.Codes.{code_number};
 ghost use Rattle.mysql_c_handles.specs.declared.code.Code.TheVariants as code;
-ghost use Rattle.mysql_c_replies.specs.Replies.{IsNewReply, IsReply, IsReplyFedBy, OfReply, OutcomesAreTaken, RepliesEnd, kind_numbered};
-ghost use Rattle.mysql_c_replies.specs.Finding.{ShowsChangeIn, cell_in, column_in, listing_code, outcomes_held, param_in, unlisted_code};
+ghost use Rattle.mysql_c_replies.specs.Replies.{IsNewReply, IsReply, IsReplyFedBy, OfReply, OutcomesAreTaken};
+ghost use Rattle.mysql_c_replies.specs.Replies.{RepliesEnd, kind_numbered};
+ghost use Rattle.mysql_c_replies.specs.Finding.{ShowsChangeIn, cell_in, column_in, listing_code, outcomes_held};
+ghost use Rattle.mysql_c_replies.specs.Finding.{param_in, unlisted_code};
 ghost use Rattle.mysql_c_replies.specs.Shown.{ShowsColumn, ShowsOutcome, ShowsValue, UnlessMemory};
 ghost use Rattle.mysql_const.specs.ColumnTypes.{column_type_named};
-ghost use Rattle.mysql_reply_packets.specs.Written.{ColumnsStep, EndStep, ErrorStep, OkStep, PreparedStep};
+ghost use Rattle.mysql_reply_rules.specs.Written.{ColumnsStep, EndStep, ErrorStep, OkStep, PreparedStep};
 ghost use Rattle.mysql_c_handles.specs.Sets.{unheld_code, values_held};
 ghost use Rattle.mysql_c_replies.specs.Steps.{IsWriter, WritesFrom, columns_given, lacks_columns};
-ghost use Rattle.mysql_c_replies.specs.Writing.{BothStay, EndsWriting, GivesColumn, HasNoSuchType, IsNewWriter, WritesRowOf, column_said, error_said, packet_said, state_said, statement_said};
+ghost use Rattle.mysql_c_replies.specs.Writing.{BothStay, EndsWriting, GivesColumn, HasNoSuchType, IsNewWriter};
+ghost use Rattle.mysql_c_replies.specs.Writing.{WritesRowOf, column_said, error_said, packet_said, state_said};
+ghost use Rattle.mysql_c_replies.specs.Writing.{statement_said};
 
 use mysql_c_handles::{Handle, ShownEnd};
 use mysql_c_replies::{ShownColumn, ShownResult, ShownSpot, ShownValue};
 use std::alloc::Global;
 
-/// Makes the handle stand for a reader of the reply to a command of this kind: 0 is a query, 1 an execution, 2 a prepare. The reply's
-/// first chunk has the number `first`.
+/// Makes the handle stand for a reader of the reply to a command of this kind: 0 is a query, 1 an
+/// execution, 2 a prepare. The reply's first chunk has the number `first`.
 #[unsafe(no_mangle)]
 pub extern "C" fn mysql_session_reply_new(
     alloc: Global,
@@ -29,7 +33,8 @@ pub extern "C" fn mysql_session_reply_new(
 ) -> u32
     ensures made { result ≡ 0 → IsReply handle.new.object (IsNewReply kind capabilities first limit) }
     ensures kept { result ≢ 0 → handle.new.object ≡ handle.old.object }
-    ensures cause { (result ≡ 0) ⊎ (result ≡ code_number code.Memory) ⊎ ((result ≡ code_number code.NoSuchKind) × (kind_numbered kind ≡ None)) }
+    ensures cause { (result ≡ 0) ⊎ (result ≡ code_number code.Memory) ⊎
+        ((result ≡ code_number code.NoSuchKind) × (kind_numbered kind ≡ None)) }
 {
     mysql_c_replies::reply_new(alloc, handle, kind, capabilities, first, limit)
 }
@@ -42,8 +47,8 @@ pub extern "C" fn mysql_session_reply_feed(alloc: Global, handle: &mut Handle, p
     mysql_c_replies::reply_feed(alloc, handle, piece)
 }
 
-/// Takes the results so far: those that stand whole, and of a result set that goes on its rows so far. Those that were taken before are
-/// let go, and so are the progress reports that came.
+/// Takes the results so far: those that stand whole, and of a result set that goes on its rows so
+/// far. Those that were taken before are let go, and so are the progress reports that came.
 #[unsafe(no_mangle)]
 pub extern "C" fn mysql_session_reply_take(alloc: Global, handle: &mut Handle) -> u32
     ensures { OfReply handle.old.object result handle.new.object (OutcomesAreTaken result handle.new.object) }
@@ -51,7 +56,8 @@ pub extern "C" fn mysql_session_reply_take(alloc: Global, handle: &mut Handle) -
     mysql_c_replies::reply_take(alloc, handle)
 }
 
-/// Ends a reply: the handle stands for what was read and not taken. Shows how the reply ends. Of an ended one it shows the same again.
+/// Ends a reply: the handle stands for what was read and not taken. Shows how the reply ends. Of an
+/// ended one it shows the same again.
 #[unsafe(no_mangle)]
 pub extern "C" fn mysql_session_reply_end(
     alloc: Global,
@@ -86,13 +92,16 @@ pub extern "C" fn mysql_session_reply_result(
     shown: &mut ShownResult,
 ) -> u32
     ensures kept { handle.new.object ≡ handle.old.object }
-    ensures shown { MatchOption (slice_get (outcomes_held handle.old.object) number) (result ≡ code_number (unlisted_code handle.old.object)) (λ outcome. UnlessMemory result (ShowsOutcome outcome shown.new)) }
+    ensures shown { MatchOption (slice_get (outcomes_held handle.old.object) number) (result ≡
+        code_number (unlisted_code handle.old.object))
+        (λ outcome. UnlessMemory result (ShowsOutcome outcome shown.new)) }
 {
     mysql_c_replies::reply_result(alloc, handle, number, shown)
 }
 
-/// Shows a change of the session's state that an OK packet tells, by the number of its result and the position where it begins: its
-/// type and its bytes. The position is 0 for the first change, and is moved on to the next one.
+/// Shows a change of the session's state that an OK packet tells, by the number of its result and
+/// the position where it begins: its type and its bytes. The position is 0 for the first change,
+/// and is moved on to the next one.
 #[unsafe(no_mangle)]
 pub extern "C" fn mysql_session_reply_state(
     alloc: Global,
@@ -120,7 +129,9 @@ pub extern "C" fn mysql_session_reply_cell(
     shown: &mut ShownValue,
 ) -> u32
     ensures kept { handle.new.object ≡ handle.old.object }
-    ensures shown { MatchOption (cell_in (outcomes_held handle.old.object) number row column) (result ≡ code_number (unlisted_code handle.old.object)) (λ value. (result ≡ 0) × ShowsValue value shown.new) }
+    ensures shown { MatchOption (cell_in (outcomes_held handle.old.object) number row column)
+        (result ≡ code_number (unlisted_code handle.old.object)) (λ value. (result ≡ 0) ×
+        ShowsValue value shown.new) }
 {
     mysql_c_replies::reply_cell(alloc, handle, number, row, column, shown)
 }
@@ -135,7 +146,9 @@ pub extern "C" fn mysql_session_reply_column(
     shown: &mut ShownColumn,
 ) -> u32
     ensures kept { handle.new.object ≡ handle.old.object }
-    ensures shown { MatchOption (column_in (outcomes_held handle.old.object) number column) (result ≡ code_number (unlisted_code handle.old.object)) (λ found. (result ≡ 0) × ShowsColumn found shown.new) }
+    ensures shown { MatchOption (column_in (outcomes_held handle.old.object) number column)
+        (result ≡ code_number (unlisted_code handle.old.object)) (λ found. (result ≡ 0) ×
+        ShowsColumn found shown.new) }
 {
     mysql_c_replies::reply_column(alloc, handle, number, column, shown)
 }
@@ -150,13 +163,16 @@ pub extern "C" fn mysql_session_reply_param(
     shown: &mut ShownColumn,
 ) -> u32
     ensures kept { handle.new.object ≡ handle.old.object }
-    ensures shown { MatchOption (param_in (outcomes_held handle.old.object) number param) (result ≡ code_number (unlisted_code handle.old.object)) (λ found. (result ≡ 0) × ShowsColumn found shown.new) }
+    ensures shown { MatchOption (param_in (outcomes_held handle.old.object) number param) (result ≡
+        code_number (unlisted_code handle.old.object)) (λ found. (result ≡ 0) ×
+        ShowsColumn found shown.new) }
 {
     mysql_c_replies::reply_param(alloc, handle, number, param, shown)
 }
 
-/// Makes the handle stand for a writer of the reply to a command of this kind: 0 is a query, 1 an execution, 2 a prepare. The reply's
-/// first chunk has the number `first`, and a payload has at most `limit` bytes.
+/// Makes the handle stand for a writer of the reply to a command of this kind: 0 is a query, 1 an
+/// execution, 2 a prepare. The reply's first chunk has the number `first`, and a payload has at
+/// most `limit` bytes.
 #[unsafe(no_mangle)]
 pub extern "C" fn mysql_session_writer_new(
     alloc: Global,
@@ -168,7 +184,8 @@ pub extern "C" fn mysql_session_writer_new(
 ) -> u32
     ensures made { result ≡ 0 → IsWriter handle.new.object (IsNewWriter kind capabilities first limit) }
     ensures kept { result ≢ 0 → handle.new.object ≡ handle.old.object }
-    ensures cause { (result ≡ 0) ⊎ (result ≡ code_number code.Memory) ⊎ ((result ≡ code_number code.NoSuchKind) × (kind_numbered kind ≡ None)) }
+    ensures cause { (result ≡ 0) ⊎ (result ≡ code_number code.Memory) ⊎
+        ((result ≡ code_number code.NoSuchKind) × (kind_numbered kind ≡ None)) }
 {
     mysql_c_replies::writer_new(alloc, handle, kind, capabilities, first, limit)
 }
@@ -187,7 +204,9 @@ pub extern "C" fn mysql_session_writer_ok(
     out: &mut Handle,
     spot: &mut ShownSpot,
 ) -> u32
-    ensures { WritesFrom (λ _. OkStep more (packet_said affected_rows last_insert_id status warnings info.now)) handle.old.object out.old.object result spot.new handle.new.object out.new.object }
+    ensures { WritesFrom (λ _. OkStep more
+        (packet_said affected_rows last_insert_id status warnings info.now)) handle.old.object
+        out.old.object result spot.new handle.new.object out.new.object }
 {
     mysql_c_replies::writer_ok(
         alloc,
@@ -214,7 +233,10 @@ pub extern "C" fn mysql_session_writer_error(
     out: &mut Handle,
     spot: &mut ShownSpot,
 ) -> u32
-    ensures { MatchOption (state_said state.now) (BothStay code.BadPacket handle.old.object out.old.object result handle.new.object out.new.object) (λ said. WritesFrom (λ _. ErrorStep (error_said number message.now said)) handle.old.object out.old.object result spot.new handle.new.object out.new.object) }
+    ensures { MatchOption (state_said state.now)
+        (BothStay code.BadPacket handle.old.object out.old.object result handle.new.object
+        out.new.object) (λ said. WritesFrom (λ _. ErrorStep (error_said number message.now said))
+        handle.old.object out.old.object result spot.new handle.new.object out.new.object) }
 {
     mysql_c_replies::writer_error(alloc, handle, number, state, message, out, spot)
 }
@@ -231,7 +253,10 @@ pub extern "C" fn mysql_session_writer_column(
     length: u32,
     decimals: u8,
 ) -> u32
-    ensures { MatchOption (column_type_named column_type) (HasNoSuchType handle.old.object result handle.new.object) (λ known. GivesColumn (column_said known name.now flags charset length decimals) handle.old.object result handle.new.object) }
+    ensures { MatchOption (column_type_named column_type)
+        (HasNoSuchType handle.old.object result handle.new.object)
+        (λ known. GivesColumn (column_said known name.now flags charset length decimals)
+        handle.old.object result handle.new.object) }
 {
     mysql_c_replies::writer_column(
         alloc,
@@ -253,7 +278,8 @@ pub extern "C" fn mysql_session_writer_rows(
     out: &mut Handle,
     spot: &mut ShownSpot,
 ) -> u32
-    ensures { WritesFrom (λ reply. ColumnsStep (columns_given reply)) handle.old.object out.old.object result spot.new handle.new.object out.new.object }
+    ensures { WritesFrom (λ reply. ColumnsStep (columns_given reply)) handle.old.object
+        out.old.object result spot.new handle.new.object out.new.object }
 {
     mysql_c_replies::writer_rows(alloc, handle, out, spot)
 }
@@ -269,7 +295,11 @@ pub extern "C" fn mysql_session_writer_row(
     spot: &mut ShownSpot,
 ) -> u32
     ensures kept { sets.new.object ≡ sets.old.object }
-    ensures row { MatchOption (values_held sets.old.object set) (BothStay (unheld_code sets.old.object) handle.old.object out.old.object result handle.new.object out.new.object) (λ values. WritesRowOf values handle.old.object out.old.object result spot.new handle.new.object out.new.object) }
+    ensures row { MatchOption (values_held sets.old.object set)
+        (BothStay (unheld_code sets.old.object) handle.old.object out.old.object result
+        handle.new.object out.new.object)
+        (λ values. WritesRowOf values handle.old.object out.old.object result spot.new
+        handle.new.object out.new.object) }
 {
     mysql_c_replies::writer_row(alloc, handle, sets, set, out, spot)
 }
@@ -285,7 +315,8 @@ pub extern "C" fn mysql_session_writer_end_rows(
     out: &mut Handle,
     spot: &mut ShownSpot,
 ) -> u32
-    ensures { WritesFrom (λ _. EndStep more (packet_said 0 0 status warnings [])) handle.old.object out.old.object result spot.new handle.new.object out.new.object }
+    ensures { WritesFrom (λ _. EndStep more (packet_said 0 0 status warnings [])) handle.old.object
+        out.old.object result spot.new handle.new.object out.new.object }
 {
     mysql_c_replies::writer_end_rows(alloc, handle, status, warnings, more, out, spot)
 }
@@ -301,8 +332,13 @@ pub extern "C" fn mysql_session_writer_prepared(
     out: &mut Handle,
     spot: &mut ShownSpot,
 ) -> u32
-    ensures fewer { lacks_columns handle.old.object params ≡ true → BothStay code.OutOfRange handle.old.object out.old.object result handle.new.object out.new.object }
-    ensures enough { lacks_columns handle.old.object params ≡ false → WritesFrom (λ reply. PreparedStep (statement_said statement warnings) (take params (columns_given reply)) (drop params (columns_given reply))) handle.old.object out.old.object result spot.new handle.new.object out.new.object }
+    ensures fewer { lacks_columns handle.old.object params ≡ true →
+        BothStay code.OutOfRange handle.old.object out.old.object result handle.new.object
+        out.new.object }
+    ensures enough { lacks_columns handle.old.object params ≡ false →
+        WritesFrom (λ reply. PreparedStep (statement_said statement warnings)
+        (take params (columns_given reply)) (drop params (columns_given reply))) handle.old.object
+        out.old.object result spot.new handle.new.object out.new.object }
 {
     mysql_c_replies::writer_prepared(alloc, handle, statement, params, warnings, out, spot)
 }

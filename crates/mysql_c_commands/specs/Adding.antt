@@ -1,5 +1,6 @@
 -- What a set is that comes as an array: the value that each of its parameters describes, and why one describes none.
-use Rattle.std.specs.Prelude.{◌≡◌, ◌⊎◌, ℕ, ◌+◌, ◌==◌, nat_lt, List, [], ◌∷◌, ◌++◌, length, map, slice_range, Option, Some, None, Result, Ok, Err, Vec, if◌then◌else◌}
+use Rattle.std.specs.Prelude.{◌≡◌, ◌⊎◌, ℕ, ◌+◌, ◌==◌, nat_lt, List, [], ◌∷◌, ◌++◌, length, map, slice_range, Option}
+use Rattle.std.specs.Prelude.{Some, None, Result, Ok, Err, Vec, if◌then◌else◌}
 use Rattle.std.specs.declared.alloc.Global.{Global}
 use Rattle.mysql_cells.specs.declared.value.Value.{Value}
 use Rattle.mysql_cells.specs.declared.value.Value.TheVariants as value
@@ -15,10 +16,13 @@ use Rattle.mysql_c_commands.specs.Sets.{AreTheSame}
 
 -- so many of the bytes from a place on, where there are as many
 abbrev pub bytes_from : List ℕ → ℕ → ℕ → Result Value Code
-bytes_from bytes start len = if nat_lt (length bytes) (start + len) then Err OutOfRange else Ok (value.Bytes (slice_range bytes start (start + len)))
+bytes_from bytes start len =
+    if nat_lt (length bytes) (start + len) then Err OutOfRange else Ok
+    (value.Bytes (slice_range bytes start (start + len)))
 
--- The value that a parameter describes, by its kind: 0 is NULL, 1 a number with a sign, 2 one without, 3 bytes of those that were handed over, 6 a date, 7 a
--- duration. Why there is none: the kind is another, or its bytes don't lie there.
+-- The value that a parameter describes, by its kind: 0 is NULL, 1 a number with a sign, 2 one
+-- without, 3 bytes of those that were handed over, 6 a date, 7 a duration. Why there is none: the
+-- kind is another, or its bytes don't lie there.
 abbrev pub parameter_value : List ℕ → Parameter → Result Value Code
 parameter_value bytes p =
     if p.kind == 0 then Ok value.NULL

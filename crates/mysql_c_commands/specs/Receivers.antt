@@ -2,14 +2,14 @@
 use Rattle.std.specs.Prelude.{◌≡◌, ℕ, List, [], Option, None, slice_get}
 use Rattle.std.specs.Option.{option_and_then}
 use Rattle.mysql_values.specs.Content.{Content}
-use Rattle.mysql_commands.specs.Audit.{IsAbout}
-use Rattle.mysql_commands.specs.GoingOn.{HasFoundNoFault, ReceiverDecides, fresh_receiver}
-use Rattle.mysql_commands.specs.Reading.{Set}
-use Rattle.mysql_commands.specs.Received.{Received, receiver_state}
-use Rattle.mysql_commands.specs.Receiving.{audit_of}
-use Rattle.mysql_commands.specs.Taking.{Feeds, HandsOut}
-use Rattle.mysql_commands.specs.Views.{sets_of}
-use Rattle.mysql_commands.specs.declared.audit.Audit.{Audit}
+use Rattle.mysql_receive.specs.Audit.{IsAbout}
+use Rattle.mysql_receive.specs.GoingOn.{HasFoundNoFault, ReceiverDecides, fresh_receiver}
+use Rattle.mysql_receive.specs.Reading.{Set}
+use Rattle.mysql_receive.specs.Received.{Received, receiver_state}
+use Rattle.mysql_receive.specs.Receiving.{audit_of}
+use Rattle.mysql_receive.specs.Taking.{Feeds, HandsOut}
+use Rattle.mysql_receive.specs.Views.{sets_of}
+use Rattle.mysql_receive.specs.declared.audit.Audit.{Audit}
 use Rattle.mysql_c_handles.specs.declared.code.Code.{Code}
 use Rattle.mysql_c_handles.specs.declared.code.Code.TheVariants.{Done, OutOfRange}
 use Rattle.mysql_c_handles.specs.declared.object.Object.{Object}
@@ -72,7 +72,8 @@ ShowsEndOf held number shown = number ≡ code_number (misuse held)
 
 -- A receiver becomes the audit of what it was fed, and an audit stays; its end is shown.
 abbrev pub EndsAs : Object → ℕ → Object → ShownEnd → Type 0
-EndsAs (object.Receiver r) number new shown = (number ≡ 0) × IsAudit new (λ a. IsAuditOf r a × (shown ≡ end_shown a.end))
+EndsAs (object.Receiver r) number new shown = (number ≡ 0) ×
+    IsAudit new (λ a. IsAuditOf r a × (shown ≡ end_shown a.end))
 EndsAs (object.Audit a) number new shown = (number ≡ 0) × (new ≡ object.Audit a) × (shown ≡ end_shown a.end)
 EndsAs held number new shown = Stays held number new
 

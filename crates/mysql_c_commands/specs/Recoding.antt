@@ -1,6 +1,7 @@
 -- What the calls on recoders say of the objects that two handles stand for, and of what C is shown.
 use Rattle.std.specs.Prelude.{◌≡◌, ◌≢◌, ◌⊎◌, ◌<◌, ℕ, List, ◌++◌, Option, None, Some, IfSome}
-use Rattle.mysql_recoding.specs.AsItComes.{Finishes, Recoded, RecodesPiece, RefusesEnd, RefusesPiece, RefusesQuery, recoder_state}
+use Rattle.mysql_recoding.specs.AsItComes.{Finishes, Recoded, RecodesPiece, RefusesEnd, RefusesPiece, RefusesQuery}
+use Rattle.mysql_recoding.specs.AsItComes.{recoder_state}
 use Rattle.mysql_recoding.specs.declared.errors.RecodeError.{RecodeError}
 use Rattle.mysql_recoding.specs.declared.errors.RecodeError.TheVariants as recode_error
 use Rattle.mysql_c_handles.specs.declared.code.Code.{Code}
@@ -49,9 +50,11 @@ IsWhyNoRecoder query id limit number =
     (number ≡ code_number code.Memory) ⊎ ((number ≡ code_number code.LimitTooSmall) × (limit < 4))
     ⊎ ((error : RecodeError) × (number ≡ code_number (recode_code error)) × RefusesQuery query id limit error)
 
--- A recoder took a piece, and what it appends stands behind the old bytes; or the bytes stay. The number and the place are those of the error that it then
--- holds. With an error from before nothing changes.
-pub record RecodesBytes (piece : List ℕ) (old : Recoded) (before : List ℕ) (number : ℕ) (stop : ShownStop) (new : Recoded) (behind : List ℕ) : Type 0 where
+-- A recoder took a piece, and what it appends stands behind the old bytes; or the bytes stay. The
+-- number and the place are those of the error that it then holds. With an error from before nothing
+-- changes.
+pub record RecodesBytes (piece : List ℕ) (old : Recoded) (before : List ℕ) (number : ℕ)
+    (stop : ShownStop) (new : Recoded) (behind : List ℕ) : Type 0 where
   pub recoded : new.refused ≡ None → (appended : List ℕ) × (behind ≡ before ++ appended)
       × RecodesPiece (recoder_state old).terms (recoder_state old) piece appended (recoder_state new)
   pub refused : old.refused ≡ None → IfSome new.refused (λ error. RefusesPiece (recoder_state old) piece error)
@@ -62,12 +65,14 @@ pub record RecodesBytes (piece : List ℕ) (old : Recoded) (before : List ℕ) (
 
 -- the same of what the handle of the bytes stands for
 abbrev pub RecodesTo : List ℕ → Recoded → Object → ℕ → ShownStop → Recoded → Object → Type 0
-RecodesTo piece old (object.Bytes before) number stop new out = IsBytes out (λ behind. RecodesBytes piece old before.items number stop new behind)
+RecodesTo piece old (object.Bytes before) number stop new out =
+    IsBytes out (λ behind. RecodesBytes piece old before.items number stop new behind)
 RecodesTo piece old held number stop new out = Stays held number out × (new ≡ old)
 
 -- the same of the recoder that the other handle stands for
 abbrev pub RecodesFrom : List ℕ → Object → Object → ℕ → ShownStop → Object → Object → Type 0
-RecodesFrom piece (object.Recoder old) before number stop new out = IsRecoder new (λ r. RecodesTo piece old before number stop r out)
+RecodesFrom piece (object.Recoder old) before number stop new out =
+    IsRecoder new (λ r. RecodesTo piece old before number stop r out)
 RecodesFrom piece held before number stop new out = Stays held number new × (out ≡ before)
 
 -- a refusal of a recoder's end is shown: the error that it holds, else Memory or how the stream ends
@@ -77,9 +82,11 @@ pub record IsEndRefused (r : Recoded) (number : ℕ) (stop : ShownStop) : Type 0
   pub cause : r.refused ≡ None → RefusesEnd (recoder_state r) error
   pub shows : ShowsStop error number stop
 
--- A recoder ended, and what it appends at the end stands behind the old bytes; or the bytes stay, and the number and the place say why.
+-- A recoder ended, and what it appends at the end stands behind the old bytes; or the bytes stay,
+-- and the number and the place say why.
 pub record EndsBytes (r : Recoded) (before : List ℕ) (number : ℕ) (stop : ShownStop) (behind : List ℕ) : Type 0 where
-  pub finished : number ≡ 0 → (r.refused ≡ None) × ((appended : List ℕ) × (behind ≡ before ++ appended) × Finishes (recoder_state r) appended)
+  pub finished : number ≡ 0 → (r.refused ≡ None) ×
+      ((appended : List ℕ) × (behind ≡ before ++ appended) × Finishes (recoder_state r) appended)
   pub kept : number ≢ 0 → behind ≡ before
   pub why : number ≢ 0 → IsEndRefused r number stop
 
@@ -90,7 +97,8 @@ EndsObject held before number stop behind = (number ≡ code_number (misuse held
 
 -- the same of what the handle of the bytes stands for; then the recoder is gone, and else it stays
 abbrev pub EndsTo : Object → Object → ℕ → ShownStop → Object → Object → Type 0
-EndsTo ended (object.Bytes before) number stop new out = (new ≡ object.Empty) × IsBytes out (λ behind. EndsObject ended before.items number stop behind)
+EndsTo ended (object.Bytes before) number stop new out = (new ≡ object.Empty) ×
+    IsBytes out (λ behind. EndsObject ended before.items number stop behind)
 EndsTo ended held number stop new out = Stays held number out × (new ≡ ended)
 
 -- the same of the recoder that the other handle stands for

@@ -1,12 +1,12 @@
 -- What sending says of the objects that two handles stand for, and of what C is shown.
 use Rattle.std.specs.Prelude.{◌≡◌, ◌≢◌, ◌<◌, ◌≤◌, ◌⊎◌, ◌==◌, ℕ, List, Option, Some, None, MatchOption, if◌then◌else◌}
 use Rattle.mysql_values.specs.declared.params.Params.{Params}
-use Rattle.mysql_streams.specs.declared.refusal.Refusal.{Refusal}
-use Rattle.mysql_streams.specs.declared.refusal.Refusal.TheVariants as refusals
-use Rattle.mysql_streams.specs.declared.road.Road.{Road}
-use Rattle.mysql_streams.specs.declared.road.Road.TheVariants.{Text, Execute, Bulk}
-use Rattle.mysql_streams.specs.Sending.{RefusesGiven}
-use Rattle.mysql_streams.specs.Sets.{all_given}
+use Rattle.mysql_command_rules.specs.declared.refusal.Refusal.{Refusal}
+use Rattle.mysql_command_rules.specs.declared.refusal.Refusal.TheVariants as refusals
+use Rattle.mysql_command_rules.specs.declared.road.Road.{Road}
+use Rattle.mysql_command_rules.specs.declared.road.Road.TheVariants.{Text, Execute, Bulk}
+use Rattle.mysql_command_rules.specs.Sending.{RefusesGiven}
+use Rattle.mysql_command_rules.specs.Sets.{all_given}
 use Rattle.mysql_session.specs.Delivery.{Delivers}
 use Rattle.mysql_c_handles.specs.declared.code.Code.{Code}
 use Rattle.mysql_c_handles.specs.declared.code.Code.TheVariants as code
@@ -18,7 +18,8 @@ use Rattle.mysql_c_handles.specs.Codes.{Stays, code_number, misuse}
 
 -- the road of a number
 abbrev pub road_numbered : ℕ → Option Road
-road_numbered number = if number == 0 then Some Text else (if number == 1 then Some Execute else (if number == 2 then Some Bulk else None))
+road_numbered number = if number == 0 then Some Text else
+    (if number == 1 then Some Execute else (if number == 2 then Some Bulk else None))
 
 -- the code of a refusal
 abbrev pub refusal_code : Refusal → Code
@@ -51,7 +52,8 @@ abbrev pub ShowsRefusal : Refusal → ℕ → ShownPlace → Type 0
 ShowsRefusal refusal number place = (number ≡ code_number (refusal_code refusal)) × (place ≡ refusal_place refusal)
 
 -- a refusal of the sets is shown
-pub record IsRefused (road : Road) (query : List ℕ) (sets : List Params) (id limit number : ℕ) (place : ShownPlace) : Type 0 where
+pub record IsRefused (road : Road) (query : List ℕ) (sets : List Params) (id limit number : ℕ)
+    (place : ShownPlace) : Type 0 where
   pub refusal : Refusal
   pub refuses : RefusesGiven road query (all_given sets) id limit refusal
   pub shows : ShowsRefusal refusal number place
@@ -60,20 +62,26 @@ pub record IsRefused (road : Road) (query : List ℕ) (sets : List Params) (id l
 abbrev pub IsWhy : ℕ → List ℕ → List Params → ℕ → ℕ → ℕ → ShownPlace → Type 0
 IsWhy road query sets id limit number place =
     MatchOption (road_numbered road) (number ≡ code_number code.NoSuchRoad)
-    (λ r. ((number ≡ code_number code.LimitTooSmall) × (limit < 4)) ⊎ ((4 ≤ limit) × IsRefused r query sets id limit number place))
+    (λ r. ((number ≡ code_number code.LimitTooSmall) × (limit < 4)) ⊎
+    ((4 ≤ limit) × IsRefused r query sets id limit number place))
 
 -- Sets are delivered, appended to the old bytes; or the bytes stay, and the number and the place say why.
-pub record Sends (road : ℕ) (query : List ℕ) (sets : List Params) (id limit : ℕ) (old : List ℕ) (number : ℕ) (place : ShownPlace) (new : List ℕ) : Type 0 where
-  pub delivered : number ≡ 0 → MatchOption (road_numbered road) ⊥ (λ r. (4 ≤ limit) × Delivers r query (all_given sets) id limit old new)
+pub record Sends (road : ℕ) (query : List ℕ) (sets : List Params) (id limit : ℕ) (old : List ℕ)
+    (number : ℕ) (place : ShownPlace) (new : List ℕ) : Type 0 where
+  pub delivered : number ≡ 0 →
+      MatchOption (road_numbered road) ⊥ (λ r. (4 ≤ limit) ×
+      Delivers r query (all_given sets) id limit old new)
   pub kept : number ≢ 0 → new ≡ old
   pub why : number ≢ 0 → IsWhy road query sets id limit number place
 
 -- the same of what the handle of the bytes stands for
 abbrev pub AppendsTo : ℕ → List ℕ → List Params → ℕ → ℕ → Object → ℕ → ShownPlace → Object → Type 0
-AppendsTo road query sets id limit (object.Bytes old) number place new = IsBytes new (λ bytes. Sends road query sets id limit old.items number place bytes)
+AppendsTo road query sets id limit (object.Bytes old) number place new =
+    IsBytes new (λ bytes. Sends road query sets id limit old.items number place bytes)
 AppendsTo road query sets id limit held number place new = Stays held number new
 
 -- the same of the parameter sets that the other handle stands for
 abbrev pub SendsFrom : ℕ → List ℕ → ℕ → ℕ → Object → Object → ℕ → ShownPlace → Object → Type 0
-SendsFrom road query id limit (object.Sets s) old number place new = AppendsTo road query s.sets.items id limit old number place new
+SendsFrom road query id limit (object.Sets s) old number place new =
+    AppendsTo road query s.sets.items id limit old number place new
 SendsFrom road query id limit held old number place new = (number ≡ code_number (misuse held)) × (new ≡ old)

@@ -34,16 +34,20 @@ abbrev pub HasValues : Params → Vec Value Global → Type 0
 HasValues (Positional held) values = values ≡ held
 HasValues other values = Unit {0}
 
--- A set of these values stands behind the other sets, and the values of the next one stay; or memory was refused and nothing changed.
+-- A set of these values stands behind the other sets, and the values of the next one stay; or
+-- memory was refused and nothing changed.
 abbrev pub PutsSet : Vec Value Global → ℕ → ParameterSets → ParameterSets → Type 0
 PutsSet values number old new =
-    ((number ≡ code_number Done) × (new.sets.items ≡ old.sets.items ++ Positional values ∷ []) × (new.open.items ≡ old.open.items))
+    ((number ≡ code_number Done) × (new.sets.items ≡ old.sets.items ++ Positional values ∷ []) ×
+    (new.open.items ≡ old.open.items))
     ⊎ ((number ≡ code_number Memory) × AreTheSame old new)
 
--- The next set is whole: its values, by their order, stand behind the other sets; or memory was refused and nothing changed.
+-- The next set is whole: its values, by their order, stand behind the other sets; or memory was
+-- refused and nothing changed.
 abbrev pub EndsSet : ℕ → ParameterSets → ParameterSets → Type 0
 EndsSet number old new =
-    ((number ≡ code_number Done) × (new.sets.items ≡ old.sets.items ++ Positional old.open ∷ []) × (new.open.items ≡ []))
+    ((number ≡ code_number Done) × (new.sets.items ≡ old.sets.items ++ Positional old.open ∷ []) ×
+    (new.open.items ≡ []))
     ⊎ ((number ≡ code_number Memory) × AreTheSame old new)
 
 -- the same of what the handle stands for

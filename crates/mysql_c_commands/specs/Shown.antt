@@ -3,14 +3,15 @@ use Rattle.std.specs.Prelude.{◌≡◌, ◌⊎◌, ℕ, ℤ, FitsSigned, length
 use Rattle.std.specs.Int.{FitsUnsigned, w64}
 use Rattle.mysql_values.specs.Content.{Content}
 use Rattle.mysql_values.specs.Content.TheVariants as content
-use Rattle.mysql_commands.specs.declared.audit.End.{End}
-use Rattle.mysql_commands.specs.declared.audit.End.TheVariants as ending
+use Rattle.mysql_receive.specs.declared.audit.End.{End}
+use Rattle.mysql_receive.specs.declared.audit.End.TheVariants as ending
 use Rattle.mysql_c_commands.specs.declared.shown.ShownContent.{ShownContent}
 use Rattle.mysql_c_handles.specs.declared.shown.ShownEnd.{ShownEnd}
 use Rattle.mysql_c_handles.specs.declared.code.Code.TheVariants.{OutOfRange}
 use Rattle.mysql_c_handles.specs.Codes.{code_number, fault_number}
 
--- A number is shown as itself: with a sign (kind 1) where it fits 64 bits with one, else without a sign (kind 2); one that fits neither is out of range.
+-- A number is shown as itself: with a sign (kind 1) where it fits 64 bits with one, else without a
+-- sign (kind 2); one that fits neither is out of range.
 abbrev pub ShowsNumber : ℤ → ℕ → ShownContent → Type 0
 ShowsNumber z number shown =
     ((number ≡ 0) × (shown.kind ≡ 1) × (shown.int ≡ z))

@@ -1,4 +1,5 @@
--- What the calls on texts say of the bytes that a handle stands for: the text of a set over a query, and the literal of a value.
+-- What the calls on texts say of the bytes that a handle stands for: the text of a set over a
+-- query, and the literal of a value.
 use Rattle.std.specs.Prelude.{◌≡◌, ◌≢◌, ◌⊎◌, ℕ, List, ◌++◌, MatchOption}
 use Rattle.mysql_cells.specs.AsSql.{HasLiteral}
 use Rattle.mysql_cells.specs.Values.{literal_of}
@@ -55,23 +56,28 @@ pub record IsUnbound (query : List ℕ) (params : Params) (set number : ℕ) (pl
   pub cause : (error ≡ bind_error.Memory) ⊎ IsBindCause query params error
   pub shows : ShowsBindError set error number place
 
--- The text of the set of this number is appended to the old bytes; or the bytes stay, and the number and the place say why.
-pub record BindsText (query : List ℕ) (params : Params) (set : ℕ) (old : List ℕ) (number : ℕ) (place : ShownPlace) (new : List ℕ) : Type 0 where
+-- The text of the set of this number is appended to the old bytes; or the bytes stay, and the
+-- number and the place say why.
+pub record BindsText (query : List ℕ) (params : Params) (set : ℕ) (old : List ℕ) (number : ℕ)
+    (place : ShownPlace) (new : List ℕ) : Type 0 where
   pub bound : number ≡ 0 → (text : List ℕ) × (new ≡ old ++ text) × IsTextOf query params text
   pub kept : number ≢ 0 → new ≡ old
   pub why : number ≢ 0 → IsUnbound query params set number place
 
 -- the same of what the handle of the bytes stands for
 abbrev pub BindsTextTo : List ℕ → Params → ℕ → Object → ℕ → ShownPlace → Object → Type 0
-BindsTextTo query params set (object.Bytes old) number place new = IsBytes new (λ bytes. BindsText query params set old.items number place bytes)
+BindsTextTo query params set (object.Bytes old) number place new =
+    IsBytes new (λ bytes. BindsText query params set old.items number place bytes)
 BindsTextTo query params set held number place new = Stays held number new
 
 -- the same of a set that the other handle's object holds
 abbrev pub BindsTextFrom : List ℕ → Object → ℕ → Object → ℕ → ShownPlace → Object → Type 0
 BindsTextFrom query held set old number place new =
-    MatchOption (set_held held set) ((number ≡ code_number (unheld_code held)) × (new ≡ old)) (λ params. BindsTextTo query params set old number place new)
+    MatchOption (set_held held set) ((number ≡ code_number (unheld_code held)) ×
+    (new ≡ old)) (λ params. BindsTextTo query params set old number place new)
 
--- The literal of a value is appended to the old bytes, and is one of the value's content; or the bytes stay: a float has none, or memory was refused.
+-- The literal of a value is appended to the old bytes, and is one of the value's content; or the
+-- bytes stay: a float has none, or memory was refused.
 pub record PutsLiteral (value : Value) (old : List ℕ) (number : ℕ) (new : List ℕ) : Type 0 where
   pub put : MatchOption (literal_of value) ((number ≡ code_number Float) × (new ≡ old))
       (λ text. ((number ≡ code_number Done) × (new ≡ old ++ text)) ⊎ ((number ≡ code_number Memory) × (new ≡ old)))
@@ -85,4 +91,5 @@ PutsLiteralTo value held number new = Stays held number new
 -- the same of a value that the other handle's object holds
 abbrev pub PutsLiteralFrom : Object → ℕ → ℕ → Object → ℕ → Object → Type 0
 PutsLiteralFrom held set place old number new =
-    MatchOption (value_held held set place) ((number ≡ code_number (unheld_code held)) × (new ≡ old)) (λ value. PutsLiteralTo value old number new)
+    MatchOption (value_held held set place) ((number ≡ code_number (unheld_code held)) ×
+    (new ≡ old)) (λ value. PutsLiteralTo value old number new)

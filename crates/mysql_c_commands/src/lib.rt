@@ -1,4 +1,5 @@
-//! Commands for C: receivers of their streams, parameter sets that are put together and sent, texts of these, and recoders.
+//! Commands for C: receivers of their streams, parameter sets that are put together and sent, texts
+//! of these, and recoders.
 //!
 //! Each public function is a call of the library for C, with the contract of its export.
 #![tactic(auto)]

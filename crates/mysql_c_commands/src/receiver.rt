@@ -1,16 +1,19 @@
 //! Receivers of streams of commands.
 
-ghost use Rattle.std.specs.Prelude.{◌≡◌, ◌≢◌, ◌≤◌, ◌<◌, ◌⊎◌, false, true, Err, IfErr, IfOk, MatchOption, MatchResult, OnErr, OnOk, length, slice_get};
+ghost use Rattle.std.specs.Prelude.{◌≡◌, ◌≢◌, ◌≤◌, ◌<◌, ◌⊎◌, false, true, Err, IfErr, IfOk, MatchOption, MatchResult};
+ghost use Rattle.std.specs.Prelude.{OnErr, OnOk, length, slice_get};
 ghost use Rattle.mysql_values.specs.Queries.{HasMixed};
-ghost use Rattle.mysql_commands.specs.Views.{sets_of};
+ghost use Rattle.mysql_receive.specs.Views.{sets_of};
 ghost use Rattle.mysql_c_handles.specs.Codes.{code_number, fault_code};
 ghost use Rattle.mysql_c_handles.specs.declared.code.Code.TheVariants as code;
-ghost use Rattle.mysql_c_commands.specs.Receivers.{EndsAs, IsFed, IsAudited, IsFedBy, IsNew, IsReceiver, LetsGo, OfReceiver, ShowsEndOf, content_at, missing_code, reading_code, sets_held};
+ghost use Rattle.mysql_c_commands.specs.Receivers.{EndsAs, IsFed, IsAudited, IsFedBy, IsNew, IsReceiver, LetsGo};
+ghost use Rattle.mysql_c_commands.specs.Receivers.{OfReceiver, ShowsEndOf, content_at, missing_code, reading_code};
+ghost use Rattle.mysql_c_commands.specs.Receivers.{sets_held};
 ghost use Rattle.mysql_c_commands.specs.Shown.{Shows};
 
 use crate::shown::{ShownContent, show, shown_end};
 use mysql_c_handles::{Code, Handle, Object, ShownEnd};
-use mysql_commands::{Content, Receiver, ReceiverError};
+use mysql_receive::{Content, Receiver, ReceiverError};
 use std::alloc::Global;
 use std::mem::replace;
 
@@ -19,7 +22,8 @@ fn made(alloc: Global, query: &[u8], id: u32, limit: usize) -> Result<Object, Co
     ensures made { IfOk result (λ object. IsReceiver object (IsNew query.now id limit)) }
     ensures one_kind { OnOk result (HasMixed query.now false) }
     ensures small { limit < 4 → result ≡ Err code.LimitTooSmall }
-    ensures cause { IfErr result (λ e. (e ≡ code.Memory) ⊎ ((e ≡ code.LimitTooSmall) × (limit < 4)) ⊎ ((e ≡ code.Mixed) × HasMixed query.now true)) }
+    ensures cause { IfErr result (λ e. (e ≡ code.Memory) ⊎
+        ((e ≡ code.LimitTooSmall) × (limit < 4)) ⊎ ((e ≡ code.Mixed) × HasMixed query.now true)) }
 {
     if limit < 4 {
         return Err(Code::LimitTooSmall);
@@ -44,7 +48,8 @@ fn fed(receiver: &mut Receiver, piece: &[u8]) -> Code
 
 /// Feeds a receiver.
 fn feed_object(object: &mut Object, piece: &[u8]) -> Code
-    ensures { OfReceiver object.old (code_number result) object.new (IsFedBy piece.now (code_number result) object.new) }
+    ensures { OfReceiver object.old (code_number result) object.new
+        (IsFedBy piece.now (code_number result) object.new) }
 {
     match object {
         Object::Receiver(receiver) => fed(receiver, piece),
@@ -56,7 +61,9 @@ fn feed_object(object: &mut Object, piece: &[u8]) -> Code
 /// The sets that were read and not let go.
 fn sets_in(object: &Object) -> Result<&[Vec<Content>], Code>
     ensures held { IfOk result (λ sets. sets_of sets.now ≡ sets_held object.now) }
-    ensures code { MatchResult result (λ _. reading_code object.now ≡ code.Done) (λ e. (e ≡ reading_code object.now) × (e ≡ missing_code object.now) × (e ≢ code.Done)) }
+    ensures code { MatchResult result (λ _. reading_code object.now ≡
+        code.Done) (λ e. (e ≡ reading_code object.now) × (e ≡ missing_code object.now) ×
+        (e ≢ code.Done)) }
 {
     match object {
         Object::Receiver(receiver) => Ok(receiver.sets()),
@@ -115,7 +122,8 @@ fn count_sets(object: &Object, count: &mut usize) -> Code
 
 /// Counts the contents of a set.
 fn width_of(object: &Object, set: usize, width: &mut usize) -> Code
-    ensures { MatchOption (slice_get (sets_held object.now) set) (result ≡ missing_code object.now) (λ contents. (result ≡ code.Done) × (width.new ≡ length contents)) }
+    ensures { MatchOption (slice_get (sets_held object.now) set) (result ≡ missing_code object.now)
+        (λ contents. (result ≡ code.Done) × (width.new ≡ length contents)) }
 {
     match sets_in(object) {
         Ok(sets) => match sets.get(set) {
@@ -131,7 +139,8 @@ fn width_of(object: &Object, set: usize, width: &mut usize) -> Code
 
 /// Shows a content of a set.
 fn show_content(object: &Object, set: usize, place: usize, shown: &mut ShownContent) -> Code
-    ensures { MatchOption (content_at object.now set place) (result ≡ missing_code object.now) (λ c. Shows c (code_number result) shown.new) }
+    ensures { MatchOption (content_at object.now set place) (result ≡ missing_code object.now)
+        (λ c. Shows c (code_number result) shown.new) }
 {
     match sets_in(object) {
         Ok(sets) => match sets.get(set) {
@@ -164,7 +173,9 @@ pub fn receiver_new(alloc: Global, handle: &mut Handle, query: &[u8], id: u32, l
     ensures made { result ≡ 0 → IsReceiver handle.new.object (IsNew query.now id limit) × HasMixed query.now false }
     ensures kept { result ≢ 0 → handle.new.object ≡ handle.old.object }
     ensures small { limit < 4 → result ≡ code_number code.LimitTooSmall }
-    ensures cause { (result ≡ 0) ⊎ (result ≡ code_number code.Memory) ⊎ ((result ≡ code_number code.LimitTooSmall) × (limit < 4)) ⊎ ((result ≡ code_number code.Mixed) × HasMixed query.now true) }
+    ensures cause { (result ≡ 0) ⊎ (result ≡ code_number code.Memory) ⊎
+        ((result ≡ code_number code.LimitTooSmall) × (limit < 4)) ⊎
+        ((result ≡ code_number code.Mixed) × HasMixed query.now true) }
 {
     match made(alloc, query, id, limit) {
         Ok(object) => match handle.set(alloc, object) {
@@ -187,8 +198,8 @@ pub fn receiver_feed(alloc: Global, handle: &mut Handle, piece: &[u8]) -> u32
     code.number()
 }
 
-/// Ends a receiver: the handle stands for the audit of what was fed, and holds the sets that weren't let go. Shows how the stream ends.
-/// Of an audit it shows the same again.
+/// Ends a receiver: the handle stands for the audit of what was fed, and holds the sets that
+/// weren't let go. Shows how the stream ends. Of an audit it shows the same again.
 pub fn receiver_end(alloc: Global, handle: &mut Handle, end: &mut ShownEnd) -> u32
     ensures { EndsAs handle.old.object result handle.new.object end.new }
 {
@@ -217,7 +228,9 @@ pub fn receiver_sets(alloc: Global, handle: &mut Handle, count: &mut usize) -> u
 /// Tells how many contents the set of this number has.
 pub fn receiver_width(alloc: Global, handle: &mut Handle, set: usize, width: &mut usize) -> u32
     ensures kept { handle.new.object ≡ handle.old.object }
-    ensures width { MatchOption (slice_get (sets_held handle.old.object) set) (result ≡ code_number (missing_code handle.old.object)) (λ contents. (result ≡ 0) × (width.new ≡ length contents)) }
+    ensures width { MatchOption (slice_get (sets_held handle.old.object) set) (result ≡
+        code_number (missing_code handle.old.object)) (λ contents. (result ≡ 0) ×
+        (width.new ≡ length contents)) }
 {
     let Some(object) = handle.take(alloc) else {
         return Code::EmptyHandle.number();
@@ -236,7 +249,8 @@ pub fn receiver_content(
     content: &mut ShownContent,
 ) -> u32
     ensures kept { handle.new.object ≡ handle.old.object }
-    ensures shown { MatchOption (content_at handle.old.object set place) (result ≡ code_number (missing_code handle.old.object)) (λ c. Shows c result content.new) }
+    ensures shown { MatchOption (content_at handle.old.object set place) (result ≡
+        code_number (missing_code handle.old.object)) (λ c. Shows c result content.new) }
 {
     let Some(object) = handle.take(alloc) else {
         return Code::EmptyHandle.number();

@@ -5,7 +5,9 @@ ghost use Rattle.mysql_recoding.specs.AsItComes.{IsNewRecoder, RefusesQuery, rec
 ghost use Rattle.mysql_c_handles.specs.declared.code.Code.TheVariants as code;
 ghost use Rattle.mysql_c_handles.specs.declared.object.Object.TheVariants as object;
 ghost use Rattle.mysql_c_handles.specs.Codes.{code_number};
-ghost use Rattle.mysql_c_commands.specs.Recoding.{EndsBytes, EndsObject, EndsTo, IsRecoder, IsWhyNoRecoder, RecoderEnds, RecodesBytes, RecodesFrom, RecodesTo, ShowsStop, recode_code, stop_of};
+ghost use Rattle.mysql_c_commands.specs.Recoding.{EndsBytes, EndsObject, EndsTo, IsRecoder, IsWhyNoRecoder};
+ghost use Rattle.mysql_c_commands.specs.Recoding.{RecoderEnds, RecodesBytes, RecodesFrom, RecodesTo, ShowsStop};
+ghost use Rattle.mysql_c_commands.specs.Recoding.{recode_code, stop_of};
 
 use crate::shown::{ShownStop, kind_of_end};
 use mysql_c_handles::{Code, Handle, Object, number_of_fault};
@@ -212,8 +214,9 @@ pub fn recoder_new(alloc: Global, handle: &mut Handle, query: &[u8], id: u32, li
     }
 }
 
-/// Feeds a recoder with the next piece of its stream, and appends the executions of the sets that are whole with it to the bytes of
-/// another handle, before the first of all the prepare. Where it is refused it shows where, and the bytes stay.
+/// Feeds a recoder with the next piece of its stream, and appends the executions of the sets that
+/// are whole with it to the bytes of another handle, before the first of all the prepare. Where it
+/// is refused it shows where, and the bytes stay.
 pub fn recoder_feed(
     alloc: Global,
     handle: &mut Handle,
@@ -231,8 +234,8 @@ pub fn recoder_feed(
     code.number()
 }
 
-/// Ends a recoder: where its stream carried no set the prepare is appended to the bytes of another handle. The handle stands for
-/// nothing then, also where the end is refused.
+/// Ends a recoder: where its stream carried no set the prepare is appended to the bytes of another
+/// handle. The handle stands for nothing then, also where the end is refused.
 pub fn recoder_end(
     alloc: Global,
     handle: &mut Handle,

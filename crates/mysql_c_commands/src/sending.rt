@@ -2,7 +2,8 @@
 
 ghost use Rattle.std.specs.Prelude.{◌≡◌, ◌≢◌};
 ghost use Rattle.mysql_c_handles.specs.Codes.{code_number};
-ghost use Rattle.mysql_c_commands.specs.Sending.{AppendsTo, Sends, SendsFrom, ShowsRefusal, refusal_code, refusal_place, road_numbered};
+ghost use Rattle.mysql_c_commands.specs.Sending.{AppendsTo, Sends, SendsFrom, ShowsRefusal, refusal_code};
+ghost use Rattle.mysql_c_commands.specs.Sending.{refusal_place, road_numbered};
 
 use crate::shown::ShownPlace;
 use mysql_c_handles::{Code, Handle, Object};
@@ -132,7 +133,8 @@ fn send_to(
     out: &mut Handle,
     place: &mut ShownPlace,
 ) -> Code
-    ensures { SendsFrom road query.now id limit object.now out.old.object (code_number result) place.new out.new.object }
+    ensures { SendsFrom road query.now id limit object.now out.old.object (code_number result)
+        place.new out.new.object }
 {
     match object {
         Object::Sets(sets) => append_sets(alloc, query, &sets.sets, road, id, limit, out, place),
@@ -162,8 +164,9 @@ fn append_sets(
     code
 }
 
-/// Appends the whole ones of the parameter sets of one handle to the bytes of another, by the road of this number: 0 is text, 1 is
-/// execute, 2 is bulk. Where they aren't sent it shows the set and the place that are refused, and the bytes stay.
+/// Appends the whole ones of the parameter sets of one handle to the bytes of another, by the road
+/// of this number: 0 is text, 1 is execute, 2 is bulk. Where they aren't sent it shows the set and
+/// the place that are refused, and the bytes stay.
 pub fn send(
     alloc: Global,
     sets: &mut Handle,

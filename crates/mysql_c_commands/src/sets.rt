@@ -5,7 +5,8 @@ ghost use Rattle.mysql_cells.specs.declared.value.Value.TheVariants as value;
 ghost use Rattle.mysql_c_handles.specs.Codes.{code_number};
 ghost use Rattle.mysql_c_handles.specs.Sets.{IsSets, OfSets};
 ghost use Rattle.mysql_c_commands.specs.Adding.{AddsSet, AddsSetIn};
-ghost use Rattle.mysql_c_commands.specs.Sets.{CountsSets, EndsSet, EndsSetIn, HasNone, HasValues, LosesAll, PutsSet, TakesValue, TakesValueIn};
+ghost use Rattle.mysql_c_commands.specs.Sets.{CountsSets, EndsSet, EndsSetIn, HasNone, HasValues, LosesAll, PutsSet};
+ghost use Rattle.mysql_c_commands.specs.Sets.{TakesValue, TakesValueIn};
 
 use crate::parameter::{self, Parameter};
 use mysql_c_handles::{Code, Handle, Object, ParameterSets};
@@ -90,7 +91,8 @@ fn take_bytes(alloc: Global, sets: &mut ParameterSets, bytes: &[u8]) -> Code
 
 /// Takes a copy of bytes as the next value of parameter sets.
 fn take_bytes_in(alloc: Global, object: &mut Object, bytes: &[u8]) -> Code
-    ensures { OfSets object.old (code_number result) object.new (TakesValueIn (value.Bytes bytes.now) (code_number result) object.new) }
+    ensures { OfSets object.old (code_number result) object.new
+        (TakesValueIn (value.Bytes bytes.now) (code_number result) object.new) }
 {
     match object {
         Object::Sets(sets) => take_bytes(alloc, sets, bytes),
@@ -112,7 +114,8 @@ fn end_set_in(alloc: Global, object: &mut Object) -> Code
 
 /// Adds a set to parameter sets.
 fn add_set_in(alloc: Global, object: &mut Object, parameters: &[Parameter], bytes: &[u8]) -> Code
-    ensures { OfSets object.old (code_number result) object.new (AddsSetIn bytes.now parameters.now (code_number result) object.new) }
+    ensures { OfSets object.old (code_number result) object.new
+        (AddsSetIn bytes.now parameters.now (code_number result) object.new) }
 {
     match object {
         Object::Sets(sets) => add_set(alloc, sets, parameters, bytes),
@@ -186,21 +189,24 @@ pub fn sets_push_null(alloc: Global, handle: &mut Handle) -> u32
 
 /// Gives the next set a whole number with a sign.
 pub fn sets_push_int(alloc: Global, handle: &mut Handle, number: i64) -> u32
-    ensures { OfSets handle.old.object result handle.new.object (TakesValueIn (value.Int number) result handle.new.object) }
+    ensures { OfSets handle.old.object result handle.new.object
+        (TakesValueIn (value.Int number) result handle.new.object) }
 {
     push(alloc, handle, Value::Int(number))
 }
 
 /// Gives the next set a whole number without a sign.
 pub fn sets_push_uint(alloc: Global, handle: &mut Handle, number: u64) -> u32
-    ensures { OfSets handle.old.object result handle.new.object (TakesValueIn (value.UInt number) result handle.new.object) }
+    ensures { OfSets handle.old.object result handle.new.object
+        (TakesValueIn (value.UInt number) result handle.new.object) }
 {
     push(alloc, handle, Value::UInt(number))
 }
 
 /// Gives the next set a copy of bytes.
 pub fn sets_push_bytes(alloc: Global, handle: &mut Handle, bytes: &[u8]) -> u32
-    ensures { OfSets handle.old.object result handle.new.object (TakesValueIn (value.Bytes bytes.now) result handle.new.object) }
+    ensures { OfSets handle.old.object result handle.new.object
+        (TakesValueIn (value.Bytes bytes.now) result handle.new.object) }
 {
     let Some(mut object) = handle.take(alloc) else {
         return Code::EmptyHandle.number();
@@ -222,7 +228,9 @@ pub fn sets_push_date(
     second: u8,
     micros: u32,
 ) -> u32
-    ensures { OfSets handle.old.object result handle.new.object (TakesValueIn (value.Date year month day hour minute second micros) result handle.new.object) }
+    ensures { OfSets handle.old.object result handle.new.object
+        (TakesValueIn (value.Date year month day hour minute second micros) result
+        handle.new.object) }
 {
     push(
         alloc,
@@ -242,7 +250,9 @@ pub fn sets_push_time(
     seconds: u8,
     micros: u32,
 ) -> u32
-    ensures { OfSets handle.old.object result handle.new.object (TakesValueIn (value.Time negative days hours minutes seconds micros) result handle.new.object) }
+    ensures { OfSets handle.old.object result handle.new.object
+        (TakesValueIn (value.Time negative days hours minutes seconds micros) result
+        handle.new.object) }
 {
     push(
         alloc,
@@ -263,10 +273,11 @@ pub fn sets_end_set(alloc: Global, handle: &mut Handle) -> u32
     code.number()
 }
 
-/// Puts one more set behind the whole ones: the values that an array describes, whose bytes lie in `bytes`. The values of the next set
-/// stay.
+/// Puts one more set behind the whole ones: the values that an array describes, whose bytes lie in
+/// `bytes`. The values of the next set stay.
 pub fn sets_add(alloc: Global, handle: &mut Handle, parameters: &[Parameter], bytes: &[u8]) -> u32
-    ensures { OfSets handle.old.object result handle.new.object (AddsSetIn bytes.now parameters.now result handle.new.object) }
+    ensures { OfSets handle.old.object result handle.new.object
+        (AddsSetIn bytes.now parameters.now result handle.new.object) }
 {
     let Some(mut object) = handle.take(alloc) else {
         return Code::EmptyHandle.number();

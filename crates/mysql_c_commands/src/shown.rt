@@ -5,7 +5,7 @@ ghost use Rattle.mysql_c_handles.specs.Codes.{code_number};
 ghost use Rattle.mysql_c_commands.specs.Shown.{Shows, ShowsNumber, end_kind, end_shown};
 
 use mysql_c_handles::{Code, ShownEnd, number_of_fault, start_of};
-use mysql_commands::{Content, End};
+use mysql_receive::{Content, End};
 
 /// A content: its kind (0 NULL, 1 a number with a sign, 2 one without, 3 bytes), and what that kind has.
 #[repr(C)]

@@ -2,7 +2,8 @@
 
 ghost use Rattle.std.specs.Prelude.{◌≡◌, ◌≢◌};
 ghost use Rattle.mysql_c_handles.specs.Codes.{code_number};
-ghost use Rattle.mysql_c_commands.specs.Texts.{BindsText, BindsTextFrom, BindsTextTo, PutsLiteral, PutsLiteralFrom, PutsLiteralTo, ShowsBindError, bind_code, bind_place};
+ghost use Rattle.mysql_c_commands.specs.Texts.{BindsText, BindsTextFrom, BindsTextTo, PutsLiteral, PutsLiteralFrom};
+ghost use Rattle.mysql_c_commands.specs.Texts.{PutsLiteralTo, ShowsBindError, bind_code, bind_place};
 
 use crate::shown::ShownPlace;
 use mysql_c_handles::{Code, Handle, Object};
@@ -167,8 +168,8 @@ fn put_literal_from(
     }
 }
 
-/// Appends the text of the set of this number over a query to the bytes of another handle. Where there is none it shows the set and
-/// the place that are refused, and the bytes stay.
+/// Appends the text of the set of this number over a query to the bytes of another handle. Where
+/// there is none it shows the set and the place that are refused, and the bytes stay.
 pub fn bind_text(
     alloc: Global,
     sets: &mut Handle,

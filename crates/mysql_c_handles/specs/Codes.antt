@@ -1,11 +1,15 @@
 -- The numbers that calls answer, and why a handle isn't of use to a call.
 use Rattle.std.specs.Prelude.{◌≡◌, ℕ, Option, Some, None}
-use Rattle.mysql_commands.specs.declared.fault.StreamFault.{StreamFault}
-use Rattle.mysql_commands.specs.declared.fault.StreamFault.TheVariants.{TooLarge, OutOfSync, EmptyCommand, OtherCommand, TextMismatch, NotAlone, PrepareMismatch, TooManyPlaces, NotPrepared, WrongId, BadExecute, NoTypes, BadType, Float, BadPlace, BadBulk, Indicator, NoRows, PiecesBeforeBulk, Memory}
+use Rattle.mysql_receive.specs.declared.fault.StreamFault.{StreamFault}
+use Rattle.mysql_receive.specs.declared.fault.StreamFault.TheVariants.{TooLarge, OutOfSync, EmptyCommand, OtherCommand}
+use Rattle.mysql_receive.specs.declared.fault.StreamFault.TheVariants.{TextMismatch, NotAlone, PrepareMismatch}
+use Rattle.mysql_receive.specs.declared.fault.StreamFault.TheVariants.{TooManyPlaces, NotPrepared, WrongId, BadExecute}
+use Rattle.mysql_receive.specs.declared.fault.StreamFault.TheVariants.{NoTypes, BadType, Float, BadPlace, BadBulk}
+use Rattle.mysql_receive.specs.declared.fault.StreamFault.TheVariants.{Indicator, NoRows, PiecesBeforeBulk, Memory}
 use Rattle.mysql_replies.specs.declared.fault.ReplyFault.{ReplyFault}
 use Rattle.mysql_replies.specs.declared.fault.ReplyFault.TheVariants as reply
-use Rattle.mysql_reply_packets.specs.declared.refusal.ReplyRefusal.{ReplyRefusal}
-use Rattle.mysql_reply_packets.specs.declared.refusal.ReplyRefusal.TheVariants as refusal
+use Rattle.mysql_reply_rules.specs.declared.refusal.ReplyRefusal.{ReplyRefusal}
+use Rattle.mysql_reply_rules.specs.declared.refusal.ReplyRefusal.TheVariants as refusal
 use Rattle.mysql_c_handles.specs.declared.code.Code.{Code}
 use Rattle.mysql_c_handles.specs.declared.code.Code.TheVariants as code
 use Rattle.mysql_c_handles.specs.declared.object.Object.{Object}

@@ -92,7 +92,8 @@ pub fn bytes_clear(alloc: Global, handle: &mut Handle) -> u32
 
 /// Appends these bytes to the bytes that a handle stands for.
 pub fn append(alloc: Global, out: &mut Handle, added: &[u8]) -> Code
-    ensures { OfBytes out.old.object (code_number result) out.new.object (Appends added.now (code_number result) out.new.object) }
+    ensures { OfBytes out.old.object (code_number result) out.new.object
+        (Appends added.now (code_number result) out.new.object) }
 {
     let Some(mut object) = out.take(alloc) else {
         return Code::EmptyHandle;

@@ -3,9 +3,9 @@
 ghost use Rattle.std.specs.Prelude.{◌≡◌};
 ghost use Rattle.mysql_c_handles.specs.Codes.{code_number, fault_number, refusal_number, reply_fault_number};
 
-use mysql_commands::StreamFault;
+use mysql_receive::StreamFault;
 use mysql_replies::ReplyFault;
-use mysql_reply_packets::ReplyRefusal;
+use mysql_reply_rules::ReplyRefusal;
 
 /// What a call answers: that it is done, or why it isn't.
 #[derive(Clone, Copy)]

@@ -1,7 +1,7 @@
 //! What the calls of the library for C stand on: objects behind handles, codes as answers, and bytes that were written.
 //!
-//! A handle that C holds is one pointer; a call takes its address. An `alloc` takes no bytes, so that C passes nothing for it; a slice
-//! is a pointer, which isn't null, and a length.
+//! A handle that C holds is one pointer; a call takes its address. An `alloc` takes no bytes, so
+//! that C passes nothing for it; a slice is a pointer, which isn't null, and a length.
 #![tactic(auto)]
 
 mod bytes;

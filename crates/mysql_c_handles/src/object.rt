@@ -1,7 +1,7 @@
 //! What a handle stands for.
 
 use mysql_columns::Column;
-use mysql_commands::{Audit, Receiver};
+use mysql_receive::{Audit, Receiver};
 use mysql_recoding::Recoder;
 use mysql_replies::{Reply, ReplyReader, ReplyResult};
 use mysql_reply_writer::ReplyWriter;

@@ -11,7 +11,9 @@ use mysql_values::{Params, Value};
 impl Object {
     /// The set of a number, from 0.
     pub fn set_at(&self, set: usize) -> Result<&Params, Code>
-        ensures { MatchResult result (λ params. (set_held self.now set ≡ Some params.now) × (unheld_code self.now ≡ code.OutOfRange)) (λ e. (set_held self.now set ≡ None) × (e ≡ unheld_code self.now)) }
+        ensures { MatchResult result (λ params. (set_held self.now set ≡ Some params.now) ×
+            (unheld_code self.now ≡ code.OutOfRange)) (λ e. (set_held self.now set ≡ None) ×
+            (e ≡ unheld_code self.now)) }
     {
         match self {
             Object::Sets(sets) => match sets.sets.get(set) {
@@ -25,7 +27,9 @@ impl Object {
 
     /// The values of the set of a number, by their order.
     pub fn values_at(&self, set: usize) -> Result<&[Value], Code>
-        ensures { MatchResult result (λ values. (values_held self.now set ≡ Some values.now) × (unheld_code self.now ≡ code.OutOfRange)) (λ e. (values_held self.now set ≡ None) × (e ≡ unheld_code self.now)) }
+        ensures { MatchResult result (λ values. (values_held self.now set ≡ Some values.now) ×
+            (unheld_code self.now ≡ code.OutOfRange)) (λ e. (values_held self.now set ≡ None) ×
+            (e ≡ unheld_code self.now)) }
     {
         match self.set_at(set) {
             Ok(Params::Positional(values)) => Ok(values),
@@ -36,7 +40,9 @@ impl Object {
 
     /// The value at a place of the set of a number, both from 0.
     pub fn value_at(&self, set: usize, place: usize) -> Result<&Value, Code>
-        ensures { MatchResult result (λ value. value_held self.now set place ≡ Some value.now) (λ e. (value_held self.now set place ≡ None) × (e ≡ unheld_code self.now)) }
+        ensures { MatchResult result (λ value. value_held self.now set place ≡
+            Some value.now) (λ e. (value_held self.now set place ≡ None) ×
+            (e ≡ unheld_code self.now)) }
     {
         match self.values_at(set) {
             Ok(values) => match values.get(place) {

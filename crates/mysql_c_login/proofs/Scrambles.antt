@@ -5,12 +5,12 @@ use Rattle.std.proofs.lemmas.List.{drop-drop, drop-take, length-drop, length-tak
 use Rattle.std.specs.List.{after_first, before_first, position_or_len}
 use Rattle.mysql_buf.specs.Reading.{first, is_zero}
 use Rattle.mysql_handshake.specs.Handshakes.{FixedFields, HandshakeFields, block_at, fixed_at, flags_at, handshake_at, name_at, scramble_at}
-use Rattle.mysql_raw.specs.Forms.{bytes_at, fixed_number_at}
-use Rattle.mysql_raw.specs.Laws.{ok_same}
-use Rattle.mysql_raw.specs.Wire.{or_end, ◌>>=◌}
-use Rattle.mysql_raw.specs.WireError.{WireError}
-use Rattle.mysql_raw_bytes.specs.Texts.{null_text_at}
-use Rattle.mysql_raw_consts.specs.Constants.{skipped_at}
+use Rattle.mysql_fields.specs.Forms.{bytes_at, fixed_number_at}
+use Rattle.mysql_fields.specs.Laws.{ok_same}
+use Rattle.mysql_fields.specs.Wire.{or_end, ◌>>=◌}
+use Rattle.mysql_fields.specs.declared.error.WireError.{WireError}
+use Rattle.mysql_fields.specs.Texts.{null_text_at}
+use Rattle.mysql_field_constants.specs.Constants.{skipped_at}
 
 there : {X : Type 0} (b : Bool) (x y : X) → or_end (if b then None else Some y) ≡ Ok x → (b ≡ false) × (x ≡ y)
 there true x y h = cc

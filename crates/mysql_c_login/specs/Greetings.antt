@@ -1,10 +1,11 @@
 -- What a server greets a client with, as C gives it and sees it.
 -- (MySQL: Client/Server Protocol, "Protocol::HandshakeV10".)
 use Rattle.std.specs.Prelude.{◌≡◌, ◌==◌, ◌&&◌, not, ℕ, Bool, true, is_some, List, length, Some}
-use Rattle.mysql_attributes.specs.Parts.{marked, or_empty}
+use Rattle.mysql_connect_attributes.specs.Parts.{marked, or_empty}
 use Rattle.mysql_auth.specs.Plugins.{without_zero}
 use Rattle.mysql_handshake.specs.Capabilities.{plugin_auth, secure_connection}
-use Rattle.mysql_handshake.specs.Handshakes.{HandshakeFields, handshake, handshake_at, scramble_written, scrambles_length}
+use Rattle.mysql_handshake.specs.Handshakes.{HandshakeFields, handshake, handshake_at, scramble_written}
+use Rattle.mysql_handshake.specs.Handshakes.{scrambles_length}
 use Rattle.mysql_c_login.specs.Reading.{IsShown}
 use Rattle.mysql_c_login.specs.Texts.{given, has_zero}
 use Rattle.mysql_c_login.specs.declared.greeting.ShownGreeting.{ShownGreeting}
@@ -45,7 +46,8 @@ is_greeting scramble_1 scramble_2 version plugin =
 
 -- there are two scrambles, and a plugin where one is named
 abbrev pub greeting_capabilities : ℕ → List ℕ → ℕ
-greeting_capabilities capabilities plugin = marked plugin_auth (is_some (given plugin)) (marked secure_connection true capabilities)
+greeting_capabilities capabilities plugin =
+    marked plugin_auth (is_some (given plugin)) (marked secure_connection true capabilities)
 
 -- the packet of a greeting, by version 10 of the protocol
 abbrev pub greeting_fields : Greeting → HandshakeFields

@@ -5,7 +5,7 @@ use Rattle.std.specs.List.{slice_split}
 use Rattle.std.specs.Str.{IsUtf8, trim}
 use Rattle.mysql_gtid.specs.Sids.{SidParts, sid_of}
 use Rattle.mysql_gtid.specs.declared.error.SidError.{SidError}
-use Rattle.mysql_raw.specs.Wire.{◌>>=◌}
+use Rattle.mysql_fields.specs.Wire.{◌>>=◌}
 use Rattle.mysql_c_handles.specs.Codes.{code_number}
 use Rattle.mysql_c_handles.specs.declared.code.Code.TheVariants.{BadPacket, Memory}
 use Rattle.mysql_c_handles.specs.declared.object.Object.{Object}

@@ -1,11 +1,13 @@
 -- What a client answers to a greeting, as C gives it and sees it.
 -- (MySQL: Client/Server Protocol, "Protocol::HandshakeResponse41".)
-use Rattle.std.specs.Prelude.{◌≡◌, ◌⊎◌, ◌&&◌, not, ℕ, nat_le, Bool, true, false, is_some, List, [], length, Option, Some, None, if◌then◌else◌}
-use Rattle.mysql_attributes.specs.Parts.{marked, or_empty}
+use Rattle.std.specs.Prelude.{◌≡◌, ◌⊎◌, ◌&&◌, not, ℕ, nat_le, Bool, true, false, is_some, List, [], length, Option}
+use Rattle.std.specs.Prelude.{Some, None, if◌then◌else◌}
+use Rattle.mysql_connect_attributes.specs.Parts.{marked, or_empty}
 use Rattle.mysql_auth.specs.Plugins.{Plugin, plugin_name, plugin_named, without_zero}
-use Rattle.mysql_handshake.specs.Capabilities.{connect_attrs, connect_with_db, plugin_auth, plugin_auth_lenenc_client_data, secure_connection}
+use Rattle.mysql_handshake.specs.Capabilities.{connect_attrs, connect_with_db, plugin_auth}
+use Rattle.mysql_handshake.specs.Capabilities.{plugin_auth_lenenc_client_data, secure_connection}
 use Rattle.mysql_handshake_response.specs.Responses.{ResponseFields, counted_scramble, response, response_at}
-use Rattle.mysql_raw_consts.specs.Flags.{contains}
+use Rattle.mysql_field_constants.specs.Flags.{contains}
 use Rattle.mysql_c_handles.specs.Codes.{code_number}
 use Rattle.mysql_c_handles.specs.declared.code.Code.TheVariants.{Memory}
 use Rattle.mysql_c_login.specs.Reading.{IsShown}
@@ -42,8 +44,8 @@ pub record Login : Type 0 where
   pub database : List ℕ
   pub plugin : List ℕ
 
--- A response is written whole: after its length as a length-encoded number any is, after its length in one byte one of at most 255 bytes,
--- and before a zero one without a zero.
+-- A response is written whole: after its length as a length-encoded number any is, after its length
+-- in one byte one of at most 255 bytes, and before a zero one without a zero.
 abbrev pub response_fits : ℕ → List ℕ → Bool
 response_fits capabilities response =
     if contains capabilities plugin_auth_lenenc_client_data then true
@@ -63,7 +65,9 @@ named_plugin (Some name) = Some (plugin_named (without_zero name))
 -- the capabilities say whether there is a database and a plugin; there are no attributes
 abbrev pub login_capabilities : Login → ℕ
 login_capabilities l =
-    marked connect_attrs false (marked plugin_auth (is_some (given l.plugin)) (marked connect_with_db (is_some (given l.database)) l.capabilities))
+    marked connect_attrs false
+    (marked plugin_auth (is_some (given l.plugin))
+    (marked connect_with_db (is_some (given l.database)) l.capabilities))
 
 -- the packet of a login; its collation is utf8mb4_general_ci
 abbrev pub login_fields : Login → ResponseFields

@@ -1,6 +1,6 @@
 -- What the calls on readers of packets, and the framing of a payload, say of the object that a handle stands for.
 use Rattle.std.specs.Prelude.{◌≡◌, ◌≢◌, ◌<◌, ◌≤◌, ◌⊎◌, ℕ, Bool, true, false, List, [], ◌++◌, length, drop, IfSome}
-use Rattle.mysql_commands.specs.declared.fault.StreamFault.TheVariants as fault
+use Rattle.mysql_receive.specs.declared.fault.StreamFault.TheVariants as fault
 use Rattle.mysql_wire.specs.Codec.{error_of}
 use Rattle.mysql_wire.specs.Framing.{framing, number_after}
 use Rattle.mysql_wire.specs.Incoming.{Incoming, ReadsOn, RefusesOn}
@@ -55,7 +55,8 @@ IsReadOnIn piece used whole number new old = IsPackets new (IsReadOn piece used 
 
 -- The payload that stands whole is shown, and stays.
 abbrev pub ShowsPayload : ℕ → ℕ → Object → Incoming → Type 0
-ShowsPayload number len new old = (number ≡ code_number code.Done) × (len ≡ length old.payload) × IsPackets new (λ r. r ≡ old)
+ShowsPayload number len new old = (number ≡ code_number code.Done) × (len ≡ length old.payload) ×
+    IsPackets new (λ r. r ≡ old)
 
 -- The next packet begins at the number 0; where one is begun nothing changes.
 abbrev pub Restarts : ℕ → Incoming → Incoming → Type 0
@@ -67,11 +68,12 @@ Restarts number old new =
 abbrev pub RestartsIn : ℕ → Object → Incoming → Type 0
 RestartsIn number new old = IsPackets new (Restarts number old)
 
--- The framing of a payload from a number on stands behind the old bytes, and the number goes on; or nothing changes, and the answer
--- says why.
+-- The framing of a payload from a number on stands behind the old bytes, and the number goes on; or
+-- nothing changes, and the answer says why.
 abbrev pub Frames : List ℕ → ℕ → ℕ → ℕ → ℕ → List ℕ → List ℕ → Type 0
 Frames payload limit id next number old new =
-    ((number ≡ code_number code.Done) × (length payload ≤ limit) × (new ≡ old ++ framing payload id) × (next ≡ number_after payload id))
+    ((number ≡ code_number code.Done) × (length payload ≤ limit) ×
+    (new ≡ old ++ framing payload id) × (next ≡ number_after payload id))
     ⊎ ((number ≡ code_number (code.Stream fault.TooLarge)) × (limit < length payload) × (new ≡ old) × (next ≡ id))
     ⊎ ((number ≡ code_number code.Memory) × (length payload ≤ limit) × (new ≡ old) × (next ≡ id))
 

@@ -7,7 +7,8 @@ use Rattle.mysql_c_handles.specs.declared.object.Object.{Object}
 
 -- Bytes stand behind those that the handle stands for; or nothing changes, and the number says why.
 abbrev pub Puts : List ℕ → Object → ℕ → Object → Type 0
-Puts added old number new = OfBytes old number new (Appends added number new) ⊎ ((number ≡ code_number Memory) × (new ≡ old))
+Puts added old number new = OfBytes old number new (Appends added number new) ⊎
+    ((number ≡ code_number Memory) × (new ≡ old))
 
 -- the same where it is allowed
 abbrev pub PutsIf : Bool → List ℕ → Object → ℕ → Object → Type 0

@@ -1,6 +1,6 @@
 -- What calls that read a payload answer.
 use Rattle.std.specs.Prelude.{◌≡◌, ℕ, Ok, Err}
-use Rattle.mysql_raw.specs.Wire.{Reading}
+use Rattle.mysql_fields.specs.Wire.{Reading}
 use Rattle.mysql_c_handles.specs.Codes.{code_number}
 use Rattle.mysql_c_handles.specs.declared.code.Code.TheVariants.{BadPacket, Done}
 

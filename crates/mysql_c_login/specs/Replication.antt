@@ -2,7 +2,8 @@
 -- MySQL: Client/Server Protocol, "COM_REGISTER_SLAVE", "COM_BINLOG_DUMP" and "COM_BINLOG_DUMP_GTID".
 use Rattle.std.specs.Prelude.{ℕ, nat_le, ◌&&◌, Bool, List, length}
 use Rattle.mysql_gtid.specs.Sids.{SidParts}
-use Rattle.mysql_repl.specs.Packets.{BinlogDump, BinlogDumpGtid, RegisterSlave, binlog_dump, binlog_dump_gtid, register_slave, through_gtid}
+use Rattle.mysql_replication.specs.Packets.{BinlogDump, BinlogDumpGtid, RegisterSlave, binlog_dump, binlog_dump_gtid}
+use Rattle.mysql_replication.specs.Packets.{register_slave, through_gtid}
 
 -- what C gives of a replica
 pub record Replica : Type 0 where

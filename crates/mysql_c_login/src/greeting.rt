@@ -3,7 +3,8 @@
 ghost use Rattle.std.specs.Prelude.{◌≡◌, ◌+◌, ◌≤◌, ◌++◌, ◌∷◌, [], List, Ok, drop, length, take, ℕ};
 ghost use Rattle.mysql_handshake.specs.Handshakes.{handshake_at};
 ghost use Rattle.mysql_handshake.specs.HandshakeViews.{handshake_view};
-ghost use Rattle.mysql_c_login.specs.Greetings.{Greeting, ReadsGreeting, ShowsGreeting, greeting_capabilities, greeting_fields, greeting_payload, is_greeting};
+ghost use Rattle.mysql_c_login.specs.Greetings.{Greeting, ReadsGreeting, ShowsGreeting, greeting_capabilities};
+ghost use Rattle.mysql_c_login.specs.Greetings.{greeting_fields, greeting_payload, is_greeting};
 ghost use Rattle.mysql_c_login.specs.Putting.{PutsIf};
 
 use crate::putting::put_if;
@@ -41,7 +42,8 @@ fn eight_from(bytes: &[u8], start: usize) -> &[u8]
     &bytes[start..start + 8]
 }
 
-/// The first scramble where it stands in the payload: behind a byte, the server's version and its zero, and the connection's number.
+/// The first scramble where it stands in the payload: behind a byte, the server's version and its
+/// zero, and the connection's number.
 fn scramble_1_in<'a>(payload: &'a [u8], packet: &HandshakePacket<'_>) -> &'a [u8]
     requires { (rest : List ℕ) × (handshake_at payload.now ≡ Ok (handshake_view packet.now, rest)) }
     ensures { result.now ≡ (handshake_view packet.now).scramble_1 }
@@ -111,7 +113,21 @@ fn packet_of<'a>(
     scramble_2: &'a [u8],
     plugin: &'a [u8],
 ) -> HandshakePacket<'a>
-    ensures { handshake_view result ≡ greeting_fields (record { connection = connection; capabilities = capabilities; mariadb_capabilities = mariadb_capabilities; collation = collation; status = status; version = version.now; scramble_1 = scramble_1; scramble_2 = scramble_2.now; plugin = plugin.now }) }
+    ensures { handshake_view result ≡
+        greeting_fields (record {
+          connection = connection;
+          capabilities =
+              capabilities;
+          mariadb_capabilities = mariadb_capabilities;
+          collation = collation;
+          status =
+              status;
+          version = version.now;
+          scramble_1 = scramble_1;
+          scramble_2 =
+              scramble_2.now;
+          plugin = plugin.now;
+        }) }
 {
     HandshakePacket::new(
         10,
@@ -141,8 +157,23 @@ pub fn greeting_put(
     scramble_2: &[u8],
     plugin: &[u8],
 ) -> u32
-    ensures { let g : Greeting = record { connection = connection; capabilities = capabilities; mariadb_capabilities = mariadb_capabilities; collation = collation; status = status; version = version.now; scramble_1 = scramble_1.now; scramble_2 = scramble_2.now ++ 0 ∷ []; plugin = plugin.now } in
-        PutsIf (is_greeting scramble_1.now scramble_2.now version.now plugin.now) (greeting_payload g) out.old.object result out.new.object }
+    ensures { let g : Greeting =
+        record {
+          connection = connection;
+          capabilities = capabilities;
+          mariadb_capabilities =
+              mariadb_capabilities;
+          collation = collation;
+          status = status;
+          version =
+              version.now;
+          scramble_1 = scramble_1.now;
+          scramble_2 = scramble_2.now ++ 0 ∷ [];
+          plugin =
+              plugin.now;
+        } in
+        PutsIf (is_greeting scramble_1.now scramble_2.now version.now plugin.now)
+        (greeting_payload g) out.old.object result out.new.object }
 {
     let Some(first) = scramble_1.as_array::<8>() else {
         return Code::BadPacket.number();

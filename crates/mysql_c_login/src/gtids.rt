@@ -14,14 +14,17 @@ use std::str::from_utf8;
 
 /// The two parts of a text around its first comma.
 fn around_comma(text: &str) -> Option<(&str, &str)>
-    ensures { MatchOption result (fields_of text.now ≡ text.now ∷ []) (λ parts. (fields_of text.now ≡ parts.0.now ∷ fields_of parts.1.now) × (length parts.1.now < length text.now)) }
+    ensures { MatchOption result (fields_of text.now ≡ text.now ∷
+        []) (λ parts. (fields_of text.now ≡ parts.0.now ∷ fields_of parts.1.now) ×
+        (length parts.1.now < length text.now)) }
 {
     text.split_once(',')
 }
 
 /// Puts the set that a text names behind others. White space around it is left out.
 fn push_sid(alloc: Global, sids: &mut Vec<Sid<'static>>, text: &str) -> Result<(), SidError>
-    ensures ok { IfOk result (λ _. (p : SidParts) × (sid_of (trim text.now) ≡ Ok p) × (map sid_view sids.new.items ≡ map sid_view sids.old.items ++ p ∷ [])) }
+    ensures ok { IfOk result (λ _. (p : SidParts) × (sid_of (trim text.now) ≡ Ok p) ×
+        (map sid_view sids.new.items ≡ map sid_view sids.old.items ++ p ∷ [])) }
     ensures err { IfErr result (λ e. Refuses e (sid_of (trim text.now))) }
 {
     let sid = Sid::parse(alloc, text.trim())?;

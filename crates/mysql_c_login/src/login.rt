@@ -3,7 +3,8 @@
 ghost use Rattle.std.specs.Prelude.{◌≡◌, IfOk, option_map};
 ghost use Rattle.mysql_auth.specs.Views.{plugin_view};
 ghost use Rattle.mysql_handshake_response.specs.ResponseViews.{response_view};
-ghost use Rattle.mysql_c_login.specs.Logins.{Login, ReadsLogin, ShowsLogin, is_login, login_fields, login_payload, named_plugin, plugin_shown, response_fits};
+ghost use Rattle.mysql_c_login.specs.Logins.{Login, ReadsLogin, ShowsLogin, is_login, login_fields, login_payload};
+ghost use Rattle.mysql_c_login.specs.Logins.{named_plugin, plugin_shown, response_fits};
 ghost use Rattle.mysql_c_login.specs.Putting.{PutsIf};
 
 use crate::putting::put;
@@ -112,7 +113,18 @@ fn packet_of<'a>(
     database: &'a [u8],
     plugin: &'a [u8],
 ) -> Result<HandshakeResponse<'a>, AllocError>
-    ensures { IfOk result (λ packet. response_view packet ≡ login_fields (record { capabilities = capabilities; mariadb_capabilities = mariadb_capabilities; max_packet_size = max_packet_size; user = user.now; response = response.now; database = database.now; plugin = plugin.now })) }
+    ensures { IfOk result (λ packet. response_view packet ≡
+        login_fields (record {
+          capabilities = capabilities;
+          mariadb_capabilities =
+              mariadb_capabilities;
+          max_packet_size = max_packet_size;
+          user = user.now;
+          response =
+              response.now;
+          database = database.now;
+          plugin = plugin.now;
+        })) }
 {
     let packet = HandshakeResponse::new(
         alloc,
@@ -140,8 +152,20 @@ pub fn login_put(
     database: &[u8],
     plugin: &[u8],
 ) -> u32
-    ensures { let login : Login = record { capabilities = capabilities; mariadb_capabilities = mariadb_capabilities; max_packet_size = max_packet_size; user = user.now; response = response.now; database = database.now; plugin = plugin.now } in
-        PutsIf (is_login capabilities user.now response.now database.now plugin.now) (login_payload login) out.old.object result out.new.object }
+    ensures { let login : Login =
+        record {
+          capabilities = capabilities;
+          mariadb_capabilities =
+              mariadb_capabilities;
+          max_packet_size = max_packet_size;
+          user = user.now;
+          response =
+              response.now;
+          database = database.now;
+          plugin = plugin.now;
+        } in
+        PutsIf (is_login capabilities user.now response.now database.now plugin.now)
+        (login_payload login) out.old.object result out.new.object }
 {
     if !is_login(capabilities, user, response, database, plugin) {
         return Code::BadPacket.number();

@@ -4,11 +4,12 @@ ghost use Rattle.std.specs.Prelude.{◌≡◌, ◌≢◌, ◌-◌, length};
 ghost use Rattle.mysql_wire.specs.Incoming.{incoming_at};
 ghost use Rattle.mysql_c_handles.specs.Bytes.{OfBytes};
 ghost use Rattle.mysql_c_handles.specs.Codes.{code_number};
-ghost use Rattle.mysql_c_login.specs.Packets.{Frames, FramesIn, IsPackets, IsReadOn, IsReadOnIn, OfPackets, Restarts, RestartsIn, ShowsPayload, wire_code};
+ghost use Rattle.mysql_c_login.specs.Packets.{Frames, FramesIn, IsPackets, IsReadOn, IsReadOnIn, OfPackets, Restarts};
+ghost use Rattle.mysql_c_login.specs.Packets.{RestartsIn, ShowsPayload, wire_code};
 
 use mysql_c_handles::{Code, Handle, Object, start_of};
-use mysql_commands::StreamFault;
 use mysql_login::mysql_wire::{PacketCodecError, PacketReader, packet_to_chunks};
+use mysql_receive::StreamFault;
 use std::alloc::Global;
 
 /// The answer that an error of a reader has. No call of the library reads a file, so that `Io` is none of its errors.
@@ -50,7 +51,8 @@ fn restart(reader: &mut PacketReader) -> Code
 
 /// Reads on to the end of the next packet of the stream that an object reads.
 fn feed(object: &mut Object, piece: &[u8], used: &mut usize, whole: &mut bool) -> Code
-    ensures { OfPackets object.old (code_number result) object.new (IsReadOnIn piece.now used.new whole.new (code_number result) object.new) }
+    ensures { OfPackets object.old (code_number result) object.new
+        (IsReadOnIn piece.now used.new whole.new (code_number result) object.new) }
 {
     match object {
         Object::Packets(reader) => read_on(reader, piece, used, whole),
@@ -61,7 +63,8 @@ fn feed(object: &mut Object, piece: &[u8], used: &mut usize, whole: &mut bool) -
 
 /// Shows the payload that stands whole.
 fn show_payload(object: &Object, data: &mut *const u8, len: &mut usize) -> Code
-    ensures { OfPackets object.now (code_number result) object.now (ShowsPayload (code_number result) len.new object.now) }
+    ensures { OfPackets object.now (code_number result) object.now
+        (ShowsPayload (code_number result) len.new object.now) }
 {
     match object {
         Object::Packets(reader) => {
@@ -104,7 +107,8 @@ fn frame(bytes: &mut Vec<u8>, payload: &[u8], number: &mut u8, limit: usize) -> 
 
 /// Appends the framing of a payload to the bytes that an object is.
 fn frame_in(object: &mut Object, payload: &[u8], number: &mut u8, limit: usize) -> Code
-    ensures framed { OfBytes object.old (code_number result) object.new (FramesIn payload.now limit number.old number.new (code_number result) object.new) }
+    ensures framed { OfBytes object.old (code_number result) object.new
+        (FramesIn payload.now limit number.old number.new (code_number result) object.new) }
     ensures kept { code_number result ≢ 0 → number.new ≡ number.old }
 {
     match object {
@@ -126,7 +130,8 @@ pub fn packets_new(alloc: Global, handle: &mut Handle, first: u8, limit: usize) 
     }
 }
 
-/// Reads on to the end of the next packet. Tells how many bytes of the piece were used, and whether a payload stands whole then.
+/// Reads on to the end of the next packet. Tells how many bytes of the piece were used, and whether
+/// a payload stands whole then.
 pub fn packets_feed(
     alloc: Global,
     handle: &mut Handle,
@@ -134,7 +139,8 @@ pub fn packets_feed(
     used: &mut usize,
     whole: &mut bool,
 ) -> u32
-    ensures { OfPackets handle.old.object result handle.new.object (IsReadOnIn piece.now used.new whole.new result handle.new.object) }
+    ensures { OfPackets handle.old.object result handle.new.object
+        (IsReadOnIn piece.now used.new whole.new result handle.new.object) }
 {
     let Some(mut object) = handle.take(alloc) else {
         return Code::EmptyHandle.number();
@@ -173,7 +179,8 @@ pub fn packets_restart(alloc: Global, handle: &mut Handle) -> u32
     code.number()
 }
 
-/// Appends a payload to the bytes that a handle stands for, framed in chunks from this number on, which goes on behind the last one.
+/// Appends a payload to the bytes that a handle stands for, framed in chunks from this number on,
+/// which goes on behind the last one.
 pub fn packet_put(
     alloc: Global,
     out: &mut Handle,
@@ -181,7 +188,8 @@ pub fn packet_put(
     number: &mut u8,
     limit: usize,
 ) -> u32
-    ensures framed { OfBytes out.old.object result out.new.object (FramesIn payload.now limit number.old number.new result out.new.object) }
+    ensures framed { OfBytes out.old.object result out.new.object
+        (FramesIn payload.now limit number.old number.new result out.new.object) }
     ensures kept { result ≢ 0 → number.new ≡ number.old }
 {
     let Some(mut object) = out.take(alloc) else {

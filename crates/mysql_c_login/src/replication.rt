@@ -2,10 +2,11 @@
 
 ghost use Rattle.std.specs.Prelude.{◌≡◌, map};
 ghost use Rattle.mysql_gtid.specs.Sids.{sid_view};
-ghost use Rattle.mysql_repl.specs.Views.{binlog_dump_gtid_view, binlog_dump_view, register_slave_view};
+ghost use Rattle.mysql_replication.specs.Views.{binlog_dump_gtid_view, binlog_dump_view, register_slave_view};
 ghost use Rattle.mysql_c_login.specs.Gtids.{PutsBySids};
 ghost use Rattle.mysql_c_login.specs.Putting.{Puts, PutsIf};
-ghost use Rattle.mysql_c_login.specs.Replication.{Dump, Replica, dump_fields, dump_payload, is_replica, replica_fields, replica_payload, sids_fields, sids_payload};
+ghost use Rattle.mysql_c_login.specs.Replication.{Dump, Replica, dump_fields, dump_payload, is_replica, replica_fields};
+ghost use Rattle.mysql_c_login.specs.Replication.{replica_payload, sids_fields, sids_payload};
 
 use crate::gtids::sids_at;
 use crate::putting::{put, put_if};
@@ -22,7 +23,15 @@ fn registration<'a>(
     password: &'a [u8],
     port: u16,
 ) -> ComRegisterSlave<'a>
-    ensures { register_slave_view result ≡ replica_fields (record { server = server; host = host.now; user = user.now; password = password.now; port = port }) }
+    ensures { register_slave_view result ≡
+        replica_fields (record {
+          server = server;
+          host = host.now;
+          user = user.now;
+          password =
+              password.now;
+          port = port;
+        }) }
 {
     ComRegisterSlave::new(server)
         .with_hostname(CowSlice::Borrowed(host))
@@ -41,7 +50,15 @@ pub fn register_replica_put(
     password: &[u8],
     port: u16,
 ) -> u32
-    ensures { let r : Replica = record { server = server; host = host.now; user = user.now; password = password.now; port = port } in PutsIf (is_replica r) (replica_payload r) out.old.object result out.new.object }
+    ensures { let r : Replica =
+        record {
+          server = server;
+          host = host.now;
+          user = user.now;
+          password = password.now;
+          port =
+              port;
+        } in PutsIf (is_replica r) (replica_payload r) out.old.object result out.new.object }
 {
     let packet = registration(server, host, user, password, port);
     let short = host.len() <= 255 && user.len() <= 255 && password.len() <= 255;
@@ -57,7 +74,9 @@ pub fn binlog_dump_put(
     flags: u16,
     file: &[u8],
 ) -> u32
-    ensures { Puts (dump_payload (record { server = server; position = position; flags = flags; file = file.now })) out.old.object result out.new.object }
+    ensures { Puts (dump_payload
+        (record { server = server; position = position; flags = flags; file = file.now }))
+        out.old.object result out.new.object }
 {
     let packet = ComBinlogDump::new(server)
         .with_pos(position)
@@ -74,7 +93,14 @@ fn dump_by_sids<'a>(
     file: &'a [u8],
     sids: &'a [Sid<'a>],
 ) -> ComBinlogDumpGtid<'a>
-    ensures { binlog_dump_gtid_view result ≡ sids_fields (record { server = server; position = position; flags = flags; file = file.now }) (map sid_view sids.now) }
+    ensures { binlog_dump_gtid_view result ≡
+        sids_fields (record {
+          server = server;
+          position = position;
+          flags = flags;
+          file =
+              file.now;
+        }) (map sid_view sids.now) }
 {
     ComBinlogDumpGtid::new(server)
         .with_pos(position)
@@ -83,7 +109,8 @@ fn dump_by_sids<'a>(
         .with_flags(BinlogDumpFlags(flags))
 }
 
-/// Appends to the bytes that a handle stands for the request for the binary log without the transactions of the sets that a text names.
+/// Appends to the bytes that a handle stands for the request for the binary log without the
+/// transactions of the sets that a text names.
 pub fn binlog_dump_gtid_put(
     alloc: Global,
     out: &mut Handle,
@@ -93,7 +120,9 @@ pub fn binlog_dump_gtid_put(
     file: &[u8],
     gtids: &[u8],
 ) -> u32
-    ensures { let dump : Dump = record { server = server; position = position; flags = flags; file = file.now } in PutsBySids gtids.now (sids_payload dump) out.old.object result out.new.object }
+    ensures { let dump : Dump =
+        record { server = server; position = position; flags = flags; file = file.now } in
+        PutsBySids gtids.now (sids_payload dump) out.old.object result out.new.object }
 {
     match sids_at(alloc, gtids) {
         Ok(sids) => put(

@@ -2,7 +2,7 @@
 
 ghost use Rattle.std.specs.Prelude.{◌≡◌, length, option_map};
 ghost use Rattle.std.specs.Cow.{cow_slice_items};
-ghost use Rattle.mysql_attributes.specs.Parts.{or_empty};
+ghost use Rattle.mysql_connect_attributes.specs.Parts.{or_empty};
 ghost use Rattle.mysql_c_login.specs.Texts.{given, has_zero};
 
 use mysql_c_handles::start_of;

@@ -6,14 +6,14 @@ use Rattle.mysql_buf.specs.Reading.{first, little_at, lenenc_int_at, bytes_at, t
 use Rattle.mysql_const.specs.SessionStates.{session_state_named, session_state_number}
 use Rattle.mysql_ok_packets.specs.OkPackets.{all_states_at}
 use Rattle.mysql_ok_packets.specs.Written.{or_empty}
-use Rattle.mysql_raw.specs.Forms.{fixed_number_at}
-use Rattle.mysql_raw.specs.Laws.{bind_ok, done, eaten_first, fixed_number_at-sized, ok_same}
-use Rattle.mysql_raw.specs.Wire.{Reading, or_end}
-use Rattle.mysql_raw.specs.WireError.{WireError}
-use Rattle.mysql_raw_bytes.specs.Texts.{lenenc_text_at}
-use Rattle.mysql_raw_consts.specs.ConstantLaws.{named_at-sized}
-use Rattle.mysql_raw_consts.specs.Constants.{named_at}
-use Rattle.mysql_raw_lists.specs.Lists.{elements_at}
+use Rattle.mysql_fields.specs.Forms.{fixed_number_at}
+use Rattle.mysql_fields.specs.Laws.{bind_ok, done, eaten_first, fixed_number_at-sized, ok_same}
+use Rattle.mysql_fields.specs.Wire.{Reading, or_end}
+use Rattle.mysql_fields.specs.declared.error.WireError.{WireError}
+use Rattle.mysql_fields.specs.Texts.{lenenc_text_at}
+use Rattle.mysql_field_constants.specs.ConstantLaws.{named_at-sized}
+use Rattle.mysql_field_constants.specs.Constants.{named_at}
+use Rattle.mysql_field_lists.specs.Lists.{elements_at}
 use Rattle.mysql_session_states.specs.Reading.{EatsBytes, at_most_at, to_end_at}
 use Rattle.mysql_session_states.specs.SessionStates.{State, state_at}
 use Rattle.mysql_session_states.specs.StateLaws.{state_at-eats}

@@ -57,21 +57,25 @@ packet_of other = None
 -- the value in a cell, by the numbers of its result, its row and its column
 abbrev pub cell_in : List Outcome → ℕ → ℕ → ℕ → Option Value
 cell_in outcomes number row column =
-    option_and_then (λ outcome. option_and_then (λ found. cell_at found (Some column)) (slice_get (rows_of outcome) row)) (slice_get outcomes number)
+    option_and_then (λ outcome. option_and_then (λ found. cell_at found (Some column))
+    (slice_get (rows_of outcome) row)) (slice_get outcomes number)
 
 -- a column, by the numbers of its result and its own
 abbrev pub column_in : List Outcome → ℕ → ℕ → Option ColumnDefinition
-column_in outcomes number column = option_and_then (λ outcome. slice_get (columns_of outcome) column) (slice_get outcomes number)
+column_in outcomes number column =
+    option_and_then (λ outcome. slice_get (columns_of outcome) column) (slice_get outcomes number)
 
 -- the same of a parameter
 abbrev pub param_in : List Outcome → ℕ → ℕ → Option ColumnDefinition
-param_in outcomes number param = option_and_then (λ outcome. slice_get (params_of outcome) param) (slice_get outcomes number)
+param_in outcomes number param =
+    option_and_then (λ outcome. slice_get (params_of outcome) param) (slice_get outcomes number)
 
 -- the OK packet of the result of a number
 abbrev pub packet_in : List Outcome → ℕ → Option OkPacket
 packet_in outcomes number = option_and_then packet_of (slice_get outcomes number)
 
--- A change of the session's state is shown that the OK packet of the result of a number tells; where there is none the position stays.
+-- A change of the session's state is shown that the OK packet of the result of a number tells;
+-- where there is none the position stays.
 abbrev pub ShowsChangeIn : Object → ℕ → ℕ → ℕ → ℕ → ℕ → ℕ → Type 0
 ShowsChangeIn held at position number next type len =
     MatchOption (packet_in (outcomes_held held) at) ((number ≡ code_number (unlisted_code held)) × (next ≡ position))

@@ -33,12 +33,14 @@ OfReply held number new Says = Stays held number new
 
 -- the kind of command of a number
 abbrev pub kind_numbered : ℕ → Option ReplyKind
-kind_numbered number = if number == 0 then Some Text else (if number == 1 then Some Binary else (if number == 2 then Some Prepare else None))
+kind_numbered number = if number == 0 then Some Text else
+    (if number == 1 then Some Binary else (if number == 2 then Some Prepare else None))
 
 -- a reader of a reply of which nothing came; none is made for a number that names no kind
 abbrev pub IsNewReply : ℕ → ℕ → ℕ → ℕ → ReplyInParts → Type 0
 IsNewReply kind capabilities first limit r =
-    MatchOption (kind_numbered kind) ⊥ (λ k. r.reader ≡ fresh_reader (record { kind = k; capabilities = record { 0 = capabilities } }) first limit)
+    MatchOption (kind_numbered kind) ⊥ (λ k. r.reader ≡
+    fresh_reader (record { kind = k; capabilities = record { 0 = capabilities } }) first limit)
     × (r.taken.items ≡ [])
 
 -- what a reader answers that has met this fault, or none
@@ -59,8 +61,8 @@ IsReplyFedBy piece number new old =
     × (number ≡ code_number (reply_code (fault_of r.reader.standing)))
     × (r.taken ≡ old.taken))
 
--- The results so far are taken in place of those that were taken before. The reader goes on without them, and without the progress
--- reports that came.
+-- The results so far are taken in place of those that were taken before. The reader goes on without
+-- them, and without the progress reports that came.
 abbrev pub OutcomesAreTaken : ℕ → Object → ReplyInParts → Type 0
 OutcomesAreTaken number new old =
     (number ≡ 0) × IsReply new (λ r. (outcome_views r.taken.items ≡ results_in old.reader.standing)

@@ -6,7 +6,7 @@ use Rattle.mysql_const.specs.ColumnTypes.{column_type_number}
 use Rattle.mysql_columns.specs.Columns.{ColumnDefinition}
 use Rattle.mysql_ok_packets.specs.OkPackets.{OkPacket, all_states_at}
 use Rattle.mysql_ok_packets.specs.Written.{or_empty, or_zero}
-use Rattle.mysql_raw.specs.Wire.{Reading}
+use Rattle.mysql_fields.specs.Wire.{Reading}
 use Rattle.mysql_session_states.specs.SessionStates.{State}
 use Rattle.mysql_replies.specs.declared.results.ReplyEnd.{ReplyEnd}
 use Rattle.mysql_replies.specs.declared.results.ReplyEnd.TheVariants as ending
@@ -79,7 +79,12 @@ state_shown (Some state) shown = record shown { state = state; state_len = 5 }
 abbrev pub outcome_shown : grammar.Outcome → ShownResult → ShownResult
 outcome_shown (grammar.OkResult ok) shown = packet_shown ok (nothing_shown shown)
 outcome_shown (grammar.RowsResult columns rows terminator) shown =
-    record (terminator_shown terminator (nothing_shown shown)) { kind = 1; columns = length columns; rows = length rows }
+    record (terminator_shown terminator (nothing_shown shown)) {
+      kind = 1;
+      columns =
+          length columns;
+      rows = length rows;
+    }
 outcome_shown (grammar.PreparedResult statement params columns) shown = record (nothing_shown shown) {
   kind = 2;
   statement = statement.statement_id;
@@ -88,7 +93,12 @@ outcome_shown (grammar.PreparedResult statement params columns) shown = record (
   warnings = statement.warning_count;
 }
 outcome_shown (grammar.ErrorResult error) shown =
-    record (state_shown error.sql_state (nothing_shown shown)) { kind = 3; error_code = error.error_code; len = length error.error_message }
+    record (state_shown error.sql_state (nothing_shown shown)) {
+      kind = 3;
+      error_code =
+          error.error_code;
+      len = length error.error_message;
+    }
 outcome_shown (grammar.FileResult name) shown = record (nothing_shown shown) { kind = 4; len = length name }
 
 -- Each field is that of the result, but where its text stands; of an earlier result nothing stays.
@@ -102,12 +112,15 @@ UnlessMemory number Holds = ((number ≡ 0) × Holds) ⊎ (number ≡ code_numbe
 -- a column by its numbers, and its names by their lengths
 abbrev pub ShowsColumn : ColumnDefinition → ShownColumn → Type 0
 ShowsColumn column shown =
-    (shown.column_type ≡ column_type_number column.column_type) × (shown.decimals ≡ column.decimals) × (shown.flags ≡ column.flags.0)
+    (shown.column_type ≡ column_type_number column.column_type) ×
+    (shown.decimals ≡ column.decimals) × (shown.flags ≡ column.flags.0)
     × (shown.charset ≡ column.character_set) × (shown.length ≡ column.column_length)
-    × (shown.schema_len ≡ length column.schema) × (shown.table_len ≡ length column.table) × (shown.org_table_len ≡ length column.org_table)
+    × (shown.schema_len ≡ length column.schema) × (shown.table_len ≡ length column.table) ×
+    (shown.org_table_len ≡ length column.org_table)
     × (shown.name_len ≡ length column.name) × (shown.org_name_len ≡ length column.org_name)
 
--- NULL is kind 0, a number with a sign 1, one without 2, bytes 3, a float's bits 4, a double's 5, a date 6, a duration 7
+-- NULL is kind 0, a number with a sign 1, one without 2, bytes 3, a float's bits 4, a double's 5, a
+-- date 6, a duration 7
 abbrev pub ShowsValue : Value → ShownValue → Type 0
 ShowsValue value.NULL shown = shown.kind ≡ 0
 ShowsValue (value.Int number) shown = (shown.kind ≡ 1) × (shown.int ≡ number)
@@ -116,8 +129,10 @@ ShowsValue (value.Bytes bytes) shown = (shown.kind ≡ 3) × (shown.len ≡ leng
 ShowsValue (value.Float bits) shown = (shown.kind ≡ 4) × (shown.uint ≡ bits)
 ShowsValue (value.Double bits) shown = (shown.kind ≡ 5) × (shown.uint ≡ bits)
 ShowsValue (value.Date year month day hour minute second micros) shown =
-    (shown.kind ≡ 6) × (shown.year ≡ year) × (shown.month ≡ month) × (shown.day ≡ day) × (shown.hour ≡ hour) × (shown.minute ≡ minute)
+    (shown.kind ≡ 6) × (shown.year ≡ year) × (shown.month ≡ month) × (shown.day ≡ day) ×
+    (shown.hour ≡ hour) × (shown.minute ≡ minute)
     × (shown.second ≡ second) × (shown.micros ≡ micros)
 ShowsValue (value.Time negative days hours minutes seconds micros) shown =
-    (shown.kind ≡ 7) × (shown.negative ≡ negative) × (shown.days ≡ days) × (shown.hour ≡ hours) × (shown.minute ≡ minutes)
+    (shown.kind ≡ 7) × (shown.negative ≡ negative) × (shown.days ≡ days) × (shown.hour ≡ hours) ×
+    (shown.minute ≡ minutes)
     × (shown.second ≡ seconds) × (shown.micros ≡ micros)

@@ -5,8 +5,8 @@ use Rattle.mysql_ok_packets.specs.Views.{ok_packet_view}
 use Rattle.mysql_packets.specs.Views.{prepare_ok_view, server_error_view}
 use Rattle.mysql_replies.specs.Views.{column_views}
 use Rattle.mysql_rows.specs.Views.{row_view}
-use Rattle.mysql_reply_packets.specs.declared.refusal.ReplyRefusal.{ReplyRefusal}
-use Rattle.mysql_reply_packets.specs.Written.{ColumnsStep, EndStep, ErrorStep, OkStep, PreparedStep, RowStep, Step}
+use Rattle.mysql_reply_rules.specs.declared.refusal.ReplyRefusal.{ReplyRefusal}
+use Rattle.mysql_reply_rules.specs.Written.{ColumnsStep, EndStep, ErrorStep, OkStep, PreparedStep, RowStep, Step}
 use Rattle.mysql_reply_writer.specs.Writer.{Refuses, Wrote, columns_of}
 use Rattle.mysql_c_handles.specs.declared.object.Object.{Object}
 use Rattle.mysql_c_handles.specs.declared.object.Object.TheVariants as object
@@ -46,7 +46,8 @@ pub record IsRefused (old : WrittenReply) (step : Step) (number : ℕ) (spot : S
   pub spot_is : spot ≡ spot_of refusal
 
 -- A step is written behind the old bytes; or the writer and the bytes stay, and the number and the spot say why.
-pub record Writes (step : Step) (old : WrittenReply) (before : List ℕ) (number : ℕ) (spot : ShownSpot) (new : WrittenReply) (after : List ℕ) : Type 0 where
+pub record Writes (step : Step) (old : WrittenReply) (before : List ℕ) (number : ℕ)
+    (spot : ShownSpot) (new : WrittenReply) (after : List ℕ) : Type 0 where
   pub wrote : number ≡ 0 → Wrote old.writer (step ∷ []) new.writer before after
   pub stays : number ≢ 0 → new.writer ≡ old.writer
   pub kept : number ≢ 0 → after ≡ before
@@ -60,13 +61,16 @@ IsWriter held Says = ⊥
 
 -- The same of what the handle of the bytes stands for.
 abbrev pub WritesTo : Step → WrittenReply → Object → ℕ → ShownSpot → WrittenReply → Object → Type 0
-WritesTo step old (object.Bytes before) number spot new after = IsBytes after (λ bytes. Writes step old before.items number spot new bytes)
+WritesTo step old (object.Bytes before) number spot new after =
+    IsBytes after (λ bytes. Writes step old before.items number spot new bytes)
 WritesTo step old held number spot new after = (number ≡ code_number (misuse held)) × (new ≡ old) × (after ≡ held)
 
 -- The same of what the other handle stands for: a writer, whose step this is.
 abbrev pub WritesFrom : (WrittenReply → Step) → Object → Object → ℕ → ShownSpot → Object → Object → Type 0
-WritesFrom step (object.Writer old) before number spot new after = IsWriter new (λ reply. WritesTo (step old) old before number spot reply after)
-WritesFrom step held before number spot new after = (number ≡ code_number (misuse held)) × (new ≡ held) × (after ≡ before)
+WritesFrom step (object.Writer old) before number spot new after =
+    IsWriter new (λ reply. WritesTo (step old) old before number spot reply after)
+WritesFrom step held before number spot new after = (number ≡ code_number (misuse held)) ×
+    (new ≡ held) × (after ≡ before)
 
 -- whether the object is a writer to which fewer columns were given
 abbrev pub lacks_columns : Object → ℕ → Bool

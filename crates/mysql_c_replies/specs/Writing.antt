@@ -6,8 +6,8 @@ use Rattle.mysql_const.specs.declared.column_type.ColumnType.{ColumnType}
 use Rattle.mysql_ok_packets.specs.OkPackets.{OkPacket, unless_empty, unless_zero}
 use Rattle.mysql_packets.specs.Packets.{PrepareOk, ServerError}
 use Rattle.mysql_rows.specs.Rows.{Row}
-use Rattle.mysql_reply_packets.specs.Refusals.{end_cause}
-use Rattle.mysql_reply_packets.specs.Written.{RowStep}
+use Rattle.mysql_reply_rules.specs.Refusals.{end_cause}
+use Rattle.mysql_reply_rules.specs.Written.{RowStep}
 use Rattle.mysql_reply_writer.specs.Writer.{columns_of, fresh_writer}
 use Rattle.mysql_c_handles.specs.declared.code.Code.{Code}
 use Rattle.mysql_c_handles.specs.declared.code.Code.TheVariants as code
@@ -20,10 +20,12 @@ use Rattle.mysql_c_replies.specs.Replies.{kind_numbered}
 use Rattle.mysql_c_replies.specs.Spots.{spot_of}
 use Rattle.mysql_c_replies.specs.Steps.{IsWriter, WritesFrom, columns_given}
 
--- a writer of a reply of which nothing is written, to which no column was given; none is made for a number that names no kind
+-- a writer of a reply of which nothing is written, to which no column was given; none is made for a
+-- number that names no kind
 abbrev pub IsNewWriter : ℕ → ℕ → ℕ → ℕ → WrittenReply → Type 0
 IsNewWriter kind capabilities first limit reply =
-    MatchOption (kind_numbered kind) ⊥ (λ k. reply.writer ≡ fresh_writer (record { kind = k; capabilities = record { 0 = capabilities } }) first limit)
+    MatchOption (kind_numbered kind) ⊥ (λ k. reply.writer ≡
+    fresh_writer (record { kind = k; capabilities = record { 0 = capabilities } }) first limit)
     × (reply.columns.items ≡ [])
 
 -- the OK packet that says this; an id of 0 is none, and so is an empty text
@@ -53,12 +55,15 @@ BothStay said old before number new after = (number ≡ code_number said) × (ne
 
 -- a statement of this id with so many warnings; its counts are those of the columns that are written
 abbrev pub statement_said : ℕ → ℕ → PrepareOk
-statement_said statement warnings = record { statement_id = statement; num_columns = 0; num_params = 0; warning_count = warnings }
+statement_said statement warnings =
+    record { statement_id = statement; num_columns = 0; num_params = 0; warning_count = warnings }
 
 -- A row of these values is written; or memory for it was refused, and all stays.
 abbrev pub WritesRowOf : List Value → Object → Object → ℕ → ShownSpot → Object → Object → Type 0
 WritesRowOf values old before number spot new after =
-    ((row : Row) × (row.cells ≡ map Some values) × WritesFrom (λ reply. RowStep (columns_of reply.writer.standing.rows) row) old before number spot new after)
+    ((row : Row) × (row.cells ≡ map Some values) ×
+    WritesFrom (λ reply. RowStep (columns_of reply.writer.standing.rows) row) old before number
+    spot new after)
     ⊎ BothStay code.Memory old before number new after
 
 -- Of a writer what is said. Any other object stays, and the number says why.
@@ -69,8 +74,12 @@ OfWriter held number new Says = Stays held number new
 -- One more column is given, behind the others; or memory was refused, and they stay.
 abbrev pub TakesColumn : ColumnDefinition → ℕ → Object → WrittenReply → Type 0
 TakesColumn column number new old =
-    ((number ≡ code_number code.Done) × IsWriter new (λ reply. (reply.writer ≡ old.writer) × (columns_given reply ≡ columns_given old ++ column ∷ [])))
-    ⊎ ((number ≡ code_number code.Memory) × IsWriter new (λ reply. (reply.writer ≡ old.writer) × (columns_given reply ≡ columns_given old)))
+    ((number ≡ code_number code.Done) ×
+    IsWriter new (λ reply. (reply.writer ≡ old.writer) ×
+    (columns_given reply ≡ columns_given old ++ column ∷ [])))
+    ⊎ ((number ≡ code_number code.Memory) ×
+    IsWriter new (λ reply. (reply.writer ≡ old.writer) ×
+    (columns_given reply ≡ columns_given old)))
 
 -- the column of this type that says this
 abbrev pub column_said : ColumnType → List ℕ → ℕ → ℕ → ℕ → ℕ → ColumnDefinition
@@ -99,5 +108,6 @@ HasNoSuchType old number new = (number ≡ code_number code.NoSuchKind) × (new 
 -- whether the reply stands whole, by the cause that speaks against it
 abbrev pub EndsWriting : Object → ℕ → ShownSpot → Type 0
 EndsWriting (object.Writer reply) number spot =
-    MatchOption (end_cause reply.writer.standing) (number ≡ 0) (λ cause. (number ≡ refusal_number cause) × (spot ≡ spot_of cause))
+    MatchOption (end_cause reply.writer.standing) (number ≡
+    0) (λ cause. (number ≡ refusal_number cause) × (spot ≡ spot_of cause))
 EndsWriting held number spot = number ≡ code_number (misuse held)

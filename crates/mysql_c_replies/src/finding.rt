@@ -7,7 +7,8 @@ ghost use Rattle.mysql_ok_packets.specs.Views.{ok_packet_view};
 ghost use Rattle.mysql_replies.specs.Views.{outcome_views};
 ghost use Rattle.mysql_c_handles.specs.Codes.{code_number};
 ghost use Rattle.mysql_c_handles.specs.declared.code.Code.TheVariants as code;
-ghost use Rattle.mysql_c_replies.specs.Finding.{ShowsChangeIn, cell_in, column_in, listing_code, outcomes_held, packet_in, param_in, unlisted_code};
+ghost use Rattle.mysql_c_replies.specs.Finding.{ShowsChangeIn, cell_in, column_in, listing_code, outcomes_held};
+ghost use Rattle.mysql_c_replies.specs.Finding.{packet_in, param_in, unlisted_code};
 ghost use Rattle.mysql_c_replies.specs.Shown.{ShowsColumn, ShowsOutcome, ShowsValue, UnlessMemory};
 
 use crate::shown::{
@@ -98,7 +99,9 @@ fn packet_of(results: &[ReplyResult], number: usize) -> Option<&OkPacket<'static
 /// The results that were taken last, or those of the end.
 fn results_of(object: &Object) -> Result<&[ReplyResult], Code>
     ensures held { IfOk result (λ results. outcome_views results.now ≡ outcomes_held object.now) }
-    ensures code { MatchResult result (λ _. (listing_code object.now ≡ code.Done) × (unlisted_code object.now ≡ code.OutOfRange)) (λ e. (e ≡ listing_code object.now) × (e ≡ unlisted_code object.now) × (e ≢ code.Done)) }
+    ensures code { MatchResult result (λ _. (listing_code object.now ≡ code.Done) ×
+        (unlisted_code object.now ≡ code.OutOfRange)) (λ e. (e ≡ listing_code object.now) ×
+        (e ≡ unlisted_code object.now) × (e ≢ code.Done)) }
 {
     match object {
         Object::Reply(reply) => Ok(&reply.taken),
@@ -124,7 +127,9 @@ fn count_results(object: &Object, count: &mut usize) -> Code
 
 /// Shows a result.
 fn result_of(alloc: Global, object: &Object, number: usize, shown: &mut ShownResult) -> Code
-    ensures { MatchOption (slice_get (outcomes_held object.now) number) (result ≡ unlisted_code object.now) (λ outcome. UnlessMemory (code_number result) (ShowsOutcome outcome shown.new)) }
+    ensures { MatchOption (slice_get (outcomes_held object.now) number) (result ≡
+        unlisted_code object.now)
+        (λ outcome. UnlessMemory (code_number result) (ShowsOutcome outcome shown.new)) }
 {
     match results_of(object) {
         Ok(results) => match results.get(number) {
@@ -164,7 +169,8 @@ fn cell_of(
     column: usize,
     shown: &mut ShownValue,
 ) -> Code
-    ensures { MatchOption (cell_in (outcomes_held object.now) number row column) (result ≡ unlisted_code object.now) (λ value. (result ≡ code.Done) × ShowsValue value shown.new) }
+    ensures { MatchOption (cell_in (outcomes_held object.now) number row column) (result ≡
+        unlisted_code object.now) (λ value. (result ≡ code.Done) × ShowsValue value shown.new) }
 {
     match results_of(object) {
         Ok(results) => match value_in(results, number, row, column) {
@@ -180,7 +186,8 @@ fn cell_of(
 
 /// Shows a column, where it is there.
 fn shown_column(found: Option<&Column>, shown: &mut ShownColumn) -> Code
-    ensures { MatchOption (option_map (λ column. column_view column.now) found.entry) (result ≡ code.OutOfRange) (λ column. (result ≡ code.Done) × ShowsColumn column shown.new) }
+    ensures { MatchOption (option_map (λ column. column_view column.now) found.entry) (result ≡
+        code.OutOfRange) (λ column. (result ≡ code.Done) × ShowsColumn column shown.new) }
 {
     match found {
         Some(column) => {
@@ -193,7 +200,8 @@ fn shown_column(found: Option<&Column>, shown: &mut ShownColumn) -> Code
 
 /// Shows a column of rows or of a prepared statement.
 fn column_at(object: &Object, number: usize, column: usize, shown: &mut ShownColumn) -> Code
-    ensures { MatchOption (column_in (outcomes_held object.now) number column) (result ≡ unlisted_code object.now) (λ found. (result ≡ code.Done) × ShowsColumn found shown.new) }
+    ensures { MatchOption (column_in (outcomes_held object.now) number column) (result ≡
+        unlisted_code object.now) (λ found. (result ≡ code.Done) × ShowsColumn found shown.new) }
 {
     match results_of(object) {
         Ok(results) => shown_column(column_of(results, number, column), shown),
@@ -203,7 +211,8 @@ fn column_at(object: &Object, number: usize, column: usize, shown: &mut ShownCol
 
 /// Shows a parameter of a prepared statement.
 fn param_at(object: &Object, number: usize, param: usize, shown: &mut ShownColumn) -> Code
-    ensures { MatchOption (param_in (outcomes_held object.now) number param) (result ≡ unlisted_code object.now) (λ found. (result ≡ code.Done) × ShowsColumn found shown.new) }
+    ensures { MatchOption (param_in (outcomes_held object.now) number param) (result ≡
+        unlisted_code object.now) (λ found. (result ≡ code.Done) × ShowsColumn found shown.new) }
 {
     match results_of(object) {
         Ok(results) => shown_column(param_of(results, number, param), shown),
@@ -233,7 +242,9 @@ pub fn reply_result(
     shown: &mut ShownResult,
 ) -> u32
     ensures kept { handle.new.object ≡ handle.old.object }
-    ensures shown { MatchOption (slice_get (outcomes_held handle.old.object) number) (result ≡ code_number (unlisted_code handle.old.object)) (λ outcome. UnlessMemory result (ShowsOutcome outcome shown.new)) }
+    ensures shown { MatchOption (slice_get (outcomes_held handle.old.object) number) (result ≡
+        code_number (unlisted_code handle.old.object))
+        (λ outcome. UnlessMemory result (ShowsOutcome outcome shown.new)) }
 {
     let Some(object) = handle.take(alloc) else {
         return Code::EmptyHandle.number();
@@ -243,9 +254,10 @@ pub fn reply_result(
     code.number()
 }
 
-/// Shows a change of the session's state that an OK packet tells, by the number of its result and the position where it begins: its
-/// type and its bytes. The position is 0 for the first change, and is moved on to the next one; behind the last, and where the bytes
-/// there are no change, it stays.
+/// Shows a change of the session's state that an OK packet tells, by the number of its result and
+/// the position where it begins: its type and its bytes. The position is 0 for the first change,
+/// and is moved on to the next one; behind the last, and where the bytes there are no change, it
+/// stays.
 pub fn reply_state(
     alloc: Global,
     handle: &mut Handle,
@@ -276,7 +288,9 @@ pub fn reply_cell(
     shown: &mut ShownValue,
 ) -> u32
     ensures kept { handle.new.object ≡ handle.old.object }
-    ensures shown { MatchOption (cell_in (outcomes_held handle.old.object) number row column) (result ≡ code_number (unlisted_code handle.old.object)) (λ value. (result ≡ 0) × ShowsValue value shown.new) }
+    ensures shown { MatchOption (cell_in (outcomes_held handle.old.object) number row column)
+        (result ≡ code_number (unlisted_code handle.old.object)) (λ value. (result ≡ 0) ×
+        ShowsValue value shown.new) }
 {
     let Some(object) = handle.take(alloc) else {
         return Code::EmptyHandle.number();
@@ -295,7 +309,9 @@ pub fn reply_column(
     shown: &mut ShownColumn,
 ) -> u32
     ensures kept { handle.new.object ≡ handle.old.object }
-    ensures shown { MatchOption (column_in (outcomes_held handle.old.object) number column) (result ≡ code_number (unlisted_code handle.old.object)) (λ found. (result ≡ 0) × ShowsColumn found shown.new) }
+    ensures shown { MatchOption (column_in (outcomes_held handle.old.object) number column)
+        (result ≡ code_number (unlisted_code handle.old.object)) (λ found. (result ≡ 0) ×
+        ShowsColumn found shown.new) }
 {
     let Some(object) = handle.take(alloc) else {
         return Code::EmptyHandle.number();
@@ -314,7 +330,9 @@ pub fn reply_param(
     shown: &mut ShownColumn,
 ) -> u32
     ensures kept { handle.new.object ≡ handle.old.object }
-    ensures shown { MatchOption (param_in (outcomes_held handle.old.object) number param) (result ≡ code_number (unlisted_code handle.old.object)) (λ found. (result ≡ 0) × ShowsColumn found shown.new) }
+    ensures shown { MatchOption (param_in (outcomes_held handle.old.object) number param) (result ≡
+        code_number (unlisted_code handle.old.object)) (λ found. (result ≡ 0) ×
+        ShowsColumn found shown.new) }
 {
     let Some(object) = handle.take(alloc) else {
         return Code::EmptyHandle.number();

@@ -5,7 +5,8 @@ ghost use Rattle.mysql_replies.specs.Holding.{HasFoundNoFault, fault_of};
 ghost use Rattle.mysql_replies.specs.Taking.{Feeds};
 ghost use Rattle.mysql_c_handles.specs.Codes.{code_number};
 ghost use Rattle.mysql_c_handles.specs.declared.code.Code.TheVariants as code;
-ghost use Rattle.mysql_c_replies.specs.Replies.{IsNewReply, IsReply, IsReplyFedBy, OfReply, OutcomesAreTaken, RepliesEnd, answer_of, kind_numbered, reply_code};
+ghost use Rattle.mysql_c_replies.specs.Replies.{IsNewReply, IsReply, IsReplyFedBy, OfReply, OutcomesAreTaken};
+ghost use Rattle.mysql_c_replies.specs.Replies.{RepliesEnd, answer_of, kind_numbered, reply_code};
 
 use crate::shown::shown_reply_end;
 use mysql_c_handles::{Code, Handle, Object, ReplyInParts, ShownEnd};
@@ -40,7 +41,8 @@ fn fed(reader: &mut ReplyReader, piece: &[u8]) -> Code
 
 /// Feeds a reader of a reply.
 fn feed(object: &mut Object, piece: &[u8]) -> Code
-    ensures { OfReply object.old (code_number result) object.new (IsReplyFedBy piece.now (code_number result) object.new) }
+    ensures { OfReply object.old (code_number result) object.new
+        (IsReplyFedBy piece.now (code_number result) object.new) }
 {
     match object {
         Object::Reply(reply) => fed(&mut reply.reader, piece),
@@ -82,8 +84,8 @@ fn end(object: &mut Object, end: &mut ShownEnd) -> Code
     code
 }
 
-/// Makes the handle stand for a reader of the reply to a command of this kind: 0 is a query, 1 an execution, 2 a prepare. The reply's
-/// first chunk has the number `first`.
+/// Makes the handle stand for a reader of the reply to a command of this kind: 0 is a query, 1 an
+/// execution, 2 a prepare. The reply's first chunk has the number `first`.
 pub fn reply_new(
     alloc: Global,
     handle: &mut Handle,
@@ -94,7 +96,8 @@ pub fn reply_new(
 ) -> u32
     ensures made { result ≡ 0 → IsReply handle.new.object (IsNewReply kind capabilities first limit) }
     ensures kept { result ≢ 0 → handle.new.object ≡ handle.old.object }
-    ensures cause { (result ≡ 0) ⊎ (result ≡ code_number code.Memory) ⊎ ((result ≡ code_number code.NoSuchKind) × (kind_numbered kind ≡ None)) }
+    ensures cause { (result ≡ 0) ⊎ (result ≡ code_number code.Memory) ⊎
+        ((result ≡ code_number code.NoSuchKind) × (kind_numbered kind ≡ None)) }
 {
     let Some(kind) = kind_of(kind) else {
         return Code::NoSuchKind.number();
@@ -119,8 +122,8 @@ pub fn reply_feed(alloc: Global, handle: &mut Handle, piece: &[u8]) -> u32
     code.number()
 }
 
-/// Takes the results so far: those that stand whole, and of a result set that goes on its rows so far. Those that were taken before are
-/// let go, and so are the progress reports that came.
+/// Takes the results so far: those that stand whole, and of a result set that goes on its rows so
+/// far. Those that were taken before are let go, and so are the progress reports that came.
 pub fn reply_take(alloc: Global, handle: &mut Handle) -> u32
     ensures { OfReply handle.old.object result handle.new.object (OutcomesAreTaken result handle.new.object) }
 {
@@ -132,7 +135,8 @@ pub fn reply_take(alloc: Global, handle: &mut Handle) -> u32
     code.number()
 }
 
-/// Ends a reply: the handle stands for what was read and not taken. Shows how the reply ends. Of an ended one it shows the same again.
+/// Ends a reply: the handle stands for what was read and not taken. Shows how the reply ends. Of an
+/// ended one it shows the same again.
 pub fn reply_end(alloc: Global, handle: &mut Handle, shown: &mut ShownEnd) -> u32
     ensures { RepliesEnd handle.old.object result handle.new.object shown.new }
 {

@@ -1,4 +1,5 @@
-//! What C sees of the results of a reply, of values, columns and changes of the session's state, and of the reply's end.
+//! What C sees of the results of a reply, of values, columns and changes of the session's state,
+//! and of the reply's end.
 
 ghost use Rattle.std.specs.Prelude.{◌≡◌, IfSome, false, length, option_map};
 ghost use Rattle.mysql_columns.specs.Views.{column_view};
@@ -9,22 +10,24 @@ ghost use Rattle.mysql_packets.specs.Views.{prepare_ok_view, server_error_view};
 ghost use Rattle.mysql_replies.specs.Grammar.{ErrorResult};
 ghost use Rattle.mysql_replies.specs.Views.{outcome_view};
 ghost use Rattle.mysql_c_handles.specs.Codes.{code_number};
-ghost use Rattle.mysql_c_replies.specs.Shown.{CountsChanges, ShowsColumn, ShowsOutcome, ShowsValue, UnlessMemory, nothing_shown, packet_shown, reply_end_shown, terminator_shown};
+ghost use Rattle.mysql_c_replies.specs.Shown.{CountsChanges, ShowsColumn, ShowsOutcome, ShowsValue, UnlessMemory};
+ghost use Rattle.mysql_c_replies.specs.Shown.{nothing_shown, packet_shown, reply_end_shown, terminator_shown};
 ghost use Rattle.mysql_c_replies.specs.States.{ShowsChangeAt};
 
 use mysql_buf::ParseBuf;
 use mysql_c_handles::{Code, ShownEnd, number_of_reply_fault, start_of};
 use mysql_cells::Value;
 use mysql_columns::Column;
+use mysql_fields::{ParseExt, WireError};
 use mysql_ok_packets::OkPacket;
 use mysql_packets::{ServerError, StmtPacket};
-use mysql_raw::{ParseExt, WireError};
 use mysql_replies::{ReplyEnd, ReplyResult};
 use mysql_session_states::SessionStateInfo;
 use std::alloc::Global;
 
-/// A result: its kind (0 OK, 1 rows, 2 a prepared statement, 3 an error, 4 a request for a file), and what that kind has. The text is
-/// what an OK packet tells, an error's message or a file's name; `ended` is false of rows alone, where the packet that ends them didn't come.
+/// A result: its kind (0 OK, 1 rows, 2 a prepared statement, 3 an error, 4 a request for a file),
+/// and what that kind has. The text is what an OK packet tells, an error's message or a file's
+/// name; `ended` is false of rows alone, where the packet that ends them didn't come.
 #[repr(C)]
 #[derive(Clone, Copy)]
 pub struct ShownResult {
@@ -46,8 +49,8 @@ pub struct ShownResult {
     pub ended: bool,
 }
 
-/// A value: its kind (0 NULL, 1 a number with a sign, 2 one without, 3 bytes, 4 a float by its bits, 5 a double by its bits, 6 a date,
-/// 7 a duration), and what that kind has.
+/// A value: its kind (0 NULL, 1 a number with a sign, 2 one without, 3 bytes, 4 a float by its
+/// bits, 5 a double by its bits, 6 a date, 7 a duration), and what that kind has.
 #[repr(C)]
 #[derive(Clone, Copy)]
 pub struct ShownValue {
@@ -135,7 +138,8 @@ fn telling(kind: u32, text: &[u8]) -> ShownResult
     }
 }
 
-/// Counts the changes of the session's state that a packet tells; none where they can't be read. Nothing is counted for want of memory.
+/// Counts the changes of the session's state that a packet tells; none where they can't be read.
+/// Nothing is counted for want of memory.
 fn count_changes(alloc: Global, ok: &OkPacket<'_>) -> Option<usize>
     ensures { CountsChanges (all_states_at (ok_packet_view ok.now).session_state_info) result }
 {
@@ -148,7 +152,8 @@ fn count_changes(alloc: Global, ok: &OkPacket<'_>) -> Option<usize>
 
 /// A result of this kind that tells what an OK packet does. Nothing is told for want of memory.
 fn telling_packet(alloc: Global, kind: u32, ok: &OkPacket<'_>) -> Option<ShownResult>
-    ensures { IfSome result (λ shown. shown ≡ record (packet_shown (ok_packet_view ok.now) (nothing_shown shown)) { kind = kind }) }
+    ensures { IfSome result (λ shown. shown ≡
+        record (packet_shown (ok_packet_view ok.now) (nothing_shown shown)) { kind = kind }) }
 {
     let states = count_changes(alloc, ok)?;
     let mut shown = telling(kind, ok.info_ref().unwrap_or(&[]));
@@ -160,14 +165,17 @@ fn telling_packet(alloc: Global, kind: u32, ok: &OkPacket<'_>) -> Option<ShownRe
     Some(shown)
 }
 
-/// Rows, so many under so many columns, and what the packet tells that ended them, where it came. Nothing is told for want of memory.
+/// Rows, so many under so many columns, and what the packet tells that ended them, where it came.
+/// Nothing is told for want of memory.
 fn telling_rows(
     alloc: Global,
     columns: usize,
     rows: usize,
     terminator: &Option<OkPacket<'static>>,
 ) -> Option<ShownResult>
-    ensures { IfSome result (λ shown. shown ≡ record (terminator_shown (option_map ok_packet_view terminator.now) (nothing_shown shown)) { kind = 1; columns = columns; rows = rows }) }
+    ensures { IfSome result (λ shown. shown ≡
+        record (terminator_shown (option_map ok_packet_view terminator.now)
+        (nothing_shown shown)) { kind = 1; columns = columns; rows = rows }) }
 {
     let mut shown = match terminator {
         Some(ok) => telling_packet(alloc, 1, ok)?,
@@ -189,7 +197,15 @@ fn telling_open_rows() -> ShownResult
 
 /// A prepared statement with so many parameters and columns.
 fn telling_prepared(stmt: &StmtPacket, params: usize, columns: usize) -> ShownResult
-    ensures { result ≡ record (nothing_shown result) { kind = 2; statement = (prepare_ok_view stmt.now).statement_id; params = params; columns = columns; warnings = (prepare_ok_view stmt.now).warning_count } }
+    ensures { result ≡ record (nothing_shown result) {
+      kind = 2;
+      statement =
+          (prepare_ok_view stmt.now).statement_id;
+      params = params;
+      columns = columns;
+      warnings =
+          (prepare_ok_view stmt.now).warning_count;
+    } }
 {
     let mut shown = telling(2, &[]);
     shown.statement = stmt.statement_id();
@@ -256,8 +272,8 @@ fn states_in<'a>(ok: &'a OkPacket<'_>) -> &'a [u8]
     }
 }
 
-/// Shows the change of the session's state at a position of those that a packet tells, and moves the position behind it. Its bytes
-/// stand in the packet.
+/// Shows the change of the session's state at a position of those that a packet tells, and moves
+/// the position behind it. Its bytes stand in the packet.
 pub(crate) fn show_state(
     alloc: Global,
     ok: &OkPacket<'_>,
@@ -266,7 +282,8 @@ pub(crate) fn show_state(
     data: &mut *const u8,
     len: &mut usize,
 ) -> Code
-    ensures { ShowsChangeAt (ok_packet_view ok.now).session_state_info position.old (code_number result) position.new kind.new len.new }
+    ensures { ShowsChangeAt (ok_packet_view ok.now).session_state_info position.old
+        (code_number result) position.new kind.new len.new }
 {
     let bytes = states_in(ok);
     if *position >= bytes.len() {

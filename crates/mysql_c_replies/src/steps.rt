@@ -2,17 +2,18 @@
 
 ghost use Rattle.std.specs.Prelude.{◌≡◌, ◌∷◌, ◌≤◌, [], false, IfErr, OnErr, OnOk, length, take, drop};
 ghost use Rattle.mysql_packets.specs.Views.{prepare_ok_view};
-ghost use Rattle.mysql_reply_packets.specs.Written.{ColumnsStep, PreparedStep};
+ghost use Rattle.mysql_reply_rules.specs.Written.{ColumnsStep, PreparedStep};
 ghost use Rattle.mysql_reply_writer.specs.Writer.{Refuses, Wrote};
 ghost use Rattle.mysql_c_handles.specs.Codes.{code_number};
 ghost use Rattle.mysql_c_handles.specs.declared.object.Object.TheVariants as object;
-ghost use Rattle.mysql_c_replies.specs.Steps.{HasEnough, Writes, WritesFrom, WritesTo, columns_given, columns_left, lacks_columns, step_given};
+ghost use Rattle.mysql_c_replies.specs.Steps.{HasEnough, Writes, WritesFrom, WritesTo, columns_given, columns_left};
+ghost use Rattle.mysql_c_replies.specs.Steps.{lacks_columns, step_given};
 
 use crate::given::Given;
 use crate::spot::{ShownSpot, show_refusal};
 use mysql_c_handles::{Code, Handle, Object, WrittenReply};
 use mysql_packets::StmtPacket;
-use mysql_reply_packets::ReplyRefusal;
+use mysql_reply_rules::ReplyRefusal;
 use std::alloc::Global;
 use std::mem::replace;
 use std::rc::RcSlice;
@@ -23,7 +24,8 @@ fn begin_rows(
     reply: &mut WrittenReply,
     out: &mut Vec<u8>,
 ) -> Result<(), ReplyRefusal>
-    ensures ok { OnOk result (Wrote reply.old.writer (ColumnsStep (columns_given reply.old) ∷ []) reply.new.writer out.old.items out.new.items) }
+    ensures ok { OnOk result (Wrote reply.old.writer (ColumnsStep (columns_given reply.old) ∷
+        []) reply.new.writer out.old.items out.new.items) }
     ensures err { IfErr result (Refuses reply.old.writer (ColumnsStep (columns_given reply.old) ∷ [])) }
     ensures kept { OnErr result (out.new.items ≡ out.old.items) }
     ensures stays { OnErr result (reply.new.writer ≡ reply.old.writer) }
@@ -42,8 +44,13 @@ fn prepare(
     out: &mut Vec<u8>,
 ) -> Result<(), ReplyRefusal>
     requires { params ≤ length reply.old.columns.items }
-    ensures ok { OnOk result (Wrote reply.old.writer (PreparedStep (prepare_ok_view statement.now) (take params (columns_given reply.old)) (drop params (columns_given reply.old)) ∷ []) reply.new.writer out.old.items out.new.items) }
-    ensures err { IfErr result (Refuses reply.old.writer (PreparedStep (prepare_ok_view statement.now) (take params (columns_given reply.old)) (drop params (columns_given reply.old)) ∷ [])) }
+    ensures ok { OnOk result (Wrote reply.old.writer
+        (PreparedStep (prepare_ok_view statement.now) (take params (columns_given reply.old))
+        (drop params (columns_given reply.old)) ∷ []) reply.new.writer out.old.items out.new.items) }
+    ensures err { IfErr result
+        (Refuses reply.old.writer
+        (PreparedStep (prepare_ok_view statement.now) (take params (columns_given reply.old))
+        (drop params (columns_given reply.old)) ∷ [])) }
     ensures kept { OnErr result (out.new.items ≡ out.old.items) }
     ensures stays { OnErr result (reply.new.writer ≡ reply.old.writer) }
     ensures left { columns_given reply.new ≡ [] }
@@ -62,7 +69,8 @@ fn write(
     out: &mut Vec<u8>,
 ) -> Result<(), ReplyRefusal>
     requires { HasEnough given.now (object.Writer reply.old) }
-    ensures ok { OnOk result (Wrote reply.old.writer (step_given reply.old given.now ∷ []) reply.new.writer out.old.items out.new.items) }
+    ensures ok { OnOk result (Wrote reply.old.writer (step_given reply.old given.now ∷
+        []) reply.new.writer out.old.items out.new.items) }
     ensures err { IfErr result (Refuses reply.old.writer (step_given reply.old given.now ∷ [])) }
     ensures kept { OnErr result (out.new.items ≡ out.old.items) }
     ensures stays { OnErr result (reply.new.writer ≡ reply.old.writer) }
@@ -87,7 +95,8 @@ fn written(
     spot: &mut ShownSpot,
 ) -> Code
     requires { HasEnough given.now (object.Writer reply.old) }
-    ensures { Writes (step_given reply.old given.now) reply.old out.old.items (code_number result) spot.new reply.new out.new.items }
+    ensures { Writes (step_given reply.old given.now) reply.old out.old.items (code_number result)
+        spot.new reply.new out.new.items }
 {
     match write(alloc, reply, given, out) {
         Ok(()) => Code::Done,
@@ -104,7 +113,8 @@ fn write_behind(
     spot: &mut ShownSpot,
 ) -> Code
     requires { HasEnough given.now (object.Writer reply.old) }
-    ensures { WritesTo (step_given reply.old given.now) reply.old bytes.old (code_number result) spot.new reply.new bytes.new }
+    ensures { WritesTo (step_given reply.old given.now) reply.old bytes.old (code_number result)
+        spot.new reply.new bytes.new }
 {
     match bytes {
         Object::Bytes(out) => written(alloc, reply, given, out, spot),
@@ -122,7 +132,8 @@ fn write_to(
     spot: &mut ShownSpot,
 ) -> Code
     requires { HasEnough given.now (object.Writer reply.old) }
-    ensures { WritesTo (step_given reply.old given.now) reply.old out.old.object (code_number result) spot.new reply.new out.new.object }
+    ensures { WritesTo (step_given reply.old given.now) reply.old out.old.object
+        (code_number result) spot.new reply.new out.new.object }
 {
     let Some(mut bytes) = out.take(alloc) else {
         return Code::EmptyHandle;
@@ -141,7 +152,8 @@ fn write_by(
     spot: &mut ShownSpot,
 ) -> Code
     requires { HasEnough given.now object.old }
-    ensures { WritesFrom (λ reply. step_given reply given.now) object.old out.old.object (code_number result) spot.new object.new out.new.object }
+    ensures { WritesFrom (λ reply. step_given reply given.now) object.old out.old.object
+        (code_number result) spot.new object.new out.new.object }
 {
     match object {
         Object::Writer(reply) => write_to(alloc, reply, given, out, spot),
@@ -159,7 +171,8 @@ fn write_with(
     spot: &mut ShownSpot,
 ) -> u32
     requires { HasEnough given.now handle.old.object }
-    ensures { WritesFrom (λ reply. step_given reply given.now) handle.old.object out.old.object result spot.new handle.new.object out.new.object }
+    ensures { WritesFrom (λ reply. step_given reply given.now) handle.old.object out.old.object
+        result spot.new handle.new.object out.new.object }
 {
     let Some(mut object) = handle.take(alloc) else {
         return Code::EmptyHandle.number();
@@ -178,7 +191,8 @@ pub(crate) fn write_given(
     spot: &mut ShownSpot,
 ) -> u32
     requires { HasEnough given handle.old.object }
-    ensures { WritesFrom (λ reply. step_given reply given.entry) handle.old.object out.old.object result spot.new handle.new.object out.new.object }
+    ensures { WritesFrom (λ reply. step_given reply given.entry) handle.old.object out.old.object
+        result spot.new handle.new.object out.new.object }
 {
     let number = write_with(alloc, handle, &given, out, spot);
     drop(given);

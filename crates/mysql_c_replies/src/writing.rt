@@ -1,18 +1,21 @@
 //! Replies written: a server's side.
 
-ghost use Rattle.std.specs.Prelude.{◌≡◌, ◌≢◌, ◌⊎◌, [], Err, IfOk, MatchOption, MatchResult, None, Some, drop, false, length, map, option_map, take, true};
+ghost use Rattle.std.specs.Prelude.{◌≡◌, ◌≢◌, ◌⊎◌, [], Err, IfOk, MatchOption, MatchResult, None, Some, drop, false};
+ghost use Rattle.std.specs.Prelude.{length, map, option_map, take, true};
 ghost use Rattle.std.specs.Rc.{rc_slice_items};
 ghost use Rattle.mysql_columns.specs.Views.{column_view};
 ghost use Rattle.mysql_const.specs.ColumnTypes.{column_type_named};
 ghost use Rattle.mysql_packets.specs.Views.{sql_state_view};
-ghost use Rattle.mysql_reply_packets.specs.Written.{ColumnsStep, EndStep, ErrorStep, OkStep, PreparedStep};
+ghost use Rattle.mysql_reply_rules.specs.Written.{ColumnsStep, EndStep, ErrorStep, OkStep, PreparedStep};
 ghost use Rattle.mysql_rows.specs.Views.{row_view};
 ghost use Rattle.mysql_c_handles.specs.Codes.{code_number};
 ghost use Rattle.mysql_c_handles.specs.Sets.{unheld_code, values_held};
 ghost use Rattle.mysql_c_handles.specs.declared.code.Code.TheVariants as code;
 ghost use Rattle.mysql_c_replies.specs.Replies.{kind_numbered};
 ghost use Rattle.mysql_c_replies.specs.Steps.{IsWriter, WritesFrom, columns_given, lacks_columns};
-ghost use Rattle.mysql_c_replies.specs.Writing.{BothStay, EndsWriting, GivesColumn, HasNoSuchType, IsNewWriter, OfWriter, TakesColumn, WritesRowOf, column_said, error_said, packet_said, state_said, statement_said};
+ghost use Rattle.mysql_c_replies.specs.Writing.{BothStay, EndsWriting, GivesColumn, HasNoSuchType, IsNewWriter};
+ghost use Rattle.mysql_c_replies.specs.Writing.{OfWriter, TakesColumn, WritesRowOf, column_said, error_said};
+ghost use Rattle.mysql_c_replies.specs.Writing.{packet_said, state_said, statement_said};
 
 use crate::given::Given;
 use crate::reading::kind_of;
@@ -62,7 +65,9 @@ fn row_of(alloc: Global, values: &[Value]) -> Result<Row, AllocError>
 
 /// A row of copies of the values of a set.
 fn row_at(alloc: Global, object: &Object, set: usize) -> Result<Row, Code>
-    ensures { MatchOption (values_held object.now set) (result ≡ Err (unheld_code object.now)) (λ values. MatchResult result (λ row. (row_view row).cells ≡ map Some values) (λ e. e ≡ code.Memory)) }
+    ensures { MatchOption (values_held object.now set) (result ≡ Err (unheld_code object.now))
+        (λ values. MatchResult result (λ row. (row_view row).cells ≡ map Some values) (λ e. e ≡
+        code.Memory)) }
 {
     match object.values_at(set) {
         Ok(values) => match row_of(alloc, values) {
@@ -76,7 +81,10 @@ fn row_at(alloc: Global, object: &Object, set: usize) -> Result<Row, Code>
 /// A row of copies of the values of a set that a handle stands for.
 fn row_in(alloc: Global, sets: &mut Handle, set: usize) -> Result<Row, Code>
     ensures kept { sets.new.object ≡ sets.old.object }
-    ensures row { MatchOption (values_held sets.old.object set) (result ≡ Err (unheld_code sets.old.object)) (λ values. MatchResult result (λ row. (row_view row).cells ≡ map Some values) (λ e. e ≡ code.Memory)) }
+    ensures row { MatchOption (values_held sets.old.object set) (result ≡
+        Err (unheld_code sets.old.object))
+        (λ values. MatchResult result (λ row. (row_view row).cells ≡ map Some values) (λ e. e ≡
+        code.Memory)) }
 {
     let Some(object) = sets.take(alloc) else {
         return Err(Code::EmptyHandle);
@@ -96,7 +104,8 @@ fn column_of(
     length: u32,
     decimals: u8,
 ) -> Result<Column, AllocError>
-    ensures { IfOk result (λ column. column_view column ≡ column_said column_type name.now flags charset length decimals) }
+    ensures { IfOk result (λ column. column_view column ≡
+        column_said column_type name.now flags charset length decimals) }
 {
     let column = Column::new(alloc, column_type).with_name(name)?;
     Ok(
@@ -110,7 +119,8 @@ fn column_of(
 
 /// Gives one more column to a writer.
 fn take_column(object: &mut Object, column: Column) -> Code
-    ensures { OfWriter object.old (code_number result) object.new (TakesColumn (column_view column) (code_number result) object.new) }
+    ensures { OfWriter object.old (code_number result) object.new
+        (TakesColumn (column_view column) (code_number result) object.new) }
 {
     match object {
         Object::Writer(reply) => match reply.columns.push(column) {
@@ -124,7 +134,8 @@ fn take_column(object: &mut Object, column: Column) -> Code
 
 /// The same to the writer that a handle stands for.
 fn give_column(alloc: Global, handle: &mut Handle, column: Column) -> u32
-    ensures { OfWriter handle.old.object result handle.new.object (TakesColumn (column_view column) result handle.new.object) }
+    ensures { OfWriter handle.old.object result handle.new.object
+        (TakesColumn (column_view column) result handle.new.object) }
 {
     let Some(mut object) = handle.take(alloc) else {
         return Code::EmptyHandle.number();
@@ -148,8 +159,9 @@ fn end(object: &Object, spot: &mut ShownSpot) -> Code
     }
 }
 
-/// Makes the handle stand for a writer of the reply to a command of this kind: 0 is a query, 1 an execution, 2 a prepare. The reply's
-/// first chunk has the number `first`, and a payload has at most `limit` bytes.
+/// Makes the handle stand for a writer of the reply to a command of this kind: 0 is a query, 1 an
+/// execution, 2 a prepare. The reply's first chunk has the number `first`, and a payload has at
+/// most `limit` bytes.
 pub fn writer_new(
     alloc: Global,
     handle: &mut Handle,
@@ -160,7 +172,8 @@ pub fn writer_new(
 ) -> u32
     ensures made { result ≡ 0 → IsWriter handle.new.object (IsNewWriter kind capabilities first limit) }
     ensures kept { result ≢ 0 → handle.new.object ≡ handle.old.object }
-    ensures cause { (result ≡ 0) ⊎ (result ≡ code_number code.Memory) ⊎ ((result ≡ code_number code.NoSuchKind) × (kind_numbered kind ≡ None)) }
+    ensures cause { (result ≡ 0) ⊎ (result ≡ code_number code.Memory) ⊎
+        ((result ≡ code_number code.NoSuchKind) × (kind_numbered kind ≡ None)) }
 {
     let Some(kind) = kind_of(kind) else {
         return Code::NoSuchKind.number();
@@ -186,7 +199,9 @@ pub fn writer_ok(
     out: &mut Handle,
     spot: &mut ShownSpot,
 ) -> u32
-    ensures { WritesFrom (λ _. OkStep more (packet_said affected_rows last_insert_id status warnings info.now)) handle.old.object out.old.object result spot.new handle.new.object out.new.object }
+    ensures { WritesFrom (λ _. OkStep more
+        (packet_said affected_rows last_insert_id status warnings info.now)) handle.old.object
+        out.old.object result spot.new handle.new.object out.new.object }
 {
     let packet = OkPacket::new(
         affected_rows,
@@ -209,7 +224,10 @@ pub fn writer_error(
     out: &mut Handle,
     spot: &mut ShownSpot,
 ) -> u32
-    ensures { MatchOption (state_said state.now) (BothStay code.BadPacket handle.old.object out.old.object result handle.new.object out.new.object) (λ said. WritesFrom (λ _. ErrorStep (error_said number message.now said)) handle.old.object out.old.object result spot.new handle.new.object out.new.object) }
+    ensures { MatchOption (state_said state.now)
+        (BothStay code.BadPacket handle.old.object out.old.object result handle.new.object
+        out.new.object) (λ said. WritesFrom (λ _. ErrorStep (error_said number message.now said))
+        handle.old.object out.old.object result spot.new handle.new.object out.new.object) }
 {
     let Some(said) = state_of(state) else {
         return Code::BadPacket.number();
@@ -229,7 +247,10 @@ pub fn writer_column(
     length: u32,
     decimals: u8,
 ) -> u32
-    ensures { MatchOption (column_type_named column_type) (HasNoSuchType handle.old.object result handle.new.object) (λ known. GivesColumn (column_said known name.now flags charset length decimals) handle.old.object result handle.new.object) }
+    ensures { MatchOption (column_type_named column_type)
+        (HasNoSuchType handle.old.object result handle.new.object)
+        (λ known. GivesColumn (column_said known name.now flags charset length decimals)
+        handle.old.object result handle.new.object) }
 {
     let Ok(known) = ColumnType::try_from(column_type) else {
         return Code::NoSuchKind.number();
@@ -247,7 +268,8 @@ pub fn writer_rows(
     out: &mut Handle,
     spot: &mut ShownSpot,
 ) -> u32
-    ensures { WritesFrom (λ reply. ColumnsStep (columns_given reply)) handle.old.object out.old.object result spot.new handle.new.object out.new.object }
+    ensures { WritesFrom (λ reply. ColumnsStep (columns_given reply)) handle.old.object
+        out.old.object result spot.new handle.new.object out.new.object }
 {
     write_given(alloc, handle, Given::Columns, out, spot)
 }
@@ -262,7 +284,11 @@ pub fn writer_row(
     spot: &mut ShownSpot,
 ) -> u32
     ensures kept { sets.new.object ≡ sets.old.object }
-    ensures row { MatchOption (values_held sets.old.object set) (BothStay (unheld_code sets.old.object) handle.old.object out.old.object result handle.new.object out.new.object) (λ values. WritesRowOf values handle.old.object out.old.object result spot.new handle.new.object out.new.object) }
+    ensures row { MatchOption (values_held sets.old.object set)
+        (BothStay (unheld_code sets.old.object) handle.old.object out.old.object result
+        handle.new.object out.new.object)
+        (λ values. WritesRowOf values handle.old.object out.old.object result spot.new
+        handle.new.object out.new.object) }
 {
     match row_in(alloc, sets, set) {
         Ok(row) => write_given(alloc, handle, Given::Row(row), out, spot),
@@ -280,7 +306,8 @@ pub fn writer_end_rows(
     out: &mut Handle,
     spot: &mut ShownSpot,
 ) -> u32
-    ensures { WritesFrom (λ _. EndStep more (packet_said 0 0 status warnings [])) handle.old.object out.old.object result spot.new handle.new.object out.new.object }
+    ensures { WritesFrom (λ _. EndStep more (packet_said 0 0 status warnings [])) handle.old.object
+        out.old.object result spot.new handle.new.object out.new.object }
 {
     let packet = OkPacket::new(0, None, StatusFlags(status), warnings, None, None);
     write_given(alloc, handle, Given::End(packet, more), out, spot)
@@ -296,8 +323,13 @@ pub fn writer_prepared(
     out: &mut Handle,
     spot: &mut ShownSpot,
 ) -> u32
-    ensures fewer { lacks_columns handle.old.object params ≡ true → BothStay code.OutOfRange handle.old.object out.old.object result handle.new.object out.new.object }
-    ensures enough { lacks_columns handle.old.object params ≡ false → WritesFrom (λ reply. PreparedStep (statement_said statement warnings) (take params (columns_given reply)) (drop params (columns_given reply))) handle.old.object out.old.object result spot.new handle.new.object out.new.object }
+    ensures fewer { lacks_columns handle.old.object params ≡ true →
+        BothStay code.OutOfRange handle.old.object out.old.object result handle.new.object
+        out.new.object }
+    ensures enough { lacks_columns handle.old.object params ≡ false →
+        WritesFrom (λ reply. PreparedStep (statement_said statement warnings)
+        (take params (columns_given reply)) (drop params (columns_given reply))) handle.old.object
+        out.old.object result spot.new handle.new.object out.new.object }
 {
     if has_fewer_columns(alloc, handle, params) {
         return Code::OutOfRange.number();

@@ -21,3 +21,6 @@ kept_behind xs ys = take_at xs ys (length xs) refl
 pub puts_behind : {E : Type 0} (r : Result (Unit {0}) E) (old mid new front back bytes : List ℕ) → mid ≡ old ++ front → bytes ≡ front ++ back → Puts back mid new r → Puts bytes old new r
 puts_behind (Ok _) old mid new front back bytes e f h = h ∙ ap (λ m. m ++ back) e ∙ append_assoc old front back ∙ ap (λ t. old ++ t) (sym f)
 puts_behind (Err _) old mid new front back bytes e f h = kept_front old front new (subst (λ m. take (length m) new ≡ m) e h)
+
+-- What a list that grows keeps, for searches.
+pub ruleset what_is_kept = (kept_front, kept_whole, kept_behind)

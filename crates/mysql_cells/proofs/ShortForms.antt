@@ -1,7 +1,7 @@
 -- Dates and times in their shortest form: the front of the whole form.
 use Rattle.std.proofs.Common.{◌≡◌, ℕ, ◌+◌, Bool, true, false, cond, List, [], ◌∷◌, ◌++◌, get_or, take, refl, ap, ◌∙◌, add-one, if◌then◌else◌, is_ok, Result, Ok, Err}
 use Rattle.std.specs.Int.{w16, w32, from_bool, to_le_bytes}
-use Rattle.mysql_raw.specs.Wire.{Appends}
+use Rattle.mysql_fields.specs.Wire.{Appends}
 use Rattle.mysql_cells.specs.Cells.{date_cell, date_size, time_cell, time_size}
 
 front_of : (n size : ℕ) (xs : List ℕ) → n ≡ size → take (n + 1) (size ∷ xs) ≡ size ∷ take size xs

@@ -11,8 +11,8 @@ use Rattle.mysql_buf.specs.FirstBytes.{first-enough}
 use Rattle.mysql_buf.specs.NumberLaws.{bytes_at-append}
 use Rattle.mysql_buf.specs.Reading.{u8_str_at}
 use Rattle.mysql_buf.specs.TextLaws.{lenenc_str-reads_back}
-use Rattle.mysql_raw.specs.Laws.{fixed_number_at-back}
-use Rattle.mysql_raw.specs.Wire.{Reading, ◌>>=◌, or_end}
+use Rattle.mysql_fields.specs.Laws.{fixed_number_at-back}
+use Rattle.mysql_fields.specs.Wire.{Reading, ◌>>=◌, or_end}
 use Rattle.mysql_cells.specs.CellLaws.{CellLength, CellsReadBack, ReadBackMeansTheSame}
 use Rattle.mysql_cells.specs.Cells.{cell_at, date_of, date_size, time_of, time_size, unsigned_value}
 use Rattle.mysql_cells.specs.Values.{content_of, is_zero_time, plain_content}

@@ -1,7 +1,9 @@
 -- Cells of the binary protocol, as they are written and read, and cells of the text protocol.
--- MySQL: Client/Server Protocol, "Binary Protocol Value", "Protocol::LengthEncodedInteger", "Text Resultset Row", "Column Definition Flags".
--- A reading takes bytes from the front: x.0 is what was read and x.1 the bytes left; the first refusal counts.
-use Rattle.std.specs.Prelude.{ℕ, pos, ◌+◌, ◌^◌, Bool, true, false, List, [], ◌∷◌, ◌++◌, length, take, drop, Ok, Err, nat_lt, ◌==◌, ◌||◌, if◌then◌else◌, unwrap_or}
+-- MySQL: Client/Server Protocol, "Binary Protocol Value", "Protocol::LengthEncodedInteger", "Text
+-- Resultset Row", "Column Definition Flags". A reading takes bytes from the front: x.0 is what was
+-- read and x.1 the bytes left; the first refusal counts.
+use Rattle.std.specs.Prelude.{ℕ, pos, ◌+◌, ◌^◌, Bool, true, false, List, [], ◌∷◌, ◌++◌, length, take, drop, Ok, Err}
+use Rattle.std.specs.Prelude.{nat_lt, ◌==◌, ◌||◌, if◌then◌else◌, unwrap_or}
 use Rattle.std.specs.Int.{Width, w8, w16, w32, w64, cast_signed, cast_unsigned}
 use Rattle.std.specs.Option.{option_map}
 use Rattle.byteorder.specs.Endian.{little_bytes, little_number}
@@ -10,15 +12,33 @@ use Rattle.mysql_buf.specs.Writing.{lenenc_str}
 use Rattle.mysql_const.specs.ColumnTypes.{column_type_named, column_type_number}
 use Rattle.mysql_const.specs.declared.column_flags.ColumnFlags.{ColumnFlags}
 use Rattle.mysql_const.specs.declared.column_type.ColumnType.{ColumnType}
-use Rattle.mysql_const.specs.declared.column_type.ColumnType.TheVariants.{MYSQL_TYPE_NULL, MYSQL_TYPE_TINY, MYSQL_TYPE_SHORT, MYSQL_TYPE_YEAR, MYSQL_TYPE_LONG, MYSQL_TYPE_INT24, MYSQL_TYPE_LONGLONG, MYSQL_TYPE_FLOAT, MYSQL_TYPE_DOUBLE, MYSQL_TYPE_DECIMAL, MYSQL_TYPE_NEWDECIMAL, MYSQL_TYPE_VARCHAR, MYSQL_TYPE_VAR_STRING, MYSQL_TYPE_STRING, MYSQL_TYPE_TINY_BLOB, MYSQL_TYPE_MEDIUM_BLOB, MYSQL_TYPE_LONG_BLOB, MYSQL_TYPE_BLOB, MYSQL_TYPE_ENUM, MYSQL_TYPE_SET, MYSQL_TYPE_BIT, MYSQL_TYPE_JSON, MYSQL_TYPE_GEOMETRY, MYSQL_TYPE_VECTOR, MYSQL_TYPE_DATE, MYSQL_TYPE_DATETIME, MYSQL_TYPE_TIMESTAMP, MYSQL_TYPE_TIME, MYSQL_TYPE_NEWDATE, MYSQL_TYPE_TIMESTAMP2, MYSQL_TYPE_DATETIME2, MYSQL_TYPE_TIME2, MYSQL_TYPE_TYPED_ARRAY, MYSQL_TYPE_UNKNOWN}
-use Rattle.mysql_raw.specs.Forms.{fixed_number_at}
+use Rattle.mysql_const.specs.declared.column_type.ColumnType.TheVariants.{MYSQL_TYPE_NULL, MYSQL_TYPE_TINY}
+use Rattle.mysql_const.specs.declared.column_type.ColumnType.TheVariants.{MYSQL_TYPE_SHORT, MYSQL_TYPE_YEAR}
+use Rattle.mysql_const.specs.declared.column_type.ColumnType.TheVariants.{MYSQL_TYPE_LONG, MYSQL_TYPE_INT24}
+use Rattle.mysql_const.specs.declared.column_type.ColumnType.TheVariants.{MYSQL_TYPE_LONGLONG, MYSQL_TYPE_FLOAT}
+use Rattle.mysql_const.specs.declared.column_type.ColumnType.TheVariants.{MYSQL_TYPE_DOUBLE, MYSQL_TYPE_DECIMAL}
+use Rattle.mysql_const.specs.declared.column_type.ColumnType.TheVariants.{MYSQL_TYPE_NEWDECIMAL, MYSQL_TYPE_VARCHAR}
+use Rattle.mysql_const.specs.declared.column_type.ColumnType.TheVariants.{MYSQL_TYPE_VAR_STRING, MYSQL_TYPE_STRING}
+use Rattle.mysql_const.specs.declared.column_type.ColumnType.TheVariants.{MYSQL_TYPE_TINY_BLOB, MYSQL_TYPE_MEDIUM_BLOB}
+use Rattle.mysql_const.specs.declared.column_type.ColumnType.TheVariants.{MYSQL_TYPE_LONG_BLOB, MYSQL_TYPE_BLOB}
+use Rattle.mysql_const.specs.declared.column_type.ColumnType.TheVariants.{MYSQL_TYPE_ENUM, MYSQL_TYPE_SET}
+use Rattle.mysql_const.specs.declared.column_type.ColumnType.TheVariants.{MYSQL_TYPE_BIT, MYSQL_TYPE_JSON}
+use Rattle.mysql_const.specs.declared.column_type.ColumnType.TheVariants.{MYSQL_TYPE_GEOMETRY, MYSQL_TYPE_VECTOR}
+use Rattle.mysql_const.specs.declared.column_type.ColumnType.TheVariants.{MYSQL_TYPE_DATE, MYSQL_TYPE_DATETIME}
+use Rattle.mysql_const.specs.declared.column_type.ColumnType.TheVariants.{MYSQL_TYPE_TIMESTAMP, MYSQL_TYPE_TIME}
+use Rattle.mysql_const.specs.declared.column_type.ColumnType.TheVariants.{MYSQL_TYPE_NEWDATE, MYSQL_TYPE_TIMESTAMP2}
+use Rattle.mysql_const.specs.declared.column_type.ColumnType.TheVariants.{MYSQL_TYPE_DATETIME2, MYSQL_TYPE_TIME2}
+use Rattle.mysql_const.specs.declared.column_type.ColumnType.TheVariants.{MYSQL_TYPE_TYPED_ARRAY, MYSQL_TYPE_UNKNOWN}
+use Rattle.mysql_fields.specs.Forms.{fixed_number_at}
 use Rattle.mysql_const.specs.FlagSets.{contains}
-use Rattle.mysql_raw.specs.Wire.{Reading, ◌>>=◌, or_end}
-use Rattle.mysql_raw.specs.WireError.TheVariants.{UnexpectedEof, BadLength, UnsupportedType}
+use Rattle.mysql_fields.specs.Wire.{Reading, ◌>>=◌, or_end}
+use Rattle.mysql_fields.specs.declared.error.WireError.TheVariants.{UnexpectedEof, BadLength, UnsupportedType}
 use Rattle.mysql_cells.specs.declared.value.Value.{Value}
 use Rattle.mysql_cells.specs.declared.value.Value.TheVariants.{NULL, Bytes, Int, UInt, Float, Double, Date, Time}
 use Rattle.mysql_cells.specs.declared.cell_form.CellForm.{CellForm}
-use Rattle.mysql_cells.specs.declared.cell_form.CellForm.TheVariants.{Nothing, Whole1, Whole2, Whole4, Whole8, FloatBits, DoubleBits, Counted, DateAndTime, Duration, Without}
+use Rattle.mysql_cells.specs.declared.cell_form.CellForm.TheVariants.{Nothing, Whole1, Whole2, Whole4, Whole8}
+use Rattle.mysql_cells.specs.declared.cell_form.CellForm.TheVariants.{FloatBits, DoubleBits, Counted, DateAndTime}
+use Rattle.mysql_cells.specs.declared.cell_form.CellForm.TheVariants.{Duration, Without}
 
 -- WRITING
 
@@ -47,7 +67,8 @@ date_cell year month day hour minute second micros =
 abbrev pub time_cell : Bool → (days hours minutes seconds micros : ℕ) → List ℕ
 time_cell negative days hours minutes seconds micros =
     let size = time_size days hours minutes seconds micros in
-    size ∷ take size ((if negative then 1 else 0) ∷ little_bytes 4 days ++ hours ∷ minutes ∷ seconds ∷ little_bytes 4 micros)
+    size ∷ take size ((if negative then 1 else 0) ∷ little_bytes 4 days ++ hours ∷ minutes ∷
+    seconds ∷ little_bytes 4 micros)
 
 -- the cell of a value by its own type
 abbrev pub cell : Value → List ℕ
@@ -158,11 +179,13 @@ part held least i n = if nat_lt (length held) least then 0 else little_number n 
 
 -- a date from 4 bytes on, with a time of day from 7 on and microseconds from 11 on
 abbrev pub date_of : List ℕ → Value
-date_of held = Date (part held 4 0 2) (part held 4 2 1) (part held 4 3 1) (part held 7 4 1) (part held 7 5 1) (part held 7 6 1) (part held 11 7 4)
+date_of held = Date (part held 4 0 2) (part held 4 2 1) (part held 4 3 1) (part held 7 4 1)
+    (part held 7 5 1) (part held 7 6 1) (part held 11 7 4)
 
 -- a time from 8 bytes on, with microseconds from 12 on; a sign of 1 is negative
 abbrev pub time_of : List ℕ → Value
-time_of held = Time (part held 8 0 1 == 1) (part held 8 1 4) (part held 8 5 1) (part held 8 6 1) (part held 8 7 1) (part held 12 8 4)
+time_of held = Time (part held 8 0 1 == 1) (part held 8 1 4) (part held 8 5 1) (part held 8 6 1)
+    (part held 8 7 1) (part held 12 8 4)
 
 -- a number of so many bytes, as a value
 abbrev pub number_value_at : ℕ → (ℕ → Value) → List ℕ → Reading Value
@@ -202,7 +225,8 @@ has_no_sign flags = contains flags.0 0x20
 abbrev pub column_cell_at : ColumnType × ColumnFlags → List ℕ → Reading Value
 column_cell_at column bytes = cell_at (column_type_number column.0) (has_no_sign column.1) bytes
 
--- The value of the text protocol's cell that stands first: fb for NULL, else length-encoded bytes, whose length ff can't begin.
+-- The value of the text protocol's cell that stands first: fb for NULL, else length-encoded bytes,
+-- whose length ff can't begin.
 unfoldable pub text_cell_at : List ℕ → Reading Value
 text_cell_at [] = Err UnexpectedEof
 text_cell_at (b ∷ bytes) =

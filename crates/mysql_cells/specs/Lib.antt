@@ -1,8 +1,8 @@
 pub use Rattle.mysql_buf.specs.Bytes
 pub use Rattle.mysql_buf.specs.Reading
 pub use Rattle.mysql_buf.specs.Writing
-pub use Rattle.mysql_raw.specs.Forms
-pub use Rattle.mysql_raw.specs.Wire
+pub use Rattle.mysql_fields.specs.Forms
+pub use Rattle.mysql_fields.specs.Wire
 pub mod Values
 pub mod AsSql
 pub mod Cells

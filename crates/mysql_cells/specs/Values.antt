@@ -1,7 +1,8 @@
--- The text of a value in a query, and what it means.
--- MySQL Reference Manual, "Literal Values": "String Literals", "Numeric Literals", "Date and Time Literals", "Hexadecimal Literals", "NULL Values";
--- of the SQL mode NO_BACKSLASH_ESCAPES: "Server SQL Modes".
-use Rattle.std.specs.Prelude.{ℕ, pos, ◌+◌, ◌*◌, ◌-◌, ◌==◌, ◌&&◌, Bool, true, false, not, if◌then◌else◌, List, [], ◌∷◌, ◌++◌, length, replicate, flat_map, codes, is_none, Option, Some, None}
+-- The text of a value in a query, and what it means. MySQL Reference Manual, "Literal Values":
+-- "String Literals", "Numeric Literals", "Date and Time Literals", "Hexadecimal Literals", "NULL
+-- Values"; of the SQL mode NO_BACKSLASH_ESCAPES: "Server SQL Modes".
+use Rattle.std.specs.Prelude.{ℕ, pos, ◌+◌, ◌*◌, ◌-◌, ◌==◌, ◌&&◌, Bool, true, false, not, if◌then◌else◌, List, [], ◌∷◌}
+use Rattle.std.specs.Prelude.{◌++◌, length, replicate, flat_map, codes, is_none, Option, Some, None}
 use Rattle.std.specs.Fmt.{decimal, signed_decimal, sign_text}
 use Rattle.std.specs.List.{position_from}
 use Rattle.std.specs.Str.{is_utf8}
@@ -27,7 +28,8 @@ micros_text micros = if micros == 0 then [] else 0x2e ∷ digits_in 6 micros
 
 -- HH:MM:SS, the hours in at least so many digits
 abbrev pub clock_text : ℕ → ℕ → ℕ → ℕ → List ℕ
-clock_text width hours minutes seconds = digits_in width hours ++ 0x3a ∷ (digits_in 2 minutes ++ 0x3a ∷ digits_in 2 seconds)
+clock_text width hours minutes seconds = digits_in width hours ++ 0x3a ∷
+    (digits_in 2 minutes ++ 0x3a ∷ digits_in 2 seconds)
 
 -- YYYY-MM-DD
 abbrev pub day_text : ℕ → ℕ → ℕ → List ℕ
@@ -35,16 +37,20 @@ day_text year month day = digits_in 4 year ++ 0x2d ∷ (digits_in 2 month ++ 0x2
 
 -- no part of a time is more than 0
 abbrev pub is_zero_time : ℕ → ℕ → ℕ → ℕ → ℕ → Bool
-is_zero_time days hours minutes seconds micros = (days == 0) && (hours == 0) && (minutes == 0) && (seconds == 0) && (micros == 0)
+is_zero_time days hours minutes seconds micros = (days == 0) && (hours == 0) && (minutes == 0) &&
+    (seconds == 0) && (micros == 0)
 
 -- YYYY-MM-DD, and the time of day unless all of it is 0
 abbrev pub date_text : ℕ → ℕ → ℕ → ℕ → ℕ → ℕ → ℕ → List ℕ
 date_text year month day hour minute second micros =
-    day_text year month day ++ (if is_zero_time 0 hour minute second micros then [] else 0x20 ∷ (clock_text 2 hour minute second ++ micros_text micros))
+    day_text year month day ++
+    (if is_zero_time 0 hour minute second micros then [] else 0x20 ∷
+    (clock_text 2 hour minute second ++ micros_text micros))
 
 -- a dash if negative, the days as hours, the minutes and seconds, the microseconds
 abbrev pub time_text : Bool → ℕ → ℕ → ℕ → ℕ → ℕ → List ℕ
-time_text negative days hours minutes seconds micros = sign_text negative ++ (clock_text 3 (days * 24 + hours) minutes seconds ++ micros_text micros)
+time_text negative days hours minutes seconds micros = sign_text negative ++
+    (clock_text 3 (days * 24 + hours) minutes seconds ++ micros_text micros)
 
 -- the value with an all-zero time taken as positive
 abbrev pub without_zero_sign : Value → Value
@@ -66,10 +72,13 @@ plain_content (Int z) = Some (content.Number z)
 plain_content (UInt n) = Some (content.Number (pos n))
 plain_content (Float bits) = None
 plain_content (Double bits) = None
-plain_content (Date year month day hour minute second micros) = Some (content.Bytes (date_text year month day hour minute second micros))
-plain_content (Time negative days hours minutes seconds micros) = Some (content.Bytes (time_text negative days hours minutes seconds micros))
+plain_content (Date year month day hour minute second micros) =
+    Some (content.Bytes (date_text year month day hour minute second micros))
+plain_content (Time negative days hours minutes seconds micros) =
+    Some (content.Bytes (time_text negative days hours minutes seconds micros))
 
--- What a value means: nothing, its number, its bytes, or the text of its date or time, an all-zero time taken as positive. A float has no content.
+-- What a value means: nothing, its number, its bytes, or the text of its date or time, an all-zero
+-- time taken as positive. A float has no content.
 abbrev pub content_of : Value → Option Content
 content_of value = plain_content (without_zero_sign value)
 
@@ -83,12 +92,15 @@ in_quotes text = single_quote ∷ (text ++ single_quote ∷ [])
 
 -- bytes between single quotes where a backslash escapes nothing: single quotes are doubled
 abbrev pub with_doubled_quotes : List ℕ → List ℕ
-with_doubled_quotes bytes = in_quotes (flat_map (λ b. if b == single_quote then single_quote ∷ single_quote ∷ [] else b ∷ []) bytes)
+with_doubled_quotes bytes =
+    in_quotes (flat_map (λ b. if b == single_quote then single_quote ∷ single_quote ∷ [] else b ∷
+    []) bytes)
 
 -- bytes that are UTF-8 between quotes, escaped for the mode, and others in hexadecimal
 abbrev pub bytes_sql : Bool → List ℕ → List ℕ
 bytes_sql no_backslash_escape bytes =
-    if is_utf8 bytes then (if no_backslash_escape then with_doubled_quotes bytes else quoted bytes) else in_hexadecimal bytes
+    if is_utf8 bytes then (if no_backslash_escape then with_doubled_quotes bytes else quoted bytes)
+    else in_hexadecimal bytes
 
 -- The SQL text of a value, for a server that takes backslash escapes or for one that doesn't. Floats have none.
 abbrev pub sql_of : Bool → Value → Option (List ℕ)
@@ -98,8 +110,10 @@ sql_of no_backslash_escape (Int z) = Some (signed_decimal z)
 sql_of no_backslash_escape (UInt n) = Some (decimal n)
 sql_of no_backslash_escape (Float bits) = None
 sql_of no_backslash_escape (Double bits) = None
-sql_of no_backslash_escape (Date year month day hour minute second micros) = Some (in_quotes (date_text year month day hour minute second micros))
-sql_of no_backslash_escape (Time negative days hours minutes seconds micros) = Some (in_quotes (time_text negative days hours minutes seconds micros))
+sql_of no_backslash_escape (Date year month day hour minute second micros) =
+    Some (in_quotes (date_text year month day hour minute second micros))
+sql_of no_backslash_escape (Time negative days hours minutes seconds micros) =
+    Some (in_quotes (time_text negative days hours minutes seconds micros))
 
 -- the literal that is bound for a value: its SQL text with backslash escapes, an all-zero time taken as positive
 abbrev pub literal_of : Value → Option (List ℕ)

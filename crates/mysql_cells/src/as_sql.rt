@@ -96,11 +96,14 @@ pub fn push_literal(out: &mut Vec<u8>, value: &Value) -> Result<(), AsSqlError>
 }
 
 impl Value {
-    /// The SQL text of the value: `NULL`, digits, a date or a time in quotes, UTF-8 in quotes, other bytes in hexadecimal.
+    /// The SQL text of the value: `NULL`, digits, a date or a time in quotes, UTF-8 in quotes,
+    /// other bytes in hexadecimal.
     ///
-    /// **Safe for** a server that takes backslash escapes, over a connection in UTF-8. With `no_backslash_escape` it is for one in
-    /// the SQL mode NO_BACKSLASH_ESCAPES: single quotes are doubled, and no other byte is escaped. By the wrong one of both, or in
-    /// a character set with a quote or a backslash among the bytes of a character, a value may end its literal.
+    /// **Safe for** a server that takes backslash escapes, over a connection in UTF-8. With
+    /// `no_backslash_escape` it is for one in
+    /// the SQL mode NO_BACKSLASH_ESCAPES: single quotes are doubled, and no other byte is escaped.
+    /// By the wrong one of both, or in a character set with a quote or a backslash among the bytes
+    /// of a character, a value may end its literal.
     ///
     /// Refuses `Float` for a float, then `Memory`.
     ///

@@ -2,7 +2,8 @@
 
 ghost use Rattle.std.specs.Prelude.{◌≡◌, ◌+◌, ◌≤◌};
 ghost use Rattle.std.specs.Int.{w8, w16, w32, w64};
-ghost use Rattle.mysql_cells.specs.Cells.{date_of, form as form_by_type, form_of, part, time_of, unsigned_value, whole_value};
+ghost use Rattle.mysql_cells.specs.Cells.{date_of, form as form_by_type, form_of, part, time_of, unsigned_value};
+ghost use Rattle.mysql_cells.specs.Cells.{whole_value};
 
 use crate::cell_form::CellForm;
 use crate::value::Value;

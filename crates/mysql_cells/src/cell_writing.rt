@@ -1,7 +1,7 @@
 //! Cells as they are written.
 
 ghost use Rattle.mysql_cells.specs.Cells.{date_cell, date_size, time_cell, time_size};
-ghost use Rattle.mysql_raw.specs.Wire.{Appends};
+ghost use Rattle.mysql_fields.specs.Wire.{Appends};
 ghost use Rattle.std.specs.Prelude.{◌≡◌};
 
 use std::alloc::AllocError;

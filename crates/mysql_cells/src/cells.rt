@@ -1,9 +1,10 @@
 //! Cells: values as the binary protocol carries them, and as rows of the text protocol do.
 
-ghost use Rattle.mysql_cells.specs.Cells.{bin_len, cell, cell_at, is_unsigned as is_sent_unsigned, text_cell_at, type_of, value_at};
-ghost use Rattle.mysql_raw.specs.Wire.{Gives, GivesPart, or_end};
+ghost use Rattle.mysql_cells.specs.Cells.{bin_len, cell, cell_at, is_unsigned as is_sent_unsigned, text_cell_at};
+ghost use Rattle.mysql_cells.specs.Cells.{type_of, value_at};
+ghost use Rattle.mysql_fields.specs.Wire.{Gives, GivesPart, or_end};
 ghost use Rattle.mysql_cells.specs.declared.cell_form.CellForm.TheVariants as cell_form;
-ghost use Rattle.mysql_raw.specs.WireError.TheVariants as wire;
+ghost use Rattle.mysql_fields.specs.declared.error.WireError.TheVariants as wire;
 ghost use Rattle.std.specs.Prelude.{◌≡◌, ◌≢◌, Err, IfNone, IfSome, Ok};
 
 use crate::cell_form::CellForm;
@@ -12,14 +13,15 @@ use crate::cell_writing::{date_size, put_date, put_time, time_size};
 use crate::value::Value;
 use mysql_buf::{BufMutExt, ParseBuf, lenenc_str_len};
 use mysql_const::ColumnType;
+use mysql_fields::{IntRepr, LeI64, LeU32, LeU64, MySerialize, WireError};
 use mysql_queries::ByteString;
-use mysql_raw::{IntRepr, LeI64, LeU32, LeU64, MySerialize, WireError};
 use std::alloc::{AllocError, Global};
 
 /// The value of a cell that needs no memory; None where the bytes end before it does. What is left then isn't said.
 fn plain_value(form: CellForm, unsigned: bool, buf: &mut ParseBuf) -> Option<Value>
     ensures some { IfSome result (λ value. value_at form unsigned buf.old.0.now ≡ Ok (value, buf.new.0.now)) }
-    ensures none { IfNone result (form ≢ cell_form.Counted → form ≢ cell_form.Without → value_at form unsigned buf.old.0.now ≡ Err wire.UnexpectedEof) }
+    ensures none { IfNone result (form ≢ cell_form.Counted → form ≢ cell_form.Without →
+        value_at form unsigned buf.old.0.now ≡ Err wire.UnexpectedEof) }
 {
     match form {
         CellForm::Nothing => Some(Value::NULL),
@@ -63,12 +65,14 @@ fn there<T>(first: Option<T>) -> Result<T, WireError>
 
 /// Reads the cell of the binary protocol that stands first.
 ///
-/// `column_type` is the number of the cell's type, and `unsigned` whether the type's whole numbers have no sign. A whole number comes as
-/// `Int` where it fits, else as `UInt`. An overlong length is read. Of a date or a time the fields that its length leaves out are 0,
-/// and bytes behind its last field are skipped.
+/// `column_type` is the number of the cell's type, and `unsigned` whether the type's whole numbers
+/// have no sign. A whole number comes as `Int` where it fits, else as `UInt`. An overlong length is
+/// read. Of a date or a time the fields that its length leaves out are 0, and bytes behind its last
+/// field are skipped.
 ///
 /// # Errors
-/// `UnsupportedType` for a type without cells, `UnexpectedEof` where the bytes end before the cell does, then `Memory`. All bytes are then left.
+/// `UnsupportedType` for a type without cells, `UnexpectedEof` where the bytes end before the cell
+/// does, then `Memory`. All bytes are then left.
 ///
 /// Follows "Binary Protocol Value" of the client/server protocol documentation.
 #[tactic(auto, unfolding(crate::specs::Cells::cell_at))]
@@ -89,7 +93,8 @@ pub fn read_cell(
 /// Reads the cell of the text protocol that stands first: NULL or bytes.
 ///
 /// # Errors
-/// `UnexpectedEof` where the bytes end before the cell does, `BadLength` where the first one is ff, then `Memory`. All bytes are then left.
+/// `UnexpectedEof` where the bytes end before the cell does, `BadLength` where the first one is ff,
+/// then `Memory`. All bytes are then left.
 ///
 /// Follows "Text Resultset Row" of the client/server protocol documentation.
 #[tactic(auto, unfolding(crate::specs::Cells::text_cell_at))]
@@ -113,8 +118,8 @@ pub fn read_text_cell(alloc: Global, buf: &mut ParseBuf) -> Result<Value, WireEr
     }
 }
 
-/// The cell of the value by the type that the value is sent by: whole numbers in 8 bytes, bytes behind their length, dates and times in the
-/// shortest form that keeps them. NULL has no byte.
+/// The cell of the value by the type that the value is sent by: whole numbers in 8 bytes, bytes
+/// behind their length, dates and times in the shortest form that keeps them. NULL has no byte.
 ///
 /// Follows "Binary Protocol Value" of the client/server protocol documentation.
 impl MySerialize for Value {

@@ -1,8 +1,9 @@
 //! The texts of numbers, dates and times.
-#![tactic(auto, using(crate::proofs::Appended::kept_front, crate::proofs::Appended::kept_whole, crate::proofs::Appended::kept_behind))]
+#![tactic(auto, using(crate::proofs::Appended::what_is_kept))]
 
 ghost use Rattle.mysql_cells.specs.AsSql.{Puts, part_text, time_of_day_text};
-ghost use Rattle.mysql_cells.specs.Values.{clock_text, date_text, day_text, digits_in, in_quotes, is_zero_time, micros_text, time_text};
+ghost use Rattle.mysql_cells.specs.Values.{clock_text, date_text, day_text, digits_in, in_quotes, is_zero_time};
+ghost use Rattle.mysql_cells.specs.Values.{micros_text, time_text};
 ghost use Rattle.std.specs.Fmt.{decimal, signed_decimal};
 ghost use Rattle.std.specs.Prelude.{◌++◌, ◌<◌, ◌^◌, ◌≡◌};
 
@@ -174,7 +175,8 @@ pub fn put_time(
     seconds: u8,
     micros: u32,
 ) -> Result<(), AllocError>
-    ensures { Puts (in_quotes (time_text negative days hours minutes seconds micros)) out.old.items out.new.items result }
+    ensures { Puts (in_quotes (time_text negative days hours minutes seconds micros)) out.old.items
+        out.new.items result }
 {
     out.push(b'\'')?;
     put_time_text(out, negative, days, hours, minutes, seconds, micros)?;

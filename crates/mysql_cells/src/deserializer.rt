@@ -2,7 +2,7 @@
 
 ghost use Rattle.mysql_cells.specs.Cells.{column_cell_at, has_no_sign, text_cell_at};
 ghost use Rattle.mysql_cells.specs.declared.value.Value.{Value as ValueOf};
-ghost use Rattle.mysql_raw.specs.Laws.{unsized};
+ghost use Rattle.mysql_fields.specs.Laws.{unsized};
 ghost use Rattle.std.specs.Prelude.{◌≡◌, None};
 
 use crate::cells::{read_cell, read_text_cell};
@@ -10,7 +10,7 @@ use crate::value::Value;
 use bitflags::Flags;
 use mysql_buf::ParseBuf;
 use mysql_const::{ColumnFlags, ColumnType};
-use mysql_raw::{MyDeserialize, Readable, WireError};
+use mysql_fields::{MyDeserialize, Readable, WireError};
 use std::alloc::Global;
 use std::marker::PhantomData;
 

@@ -9,8 +9,8 @@ use mysql_queries::{ByteString, Content};
 use std::alloc::{AllocError, Global};
 
 impl Value {
-    /// What the value means: nothing, its number, its bytes, or the text of its date or time, an all-zero time taken as positive. None of a
-    /// float.
+    /// What the value means: nothing, its number, its bytes, or the text of its date or time, an
+    /// all-zero time taken as positive. None of a float.
     ///
     /// Bytes are moved, not copied.
     ///

@@ -1,5 +1,5 @@
 //! Bytes as literals: between quotes, or in hexadecimal.
-#![tactic(auto, using(crate::proofs::Appended::kept_front, crate::proofs::Appended::kept_whole, crate::proofs::Appended::kept_behind))]
+#![tactic(auto, using(crate::proofs::Appended::what_is_kept))]
 
 ghost use Rattle.mysql_cells.specs.AsSql.{Puts, byte_in_quotes};
 ghost use Rattle.mysql_cells.specs.Values.{bytes_sql, in_quotes};
@@ -44,7 +44,8 @@ fn is_special(byte: u8) -> bool
     matches!(byte, 0 | b'\n' | b'\r' | 0x1a | b'\\' | b'\'' | b'"')
 }
 
-/// Whether each byte stands for itself in each mode. There is no way out of the loop, so that many bytes are compared at a time.
+/// Whether each byte stands for itself in each mode. There is no way out of the loop, so that many
+/// bytes are compared at a time.
 fn is_plain(bytes: &[u8]) -> bool
     ensures { result ≡ true → (mode : Bool) → flat_map (byte_in_quotes mode) bytes.now ≡ bytes.now }
 {
@@ -74,7 +75,8 @@ fn put_each(out: &mut Vec<u8>, bytes: &[u8], no_backslash_escape: bool) -> Resul
     Ok(())
 }
 
-/// Appends bytes as they stand between quotes, all at once where none is escaped; the test isn't worth its time for a few.
+/// Appends bytes as they stand between quotes, all at once where none is escaped; the test isn't
+/// worth its time for a few.
 fn put_block(out: &mut Vec<u8>, bytes: &[u8], no_backslash_escape: bool) -> Result<(), AllocError>
     ensures { Puts (flat_map (byte_in_quotes no_backslash_escape) bytes.now) out.old.items out.new.items result }
 {
@@ -102,7 +104,8 @@ fn put_escaped(out: &mut Vec<u8>, bytes: &[u8], no_backslash_escape: bool) -> Re
 
 /// Appends bytes between single quotes.
 fn put_quoted(out: &mut Vec<u8>, bytes: &[u8], no_backslash_escape: bool) -> Result<(), AllocError>
-    ensures { Puts (in_quotes (flat_map (byte_in_quotes no_backslash_escape) bytes.now)) out.old.items out.new.items result }
+    ensures { Puts (in_quotes (flat_map (byte_in_quotes no_backslash_escape) bytes.now))
+        out.old.items out.new.items result }
 {
     out.reserve(bytes.len() + 2)?;
     out.push(b'\'')?;

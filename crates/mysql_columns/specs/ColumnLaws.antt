@@ -1,18 +1,37 @@
 -- What was written of a column is read back.
-use Rattle.std.proofs.Common.{◌≡◌, ℕ, ◌^◌, ◌<◌, List, [], ◌∷◌, ◌++◌, length, replicate, Ok, refl, ap, ◌∙◌, append_assoc, lit<}
+use Rattle.std.proofs.Common.{◌≡◌, ℕ, ◌^◌, ◌<◌, List, [], ◌∷◌, ◌++◌, length, replicate, Ok, refl, ap, ◌∙◌, append_assoc}
+use Rattle.std.proofs.Common.{lit<}
 use Rattle.std.specs.List.{concat}
 use Rattle.byteorder.specs.Endian.{little_bytes}
 use Rattle.mysql_buf.specs.Writing.{lenenc_str}
 use Rattle.mysql_const.specs.ColumnTypes.{column_type_named, column_type_number}
 use Rattle.mysql_const.specs.NamedLaws.{column_type-names_back}
 use Rattle.mysql_const.specs.declared.column_type.ColumnType.{ColumnType}
-use Rattle.mysql_const.specs.declared.column_type.ColumnType.TheVariants.{MYSQL_TYPE_DECIMAL, MYSQL_TYPE_TINY, MYSQL_TYPE_SHORT, MYSQL_TYPE_LONG, MYSQL_TYPE_FLOAT, MYSQL_TYPE_DOUBLE, MYSQL_TYPE_NULL, MYSQL_TYPE_TIMESTAMP, MYSQL_TYPE_LONGLONG, MYSQL_TYPE_INT24, MYSQL_TYPE_DATE, MYSQL_TYPE_TIME, MYSQL_TYPE_DATETIME, MYSQL_TYPE_YEAR, MYSQL_TYPE_NEWDATE, MYSQL_TYPE_VARCHAR, MYSQL_TYPE_BIT, MYSQL_TYPE_TIMESTAMP2, MYSQL_TYPE_DATETIME2, MYSQL_TYPE_TIME2, MYSQL_TYPE_TYPED_ARRAY, MYSQL_TYPE_VECTOR, MYSQL_TYPE_UNKNOWN, MYSQL_TYPE_JSON, MYSQL_TYPE_NEWDECIMAL, MYSQL_TYPE_ENUM, MYSQL_TYPE_SET, MYSQL_TYPE_TINY_BLOB, MYSQL_TYPE_MEDIUM_BLOB, MYSQL_TYPE_LONG_BLOB, MYSQL_TYPE_BLOB, MYSQL_TYPE_VAR_STRING, MYSQL_TYPE_STRING, MYSQL_TYPE_GEOMETRY}
-use Rattle.mysql_raw.specs.Forms.{fixed_number_at}
-use Rattle.mysql_raw.specs.Laws.{bytes_at-back, fixed_number_at-back}
-use Rattle.mysql_raw_bytes.specs.TextLaws.{lenenc_text_at-back}
-use Rattle.mysql_raw_consts.specs.ConstantLaws.{constant_at-back, named_at-back, text_constant_at-back}
-use Rattle.mysql_raw_consts.specs.Constants.{named_at}
-use Rattle.mysql_columns.specs.Columns.{ColumnDefinition, ColumnFields, IsColumn, catalog, column, column_at, column_fields, column_fields_at, column_names, column_names_at, fields_in, names_in}
+use Rattle.mysql_const.specs.declared.column_type.ColumnType.TheVariants.{MYSQL_TYPE_DECIMAL, MYSQL_TYPE_TINY}
+use Rattle.mysql_const.specs.declared.column_type.ColumnType.TheVariants.{MYSQL_TYPE_SHORT, MYSQL_TYPE_LONG}
+use Rattle.mysql_const.specs.declared.column_type.ColumnType.TheVariants.{MYSQL_TYPE_FLOAT, MYSQL_TYPE_DOUBLE}
+use Rattle.mysql_const.specs.declared.column_type.ColumnType.TheVariants.{MYSQL_TYPE_NULL, MYSQL_TYPE_TIMESTAMP}
+use Rattle.mysql_const.specs.declared.column_type.ColumnType.TheVariants.{MYSQL_TYPE_LONGLONG, MYSQL_TYPE_INT24}
+use Rattle.mysql_const.specs.declared.column_type.ColumnType.TheVariants.{MYSQL_TYPE_DATE, MYSQL_TYPE_TIME}
+use Rattle.mysql_const.specs.declared.column_type.ColumnType.TheVariants.{MYSQL_TYPE_DATETIME, MYSQL_TYPE_YEAR}
+use Rattle.mysql_const.specs.declared.column_type.ColumnType.TheVariants.{MYSQL_TYPE_NEWDATE, MYSQL_TYPE_VARCHAR}
+use Rattle.mysql_const.specs.declared.column_type.ColumnType.TheVariants.{MYSQL_TYPE_BIT, MYSQL_TYPE_TIMESTAMP2}
+use Rattle.mysql_const.specs.declared.column_type.ColumnType.TheVariants.{MYSQL_TYPE_DATETIME2, MYSQL_TYPE_TIME2}
+use Rattle.mysql_const.specs.declared.column_type.ColumnType.TheVariants.{MYSQL_TYPE_TYPED_ARRAY, MYSQL_TYPE_VECTOR}
+use Rattle.mysql_const.specs.declared.column_type.ColumnType.TheVariants.{MYSQL_TYPE_UNKNOWN, MYSQL_TYPE_JSON}
+use Rattle.mysql_const.specs.declared.column_type.ColumnType.TheVariants.{MYSQL_TYPE_NEWDECIMAL, MYSQL_TYPE_ENUM}
+use Rattle.mysql_const.specs.declared.column_type.ColumnType.TheVariants.{MYSQL_TYPE_SET, MYSQL_TYPE_TINY_BLOB}
+use Rattle.mysql_const.specs.declared.column_type.ColumnType.TheVariants.{MYSQL_TYPE_MEDIUM_BLOB, MYSQL_TYPE_LONG_BLOB}
+use Rattle.mysql_const.specs.declared.column_type.ColumnType.TheVariants.{MYSQL_TYPE_BLOB, MYSQL_TYPE_VAR_STRING}
+use Rattle.mysql_const.specs.declared.column_type.ColumnType.TheVariants.{MYSQL_TYPE_STRING, MYSQL_TYPE_GEOMETRY}
+use Rattle.mysql_fields.specs.Forms.{fixed_number_at}
+use Rattle.mysql_fields.specs.Laws.{bytes_at-back, fixed_number_at-back}
+use Rattle.mysql_fields.specs.TextLaws.{lenenc_text_at-back}
+use Rattle.mysql_field_constants.specs.ConstantLaws.{constant_at-back, named_at-back, text_constant_at-back}
+use Rattle.mysql_field_constants.specs.Constants.{named_at}
+use Rattle.mysql_columns.specs.Columns.{ColumnDefinition, ColumnFields, IsColumn, catalog, column, column_at}
+use Rattle.mysql_columns.specs.Columns.{column_fields, column_fields_at, column_names, column_names_at, fields_in}
+use Rattle.mysql_columns.specs.Columns.{names_in}
 
 -- fields, and what follows them
 abbrev pub before : List (List ℕ) → List ℕ → List ℕ
@@ -21,7 +40,8 @@ before (field ∷ fields) rest = field ++ before fields rest
 
 pub joined_before : (fields : List (List ℕ)) (rest : List ℕ) → concat fields ++ rest ≡ before fields rest
 joined_before [] rest = refl
-joined_before (field ∷ fields) rest = append_assoc field (concat fields) rest ∙ ap (λ (later : List ℕ). field ++ later) (joined_before fields rest)
+joined_before (field ∷ fields) rest = append_assoc field (concat fields) rest ∙
+    ap (λ (later : List ℕ). field ++ later) (joined_before fields rest)
 
 -- the number of a type fits a byte
 type_number-bound : (t : ColumnType) → column_type_number t < 2 ^ 8
@@ -60,19 +80,24 @@ type_number-bound MYSQL_TYPE_VAR_STRING = lit< tt
 type_number-bound MYSQL_TYPE_STRING = lit< tt
 type_number-bound MYSQL_TYPE_GEOMETRY = lit< tt
 
-type-back : (t : ColumnType) (rest : List ℕ) → named_at column_type_named (fixed_number_at 1) (little_bytes 1 (column_type_number t) ++ rest) ≡ Ok (t, rest)
+type-back : (t : ColumnType) (rest : List ℕ) →
+    named_at column_type_named (fixed_number_at 1) (little_bytes 1 (column_type_number t) ++ rest) ≡
+    Ok (t, rest)
 type-back t rest =
-    named_at-back column_type_named column_type_number (fixed_number_at 1) (little_bytes 1) t rest (column_type-names_back t)
+    named_at-back column_type_named column_type_number (fixed_number_at 1) (little_bytes 1) t rest
+    (column_type-names_back t)
     (fixed_number_at-back 1 (column_type_number t) rest (type_number-bound t))
 
-names-back : (p : ColumnDefinition) (rest : List ℕ) → IsColumn p → column_names_at (column_names (names_in p) ++ rest) ≡ Ok (names_in p, rest)
+names-back : (p : ColumnDefinition) (rest : List ℕ) → IsColumn p →
+    column_names_at (column_names (names_in p) ++ rest) ≡ Ok (names_in p, rest)
 unfolding column_names column_names_at
 names-back p rest h =
     let org_name = lenenc_str p.org_name ++ rest in
     let name = lenenc_str p.name ++ org_name in
     let org_table = lenenc_str p.org_table ++ name in
     let table = lenenc_str p.table ++ org_table in
-    let fields = lenenc_str p.schema ∷ lenenc_str p.table ∷ lenenc_str p.org_table ∷ lenenc_str p.name ∷ lenenc_str p.org_name ∷ [] in
+    let fields = lenenc_str p.schema ∷ lenenc_str p.table ∷ lenenc_str p.org_table ∷
+    lenenc_str p.name ∷ lenenc_str p.org_name ∷ [] in
     ap column_names_at (joined_before fields rest) ∙ rw (
       lenenc_text_at-back p.schema table h.schema,
       lenenc_text_at-back p.table org_table h.table,
@@ -81,7 +106,8 @@ names-back p rest h =
       lenenc_text_at-back p.org_name rest h.org_name,
     ) refl
 
-fields-back : (p : ColumnDefinition) → IsColumn p → column_fields_at (column_fields (fields_in p)) ≡ Ok (fields_in p, replicate 2 0)
+fields-back : (p : ColumnDefinition) → IsColumn p → column_fields_at (column_fields (fields_in p)) ≡
+    Ok (fields_in p, replicate 2 0)
 unfolding column_fields column_fields_at
 fields-back p h =
     let filler : List ℕ = replicate 2 0 in

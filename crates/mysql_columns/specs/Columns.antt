@@ -8,10 +8,10 @@ use Rattle.mysql_buf.specs.Writing.{lenenc_str}
 use Rattle.mysql_const.specs.declared.column_flags.ColumnFlags.{ColumnFlags}
 use Rattle.mysql_const.specs.declared.column_type.ColumnType.{ColumnType}
 use Rattle.mysql_const.specs.ColumnTypes.{column_type_named, column_type_number}
-use Rattle.mysql_raw.specs.Wire.{Reading, ◌>>=◌}
-use Rattle.mysql_raw.specs.Forms.{bytes_at, fixed_number_at}
-use Rattle.mysql_raw_bytes.specs.Texts.{lenenc_text_at}
-use Rattle.mysql_raw_consts.specs.Constants.{constant_at, named_at, text_constant_at}
+use Rattle.mysql_fields.specs.Wire.{Reading, ◌>>=◌}
+use Rattle.mysql_fields.specs.Forms.{bytes_at, fixed_number_at}
+use Rattle.mysql_fields.specs.Texts.{lenenc_text_at}
+use Rattle.mysql_field_constants.specs.Constants.{constant_at, named_at, text_constant_at}
 
 -- What a column packet says.
 pub record ColumnDefinition : Type 0 where
@@ -30,7 +30,8 @@ pub record ColumnDefinition : Type 0 where
 abbrev pub catalog : List ℕ
 catalog = 3 ∷ 100 ∷ 101 ∷ 102 ∷ []
 
--- The names of a column: of its schema, of its table in the query and in the schema, and its own in the query and in the table.
+-- The names of a column: of its schema, of its table in the query and in the schema, and its own in
+-- the query and in the table.
 pub record ColumnNames : Type 0 where
   pub schema : List ℕ
   pub table : List ℕ
@@ -41,7 +42,8 @@ pub record ColumnNames : Type 0 where
 -- Each name after its length.
 unfoldable pub column_names : ColumnNames → List ℕ
 column_names n =
-    concat (lenenc_str n.schema ∷ lenenc_str n.table ∷ lenenc_str n.org_table ∷ lenenc_str n.name ∷ lenenc_str n.org_name ∷ [])
+    concat (lenenc_str n.schema ∷ lenenc_str n.table ∷ lenenc_str n.org_table ∷ lenenc_str n.name ∷
+    lenenc_str n.org_name ∷ [])
 
 unfoldable pub column_names_at : List ℕ → Reading ColumnNames
 column_names_at bytes = do
@@ -67,7 +69,8 @@ pub record ColumnFields : Type 0 where
 unfoldable pub column_fields : ColumnFields → List ℕ
 column_fields f =
     concat (
-    little_bytes 1 12 ∷ little_bytes 2 f.character_set ∷ little_bytes 4 f.column_length ∷ little_bytes 1 (column_type_number f.column_type)
+    little_bytes 1 12 ∷ little_bytes 2 f.character_set ∷ little_bytes 4 f.column_length ∷
+    little_bytes 1 (column_type_number f.column_type)
     ∷ little_bytes 2 f.flags.0 ∷ little_bytes 1 f.decimals ∷ replicate 2 0 ∷ [])
 
 -- The filler bytes are not looked at.
@@ -107,7 +110,14 @@ column_with names fields = record {
 
 -- The names of a column, and its fields of a fixed length.
 abbrev pub names_in : ColumnDefinition → ColumnNames
-names_in p = record { schema = p.schema; table = p.table; org_table = p.org_table; name = p.name; org_name = p.org_name }
+names_in p = record {
+  schema = p.schema;
+  table = p.table;
+  org_table = p.org_table;
+  name =
+      p.name;
+  org_name = p.org_name;
+}
 
 abbrev pub fields_in : ColumnDefinition → ColumnFields
 fields_in p = record {

@@ -4,11 +4,13 @@ ghost use Rattle.std.specs.Prelude.{◌≡◌, [], IfOk, IsOkUnless, None, true}
 ghost use Rattle.std.specs.Cow.{cow_str_bytes};
 ghost use Rattle.std.specs.Str.{encode_utf8_all};
 ghost use Rattle.bstr.specs.Utf8.{lossy_chars};
-ghost use Rattle.mysql_raw.specs.Laws.{unsized};
-ghost use Rattle.mysql_raw.specs.Wire.{TellsPart};
-ghost use Rattle.mysql_raw.specs.WireError.TheVariants as wire;
+ghost use Rattle.mysql_fields.specs.Laws.{unsized};
+ghost use Rattle.mysql_fields.specs.Wire.{TellsPart};
+ghost use Rattle.mysql_fields.specs.declared.error.WireError.TheVariants as wire;
 ghost use Rattle.mysql_columns.specs.ColumnLaws.{column_at-back};
-ghost use Rattle.mysql_columns.specs.Columns.{ColumnDefinition, IsColumn, column, column_at, column_fields, column_fields_at, column_names, column_names_at, column_with, fields_in, names_in};
+ghost use Rattle.mysql_columns.specs.Columns.{ColumnDefinition, IsColumn, column, column_at, column_fields};
+ghost use Rattle.mysql_columns.specs.Columns.{column_fields_at, column_names, column_names_at, column_with, fields_in};
+ghost use Rattle.mysql_columns.specs.Columns.{names_in};
 ghost use Rattle.mysql_columns.specs.Views.{column_view, fields_view, names_view};
 
 use crate::headers::{ColumnDefinitionCatalog, FixedLengthFieldsLen};
@@ -16,11 +18,11 @@ use crate::texts::{LenencText, lossy, text_of};
 use bitflags::Flags;
 use mysql_buf::ParseBuf;
 use mysql_const::{ColumnFlags, ColumnType};
-use mysql_raw::{
+use mysql_field_constants::{Const, Skip};
+use mysql_fields::{
     LeU16, LeU32, MyDeserialize, MySerialize, ParseExt, RawInt, Readable, ReadsBack, WireError,
     in_order,
 };
-use mysql_raw_consts::{Const, Skip};
 use std::alloc::{AllocError, Global};
 use std::borrow::CowStr;
 
@@ -155,10 +157,12 @@ impl Column {
         self.schema.as_slice()
     }
 
-    /// The name of the column's schema, as text, where bytes that aren't UTF-8 are replaced. Refused for want of memory.
+    /// The name of the column's schema, as text, where bytes that aren't UTF-8 are replaced.
+    /// Refused for want of memory.
     pub fn schema_str(&self, alloc: Global) -> Result<CowStr<'_>, WireError>
         ensures memory { IsOkUnless result wire.Memory }
-        ensures value { IfOk result (λ text. cow_str_bytes text ≡ encode_utf8_all (lossy_chars (column_view self.now).schema)) }
+        ensures value { IfOk result (λ text. cow_str_bytes text ≡
+            encode_utf8_all (lossy_chars (column_view self.now).schema)) }
     {
         lossy(alloc, self.schema_ref())
     }
@@ -170,10 +174,12 @@ impl Column {
         self.table.as_slice()
     }
 
-    /// The name of its table in the query, as text, where bytes that aren't UTF-8 are replaced. Refused for want of memory.
+    /// The name of its table in the query, as text, where bytes that aren't UTF-8 are replaced.
+    /// Refused for want of memory.
     pub fn table_str(&self, alloc: Global) -> Result<CowStr<'_>, WireError>
         ensures memory { IsOkUnless result wire.Memory }
-        ensures value { IfOk result (λ text. cow_str_bytes text ≡ encode_utf8_all (lossy_chars (column_view self.now).table)) }
+        ensures value { IfOk result (λ text. cow_str_bytes text ≡
+            encode_utf8_all (lossy_chars (column_view self.now).table)) }
     {
         lossy(alloc, self.table_ref())
     }
@@ -185,10 +191,12 @@ impl Column {
         self.org_table.as_slice()
     }
 
-    /// The name of its table in the schema, as text, where bytes that aren't UTF-8 are replaced. Refused for want of memory.
+    /// The name of its table in the schema, as text, where bytes that aren't UTF-8 are replaced.
+    /// Refused for want of memory.
     pub fn org_table_str(&self, alloc: Global) -> Result<CowStr<'_>, WireError>
         ensures memory { IsOkUnless result wire.Memory }
-        ensures value { IfOk result (λ text. cow_str_bytes text ≡ encode_utf8_all (lossy_chars (column_view self.now).org_table)) }
+        ensures value { IfOk result (λ text. cow_str_bytes text ≡
+            encode_utf8_all (lossy_chars (column_view self.now).org_table)) }
     {
         lossy(alloc, self.org_table_ref())
     }
@@ -203,7 +211,8 @@ impl Column {
     /// Its name in the query, as text, where bytes that aren't UTF-8 are replaced. Refused for want of memory.
     pub fn name_str(&self, alloc: Global) -> Result<CowStr<'_>, WireError>
         ensures memory { IsOkUnless result wire.Memory }
-        ensures value { IfOk result (λ text. cow_str_bytes text ≡ encode_utf8_all (lossy_chars (column_view self.now).name)) }
+        ensures value { IfOk result (λ text. cow_str_bytes text ≡
+            encode_utf8_all (lossy_chars (column_view self.now).name)) }
     {
         lossy(alloc, self.name_ref())
     }
@@ -218,7 +227,8 @@ impl Column {
     /// Its name in the table, as text, where bytes that aren't UTF-8 are replaced. Refused for want of memory.
     pub fn org_name_str(&self, alloc: Global) -> Result<CowStr<'_>, WireError>
         ensures memory { IsOkUnless result wire.Memory }
-        ensures value { IfOk result (λ text. cow_str_bytes text ≡ encode_utf8_all (lossy_chars (column_view self.now).org_name)) }
+        ensures value { IfOk result (λ text. cow_str_bytes text ≡
+            encode_utf8_all (lossy_chars (column_view self.now).org_name)) }
     {
         lossy(alloc, self.org_name_ref())
     }
@@ -453,9 +463,9 @@ impl ReadsBack for Column {
     ghost reads_back = { λ _ p. column_at-back (column_view p) };
 }
 
-/// Reads a column, whose names are copied. Refused, from the left, by UnexpectedEof where it is cut off, by BadConstant for
-/// another catalog than `def` or another length of the fixed fields than 12, by UnknownValue for a type without a name, then
-/// by Memory.
+/// Reads a column, whose names are copied. Refused, from the left, by UnexpectedEof where it is cut
+/// off, by BadConstant for another catalog than `def` or another length of the fixed fields than
+/// 12, by UnknownValue for a type without a name, then by Memory.
 ///
 /// MySQL: Client/Server Protocol, "Column Definition".
 #[tactic(auto, unfolding(crate::specs::Columns::column_at))]

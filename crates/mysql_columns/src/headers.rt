@@ -4,7 +4,7 @@ ghost use Rattle.std.specs.Prelude.{refl};
 ghost use Rattle.std.proofs.Common.{lit<};
 ghost use Rattle.mysql_columns.specs.Columns.{catalog};
 
-use mysql_raw_consts::{ConstBytes, ConstBytesValue, ConstU8};
+use mysql_field_constants::{ConstBytes, ConstBytesValue, ConstU8};
 use thiserror::Error;
 
 /// Another catalog than `def`.

@@ -5,14 +5,13 @@ ghost use Rattle.std.specs.Cow.{cow_str_bytes};
 ghost use Rattle.std.specs.Str.{encode_utf8_all};
 ghost use Rattle.bstr.specs.Utf8.{lossy_chars};
 ghost use Rattle.mysql_buf.specs.Writing.{lenenc_str};
-ghost use Rattle.mysql_raw.specs.Wire.{TellsPart};
-ghost use Rattle.mysql_raw.specs.WireError.TheVariants as wire;
-ghost use Rattle.mysql_raw_bytes.specs.Texts.{lenenc_text_at};
+ghost use Rattle.mysql_fields.specs.Wire.{TellsPart};
+ghost use Rattle.mysql_fields.specs.declared.error.WireError.TheVariants as wire;
+ghost use Rattle.mysql_fields.specs.Texts.{lenenc_text_at};
 
 use bstr::ByteSlice;
 use mysql_buf::ParseBuf;
-use mysql_raw::{LenEnc, MySerialize, WireError};
-use mysql_raw_bytes::BytesRepr;
+use mysql_fields::{BytesRepr, LenEnc, MySerialize, WireError};
 use std::alloc::{AllocError, Global};
 use std::borrow::CowStr;
 

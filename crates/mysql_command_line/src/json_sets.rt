@@ -70,7 +70,8 @@ fn json_of(alloc: Global, text: &[u8]) -> Result<Json, Stop> {
     }
 }
 
-/// The parameter sets that a text in JSON lists: an array is a set of values in order, an object one of values by names.
+/// The parameter sets that a text in JSON lists: an array is a set of values in order, an object
+/// one of values by names.
 pub(crate) fn sets_of(alloc: Global, text: &[u8]) -> Result<Vec<Params>, Stop> {
     let Json::Array(list) = json_of(alloc, text)? else {
         return Err(Stop::BadJson);

@@ -109,20 +109,25 @@ fn answer_stop<W: Write>(output: &mut W, stop: &Stop) -> Status {
 
 /// Runs the program over its words, its input and its output, and answers its exit status.
 ///
-/// Without words it sends the query `SELECT :a` with a = 1 by text, prints the stream in hexadecimal, reads it back byte by
-/// byte and prints the audit: a line for each set and one for the end.
+/// Without words it sends the query `SELECT :a` with a = 1 by text, prints the stream in
+/// hexadecimal, reads it back byte by byte and prints the audit: a line for each set and one for
+/// the end.
 ///
-/// - `encode ROAD ID LIMIT QUERY` reads a list of parameter sets in JSON and prints the commands that carry them by `text`,
+/// - `encode ROAD ID LIMIT QUERY` reads a list of parameter sets in JSON and prints the commands
+/// that carry them by `text`,
 ///   `execute` or `bulk`.
 /// - `audit ID LIMIT QUERY` reads a stream of commands and prints its audit.
-/// - `follow ID LIMIT QUERY` prints the same lines, those of sets as soon as they stand, and reads no further than to a fault.
+/// - `follow ID LIMIT QUERY` prints the same lines, those of sets as soon as they stand, and reads
+/// no further than to a fault.
 /// - `recode ID LIMIT QUERY` reads a stream of commands and prints the executions that carry the same sets.
 /// - `help` prints these words in ten lines, and reads nothing.
 ///
-/// Other words print `usage`, and a limit that is no whole number from 4 to `usize::MAX` prints `bad limit`, before anything is
-/// read. Input that can't be read, or not by 1000000 reads, prints `bad input`, then a text that is no list of sets `bad json`.
-/// A refusal comes after these: it prints `refused:` and its name. `follow` refuses the query before it reads, has no greatest
-/// number of reads, and prints `bad input` behind the sets that came. After a write that fails nothing more is written.
+/// Other words print `usage`, and a limit that is no whole number from 4 to `usize::MAX` prints
+/// `bad limit`, before anything is read. Input that can't be read, or not by 1000000 reads, prints
+/// `bad input`, then a text that is no list of sets `bad json`. A refusal comes after these: it
+/// prints `refused:` and its name. `follow` refuses the query before it reads, has no greatest
+/// number of reads, and prints `bad input` behind the sets that came. After a write that fails
+/// nothing more is written.
 pub fn run<R: Read, W: Write>(
     alloc: Global,
     words: &[String],

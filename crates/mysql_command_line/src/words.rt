@@ -34,7 +34,8 @@ pub(crate) enum Task<'a> {
     Help,
 }
 
-/// The number that these digits write. None where there is no digit or anything else, and where a `usize` can't hold it.
+/// The number that these digits write. None where there is no digit or anything else, and where a
+/// `usize` can't hold it.
 fn whole_number(text: &str) -> Option<usize>
     ensures { SomeIff result (IsNumeral 10 text.now × (digits_value 10 text.now < 2 ^ 64)) (digits_value 10 text.now) }
 {
@@ -57,7 +58,8 @@ fn road_of(word: &str) -> Result<Road, Stop> {
 
 /// The statement of these words; `Usage` where the first is no id, then `BadLimit` where the second is no limit.
 fn statement_of<'a>(id: &str, limit: &str, query: &'a str) -> Result<Statement<'a>, Stop>
-    ensures statement { IfOk result (λ it. (it.query.now ≡ query.entry.now) × (it.id ≡ digits_value 10 id.now) × (it.limit ≡ digits_value 10 limit.now)) }
+    ensures statement { IfOk result (λ it. (it.query.now ≡ query.entry.now) ×
+        (it.id ≡ digits_value 10 id.now) × (it.limit ≡ digits_value 10 limit.now)) }
     ensures usage { IsErrOf result stop.Usage ↔ ¬ IsId id.now }
     ensures bad_limit { IsErrOf result stop.BadLimit ↔ IsId id.now × ¬ IsLimit limit.now }
 {

@@ -19,7 +19,8 @@ const FOLLOWED: &[Row] = &[
     (FOLLOW, TWO_SETS, b"set 0: 1\nset 1: 2\nend: whole\n", Done),
     (
         FOLLOW,
-        b"\x09\0\0\0\x16SELECT ?\x1b\0\0\0\xfa\x01\0\0\0\x80\0\x08\0\0\x01\0\0\0\0\0\0\0\0\x02\0\0\0\0\0\0\0\x08\0\0\0\x18\x01\0\0\0\0\0x",
+        b"\x09\0\0\0\x16SELECT ?\x1b\0\0\0\xfa\x01\0\0\0\x80\0\x08\0\0\x01\0\0\0\0\0\0\0\0\x02\0\0\
+        \0\0\0\0\0\x08\0\0\0\x18\x01\0\0\0\0\0x",
         b"set 0: 1\nset 1: 2\nend: waiting pieces\n",
         Refused,
     ),

@@ -1,7 +1,7 @@
 //! Tests of `mysql_command_line` from outside: runs of the program over words, an input and an output.
 //!
-//! At most one allocation of a run is refused. So a run that says that memory was refused is made once more, and then has to
-//! answer.
+//! At most one allocation of a run is refused. So a run that says that memory was refused is made
+//! once more, and then has to answer.
 #![tactic(auto)]
 
 #[cfg(test)]

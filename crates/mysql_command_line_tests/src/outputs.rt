@@ -3,8 +3,8 @@
 use std::io;
 use std::io::Write;
 
-/// An output that takes so many bytes and then fails. It tells whether it took what is wanted, and whether nothing was written
-/// after a write that failed.
+/// An output that takes so many bytes and then fails. It tells whether it took what is wanted, and
+/// whether nothing was written after a write that failed.
 #[derive(Clone, Copy)]
 pub struct Output<'a> {
     /// How many bytes come before those that are looked at.

@@ -8,7 +8,8 @@ use mysql_command_line::{Status, refuse_words, run};
 use std::alloc::Global;
 use tests_support::Assert;
 
-/// Whether a run over these words prints this line, before it reads anything, and fails. Else it says that memory was refused.
+/// Whether a run over these words prints this line, before it reads anything, and fails. Else it
+/// says that memory was refused.
 fn refuses(assert: &impl Assert, alloc: Global, words: &[String], line: &[u8]) -> bool {
     let mut input = Untouched { is_touched: false };
     let mut output = Vec::new(alloc);

@@ -77,7 +77,8 @@ fn outcome(
     (status, output)
 }
 
-/// Whether a run fails whose output takes so many bytes, which are the front of what a good run prints. Else memory was refused.
+/// Whether a run fails whose output takes so many bytes, which are the front of what a good run
+/// prints. Else memory was refused.
 fn fails_after(alloc: Global, words: &[String], row: Row, left: usize) -> bool {
     let (status, output) = outcome(alloc, words, row, left, usize::MAX);
     status == Failed && output.is_front()

@@ -3,7 +3,9 @@
 use Rattle.std.specs.Prelude.{◌∷◌, [], List, Option, ℕ, nat_eq}
 use Rattle.mysql_const.specs.Tables.{numbered, entry_of}
 use Rattle.mysql_const.specs.declared.bulk.MariadbBulkIndicator.{MariadbBulkIndicator}
-use Rattle.mysql_const.specs.declared.bulk.MariadbBulkIndicator.TheVariants.{BULK_INDICATOR_NONE, BULK_INDICATOR_NULL, BULK_INDICATOR_DEFAULT, BULK_INDICATOR_IGNORE}
+use Rattle.mysql_const.specs.declared.bulk.MariadbBulkIndicator.TheVariants.{BULK_INDICATOR_NONE, BULK_INDICATOR_NULL}
+use Rattle.mysql_const.specs.declared.bulk.MariadbBulkIndicator.TheVariants.{BULK_INDICATOR_DEFAULT}
+use Rattle.mysql_const.specs.declared.bulk.MariadbBulkIndicator.TheVariants.{BULK_INDICATOR_IGNORE}
 
 -- each name's number
 abbrev pub bulk_indicator_number : MariadbBulkIndicator → ℕ

@@ -4,7 +4,18 @@
 use Rattle.std.specs.Prelude.{◌∷◌, [], List, Option, ℕ, nat_eq}
 use Rattle.mysql_const.specs.Tables.{numbered, entry_of}
 use Rattle.mysql_const.specs.declared.command.Command.{Command}
-use Rattle.mysql_const.specs.declared.command.Command.TheVariants.{COM_SLEEP, COM_QUIT, COM_INIT_DB, COM_QUERY, COM_FIELD_LIST, COM_CREATE_DB, COM_DROP_DB, COM_REFRESH, COM_DEPRECATED_1, COM_STATISTICS, COM_PROCESS_INFO, COM_CONNECT, COM_PROCESS_KILL, COM_DEBUG, COM_PING, COM_TIME, COM_DELAYED_INSERT, COM_CHANGE_USER, COM_BINLOG_DUMP, COM_TABLE_DUMP, COM_CONNECT_OUT, COM_REGISTER_SLAVE, COM_STMT_PREPARE, COM_STMT_EXECUTE, COM_STMT_SEND_LONG_DATA, COM_STMT_CLOSE, COM_STMT_RESET, COM_SET_OPTION, COM_STMT_FETCH, COM_DAEMON, COM_BINLOG_DUMP_GTID, COM_RESET_CONNECTION, COM_END, COM_STMT_BULK_EXECUTE}
+use Rattle.mysql_const.specs.declared.command.Command.TheVariants.{COM_SLEEP, COM_QUIT, COM_INIT_DB, COM_QUERY}
+use Rattle.mysql_const.specs.declared.command.Command.TheVariants.{COM_FIELD_LIST, COM_CREATE_DB, COM_DROP_DB}
+use Rattle.mysql_const.specs.declared.command.Command.TheVariants.{COM_REFRESH, COM_DEPRECATED_1, COM_STATISTICS}
+use Rattle.mysql_const.specs.declared.command.Command.TheVariants.{COM_PROCESS_INFO, COM_CONNECT, COM_PROCESS_KILL}
+use Rattle.mysql_const.specs.declared.command.Command.TheVariants.{COM_DEBUG, COM_PING, COM_TIME, COM_DELAYED_INSERT}
+use Rattle.mysql_const.specs.declared.command.Command.TheVariants.{COM_CHANGE_USER, COM_BINLOG_DUMP, COM_TABLE_DUMP}
+use Rattle.mysql_const.specs.declared.command.Command.TheVariants.{COM_CONNECT_OUT, COM_REGISTER_SLAVE}
+use Rattle.mysql_const.specs.declared.command.Command.TheVariants.{COM_STMT_PREPARE, COM_STMT_EXECUTE}
+use Rattle.mysql_const.specs.declared.command.Command.TheVariants.{COM_STMT_SEND_LONG_DATA, COM_STMT_CLOSE}
+use Rattle.mysql_const.specs.declared.command.Command.TheVariants.{COM_STMT_RESET, COM_SET_OPTION, COM_STMT_FETCH}
+use Rattle.mysql_const.specs.declared.command.Command.TheVariants.{COM_DAEMON, COM_BINLOG_DUMP_GTID}
+use Rattle.mysql_const.specs.declared.command.Command.TheVariants.{COM_RESET_CONNECTION, COM_END, COM_STMT_BULK_EXECUTE}
 
 -- each name's number
 abbrev pub command_number : Command → ℕ

@@ -1,9 +1,12 @@
--- Types of geometries by their numbers.
--- MySQL Reference Manual, "Supported Spatial Data Formats", 'Well-Known Binary (WKB) Format'; 0 is a geometry of any type.
+-- Types of geometries by their numbers. MySQL Reference Manual, "Supported Spatial Data Formats",
+-- 'Well-Known Binary (WKB) Format'; 0 is a geometry of any type.
 use Rattle.std.specs.Prelude.{◌∷◌, [], List, Option, ℕ, nat_eq}
 use Rattle.mysql_const.specs.Tables.{numbered, entry_of}
 use Rattle.mysql_const.specs.declared.geometry.GeometryType.{GeometryType}
-use Rattle.mysql_const.specs.declared.geometry.GeometryType.TheVariants.{GEOM_GEOMETRY, GEOM_POINT, GEOM_LINESTRING, GEOM_POLYGON, GEOM_MULTIPOINT, GEOM_MULTILINESTRING, GEOM_MULTIPOLYGON, GEOM_GEOMETRYCOLLECTION}
+use Rattle.mysql_const.specs.declared.geometry.GeometryType.TheVariants.{GEOM_GEOMETRY, GEOM_POINT, GEOM_LINESTRING}
+use Rattle.mysql_const.specs.declared.geometry.GeometryType.TheVariants.{GEOM_POLYGON, GEOM_MULTIPOINT}
+use Rattle.mysql_const.specs.declared.geometry.GeometryType.TheVariants.{GEOM_MULTILINESTRING, GEOM_MULTIPOLYGON}
+use Rattle.mysql_const.specs.declared.geometry.GeometryType.TheVariants.{GEOM_GEOMETRYCOLLECTION}
 
 -- each name's number
 abbrev pub geometry_number : GeometryType → ℕ

@@ -4,7 +4,8 @@ use Rattle.std.specs.Prelude.{◌∷◌, [], List, Option, ℤ, pos, negsuc}
 use Rattle.std.specs.Ordering.{int_eq}
 use Rattle.mysql_const.specs.Tables.{numbered, entry_of}
 use Rattle.mysql_const.specs.declared.item_result.ItemResult.{ItemResult}
-use Rattle.mysql_const.specs.declared.item_result.ItemResult.TheVariants.{INVALID_RESULT, STRING_RESULT, REAL_RESULT, INT_RESULT, ROW_RESULT, DECIMAL_RESULT}
+use Rattle.mysql_const.specs.declared.item_result.ItemResult.TheVariants.{INVALID_RESULT, STRING_RESULT, REAL_RESULT}
+use Rattle.mysql_const.specs.declared.item_result.ItemResult.TheVariants.{INT_RESULT, ROW_RESULT, DECIMAL_RESULT}
 
 -- each name's number
 abbrev pub item_result_number : ItemResult → ℤ

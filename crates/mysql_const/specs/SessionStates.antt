@@ -3,7 +3,14 @@
 use Rattle.std.specs.Prelude.{◌∷◌, [], List, Option, ℕ, nat_eq}
 use Rattle.mysql_const.specs.Tables.{numbered, entry_of}
 use Rattle.mysql_const.specs.declared.session_state.SessionStateType.{SessionStateType}
-use Rattle.mysql_const.specs.declared.session_state.SessionStateType.TheVariants.{SESSION_TRACK_SYSTEM_VARIABLES, SESSION_TRACK_SCHEMA, SESSION_TRACK_STATE_CHANGE, SESSION_TRACK_GTIDS, SESSION_TRACK_TRANSACTION_CHARACTERISTICS, SESSION_TRACK_TRANSACTION_STATE}
+use Rattle.mysql_const.specs.declared.session_state.SessionStateType.TheVariants.{SESSION_TRACK_SYSTEM_VARIABLES}
+use Rattle.mysql_const.specs.declared.session_state.SessionStateType.TheVariants.{SESSION_TRACK_SCHEMA}
+use Rattle.mysql_const.specs.declared.session_state.SessionStateType.TheVariants.{SESSION_TRACK_STATE_CHANGE}
+use Rattle.mysql_const.specs.declared.session_state.SessionStateType.TheVariants.{SESSION_TRACK_GTIDS}
+use Rattle.mysql_const.specs.declared.session_state.SessionStateType.TheVariants.{
+  SESSION_TRACK_TRANSACTION_CHARACTERISTICS,
+}
+use Rattle.mysql_const.specs.declared.session_state.SessionStateType.TheVariants.{SESSION_TRACK_TRANSACTION_STATE}
 
 -- each name's number
 abbrev pub session_state_number : SessionStateType → ℕ

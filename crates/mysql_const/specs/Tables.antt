@@ -23,8 +23,9 @@ IsTable {N} {X} number named =
     ((name : X) → named (number name) ≡ Some name)
     × ((n : N) (name : X) → named n ≡ Some name → n ≡ number name)
 
--- Bits that all have a name in the table are read as the set of these bits; other bits are refused, and the refusal carries
--- them.
+-- Bits that all have a name in the table are read as the set of these bits; other bits are refused,
+-- and the refusal carries them.
 abbrev pub ReadsFlags : {X E : Type 0} → List (List ℕ × ℕ) → (X → ℕ) → (E → ℕ) → ℕ → Result X E → Type 0
 ReadsFlags table bits_of carried bits (Ok flags) = (bit_and bits (known_bits table) ≡ bits) × (bits_of flags ≡ bits)
-ReadsFlags table bits_of carried bits (Err unknown) = (bit_and bits (known_bits table) ≢ bits) × (carried unknown ≡ bits)
+ReadsFlags table bits_of carried bits (Err unknown) = (bit_and bits (known_bits table) ≢ bits) ×
+    (carried unknown ≡ bits)

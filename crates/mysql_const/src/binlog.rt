@@ -76,11 +76,13 @@ impl From<BinlogDumpFlags> for u16 {
     }
 }
 
-/// The [`BinlogDumpFlags`] of these bits. Bits of which some have no name are refused, and the refusal carries them all.
+/// The [`BinlogDumpFlags`] of these bits. Bits of which some have no name are refused, and the
+/// refusal carries them all.
 impl TryFrom<u16> for BinlogDumpFlags {
     type Error = UnknownBinlogDumpFlags;
 
-    ghost try_from_gives = { λ bits answer. ReadsFlags binlog_dump_flags (λ flags. flags.0) (λ unknown. unknown.0) bits answer };
+    ghost try_from_gives = { λ bits answer. ReadsFlags binlog_dump_flags (λ flags. flags.0)
+        (λ unknown. unknown.0) bits answer };
 
     fn try_from(bits: u16) -> Result<BinlogDumpFlags, UnknownBinlogDumpFlags> {
         match BinlogDumpFlags::from_bits(bits) {

@@ -48,7 +48,8 @@ impl From<MariadbBulkIndicator> for u8 {
 impl TryFrom<u8> for MariadbBulkIndicator {
     type Error = UnknownMariadbBulkIndicator;
 
-    ghost try_from_gives = { λ number answer. ReadsAs (bulk_indicator_named number) (λ unknown. unknown.0) number answer };
+    ghost try_from_gives = { λ number answer. ReadsAs (bulk_indicator_named number)
+        (λ unknown. unknown.0) number answer };
 
     fn try_from(number: u8) -> Result<MariadbBulkIndicator, UnknownMariadbBulkIndicator> {
         match number {
@@ -126,11 +127,13 @@ impl From<StmtBulkExecuteFlags> for u16 {
     }
 }
 
-/// The [`StmtBulkExecuteFlags`] of these bits. Bits of which some have no name are refused, and the refusal carries them all.
+/// The [`StmtBulkExecuteFlags`] of these bits. Bits of which some have no name are refused, and the
+/// refusal carries them all.
 impl TryFrom<u16> for StmtBulkExecuteFlags {
     type Error = UnknownStmtBulkExecuteFlags;
 
-    ghost try_from_gives = { λ bits answer. ReadsFlags bulk_execute_flags (λ flags. flags.0) (λ unknown. unknown.0) bits answer };
+    ghost try_from_gives = { λ bits answer. ReadsFlags bulk_execute_flags (λ flags. flags.0)
+        (λ unknown. unknown.0) bits answer };
 
     fn try_from(bits: u16) -> Result<StmtBulkExecuteFlags, UnknownStmtBulkExecuteFlags> {
         match StmtBulkExecuteFlags::from_bits(bits) {

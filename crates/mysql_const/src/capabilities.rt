@@ -106,11 +106,13 @@ impl From<CapabilityFlags> for u32 {
     }
 }
 
-/// The [`CapabilityFlags`] of these bits. Bits of which some have no name are refused, and the refusal carries them all.
+/// The [`CapabilityFlags`] of these bits. Bits of which some have no name are refused, and the
+/// refusal carries them all.
 impl TryFrom<u32> for CapabilityFlags {
     type Error = UnknownCapabilityFlags;
 
-    ghost try_from_gives = { λ bits answer. ReadsFlags capability_flags (λ flags. flags.0) (λ unknown. unknown.0) bits answer };
+    ghost try_from_gives = { λ bits answer. ReadsFlags capability_flags (λ flags. flags.0)
+        (λ unknown. unknown.0) bits answer };
 
     fn try_from(bits: u32) -> Result<CapabilityFlags, UnknownCapabilityFlags> {
         match CapabilityFlags::from_bits(bits) {
@@ -189,11 +191,13 @@ impl From<MariadbCapabilities> for u32 {
     }
 }
 
-/// The [`MariadbCapabilities`] of these bits. Bits of which some have no name are refused, and the refusal carries them all.
+/// The [`MariadbCapabilities`] of these bits. Bits of which some have no name are refused, and the
+/// refusal carries them all.
 impl TryFrom<u32> for MariadbCapabilities {
     type Error = UnknownMariadbCapabilities;
 
-    ghost try_from_gives = { λ bits answer. ReadsFlags mariadb_capabilities (λ flags. flags.0) (λ unknown. unknown.0) bits answer };
+    ghost try_from_gives = { λ bits answer. ReadsFlags mariadb_capabilities (λ flags. flags.0)
+        (λ unknown. unknown.0) bits answer };
 
     fn try_from(bits: u32) -> Result<MariadbCapabilities, UnknownMariadbCapabilities> {
         match MariadbCapabilities::from_bits(bits) {

@@ -93,7 +93,8 @@ impl From<ColumnFlags> for u16 {
 impl TryFrom<u16> for ColumnFlags {
     type Error = UnknownColumnFlags;
 
-    ghost try_from_gives = { λ bits answer. ReadsFlags column_flags (λ flags. flags.0) (λ unknown. unknown.0) bits answer };
+    ghost try_from_gives = { λ bits answer. ReadsFlags column_flags (λ flags. flags.0)
+        (λ unknown. unknown.0) bits answer };
 
     fn try_from(bits: u16) -> Result<ColumnFlags, UnknownColumnFlags> {
         match ColumnFlags::from_bits(bits) {

@@ -2,8 +2,10 @@
 
 ghost use Rattle.std.specs.Prelude.{◌≡◌, ◌∷◌, []};
 ghost use Rattle.mysql_const.specs.Tables.{ReadsAs};
-ghost use Rattle.mysql_const.specs.ColumnTypes.{column_type_number, column_type_named, is_among, numeric_types, character_types};
-ghost use Rattle.mysql_const.specs.declared.column_type.ColumnType.TheVariants.{MYSQL_TYPE_ENUM, MYSQL_TYPE_SET, MYSQL_TYPE_GEOMETRY, MYSQL_TYPE_VECTOR};
+ghost use Rattle.mysql_const.specs.ColumnTypes.{column_type_number, column_type_named, is_among, numeric_types};
+ghost use Rattle.mysql_const.specs.ColumnTypes.{character_types};
+ghost use Rattle.mysql_const.specs.declared.column_type.ColumnType.TheVariants.{MYSQL_TYPE_ENUM, MYSQL_TYPE_SET};
+ghost use Rattle.mysql_const.specs.declared.column_type.ColumnType.TheVariants.{MYSQL_TYPE_GEOMETRY, MYSQL_TYPE_VECTOR};
 
 use crate::unknown::write_unknown_number;
 use std::error::Error;

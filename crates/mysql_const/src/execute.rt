@@ -82,7 +82,8 @@ impl From<CursorType> for u8 {
 impl TryFrom<u8> for CursorType {
     type Error = UnknownCursorType;
 
-    ghost try_from_gives = { λ bits answer. ReadsFlags cursor_types (λ flags. flags.0) (λ unknown. unknown.0) bits answer };
+    ghost try_from_gives = { λ bits answer. ReadsFlags cursor_types (λ flags. flags.0)
+        (λ unknown. unknown.0) bits answer };
 
     fn try_from(bits: u8) -> Result<CursorType, UnknownCursorType> {
         match CursorType::from_bits(bits) {
@@ -156,11 +157,13 @@ impl From<StmtExecuteParamsFlags> for u8 {
     }
 }
 
-/// The [`StmtExecuteParamsFlags`] of these bits. Bits of which some have no name are refused, and the refusal carries them all.
+/// The [`StmtExecuteParamsFlags`] of these bits. Bits of which some have no name are refused, and
+/// the refusal carries them all.
 impl TryFrom<u8> for StmtExecuteParamsFlags {
     type Error = UnknownStmtExecuteParamsFlags;
 
-    ghost try_from_gives = { λ bits answer. ReadsFlags execute_params_flags (λ flags. flags.0) (λ unknown. unknown.0) bits answer };
+    ghost try_from_gives = { λ bits answer. ReadsFlags execute_params_flags (λ flags. flags.0)
+        (λ unknown. unknown.0) bits answer };
 
     fn try_from(bits: u8) -> Result<StmtExecuteParamsFlags, UnknownStmtExecuteParamsFlags> {
         match StmtExecuteParamsFlags::from_bits(bits) {
@@ -234,11 +237,13 @@ impl From<StmtExecuteParamFlags> for u8 {
     }
 }
 
-/// The [`StmtExecuteParamFlags`] of these bits. Bits of which some have no name are refused, and the refusal carries them all.
+/// The [`StmtExecuteParamFlags`] of these bits. Bits of which some have no name are refused, and
+/// the refusal carries them all.
 impl TryFrom<u8> for StmtExecuteParamFlags {
     type Error = UnknownStmtExecuteParamFlags;
 
-    ghost try_from_gives = { λ bits answer. ReadsFlags execute_param_flags (λ flags. flags.0) (λ unknown. unknown.0) bits answer };
+    ghost try_from_gives = { λ bits answer. ReadsFlags execute_param_flags (λ flags. flags.0)
+        (λ unknown. unknown.0) bits answer };
 
     fn try_from(bits: u8) -> Result<StmtExecuteParamFlags, UnknownStmtExecuteParamFlags> {
         match StmtExecuteParamFlags::from_bits(bits) {

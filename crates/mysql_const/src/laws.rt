@@ -17,7 +17,8 @@ ghost use Rattle.mysql_const.specs.CursorTypes.{cursor_types};
 ghost use Rattle.mysql_const.specs.ExecuteFlags.{execute_params_flags, execute_param_flags};
 ghost use Rattle.mysql_const.specs.MariadbCapabilities.{mariadb_capabilities};
 ghost use Rattle.mysql_const.specs.StatusFlags.{status_flags};
-ghost use Rattle.mysql_const.specs.declared.TheConstants.{MAX_PAYLOAD_LEN, DEFAULT_MAX_ALLOWED_PACKET, UTF8_GENERAL_CI, UTF8MB4_GENERAL_CI};
+ghost use Rattle.mysql_const.specs.declared.TheConstants.{MAX_PAYLOAD_LEN, DEFAULT_MAX_ALLOWED_PACKET, UTF8_GENERAL_CI};
+ghost use Rattle.mysql_const.specs.declared.TheConstants.{UTF8MB4_GENERAL_CI};
 
 /// Every name's number is read as this name, and no other number is.
 pub fn names_are_read_back()

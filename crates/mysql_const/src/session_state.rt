@@ -48,7 +48,8 @@ impl From<SessionStateType> for u8 {
 impl TryFrom<u8> for SessionStateType {
     type Error = UnknownSessionStateType;
 
-    ghost try_from_gives = { λ number answer. ReadsAs (session_state_named number) (λ unknown. unknown.0) number answer };
+    ghost try_from_gives = { λ number answer. ReadsAs (session_state_named number)
+        (λ unknown. unknown.0) number answer };
 
     fn try_from(number: u8) -> Result<SessionStateType, UnknownSessionStateType> {
         match number {

@@ -91,7 +91,8 @@ impl From<StatusFlags> for u16 {
 impl TryFrom<u16> for StatusFlags {
     type Error = UnknownStatusFlags;
 
-    ghost try_from_gives = { λ bits answer. ReadsFlags status_flags (λ flags. flags.0) (λ unknown. unknown.0) bits answer };
+    ghost try_from_gives = { λ bits answer. ReadsFlags status_flags (λ flags. flags.0)
+        (λ unknown. unknown.0) bits answer };
 
     fn try_from(bits: u16) -> Result<StatusFlags, UnknownStatusFlags> {
         match StatusFlags::from_bits(bits) {

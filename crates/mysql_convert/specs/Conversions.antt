@@ -1,5 +1,6 @@
--- What values convert to, and which value gives the same again.
--- MySQL Reference Manual, "Working with NULL Values"; conversions between values and a language's types are a form of client libraries.
+-- What values convert to, and which value gives the same again. MySQL Reference Manual, "Working
+-- with NULL Values"; conversions between values and a language's types are a form of client
+-- libraries.
 use Rattle.std.specs.Prelude.{◌≡◌, Option, Some, None, if◌then◌else◌}
 use Rattle.std.specs.Option.{option_map}
 use Rattle.mysql_cells.specs.declared.value.Value.{Value}

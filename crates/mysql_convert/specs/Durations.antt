@@ -1,6 +1,7 @@
 -- The duration that a value holds.
 -- MySQL Reference Manual, "The TIME Type", "Fractional Seconds in Time Values".
-use Rattle.std.specs.Prelude.{◌≡◌, ◌≤◌, ◌<◌, ◌⊎◌, ◌↔◌, ℕ, ◌+◌, ◌*◌, ◌^◌, true, false, List, [], ◌++◌, codes, length, Option, Some, None}
+use Rattle.std.specs.Prelude.{◌≡◌, ◌≤◌, ◌<◌, ◌⊎◌, ◌↔◌, ℕ, ◌+◌, ◌*◌, ◌^◌, true, false, List, [], ◌++◌, codes, length}
+use Rattle.std.specs.Prelude.{Option, Some, None}
 use Rattle.std.specs.List.{AllByRecursion}
 use Rattle.mysql_queries.specs.Literals.{AreDigits, digits_value, is_digit}
 use Rattle.mysql_cells.specs.declared.value.Value.{Value}
@@ -16,9 +17,11 @@ pub record IsGroup (count bound : ℕ) (digits : List ℕ) : Type 0 where
 -- nothing, or a point and one to six digits, and the decimal fraction of a second that they write, in nanoseconds
 abbrev pub IsFraction : List ℕ → ℕ → Type 0
 IsFraction text nanos = ((text ≡ []) × (nanos ≡ 0))
-    ⊎ ((digits : List ℕ) × (text ≡ codes "." ++ digits) × AreDigits digits × (length digits ≤ 6) × (nanos * 10 ^ length digits ≡ digits_value digits * 1_000_000_000))
+    ⊎ ((digits : List ℕ) × (text ≡ codes "." ++ digits) × AreDigits digits × (length digits ≤ 6) ×
+    (nanos * 10 ^ length digits ≡ digits_value digits * 1_000_000_000))
 
--- hours of two digits, or of three below 900, minutes and seconds of two digits below 60, with colons between, and a fraction of a second
+-- hours of two digits, or of three below 900, minutes and seconds of two digits below 60, with
+-- colons between, and a fraction of a second
 pub record IsDurationText (text : List ℕ) (nanos : ℕ) : Type 0 where
   pub hours : List ℕ
   pub minutes : List ℕ

@@ -1,5 +1,6 @@
 -- Lemmas: a whole number that was made a value is read again from it.
-use Rattle.std.specs.Prelude.{◌≡◌, ◌==◌, ℕ, ℤ, pos, negsuc, ◌^◌, ◌-◌, ◌+◌, ◌*◌, ◌≤◌, ◌<◌, Bool, true, false, nat_lt, List, [], ◌∷◌, Option, Some, None, if◌then◌else◌, ◌&&◌, fold, unsigned_abs, refl, suc}
+use Rattle.std.specs.Prelude.{◌≡◌, ◌==◌, ℕ, ℤ, pos, negsuc, ◌^◌, ◌-◌, ◌+◌, ◌*◌, ◌≤◌, ◌<◌, Bool, true, false, nat_lt}
+use Rattle.std.specs.Prelude.{List, [], ◌∷◌, Option, Some, None, if◌then◌else◌, ◌&&◌, fold, unsigned_abs, refl, suc}
 use Rattle.std.specs.Fmt.{decimal}
 use Rattle.std.specs.Option.{option_map}
 use Rattle.std.specs.List.{list_all}
@@ -25,7 +26,9 @@ abbrev pub number_behind : ℕ → List ℕ → Option ℕ
 number_behind n bytes = if list_all is_digit bytes then Some (fold (λ m d. m * 10 + (d - 0x30)) n bytes) else None
 
 first_digit : (t : Bool) (n : ℕ) (bytes : List ℕ) → digits_after n bytes ≡ number_behind n bytes
-    → (if t then digits_after n bytes else None) ≡ (if t && list_all is_digit bytes then Some (fold (λ m d. m * 10 + (d - 0x30)) n bytes) else None)
+    → (if t then digits_after n bytes else None) ≡
+    (if t && list_all is_digit bytes then Some (fold (λ m d. m * 10 + (d - 0x30)) n bytes) else
+    None)
 first_digit true n bytes h = h
 first_digit false n bytes h = refl
 
@@ -64,7 +67,8 @@ unsigned_in-held_signed bits z n e = (ap (λ y. Some y) (unsigned_in-same bits z
 pub unsigned_in-holds : (bits : ℕ) (z : ℤ) (n : ℕ) → unsigned_in bits z ≡ Some n → HoldsNumber z (UInt n)
 unsigned_in-holds bits z n e = (ap (λ y. Some y) (unsigned_in-same bits z n e), refl)
 
-pub signed_in-small : (bits : ℕ) → 2 ^ (bits - 1) < 2 ^ 128 → (z : ℤ) → 2 ^ 128 ≤ unsigned_abs z → signed_in bits z ≡ None
+pub signed_in-small : (bits : ℕ) → 2 ^ (bits - 1) < 2 ^ 128 → (z : ℤ) → 2 ^ 128 ≤ unsigned_abs z →
+    signed_in bits z ≡ None
 signed_in-small bits b (pos n) h = not_below n (2 ^ (bits - 1)) (pos n) (omega (arith, b, h))
 signed_in-small bits b (negsuc n) h = not_below n (2 ^ (bits - 1)) (negsuc n) (omega (arith, b, h))
 
@@ -101,20 +105,24 @@ of_text (b ∷ bytes) h =
 
 decimal_text : (n : ℕ) → n ≤ 2 ^ 128 → text_number (decimal n) ≡ Some (pos n)
 decimal_text n h =
-    let d : IsNumeral 10 (decimal n) × (digits_value 10 (decimal n) ≡ n) = decimal_is_IsNumeral_wide n (omega (arith, h)) in
+    let d : IsNumeral 10 (decimal n) × (digits_value 10 (decimal n) ≡ n) =
+    decimal_is_IsNumeral_wide n (omega (arith, h)) in
     of_text (decimal n) d.0 ∙ ap (λ m. Some (pos m)) d.1
 
 negative_text : (n : ℕ) → n < 2 ^ 128 → text_number (0x2d ∷ decimal (suc n)) ≡ Some (negsuc n)
 negative_text n h =
-    let d : IsNumeral 10 (decimal (suc n)) × (digits_value 10 (decimal (suc n)) ≡ suc n) = decimal_is_IsNumeral_wide (suc n) (omega (arith, h)) in
+    let d : IsNumeral 10 (decimal (suc n)) × (digits_value 10 (decimal (suc n)) ≡ suc n) =
+    decimal_is_IsNumeral_wide (suc n) (omega (arith, h)) in
     ap (option_map (signed true)) (of_digits (decimal (suc n)) d.0 ∙ ap (λ m. Some m) d.1)
 
-natural_held : (n : ℕ) → n ≤ 2 ^ 128 → (s t : Bool) → HoldsNumber (pos n) (if s then Int (pos n) else (if t then UInt n else Bytes (decimal n)))
+natural_held : (n : ℕ) → n ≤ 2 ^ 128 → (s t : Bool) →
+    HoldsNumber (pos n) (if s then Int (pos n) else (if t then UInt n else Bytes (decimal n)))
 natural_held n h true t = (refl, refl)
 natural_held n h false true = (refl, refl)
 natural_held n h false false = (decimal_text n h, refl)
 
-negative_held : (n : ℕ) → n < 2 ^ 128 → (s : Bool) → HoldsNumber (negsuc n) (if s then Int (negsuc n) else Bytes (0x2d ∷ decimal (suc n)))
+negative_held : (n : ℕ) → n < 2 ^ 128 → (s : Bool) →
+    HoldsNumber (negsuc n) (if s then Int (negsuc n) else Bytes (0x2d ∷ decimal (suc n)))
 negative_held n h true = (refl, refl)
 negative_held n h false = (negative_text n h, refl)
 
@@ -127,15 +135,22 @@ below : (n m : ℕ) → nat_lt n m ≡ true → n < m
 below n m h = grind (arith, nat_tests, h)
 
 signed_in-fits : (z x : ℤ) → signed_in 128 z ≡ Some x → unsigned_abs z ≤ 2 ^ 128
-signed_in-fits (pos n) x e = let l : n < 2 ^ 127 = below n (2 ^ 127) (taken (nat_lt n (2 ^ 127)) (pos n) x e) in omega (arith, l)
-signed_in-fits (negsuc n) x e = let l : n < 2 ^ 127 = below n (2 ^ 127) (taken (nat_lt n (2 ^ 127)) (negsuc n) x e) in omega (arith, l)
+signed_in-fits (pos n) x e = let l : n < 2 ^ 127 =
+    below n (2 ^ 127) (taken (nat_lt n (2 ^ 127)) (pos n) x e) in omega (arith, l)
+signed_in-fits (negsuc n) x e = let l : n < 2 ^ 127 =
+    below n (2 ^ 127) (taken (nat_lt n (2 ^ 127)) (negsuc n) x e) in omega (arith, l)
 
 unsigned_in-fits : (z : ℤ) (n : ℕ) → unsigned_in 128 z ≡ Some n → unsigned_abs z ≤ 2 ^ 128
-unsigned_in-fits (pos m) n e = let l : m < 2 ^ 128 = below m (2 ^ 128) (taken (nat_lt m (2 ^ 128)) m n e) in omega (arith, l)
+unsigned_in-fits (pos m) n e = let l : m < 2 ^ 128 =
+    below m (2 ^ 128) (taken (nat_lt m (2 ^ 128)) m n e) in omega (arith, l)
 unsigned_in-fits (negsuc m) n e = absurd (cc)
 
 pub signed_in-held_wide : (z x : ℤ) → signed_in 128 z ≡ Some x → HoldsNumber z (integer_value x)
-signed_in-held_wide z x e = subst (λ y. HoldsNumber z (integer_value y)) (sym (signed_in-same 128 z x e)) (integer_value-held z (signed_in-fits z x e))
+signed_in-held_wide z x e =
+    subst (λ y. HoldsNumber z (integer_value y)) (sym (signed_in-same 128 z x e))
+    (integer_value-held z (signed_in-fits z x e))
 
 pub unsigned_in-held_wide : (z : ℤ) (n : ℕ) → unsigned_in 128 z ≡ Some n → HoldsNumber z (integer_value (pos n))
-unsigned_in-held_wide z n e = subst (λ y. HoldsNumber z (integer_value y)) (sym (unsigned_in-same 128 z n e)) (integer_value-held z (unsigned_in-fits z n e))
+unsigned_in-held_wide z n e =
+    subst (λ y. HoldsNumber z (integer_value y)) (sym (unsigned_in-same 128 z n e))
+    (integer_value-held z (unsigned_in-fits z n e))

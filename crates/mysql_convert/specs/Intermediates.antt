@@ -1,5 +1,5 @@
--- What conversions that can still be undone give.
--- MySQL Reference Manual, "Working with NULL Values"; conversions between values and a language's types are a form of client libraries.
+-- What conversions that can still be undone give. MySQL Reference Manual, "Working with NULL
+-- Values"; conversions between values and a language's types are a form of client libraries.
 use Rattle.std.specs.Prelude.{Option, Some}
 use Rattle.mysql_cells.specs.declared.value.Value.{Value}
 use Rattle.mysql_convert.specs.declared.intermediates.ParseIrOpt.{ParseIrOpt}

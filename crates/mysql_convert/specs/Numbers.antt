@@ -1,6 +1,7 @@
 -- The whole number that a value holds.
 -- MySQL Reference Manual, "Numeric Literals", "Integer Types (Exact Value)".
-use Rattle.std.specs.Prelude.{◌≡◌, ℕ, ℤ, pos, negsuc, neg_ℤ, ◌^◌, ◌-◌, Bool, true, false, nat_lt, List, [], ◌∷◌, Option, Some, None, if◌then◌else◌, ◌==◌}
+use Rattle.std.specs.Prelude.{◌≡◌, ℕ, ℤ, pos, negsuc, neg_ℤ, ◌^◌, ◌-◌, Bool, true, false, nat_lt, List, [], ◌∷◌, Option}
+use Rattle.std.specs.Prelude.{Some, None, if◌then◌else◌, ◌==◌}
 use Rattle.std.specs.List.{list_all}
 use Rattle.std.specs.Option.{option_map, option_and_then}
 use Rattle.mysql_queries.specs.Literals.{is_digit, digits_value}
@@ -23,7 +24,8 @@ abbrev pub text_number : List ℕ → Option ℤ
 text_number [] = None
 text_number (b ∷ bytes) =
     if b == 0x2d then option_map (signed true) (digits_number bytes) else
-    (if b == 0x2b then option_map (signed false) (digits_number bytes) else option_map (signed false) (digits_number (b ∷ bytes)))
+    (if b == 0x2b then option_map (signed false) (digits_number bytes) else option_map
+    (signed false) (digits_number (b ∷ bytes)))
 
 -- The whole number that a value holds, as a number or as its text.
 abbrev pub number_of : Value → Option ℤ

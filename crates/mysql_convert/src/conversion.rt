@@ -30,16 +30,20 @@ pub trait Intermediate<T>: Sized {
     /// `TooLong` where that has no value, which no intermediate of this crate that was read answers; `Memory`.
     fn rollback(self, alloc: Global) -> Result<Value, ToValueError>
         ensures ok { IfOk result (λ value. rolled_back self ≡ Some value) }
-        ensures err { IfErr result (λ e. (e ≡ to_value_error.Memory) ⊎ ((e ≡ to_value_error.TooLong) × (rolled_back self ≡ None))) };
+        ensures err { IfErr result (λ e. (e ≡ to_value_error.Memory) ⊎
+            ((e ≡ to_value_error.TooLong) × (rolled_back self ≡ None))) };
 }
 
 /// A type that a [`Value`] converts to.
 ///
-/// A whole number is read from `Int`, `UInt` and texts of an optional sign and digits, in its range; a `bool` from 0 and 1 in the same three;
-/// a text from `Bytes` that are UTF-8, a list of bytes from `Bytes`, an array from `Bytes` of its length; a `Duration` from a `Time` that isn't
-/// negative and from texts such as `838:59:59.5`; an `Option` is None of `NULL`; and a [`Value`] is any value.
+/// A whole number is read from `Int`, `UInt` and texts of an optional sign and digits, in its
+/// range; a `bool` from 0 and 1 in the same three; a text from `Bytes` that are UTF-8, a list of
+/// bytes from `Bytes`, an array from `Bytes` of its length; a `Duration` from a `Time` that isn't
+/// negative and from texts such as `838:59:59.5`; an `Option` is None of `NULL`; and a [`Value`] is
+/// any value.
 ///
-/// No conversion of a value that is handed over asks for memory; a copy of a borrowed one does. An impl says by `converted` what each value converts to.
+/// No conversion of a value that is handed over asks for memory; a copy of a borrowed one does. An
+/// impl says by `converted` what each value converts to.
 pub trait FromValue: Sized {
     /// A conversion to this type that can still be undone.
     type Intermediate: Intermediate<Self>;
@@ -64,7 +68,8 @@ pub trait FromValue: Sized {
     /// Converts a copy of a value, as `from_value_opt` does; an impl may spare the copy where it keeps nothing of it.
     ///
     /// # Errors
-    /// `AllocError`, outermost, for want of memory alone; `FromValueError` with a copy of the value, where it doesn't convert.
+    /// `AllocError`, outermost, for want of memory alone; `FromValueError` with a copy of the
+    /// value, where it doesn't convert.
     fn from_value_ref_opt(
         alloc: Global,
         value: &Value,

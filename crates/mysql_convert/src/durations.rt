@@ -4,7 +4,10 @@ ghost use Rattle.std.specs.Prelude.{◌≡◌, ◌<◌, ◌≤◌, ◌^◌, ◌*
 ghost use Rattle.std.specs.Option.{option_map};
 ghost use Rattle.std.specs.Duration.{as_nanos};
 ghost use Rattle.mysql_convert.specs.Numbers.{digits_number as number_of_digits};
-ghost use Rattle.mysql_convert.specs.DurationReading.{clock_nanos as nanos_of_clock, fraction_nanos as nanos_of_fraction, is_below_sixty as are_below_sixty, text_nanos as nanos_of_text, two_digits as number_of_two};
+ghost use Rattle.mysql_convert.specs.DurationReading.{clock_nanos as nanos_of_clock};
+ghost use Rattle.mysql_convert.specs.DurationReading.{fraction_nanos as nanos_of_fraction};
+ghost use Rattle.mysql_convert.specs.DurationReading.{is_below_sixty as are_below_sixty, text_nanos as nanos_of_text};
+ghost use Rattle.mysql_convert.specs.DurationReading.{two_digits as number_of_two};
 ghost use Rattle.mysql_convert.specs.Durations.{duration_of};
 
 use crate::conversion::FromValue;

@@ -6,7 +6,8 @@ use mysql_cells::Value;
 use std::alloc::{AllocError, Global};
 use thiserror::Error;
 
-/// A value that doesn't convert to the type that was asked for. It holds the value itself; its text names the value's kind.
+/// A value that doesn't convert to the type that was asked for. It holds the value itself; its text
+/// names the value's kind.
 #[derive(Debug, PartialEq, Eq, Drop, Error)]
 #[error("{found} doesn't convert to the type that was asked for", found = kind_of(&self.0))]
 pub struct FromValueError(pub Value);

@@ -1,7 +1,9 @@
 //! The ranges of integer types.
 
 ghost use Rattle.mysql_convert.specs.Numbers.{signed_in, unsigned_in};
-ghost use Rattle.mysql_convert.specs.IntegerLaws.{signed_in-held_wide, signed_in-holds, signed_in-small, unsigned_in-held_signed, unsigned_in-held_wide, unsigned_in-holds, unsigned_in-small};
+ghost use Rattle.mysql_convert.specs.IntegerLaws.{signed_in-held_wide, signed_in-holds, signed_in-small};
+ghost use Rattle.mysql_convert.specs.IntegerLaws.{unsigned_in-held_signed, unsigned_in-held_wide, unsigned_in-holds};
+ghost use Rattle.mysql_convert.specs.IntegerLaws.{unsigned_in-small};
 ghost use Rattle.std.proofs.Common.{lit<, lit≤};
 
 use crate::numbers::{Integer, Number};

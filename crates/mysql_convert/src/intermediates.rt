@@ -109,9 +109,17 @@ impl<T: ToValue + Drop> Intermediate<T> for ParseIrOpt<T> {
 }
 
 impl<T: FromValue> Intermediate<Option<T>> for OptionIr2<T> {
-    ghost committed = { elim [ option_step.None ↦ None | option_step.Some step ↦ Some (T.Intermediate.committed step) ] };
+    ghost committed = { elim [
+      | option_step.None ↦ None
+      | option_step.Some step ↦ Some
+          (T.Intermediate.committed step)
+    ] };
 
-    ghost rolled_back = { elim [ option_step.None ↦ Some NULL | option_step.Some step ↦ T.Intermediate.rolled_back step ] };
+    ghost rolled_back = { elim [
+      | option_step.None ↦ Some NULL
+      | option_step.Some
+          step ↦ T.Intermediate.rolled_back step
+    ] };
 
     fn commit(self) -> Option<T> {
         match self {

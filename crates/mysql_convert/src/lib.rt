@@ -1,4 +1,5 @@
-//! Conversions between Rust's types and values: what values convert to, and by `mysql_to_values` the values and parameter sets of Rust's types.
+//! Conversions between Rust's types and values: what values convert to, and by `mysql_to_values`
+//! the values and parameter sets of Rust's types.
 #![tactic(auto)]
 
 mod booleans;

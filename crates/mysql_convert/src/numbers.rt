@@ -1,10 +1,12 @@
 //! Whole numbers that values hold.
 
-ghost use Rattle.std.specs.Prelude.{◌≡◌, ◌^◌, ◌≤◌, IfErr, IfNone, IfOk, IfSome, IsSomeAnd, Option, Some, None, length, pos, unsigned_abs, ℕ, ℤ};
+ghost use Rattle.std.specs.Prelude.{◌≡◌, ◌^◌, ◌≤◌, IfErr, IfNone, IfOk, IfSome, IsSomeAnd, Option, Some, None, length};
+ghost use Rattle.std.specs.Prelude.{pos, unsigned_abs, ℕ, ℤ};
 ghost use Rattle.std.specs.Option.{option_and_then};
 ghost use Rattle.mysql_queries.specs.Literals.{is_digit as is_digit_byte};
 ghost use Rattle.mysql_convert.specs.Conversions.{ReadsAgain};
-ghost use Rattle.mysql_convert.specs.Numbers.{HoldsNumber, digits_number as number_of_digits, integer_of, number_of, signed, signed_in, text_number as number_of_text, unsigned_in};
+ghost use Rattle.mysql_convert.specs.Numbers.{HoldsNumber, digits_number as number_of_digits, integer_of, number_of};
+ghost use Rattle.mysql_convert.specs.Numbers.{signed, signed_in, text_number as number_of_text, unsigned_in};
 ghost use Rattle.mysql_convert.specs.Intermediates.{committed_of, rolled_back_of};
 
 use crate::conversion::FromValue;
@@ -224,7 +226,8 @@ fn integer_in<T: Integer>(value: &Value) -> Option<T>
 /// What stands between a value and an integer type: a number is ready, a text is kept.
 fn read_integer<T: Integer>(value: Value) -> Result<ParseIrOpt<T>, FromValueError>
     ensures ok { IfOk result (λ step. integer_of T.narrowed value ≡ Some (committed_of step)) }
-    ensures again { IfOk result (λ step. ReadsAgain (integer_of T.narrowed) value (rolled_back_of T.ToValue.as_value step)) }
+    ensures again { IfOk result
+        (λ step. ReadsAgain (integer_of T.narrowed) value (rolled_back_of T.ToValue.as_value step)) }
     ensures err { IfErr result (λ e. (integer_of T.narrowed value ≡ None) × (e.0 ≡ value)) }
 {
     let Some(number) = value_number(&value) else {

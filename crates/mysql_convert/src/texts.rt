@@ -72,7 +72,8 @@ fn array_in<const N: usize>(value: &Value) -> Option<[u8; N]>
 
 /// The text that a value holds, moved, or the value.
 fn text_in(value: Value) -> Result<String, FromValueError>
-    ensures ok { IfOk result (λ text. (value ≡ Bytes (string_bytes text)) × (text_of_value value ≡ Some (string_bytes text))) }
+    ensures ok { IfOk result (λ text. (value ≡ Bytes (string_bytes text)) ×
+        (text_of_value value ≡ Some (string_bytes text))) }
     ensures err { IfErr result (λ e. (text_of_value value ≡ None) × (e.0 ≡ value)) }
 {
     match String::from_utf8(bytes_in(value)?) {

@@ -12,11 +12,11 @@ use Rattle.byteorder.specs.Endian.{little_bytes}
 use Rattle.mysql_buf.specs.FirstBytes.{first-enough, first-short}
 use Rattle.mysql_buf.specs.Varlen.{varlen, varlen_size}
 use Rattle.mysql_buf.specs.Writing.{front}
-use Rattle.mysql_raw.specs.Forms.{bytes_at}
-use Rattle.mysql_raw.specs.Laws.{ok_same}
-use Rattle.mysql_raw.specs.Wire.{or_end}
-use Rattle.mysql_raw.specs.WireError.TheVariants.{UnknownValue}
-use Rattle.mysql_raw_bytes.specs.Texts.{varlen_text}
+use Rattle.mysql_fields.specs.Forms.{bytes_at}
+use Rattle.mysql_fields.specs.Laws.{ok_same}
+use Rattle.mysql_fields.specs.Wire.{or_end}
+use Rattle.mysql_fields.specs.declared.error.WireError.TheVariants.{UnknownValue}
+use Rattle.mysql_fields.specs.Texts.{varlen_text}
 use Rattle.mysql_gtid.specs.Blocks.{any_tag, block_bytes, block_number, interval_bytes, sid_bytes, tag_bytes, tag_named}
 use Rattle.mysql_gtid.specs.Sids.{SidParts, sid_view}
 use Rattle.mysql_gtid.specs.Tags.{fault_of_chars, tag_fault}

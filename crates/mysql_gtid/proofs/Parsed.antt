@@ -7,7 +7,7 @@ use Rattle.std.proofs.lemmas.Bool.Decides.{nat_tests}
 use Rattle.std.proofs.lemmas.List.Splits.{slice_split_first}
 use Rattle.std.proofs.lemmas.List.Sums.{prefix_len-le-length}
 use Rattle.std.proofs.lemmas.Str.{IsCharBoundary-after_ascii, IsCharBoundary-before_ascii, IsUtf8-drop, IsUtf8-take}
-use Rattle.mysql_raw.specs.Wire.{◌>>=◌}
+use Rattle.mysql_fields.specs.Wire.{◌>>=◌}
 use Rattle.mysql_gtid.specs.Tags.{is_digit, tag_fault}
 use Rattle.mysql_gtid.specs.Intervals.{after, around_hyphen, ends_of, interval_of, intervals_of}
 use Rattle.mysql_gtid.specs.Sids.{SidParts, fields_of, sid_of, sid_of_fields, tag_and_intervals, tag_before, uuid_of}

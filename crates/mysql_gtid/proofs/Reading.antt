@@ -3,7 +3,7 @@ use Rattle.std.proofs.Common.{◌≡◌, ℕ, ◌+◌, ◌<◌, ◌≤◌, List,
 use Rattle.std.proofs.lemmas.List.{at_drop_more, at_drop_all}
 use Rattle.mysql_gtid.specs.Intervals.{interval_of, intervals_of}
 use Rattle.mysql_gtid.specs.Refusals.{Refuses}
-use Rattle.mysql_raw.specs.Wire.{◌>>=◌}
+use Rattle.mysql_fields.specs.Wire.{◌>>=◌}
 use Rattle.mysql_gtid.specs.declared.error.SidError.{SidError}
 use Rattle.mysql_gtid.specs.declared.error.SidError.TheVariants.{NoColon, BadUuid, Empty, BadTag, NoIntervals, BadInterval, ZeroGno, StartNotBelowEnd, Overflow, Memory}
 use Rattle.mysql_gtid.specs.declared.interval.GnoInterval.{GnoInterval}

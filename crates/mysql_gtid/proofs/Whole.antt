@@ -2,7 +2,7 @@
 use Rattle.std.proofs.Common.{◌≡◌, ℕ, ◌<◌, List, [], ◌∷◌, length, Option, Result, Ok, Err, refl, ◌∙◌, ap, arith}
 use Rattle.mysql_gtid.specs.Intervals.{intervals_of}
 use Rattle.mysql_gtid.specs.Refusals.{Refuses}
-use Rattle.mysql_raw.specs.Wire.{◌>>=◌}
+use Rattle.mysql_fields.specs.Wire.{◌>>=◌}
 use Rattle.mysql_gtid.specs.Sids.{SidParts, fields_of, sid_of, sid_of_fields, tag_and_intervals, uuid_of}
 use Rattle.mysql_gtid.specs.declared.error.SidError.{SidError}
 use Rattle.mysql_gtid.specs.declared.error.SidError.TheVariants.{NoColon, BadUuid, Empty, BadTag, NoIntervals, BadInterval, ZeroGno, StartNotBelowEnd, Overflow, Memory}

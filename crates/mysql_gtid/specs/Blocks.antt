@@ -1,16 +1,18 @@
 -- Sets of global transaction identifiers as bytes: each alone, and in the block of a request for the binary log.
 -- MySQL: Client/Server Protocol, "COM_BINLOG_DUMP_GTID"; Source Code Documentation, "Gtid_set::encode".
 -- A reading takes bytes from the front: x.0 is what was read and x.1 the bytes left; the first refusal counts.
-use Rattle.std.specs.Prelude.{◌≡◌, ℕ, ◌+◌, ◌*◌, ◌/◌, ◌%◌, ◌^◌, ◌<◌, List, [], ◌∷◌, ◌++◌, length, Bool, true, false, Option, Some, None, is_some, is_none, unwrap_or, Result, Ok, Err, ◌==◌, ◌&&◌, if◌then◌else◌}
+use Rattle.std.specs.Prelude.{◌≡◌, ℕ, ◌+◌, ◌*◌, ◌/◌, ◌%◌, ◌^◌, ◌<◌, List, [], ◌∷◌, ◌++◌, length, Bool, true, false}
+use Rattle.std.specs.Prelude.{Option, Some, None, is_some, is_none, unwrap_or, Result, Ok, Err, ◌==◌, ◌&&◌}
+use Rattle.std.specs.Prelude.{if◌then◌else◌}
 use Rattle.std.specs.List.{AllByRecursion, flat_map, list_any}
 use Rattle.std.specs.Str.{is_utf8}
 use Rattle.byteorder.specs.Endian.{little_bytes}
-use Rattle.mysql_raw.specs.Forms.{bytes_at, fixed_number_at}
-use Rattle.mysql_raw.specs.Wire.{Reading, ◌>>=◌}
-use Rattle.mysql_raw.specs.WireError.{WireError}
-use Rattle.mysql_raw.specs.WireError.TheVariants.{UnknownValue}
-use Rattle.mysql_raw_bytes.specs.Texts.{varlen_text, varlen_text_at}
-use Rattle.mysql_raw_lists.specs.Lists.{counted_at, elements_at}
+use Rattle.mysql_fields.specs.Forms.{bytes_at, fixed_number_at}
+use Rattle.mysql_fields.specs.Wire.{Reading, ◌>>=◌}
+use Rattle.mysql_fields.specs.declared.error.WireError.{WireError}
+use Rattle.mysql_fields.specs.declared.error.WireError.TheVariants.{UnknownValue}
+use Rattle.mysql_fields.specs.Texts.{varlen_text, varlen_text_at}
+use Rattle.mysql_field_lists.specs.Lists.{counted_at, elements_at}
 use Rattle.mysql_gtid.specs.Sids.{SidParts}
 use Rattle.mysql_gtid.specs.Tags.{tag_fault}
 use Rattle.mysql_gtid.specs.declared.interval.GnoInterval.{GnoInterval}
@@ -48,7 +50,9 @@ tag_at true bytes = do
 
 -- A set: its UUID, its tag in a tagged block, and its intervals after their count in eight bytes.
 unfoldable pub sid_bytes : Bool → SidParts → List ℕ
-sid_bytes tagged sid = sid.uuid ++ (tag_bytes tagged sid.tag ++ (little_bytes 8 (length sid.intervals) ++ flat_map interval_bytes sid.intervals))
+sid_bytes tagged sid = sid.uuid ++
+    (tag_bytes tagged sid.tag ++
+    (little_bytes 8 (length sid.intervals) ++ flat_map interval_bytes sid.intervals))
 
 unfoldable pub sid_at : Bool → List ℕ → Reading SidParts
 sid_at tagged bytes = do
@@ -61,7 +65,8 @@ sid_at tagged bytes = do
 abbrev pub any_tag : List SidParts → Bool
 any_tag sids = list_any (λ sid. is_some sid.tag) sids
 
--- The number at the front of a block: how many sets follow; in a tagged block bits 8 to 55 say it, and the top byte is 1.
+-- The number at the front of a block: how many sets follow; in a tagged block bits 8 to 55 say it,
+-- and the top byte is 1.
 unfoldable pub block_number : Bool → ℕ → ℕ
 block_number tagged count = if tagged then 2 ^ 56 + 256 * (count % 2 ^ 48) else count
 
@@ -73,7 +78,8 @@ count_said number = if says_tagged number then number / 256 % 2 ^ 48 else number
 
 -- A block: its number, and the sets one after another.
 unfoldable pub block_bytes : List SidParts → List ℕ
-block_bytes sids = little_bytes 8 (block_number (any_tag sids) (length sids)) ++ flat_map (sid_bytes (any_tag sids)) sids
+block_bytes sids = little_bytes 8 (block_number (any_tag sids) (length sids)) ++
+    flat_map (sid_bytes (any_tag sids)) sids
 
 unfoldable pub block_at : List ℕ → Reading (List SidParts)
 block_at bytes = do

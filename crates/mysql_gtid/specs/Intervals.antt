@@ -1,10 +1,11 @@
 -- Intervals of transaction numbers, as texts: `n`, or `n-m` for all from n to m.
 -- MySQL Reference Manual, "GTID Sets".
-use Rattle.std.specs.Prelude.{ℕ, ◌+◌, ◌-◌, ◌^◌, List, [], ◌∷◌, ◌++◌, length, Bool, Option, Some, None, Result, Ok, Err, nat_lt, nat_le, ◌==◌, ◌&&◌, if◌then◌else◌}
+use Rattle.std.specs.Prelude.{ℕ, ◌+◌, ◌-◌, ◌^◌, List, [], ◌∷◌, ◌++◌, length, Bool, Option, Some, None, Result, Ok, Err}
+use Rattle.std.specs.Prelude.{nat_lt, nat_le, ◌==◌, ◌&&◌, if◌then◌else◌}
 use Rattle.std.specs.Fmt.{decimal}
 use Rattle.std.specs.List.{before_first, after_first, position_or_len, list_all}
 use Rattle.std.specs.Str.Parse.{digits_value, without_leading_plus}
-use Rattle.mysql_raw.specs.Wire.{◌>>=◌}
+use Rattle.mysql_fields.specs.Wire.{◌>>=◌}
 use Rattle.mysql_gtid.specs.Tags.{is_digit}
 use Rattle.mysql_gtid.specs.declared.error.SidError.{SidError}
 use Rattle.mysql_gtid.specs.declared.error.SidError.TheVariants.{BadInterval, Overflow, StartNotBelowEnd, ZeroGno}

@@ -10,5 +10,6 @@ ParsedReadsBack = (text : List ℕ) (sid : SidParts) → IsUtf8 text → sid_of 
 
 -- Two sets that texts write are equal exactly where their own texts are.
 abbrev pub ParsedEqualByText : Type 0
-ParsedEqualByText = (text other : List ℕ) (a b : SidParts) → IsUtf8 text → IsUtf8 other → sid_of text ≡ Ok a → sid_of other ≡ Ok b
+ParsedEqualByText = (text other : List ℕ) (a b : SidParts) → IsUtf8 text → IsUtf8 other →
+    sid_of text ≡ Ok a → sid_of other ≡ Ok b
     → (a ≡ b) ↔ (sid_text a ≡ sid_text b)

@@ -1,11 +1,12 @@
 -- Sets of global transaction identifiers of one source, as texts: a UUID, a tag if there is one, and intervals,
 -- with colons between.
 -- MySQL Reference Manual, "GTID Sets".
-use Rattle.std.specs.Prelude.{ℕ, List, [], ◌∷◌, ◌++◌, Bool, false, Option, Some, None, Result, Ok, Err, ◌==◌, if◌then◌else◌, is_none}
+use Rattle.std.specs.Prelude.{ℕ, List, [], ◌∷◌, ◌++◌, Bool, false, Option, Some, None, Result, Ok, Err, ◌==◌}
+use Rattle.std.specs.Prelude.{if◌then◌else◌, is_none}
 use Rattle.std.specs.List.{flat_map, slice_split}
 use Rattle.std.specs.Option.{ok_or}
 use Rattle.uuid.specs.Text.{parsed, hyphenated_text, lower}
-use Rattle.mysql_raw.specs.Wire.{◌>>=◌}
+use Rattle.mysql_fields.specs.Wire.{◌>>=◌}
 use Rattle.mysql_gtid.specs.Tags.{is_digit, tag_fault}
 use Rattle.mysql_gtid.specs.Intervals.{intervals_of, interval_text}
 use Rattle.mysql_gtid.specs.declared.error.SidError.{SidError}
@@ -45,7 +46,8 @@ tag_before field (other ∷ others) = if is_none (tag_fault field) then Ok (Some
 abbrev pub tag_and_intervals : List (List ℕ) → Result (Option (List ℕ) × List (List ℕ)) SidError
 tag_and_intervals [] = Err Empty
 tag_and_intervals ([] ∷ []) = Err Empty
-tag_and_intervals (field ∷ fields) = if begins_with_digit field then Ok (None, field ∷ fields) else tag_before field fields
+tag_and_intervals (field ∷ fields) =
+    if begins_with_digit field then Ok (None, field ∷ fields) else tag_before field fields
 
 -- The set that fields write.
 unfoldable pub sid_of_fields : List (List ℕ) → Result SidParts SidError
@@ -68,4 +70,5 @@ tag_text (Some tag) = 58 ∷ tag
 
 -- The text of a set: its UUID in lower case, its tag, and its intervals, each behind a colon.
 abbrev pub sid_text : SidParts → List ℕ
-sid_text sid = hyphenated_text lower sid.uuid ++ tag_text sid.tag ++ flat_map (λ interval. 58 ∷ interval_text interval) sid.intervals
+sid_text sid = hyphenated_text lower sid.uuid ++ tag_text sid.tag ++
+    flat_map (λ interval. 58 ∷ interval_text interval) sid.intervals

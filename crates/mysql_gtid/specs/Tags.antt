@@ -1,6 +1,7 @@
 -- Tags of global transaction identifiers, as texts.
 -- MySQL Reference Manual, "GTID Format and Storage".
-use Rattle.std.specs.Prelude.{ℕ, List, [], ◌∷◌, length, Bool, Option, Some, None, nat_lt, nat_le, not, ◌==◌, ◌&&◌, ◌||◌, if◌then◌else◌}
+use Rattle.std.specs.Prelude.{ℕ, List, [], ◌∷◌, length, Bool, Option, Some, None, nat_lt, nat_le, not, ◌==◌, ◌&&◌, ◌||◌}
+use Rattle.std.specs.Prelude.{if◌then◌else◌}
 use Rattle.std.specs.List.{find}
 use Rattle.std.specs.Str.{chars}
 use Rattle.mysql_gtid.specs.declared.tag.InvalidTag.{InvalidTag}

@@ -1,15 +1,18 @@
 //! Sets as bytes: each alone, and in the block of a request for the binary log.
 
-ghost use Rattle.std.specs.Prelude.{◌≡◌, ◌^◌, ◌-◌, ◌<◌, ◌≤◌, List, None, Option, Some, [], false, length, map, min, unwrap_or, ℕ};
+ghost use Rattle.std.specs.Prelude.{◌≡◌, ◌^◌, ◌-◌, ◌<◌, ◌≤◌, List, None, Option, Some, [], false, length, map, min};
+ghost use Rattle.std.specs.Prelude.{unwrap_or, ℕ};
 ghost use Rattle.std.specs.Cow.{cow_slice_items};
 ghost use Rattle.std.specs.List.{flat_map};
-ghost use Rattle.mysql_raw.specs.Forms.{bytes_at, fixed_number_at};
-ghost use Rattle.mysql_raw.specs.Laws.{unsized};
-ghost use Rattle.mysql_raw.specs.Wire.{Appends, GivesPart, TellsPart};
-ghost use Rattle.mysql_raw_bytes.specs.Texts.{varlen_text_at};
-ghost use Rattle.mysql_raw_lists.specs.Lists.{counted_at, elements_at};
+ghost use Rattle.mysql_fields.specs.Forms.{bytes_at, fixed_number_at};
+ghost use Rattle.mysql_fields.specs.Laws.{unsized};
+ghost use Rattle.mysql_fields.specs.Wire.{Appends, GivesPart, TellsPart};
+ghost use Rattle.mysql_fields.specs.Texts.{varlen_text_at};
+ghost use Rattle.mysql_field_lists.specs.Lists.{counted_at, elements_at};
 ghost use Rattle.mysql_gtid.specs.BlockLaws.{block_at-back, interval_at-back, interval_at-sized};
-ghost use Rattle.mysql_gtid.specs.Blocks.{IsBlock, IsInterval, any_tag, block_at, block_bytes, block_number, count_said, interval_at, interval_bytes, says_tagged, sid_at, sid_bytes, tag_at, tag_bytes, tag_named};
+ghost use Rattle.mysql_gtid.specs.Blocks.{IsBlock, IsInterval, any_tag, block_at, block_bytes, block_number};
+ghost use Rattle.mysql_gtid.specs.Blocks.{count_said, interval_at, interval_bytes, says_tagged, sid_at, sid_bytes};
+ghost use Rattle.mysql_gtid.specs.Blocks.{tag_at, tag_bytes, tag_named};
 ghost use Rattle.mysql_gtid.specs.Sids.{SidParts, sid_view};
 ghost use Rattle.mysql_gtid.specs.declared.interval.GnoInterval.{GnoInterval};
 
@@ -18,10 +21,10 @@ use crate::sid::{Sid, UUID_LEN};
 use crate::tag::Tag;
 use bytes::BufMut;
 use mysql_buf::{ParseBuf, read_varlen_uint, varlen_uint_size};
-use mysql_raw::{
-    LeU64, MyDeserialize, MySerialize, ParseExt, RawInt, Readable, ReadsBack, VarLen, WireError,
+use mysql_fields::{
+    LeU64, MyDeserialize, MySerialize, ParseExt, RawBytes, RawInt, Readable, ReadsBack, VarLen,
+    WireError,
 };
-use mysql_raw_bytes::RawBytes;
 use std::alloc::{AllocError, Global};
 use std::borrow::CowSlice;
 
@@ -170,9 +173,10 @@ fn tag_from<'de>(tagged: bool, rest: &mut ParseBuf<'de>) -> Result<Option<Tag<'d
 }
 
 // Intervals after their count; the list grows as they come.
-#[tactic(auto, unfolding(mysql_raw_lists::specs::Lists::counted_at))]
+#[tactic(auto, unfolding(mysql_field_lists::specs::Lists::counted_at))]
 fn intervals_from(alloc: Global, rest: &mut ParseBuf) -> Result<Vec<GnoInterval>, WireError>
-    ensures { GivesPart (λ intervals. intervals.items) rest.new.0.now result (counted_at (fixed_number_at 8) interval_at rest.old.0.now) }
+    ensures { GivesPart (λ intervals. intervals.items) rest.new.0.now result
+        (counted_at (fixed_number_at 8) interval_at rest.old.0.now) }
 {
     let count: RawInt<LeU64> = rest.parse(alloc, ())?;
     some_intervals(alloc, count.0, rest)
@@ -184,7 +188,8 @@ fn some_intervals(
     count: u64,
     rest: &mut ParseBuf,
 ) -> Result<Vec<GnoInterval>, WireError>
-    ensures { GivesPart (λ intervals. intervals.items) rest.new.0.now result (elements_at interval_at count rest.old.0.now) }
+    ensures { GivesPart (λ intervals. intervals.items) rest.new.0.now result
+        (elements_at interval_at count rest.old.0.now) }
 {
     let mut intervals = Vec::new(alloc);
     for _ in 0..count {
@@ -253,8 +258,8 @@ impl<'a> Readable for Sid<'a> {
     }
 }
 
-/// A set without a tag. Refused by UnexpectedEof where the bytes end before it; a count larger than they are is refused so,
-/// and sizes no allocation.
+/// A set without a tag. Refused by UnexpectedEof where the bytes end before it; a count larger than
+/// they are is refused so, and sizes no allocation.
 ///
 /// MySQL: Client/Server Protocol, "COM_BINLOG_DUMP_GTID".
 impl<'de> MyDeserialize<'de> for Sid<'de> {
@@ -270,8 +275,9 @@ impl<'de> MyDeserialize<'de> for Sid<'de> {
     }
 }
 
-/// Sets as the block of a request for the binary log: how many there are, and each in its turn. Where one of them has a tag
-/// the block is tagged, and each set has its tag after its length, 0 where it has none.
+/// Sets as the block of a request for the binary log: how many there are, and each in its turn.
+/// Where one of them has a tag the block is tagged, and each set has its tag after its length, 0
+/// where it has none.
 ///
 /// MySQL: Client/Server Protocol, "COM_BINLOG_DUMP_GTID"; Source Code Documentation, "Gtid_set::encode".
 #[derive(Debug, PartialEq, Eq, Hash, Drop)]
@@ -432,7 +438,8 @@ fn sids_from<'de>(
     count: u64,
     rest: &mut ParseBuf<'de>,
 ) -> Result<Vec<Sid<'de>>, WireError>
-    ensures { GivesPart (λ sids. map sid_view sids.items) rest.new.0.now result (elements_at (sid_at tagged) count rest.old.0.now) }
+    ensures { GivesPart (λ sids. map sid_view sids.items) rest.new.0.now result
+        (elements_at (sid_at tagged) count rest.old.0.now) }
 {
     let mut sids = Vec::new(alloc);
     for _ in 0..count {
@@ -442,8 +449,9 @@ fn sids_from<'de>(
     Ok(sids)
 }
 
-/// Reads a block. Refused by UnexpectedEof where the bytes end before its sets do, and by UnknownValue for a text that is no
-/// tag, whichever stands first; a count larger than the bytes sizes no allocation.
+/// Reads a block. Refused by UnexpectedEof where the bytes end before its sets do, and by
+/// UnknownValue for a text that is no tag, whichever stands first; a count larger than the bytes
+/// sizes no allocation.
 ///
 /// MySQL: Client/Server Protocol, "COM_BINLOG_DUMP_GTID"; Source Code Documentation, "Gtid_set::encode".
 #[tactic(auto, unfolding(crate::specs::Blocks::block_at))]

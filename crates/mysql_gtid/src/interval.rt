@@ -1,7 +1,8 @@
 //! Intervals of transaction numbers.
 
 ghost use Rattle.std.specs.Prelude.{◌≡◌, MatchOption, None, Some};
-ghost use Rattle.mysql_gtid.specs.Intervals.{around_hyphen, ends_of, interval_between, interval_of, interval_text, number_of};
+ghost use Rattle.mysql_gtid.specs.Intervals.{around_hyphen, ends_of, interval_between, interval_of, interval_text};
+ghost use Rattle.mysql_gtid.specs.Intervals.{number_of};
 
 use crate::error::SidError;
 use std::fmt;
@@ -23,7 +24,8 @@ impl GnoInterval {
         GnoInterval { start, end }
     }
 
-    /// The interval with these ends. Refuses StartNotBelowEnd where `start` isn't below `end`, then ZeroGno where `start` is 0.
+    /// The interval with these ends. Refuses StartNotBelowEnd where `start` isn't below `end`, then
+    /// ZeroGno where `start` is 0.
     pub fn check_and_new(start: u64, end: u64) -> Result<GnoInterval, SidError>
         ensures { result ≡ interval_between start end }
     {
@@ -50,8 +52,8 @@ impl GnoInterval {
         self.end
     }
 
-    /// The interval that a text `n` or `n-m` writes. Refuses BadInterval for any other text, then Overflow where no number
-    /// below 2^64 follows the last, StartNotBelowEnd and ZeroGno.
+    /// The interval that a text `n` or `n-m` writes. Refuses BadInterval for any other text, then
+    /// Overflow where no number below 2^64 follows the last, StartNotBelowEnd and ZeroGno.
     ///
     /// MySQL Reference Manual, "GTID Sets".
     #[tactic(auto, unfolding(crate::specs::Intervals::interval_of))]
@@ -99,7 +101,8 @@ fn ends_of(field: &str) -> Result<(u64, u64), SidError>
 /// The two parts of a text around its first hyphen.
 #[tactic(auto, unfolding(crate::specs::Intervals::around_hyphen))]
 fn around_hyphen(text: &str) -> Option<(&str, &str)>
-    ensures { MatchOption result (around_hyphen text.now ≡ None) (λ parts. around_hyphen text.now ≡ Some (parts.0.now, parts.1.now)) }
+    ensures { MatchOption result (around_hyphen text.now ≡ None) (λ parts. around_hyphen text.now ≡
+        Some (parts.0.now, parts.1.now)) }
 {
     text.split_once('-')
 }

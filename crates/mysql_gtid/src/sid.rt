@@ -5,7 +5,8 @@ ghost use Rattle.std.specs.List.{flat_map};
 ghost use Rattle.uuid.specs.Text.{hyphenated_text, lower};
 ghost use Rattle.mysql_gtid.specs.Intervals.{interval_text, intervals_of};
 ghost use Rattle.mysql_gtid.specs.Refusals.{Answers, Gives};
-ghost use Rattle.mysql_gtid.specs.Sids.{begins_with_digit, fields_of, sid_of, sid_text, sid_view, tag_and_intervals, tag_text, uuid_of};
+ghost use Rattle.mysql_gtid.specs.Sids.{begins_with_digit, fields_of, sid_of, sid_text, sid_view, tag_and_intervals};
+ghost use Rattle.mysql_gtid.specs.Sids.{tag_text, uuid_of};
 
 use crate::error::SidError;
 use crate::interval::GnoInterval;
@@ -56,12 +57,13 @@ impl<'a> Sid<'a> {
         }
     }
 
-    /// The set that a text writes: a UUID, then a tag if there is one, then intervals `n` or `n-m`, with colons between.
-    /// A tag stands where what follows the UUID begins with no digit; numbers may begin with a plus.
+    /// The set that a text writes: a UUID, then a tag if there is one, then intervals `n` or `n-m`,
+    /// with colons between. A tag stands where what follows the UUID begins with no digit; numbers
+    /// may begin with a plus.
     ///
-    /// What stands leftmost is refused: NoColon, BadUuid, Empty where nothing follows the first colon, NoIntervals where
-    /// what follows begins with no digit and holds no colon, BadTag, and for each interval in its turn BadInterval, Overflow,
-    /// StartNotBelowEnd, ZeroGno.
+    /// What stands leftmost is refused: NoColon, BadUuid, Empty where nothing follows the first
+    /// colon, NoIntervals where what follows begins with no digit and holds no colon, BadTag, and
+    /// for each interval in its turn BadInterval, Overflow, StartNotBelowEnd, ZeroGno.
     ///
     /// MySQL Reference Manual, "GTID Sets".
     pub fn parse(alloc: Global, text: &str) -> Result<Sid<'static>, SidError>
@@ -91,7 +93,11 @@ impl<'a> Sid<'a> {
 
     /// The set with this interval behind its others. Refuses want of memory alone, and the set is gone then.
     pub fn with_interval(mut self, interval: GnoInterval) -> Result<Sid<'a>, AllocError>
-        ensures { IfOk result (λ sid. sid_view sid ≡ record (sid_view self.entry) { intervals = (sid_view self.entry).intervals ++ interval ∷ [] }) }
+        ensures { IfOk result (λ sid. sid_view sid ≡
+            record (sid_view self.entry) {
+              intervals = (sid_view self.entry).intervals ++ interval ∷
+                  [];
+            }) }
     {
         self.intervals.push(interval)?;
         Ok(self)
@@ -200,12 +206,15 @@ fn begins_with_digit(text: &str) -> bool
 
 /// The two parts of a text around its first colon.
 fn around_colon(text: &str) -> Option<(&str, &str)>
-    ensures { MatchOption result (fields_of text.now ≡ text.now ∷ []) (λ parts. (fields_of text.now ≡ parts.0.now ∷ fields_of parts.1.now) × (text.now ≡ parts.0.now ++ 58 ∷ parts.1.now)) }
+    ensures { MatchOption result (fields_of text.now ≡ text.now ∷
+        []) (λ parts. (fields_of text.now ≡ parts.0.now ∷ fields_of parts.1.now) ×
+        (text.now ≡ parts.0.now ++ 58 ∷ parts.1.now)) }
 {
     text.split_once(':')
 }
 
-/// The tag at the front of what stands behind a UUID, and the text of the intervals. Refuses Empty, NoIntervals and BadTag.
+/// The tag at the front of what stands behind a UUID, and the text of the intervals. Refuses Empty,
+/// NoIntervals and BadTag.
 fn tag_of(rest: &str) -> Result<(Option<Tag<'_>>, &str), SidError>
     ensures { Answers (λ parts. (parts.0, fields_of parts.1.now)) result (tag_and_intervals (fields_of rest.now)) }
 {

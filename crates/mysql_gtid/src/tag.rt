@@ -3,7 +3,8 @@
 ghost use Rattle.std.specs.Prelude.{◌≡◌, IfOk, IfErr, MatchResult, Some, None, nat_eq, not, refl};
 ghost use Rattle.std.specs.Hash as fed;
 ghost use Rattle.std.specs.Ordering.{nat_cmp};
-ghost use Rattle.std.specs.Cmp.Lexicographic.{pointwise, slice_cmp, nat_list_eq_equiv, nat_list_cmp_total, texts_po, texts_ties};
+ghost use Rattle.std.specs.Cmp.Lexicographic.{pointwise, slice_cmp, nat_list_eq_equiv, nat_list_cmp_total, texts_po};
+ghost use Rattle.std.specs.Cmp.Lexicographic.{texts_ties};
 ghost use Rattle.std.specs.Cmp.{partial_equiv_from_equiv};
 ghost use Rattle.std.specs.Cmp.Rules.{hashing};
 ghost use Rattle.std.proofs.Common.{rules};
@@ -92,8 +93,8 @@ fn check(text: &str) -> Result<(), InvalidTag>
     }
 }
 
-/// A tag of global transaction identifiers: a letter from a to z or an underscore, then letters, underscores and digits,
-/// at most 32 bytes in all. Tags are ordered by their bytes.
+/// A tag of global transaction identifiers: a letter from a to z or an underscore, then letters,
+/// underscores and digits, at most 32 bytes in all. Tags are ordered by their bytes.
 ///
 /// MySQL Reference Manual, "GTID Format and Storage".
 #[derive(Drop)]
@@ -157,7 +158,8 @@ impl<'a> Tag<'a> {
 }
 
 impl<'a> TryFrom<&'a str> for Tag<'a> {
-    ghost try_from_gives = { λ text result. IfOk result (λ tag. (tag ≡ text.now) × (tag_fault tag ≡ None)) × IfErr result (λ fault. tag_fault text.now ≡ Some fault) };
+    ghost try_from_gives = { λ text result. IfOk result (λ tag. (tag ≡ text.now) ×
+        (tag_fault tag ≡ None)) × IfErr result (λ fault. tag_fault text.now ≡ Some fault) };
 
     type Error = InvalidTag;
 

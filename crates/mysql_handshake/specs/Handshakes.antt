@@ -1,7 +1,8 @@
 -- The initial handshake packet.
 -- (MySQL: Client/Server Protocol, "Protocol::HandshakeV10"; MariaDB: "Connecting", 'Initial handshake packet'.)
 -- A reading takes bytes from the front: x.0 is what was read and x.1 the bytes left; the first refusal counts.
-use Rattle.std.specs.Prelude.{ℕ, ◌+◌, ◌-◌, max, if◌then◌else◌, ◌∷◌, ◌++◌, [], List, length, replicate, Option, None, Some, Ok}
+use Rattle.std.specs.Prelude.{ℕ, ◌+◌, ◌-◌, max, if◌then◌else◌, ◌∷◌, ◌++◌, [], List, length, replicate, Option, None}
+use Rattle.std.specs.Prelude.{Some, Ok}
 use Rattle.std.specs.Int.RustNames.{bit_and, bit_or}
 use Rattle.std.specs.List.{concat}
 use Rattle.bitflags.specs.Sets.{known_bits}
@@ -10,11 +11,11 @@ use Rattle.mysql_auth.specs.Plugins.{without_zero}
 use Rattle.mysql_buf.specs.Writing.{front}
 use Rattle.mysql_const.specs.MariadbCapabilities.{mariadb_capabilities}
 use Rattle.mysql_handshake.specs.Capabilities.{plugin_auth, secure_connection}
-use Rattle.mysql_raw.specs.Forms.{bytes_at, fixed_number_at, upper_half, upper_half_at}
-use Rattle.mysql_raw.specs.Wire.{Reading, ◌>>=◌}
-use Rattle.mysql_raw_bytes.specs.Texts.{bare_at, fixed_text, null_text, null_text_at}
-use Rattle.mysql_raw_consts.specs.Constants.{named_at, skipped_at}
-use Rattle.mysql_raw_consts.specs.Flags.{contains, status_named}
+use Rattle.mysql_fields.specs.Forms.{bytes_at, fixed_number_at, upper_half, upper_half_at}
+use Rattle.mysql_fields.specs.Wire.{Reading, ◌>>=◌}
+use Rattle.mysql_fields.specs.Texts.{bare_at, fixed_text, null_text, null_text_at}
+use Rattle.mysql_field_constants.specs.Constants.{named_at, skipped_at}
+use Rattle.mysql_field_constants.specs.Flags.{contains, status_named}
 
 -- what a handshake packet says; of a second scramble the first 247 bytes count
 pub record HandshakeFields : Type 0 where
@@ -34,10 +35,12 @@ pub record HandshakeFields : Type 0 where
 abbrev pub scramble_front : List ℕ → List ℕ
 scramble_front text = front text 247
 
--- the length that is written for both scrambles: that of the second and 8 where a plugin is named and there is a second one, else 0
+-- the length that is written for both scrambles: that of the second and 8 where a plugin is named
+-- and there is a second one, else 0
 abbrev pub scrambles_length : ℕ → Option (List ℕ) → ℕ
 scrambles_length capabilities None = 0
-scrambles_length capabilities (Some text) = if contains capabilities plugin_auth then length (scramble_front text) + 8 else 0
+scrambles_length capabilities (Some text) =
+    if contains capabilities plugin_auth then length (scramble_front text) + 8 else 0
 
 -- a second scramble, where there is one
 abbrev pub scramble_written : Option (List ℕ) → List ℕ
@@ -62,7 +65,8 @@ pub record FixedFields : Type 0 where
 -- in their order; the reserved bytes are zeros
 unfoldable pub fixed : FixedFields → List ℕ
 fixed p = concat (
-    little_bytes 4 p.connection_id ∷ p.scramble_1 ∷ replicate 1 0 ∷ little_bytes 2 p.capabilities ∷ little_bytes 1 p.default_collation
+    little_bytes 4 p.connection_id ∷ p.scramble_1 ∷ replicate 1 0 ∷ little_bytes 2 p.capabilities ∷
+    little_bytes 1 p.default_collation
     ∷ little_bytes 2 p.status_flags ∷ upper_half p.capabilities ∷ little_bytes 1 p.data_length ∷ replicate 6 0
     ∷ little_bytes 4 p.mariadb_ext_capabilities ∷ []
     )
@@ -79,16 +83,17 @@ fixed_written p = record {
   mariadb_ext_capabilities = p.mariadb_ext_capabilities;
 }
 
--- A version byte, the server's version and a zero, the fields of fixed length; a second scramble and a plugin's name are written
--- where they are held, whatever the flags.
+-- A version byte, the server's version and a zero, the fields of fixed length; a second scramble
+-- and a plugin's name are written where they are held, whatever the flags.
 unfoldable pub handshake : HandshakeFields → List ℕ
 handshake p = concat (
-    little_bytes 1 p.protocol_version ∷ null_text p.server_version ∷ fixed (fixed_written p) ∷ scramble_written p.scramble_2
+    little_bytes 1 p.protocol_version ∷ null_text p.server_version ∷ fixed (fixed_written p) ∷
+    scramble_written p.scramble_2
     ∷ name_written p.auth_plugin_name ∷ []
     )
 
--- The capabilities, around the collation and the status. All bits of the capabilities have names; a status with a bit that has none is
--- refused.
+-- The capabilities, around the collation and the status. All bits of the capabilities have names; a
+-- status with a bit that has none is refused.
 unfoldable pub flags_at : List ℕ → Reading (ℕ × ℕ × ℕ)
 flags_at bytes = do
   low ← fixed_number_at 2 bytes
@@ -137,7 +142,11 @@ scramble_at capabilities len bytes =
 
 -- with PLUGIN_AUTH a name to the end, less one trailing zero
 unfoldable pub name_at : ℕ → List ℕ → Reading (Option (List ℕ))
-name_at capabilities bytes = if contains capabilities plugin_auth then Ok (Some (without_zero bytes), []) else Ok (None, bytes)
+name_at capabilities bytes =
+    if contains capabilities plugin_auth then Ok (Some (without_zero bytes), []) else Ok (
+      None,
+      bytes,
+    )
 
 -- a version byte, the server's version to a zero, the fields of fixed length, the second scramble and the plugin's name
 unfoldable pub handshake_at : List ℕ → Reading HandshakeFields

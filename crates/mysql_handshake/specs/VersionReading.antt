@@ -25,7 +25,8 @@ digits_len most text = min most (prefix_len is_digit text)
 
 -- the number that these digits write and the text behind them, where there is a digit
 unfoldable pub number_at : ℕ → List ℕ → Option Found
-number_at most text = if digits_len most text == 0 then None else Some (digits_value 10 (take (digits_len most text) text), drop (digits_len most text) text)
+number_at most text = if digits_len most text == 0 then None else Some
+    (digits_value 10 (take (digits_len most text) text), drop (digits_len most text) text)
 
 -- the text behind a dot
 abbrev pub after_dot : List ℕ → Option (List ℕ)

@@ -1,7 +1,7 @@
--- Versions of servers, as texts.
--- (MySQL Reference Manual, "Which MySQL Version and Distribution to Install"; MariaDB: "Connecting", 'Initial handshake packet', the
--- prefix `5.5.5-`.)
-use Rattle.std.specs.Prelude.{◌≡◌, ◌≤◌, ◌⊎◌, ℕ, nat_le, ◌&&◌, Bool, true, false, List, [], ◌∷◌, ◌++◌, codes, length, Option, None, Some, ⊤}
+-- Versions of servers, as texts. (MySQL Reference Manual, "Which MySQL Version and Distribution to
+-- Install"; MariaDB: "Connecting", 'Initial handshake packet', the prefix `5.5.5-`.)
+use Rattle.std.specs.Prelude.{◌≡◌, ◌≤◌, ◌⊎◌, ℕ, nat_le, ◌&&◌, Bool, true, false, List, [], ◌∷◌, ◌++◌, codes, length}
+use Rattle.std.specs.Prelude.{Option, None, Some, ⊤}
 use Rattle.std.specs.List.{AllByRecursion}
 use Rattle.std.specs.Str.Parse.{digits_value}
 
@@ -20,7 +20,8 @@ abbrev pub NoDigitFirst : List ℕ → Type 0
 NoDigitFirst [] = ⊤
 NoDigitFirst (c ∷ text) = is_digit c ≡ false
 
--- a text begins with three groups of digits, with dots between, the last as long as it can be: the numbers that they write, and the text behind
+-- a text begins with three groups of digits, with dots between, the last as long as it can be: the
+-- numbers that they write, and the text behind
 pub record BeginsWith (text : List ℕ) (version : ℕ × ℕ × ℕ) (rest : List ℕ) : Type 0 where
   pub major : List ℕ
   pub minor : List ℕ
@@ -42,7 +43,9 @@ IsMarked text version = (rest : List ℕ) × BeginsWith text version (codes "-Ma
 
 -- the version of a MariaDB server; `5.5.5-` may stand before it
 abbrev pub IsMariadbVersion : List ℕ → ℕ × ℕ × ℕ → Type 0
-IsMariadbVersion text version = ((tail : List ℕ) × (text ≡ codes "5.5.5-" ++ tail) × IsMarked tail version) ⊎ IsMarked text version
+IsMariadbVersion text version =
+    ((tail : List ℕ) × (text ≡ codes "5.5.5-" ++ tail) × IsMarked tail version) ⊎
+    IsMarked text version
 
 -- the one value that this holds of, or none where it holds of none
 abbrev pub IsTheOne : {X : Type 0} → (X → Type 0) → Option X → Type 0

@@ -10,15 +10,17 @@ ghost use Rattle.mysql_auth.specs.Views.{plugin_view};
 ghost use Rattle.mysql_buf.specs.Writing.{front};
 ghost use Rattle.mysql_handshake.specs.Capabilities.{plugin_auth, secure_connection};
 ghost use Rattle.mysql_handshake.specs.HandshakeViews.{fixed_view, handshake_view};
-ghost use Rattle.mysql_handshake.specs.Handshakes.{HandshakeFields, block_at, fixed, fixed_at, fixed_written, flags_at, handshake, handshake_at, name_at, name_written, nonce_of, scramble_at, scramble_front, scramble_written, scrambles_length};
+ghost use Rattle.mysql_handshake.specs.Handshakes.{HandshakeFields, block_at, fixed, fixed_at, fixed_written, flags_at};
+ghost use Rattle.mysql_handshake.specs.Handshakes.{handshake, handshake_at, name_at, name_written, nonce_of};
+ghost use Rattle.mysql_handshake.specs.Handshakes.{scramble_at, scramble_front, scramble_written, scrambles_length};
 ghost use Rattle.mysql_handshake.specs.Versions.{IsMariadbVersion, IsTheOne, IsVersion};
-ghost use Rattle.mysql_raw.specs.Forms.{bytes_at};
-ghost use Rattle.mysql_raw.specs.Laws.{unsized};
-ghost use Rattle.mysql_raw.specs.Wire.{Tells, TellsPart};
-ghost use Rattle.mysql_raw_bytes.specs.Texts.{null_text};
-ghost use Rattle.mysql_raw_consts.specs.Either.{either_written};
-ghost use Rattle.mysql_raw_consts.specs.Flags.{contains};
-ghost use Rattle.mysql_raw.specs.WireError.TheVariants as wire;
+ghost use Rattle.mysql_fields.specs.Forms.{bytes_at};
+ghost use Rattle.mysql_fields.specs.Laws.{unsized};
+ghost use Rattle.mysql_fields.specs.Wire.{Tells, TellsPart};
+ghost use Rattle.mysql_fields.specs.Texts.{null_text};
+ghost use Rattle.mysql_field_constants.specs.Either.{either_written};
+ghost use Rattle.mysql_field_constants.specs.Flags.{contains};
+ghost use Rattle.mysql_fields.specs.declared.error.WireError.TheVariants as wire;
 
 use crate::versions::{mariadb_version, version_of};
 use bitflags::Flags;
@@ -26,12 +28,11 @@ use bstr::ByteSlice;
 use mysql_auth::{AuthPlugin, without_zero};
 use mysql_buf::{ParseBuf, front_of};
 use mysql_const::{CapabilityFlags, MariadbCapabilities, StatusFlags};
-use mysql_raw::{
-    LeU16, LeU32, LeU32LowerHalf, LeU32UpperHalf, MyDeserialize, MySerialize, ParseExt, RawInt,
-    Readable, WireError, in_order,
+use mysql_field_constants::{Const, Either, RawFlags, Skip};
+use mysql_fields::{
+    BareBytes, EofBytes, LeU16, LeU32, LeU32LowerHalf, LeU32UpperHalf, MyDeserialize, MySerialize,
+    NullBytes, ParseExt, RawBytes, RawInt, Readable, WireError, in_order,
 };
-use mysql_raw_bytes::{BareBytes, EofBytes, NullBytes, RawBytes};
-use mysql_raw_consts::{Const, Either, RawFlags, Skip};
 use std::alloc::{AllocError, Global};
 use std::borrow::{CowSlice, CowStr};
 
@@ -205,7 +206,8 @@ impl<'a> HandshakePacket<'a> {
     /// memory.
     pub fn server_version_str(&self, alloc: Global) -> Result<CowStr<'_>, WireError>
         ensures memory { IsOkUnless result wire.Memory }
-        ensures value { IfOk result (λ text. cow_str_bytes text ≡ encode_utf8_all (lossy_chars (handshake_view self.now).server_version)) }
+        ensures value { IfOk result (λ text. cow_str_bytes text ≡
+            encode_utf8_all (lossy_chars (handshake_view self.now).server_version)) }
     {
         Ok(self.server_version_ref().to_str_lossy(alloc)?)
     }
@@ -243,7 +245,8 @@ impl<'a> HandshakePacket<'a> {
 
     /// What follows of the nonce, if anything does; at most 247 bytes, and often a zero behind it.
     pub fn scramble_2_ref(&self) -> Option<&[u8]>
-        ensures { option_map (λ text. text.now) result ≡ option_map scramble_front (handshake_view self.now).scramble_2 }
+        ensures { option_map (λ text. text.now) result ≡
+            option_map scramble_front (handshake_view self.now).scramble_2 }
     {
         match &self.scramble_2 {
             None => None,
@@ -293,7 +296,9 @@ impl<'a> HandshakePacket<'a> {
     /// Refused for want of memory.
     pub fn auth_plugin_name_str(&self, alloc: Global) -> Result<Option<CowStr<'_>>, WireError>
         ensures memory { IsOkUnless result wire.Memory }
-        ensures value { IfOk result (λ text. option_map cow_str_bytes text ≡ option_map (λ name. encode_utf8_all (lossy_chars name)) (handshake_view self.now).auth_plugin_name) }
+        ensures value { IfOk result (λ text. option_map cow_str_bytes text ≡
+            option_map (λ name. encode_utf8_all (lossy_chars name))
+            (handshake_view self.now).auth_plugin_name) }
     {
         match &self.auth_plugin_name {
             None => Ok(None),
@@ -303,7 +308,9 @@ impl<'a> HandshakePacket<'a> {
 
     /// The plugin, if there is one. One more trailing zero of its name is dropped.
     pub fn auth_plugin(&self) -> Option<AuthPlugin<'_>>
-        ensures { option_map plugin_view result ≡ option_map (λ name. plugin_named (without_zero (without_zero name))) (handshake_view self.now).auth_plugin_name }
+        ensures { option_map plugin_view result ≡
+            option_map (λ name. plugin_named (without_zero (without_zero name)))
+            (handshake_view self.now).auth_plugin_name }
     {
         match &self.auth_plugin_name {
             None => None,
@@ -397,7 +404,8 @@ impl<'a> HandshakePacket<'a> {
 
     // What is written of a plugin's name.
     fn name_part(&self) -> Either<RawBytes<'_, NullBytes>, ()>
-        ensures { either_written (λ name. null_text (cow_slice_items name.0)) (λ _. []) result ≡ name_written (handshake_view self.now).auth_plugin_name }
+        ensures { either_written (λ name. null_text (cow_slice_items name.0)) (λ _. []) result ≡
+            name_written (handshake_view self.now).auth_plugin_name }
     {
         match &self.auth_plugin_name {
             None => Either::Right(()),
@@ -546,7 +554,8 @@ fn scramble_2_of<'a>(
     len: u8,
     buf: &mut ParseBuf<'a>,
 ) -> Result<Option<CowSlice<'a, u8>>, WireError>
-    ensures { TellsPart (option_map cow_slice_items) buf.new.0.now result (scramble_at capabilities.0 len buf.old.0.now) }
+    ensures { TellsPart (option_map cow_slice_items) buf.new.0.now result
+        (scramble_at capabilities.0 len buf.old.0.now) }
 {
     if !has_scramble_2(capabilities) {
         return Ok(None);

@@ -4,7 +4,8 @@ ghost use Rattle.std.specs.Prelude.{◌≡◌, ◌<◌, ◌≤◌, ℕ, length, 
 ghost use Rattle.std.specs.List.{prefix_len};
 ghost use Rattle.std.specs.Option.{option_map};
 ghost use Rattle.std.specs.Str.Parse.{digits_value};
-ghost use Rattle.mysql_handshake.specs.VersionReading.{after_dot, digits_len, mariadb_version, marked_version, number_after_dot, number_at, version_at, version_of};
+ghost use Rattle.mysql_handshake.specs.VersionReading.{after_dot, digits_len, mariadb_version, marked_version};
+ghost use Rattle.mysql_handshake.specs.VersionReading.{number_after_dot, number_at, version_at, version_of};
 ghost use Rattle.mysql_handshake.specs.Versions.{is_digit};
 
 /// What stands before the version of a MariaDB server from 10 on, for clients that take a first

@@ -1,16 +1,19 @@
--- A client's answer to the handshake.
--- (MySQL: Client/Server Protocol, "Protocol::HandshakeResponse41"; MariaDB: Client/Server Protocol, "Connecting", "Handshake Response Packet".)
--- A reading takes bytes from the front: x.0 is what was read and x.1 the bytes left; the first refusal counts.
-use Rattle.std.specs.Prelude.{◌==◌, ◌&&◌, ◌||◌, ℕ, nat_le, nat_lt, Bool, is_some, not, if◌then◌else◌, List, [], ◌∷◌, Option, Ok}
+-- A client's answer to the handshake. (MySQL: Client/Server Protocol,
+-- "Protocol::HandshakeResponse41"; MariaDB: Client/Server Protocol, "Connecting", "Handshake
+-- Response Packet".) A reading takes bytes from the front: x.0 is what was read and x.1 the bytes
+-- left; the first refusal counts.
+use Rattle.std.specs.Prelude.{◌==◌, ◌&&◌, ◌||◌, ℕ, nat_le, nat_lt, Bool, is_some, not, if◌then◌else◌, List, [], ◌∷◌}
+use Rattle.std.specs.Prelude.{Option, Ok}
 use Rattle.std.specs.List.{concat}
 use Rattle.mysql_auth.specs.Plugins.{Plugin}
 use Rattle.mysql_buf.specs.Writing.{front, lenenc_str, u8_str}
-use Rattle.mysql_raw.specs.Wire.{Reading, ◌>>=◌}
-use Rattle.mysql_raw_bytes.specs.Texts.{lenenc_text_at, null_text, null_text_at, u8_text_at}
-use Rattle.mysql_raw_consts.specs.Flags.{contains}
-use Rattle.mysql_attributes.specs.Attributes.{Attribute, attributes, attributes_at}
-use Rattle.mysql_handshake.specs.Capabilities.{connect_attrs, connect_with_db, plugin_auth, plugin_auth_lenenc_client_data, secure_connection}
-use Rattle.mysql_attributes.specs.Parts.{if_held, if_there, marked, plugin_text, plugin_to_zero_at}
+use Rattle.mysql_fields.specs.Wire.{Reading, ◌>>=◌}
+use Rattle.mysql_fields.specs.Texts.{lenenc_text_at, null_text, null_text_at, u8_text_at}
+use Rattle.mysql_field_constants.specs.Flags.{contains}
+use Rattle.mysql_connect_attributes.specs.Attributes.{Attribute, attributes, attributes_at}
+use Rattle.mysql_handshake.specs.Capabilities.{connect_attrs, connect_with_db, plugin_auth}
+use Rattle.mysql_handshake.specs.Capabilities.{plugin_auth_lenenc_client_data, secure_connection}
+use Rattle.mysql_connect_attributes.specs.Parts.{if_held, if_there, marked, plugin_text, plugin_to_zero_at}
 use Rattle.mysql_handshake_response.specs.SslRequests.{SslRequestFields, ssl_request, ssl_request_at}
 
 -- what stands first in it, the user, the answer to the scramble, the database, the plugin, the attributes
@@ -22,7 +25,8 @@ pub record ResponseFields : Type 0 where
   pub plugin : Option Plugin
   pub attributes : Option (List Attribute)
 
--- the answer to the scramble: after its length as a length-encoded number, after its length in one byte, or before a zero
+-- the answer to the scramble: after its length as a length-encoded number, after its length in one
+-- byte, or before a zero
 unfoldable pub scramble : ℕ → List ℕ → List ℕ
 scramble capabilities text =
     if contains capabilities plugin_auth_lenenc_client_data then lenenc_str text
@@ -37,7 +41,8 @@ scramble_at capabilities bytes =
 
 -- whether its length is written in one byte
 abbrev pub has_counted_scramble : ℕ → Bool
-has_counted_scramble capabilities = not (contains capabilities plugin_auth_lenenc_client_data) && contains capabilities secure_connection
+has_counted_scramble capabilities = not (contains capabilities plugin_auth_lenenc_client_data) &&
+    contains capabilities secure_connection
 
 -- as much of the answer to the scramble as its length can say
 abbrev pub counted_scramble : ℕ → List ℕ → List ℕ
@@ -79,7 +84,8 @@ response_at bytes = do
 
 -- a server's version is 5.5.3 or later
 abbrev pub knows_utf8mb4 : ℕ × ℕ × ℕ → Bool
-knows_utf8mb4 version = nat_lt 5 version.0 || ((version.0 == 5) && (nat_lt 5 version.1 || ((version.1 == 5) && nat_le 3 version.2)))
+knows_utf8mb4 version = nat_lt 5 version.0 ||
+    ((version.0 == 5) && (nat_lt 5 version.1 || ((version.1 == 5) && nat_le 3 version.2)))
 
 -- the collation of four-byte characters where the server knows it, else that of three-byte ones
 abbrev pub collation_for : ℕ × ℕ × ℕ → ℕ
@@ -88,4 +94,6 @@ collation_for version = if knows_utf8mb4 version then 45 else 33
 -- the capabilities say which parts are held
 abbrev pub marked_capabilities : {A B C : Type 0} → Option A → Option B → Option C → ℕ → ℕ
 marked_capabilities database plugin attributes capabilities =
-    marked connect_attrs (is_some attributes) (marked plugin_auth (is_some plugin) (marked connect_with_db (is_some database) capabilities))
+    marked connect_attrs (is_some attributes)
+    (marked plugin_auth (is_some plugin)
+    (marked connect_with_db (is_some database) capabilities))

@@ -1,6 +1,7 @@
--- The request for a secure connection, which is also what stands first in a client's answer to the handshake.
--- (MySQL: Client/Server Protocol, "Protocol::SSLRequest"; MariaDB: Client/Server Protocol, "Connecting", "SSLRequest Packet".)
--- A reading takes bytes from the front: x.0 is what was read and x.1 the bytes left; the first refusal counts.
+-- The request for a secure connection, which is also what stands first in a client's answer to the
+-- handshake. (MySQL: Client/Server Protocol, "Protocol::SSLRequest"; MariaDB: Client/Server
+-- Protocol, "Connecting", "SSLRequest Packet".) A reading takes bytes from the front: x.0 is what
+-- was read and x.1 the bytes left; the first refusal counts.
 use Rattle.std.specs.Prelude.{◌≡◌, ◌<◌, ◌^◌, ℕ, List, [], ◌∷◌, replicate, Ok}
 use Rattle.std.specs.Int.RustNames.{bit_and}
 use Rattle.std.specs.List.{concat}
@@ -8,9 +9,9 @@ use Rattle.byteorder.specs.Endian.{little_bytes}
 use Rattle.bitflags.specs.Sets.{known_bits}
 use Rattle.mysql_const.specs.CapabilityFlags.{capability_flags}
 use Rattle.mysql_const.specs.MariadbCapabilities.{mariadb_capabilities}
-use Rattle.mysql_raw.specs.Forms.{fixed_number_at}
-use Rattle.mysql_raw.specs.Wire.{Reading, from_block, ◌>>=◌}
-use Rattle.mysql_raw_consts.specs.Constants.{skipped_at}
+use Rattle.mysql_fields.specs.Forms.{fixed_number_at}
+use Rattle.mysql_fields.specs.Wire.{Reading, from_block, ◌>>=◌}
+use Rattle.mysql_field_constants.specs.Constants.{skipped_at}
 
 -- the bits that have names
 abbrev pub capability_bits : ℕ

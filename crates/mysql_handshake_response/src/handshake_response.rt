@@ -2,31 +2,36 @@
 
 ghost use Rattle.std.specs.Prelude.{◌≡◌, IfOk, None, map, option_map, IsOkUnless};
 ghost use Rattle.std.specs.Cow.{cow_slice_items};
-ghost use Rattle.mysql_attributes.specs.Attributes.{with_last_values};
-ghost use Rattle.mysql_attributes.specs.AttributeViews.{attributes_view, lossy_attribute, text_attribute};
-ghost use Rattle.mysql_attributes.specs.Parts.{marked, or_empty};
+ghost use Rattle.mysql_connect_attributes.specs.Attributes.{with_last_values};
+ghost use Rattle.mysql_connect_attributes.specs.AttributeViews.{attributes_view, lossy_attribute, text_attribute};
+ghost use Rattle.mysql_connect_attributes.specs.Parts.{marked, or_empty};
 ghost use Rattle.mysql_auth.specs.Views.{plugin_view};
 ghost use Rattle.mysql_buf.specs.Writing.{front};
 ghost use Rattle.mysql_handshake.specs.Capabilities.{connect_attrs, connect_with_db, plugin_auth};
-ghost use Rattle.mysql_raw.specs.Laws.{unsized};
-ghost use Rattle.mysql_raw.specs.Wire.{GivesPart, Tells};
-ghost use Rattle.mysql_raw.specs.WireError.TheVariants as wire;
-ghost use Rattle.mysql_handshake_response.specs.Responses.{ResponseFields, collation_for, counted_scramble, has_counted_scramble, knows_utf8mb4, marked_capabilities, named_parts_at, response, response_at, scramble, scramble_at};
+ghost use Rattle.mysql_fields.specs.Laws.{unsized};
+ghost use Rattle.mysql_fields.specs.Wire.{GivesPart, Tells};
+ghost use Rattle.mysql_fields.specs.declared.error.WireError.TheVariants as wire;
+ghost use Rattle.mysql_handshake_response.specs.Responses.{ResponseFields, collation_for, counted_scramble};
+ghost use Rattle.mysql_handshake_response.specs.Responses.{has_counted_scramble, knows_utf8mb4, marked_capabilities};
+ghost use Rattle.mysql_handshake_response.specs.Responses.{named_parts_at, response, response_at, scramble};
+ghost use Rattle.mysql_handshake_response.specs.Responses.{scramble_at};
 ghost use Rattle.mysql_handshake_response.specs.ResponseViews.{response_view};
-ghost use Rattle.mysql_attributes.specs.TextViews.{text_view};
+ghost use Rattle.mysql_connect_attributes.specs.TextViews.{text_view};
 
 use crate::ssl_request::SslRequest;
 use bitflags::Flags;
 use indexmap::IndexMap;
-use mysql_attributes::{
+use mysql_auth::AuthPlugin;
+use mysql_buf::{ParseBuf, front_of};
+use mysql_connect_attributes::{
     ConnectAttributes, IfHeld, attributes_of_texts, copied_attributes, copied_plugin, has,
     or_no_bytes, parse_if, plugin_to_zero,
 };
-use mysql_auth::AuthPlugin;
-use mysql_buf::{ParseBuf, front_of};
 use mysql_const::{CapabilityFlags, MariadbCapabilities, UTF8_GENERAL_CI, UTF8MB4_GENERAL_CI};
-use mysql_raw::{LenEnc, MyDeserialize, MySerialize, ParseExt, Readable, WireError, in_order};
-use mysql_raw_bytes::{BytesRepr, NullBytes, RawBytes, U8Bytes};
+use mysql_fields::{
+    BytesRepr, LenEnc, MyDeserialize, MySerialize, NullBytes, ParseExt, RawBytes, Readable,
+    U8Bytes, WireError, in_order,
+};
 use std::alloc::{AllocError, Global};
 use std::borrow::CowSlice;
 
@@ -72,7 +77,8 @@ fn marked_with(
     plugin: bool,
     attributes: bool,
 ) -> CapabilityFlags
-    ensures { result.0 ≡ marked connect_attrs attributes (marked plugin_auth plugin (marked connect_with_db database capabilities.0)) }
+    ensures { result.0 ≡ marked connect_attrs attributes
+        (marked plugin_auth plugin (marked connect_with_db database capabilities.0)) }
 {
     capabilities.set(CapabilityFlags::CLIENT_CONNECT_WITH_DB, database);
     capabilities.set(CapabilityFlags::CLIENT_PLUGIN_AUTH, plugin);
@@ -167,7 +173,14 @@ impl<'a> HandshakeResponse<'a> {
         mut self,
         mariadb_ext_capabilities: MariadbCapabilities,
     ) -> HandshakeResponse<'a>
-        ensures { response_view result ≡ record (response_view self.entry) { request = record ((response_view self.entry).request) { mariadb_capabilities = mariadb_ext_capabilities.0 } } }
+        ensures { response_view result ≡
+            record (response_view self.entry) {
+              request =
+                  record ((response_view self.entry).request) {
+                    mariadb_capabilities =
+                        mariadb_ext_capabilities.0;
+                  };
+            } }
     {
         self.request = self
             .request
@@ -208,8 +221,10 @@ impl<'a> HandshakeResponse<'a> {
     // Copies of the parts that the capabilities name.
     fn copied_parts(&self, alloc: Global) -> Result<NamedParts<'static>, AllocError>
         ensures database { IfOk result (λ copy. option_map text_view copy.0 ≡ option_map text_view self.now.db_name) }
-        ensures plugin { IfOk result (λ copy. option_map plugin_view copy.1 ≡ option_map plugin_view self.now.auth_plugin) }
-        ensures attributes { IfOk result (λ copy. option_map attributes_view copy.2 ≡ option_map attributes_view self.now.connect_attributes) }
+        ensures plugin { IfOk result (λ copy. option_map plugin_view copy.1 ≡
+            option_map plugin_view self.now.auth_plugin) }
+        ensures attributes { IfOk result (λ copy. option_map attributes_view copy.2 ≡
+            option_map attributes_view self.now.connect_attributes) }
     {
         let db_name = copied_name(alloc, &self.db_name)?;
         let auth_plugin = copied_plugin(alloc, &self.auth_plugin)?;
@@ -240,7 +255,8 @@ impl<'a> HandshakeResponse<'a> {
 
     /// The answer to the server's scramble; at most its first 255 bytes where its length is written in one byte.
     pub fn scramble_buf(&self) -> &[u8]
-        ensures { result.now ≡ counted_scramble (response_view self.now).request.capabilities (response_view self.now).scramble }
+        ensures { result.now ≡ counted_scramble (response_view self.now).request.capabilities
+            (response_view self.now).scramble }
     {
         let bytes = self.scramble_buf.as_slice();
         if is_counted(self.capabilities()) {
@@ -282,7 +298,10 @@ impl<'a> HandshakeResponse<'a> {
         alloc: Global,
     ) -> Result<Option<IndexMap<String, String>>, WireError>
         ensures memory { IsOkUnless result wire.Memory }
-        ensures value { IfOk result (λ texts. option_map (λ all. map text_attribute all.entries) texts ≡ option_map (λ all. with_last_values (map lossy_attribute all)) (response_view self.now).attributes) }
+        ensures value { IfOk result
+            (λ texts. option_map (λ all. map text_attribute all.entries) texts ≡
+            option_map (λ all. with_last_values (map lossy_attribute all))
+            (response_view self.now).attributes) }
     {
         match &self.connect_attributes {
             Some(all) => Ok(Some(all.texts(alloc)?)),
@@ -342,7 +361,12 @@ fn named_parts<'de>(
     capabilities: CapabilityFlags,
     rest: &mut ParseBuf<'de>,
 ) -> Result<NamedParts<'de>, WireError>
-    ensures { GivesPart (λ parts. (option_map text_view parts.0, option_map plugin_view parts.1, option_map attributes_view parts.2)) rest.new.0.now result (named_parts_at capabilities.0 rest.old.0.now) }
+    ensures { GivesPart (λ parts. (
+      option_map text_view parts.0,
+      option_map plugin_view parts.1,
+      option_map attributes_view parts.2,
+    )) rest.new.0.now result
+        (named_parts_at capabilities.0 rest.old.0.now) }
 {
     let with_database = has(capabilities, CapabilityFlags::CLIENT_CONNECT_WITH_DB);
     let db_name = parse_if(alloc, with_database, (), rest)?;

@@ -1,17 +1,18 @@
 //! The request for a secure connection.
 
 ghost use Rattle.std.specs.Prelude.{◌≡◌, Some, false};
-ghost use Rattle.mysql_raw.specs.Wire.{TellsPart};
-ghost use Rattle.mysql_handshake_response.specs.SslRequests.{IsSslRequest, SslRequestFields, ssl_fields_at, ssl_request, ssl_request_at};
+ghost use Rattle.mysql_fields.specs.Wire.{TellsPart};
+ghost use Rattle.mysql_handshake_response.specs.SslRequests.{IsSslRequest, SslRequestFields, ssl_fields_at};
+ghost use Rattle.mysql_handshake_response.specs.SslRequests.{ssl_request, ssl_request_at};
 ghost use Rattle.mysql_handshake_response.specs.SslRequestLaws.{ssl_request_at-back, ssl_request_at-sized};
 ghost use Rattle.mysql_handshake_response.specs.SslRequestViews.{ssl_request_view};
 
 use mysql_buf::ParseBuf;
 use mysql_const::{CapabilityFlags, MariadbCapabilities};
-use mysql_raw::{
+use mysql_field_constants::{RawFlags, Skip};
+use mysql_fields::{
     LeU32, MyDeserialize, MySerialize, ParseExt, RawInt, Readable, ReadsBack, WireError, in_order,
 };
-use mysql_raw_consts::{RawFlags, Skip};
 use std::alloc::{AllocError, Global};
 
 /// The request for a secure connection: the first 32 bytes of a client's answer to the handshake.
@@ -31,7 +32,14 @@ impl SslRequest {
     /// A request of a client with these capabilities, which takes packets of at most `max_packet_size`
     /// bytes and has this collation. It has none of MariaDB's own capabilities.
     pub fn new(capabilities: CapabilityFlags, max_packet_size: u32, character_set: u8) -> SslRequest
-        ensures { ssl_request_view result ≡ record { capabilities = capabilities.0; max_packet_size = max_packet_size; character_set = character_set; mariadb_capabilities = 0 } }
+        ensures { ssl_request_view result ≡
+            record {
+              capabilities = capabilities.0;
+              max_packet_size =
+                  max_packet_size;
+              character_set = character_set;
+              mariadb_capabilities = 0;
+            } }
     {
         SslRequest {
             capabilities,
@@ -46,7 +54,8 @@ impl SslRequest {
         mut self,
         mariadb_capabilities: MariadbCapabilities,
     ) -> SslRequest
-        ensures { ssl_request_view result ≡ record (ssl_request_view self) { mariadb_capabilities = mariadb_capabilities.0 } }
+        ensures { ssl_request_view result ≡
+            record (ssl_request_view self) { mariadb_capabilities = mariadb_capabilities.0 } }
     {
         self.mariadb_capabilities = mariadb_capabilities;
         self

@@ -8,14 +8,14 @@ use Rattle.mysql_auth.specs.Plugins.{Plugin}
 use Rattle.mysql_buf.specs.Writing.{u8_str}
 use Rattle.mysql_const.specs.Commands.{command_number}
 use Rattle.mysql_const.specs.declared.command.Command.TheVariants.{COM_CHANGE_USER}
-use Rattle.mysql_raw.specs.Forms.{fixed_number_at}
-use Rattle.mysql_raw.specs.Wire.{Reading, ◌>>=◌}
-use Rattle.mysql_raw_bytes.specs.Texts.{null_text, null_text_at, u8_text_at}
-use Rattle.mysql_raw_consts.specs.Constants.{constant_at}
-use Rattle.mysql_raw_consts.specs.Flags.{contains}
-use Rattle.mysql_attributes.specs.Attributes.{Attribute, attributes, attributes_at}
+use Rattle.mysql_fields.specs.Forms.{fixed_number_at}
+use Rattle.mysql_fields.specs.Wire.{Reading, ◌>>=◌}
+use Rattle.mysql_fields.specs.Texts.{null_text, null_text_at, u8_text_at}
+use Rattle.mysql_field_constants.specs.Constants.{constant_at}
+use Rattle.mysql_field_constants.specs.Flags.{contains}
+use Rattle.mysql_connect_attributes.specs.Attributes.{Attribute, attributes, attributes_at}
 use Rattle.mysql_handshake.specs.Capabilities.{connect_attrs, plugin_auth}
-use Rattle.mysql_attributes.specs.Parts.{if_held, if_there, plugin_before_zero_at, plugin_text}
+use Rattle.mysql_connect_attributes.specs.Parts.{if_held, if_there, plugin_before_zero_at, plugin_text}
 
 -- what may stand last: the collation, the plugin, the attributes
 pub record MoreFields : Type 0 where
@@ -30,7 +30,8 @@ or_none (Some all) = all
 
 -- the fields in that order; attributes are always written, though there be none
 unfoldable pub more_data : MoreFields → List ℕ
-more_data p = concat (little_bytes 2 p.character_set ∷ if_held plugin_text p.plugin ∷ attributes (or_none p.attributes) ∷ [])
+more_data p = concat (little_bytes 2 p.character_set ∷ if_held plugin_text p.plugin ∷
+    attributes (or_none p.attributes) ∷ [])
 
 -- the fields that stand first; the capabilities say which of the last two do
 unfoldable pub more_data_at : ℕ → List ℕ → Reading MoreFields
@@ -49,7 +50,8 @@ pub record ChangeUserFields : Type 0 where
 
 -- the command's number and the fields in that order
 unfoldable pub change_user : ChangeUserFields → List ℕ
-change_user p = concat (little_bytes 1 (command_number COM_CHANGE_USER) ∷ null_text p.user ∷ u8_str p.scramble ∷ null_text p.database ∷ if_held more_data p.more ∷ [])
+change_user p = concat (little_bytes 1 (command_number COM_CHANGE_USER) ∷ null_text p.user ∷
+    u8_str p.scramble ∷ null_text p.database ∷ if_held more_data p.more ∷ [])
 
 -- the database, and more where a byte follows it
 unfoldable pub database_and_more_at : ℕ → List ℕ → Reading (List ℕ × Option MoreFields)

@@ -2,29 +2,30 @@
 
 ghost use Rattle.std.specs.Prelude.{◌≡◌, [], IfOk, None, map, option_map};
 ghost use Rattle.std.specs.Cow.{cow_slice_items};
-ghost use Rattle.mysql_attributes.specs.Attributes.{attributes};
-ghost use Rattle.mysql_attributes.specs.AttributeViews.{attributes_view, text_attribute};
-ghost use Rattle.mysql_attributes.specs.Parts.{or_empty};
+ghost use Rattle.mysql_connect_attributes.specs.Attributes.{attributes};
+ghost use Rattle.mysql_connect_attributes.specs.AttributeViews.{attributes_view, text_attribute};
+ghost use Rattle.mysql_connect_attributes.specs.Parts.{or_empty};
 ghost use Rattle.mysql_auth.specs.Views.{plugin_view};
-ghost use Rattle.mysql_login.specs.ChangedUsers.{ChangeUserFields, MoreFields, change_user, change_user_at, database_and_more_at, more_data, more_data_at, or_none};
+ghost use Rattle.mysql_login.specs.ChangedUsers.{ChangeUserFields, MoreFields, change_user, change_user_at};
+ghost use Rattle.mysql_login.specs.ChangedUsers.{database_and_more_at, more_data, more_data_at, or_none};
 ghost use Rattle.mysql_login.specs.ChangedUserViews.{change_user_view, more_view};
-ghost use Rattle.mysql_raw.specs.Laws.{unsized};
-ghost use Rattle.mysql_raw.specs.Wire.{GivesPart};
-ghost use Rattle.mysql_attributes.specs.TextViews.{text_view};
+ghost use Rattle.mysql_fields.specs.Laws.{unsized};
+ghost use Rattle.mysql_fields.specs.Wire.{GivesPart};
+ghost use Rattle.mysql_connect_attributes.specs.TextViews.{text_view};
 
 use indexmap::IndexMap;
-use mysql_attributes::{
+use mysql_auth::AuthPlugin;
+use mysql_buf::ParseBuf;
+use mysql_connect_attributes::{
     ConnectAttributes, IfHeld, attributes_of_texts, copied_attributes, copied_pair, copied_plugin,
     has, or_no_bytes, owned_attributes, owned_pair, owned_plugin, parse_if, plugin_before_zero,
 };
-use mysql_auth::AuthPlugin;
-use mysql_buf::ParseBuf;
 use mysql_const::CapabilityFlags;
-use mysql_raw::{
-    LeU16, MyDeserialize, MySerialize, ParseExt, RawInt, Readable, WireError, in_order,
+use mysql_field_constants::ConstU8;
+use mysql_fields::{
+    LeU16, MyDeserialize, MySerialize, NullBytes, ParseExt, RawBytes, RawInt, Readable, U8Bytes,
+    WireError, in_order,
 };
-use mysql_raw_bytes::{NullBytes, RawBytes, U8Bytes};
-use mysql_raw_consts::ConstU8;
 use std::alloc::{AllocError, Global};
 use std::borrow::CowSlice;
 use thiserror::Error;
@@ -68,7 +69,8 @@ impl<'a> ComChangeUserMoreData<'a> {
         mut self,
         auth_plugin: Option<AuthPlugin<'a>>,
     ) -> ComChangeUserMoreData<'a>
-        ensures { more_view result ≡ record (more_view self.entry) { plugin = option_map plugin_view auth_plugin.entry } }
+        ensures { more_view result ≡
+            record (more_view self.entry) { plugin = option_map plugin_view auth_plugin.entry } }
     {
         self.auth_plugin = auth_plugin;
         self
@@ -80,7 +82,11 @@ impl<'a> ComChangeUserMoreData<'a> {
         alloc: Global,
         connect_attributes: Option<IndexMap<String, String>>,
     ) -> Result<ComChangeUserMoreData<'a>, AllocError>
-        ensures { IfOk result (λ more. more_view more ≡ record (more_view self.entry) { attributes = option_map (λ texts. map text_attribute texts.entries) connect_attributes }) }
+        ensures { IfOk result (λ more. more_view more ≡
+            record (more_view self.entry) {
+              attributes =
+                  option_map (λ texts. map text_attribute texts.entries) connect_attributes;
+            }) }
     {
         self.connect_attributes = attributes_of_texts(alloc, connect_attributes)?;
         Ok(self)
@@ -211,7 +217,11 @@ impl<'a> ComChangeUser<'a> {
 
     /// The command for this user, or for one without a name.
     pub fn with_user(self, user: Option<CowSlice<'a, u8>>) -> ComChangeUser<'a>
-        ensures { change_user_view result ≡ record (change_user_view self.entry) { user = or_empty (option_map cow_slice_items user.entry) } }
+        ensures { change_user_view result ≡
+            record (change_user_view self.entry) {
+              user =
+                  or_empty (option_map cow_slice_items user.entry);
+            } }
     {
         ComChangeUser {
             user: RawBytes::new(or_no_bytes(user)),
@@ -221,7 +231,11 @@ impl<'a> ComChangeUser<'a> {
 
     /// The command with this database, or with none.
     pub fn with_database(self, database: Option<CowSlice<'a, u8>>) -> ComChangeUser<'a>
-        ensures { change_user_view result ≡ record (change_user_view self.entry) { database = or_empty (option_map cow_slice_items database.entry) } }
+        ensures { change_user_view result ≡
+            record (change_user_view self.entry) {
+              database =
+                  or_empty (option_map cow_slice_items database.entry);
+            } }
     {
         ComChangeUser {
             database: RawBytes::new(or_no_bytes(database)),
@@ -234,7 +248,11 @@ impl<'a> ComChangeUser<'a> {
         self,
         auth_plugin_data: Option<CowSlice<'a, u8>>,
     ) -> ComChangeUser<'a>
-        ensures { change_user_view result ≡ record (change_user_view self.entry) { scramble = or_empty (option_map cow_slice_items auth_plugin_data.entry) } }
+        ensures { change_user_view result ≡
+            record (change_user_view self.entry) {
+              scramble =
+                  or_empty (option_map cow_slice_items auth_plugin_data.entry);
+            } }
     {
         ComChangeUser {
             auth_plugin_data: RawBytes::new(or_no_bytes(auth_plugin_data)),
@@ -247,7 +265,8 @@ impl<'a> ComChangeUser<'a> {
         mut self,
         more_data: Option<ComChangeUserMoreData<'a>>,
     ) -> ComChangeUser<'a>
-        ensures { change_user_view result ≡ record (change_user_view self.entry) { more = option_map more_view more_data.entry } }
+        ensures { change_user_view result ≡
+            record (change_user_view self.entry) { more = option_map more_view more_data.entry } }
     {
         self.more_data = more_data;
         self
@@ -394,7 +413,8 @@ fn database_and_more<'de>(
     capabilities: CapabilityFlags,
     rest: &mut ParseBuf<'de>,
 ) -> Result<(RawBytes<'de, NullBytes>, Option<ComChangeUserMoreData<'de>>), WireError>
-    ensures { GivesPart (λ parts. (text_view parts.0, option_map more_view parts.1)) rest.new.0.now result (database_and_more_at capabilities.0 rest.old.0.now) }
+    ensures { GivesPart (λ parts. (text_view parts.0, option_map more_view parts.1)) rest.new.0.now
+        result (database_and_more_at capabilities.0 rest.old.0.now) }
 {
     let database = rest.parse(alloc, ())?;
     let follows = !rest.is_empty();

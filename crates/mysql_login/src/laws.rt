@@ -2,4 +2,4 @@
 
 pub use mysql_gtid::laws as gtid;
 pub use mysql_handshake_response::laws::ssl_requests_read_back;
-pub use mysql_repl::laws as replication;
+pub use mysql_replication::laws as replication;

@@ -1,5 +1,6 @@
-//! Packets of logging in and of replication: the command that logs another user in, and the face of the crates below with the
-//! client's answers, the server's handshake, authentication and the packets that a replica sends.
+//! Packets of logging in and of replication: the command that logs another user in, and the face of
+//! the crates below with the client's answers, the server's handshake, authentication and the
+//! packets that a replica sends.
 #![tactic(auto)]
 
 mod change_user;
@@ -9,7 +10,6 @@ pub use crate::change_user::{
     ComChangeUser, ComChangeUserHeader, ComChangeUserMoreData, InvalidComChangeUserHeader,
 };
 pub use bitflags::Flags;
-pub use mysql_attributes::ConnectAttributes;
 pub use mysql_auth::{
     AuthMoreData, AuthMoreDataHeader, AuthPlugin, AuthPluginData, AuthSwitchRequest,
     AuthSwitchRequestHeader, InvalidAuthMoreDataHeader, InvalidAuthSwitchRequestHeader,
@@ -17,12 +17,13 @@ pub use mysql_auth::{
     PublicKeyRequestHeader, PublicKeyResponse, PublicKeyResponseHeader, parse_parsec_salt,
 };
 pub use mysql_buf::ParseBuf;
+pub use mysql_connect_attributes::ConnectAttributes;
 pub use mysql_const::{CapabilityFlags, MariadbCapabilities, StatusFlags};
+pub use mysql_field_constants::Either;
+pub use mysql_fields::{MyDeserialize, MySerialize, ParseExt, Readable, WireError};
 pub use mysql_handshake::HandshakePacket;
 pub use mysql_handshake_response::{HandshakeResponse, SslRequest};
-pub use mysql_raw::{MyDeserialize, MySerialize, ParseExt, Readable, WireError};
-pub use mysql_raw_consts::Either;
-pub use mysql_repl::{
+pub use mysql_replication::{
     BinlogDumpFlags, BinlogRequest, ComBinlogDump, ComBinlogDumpGtid, ComBinlogDumpGtidHeader,
     ComBinlogDumpHeader, ComRegisterSlave, ComRegisterSlaveHeader, ComTableDump,
     ComTableDumpHeader, GnoInterval, InvalidComBinlogDumpGtidHeader, InvalidComBinlogDumpHeader,

@@ -1,8 +1,8 @@
 //! Attributes of a connection.
 
 use crate::support::{Asserting, assert_each_refused, assert_makes, assert_texts, one_text};
+use mysql_fields::WireError;
 use mysql_login::ConnectAttributes;
-use mysql_raw::WireError;
 use std::alloc::{AllocError, Global};
 use tests_support::{Assert, assert_made, assert_reads_back, once_more, whole};
 
@@ -14,8 +14,8 @@ fn assert_read(assert: &impl Assert, alloc: Global, bytes: &[u8], wanted: &[u8])
     assert_texts(assert, alloc, texts, wanted);
 }
 
-// Attributes, and their texts one after another. A repeated key keeps its place and has its last value, and so have keys of
-// the same lossy text, which is U+FFFD.
+// Attributes, and their texts one after another. A repeated key keeps its place and has its last
+// value, and so have keys of the same lossy text, which is U+FFFD.
 const READ: [(&[u8], &[u8]); 2] = [
     (b"\x0c\x01a\x011\x01b\x012\x01a\x013", b"a3b2"),
     (b"\x08\x01\xff\x011\x01\xfe\x012", b"\xef\xbf\xbd2"),

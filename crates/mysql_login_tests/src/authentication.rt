@@ -4,11 +4,11 @@ use crate::support::{
     Asserting, assert_each_refused, assert_makes, assert_packet, assert_text, assert_writes,
     copy_of,
 };
+use mysql_fields::WireError;
 use mysql_login::{
     AuthMoreData, AuthPlugin, AuthSwitchRequest, OldAuthSwitchRequest, PublicKeyRequest,
     PublicKeyResponse,
 };
-use mysql_raw::WireError;
 use std::alloc::AllocError;
 use std::borrow::CowSlice;
 use tests_support::{assert_bytes, assert_cut_off, assert_equal, assert_same, whole};

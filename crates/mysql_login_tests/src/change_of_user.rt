@@ -2,8 +2,8 @@
 
 use crate::support::{Asserting, assert_makes, assert_writes, one_text};
 use mysql_const::CapabilityFlags;
+use mysql_fields::WireError;
 use mysql_login::{AuthPlugin, ComChangeUser, ComChangeUserMoreData};
-use mysql_raw::WireError;
 use std::alloc::{AllocError, Global};
 use std::borrow::CowSlice;
 use tests_support::{

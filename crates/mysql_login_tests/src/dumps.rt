@@ -1,8 +1,8 @@
 //! Requests for the binary log from a place.
 
 use crate::support::{Asserting, assert_each_refused, assert_makes, assert_packet, assert_text};
+use mysql_fields::WireError;
 use mysql_login::{BinlogDumpFlags, ComBinlogDump};
-use mysql_raw::WireError;
 use std::alloc::Global;
 use std::borrow::CowSlice;
 use tests_support::{Assert, assert_bytes, assert_equal, assert_reads_back};

@@ -1,6 +1,7 @@
 //! The bytes that begin packets, and their errors.
 
 use crate::support::Asserting;
+use mysql_fields::{MyDeserialize, MySerialize, Readable, WireError};
 use mysql_login::{
     AuthMoreDataHeader, AuthSwitchRequestHeader, ComBinlogDumpGtidHeader, ComBinlogDumpHeader,
     ComChangeUserHeader, ComRegisterSlaveHeader, ComTableDumpHeader, InvalidAuthMoreDataHeader,
@@ -9,7 +10,6 @@ use mysql_login::{
     InvalidPublicKeyRequest, InvalidPublicKeyResponse, InvalidSemiSyncAckPacketPacketHeader,
     PublicKeyRequestHeader, PublicKeyResponseHeader, SemiSyncAckPacketPacketHeader,
 };
-use mysql_raw::{MyDeserialize, MySerialize, Readable, WireError};
 use std::alloc::Global;
 use std::error::Error;
 use tests_support::{Assert, assert_bytes, assert_reads_back, assert_refused, once_more};

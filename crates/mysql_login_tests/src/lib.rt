@@ -1,5 +1,5 @@
-//! Tests of `mysql_login` and the crates below it from outside: worked packets of logging in and of replication, sets of
-//! global transaction identifiers, and packets that are cut off at each byte.
+//! Tests of `mysql_login` and the crates below it from outside: worked packets of logging in and of
+//! replication, sets of global transaction identifiers, and packets that are cut off at each byte.
 #![tactic(auto)]
 
 #[cfg(test)]

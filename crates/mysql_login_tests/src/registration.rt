@@ -1,8 +1,8 @@
 //! The packets of names and numbers alone: registration of a replica, dumps of a table, and acknowledgements.
 
 use crate::support::{Asserting, assert_each_refused, assert_makes, assert_packet, assert_text};
+use mysql_fields::WireError;
 use mysql_login::{ComRegisterSlave, ComTableDump, SemiSyncAckPacket};
-use mysql_raw::WireError;
 use std::alloc::Global;
 use std::borrow::CowSlice;
 use tests_support::{Assert, assert_bytes, assert_equal};

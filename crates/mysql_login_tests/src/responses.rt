@@ -17,10 +17,12 @@ const OF_ROOT_TO_MARIADB: &[u8] =
     b"\x05\xa2\xae\x81\0\0\0\x01\x2d\0\0\0\0\0\0\0\0\0\0\0\0\0\0\0\0\0\0\0\x04\0\0\0root\0\0mysql_native_password\0";
 
 const WITH_DATABASE: &[u8] =
-    b"\x0d\xa2\xae\x81\0\0\0\x01\x2d\0\0\0\0\0\0\0\0\0\0\0\0\0\0\0\0\0\0\0\0\0\0\0root\0\0mydb\0mysql_native_password\0";
+    b"\x0d\xa2\xae\x81\0\0\0\x01\x2d\0\0\0\0\0\0\0\0\0\0\0\0\0\0\0\0\0\0\0\0\0\0\0root\0\0mydb\0mys\
+    ql_native_password\0";
 
 const WITH_ATTRIBUTES: &[u8] =
-    b"\x0d\xa2\xbe\x81\0\0\0\x01\x2d\0\0\0\0\0\0\0\0\0\0\0\0\0\0\0\0\0\0\0\0\0\0\0root\0\0mydb\0mysql_native_password\0\x04\x01a\x011";
+    b"\x0d\xa2\xbe\x81\0\0\0\x01\x2d\0\0\0\0\0\0\0\0\0\0\0\0\0\0\0\0\0\0\0\0\0\0\0root\0\0mydb\0mys\
+    ql_native_password\0\x04\x01a\x011";
 
 // The answer of root, with this database and this attribute.
 fn response_of_root(
@@ -247,7 +249,8 @@ const READ: [(&[u8], &[u8], Said); 7] = [
     ),
     // A length-encoded number, overlong.
     (
-        b"\x00\x82\x20\x00\x00\x00\x00\x01\x2d\0\0\0\0\0\0\0\0\0\0\0\0\0\0\0\0\0\0\0\x00\x00\x00\x00root\0\xfc\x02\x00ab",
+        b"\x00\x82\x20\x00\x00\x00\x00\x01\x2d\0\0\0\0\0\0\0\0\0\0\0\0\0\0\0\0\0\0\0\x00\x00\x00\
+        \x00root\0\xfc\x02\x00ab",
         b"\x00\x82\x20\x00\x00\x00\x00\x01\x2d\0\0\0\0\0\0\0\0\0\0\0\0\0\0\0\0\0\0\0\x00\x00\x00\x00root\0\x02ab",
         Said {
             capabilities: 0x208200,
@@ -259,8 +262,10 @@ const READ: [(&[u8], &[u8], Said); 7] = [
     ),
     // A plugin that ends with the bytes, which is written with a zero.
     (
-        b"\x08\x82\x08\x00\x00\x00\x00\x01\x2d\0\0\0\0\0\0\0\0\0\0\0\0\0\0\0\0\0\0\0\x00\x00\x00\x00root\0\x02abmydb\0mysql_native_password",
-        b"\x08\x82\x08\x00\x00\x00\x00\x01\x2d\0\0\0\0\0\0\0\0\0\0\0\0\0\0\0\0\0\0\0\x00\x00\x00\x00root\0\x02abmydb\0mysql_native_password\0",
+        b"\x08\x82\x08\x00\x00\x00\x00\x01\x2d\0\0\0\0\0\0\0\0\0\0\0\0\0\0\0\0\0\0\0\x00\x00\x00\
+        \x00root\0\x02abmydb\0mysql_native_password",
+        b"\x08\x82\x08\x00\x00\x00\x00\x01\x2d\0\0\0\0\0\0\0\0\0\0\0\0\0\0\0\0\0\0\0\x00\x00\x00\
+        \x00root\0\x02abmydb\0mysql_native_password\0",
         Said {
             capabilities: 0x88208,
             mariadb: 0,
@@ -283,8 +288,10 @@ const READ: [(&[u8], &[u8], Said); 7] = [
     ),
     // Attributes without a plugin.
     (
-        b"\x00\x82\x10\x00\x00\x00\x00\x01\x2d\0\0\0\0\0\0\0\0\0\0\0\0\0\0\0\0\0\0\0\x00\x00\x00\x00root\0\0\x04\x01a\x011",
-        b"\x00\x82\x10\x00\x00\x00\x00\x01\x2d\0\0\0\0\0\0\0\0\0\0\0\0\0\0\0\0\0\0\0\x00\x00\x00\x00root\0\0\x04\x01a\x011",
+        b"\x00\x82\x10\x00\x00\x00\x00\x01\x2d\0\0\0\0\0\0\0\0\0\0\0\0\0\0\0\0\0\0\0\x00\x00\x00\
+        \x00root\0\0\x04\x01a\x011",
+        b"\x00\x82\x10\x00\x00\x00\x00\x01\x2d\0\0\0\0\0\0\0\0\0\0\0\0\0\0\0\0\0\0\0\x00\x00\x00\
+        \x00root\0\0\x04\x01a\x011",
         Said {
             capabilities: 0x108200,
             mariadb: 0,

@@ -25,8 +25,8 @@ fn assert_printed(assert: &impl Assert, alloc: Global, text: &str, wanted: &str)
 #[test]
 fn printed_sets(rt: HostRuntime) {
     let assert = Asserting(&rt);
-    // The source is printed in lower case, and each interval in its shortest form. The last three are printed as they are.
-    // A number that doesn't stand first may have a plus.
+    // The source is printed in lower case, and each interval in its shortest form. The last three
+    // are printed as they are. A number that doesn't stand first may have a plus.
     let rows = [
         (
             "3E11FA47-71CA-11E1-9E33-C80AA9429562:1-5:10-15",

@@ -1,13 +1,14 @@
 //! What the tests share.
 //!
-//! A value that a function drops at its end is taken apart there, part by part, which is dear to prove. So a test hands each
-//! packet to a generic function that takes it, be it `drop`: at a type parameter that is one call.
+//! A value that a function drops at its end is taken apart there, part by part, which is dear to
+//! prove. So a test hands each packet to a generic function that takes it, be it `drop`: at a type
+//! parameter that is one call.
 
 ghost use Rattle.std.specs.Prelude.{◌≡◌, true};
 
 use indexmap::IndexMap;
+use mysql_fields::{MyDeserialize, MySerialize, Readable, WireError};
 use mysql_login::{GnoInterval, Sid, Tag};
-use mysql_raw::{MyDeserialize, MySerialize, Readable, WireError};
 use std::alloc::{AllocError, Global};
 use std::borrow::CowStr;
 use std::fmt::Debug;
@@ -95,8 +96,8 @@ pub fn assert_writes<T: MySerialize + Drop>(
     assert_written_behind(assert, alloc, &value, bytes);
 }
 
-/// Asserts that a packet is written as these bytes, that they are read as a packet which is written as the same bytes, and
-/// that each prefix shorter than `len` is cut off.
+/// Asserts that a packet is written as these bytes, that they are read as a packet which is written
+/// as the same bytes, and that each prefix shorter than `len` is cut off.
 pub fn assert_packet<'a, T: MySerialize + MyDeserialize<'a> + Readable<Ctx = ()> + Drop>(
     assert: &impl Assert,
     alloc: Global,

@@ -10,3 +10,6 @@ terminators_read_back = terminator-back
 
 pub eof_packets_read_back : EofPacketsReadBack
 eof_packets_read_back = eof-back
+
+-- What is read back, for searches.
+pub ruleset read_back = (ok_packets_read_back, terminators_read_back, eof_packets_read_back)

@@ -4,11 +4,11 @@
 use Rattle.std.specs.Prelude.{ℕ, zero, suc, List, [], ◌∷◌, Bool, Option, Some, None, Ok, ◌==◌, if◌then◌else◌}
 use Rattle.std.specs.Str.{encode_utf8_all}
 use Rattle.bstr.specs.Utf8.{lossy_chars}
-use Rattle.mysql_raw.specs.Forms.{bytes_at, lenenc_number_at, fixed_number_at}
-use Rattle.mysql_raw.specs.Wire.{Reading, ◌>>=◌}
-use Rattle.mysql_raw_bytes.specs.Texts.{lenenc_text_at}
-use Rattle.mysql_raw_consts.specs.Constants.{constant_at, named_at}
-use Rattle.mysql_raw_consts.specs.Flags.{contains, status_named}
+use Rattle.mysql_fields.specs.Forms.{bytes_at, lenenc_number_at, fixed_number_at}
+use Rattle.mysql_fields.specs.Wire.{Reading, ◌>>=◌}
+use Rattle.mysql_fields.specs.Texts.{lenenc_text_at}
+use Rattle.mysql_field_constants.specs.Constants.{constant_at, named_at}
+use Rattle.mysql_field_constants.specs.Flags.{contains, status_named}
 use Rattle.mysql_session_states.specs.SessionStates.{State, states_at}
 
 -- None for a field that holds no bytes.
@@ -41,8 +41,9 @@ abbrev pub unless_zero : ℕ → Option ℕ
 unless_zero zero = None
 unless_zero (suc n) = Some (suc n)
 
--- What may follow the warnings of an OK packet: the info and the session state. The manual has the info as string<EOF> where sessions
--- aren't tracked; servers write it after its length in each case.
+-- What may follow the warnings of an OK packet: the info and the session state. The manual has the
+-- info as string<EOF> where sessions aren't tracked; servers write it after its length in each
+-- case.
 unfoldable pub info_at : ℕ → ℕ → List ℕ → Reading (List ℕ × List ℕ)
 info_at capabilities status [] = Ok (([], []), [])
 info_at capabilities status (b ∷ bytes) =

@@ -3,7 +3,7 @@ use Rattle.std.specs.Prelude.{◌≡◌, ℕ, List, Option, option_map, Result, 
 use Rattle.std.specs.Cow.{cow_slice_items}
 use Rattle.std.specs.declared.alloc.Global.{Global}
 use Rattle.std.specs.declared.borrow.CowSlice.{CowSlice}
-use Rattle.mysql_raw.specs.WireError.{WireError}
+use Rattle.mysql_fields.specs.declared.error.WireError.{WireError}
 use Rattle.mysql_ok_packets.specs.declared.body.OkPacketBody.{OkPacketBody}
 use Rattle.mysql_ok_packets.specs.declared.ok_packet.OkPacket.{OkPacket as OkPacketOf}
 use Rattle.mysql_ok_packets.specs.OkPackets.{OkPacket, unless_empty, unless_zero}

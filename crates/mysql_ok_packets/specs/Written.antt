@@ -1,11 +1,12 @@
 -- OK and EOF packets, as they are written, and what is read of one that was.
 -- MySQL: Client/Server Protocol, "OK_Packet" and "EOF_Packet".
-use Rattle.std.specs.Prelude.{◌≡◌, ◌<◌, ◌^◌, ℕ, List, [], ◌∷◌, ◌++◌, length, Bool, true, ◌&&◌, if◌then◌else◌, Option, Some, None}
+use Rattle.std.specs.Prelude.{◌≡◌, ◌<◌, ◌^◌, ℕ, List, [], ◌∷◌, ◌++◌, length, Bool, true, ◌&&◌, if◌then◌else◌, Option}
+use Rattle.std.specs.Prelude.{Some, None}
 use Rattle.std.specs.List.{concat}
 use Rattle.byteorder.specs.Endian.{little_bytes}
 use Rattle.mysql_buf.specs.Writing.{lenenc_int, lenenc_str}
 use Rattle.mysql_const.specs.StatusFlags.{status_flags}
-use Rattle.mysql_raw_consts.specs.Flags.{are_named}
+use Rattle.mysql_field_constants.specs.Flags.{are_named}
 use Rattle.mysql_ok_packets.specs.OkPackets.{OkPacket, session_state_changed, session_track, unless_empty, unless_zero}
 
 -- The number, or 0 for none.
@@ -27,10 +28,12 @@ lenenc_unless_empty (b ∷ text) = lenenc_str (b ∷ text)
 abbrev pub tells_state : ℕ → ℕ → Bool
 tells_state capabilities status = session_track capabilities && session_state_changed status
 
--- What follows the warnings: the info and the session state where that stands there, else the info where it isn't empty.
+-- What follows the warnings: the info and the session state where that stands there, else the info
+-- where it isn't empty.
 unfoldable pub info_bytes : ℕ → OkPacket → List ℕ
 info_bytes capabilities p =
-    if tells_state capabilities p.status_flags then lenenc_str (or_empty p.info) ++ lenenc_str (or_empty p.session_state_info)
+    if tells_state capabilities p.status_flags then lenenc_str (or_empty p.info) ++
+    lenenc_str (or_empty p.session_state_info)
     else lenenc_unless_empty (or_empty p.info)
 
 -- An OK packet behind its header.
@@ -67,7 +70,8 @@ with_status status p = record {
   session_state_info = p.session_state_info;
 }
 
--- What is read of an OK packet: an id of 0 is none, empty texts are none, and the session state is there where it stands.
+-- What is read of an OK packet: an id of 0 is none, empty texts are none, and the session state is
+-- there where it stands.
 abbrev pub as_ok : ℕ → OkPacket → OkPacket
 as_ok capabilities p = record {
   affected_rows = p.affected_rows;
@@ -75,7 +79,8 @@ as_ok capabilities p = record {
   status_flags = p.status_flags;
   warnings = p.warnings;
   info = unless_empty (or_empty p.info);
-  session_state_info = if tells_state capabilities p.status_flags then unless_empty (or_empty p.session_state_info) else None;
+  session_state_info = if tells_state capabilities p.status_flags then unless_empty
+      (or_empty p.session_state_info) else None;
 }
 
 -- What is read of one that ends a result set: the same without rows and id.

@@ -1,16 +1,17 @@
 //! What stands behind the header of an OK or EOF packet.
 
 ghost use Rattle.std.specs.Prelude.{◌≡◌};
-ghost use Rattle.mysql_raw.specs.Wire.{TellsPart};
-ghost use Rattle.mysql_raw_bytes.specs.Texts.{lenenc_text_at};
-ghost use Rattle.mysql_ok_packets.specs.OkPackets.{info_at, old_eof_body_at, session_state_changed, session_track, status_and_info_at};
+ghost use Rattle.mysql_fields.specs.Wire.{TellsPart};
+ghost use Rattle.mysql_fields.specs.Texts.{lenenc_text_at};
+ghost use Rattle.mysql_ok_packets.specs.OkPackets.{info_at, old_eof_body_at, session_state_changed, session_track};
+ghost use Rattle.mysql_ok_packets.specs.OkPackets.{status_and_info_at};
 ghost use Rattle.mysql_ok_packets.specs.Views.{body_view};
 
 use bitflags::Flags;
 use mysql_buf::ParseBuf;
 use mysql_const::{CapabilityFlags, StatusFlags};
-use mysql_raw::{LeU16, ParseExt, RawInt, WireError};
-use mysql_raw_consts::Const;
+use mysql_field_constants::Const;
+use mysql_fields::{LeU16, ParseExt, RawInt, WireError};
 use std::alloc::Global;
 
 /// What stands behind the header of an OK or EOF packet. It borrows its bytes from the packet.
@@ -86,7 +87,8 @@ pub(crate) fn status_and_info_of<'a>(
     last_insert_id: u64,
     buf: &mut ParseBuf<'a>,
 ) -> Result<OkPacketBody<'a>, WireError>
-    ensures { TellsPart body_view buf.new.0.now result (status_and_info_at capabilities.0 affected_rows last_insert_id buf.old.0.now) }
+    ensures { TellsPart body_view buf.new.0.now result
+        (status_and_info_at capabilities.0 affected_rows last_insert_id buf.old.0.now) }
 {
     let mut block = buf.parse::<ParseBuf>(alloc, 4)?;
     let status = block.parse::<Const<StatusFlags, LeU16>>(alloc, ())?;

@@ -1,7 +1,7 @@
 //! Reading OK and EOF packets.
 
 ghost use Rattle.std.specs.Prelude.{◌≡◌, IfOk, None, false};
-ghost use Rattle.mysql_raw.specs.Laws.{unsized};
+ghost use Rattle.mysql_fields.specs.Laws.{unsized};
 ghost use Rattle.mysql_ok_packets.specs.OkPackets.{OkPacket as OkPacketFields, packet_at};
 ghost use Rattle.mysql_ok_packets.specs.Views.{ok_packet_view};
 
@@ -9,7 +9,7 @@ use crate::kind::OkPacketKind;
 use crate::ok_packet::OkPacket;
 use mysql_buf::ParseBuf;
 use mysql_const::CapabilityFlags;
-use mysql_raw::{MyDeserialize, ParseExt, RawInt, Readable, WireError};
+use mysql_fields::{MyDeserialize, ParseExt, RawInt, Readable, WireError};
 use std::alloc::{AllocError, Global};
 use std::marker::PhantomData;
 use thiserror::Error;
@@ -73,8 +73,9 @@ impl<'de, T: OkPacketKind> Readable for OkPacketDeserializer<'de, T> {
     }
 }
 
-/// Reads a packet of the kind `T`, by the client's capabilities. Refused by `UnexpectedEof` where there is no byte, then by
-/// `BadConstant` for another first byte than the kind's, then as the kind refuses what follows.
+/// Reads a packet of the kind `T`, by the client's capabilities. Refused by `UnexpectedEof` where
+/// there is no byte, then by `BadConstant` for another first byte than the kind's, then as the kind
+/// refuses what follows.
 ///
 /// MySQL: Client/Server Protocol, "OK_Packet" and "EOF_Packet".
 impl<'de, T: OkPacketKind> MyDeserialize<'de> for OkPacketDeserializer<'de, T> {

@@ -1,18 +1,20 @@
 //! The kinds of OK and EOF packets.
 
 ghost use Rattle.std.specs.Prelude.{◌≡◌, List, Ok, [], ℕ};
-ghost use Rattle.mysql_raw.specs.Wire.{Appends, Reading, Tells};
+ghost use Rattle.mysql_fields.specs.Wire.{Appends, Reading, Tells};
 ghost use Rattle.mysql_ok_packets.specs.BackLaws.{eof_body-back, ok_body-back, terminator_body-back};
-ghost use Rattle.mysql_ok_packets.specs.OkPackets.{OkPacket as OkPacketFields, ok_body_at, old_eof_body_at, result_set_terminator_body_at};
+ghost use Rattle.mysql_ok_packets.specs.OkPackets.{OkPacket as OkPacketFields, ok_body_at, old_eof_body_at};
+ghost use Rattle.mysql_ok_packets.specs.OkPackets.{result_set_terminator_body_at};
 ghost use Rattle.mysql_ok_packets.specs.Views.{body_view, ok_packet_view};
-ghost use Rattle.mysql_ok_packets.specs.Written.{IsWritable, as_eof, as_ok, as_terminator, eof_body_bytes, ok_body_bytes, with_status};
+ghost use Rattle.mysql_ok_packets.specs.Written.{IsWritable, as_eof, as_ok, as_terminator, eof_body_bytes};
+ghost use Rattle.mysql_ok_packets.specs.Written.{ok_body_bytes, with_status};
 
 use crate::body::{OkPacketBody, old_eof_body_of, status_and_info_of};
 use crate::ok_packet::OkPacket;
 use crate::writing::{write_eof_body, write_ok_body};
 use mysql_buf::ParseBuf;
 use mysql_const::{CapabilityFlags, StatusFlags};
-use mysql_raw::{LenEnc, ParseExt, RawInt, WireError};
+use mysql_fields::{LenEnc, ParseExt, RawInt, WireError};
 use std::alloc::{AllocError, Global};
 
 /// A kind of OK or EOF packets: its first byte, and what follows, read and written.
@@ -41,26 +43,29 @@ pub trait OkPacketKind {
     ) -> Result<OkPacketBody<'de>, WireError>
         ensures { Tells body_view buf.old.0.now buf.new.0.now result (body_at capabilities.0 buf.old.0.now) };
 
-    /// Appends what follows the header, with this status in place of the packet's own. Refused for want of memory alone, and the
-    /// buffer is then as it was.
+    /// Appends what follows the header, with this status in place of the packet's own. Refused for
+    /// want of memory alone, and the buffer is then as it was.
     fn write_body(
         capabilities: CapabilityFlags,
         status: StatusFlags,
         packet: &OkPacket,
         buf: &mut Vec<u8>,
     ) -> Result<(), AllocError>
-        ensures { Appends result buf.old.items buf.new.items (body_bytes capabilities.0 (with_status status.0 (ok_packet_view packet.now))) };
+        ensures { Appends result buf.old.items buf.new.items
+            (body_bytes capabilities.0 (with_status status.0 (ok_packet_view packet.now))) };
 
     // what was written is read back where nothing follows it
-    ghost reads_back: { (capabilities : ℕ) (p : OkPacketFields) → IsWritable p → body_at capabilities (body_bytes capabilities p) ≡ Ok (kept capabilities p, []) };
+    ghost reads_back: { (capabilities : ℕ) (p : OkPacketFields) → IsWritable p →
+        body_at capabilities (body_bytes capabilities p) ≡ Ok (kept capabilities p, []) };
 }
 
 /// The OK packet that answers a command without rows.
 #[derive(Clone, Copy, Debug, PartialEq, Eq, Hash)]
 pub struct CommonOkPacket;
 
-/// Refused by `UnexpectedEof` where one of the two numbers, status and warnings together, the info or the session state is cut
-/// off, and by `UnknownValue` for a status bit without a name, whichever stands first.
+/// Refused by `UnexpectedEof` where one of the two numbers, status and warnings together, the info
+/// or the session state is cut off, and by `UnknownValue` for a status bit without a name,
+/// whichever stands first.
 ///
 /// MySQL: Client/Server Protocol, "OK_Packet".
 impl OkPacketKind for CommonOkPacket {
@@ -146,8 +151,8 @@ impl OkPacketKind for ResultSetTerminator {
 #[derive(Clone, Copy, Debug, PartialEq, Eq, Hash)]
 pub struct OldEofPacket;
 
-/// Warnings and status, without regard to the capabilities. Refused by `UnexpectedEof` where they are cut off, and then by
-/// `UnknownValue` for a status bit without a name.
+/// Warnings and status, without regard to the capabilities. Refused by `UnexpectedEof` where they
+/// are cut off, and then by `UnknownValue` for a status bit without a name.
 ///
 /// MySQL: Client/Server Protocol, "EOF_Packet".
 impl OkPacketKind for OldEofPacket {

@@ -1,12 +1,14 @@
 //! Laws of OK and EOF packets. Functions without a result do nothing: their contracts are the laws.
 
-ghost use Rattle.mysql_ok_packets.specs.Statements.{EofPacketsAreTheirOwn, EofPacketsReadBack, KindReadsBack, OkPacketsAreTheirOwn, OkPacketsReadBack, TerminatorsAreTheirOwn, TerminatorsReadBack};
+ghost use Rattle.mysql_ok_packets.specs.Statements.{EofPacketsAreTheirOwn, EofPacketsReadBack, KindReadsBack};
+ghost use Rattle.mysql_ok_packets.specs.Statements.{OkPacketsAreTheirOwn, OkPacketsReadBack, TerminatorsAreTheirOwn};
+ghost use Rattle.mysql_ok_packets.specs.Statements.{TerminatorsReadBack};
 
 use crate::kind::OkPacketKind;
 
-/// A packet that was written is read again by its kind where nothing follows it: an OK packet that answers a command, one that
-/// ends a result set, and an EOF packet.
-#[tactic(auto, using(crate::proofs::Back::ok_packets_read_back, crate::proofs::Back::terminators_read_back, crate::proofs::Back::eof_packets_read_back))]
+/// A packet that was written is read again by its kind where nothing follows it: an OK packet that
+/// answers a command, one that ends a result set, and an EOF packet.
+#[tactic(auto, using(crate::proofs::Back::read_back))]
 pub fn ok_packets_read_back()
     ensures ok { OkPacketsReadBack }
     ensures terminator { TerminatorsReadBack }
@@ -21,7 +23,8 @@ pub fn kinds_read_back<T: OkPacketKind>()
     let _header = T::HEADER;
 }
 
-/// A packet that was read can be written, and what is read of that is the packet: reading and writing again gives one form.
+/// A packet that was read can be written, and what is read of that is the packet: reading and
+/// writing again gives one form.
 pub fn packets_are_their_own()
     ensures ok { OkPacketsAreTheirOwn }
     ensures terminator { TerminatorsAreTheirOwn }

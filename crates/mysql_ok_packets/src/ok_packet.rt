@@ -2,10 +2,11 @@
 
 ghost use Rattle.std.specs.Prelude.{◌≡◌, IfOk, IsOkUnless, [], map, option_map};
 ghost use Rattle.std.specs.Cow.{cow_str_bytes};
-ghost use Rattle.mysql_raw.specs.Wire.{GivesPart};
-ghost use Rattle.mysql_raw.specs.WireError.TheVariants as wire;
+ghost use Rattle.mysql_fields.specs.Wire.{GivesPart};
+ghost use Rattle.mysql_fields.specs.declared.error.WireError.TheVariants as wire;
 ghost use Rattle.mysql_session_states.specs.Views.{state_view};
-ghost use Rattle.mysql_ok_packets.specs.OkPackets.{all_states_at, lossy_text, more_results_exist, unless_empty, unless_zero};
+ghost use Rattle.mysql_ok_packets.specs.OkPackets.{all_states_at, lossy_text, more_results_exist, unless_empty};
+ghost use Rattle.mysql_ok_packets.specs.OkPackets.{unless_zero};
 ghost use Rattle.mysql_ok_packets.specs.Views.{IsPacketOf, body_view, bytes_view, ok_packet_view};
 ghost use Rattle.mysql_ok_packets.specs.Written.{is_named_status, or_empty, or_zero};
 
@@ -13,8 +14,8 @@ use crate::body::OkPacketBody;
 use bitflags::Flags;
 use bstr::ByteSlice;
 use mysql_const::StatusFlags;
-use mysql_raw::WireError;
-use mysql_raw_consts::ConstValue;
+use mysql_field_constants::ConstValue;
+use mysql_fields::WireError;
 use mysql_session_states::{SessionStateInfo, states_of};
 use std::alloc::{AllocError, Global};
 use std::borrow::{CowSlice, CowStr};
@@ -151,8 +152,8 @@ impl<'a> OkPacket<'a> {
         }
     }
 
-    /// The packet that says this, as a server sends it. An id of 0 is none, and so are an empty info and an empty session state, as
-    /// in a packet that was read.
+    /// The packet that says this, as a server sends it. An id of 0 is none, and so are an empty
+    /// info and an empty session state, as in a packet that was read.
     pub fn new(
         affected_rows: u64,
         last_insert_id: Option<u64>,
@@ -268,11 +269,12 @@ impl<'a> OkPacket<'a> {
         lent(&self.info)
     }
 
-    /// The server's text on the command as text, where it isn't empty; bytes that aren't UTF-8 are replaced. Refused for want of
-    /// memory.
+    /// The server's text on the command as text, where it isn't empty; bytes that aren't UTF-8 are
+    /// replaced. Refused for want of memory.
     pub fn info_str(&self, alloc: Global) -> Result<Option<CowStr<'_>>, WireError>
         ensures memory { IsOkUnless result wire.Memory }
-        ensures value { IfOk result (λ text. option_map cow_str_bytes text ≡ option_map lossy_text (ok_packet_view self.now).info) }
+        ensures value { IfOk result (λ text. option_map cow_str_bytes text ≡
+            option_map lossy_text (ok_packet_view self.now).info) }
     {
         match &self.info {
             Some(info) => Ok(Some(info.as_slice().to_str_lossy(alloc)?)),
@@ -287,12 +289,14 @@ impl<'a> OkPacket<'a> {
         lent(&self.session_state_info)
     }
 
-    /// The changes of the session's state, in their order; none where there are none. Refused by `UnexpectedEof` where one is cut
-    /// off and by `UnknownValue` for a type without a name, whichever stands first, and by `Memory`.
+    /// The changes of the session's state, in their order; none where there are none. Refused by
+    /// `UnexpectedEof` where one is cut off and by `UnknownValue` for a type without a name,
+    /// whichever stands first, and by `Memory`.
     ///
     /// MySQL: Client/Server Protocol, "OK_Packet", 'Session State Information'.
     pub fn session_state_info(&self, alloc: Global) -> Result<Vec<SessionStateInfo<'_>>, WireError>
-        ensures { GivesPart (λ all. map state_view all.items) [] result (all_states_at (ok_packet_view self.now).session_state_info) }
+        ensures { GivesPart (λ all. map state_view all.items) [] result
+            (all_states_at (ok_packet_view self.now).session_state_info) }
     {
         match &self.session_state_info {
             Some(bytes) => states_of(alloc, bytes.as_slice()),

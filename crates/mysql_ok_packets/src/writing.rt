@@ -1,7 +1,7 @@
 //! Writing OK and EOF packets.
 
 ghost use Rattle.std.specs.Prelude.{◌∷◌};
-ghost use Rattle.mysql_raw.specs.Wire.{Appends};
+ghost use Rattle.mysql_fields.specs.Wire.{Appends};
 ghost use Rattle.mysql_ok_packets.specs.Views.{ok_packet_view};
 ghost use Rattle.mysql_ok_packets.specs.Written.{eof_body_bytes, info_bytes, ok_body_bytes, with_status};
 
@@ -10,9 +10,8 @@ use crate::kind::OkPacketKind;
 use crate::ok_packet::OkPacket;
 use mysql_buf::BufMutExt;
 use mysql_const::{CapabilityFlags, StatusFlags};
-use mysql_raw::{LeU16, LenEnc, MySerialize, RawInt, in_order};
-use mysql_raw_bytes::RawBytes;
-use mysql_raw_consts::Const;
+use mysql_field_constants::Const;
+use mysql_fields::{LeU16, LenEnc, MySerialize, RawBytes, RawInt, in_order};
 use std::alloc::AllocError;
 
 // What follows the warnings of an OK packet, where it has this status and goes to a client of these capabilities.
@@ -49,7 +48,8 @@ pub(crate) fn write_ok_body(
     packet: &OkPacket,
     buf: &mut Vec<u8>,
 ) -> Result<(), AllocError>
-    ensures { Appends result buf.old.items buf.new.items (ok_body_bytes capabilities.0 (with_status status.0 (ok_packet_view packet.now))) }
+    ensures { Appends result buf.old.items buf.new.items
+        (ok_body_bytes capabilities.0 (with_status status.0 (ok_packet_view packet.now))) }
 {
     let affected_rows: RawInt<LenEnc> = RawInt::new(packet.affected_rows());
     let id: RawInt<LenEnc> = RawInt::new(packet.id_or_zero());
@@ -69,7 +69,8 @@ pub(crate) fn write_eof_body(
     packet: &OkPacket,
     buf: &mut Vec<u8>,
 ) -> Result<(), AllocError>
-    ensures { Appends result buf.old.items buf.new.items (eof_body_bytes (with_status status.0 (ok_packet_view packet.now))) }
+    ensures { Appends result buf.old.items buf.new.items
+        (eof_body_bytes (with_status status.0 (ok_packet_view packet.now))) }
 {
     let warnings: RawInt<LeU16> = RawInt::new(packet.warnings());
     let flags: Const<StatusFlags, LeU16> = Const::new(status);
@@ -77,9 +78,10 @@ pub(crate) fn write_eof_body(
 }
 
 impl<'a> OkPacket<'a> {
-    /// Appends the packet as one of the kind `T`, for a client of these capabilities, with this status in place of its own.
-    /// Refused for want of memory alone, and the buffer is then as it was. Only a status whose bits all have names
-    /// ([`has_named_status`](crate::has_named_status)) is read back.
+    /// Appends the packet as one of the kind `T`, for a client of these capabilities, with this
+    /// status in place of its own. Refused for want of memory alone, and the buffer is then as it
+    /// was. Only a status whose bits all have names ([`has_named_status`](crate::has_named_status))
+    /// is read back.
     ///
     /// MySQL: Client/Server Protocol, "OK_Packet" and "EOF_Packet".
     pub fn serialize_as<T: OkPacketKind>(
@@ -88,7 +90,8 @@ impl<'a> OkPacket<'a> {
         status: StatusFlags,
         buf: &mut Vec<u8>,
     ) -> Result<(), AllocError>
-        ensures { Appends result buf.old.items buf.new.items (T.HEADER ∷ T.body_bytes capabilities.0 (with_status status.0 (ok_packet_view self.now))) }
+        ensures { Appends result buf.old.items buf.new.items (T.HEADER ∷
+            T.body_bytes capabilities.0 (with_status status.0 (ok_packet_view self.now))) }
     {
         let len = buf.len();
         buf.push(T::HEADER)?;

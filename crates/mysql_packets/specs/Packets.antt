@@ -1,16 +1,17 @@
--- Error packets, progress reports, requests for files and statement packets, as bytes: what is written of their fields, and
--- what is read of any bytes.
--- MySQL: Client/Server Protocol, "ERR_Packet", "LOCAL INFILE Request" and "COM_STMT_PREPARE Response"; MariaDB: 'Progress
--- report' of "ERR_Packet".
--- A reading takes bytes from the front: x.0 is what was read and x.1 the bytes left; the first refusal counts.
-use Rattle.std.specs.Prelude.{◌≡◌, ℕ, ◌==◌, ◌^◌, ◌<◌, List, [], ◌∷◌, length, replicate, Bool, true, false, ◌&&◌, Option, Some, None, Ok, if◌then◌else◌, ⊤}
+-- Error packets, progress reports, requests for files and statement packets, as bytes: what is
+-- written of their fields, and what is read of any bytes. MySQL: Client/Server Protocol,
+-- "ERR_Packet", "LOCAL INFILE Request" and "COM_STMT_PREPARE Response"; MariaDB: 'Progress report'
+-- of "ERR_Packet". A reading takes bytes from the front: x.0 is what was read and x.1 the bytes
+-- left; the first refusal counts.
+use Rattle.std.specs.Prelude.{◌≡◌, ℕ, ◌==◌, ◌^◌, ◌<◌, List, [], ◌∷◌, length, replicate, Bool, true, false, ◌&&◌, Option}
+use Rattle.std.specs.Prelude.{Some, None, Ok, if◌then◌else◌, ⊤}
 use Rattle.std.specs.List.{concat}
 use Rattle.byteorder.specs.Endian.{little_bytes}
 use Rattle.mysql_buf.specs.Writing.{lenenc_str}
-use Rattle.mysql_raw.specs.Wire.{Reading, ◌>>=◌, from_block}
-use Rattle.mysql_raw.specs.Forms.{bytes_at, fixed_number_at}
-use Rattle.mysql_raw_bytes.specs.Texts.{lenenc_text_at}
-use Rattle.mysql_raw_consts.specs.Constants.{constant_at, skipped_at}
+use Rattle.mysql_fields.specs.Wire.{Reading, ◌>>=◌, from_block}
+use Rattle.mysql_fields.specs.Forms.{bytes_at, fixed_number_at}
+use Rattle.mysql_fields.specs.Texts.{lenenc_text_at}
+use Rattle.mysql_field_constants.specs.Constants.{constant_at, skipped_at}
 use Rattle.mysql_const.specs.FlagSets.{contains}
 
 -- Capabilities, by their flags.
@@ -48,7 +49,11 @@ server_error e = concat (state_part e.sql_state ∷ e.error_message ∷ [])
 
 -- With PROTOCOL_41 an error has a state.
 abbrev pub state_part_at : Bool → List ℕ → Reading (Option (List ℕ))
-state_part_at protocol bytes = if protocol then (sql_state_at bytes >>= λ state. Ok (Some state.0, state.1)) else Ok (None, bytes)
+state_part_at protocol bytes =
+    if protocol then (sql_state_at bytes >>= λ state. Ok (Some state.0, state.1)) else Ok (
+      None,
+      bytes,
+    )
 
 -- An error of this code; all that is left behind its state is its message.
 unfoldable pub server_error_at : Bool → ℕ → List ℕ → Reading ServerError
@@ -97,7 +102,8 @@ pub record StageProgress : Type 0 where
 
 -- They stand behind a count of texts, of which there is one.
 unfoldable pub stage_progress : StageProgress → List ℕ
-stage_progress p = concat (little_bytes 1 1 ∷ little_bytes 1 p.stage ∷ little_bytes 1 p.max_stage ∷ little_bytes 3 p.progress ∷ [])
+stage_progress p = concat (little_bytes 1 1 ∷ little_bytes 1 p.stage ∷ little_bytes 1 p.max_stage ∷
+    little_bytes 3 p.progress ∷ [])
 
 -- The count is passed over.
 unfoldable pub stage_progress_at : List ℕ → Reading StageProgress
@@ -121,7 +127,13 @@ progress_body_at bytes = do
   numbers ← stage_progress_at block.0
   info ← lenenc_text_at block.1
   Ok (
-    record { stage = numbers.0.stage; max_stage = numbers.0.max_stage; progress = numbers.0.progress; progress_info = info.0 },
+    record {
+      stage = numbers.0.stage;
+      max_stage = numbers.0.max_stage;
+      progress =
+          numbers.0.progress;
+      progress_info = info.0;
+    },
     info.1,
   )
 
@@ -187,7 +199,8 @@ pub record PrepareOk : Type 0 where
 unfoldable pub prepare_ok : PrepareOk → List ℕ
 prepare_ok s =
     concat (
-    little_bytes 1 0 ∷ little_bytes 4 s.statement_id ∷ little_bytes 2 s.num_columns ∷ little_bytes 2 s.num_params ∷ replicate 1 0
+    little_bytes 1 0 ∷ little_bytes 4 s.statement_id ∷ little_bytes 2 s.num_columns ∷
+    little_bytes 2 s.num_params ∷ replicate 1 0
     ∷ little_bytes 2 s.warning_count ∷ [])
 
 unfoldable pub prepare_ok_fields_at : List ℕ → Reading PrepareOk
@@ -198,7 +211,16 @@ prepare_ok_fields_at bytes = do
   parameters ← fixed_number_at 2 columns.1
   filler ← skipped_at 1 parameters.1
   warnings ← fixed_number_at 2 filler.1
-  Ok (record { statement_id = id.0; num_columns = columns.0; num_params = parameters.0; warning_count = warnings.0 }, warnings.1)
+  Ok (
+    record {
+      statement_id = id.0;
+      num_columns = columns.0;
+      num_params =
+          parameters.0;
+      warning_count = warnings.0;
+    },
+    warnings.1,
+  )
 
 -- Its twelve bytes are there together or not at all.
 unfoldable pub prepare_ok_at : List ℕ → Reading PrepareOk

@@ -12,7 +12,8 @@ lossy bytes = encode_utf8_all (lossy_chars bytes)
 -- An error's code, its state in brackets, where it has one, and its message.
 abbrev pub error_text : ℕ → Option (List ℕ) → List ℕ → List ℕ
 error_text code None message = codes "ERROR " ++ decimal code ++ codes ": " ++ lossy message
-error_text code (Some state) message = codes "ERROR " ++ decimal code ++ codes " (" ++ lossy state ++ codes "): " ++ lossy message
+error_text code (Some state) message = codes "ERROR " ++ decimal code ++ codes " (" ++
+    lossy state ++ codes "): " ++ lossy message
 
 abbrev pub server_error_text : ServerError → List ℕ
 server_error_text e = error_text e.error_code e.sql_state e.error_message
@@ -24,7 +25,8 @@ share_text n = decimal (n / 1000) ++ codes "." ++ decimal (n / 100 % 10) ++ deci
 -- The stage, how many there are, the stage's name and the share of it that is done.
 abbrev pub progress_report_text : ProgressReport → List ℕ
 progress_report_text r =
-    codes "Stage: " ++ decimal r.stage ++ codes " of " ++ decimal r.max_stage ++ codes " '" ++ lossy r.progress_info ++ codes "'  " ++ share_text r.progress
+    codes "Stage: " ++ decimal r.stage ++ codes " of " ++ decimal r.max_stage ++ codes " '" ++
+    lossy r.progress_info ++ codes "'  " ++ share_text r.progress
     ++ codes "% of stage done"
 
 abbrev pub err_packet_text : ErrPacket → List ℕ

@@ -1,9 +1,11 @@
 //! Error packets.
 
 ghost use Rattle.std.specs.Prelude.{◌≡◌, IfOk, None, Some, false, not, true, ℕ};
-ghost use Rattle.mysql_raw.specs.Laws.{unsized};
-ghost use Rattle.mysql_raw.specs.Wire.{Tells, TellsPart};
-ghost use Rattle.mysql_packets.specs.Packets.{Error, ErrPacket as ErrPacketFields, Progress, err_body_at, err_packet, err_packet_at, error_at, error_code_at, holds_error, is_progress_code, protocol_41};
+ghost use Rattle.mysql_fields.specs.Laws.{unsized};
+ghost use Rattle.mysql_fields.specs.Wire.{Tells, TellsPart};
+ghost use Rattle.mysql_packets.specs.Packets.{Error, ErrPacket as ErrPacketFields, Progress, err_body_at, err_packet};
+ghost use Rattle.mysql_packets.specs.Packets.{err_packet_at, error_at, error_code_at, holds_error, is_progress_code};
+ghost use Rattle.mysql_packets.specs.Packets.{protocol_41};
 ghost use Rattle.mysql_packets.specs.Texts.{err_packet_text};
 ghost use Rattle.mysql_packets.specs.Views.{err_packet_view, progress_report_view, server_error_view};
 
@@ -13,7 +15,7 @@ use crate::server_error::ServerError;
 use bitflags::Flags;
 use mysql_buf::ParseBuf;
 use mysql_const::CapabilityFlags;
-use mysql_raw::{
+use mysql_fields::{
     LeU16, MyDeserialize, MySerialize, ParseExt, RawInt, Readable, WireError, in_order,
 };
 use std::alloc::{AllocError, Global};
@@ -150,9 +152,9 @@ fn error_code(alloc: Global, rest: &mut ParseBuf) -> Result<u16, WireError>
     Ok(code)
 }
 
-/// The error of a packet that is no progress report, as where reports were not agreed on or this packet's form was seen. Refused
-/// by UnexpectedEof below three bytes, then by BadConstant for another first byte than ff, then as the error is; all bytes are
-/// then left.
+/// The error of a packet that is no progress report, as where reports were not agreed on or this
+/// packet's form was seen. Refused by UnexpectedEof below three bytes, then by BadConstant for
+/// another first byte than ff, then as the error is; all bytes are then left.
 ///
 /// MySQL: Client/Server Protocol, "ERR_Packet".
 #[tactic(auto, unfolding(crate::specs::Packets::error_at))]
@@ -188,8 +190,9 @@ fn body_of<'de>(
     }
 }
 
-/// Reads an error packet: ff, its code, and a progress report where the code is ffff and reports were agreed on, else an error.
-/// Refused by UnexpectedEof below three bytes, then by BadConstant for another first byte, then as the report or the error is.
+/// Reads an error packet: ff, its code, and a progress report where the code is ffff and reports
+/// were agreed on, else an error. Refused by UnexpectedEof below three bytes, then by BadConstant
+/// for another first byte, then as the report or the error is.
 ///
 /// MySQL: Client/Server Protocol, "ERR_Packet"; MariaDB: 'Progress report' of "ERR_Packet".
 #[tactic(auto, unfolding(crate::specs::Packets::err_packet_at))]

@@ -1,6 +1,6 @@
 //! The constants of error packets, of requests for files and of statement packets.
 
-use mysql_raw_consts::ConstU8;
+use mysql_field_constants::ConstU8;
 use thiserror::Error;
 
 /// Another first byte than that of an error packet.

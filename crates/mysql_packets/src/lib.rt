@@ -1,5 +1,6 @@
-//! Packets of a server's reply: error packets and progress reports, requests for files, statement packets; columns, rows, OK
-//! packets, and the commands of prepared statements, single and in bulk, are passed on, and so are values and the wire.
+//! Packets of a server's reply: error packets and progress reports, requests for files, statement
+//! packets; columns, rows, OK packets, and the commands of prepared statements, single and in bulk,
+//! are passed on, and so are values and the wire.
 #![tactic(auto)]
 
 pub mod err_packet;
@@ -30,7 +31,7 @@ pub use mysql_columns::{
     InvalidFixedLengthFieldsLen,
 };
 pub use mysql_convert;
-pub use mysql_null_bitmap::{BitmapBytes, NullBitmap, NullBits};
+pub use mysql_field_lists::{BitmapBytes, NullBitmap, NullBits};
 pub use mysql_ok_packets::{
     CommonOkPacket, InvalidOkPacketHeader, NetworkStreamTerminator, OkPacket, OkPacketBody,
     OkPacketDeserializer, OkPacketKind, OldEofPacket, ResultSetTerminator, has_named_status,

@@ -2,8 +2,8 @@
 
 ghost use Rattle.std.specs.Prelude.{◌≡◌, [], IfOk, IsOkUnless, List, None, false, ℕ};
 ghost use Rattle.std.specs.Cow.{cow_slice_items, cow_str_bytes};
-ghost use Rattle.mysql_raw.specs.Laws.{unsized};
-ghost use Rattle.mysql_raw.specs.WireError.TheVariants as wire;
+ghost use Rattle.mysql_fields.specs.Laws.{unsized};
+ghost use Rattle.mysql_fields.specs.declared.error.WireError.TheVariants as wire;
 ghost use Rattle.mysql_packets.specs.PacketLaws.{local_infile_at-back};
 ghost use Rattle.mysql_packets.specs.Packets.{local_infile, local_infile_at};
 ghost use Rattle.mysql_packets.specs.Texts.{lossy};
@@ -12,8 +12,10 @@ ghost use Rattle.mysql_packets.specs.Views.{local_infile_view};
 use crate::headers::LocalInfileHeader;
 use crate::texts::{copy_of, lossy};
 use mysql_buf::ParseBuf;
-use mysql_raw::{MyDeserialize, MySerialize, ParseExt, Readable, ReadsBack, WireError, in_order};
-use mysql_raw_bytes::{EofBytes, RawBytes};
+use mysql_fields::{
+    EofBytes, MyDeserialize, MySerialize, ParseExt, RawBytes, Readable, ReadsBack, WireError,
+    in_order,
+};
 use std::alloc::{AllocError, Global};
 use std::borrow::{CowSlice, CowStr};
 
@@ -108,8 +110,8 @@ impl<'a> ReadsBack for LocalInfilePacket<'a> {
     ghost reads_back = { λ _ p. local_infile_at-back (local_infile_view p) };
 }
 
-/// Reads a request; the name is all that is left. Refused by UnexpectedEof where there is no byte, then by BadConstant for
-/// another first byte than fb.
+/// Reads a request; the name is all that is left. Refused by UnexpectedEof where there is no byte,
+/// then by BadConstant for another first byte than fb.
 ///
 /// MySQL: Client/Server Protocol, "LOCAL INFILE Request".
 #[tactic(auto, unfolding(crate::specs::Packets::local_infile_at))]

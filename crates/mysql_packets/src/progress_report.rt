@@ -2,22 +2,22 @@
 
 ghost use Rattle.std.specs.Prelude.{◌≡◌, IfOk, IsOkUnless, None, Some, false};
 ghost use Rattle.std.specs.Cow.{cow_slice_items, cow_str_bytes};
-ghost use Rattle.mysql_raw.specs.Laws.{unsized};
-ghost use Rattle.mysql_raw.specs.Wire.{TellsPart};
-ghost use Rattle.mysql_raw.specs.WireError.TheVariants as wire;
+ghost use Rattle.mysql_fields.specs.Laws.{unsized};
+ghost use Rattle.mysql_fields.specs.Wire.{TellsPart};
+ghost use Rattle.mysql_fields.specs.declared.error.WireError.TheVariants as wire;
 ghost use Rattle.mysql_packets.specs.PacketLaws.{progress_body_at-back};
-ghost use Rattle.mysql_packets.specs.Packets.{IsProgressReport, ProgressReport as ProgressReportFields, numbers_in, progress_body, progress_body_at, stage_progress, stage_progress_at};
+ghost use Rattle.mysql_packets.specs.Packets.{IsProgressReport, ProgressReport as ProgressReportFields, numbers_in};
+ghost use Rattle.mysql_packets.specs.Packets.{progress_body, progress_body_at, stage_progress, stage_progress_at};
 ghost use Rattle.mysql_packets.specs.Texts.{lossy, progress_report_text, share_text};
 ghost use Rattle.mysql_packets.specs.Views.{progress_report_view, stage_progress_view};
 
 use crate::texts::{copy_of, lossy};
 use bstr::BStr;
 use mysql_buf::ParseBuf;
-use mysql_raw::{
-    LeU24, LenEnc, MyDeserialize, MySerialize, ParseExt, RawInt, Readable, ReadsBack, WireError,
-    in_order,
+use mysql_fields::{
+    LeU24, LenEnc, MyDeserialize, MySerialize, ParseExt, RawBytes, RawInt, Readable, ReadsBack,
+    WireError, in_order,
 };
-use mysql_raw_bytes::RawBytes;
 use std::alloc::{AllocError, Global};
 use std::borrow::{CowSlice, CowStr};
 use std::fmt;
@@ -34,15 +34,22 @@ pub struct ProgressReport<'a> {
 }
 
 impl<'a> ProgressReport<'a> {
-    /// A report of this stage of so many, which is so many thousandths of a percent done, with the stage's name. Of the progress
-    /// the low 24 bits are written.
+    /// A report of this stage of so many, which is so many thousandths of a percent done, with the
+    /// stage's name. Of the progress the low 24 bits are written.
     pub fn new(
         stage: u8,
         max_stage: u8,
         progress: u32,
         stage_info: CowSlice<'a, u8>,
     ) -> ProgressReport<'a>
-        ensures { progress_report_view result ≡ record { stage = stage; max_stage = max_stage; progress = progress; progress_info = cow_slice_items stage_info.entry } }
+        ensures { progress_report_view result ≡
+            record {
+              stage = stage;
+              max_stage = max_stage;
+              progress = progress;
+              progress_info =
+                  cow_slice_items stage_info.entry;
+            } }
     {
         ProgressReport {
             stage,

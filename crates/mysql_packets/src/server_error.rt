@@ -2,11 +2,13 @@
 
 ghost use Rattle.std.specs.Prelude.{◌≡◌, [], IfOk, IsOkUnless, List, None, Some, false, length, option_map, ℕ};
 ghost use Rattle.std.specs.Cow.{cow_slice_items, cow_str_bytes};
-ghost use Rattle.mysql_raw.specs.Laws.{unsized};
-ghost use Rattle.mysql_raw.specs.Wire.{TellsPart};
-ghost use Rattle.mysql_raw.specs.WireError.TheVariants as wire;
+ghost use Rattle.mysql_fields.specs.Laws.{unsized};
+ghost use Rattle.mysql_fields.specs.Wire.{TellsPart};
+ghost use Rattle.mysql_fields.specs.declared.error.WireError.TheVariants as wire;
 ghost use Rattle.mysql_packets.specs.PacketLaws.{server_error_at-back, sql_state_at-back, sql_state_at-sized};
-ghost use Rattle.mysql_packets.specs.Packets.{IsServerError, ServerError as ServerErrorFields, server_error, server_error_at, sql_state, sql_state_at, sql_state_fields_at, state_part, state_part_at};
+ghost use Rattle.mysql_packets.specs.Packets.{IsServerError, ServerError as ServerErrorFields, server_error};
+ghost use Rattle.mysql_packets.specs.Packets.{server_error_at, sql_state, sql_state_at, sql_state_fields_at};
+ghost use Rattle.mysql_packets.specs.Packets.{state_part, state_part_at};
 ghost use Rattle.mysql_packets.specs.Texts.{lossy, server_error_text};
 ghost use Rattle.mysql_packets.specs.Views.{server_error_view, sql_state_view};
 
@@ -14,8 +16,10 @@ use crate::headers::SqlStateMarker;
 use crate::texts::{copy_of, lossy};
 use bstr::BStr;
 use mysql_buf::ParseBuf;
-use mysql_raw::{MyDeserialize, MySerialize, ParseExt, Readable, ReadsBack, WireError, in_order};
-use mysql_raw_bytes::{EofBytes, RawBytes};
+use mysql_fields::{
+    EofBytes, MyDeserialize, MySerialize, ParseExt, RawBytes, Readable, ReadsBack, WireError,
+    in_order,
+};
 use std::alloc::{AllocError, Global};
 use std::borrow::{CowSlice, CowStr};
 use std::fmt;
@@ -131,7 +135,13 @@ pub struct ServerError<'a> {
 impl<'a> ServerError<'a> {
     /// An error of this code, with this state and this message.
     pub fn new(code: u16, state: Option<SqlState>, message: CowSlice<'a, u8>) -> ServerError<'a>
-        ensures { server_error_view result ≡ record { error_code = code; sql_state = option_map sql_state_view state; error_message = cow_slice_items message.entry } }
+        ensures { server_error_view result ≡
+            record {
+              error_code = code;
+              sql_state = option_map sql_state_view state;
+              error_message =
+                  cow_slice_items message.entry;
+            } }
     {
         ServerError {
             code,
@@ -268,8 +278,9 @@ fn state_of(
     }
 }
 
-/// Reads an error of this code: where the server speaks the protocol of version 4.1, `#` and five bytes of state; the message
-/// is all that is left. Refused by UnexpectedEof below six bytes of state, then by BadConstant for another first byte.
+/// Reads an error of this code: where the server speaks the protocol of version 4.1, `#` and five
+/// bytes of state; the message is all that is left. Refused by UnexpectedEof below six bytes of
+/// state, then by BadConstant for another first byte.
 ///
 /// MySQL: Client/Server Protocol, "ERR_Packet".
 #[tactic(auto, unfolding(crate::specs::Packets::server_error_at))]

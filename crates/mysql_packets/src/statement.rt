@@ -1,18 +1,18 @@
 //! Statement packets.
 
 ghost use Rattle.std.specs.Prelude.{◌≡◌, Some, false};
-ghost use Rattle.mysql_raw.specs.Wire.{TellsPart};
+ghost use Rattle.mysql_fields.specs.Wire.{TellsPart};
 ghost use Rattle.mysql_packets.specs.PacketLaws.{prepare_ok_at-back, prepare_ok_at-sized};
 ghost use Rattle.mysql_packets.specs.Packets.{IsPrepareOk, PrepareOk, prepare_ok, prepare_ok_at, prepare_ok_fields_at};
 ghost use Rattle.mysql_packets.specs.Views.{prepare_ok_view};
 
 use crate::headers::StmtPacketStatus;
 use mysql_buf::ParseBuf;
-use mysql_raw::{
+use mysql_field_constants::Skip;
+use mysql_fields::{
     LeU16, LeU32, MyDeserialize, MySerialize, ParseExt, RawInt, Readable, ReadsBack, WireError,
     in_order,
 };
-use mysql_raw_consts::Skip;
 use std::alloc::{AllocError, Global};
 
 /// A prepared statement: the first packet of the answer to COM_STMT_PREPARE.
@@ -34,7 +34,14 @@ impl StmtPacket {
         num_params: u16,
         warning_count: u16,
     ) -> StmtPacket
-        ensures { prepare_ok_view result ≡ record { statement_id = statement_id; num_columns = num_columns; num_params = num_params; warning_count = warning_count } }
+        ensures { prepare_ok_view result ≡
+            record {
+              statement_id = statement_id;
+              num_columns = num_columns;
+              num_params =
+                  num_params;
+              warning_count = warning_count;
+            } }
     {
         StmtPacket {
             statement_id,

@@ -9,7 +9,7 @@ use mysql_bulk_builder::{
     ComStmtBulkExecuteRequest, ComStmtBulkExecuteRequestBuilder,
 };
 use mysql_cells::Value;
-use mysql_raw::MySerialize;
+use mysql_fields::MySerialize;
 use mysql_values::{ByteString, MissingNamedParameterError, Params, ParamsError};
 use std::alloc::{AllocError, Global};
 use std::collections::HashMap;
@@ -186,7 +186,8 @@ const BUILDERS: [(usize, &[Step]); 8] = [
             Step::Adds(TWO_VALUES, Wanted::MixedArity),
         ],
     ),
-    // A row of another length is refused as such, also where it is too large: behind a row that is held, and behind its request.
+    // A row of another length is refused as such, also where it is too large: behind a row that is
+    // held, and behind its request.
     (
         31,
         &[

@@ -13,7 +13,7 @@ use mysql_cells::Value;
 use mysql_const::{
     ColumnFlags, ColumnType, MariadbBulkIndicator, StmtBulkExecuteFlags, StmtExecuteParamFlags,
 };
-use mysql_raw::{ParseExt, WireError};
+use mysql_fields::{ParseExt, WireError};
 use std::alloc::{AllocError, Global};
 use tests_support::{
     Assert, assert_bytes, assert_copied, assert_equal, assert_made, assert_reads_back,
@@ -27,8 +27,8 @@ type Answer = Result<ComStmtBulkExecuteRequest, BulkExecuteRequestError>;
 
 const OF_UNSIGNED: Cells = &[Given::UInt(2)];
 
-/// Rows, and the bytes of their request: its column has the type of the first value that isn't NULL, without a sign where any
-/// number of that type has none.
+/// Rows, and the bytes of their request: its column has the type of the first value that isn't
+/// NULL, without a sign where any number of that type has none.
 const BY_VALUES: [(&[Cells], &[u8]); 6] = [
     (&[ONE, TWO], TYPED_1_2),
     (
@@ -99,8 +99,8 @@ const TWO_LONGLONGS: &[ColumnType] = &[
 
 const ONE_STRING: &[ColumnType] = &[ColumnType::MYSQL_TYPE_VAR_STRING];
 
-/// Requests by types that are given, how many types they carry, and their bytes. A type is sent as it is, also where no value
-/// has it.
+/// Requests by types that are given, how many types they carry, and their bytes. A type is sent as
+/// it is, also where no value has it.
 const BY_TYPES: [(Asked, usize, &[u8]); 3] = [
     ((TYPED, ONE_LONGLONG, &[ONE, TWO]), 1, TYPED_1_2),
     (
@@ -275,7 +275,8 @@ fn assert_null(assert: &impl Assert, alloc: Global, bytes: &[u8], indicator: Mar
     assert.holds(matches!(found.value(), Value::NULL));
 }
 
-/// Indicators 1 to 3 read no value: NULL, and for now what the column's default is and what is ignored. A value keeps them.
+/// Indicators 1 to 3 read no value: NULL, and for now what the column's default is and what is
+/// ignored. A value keeps them.
 #[test]
 fn indicators_without_values(rt: HostRuntime) {
     let assert = Asserting(&rt);

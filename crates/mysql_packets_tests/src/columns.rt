@@ -2,8 +2,8 @@
 
 use crate::support::{Asserting, assert_text};
 use mysql_const::{ColumnFlags, ColumnType};
+use mysql_fields::WireError;
 use mysql_packets::Column;
-use mysql_raw::WireError;
 use std::alloc::{AllocError, Global};
 use tests_support::{
     Assert, assert_bytes, assert_copied, assert_cut_off, assert_equal, assert_made,

@@ -2,10 +2,10 @@
 
 use crate::support::{Asserting, assert_text};
 use mysql_const::CapabilityFlags;
+use mysql_fields::WireError;
 use mysql_packets::{
     ErrPacket, LocalInfilePacket, ProgressReport, ServerError, SqlState, StmtPacket,
 };
-use mysql_raw::WireError;
 use std::alloc::Global;
 use std::borrow::CowSlice;
 use std::fmt::Display;

@@ -3,6 +3,7 @@
 use crate::errors::assert_prints;
 use crate::support::Asserting;
 use mysql_bulk::{ComStmtBulkExecuteHeader, InvalidComStmtBulkExecuteHeader};
+use mysql_fields::{InvalidLengthEncodedInteger, MyDeserialize, MySerialize, Readable, WireError};
 use mysql_ok_packets::InvalidOkPacketHeader;
 use mysql_packets::{
     ColumnDefinitionCatalog, ErrPacketHeader, FixedLengthFieldsLen, InvalidCatalog,
@@ -10,7 +11,6 @@ use mysql_packets::{
     InvalidSqlStateMarker, InvalidStmtPacketStatus, LocalInfileHeader, SqlStateMarker,
     StmtPacketStatus,
 };
-use mysql_raw::{InvalidLengthEncodedInteger, MyDeserialize, MySerialize, Readable, WireError};
 use mysql_stmt::{
     ComStmtCloseHeader, ComStmtExecuteHeader, ComStmtResetHeader, ComStmtSendLongDataHeader,
     InvalidComStmtCloseHeader, InvalidComStmtExecuteHeader, InvalidComStmtResetHeader,

@@ -4,10 +4,10 @@ use crate::support::Asserting;
 use mysql_buf::ParseBuf;
 use mysql_const::{ColumnFlags, ColumnType};
 use mysql_convert::FromValueError;
-use mysql_lent_rows::{LentRow, RowError, RowFormat, RowLender, ValueRef};
-use mysql_null_bitmap::ServerSide;
+use mysql_field_lists::ServerSide;
+use mysql_fields::{Binary, ParseExt, Text, WireError};
 use mysql_packets::Column;
-use mysql_raw::{Binary, ParseExt, Text, WireError};
+use mysql_row_refs::{LentRow, RowError, RowFormat, RowLender, ValueRef};
 use mysql_rows::{Row, RowDeserializer};
 use std::alloc::{AllocError, Global};
 use std::rc::RcSlice;
@@ -188,7 +188,8 @@ pub const WIDTHS: [(&[u8], ColumnType, ColumnFlags); 10] = [
 
 /// A row with a cell of each width, the last one NULL.
 pub const WIDE_ROW: &[u8] =
-    b"\x00\x00\x08\xff\xfe\xff\x01\x02\x03\x84\xff\xff\xff\xff\xff\xff\xff\xff\x00\x00\x80\x3f\x00\x00\x00\x00\x00\x00\xf0\x3f\x02hi\x07\xe8\x07\x02\x1d\x0c\x22\x38\x08\x01\x01\x00\x00\x00\x02\x03\x04";
+    b"\x00\x00\x08\xff\xfe\xff\x01\x02\x03\x84\xff\xff\xff\xff\xff\xff\xff\xff\x00\x00\x80\x3f\x00\
+    \x00\x00\x00\x00\x00\xf0\x3f\x02hi\x07\xe8\x07\x02\x1d\x0c\x22\x38\x08\x01\x01\x00\x00\x00\x02\x03\x04";
 
 /// That row, rows that are cut off or begin with another byte, and a row with a byte behind.
 const BINARY_ROWS: [&[u8]; 7] = [

@@ -1,5 +1,6 @@
-//! Tests of `mysql_packets` and the crates below it from outside: columns, OK and error packets, session states, rows and
-//! commands of prepared statements, whole and cut off at each byte; and of the builder of bulk requests.
+//! Tests of `mysql_packets` and the crates below it from outside: columns, OK and error packets,
+//! session states, rows and commands of prepared statements, whole and cut off at each byte; and of
+//! the builder of bulk requests.
 #![tactic(auto)]
 
 #[cfg(test)]

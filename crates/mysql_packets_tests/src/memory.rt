@@ -11,13 +11,13 @@ use mysql_bulk_builder::{
 };
 use mysql_cells::Value;
 use mysql_const::{CapabilityFlags, ColumnType, StmtExecuteParamFlags};
-use mysql_null_bitmap::ServerSide;
+use mysql_field_lists::ServerSide;
+use mysql_fields::{MyDeserialize, MySerialize, Readable, Text};
 use mysql_packets::{
     Column, ComStmtClose, ComStmtExecuteRequestBuilder, ComStmtReset, ComStmtSendLongData,
     ErrPacket, LocalInfilePacket, ProgressReport, ServerError, SqlState, StmtBulkExecuteParamType,
     StmtBulkExecuteParamValue, StmtPacket,
 };
-use mysql_raw::{MyDeserialize, MySerialize, Readable, Text};
 use mysql_rows::{Row, RowDeserializer};
 use mysql_session_states::SessionStateInfo;
 use mysql_values::{BindError, Params, ParamsError, bind_text, bind_text_at, places};
@@ -40,7 +40,8 @@ pub fn assert_behind(assert: &impl Assert, out: &[u8], bytes: &[u8]) {
     assert.holds(out.strip_prefix(b"front") == Some(bytes));
 }
 
-/// Asserts that a value is written behind `front`, which stands alone where memory is refused; it is then written once more.
+/// Asserts that a value is written behind `front`, which stands alone where memory is refused; it
+/// is then written once more.
 fn assert_appended<T: MySerialize>(assert: &impl Assert, alloc: Global, value: &T, bytes: &[u8]) {
     let mut out = front(assert, alloc);
     if value.serialize(&mut out).is_err() {

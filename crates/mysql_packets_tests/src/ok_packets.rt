@@ -5,11 +5,11 @@ use crate::session_states::{Told, assert_decoded};
 use crate::support::Asserting;
 use mysql_buf::ParseBuf;
 use mysql_const::{CapabilityFlags, StatusFlags};
+use mysql_fields::WireError;
 use mysql_ok_packets::{
     CommonOkPacket, NetworkStreamTerminator, OkPacket, OkPacketDeserializer, OkPacketKind,
     OldEofPacket, ResultSetTerminator, has_named_status,
 };
-use mysql_raw::WireError;
 use std::alloc::Global;
 use std::borrow::CowSlice;
 use tests_support::{
@@ -41,8 +41,8 @@ fn assert_says(assert: &impl Assert, packet: &OkPacket, says: &Says) {
     assert.holds(packet.session_state_info_ref() == says.5);
 }
 
-/// Asserts that a packet is written as one of the kind `T` behind `front`, which stands alone where memory is refused; it is then
-/// written once more.
+/// Asserts that a packet is written as one of the kind `T` behind `front`, which stands alone where
+/// memory is refused; it is then written once more.
 fn assert_written_as<T: OkPacketKind>(
     assert: &impl Assert,
     alloc: Global,
@@ -113,8 +113,8 @@ fn common(rt: HostRuntime) {
     }
 }
 
-/// Asserts what is read behind the header of a packet of the kind `T`, and how many bytes are left. It is read once more where
-/// memory was refused.
+/// Asserts what is read behind the header of a packet of the kind `T`, and how many bytes are left.
+/// It is read once more where memory was refused.
 fn assert_body<T: OkPacketKind>(
     assert: &impl Assert,
     alloc: Global,
@@ -140,8 +140,8 @@ fn assert_body<T: OkPacketKind>(
     assert_equal(assert, buf.len(), *left);
 }
 
-/// What stands behind the header, what it says, and how many bytes are left. Where no session states are sent a zero in the place
-/// of the info's length is left.
+/// What stands behind the header, what it says, and how many bytes are left. Where no session
+/// states are sent a zero in the place of the info's length is left.
 const BODIES: [(&[u8], Says, usize); 4] = [
     (
         b"\x01\x00\x02\x00\x00\x00",
@@ -354,8 +354,8 @@ fn assert_states(assert: &impl Assert, alloc: Global, packet: &OkPacket, told: &
     }
 }
 
-/// Packets, and what their states are decoded to. The last is as a server writes it that leaves the inner length out: the packet
-/// and the state are read, and the state isn't decoded.
+/// Packets, and what their states are decoded to. The last is as a server writes it that leaves the
+/// inner length out: the packet and the state are read, and the state isn't decoded.
 const WITH_STATES: [(&[u8], &[Told]); 6] = [
     (DONE, &[]),
     (CHANGED, &[Told::Variables(&[(b"autocommit", b"OFF")])]),

@@ -2,7 +2,7 @@
 
 use crate::support::{Asserting, assert_text};
 use mysql_const::SessionStateType;
-use mysql_raw::WireError;
+use mysql_fields::WireError;
 use mysql_session_states::{
     Gtids, Schema, SessionStateChange, SessionStateInfo, SystemVariable,
     TransactionCharacteristics, TransactionState, Unsupported, put_states, states_of,

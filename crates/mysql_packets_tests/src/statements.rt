@@ -5,7 +5,7 @@ ghost use Rattle.std.specs.Prelude.{◌≤◌, length};
 use crate::support::Asserting;
 use mysql_cells::Value;
 use mysql_const::{CursorType, StmtExecuteParamsFlags};
-use mysql_raw::WireError;
+use mysql_fields::WireError;
 use mysql_stmt::{
     ComStmtClose, ComStmtExecuteRequest, ComStmtExecuteRequestBuilder, ComStmtReset, HasValue,
     put_execution, size_within,

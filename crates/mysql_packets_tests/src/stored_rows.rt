@@ -3,7 +3,7 @@
 use crate::lent_rows::{NO_FLAG, TEXTS, WIDE_ROW, WIDTHS, columns_of, lent_text};
 use crate::support::Asserting;
 use mysql_const::{ColumnFlags, ColumnType};
-use mysql_lent_rows::{LentRow, RowFormat, RowLender, StoredRows, ValueRef};
+use mysql_row_refs::{LentRow, RowFormat, RowLender, StoredRows, ValueRef};
 use std::alloc::{AllocError, Global};
 use tests_support::{Assert, assert_equal, once_more};
 

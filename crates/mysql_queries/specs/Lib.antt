@@ -9,4 +9,4 @@ pub mod LiteralRuns
 pub mod LiteralViews
 pub mod Parsed
 pub mod PlaceKinds
-pub use Rattle.mysql_error.specs.declared.error.WireError
+pub use Rattle.mysql_fields.specs.declared.error.WireError

@@ -33,4 +33,5 @@ pub record IsHexRun (run rest : List ℕ) : Type 0 where
 
 -- the four letters of NULL, the body to its closing quote, or all digits
 abbrev pub IsLiteralRun : List ℕ → List ℕ → Type 0
-IsLiteralRun run rest = (map lower run ≡ codes "null") ⊎ (IsQuoted single_quote run rest ⊎ (IsHexRun run rest ⊎ IsDigitRun run rest))
+IsLiteralRun run rest = (map lower run ≡ codes "null") ⊎
+    (IsQuoted single_quote run rest ⊎ (IsHexRun run rest ⊎ IsDigitRun run rest))

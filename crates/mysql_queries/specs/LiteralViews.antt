@@ -22,4 +22,5 @@ IsHeld Bytes items = Unit {0}
 
 -- no run at the front of the text is a literal
 abbrev pub IsNoLiteral : List ℕ → Type 0
-IsNoLiteral text = (run rest : List ℕ) (content : Content) → text ≡ run ++ rest → IsLiteralRun run rest → IsLiteral run content → ⊥
+IsNoLiteral text = (run rest : List ℕ) (content : Content) → text ≡ run ++ rest →
+    IsLiteralRun run rest → IsLiteral run content → ⊥

@@ -1,10 +1,12 @@
--- The literals of a SQL text and their contents.
--- MySQL Reference Manual, "Literal Values": "String Literals", "Numeric Literals", "Hexadecimal Literals", "NULL Values".
-use Rattle.std.specs.Prelude.{◌≡◌, ◌≢◌, ℕ, ◌+◌, ◌-◌, ◌*◌, ◌^◌, ◌<◌, ◌≤◌, Bool, true, ◌||◌, ◌==◌, nat_le, if◌then◌else◌, ◌⊎◌, List, [], ◌∷◌, ◌++◌, map, fold, flat_map, codes, ℤ, pos, neg_ℤ}
+-- The literals of a SQL text and their contents. MySQL Reference Manual, "Literal Values": "String
+-- Literals", "Numeric Literals", "Hexadecimal Literals", "NULL Values".
+use Rattle.std.specs.Prelude.{◌≡◌, ◌≢◌, ℕ, ◌+◌, ◌-◌, ◌*◌, ◌^◌, ◌<◌, ◌≤◌, Bool, true, ◌||◌, ◌==◌, nat_le, if◌then◌else◌}
+use Rattle.std.specs.Prelude.{◌⊎◌, List, [], ◌∷◌, ◌++◌, map, fold, flat_map, codes, ℤ, pos, neg_ℤ}
 use Rattle.std.specs.List.{AllByRecursion}
 use Rattle.mysql_queries.specs.declared.content.Content.{Content}
 use Rattle.mysql_queries.specs.declared.content.Content.TheVariants.{Null, Number, Bytes}
-use Rattle.mysql_queries.specs.Tokens.{is_within, single_quote, backslash, dash, Inside, Byte, Escape, Doubled, inside_bytes, IsInside}
+use Rattle.mysql_queries.specs.Tokens.{is_within, single_quote, backslash, dash, Inside, Byte, Escape, Doubled}
+use Rattle.mysql_queries.specs.Tokens.{inside_bytes, IsInside}
 
 -- an ASCII letter in lower case
 abbrev pub lower : ℕ → ℕ
@@ -26,7 +28,10 @@ pub record AreDigits (digits : List ℕ) : Type 0 where
 pub record IsNumber (spelling : List ℕ) (z : ℤ) : Type 0 where
   pub digits : List ℕ
   pub are : AreDigits digits
-  pub value : ((spelling ≡ digits) × (z ≡ pos (digits_value digits)) × (digits_value digits < 2 ^ 64)) ⊎ ((spelling ≡ dash ∷ digits) × (z ≡ neg_ℤ (pos (digits_value digits))) × (digits_value digits ≤ 2 ^ 63))
+  pub value : ((spelling ≡ digits) × (z ≡ pos (digits_value digits)) ×
+      (digits_value digits < 2 ^ 64)) ⊎
+      ((spelling ≡ dash ∷ digits) × (z ≡ neg_ℤ (pos (digits_value digits))) ×
+      (digits_value digits ≤ 2 ^ 63))
 
 -- what a backslash makes of the byte after it
 abbrev pub escaped : ℕ → List ℕ
@@ -65,7 +70,8 @@ SpellsInHex [] [] = Unit {0}
 SpellsInHex [] (byte ∷ bytes) = ⊥
 SpellsInHex (high ∷ []) bytes = ⊥
 SpellsInHex (high ∷ low ∷ digits) [] = ⊥
-SpellsInHex (high ∷ low ∷ digits) (byte ∷ bytes) = (is_hex high ≡ true) × (is_hex low ≡ true) × (byte ≡ 16 * hex_value high + hex_value low) × SpellsInHex digits bytes
+SpellsInHex (high ∷ low ∷ digits) (byte ∷ bytes) = (is_hex high ≡ true) × (is_hex low ≡ true) ×
+    (byte ≡ 16 * hex_value high + hex_value low) × SpellsInHex digits bytes
 
 -- `0x` and the digits of at least one byte
 pub record IsHexLiteral (spelling bytes : List ℕ) : Type 0 where

@@ -20,4 +20,5 @@ HasNames query names = (tokens : List (List ℕ)) × HasTokens query tokens × (
 
 -- the names at placeholders of a query, without their colons
 abbrev pub names_at : List ℕ → List Place → List (List ℕ)
-names_at query places = map (λ place. drop 1 (slice_range query place.start place.end)) (filter (λ place. place.name) places)
+names_at query places = map (λ place. drop 1 (slice_range query place.start place.end))
+    (filter (λ place. place.name) places)

@@ -11,4 +11,11 @@ is_place_kind kind = is_name_kind kind || is_mark_kind kind
 
 -- the placeholder from start up to end that a token of this kind is
 abbrev pub place_of_kind : List ℕ → Kind → ℕ → ℕ → Place
-place_of_kind query kind start end = record { start = start; end = end; name = is_name_kind kind; alone = stands_alone query start end }
+place_of_kind query kind start end =
+    record {
+      start = start;
+      end = end;
+      name = is_name_kind kind;
+      alone =
+          stands_alone query start end;
+    }

@@ -1,9 +1,12 @@
 -- Placeholders of a query, the pieces between them, and the texts that a query and contents make.
--- MySQL Reference Manual, "PREPARE Statement" (parameter markers); names as placeholders are a form of client libraries.
-use Rattle.std.specs.Prelude.{◌≡◌, ℕ, ◌+◌, ◌-◌, ◌≤◌, ◌<◌, Bool, true, false, not, ◌&&◌, ◌||◌, ◌==◌, nat_le, if◌then◌else◌, ◌⊎◌, List, [], ◌∷◌, ◌++◌, length, drop, slice_index, slice_range, Option}
+-- MySQL Reference Manual, "PREPARE Statement" (parameter markers); names as placeholders are a form
+-- of client libraries.
+use Rattle.std.specs.Prelude.{◌≡◌, ℕ, ◌+◌, ◌-◌, ◌≤◌, ◌<◌, Bool, true, false, not, ◌&&◌, ◌||◌, ◌==◌, nat_le}
+use Rattle.std.specs.Prelude.{if◌then◌else◌, ◌⊎◌, List, [], ◌∷◌, ◌++◌, length, drop, slice_index, slice_range, Option}
 use Rattle.std.specs.List.{AllByRecursion, concat, list_any, join_with_byte, position_from}
 use Rattle.mysql_queries.specs.declared.placeholders.Place.{Place}
-use Rattle.mysql_queries.specs.Tokens.{is_within, is_quote, dash, colon, question, backslash, kind_of, Kind, Quoted, LineComment, BlockComment, Name, Mark, Plain, HasTokens}
+use Rattle.mysql_queries.specs.Tokens.{is_within, is_quote, dash, colon, question, backslash, kind_of, Kind, Quoted}
+use Rattle.mysql_queries.specs.Tokens.{LineComment, BlockComment, Name, Mark, Plain, HasTokens}
 use Rattle.mysql_queries.specs.Literals.{IsLiteral}
 use Rattle.mysql_queries.specs.declared.content.Content.{Content}
 
@@ -47,7 +50,8 @@ Alternates (piece ∷ []) [] text = text ≡ piece
 Alternates (piece ∷ []) (content ∷ contents) text = ⊥
 Alternates (piece ∷ next ∷ pieces) [] text = ⊥
 Alternates (piece ∷ next ∷ pieces) (content ∷ contents) text =
-    (spelling : List ℕ) × (rest : List ℕ) × IsLiteral spelling content × (text ≡ piece ++ (spelling ++ rest)) × Alternates (next ∷ pieces) contents rest
+    (spelling : List ℕ) × (rest : List ℕ) × IsLiteral spelling content ×
+    (text ≡ piece ++ (spelling ++ rest)) × Alternates (next ∷ pieces) contents rest
 
 -- the text is the query's pieces with literals of the contents between them
 pub record Slices (query text : List ℕ) (contents : List Content) : Type 0 where
@@ -55,13 +59,17 @@ pub record Slices (query text : List ℕ) (contents : List Content) : Type 0 whe
   pub has : HasTokens query tokens
   pub alternates : Alternates (pieces_of tokens) contents text
 
--- Tokens with each placeholder replaced by the tokens of a literal of its content. A token that is no placeholder is kept.
+-- Tokens with each placeholder replaced by the tokens of a literal of its content. A token that is
+-- no placeholder is kept.
 abbrev pub Replaces : List (List ℕ) → List Content → List (List ℕ) → Type 0
 Replaces [] contents replaced = (contents ≡ []) × (replaced ≡ [])
 Replaces (token ∷ tokens) contents replaced =
-    ((is_place token ≡ false) × (others : List (List ℕ)) × (replaced ≡ token ∷ others) × Replaces tokens contents others)
-    ⊎ ((is_place token ≡ true) × (content : Content) × (next : List Content) × (spelling : List ℕ) × (literal : List (List ℕ)) × (others : List (List ℕ))
-    × (contents ≡ content ∷ next) × IsLiteral spelling content × HasTokens spelling literal × (replaced ≡ literal ++ others) × Replaces tokens next others)
+    ((is_place token ≡ false) × (others : List (List ℕ)) × (replaced ≡ token ∷ others) ×
+    Replaces tokens contents others)
+    ⊎ ((is_place token ≡ true) × (content : Content) × (next : List Content) × (spelling : List ℕ) ×
+    (literal : List (List ℕ)) × (others : List (List ℕ))
+    × (contents ≡ content ∷ next) × IsLiteral spelling content × HasTokens spelling literal ×
+    (replaced ≡ literal ++ others) × Replaces tokens next others)
 
 -- the text's tokens are the query's with each placeholder replaced by the tokens of a literal of its content
 pub record Lexes (query text : List ℕ) (contents : List Content) : Type 0 where
@@ -74,10 +82,12 @@ pub record Lexes (query text : List ℕ) (contents : List Content) : Type 0 wher
 -- a byte that could run together with a literal: a letter, a digit, one of `_$.@:?\`, a quote, or from 0x80 on
 abbrev pub is_joining : ℕ → Bool
 is_joining b =
-    is_within 0x30 0x39 b || is_within 0x41 0x5a b || is_within 0x61 0x7a b || (b == 0x5f) || (b == 0x24) || (b == 0x2e) || (b == 0x40)
+    is_within 0x30 0x39 b || is_within 0x41 0x5a b || is_within 0x61 0x7a b || (b == 0x5f) ||
+    (b == 0x24) || (b == 0x2e) || (b == 0x40)
     || (b == colon) || (b == question) || (b == backslash) || is_quote b || nat_le 0x80 b
 
--- Whether the bytes from start up to end stand alone: the byte after them, if any, joins nothing, nor does the byte before them, if any, which is no dash either.
+-- Whether the bytes from start up to end stand alone: the byte after them, if any, joins nothing,
+-- nor does the byte before them, if any, which is no dash either.
 abbrev pub stands_alone : List ℕ → ℕ → ℕ → Bool
 stands_alone query start end =
     ((start == 0) || (not (is_joining (slice_index query (start - 1))) && not (slice_index query (start - 1) == dash)))
@@ -85,19 +95,22 @@ stands_alone query start end =
 
 -- a placeholder from start up to end
 abbrev pub place_at : List ℕ → List ℕ → ℕ → ℕ → Place
-place_at query token start end = record { start = start; end = end; name = is_name token; alone = stands_alone query start end }
+place_at query token start end =
+    record { start = start; end = end; name = is_name token; alone = stands_alone query start end }
 
 -- the placeholders among tokens of the query that begin at start
 abbrev pub places_from : List ℕ → ℕ → List (List ℕ) → List Place
 places_from query start [] = []
 places_from query start (token ∷ tokens) =
-    if is_place token then place_at query token start (start + length token) ∷ places_from query (start + length token) tokens
+    if is_place token then place_at query token start (start + length token) ∷
+    places_from query (start + length token) tokens
     else places_from query (start + length token) tokens
 
 -- the slices of the query from start on: before, between and after these placeholders
 abbrev pub slices_between : List ℕ → ℕ → List Place → List (List ℕ)
 slices_between query start [] = drop start query ∷ []
-slices_between query start (place ∷ places) = slice_range query start place.start ∷ slices_between query place.end places
+slices_between query start (place ∷ places) = slice_range query start place.start ∷
+    slices_between query place.end places
 
 -- the placeholders of the query are these
 abbrev pub HasPlaces : List ℕ → List Place → Type 0
@@ -117,7 +130,8 @@ HasMixed query mixed = (places : List Place) × HasPlaces query places × (mixed
 
 -- the query with a question mark for each placeholder: its pieces joined by question marks
 abbrev pub IsParsed : List ℕ → List ℕ → Type 0
-IsParsed query parsed = (tokens : List (List ℕ)) × HasTokens query tokens × (parsed ≡ join_with_byte question (pieces_of tokens))
+IsParsed query parsed = (tokens : List (List ℕ)) × HasTokens query tokens ×
+    (parsed ≡ join_with_byte question (pieces_of tokens))
 
 -- the first placeholder that doesn't stand alone
 abbrev pub first_not_alone : List Place → Option ℕ
@@ -127,11 +141,13 @@ first_not_alone places = position_from (λ place. not place.alone) 0 places
 abbrev pub BeginsPlace : ℕ → Type 0
 BeginsPlace b = (b ≡ colon) ⊎ (b ≡ question)
 
--- placeholders one after another within the query, from start on, each with what it begins with and whether it stands alone
+-- placeholders one after another within the query, from start on, each with what it begins with and
+-- whether it stands alone
 abbrev pub InOrder : List ℕ → ℕ → List Place → Type 0
 InOrder query start [] = Unit {0}
 InOrder query start (place ∷ places) =
-    (start ≤ place.start) × (place.start < place.end) × (place.end ≤ length query) × BeginsPlace (slice_index query place.start)
+    (start ≤ place.start) × (place.start < place.end) × (place.end ≤ length query) ×
+    BeginsPlace (slice_index query place.start)
     × (place.alone ≡ stands_alone query place.start place.end) × InOrder query place.end places
 
 -- pieces with literals between them

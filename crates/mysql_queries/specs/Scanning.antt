@@ -1,14 +1,18 @@
 -- What stands at a place of a text.
 -- MySQL Reference Manual, "String Literals".
-use Rattle.std.specs.Prelude.{◌≡◌, ◌≢◌, ℕ, ◌+◌, ◌≤◌, Bool, not, ◌||◌, ◌==◌, List, [], ◌∷◌, ◌++◌, length, drop, slice_index}
+use Rattle.std.specs.Prelude.{◌≡◌, ◌≢◌, ℕ, ◌+◌, ◌≤◌, Bool, not, ◌||◌, ◌==◌, List, [], ◌∷◌, ◌++◌, length, drop}
+use Rattle.std.specs.Prelude.{slice_index}
 use Rattle.std.specs.List.{AllByRecursion}
-use Rattle.mysql_queries.specs.Tokens.{Inside, Byte, Escape, Doubled, backslash, inside_bytes, IsInside, Closes, single_quote, is_quote, hash, dash, slash, colon, question}
+use Rattle.mysql_queries.specs.Tokens.{Inside, Byte, Escape, Doubled, backslash, inside_bytes, IsInside, Closes}
+use Rattle.mysql_queries.specs.Tokens.{single_quote, is_quote, hash, dash, slash, colon, question}
 use Rattle.mysql_queries.specs.declared.strings.Part.{Part}
 use Rattle.mysql_queries.specs.declared.strings.Part.TheVariants as parts
 
 -- between quotes, at this place, one part of so many bytes
 abbrev pub PartAt : ℕ → List ℕ → ℕ → ℕ → Type 0
-PartAt quote text at n = (part : Inside) × IsInside quote part × (n ≡ length (inside_bytes quote part)) × (drop at text ≡ inside_bytes quote part ++ drop (at + n) text) × (at + n ≤ length text)
+PartAt quote text at n = (part : Inside) × IsInside quote part ×
+    (n ≡ length (inside_bytes quote part)) ×
+    (drop at text ≡ inside_bytes quote part ++ drop (at + n) text) × (at + n ≤ length text)
 
 -- the byte at this place closes a quoted token
 abbrev pub ClosesAt : ℕ → List ℕ → ℕ → Type 0
@@ -24,12 +28,15 @@ part_view parts.Doubled = Doubled
 abbrev pub IsPartAt : List ℕ → ℕ → Inside → Type 0
 IsPartAt text at part =
     let n = length (inside_bytes single_quote part) in
-    IsInside single_quote part × (drop at text ≡ inside_bytes single_quote part ++ drop (at + n) text) × (at + n ≤ length text)
+    IsInside single_quote part ×
+    (drop at text ≡ inside_bytes single_quote part ++ drop (at + n) text) ×
+    (at + n ≤ length text)
 
 -- bytes between single quotes that stand for themselves: neither the quote nor a backslash
 abbrev pub IsRun : List ℕ → Type 0
 IsRun bytes = AllByRecursion (λ b. (b ≢ single_quote) × (b ≢ backslash)) bytes
 
--- a byte that is a token by itself whatever follows it: it begins no string, quoted identifier, comment or name, and is no question mark
+-- a byte that is a token by itself whatever follows it: it begins no string, quoted identifier,
+-- comment or name, and is no question mark
 abbrev pub is_plain : ℕ → Bool
 is_plain b = not (is_quote b || (b == hash) || (b == dash) || (b == slash) || (b == colon) || (b == question))

@@ -3,7 +3,8 @@
 use Rattle.mysql_queries.specs.Tokens.{Kind}
 use Rattle.mysql_queries.specs.Tokens as tokens
 use Rattle.mysql_queries.specs.declared.tokens.TokenKind.{TokenKind}
-use Rattle.mysql_queries.specs.declared.tokens.TokenKind.TheVariants.{Quoted, LineComment, BlockComment, Name, Mark, Plain}
+use Rattle.mysql_queries.specs.declared.tokens.TokenKind.TheVariants.{Quoted, LineComment, BlockComment, Name, Mark}
+use Rattle.mysql_queries.specs.declared.tokens.TokenKind.TheVariants.{Plain}
 
 abbrev pub kind_view : TokenKind → Kind
 kind_view (Quoted quote) = tokens.Quoted quote

@@ -44,13 +44,16 @@ fn value_of(b: u8) -> u8
     }
 }
 
-/// Reads a literal that begins with `0x`: how many bytes it takes, and its content into the buffer; None where its digits are none or odd in number.
+/// Reads a literal that begins with `0x`: how many bytes it takes, and its content into the buffer;
+/// None where its digits are none or odd in number.
 pub fn read_hex(text: &[u8], buf: &mut Vec<u8>) -> Result<Option<usize>, AllocError>
     requires { begins_hex text.now ≡ true }
     ensures in_range { IfOk result (λ found. IfSome found (λ n. n ≤ length text.now)) }
     ensures run { IfOk result (λ found. IfSome found (λ n. IsHexRun (take n text.now) (drop n text.now))) }
     ensures content { IfOk result (λ found. IfSome found (λ n. IsHexLiteral (take n text.now) buf.new.items)) }
-    ensures none { IfOk result (λ found. IfNone found ((run rest bytes : List ℕ) → text.now ≡ run ++ rest → IsHexRun run rest → IsHexLiteral run bytes → ⊥)) }
+    ensures none { IfOk result
+        (λ found. IfNone found ((run rest bytes : List ℕ) → text.now ≡ run ++ rest →
+        IsHexRun run rest → IsHexLiteral run bytes → ⊥)) }
     ensures full { OnErr result (vec_capacity buf.old < length text.now) }
 {
     buf.clear();

@@ -54,7 +54,8 @@ pub fn texts_are_decided()
     ensures { TextIsDecided }
 {}
 
-/// Where each placeholder of a query stands alone, the query with a literal in each place is read as the literals' contents.
+/// Where each placeholder of a query stands alone, the query with a literal in each place is read
+/// as the literals' contents.
 pub fn filled_text_is_read()
     ensures { FilledIsRead }
 {}

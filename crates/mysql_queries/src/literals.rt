@@ -3,7 +3,7 @@
 ghost use Rattle.mysql_queries.specs.LiteralRuns.{IsLiteralRun, begins_hex};
 ghost use Rattle.mysql_queries.specs.LiteralViews.{IsHeld, IsNoLiteral, literal_content};
 ghost use Rattle.mysql_queries.specs.Literals.{IsLiteral, lower};
-ghost use Rattle.mysql_error.specs.declared.error.WireError.TheVariants as wire;
+ghost use Rattle.mysql_fields.specs.declared.error.WireError.TheVariants as wire;
 ghost use Rattle.std.specs.Prelude.{
   ◌<◌,
   IsOkUnless,
@@ -30,7 +30,7 @@ ghost use Rattle.std.specs.Prelude.{
 use crate::hexadecimal::read_hex;
 use crate::numbers::read_number;
 use crate::strings::read_string;
-use mysql_error::WireError;
+use mysql_fields::WireError;
 use std::alloc::AllocError;
 
 /// A literal that was read. Bytes lie in the buffer that was lent.
@@ -76,7 +76,9 @@ fn hex_first(text: &[u8]) -> bool
 fn literal_len(text: &[u8], buf: &mut Vec<u8>) -> Result<Option<(Literal, usize)>, AllocError>
     ensures in_range { IfOk result (λ found. IfSome found (λ x. x.1 ≤ length text.now)) }
     ensures run { IfOk result (λ found. IfSome found (λ x. IsLiteralRun (take x.1 text.now) (drop x.1 text.now))) }
-    ensures content { IfOk result (λ found. IfSome found (λ x. IsLiteral (take x.1 text.now) (literal_content x.0 buf.new.items))) }
+    ensures content { IfOk result
+        (λ found. IfSome found (λ x. IsLiteral (take x.1 text.now)
+        (literal_content x.0 buf.new.items))) }
     ensures none { IfOk result (λ found. IfNone found (IsNoLiteral text.now)) }
     ensures full { OnErr result (vec_capacity buf.old < length text.now) }
 {
@@ -101,9 +103,11 @@ fn literal_len(text: &[u8], buf: &mut Vec<u8>) -> Result<Option<(Literal, usize)
     }
 }
 
-/// Reads the literal at the front of a text, and gives what follows it. What the buffer held goes, and a literal's bytes are put into it.
+/// Reads the literal at the front of a text, and gives what follows it. What the buffer held goes,
+/// and a literal's bytes are put into it.
 ///
-/// All that stands there of the literal's form is read: all digits, `0x` with all hexadecimal digits, a body in single quotes to its closing quote. None where that is no literal.
+/// All that stands there of the literal's form is read: all digits, `0x` with all hexadecimal
+/// digits, a body in single quotes to its closing quote. None where that is no literal.
 ///
 /// # Errors
 /// `Memory`, only where the buffer has no room for as many bytes as the text.

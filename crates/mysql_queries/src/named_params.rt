@@ -72,7 +72,8 @@ impl<'a> ParsedNamedParams<'a> {
         ensures query { IfOk result (λ parsed. IsParsed query.entry.now parsed.query) }
         ensures names { IfOk result (λ parsed. HasNames query.entry.now parsed.names) }
         ensures one_kind { OnOk result (HasMixed query.entry.now false) }
-        ensures mixed { IfErr result (λ e. (e ≡ named_params_error.Memory) ⊎ ((e ≡ named_params_error.Mixed (record {})) × HasMixed query.entry.now true)) }
+        ensures mixed { IfErr result (λ e. (e ≡ named_params_error.Memory) ⊎
+            ((e ≡ named_params_error.Mixed (record {})) × HasMixed query.entry.now true)) }
     {
         let places = places(alloc, query)?;
         ParsedNamedParams::parse_at(alloc, query, &places)
@@ -91,7 +92,8 @@ impl<'a> ParsedNamedParams<'a> {
         ensures query { IfOk result (λ parsed. IsParsed query.entry.now parsed.query) }
         ensures names { IfOk result (λ parsed. HasNames query.entry.now parsed.names) }
         ensures one_kind { OnOk result (HasMixed query.entry.now false) }
-        ensures mixed { IfErr result (λ e. (e ≡ named_params_error.Memory) ⊎ ((e ≡ named_params_error.Mixed (record {})) × HasMixed query.entry.now true)) }
+        ensures mixed { IfErr result (λ e. (e ≡ named_params_error.Memory) ⊎
+            ((e ≡ named_params_error.Mixed (record {})) × HasMixed query.entry.now true)) }
     {
         if is_mixed(places) {
             return Err(NamedParamsError::Mixed(MixedParamsError));

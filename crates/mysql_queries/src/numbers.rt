@@ -69,7 +69,8 @@ pub fn read_number(text: &[u8]) -> Option<(i128, usize)>
     ensures in_range { IfSome result (λ found. found.1 ≤ length text.now) }
     ensures run { IfSome result (λ found. IsDigitRun (take found.1 text.now) (drop found.1 text.now)) }
     ensures number { IfSome result (λ found. IsNumber (take found.1 text.now) found.0) }
-    ensures none { IfNone result ((run rest : List ℕ) (z : ℤ) → text.now ≡ run ++ rest → IsDigitRun run rest → IsNumber run z → ⊥) }
+    ensures none { IfNone result ((run rest : List ℕ) (z : ℤ) → text.now ≡ run ++ rest →
+        IsDigitRun run rest → IsNumber run z → ⊥) }
 {
     if !text.is_empty() && text[0] == b'-' {
         let end = digits_end(text, 1);

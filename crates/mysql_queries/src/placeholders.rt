@@ -1,7 +1,8 @@
 //! The placeholders of a query.
 
 ghost use Rattle.mysql_queries.specs.PlaceKinds.{is_place_kind, place_of_kind};
-ghost use Rattle.mysql_queries.specs.Queries.{HasPlaces, first_not_alone as first_apart, is_joining, is_mixed as has_both_kinds, is_name_kind, stands_alone};
+ghost use Rattle.mysql_queries.specs.Queries.{HasPlaces, first_not_alone as first_apart, is_joining};
+ghost use Rattle.mysql_queries.specs.Queries.{is_mixed as has_both_kinds, is_name_kind, stands_alone};
 ghost use Rattle.mysql_queries.specs.TokenKinds.{kind_view};
 ghost use Rattle.std.specs.List.{AllByRecursion, list_any};
 ghost use Rattle.std.specs.Prelude.{◌≡◌, ◌≤◌, IfNone, IfOk, IfSome, false, length, not, true};
@@ -49,7 +50,8 @@ fn alone_at(query: &[u8], start: usize, end: usize) -> bool
 
 /// Whether a placeholder of this kind is a name; None of another token.
 fn is_name_of(kind: TokenKind) -> Option<bool>
-    ensures found { IfSome result (λ name. (is_place_kind (kind_view kind) ≡ true) × (name ≡ is_name_kind (kind_view kind))) }
+    ensures found { IfSome result (λ name. (is_place_kind (kind_view kind) ≡ true) ×
+        (name ≡ is_name_kind (kind_view kind))) }
     ensures none { IfNone result (is_place_kind (kind_view kind) ≡ false) }
 {
     match kind {
@@ -66,7 +68,8 @@ fn is_name_of(kind: TokenKind) -> Option<bool>
 fn place_of(query: &[u8], kind: TokenKind, start: usize, end: usize) -> Option<Place>
     requires order { start ≤ end }
     requires in_range { end ≤ length query.now }
-    ensures found { IfSome result (λ p. (is_place_kind (kind_view kind) ≡ true) × (p ≡ place_of_kind query.now (kind_view kind) start end)) }
+    ensures found { IfSome result (λ p. (is_place_kind (kind_view kind) ≡ true) ×
+        (p ≡ place_of_kind query.now (kind_view kind) start end)) }
     ensures none { IfNone result (is_place_kind (kind_view kind) ≡ false) }
 {
     let name = is_name_of(kind)?;
@@ -80,7 +83,8 @@ fn place_of(query: &[u8], kind: TokenKind, start: usize, end: usize) -> Option<P
 
 /// The placeholders of a query, in order.
 ///
-/// Strings, quoted identifiers and comments hold none. What stands between `/*!` or `/*+` and its end is read as the query's own.
+/// Strings, quoted identifiers and comments hold none. What stands between `/*!` or `/*+` and its
+/// end is read as the query's own.
 pub fn places(alloc: Global, query: &[u8]) -> Result<Vec<Place>, AllocError>
     ensures { IfOk result (λ v. HasPlaces query.now v.items) }
 {

@@ -115,9 +115,12 @@ fn push_escaped(out: &mut Vec<u8>, b: u8) -> Result<(), AllocError>
 /// Appends what a part is read as.
 fn push_content(out: &mut Vec<u8>, part: Part) -> Result<(), AllocError>
     ensures ok { OnOk result (out.new.items ≡ out.old.items ++ inside_content (part_view part)) }
-    ensures len { OnOk result (vec_len out.new ≤ vec_len out.old + length (inside_bytes single_quote (part_view part))) }
+    ensures len { OnOk result
+        (vec_len out.new ≤ vec_len out.old + length (inside_bytes single_quote (part_view part))) }
     ensures capacity { vec_capacity out.old ≤ vec_capacity out.new }
-    ensures full { OnErr result (vec_capacity out.old < vec_len out.old + length (inside_bytes single_quote (part_view part))) }
+    ensures full { OnErr result
+        (vec_capacity out.old < vec_len out.old + length
+        (inside_bytes single_quote (part_view part))) }
 {
     match part {
         Part::Byte(b) => out.push(b)?,
@@ -149,14 +152,17 @@ fn push_run(out: &mut Vec<u8>, text: &[u8]) -> Result<usize, AllocError>
     Ok(run)
 }
 
-/// Reads a literal that begins with a single quote: how many bytes it takes, and its content into the buffer; None where nothing closes it.
+/// Reads a literal that begins with a single quote: how many bytes it takes, and its content into
+/// the buffer; None where nothing closes it.
 pub fn read_string(text: &[u8], buf: &mut Vec<u8>) -> Result<Option<usize>, AllocError>
     requires some { 0 < length text.now }
     requires begins { slice_index text.now 0 ≡ single_quote }
     ensures in_range { IfOk result (λ found. IfSome found (λ n. n ≤ length text.now)) }
     ensures run { IfOk result (λ found. IfSome found (λ n. IsQuoted single_quote (take n text.now) (drop n text.now))) }
     ensures content { IfOk result (λ found. IfSome found (λ n. IsString (take n text.now) buf.new.items)) }
-    ensures none { IfOk result (λ found. IfNone found ((run rest bytes : List ℕ) → text.now ≡ run ++ rest → IsQuoted single_quote run rest → IsString run bytes → ⊥)) }
+    ensures none { IfOk result
+        (λ found. IfNone found ((run rest bytes : List ℕ) → text.now ≡ run ++ rest →
+        IsQuoted single_quote run rest → IsString run bytes → ⊥)) }
     ensures full { OnErr result (vec_capacity buf.old < length text.now) }
 {
     buf.clear();

@@ -5,7 +5,7 @@ ghost use Rattle.mysql_queries.specs.LiteralViews.{IsNoLiteral};
 ghost use Rattle.mysql_queries.specs.Literals.{IsLiteral};
 ghost use Rattle.mysql_queries.specs.Queries.{HasPlaces, Lexes, Slices};
 ghost use Rattle.mysql_queries.specs.declared.content.Content.{Content as ContentOf};
-ghost use Rattle.mysql_error.specs.declared.error.WireError.TheVariants as wire;
+ghost use Rattle.mysql_fields.specs.declared.error.WireError.TheVariants as wire;
 ghost use Rattle.std.specs.List.{AllByRecursion};
 ghost use Rattle.std.specs.Prelude.{◌++◌, ◌≡◌, IfNone, IfOk, IfSome, IsOkUnless, List, true, ℕ};
 
@@ -13,7 +13,7 @@ use crate::byte_string::ByteString;
 use crate::content::Content;
 use crate::literals::{Literal, read_literal};
 use crate::placeholders::Place;
-use mysql_error::WireError;
+use mysql_fields::WireError;
 use std::alloc::Global;
 
 /// The content of the literal at the front of a text, and what follows it; None where no literal stands there.
@@ -34,9 +34,12 @@ fn read_content<'a>(alloc: Global, text: &'a [u8]) -> Result<Option<(Content, &'
     }
 }
 
-/// Reads a text as the query with literals in the places of its placeholders, and gives the literals' contents in order.
+/// Reads a text as the query with literals in the places of its placeholders, and gives the
+/// literals' contents in order.
 ///
-/// `places` are the query's placeholders, as [`places`](crate::placeholders::places) lists them, and each of them stands alone. None where the text is not the query's pieces with literals between them.
+/// `places` are the query's placeholders, as [`places`](crate::placeholders::places) lists them,
+/// and each of them stands alone. None where the text is not the query's pieces with literals
+/// between them.
 ///
 /// # Errors
 /// `Memory`.
@@ -50,7 +53,9 @@ pub fn read_text(
     requires alone { AllByRecursion (λ place. place.alone ≡ true) places.now }
     ensures sliced { IfOk result (λ found. IfSome found (λ contents. Slices query.now text.now contents.items)) }
     ensures lexed { IfOk result (λ found. IfSome found (λ contents. Lexes query.now text.now contents.items)) }
-    ensures none { IfOk result (λ found. IfNone found ((contents : List ContentOf) → Slices query.now text.now contents → ⊥)) }
+    ensures none { IfOk result
+        (λ found. IfNone found ((contents : List ContentOf) → Slices query.now text.now contents →
+        ⊥)) }
     ensures memory { IsOkUnless result wire.Memory }
 {
     let mut contents = Vec::new(alloc);

@@ -213,7 +213,8 @@ pub fn token_end(text: &[u8], kind: TokenKind) -> usize
     }
 }
 
-// A `1` at each byte that is a token by itself. Comparisons in its place would branch on the kind of each byte, which is hard to predict.
+// A `1` at each byte that is a token by itself. Comparisons in its place would branch on the kind
+// of each byte, which is hard to predict.
 static PLAIN: [u8; 256] = *b"\
     11111111111111111111111111111111\
     11001110111110101111111111011110\

@@ -4,9 +4,9 @@ use Rattle.std.specs.List.{flat_map}
 use Rattle.std.proofs.lemmas.List.{append_cancel_left}
 use Rattle.mysql_wire.specs.Stream.{framings}
 use Rattle.mysql_wire.specs.Stream.Numbering.{EachFromZero}
-use Rattle.mysql_commands.specs.Reading.{Set}
-use Rattle.mysql_commands.specs.Query.{Statement, statement_of}
-use Rattle.mysql_streams.specs.Sent.{as_execution, payloads_of, prepare_of}
+use Rattle.mysql_receive.specs.Reading.{Set}
+use Rattle.mysql_receive.specs.Query.{Statement, statement_of}
+use Rattle.mysql_command_rules.specs.Sent.{as_execution, payloads_of, prepare_of}
 use Rattle.mysql_recoding.specs.Causes.{values_of_sets}
 use Rattle.mysql_recoding.specs.Recoding.{Recodes}
 

@@ -5,11 +5,11 @@ use Rattle.mysql_wire.specs.Bytes.{AreBytes}
 use Rattle.mysql_values.specs.Laws.{OneTokens}
 use Rattle.mysql_values.specs.Queries.{places_from}
 use Rattle.mysql_values.specs.Tokens.{HasTokens}
-use Rattle.mysql_commands.specs.Audit.{Read}
-use Rattle.mysql_commands.specs.InForce.{StatementState, nothing_yet, state_after}
-use Rattle.mysql_commands.specs.Query.{Statement, place_count, statement_of}
-use Rattle.mysql_commands.specs.Reading.{Set}
-use Rattle.mysql_streams.specs.declared.refusal.Refusal.TheVariants as refusals
+use Rattle.mysql_receive.specs.Audit.{Read}
+use Rattle.mysql_receive.specs.InForce.{StatementState, nothing_yet, state_after}
+use Rattle.mysql_receive.specs.Query.{Statement, place_count, statement_of}
+use Rattle.mysql_receive.specs.Reading.{Set}
+use Rattle.mysql_command_rules.specs.declared.refusal.Refusal.TheVariants as refusals
 use Rattle.mysql_recoding.specs.Laws.{CarriedSetsFillPlaces, FillsPlaces}
 use Rattle.mysql_recoding.proofs.CarriedCommands.{CountsPlaces, Fills, payload_carried}
 use Rattle.mysql_recoding.proofs.FramedBytes.{payloads_are_bytes}

@@ -24,11 +24,11 @@ use Rattle.mysql_values.specs.Content.TheVariants as content
 use Rattle.mysql_values.specs.Value.{Value}
 use Rattle.mysql_values.specs.Value.TheVariants as value
 use Rattle.mysql_values.specs.Values.{clock_text, content_of, date_text, day_text, digits_in, is_zero_time, micros_text, time_text}
-use Rattle.mysql_commands.specs.declared.fault.StreamFault.{StreamFault}
-use Rattle.mysql_commands.specs.declared.fault.StreamFault.TheVariants.{BadBulk, Float, Indicator}
-use Rattle.mysql_commands.specs.declared.param_type.ParamType.{ParamType}
-use Rattle.mysql_commands.specs.Fields.{number_or, must}
-use Rattle.mysql_commands.specs.Reading.{column_at, content_at, or_cell_fault}
+use Rattle.mysql_receive.specs.declared.fault.StreamFault.{StreamFault}
+use Rattle.mysql_receive.specs.declared.fault.StreamFault.TheVariants.{BadBulk, Float, Indicator}
+use Rattle.mysql_receive.specs.declared.param_type.ParamType.{ParamType}
+use Rattle.mysql_receive.specs.Fields.{number_or, must}
+use Rattle.mysql_receive.specs.Reading.{column_at, content_at, or_cell_fault}
 use Rattle.mysql_recoding.specs.Laws.{IsCarried}
 use Rattle.mysql_recoding.proofs.ByteLists.{ascii_bytes, bytes_append, bytes_cons, bytes_drop, bytes_if, bytes_replicate, bytes_tail, bytes_take, no_bytes, one_byte}
 

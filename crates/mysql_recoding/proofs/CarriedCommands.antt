@@ -10,15 +10,15 @@ use Rattle.mysql_values.specs.Content.{Content}
 use Rattle.mysql_values.specs.Content.TheVariants as content
 use Rattle.mysql_values.specs.Queries.{pieces_of, places_from}
 use Rattle.mysql_values.specs.Tokens.{HasTokens}
-use Rattle.mysql_commands.specs.declared.fault.StreamFault.{StreamFault}
-use Rattle.mysql_commands.specs.declared.fault.StreamFault.TheVariants.{BadBulk, BadExecute, NoRows, NoTypes, NotPrepared, PiecesBeforeBulk, WrongId}
-use Rattle.mysql_commands.specs.declared.param_type.ParamType.{ParamType}
-use Rattle.mysql_commands.specs.Fields.{must}
-use Rattle.mysql_commands.specs.Query.{Statement, place_count}
-use Rattle.mysql_commands.specs.Layout.{BulkHead, Command, Types, bulk_head, command_of, execute_head, id_at}
-use Rattle.mysql_commands.specs.Layout as layout
-use Rattle.mysql_commands.specs.InForce.{StatementState, is_waiting}
-use Rattle.mysql_commands.specs.Reading.{BulkReadsAs, CommandReadsAs, PayloadReadsAs, RowsAt, Set, TextReadsAs, bulk_rows, column_at, columns_at, execute_at, long_data_at, parameter_at, prepared_piece, row_at, set_at, statement_alone_at, types_in_force}
+use Rattle.mysql_receive.specs.declared.fault.StreamFault.{StreamFault}
+use Rattle.mysql_receive.specs.declared.fault.StreamFault.TheVariants.{BadBulk, BadExecute, NoRows, NoTypes, NotPrepared, PiecesBeforeBulk, WrongId}
+use Rattle.mysql_receive.specs.declared.param_type.ParamType.{ParamType}
+use Rattle.mysql_receive.specs.Fields.{must}
+use Rattle.mysql_receive.specs.Query.{Statement, place_count}
+use Rattle.mysql_receive.specs.Layout.{BulkHead, Command, Types, bulk_head, command_of, execute_head, id_at}
+use Rattle.mysql_receive.specs.Layout as layout
+use Rattle.mysql_receive.specs.InForce.{StatementState, is_waiting}
+use Rattle.mysql_receive.specs.Reading.{BulkReadsAs, CommandReadsAs, PayloadReadsAs, RowsAt, Set, TextReadsAs, bulk_rows, column_at, columns_at, execute_at, long_data_at, parameter_at, prepared_piece, row_at, set_at, statement_alone_at, types_in_force}
 use Rattle.mysql_recoding.specs.Laws.{IsCarried}
 use Rattle.mysql_recoding.proofs.ByteLists.{bytes_tail}
 use Rattle.mysql_recoding.proofs.CarriedCells.{Leaves, bind_ok, column_carried, content_carried, leaves, ok_same, read, some_is}

@@ -8,15 +8,15 @@ use Rattle.mysql_values.specs.Value.{Value}
 use Rattle.mysql_values.specs.Values.{first_float}
 use Rattle.mysql_stmt.specs.Executions.{execute_command}
 use Rattle.mysql_bulk_builder.specs.Causes.{first_some}
-use Rattle.mysql_commands.specs.Audit.{Audit}
-use Rattle.mysql_commands.specs.declared.audit.End.{End}
-use Rattle.mysql_commands.specs.declared.audit.End.TheVariants.{Fault, UnfinishedPacket, WaitingPieces, Whole}
-use Rattle.mysql_commands.specs.Query.{Statement, place_count}
-use Rattle.mysql_streams.specs.declared.refusal.Refusal.{Refusal}
-use Rattle.mysql_streams.specs.declared.refusal.Refusal.TheVariants as refusals
-use Rattle.mysql_streams.specs.declared.road.Road.TheVariants.{Execute}
-use Rattle.mysql_streams.specs.Cause.{cause_if, cause_of, first_of_sets, max_places, query_cause, set_cause}
-use Rattle.mysql_streams.specs.Commands.{prepare_command}
+use Rattle.mysql_receive.specs.Audit.{Audit}
+use Rattle.mysql_receive.specs.declared.audit.End.{End}
+use Rattle.mysql_receive.specs.declared.audit.End.TheVariants.{Fault, UnfinishedPacket, WaitingPieces, Whole}
+use Rattle.mysql_receive.specs.Query.{Statement, place_count}
+use Rattle.mysql_command_rules.specs.declared.refusal.Refusal.{Refusal}
+use Rattle.mysql_command_rules.specs.declared.refusal.Refusal.TheVariants as refusals
+use Rattle.mysql_command_rules.specs.declared.road.Road.TheVariants.{Execute}
+use Rattle.mysql_command_rules.specs.Cause.{cause_if, cause_of, first_of_sets, max_places, query_cause, set_cause}
+use Rattle.mysql_command_rules.specs.Commands.{prepare_command}
 use Rattle.mysql_recoding.specs.declared.errors.RecodeError.TheVariants as errors
 use Rattle.mysql_recoding.specs.Causes.{ending_cause, error_for, recoding_cause, values_of_sets}
 

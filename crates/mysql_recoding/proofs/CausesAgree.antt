@@ -5,12 +5,12 @@ use Rattle.std.specs.Option.{option_map, option_or}
 use Rattle.mysql_wire.specs.Bytes.{AreBytes}
 use Rattle.mysql_values.specs.Queries.{is_mixed}
 use Rattle.mysql_bulk_builder.specs.Causes.{first_some}
-use Rattle.mysql_commands.specs.Audit.{Audit}
-use Rattle.mysql_commands.specs.Laws.{StreamHasOneAudit}
-use Rattle.mysql_commands.specs.Query.{Statement, statement_of}
-use Rattle.mysql_streams.specs.declared.refusal.Refusal.{Refusal}
-use Rattle.mysql_streams.specs.declared.road.Road.TheVariants.{Execute}
-use Rattle.mysql_streams.specs.Cause.{cause_of, query_cause}
+use Rattle.mysql_receive.specs.Audit.{Audit}
+use Rattle.mysql_receive.specs.Laws.{StreamHasOneAudit}
+use Rattle.mysql_receive.specs.Query.{Statement, statement_of}
+use Rattle.mysql_command_rules.specs.declared.refusal.Refusal.{Refusal}
+use Rattle.mysql_command_rules.specs.declared.road.Road.TheVariants.{Execute}
+use Rattle.mysql_command_rules.specs.Cause.{cause_of, query_cause}
 use Rattle.mysql_values.specs.Laws.{OneTokens}
 use Rattle.mysql_recoding.specs.declared.errors.RecodeError.{RecodeError}
 use Rattle.mysql_recoding.specs.declared.errors.RecodeError.TheVariants as errors

@@ -11,18 +11,18 @@ use Rattle.mysql_wire.specs.Stream.{framings}
 use Rattle.mysql_wire.specs.Stream.Numbering.{EachFromZero}
 use Rattle.mysql_values.specs.Queries.{places_from}
 use Rattle.mysql_bulk_builder.specs.Causes.{first_some}
-use Rattle.mysql_commands.specs.Audit.{Audit, AuditOf, Audited}
-use Rattle.mysql_commands.specs.GoingOn.{ReceiverState}
-use Rattle.mysql_commands.specs.Laws.{StartDecidesTheAudit, ThereIsOneAudit}
-use Rattle.mysql_commands.specs.Reading.{Set}
-use Rattle.mysql_commands.specs.Taking.{with_sets}
-use Rattle.mysql_commands.specs.declared.audit.End.{End}
-use Rattle.mysql_commands.specs.Query.{IsQuery, Statement, statement_of}
-use Rattle.mysql_streams.specs.declared.refusal.Refusal.{Refusal}
-use Rattle.mysql_streams.specs.declared.road.Road.TheVariants.{Execute}
-use Rattle.mysql_streams.specs.Cause.{cause_of}
-use Rattle.mysql_streams.specs.Commands.{prepare_command}
-use Rattle.mysql_streams.specs.Sent.{as_execution, payloads_of, prepare_of}
+use Rattle.mysql_receive.specs.Audit.{Audit, AuditOf, Audited}
+use Rattle.mysql_receive.specs.GoingOn.{ReceiverState}
+use Rattle.mysql_receive.specs.Laws.{StartDecidesTheAudit, ThereIsOneAudit}
+use Rattle.mysql_receive.specs.Reading.{Set}
+use Rattle.mysql_receive.specs.Taking.{with_sets}
+use Rattle.mysql_receive.specs.declared.audit.End.{End}
+use Rattle.mysql_receive.specs.Query.{IsQuery, Statement, statement_of}
+use Rattle.mysql_command_rules.specs.declared.refusal.Refusal.{Refusal}
+use Rattle.mysql_command_rules.specs.declared.road.Road.TheVariants.{Execute}
+use Rattle.mysql_command_rules.specs.Cause.{cause_of}
+use Rattle.mysql_command_rules.specs.Commands.{prepare_command}
+use Rattle.mysql_command_rules.specs.Sent.{as_execution, payloads_of, prepare_of}
 use Rattle.mysql_recoding.specs.declared.errors.RecodeError.{RecodeError}
 use Rattle.mysql_recoding.specs.declared.errors.RecodeError.TheVariants as errors
 use Rattle.mysql_recoding.specs.AsItComes.{Decides, Finishes, IsCauseAsItComes, IsNewRecoder, RecoderState, RecodesPiece, RecodesPieces, RecodesTheSame, RefusesEnd, RefusesPiece, Terms, appended_of, executions, executions_cause, prepare_behind, recoded_front, sets_cause, with_taken}

@@ -8,11 +8,11 @@ use Rattle.mysql_wire.specs.Laws.{HasOneSplit}
 use Rattle.mysql_wire.specs.Stream.{IsRest, IsSplit, Numbering, Rest, Split, after_all, first_number}
 use Rattle.mysql_wire.specs.Stream.Rest.{Empty}
 use Rattle.mysql_wire.specs.Stream.Numbering.{EachFromZero}
-use Rattle.mysql_commands.specs.Audit.{Audit}
-use Rattle.mysql_commands.specs.GoingOn.{ReceiverDecides, ReceiverDecidesBy, ReceiverState, TakesAll}
-use Rattle.mysql_commands.specs.Laws.{ThereIsOneAudit}
-use Rattle.mysql_commands.specs.Query.{IsQuery, Statement}
-use Rattle.mysql_commands.specs.Reading.{Set}
+use Rattle.mysql_receive.specs.Audit.{Audit}
+use Rattle.mysql_receive.specs.GoingOn.{ReceiverDecides, ReceiverDecidesBy, ReceiverState, TakesAll}
+use Rattle.mysql_receive.specs.Laws.{ThereIsOneAudit}
+use Rattle.mysql_receive.specs.Query.{IsQuery, Statement}
+use Rattle.mysql_receive.specs.Reading.{Set}
 use Rattle.mysql_recoding.proofs.ByteLists.{bytes_append, bytes_behind}
 
 -- something is decided of any bytes to come, with the sets that are held in front

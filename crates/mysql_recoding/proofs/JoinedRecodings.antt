@@ -8,15 +8,15 @@ use Rattle.mysql_wire.specs.Laws.{FramedComeFirst}
 use Rattle.mysql_wire.specs.Stream.{IsSplit, Split, framings}
 use Rattle.mysql_wire.specs.Stream.Numbering.{EachFromZero}
 use Rattle.mysql_values.specs.Value.{Value}
-use Rattle.mysql_commands.specs.Audit.{Audit, Audited}
-use Rattle.mysql_commands.specs.Laws.{WholeStreamsJoin}
-use Rattle.mysql_commands.specs.Query.{Statement, place_count, statement_of}
-use Rattle.mysql_commands.specs.Reading.{Set}
-use Rattle.mysql_commands.specs.declared.audit.End.TheVariants.{Whole}
+use Rattle.mysql_receive.specs.Audit.{Audit, Audited}
+use Rattle.mysql_receive.specs.Laws.{WholeStreamsJoin}
+use Rattle.mysql_receive.specs.Query.{Statement, place_count, statement_of}
+use Rattle.mysql_receive.specs.Reading.{Set}
+use Rattle.mysql_receive.specs.declared.audit.End.TheVariants.{Whole}
 use Rattle.mysql_values.specs.Laws.{OneTokens}
-use Rattle.mysql_streams.specs.Cause.{query_cause}
-use Rattle.mysql_streams.specs.Sent.{AreSent, SentPayload, as_execution, payloads_of, prepare_of}
-use Rattle.mysql_streams.specs.declared.road.Road.TheVariants.{Execute}
+use Rattle.mysql_command_rules.specs.Cause.{query_cause}
+use Rattle.mysql_command_rules.specs.Sent.{AreSent, SentPayload, as_execution, payloads_of, prepare_of}
+use Rattle.mysql_command_rules.specs.declared.road.Road.TheVariants.{Execute}
 use Rattle.mysql_values.specs.Contents.{content_value}
 use Rattle.mysql_recoding.specs.Causes.{recoding_cause, values_of_sets}
 use Rattle.mysql_recoding.specs.Laws.{JoinedStreamsRecode, both}

@@ -9,13 +9,13 @@ use Rattle.mysql_wire.specs.Stream.{framings}
 use Rattle.mysql_wire.specs.Stream.Numbering.{EachFromZero}
 use Rattle.mysql_values.specs.Contents.{content_value}
 use Rattle.mysql_values.specs.Value.{Value}
-use Rattle.mysql_commands.specs.Reading.{Set}
-use Rattle.mysql_commands.specs.Query.{Statement}
-use Rattle.mysql_streams.specs.declared.refusal.Refusal.{Refusal}
-use Rattle.mysql_streams.specs.Cause.{first_of_sets, set_cause}
-use Rattle.mysql_streams.specs.Commands.{prepare_command}
-use Rattle.mysql_streams.specs.Sent.{SentPayload, as_execution, on_the_way, payloads_of, prepare_of}
-use Rattle.mysql_streams.specs.Sets.{Given}
+use Rattle.mysql_receive.specs.Reading.{Set}
+use Rattle.mysql_receive.specs.Query.{Statement}
+use Rattle.mysql_command_rules.specs.declared.refusal.Refusal.{Refusal}
+use Rattle.mysql_command_rules.specs.Cause.{first_of_sets, set_cause}
+use Rattle.mysql_command_rules.specs.Commands.{prepare_command}
+use Rattle.mysql_command_rules.specs.Sent.{SentPayload, as_execution, on_the_way, payloads_of, prepare_of}
+use Rattle.mysql_command_rules.specs.Sets.{Given}
 use Rattle.mysql_senders.specs.OneSet.{execution_payloads, whole_execution}
 use Rattle.mysql_recoding.specs.AsItComes.{executions, executions_cause}
 use Rattle.mysql_recoding.specs.Causes.{values_of_sets}

@@ -12,8 +12,8 @@ use Rattle.mysql_values.specs.Contents.{content_value, integer_value}
 use Rattle.mysql_values.specs.Value.{Value}
 use Rattle.mysql_values.specs.Values.{content_of, first_float}
 use Rattle.mysql_values.specs.Binding.{values_cause}
-use Rattle.mysql_commands.specs.Reading.{Set}
-use Rattle.mysql_streams.specs.declared.refusal.Refusal.{Refusal}
+use Rattle.mysql_receive.specs.Reading.{Set}
+use Rattle.mysql_command_rules.specs.declared.refusal.Refusal.{Refusal}
 
 -- a value that is no float, whichever of two it is
 either_is_no_float : (test : Bool) (a b : Value) → is_none (content_of a) ≡ false → is_none (content_of b) ≡ false → is_none (content_of (if test then a else b)) ≡ false

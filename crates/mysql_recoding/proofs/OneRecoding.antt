@@ -1,13 +1,13 @@
 -- A stream is recoded in one way, and streams with equal sets to equal bytes.
-use Rattle.mysql_commands.specs.Query.{statement_of}
+use Rattle.mysql_receive.specs.Query.{statement_of}
 use Rattle.std.proofs.Common.{◌≡◌, ℕ, ◌<◌, ◌^◌, List, ◌++◌, length, Some, sym, ◌∙◌, ap, subst}
 use Rattle.mysql_wire.specs.Bytes.{AreBytes}
 use Rattle.mysql_values.specs.Laws.{OneTokens}
 use Rattle.mysql_values.specs.Tokens.{HasTokens}
-use Rattle.mysql_commands.specs.Audit.{Audit, AuditOf, Audited}
-use Rattle.mysql_commands.specs.Laws.{StreamHasOneAudit}
-use Rattle.mysql_commands.specs.Reading.{Set}
-use Rattle.mysql_commands.specs.declared.audit.End.TheVariants.{Whole}
+use Rattle.mysql_receive.specs.Audit.{Audit, AuditOf, Audited}
+use Rattle.mysql_receive.specs.Laws.{StreamHasOneAudit}
+use Rattle.mysql_receive.specs.Reading.{Set}
+use Rattle.mysql_receive.specs.declared.audit.End.TheVariants.{Whole}
 use Rattle.mysql_recoding.specs.Causes.{recoding_cause}
 use Rattle.mysql_recoding.specs.Laws.{EqualSetsRecodeEqually, RecodingsAreDecided, RecodingsCarryTheSame}
 use Rattle.mysql_recoding.proofs.Canonical.{appended_form, canonical, recoded}

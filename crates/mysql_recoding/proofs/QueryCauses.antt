@@ -3,11 +3,11 @@ use Rattle.std.proofs.Common.{◌≡◌, ℕ, Bool, true, false, List, Option, N
 use Rattle.std.specs.Option.{option_or}
 use Rattle.mysql_values.specs.Queries.{is_mixed}
 use Rattle.mysql_values.specs.Tokens.{HasTokens}
-use Rattle.mysql_commands.specs.Query.{IsQuery, Statement, statement_of}
-use Rattle.mysql_streams.specs.declared.refusal.Refusal.{Refusal}
-use Rattle.mysql_streams.specs.declared.refusal.Refusal.TheVariants as refusals
-use Rattle.mysql_streams.specs.declared.road.Road.TheVariants.{Execute}
-use Rattle.mysql_streams.specs.Cause.{cause_if, query_cause}
+use Rattle.mysql_receive.specs.Query.{IsQuery, Statement, statement_of}
+use Rattle.mysql_command_rules.specs.declared.refusal.Refusal.{Refusal}
+use Rattle.mysql_command_rules.specs.declared.refusal.Refusal.TheVariants as refusals
+use Rattle.mysql_command_rules.specs.declared.road.Road.TheVariants.{Execute}
+use Rattle.mysql_command_rules.specs.Cause.{cause_if, query_cause}
 
 one_kind_of : (mixed : Bool) (rest : Option Refusal) → option_or (cause_if mixed refusals.Mixed) rest ≡ None → mixed ≡ false
 one_kind_of false rest none = refl

@@ -4,17 +4,17 @@ use Rattle.std.specs.Option.{option_map, option_or}
 use Rattle.std.proofs.lemmas.List.{append-nil}
 use Rattle.mysql_wire.specs.Bytes.{AreBytes}
 use Rattle.mysql_wire.specs.Laws.{HasOneSplit}
-use Rattle.mysql_commands.specs.declared.audit.End.TheVariants as ends
-use Rattle.mysql_commands.specs.declared.fault.StreamFault.{StreamFault}
-use Rattle.mysql_commands.specs.Audit.{Audit}
-use Rattle.mysql_commands.specs.GoingOn.{ReceiverDecidesBy, ReceiverState, TakesAll}
-use Rattle.mysql_commands.specs.Laws.{ThereIsOneAudit}
-use Rattle.mysql_commands.specs.Query.{IsQuery, Statement}
-use Rattle.mysql_commands.specs.Reading.{Set}
-use Rattle.mysql_commands.specs.Received.{Received, receiver_state}
-use Rattle.mysql_commands.specs.Receiving.{IsMemory}
-use Rattle.mysql_commands.specs.Taking.{with_sets}
-use Rattle.mysql_streams.specs.declared.refusal.Refusal.{Refusal}
+use Rattle.mysql_receive.specs.declared.audit.End.TheVariants as ends
+use Rattle.mysql_receive.specs.declared.fault.StreamFault.{StreamFault}
+use Rattle.mysql_receive.specs.Audit.{Audit}
+use Rattle.mysql_receive.specs.GoingOn.{ReceiverDecidesBy, ReceiverState, TakesAll}
+use Rattle.mysql_receive.specs.Laws.{ThereIsOneAudit}
+use Rattle.mysql_receive.specs.Query.{IsQuery, Statement}
+use Rattle.mysql_receive.specs.Reading.{Set}
+use Rattle.mysql_receive.specs.Received.{Received, receiver_state}
+use Rattle.mysql_receive.specs.Receiving.{IsMemory}
+use Rattle.mysql_receive.specs.Taking.{with_sets}
+use Rattle.mysql_command_rules.specs.declared.refusal.Refusal.{Refusal}
 use Rattle.mysql_recoding.specs.declared.errors.RecodeError.{RecodeError}
 use Rattle.mysql_recoding.specs.declared.errors.RecodeError.TheVariants as errors
 use Rattle.mysql_recoding.specs.Causes.{ending_cause, error_for}

@@ -13,22 +13,22 @@ use Rattle.mysql_values.specs.Place.{Place}
 use Rattle.mysql_values.specs.Queries.{HasMixed, is_mixed, places_from}
 use Rattle.mysql_values.specs.Tokens.{HasTokens}
 use Rattle.mysql_values.specs.Value.{Value}
-use Rattle.mysql_commands.specs.Audit.{Audit, AuditOf}
-use Rattle.mysql_commands.specs.Laws.{StreamHasOneAudit}
-use Rattle.mysql_commands.specs.Query.{statement_of}
-use Rattle.mysql_commands.specs.Receiving.{IsMemory, IsReceived}
-use Rattle.mysql_commands.specs.declared.audit.End.{End}
-use Rattle.mysql_commands.specs.declared.audit.End.TheVariants as ends
-use Rattle.mysql_commands.specs.declared.fault.StreamFault.TheVariants.{Memory}
-use Rattle.mysql_commands.specs.declared.receiver.ReceiverError.{ReceiverError}
-use Rattle.mysql_commands.specs.declared.receiver.ReceiverError.TheVariants as receiver_error
-use Rattle.mysql_streams.specs.declared.refusal.Refusal.{Refusal}
-use Rattle.mysql_streams.specs.declared.road.Road.TheVariants.{Execute}
+use Rattle.mysql_receive.specs.Audit.{Audit, AuditOf}
+use Rattle.mysql_receive.specs.Laws.{StreamHasOneAudit}
+use Rattle.mysql_receive.specs.Query.{statement_of}
+use Rattle.mysql_receive.specs.Receiving.{IsMemory, IsReceived}
+use Rattle.mysql_receive.specs.declared.audit.End.{End}
+use Rattle.mysql_receive.specs.declared.audit.End.TheVariants as ends
+use Rattle.mysql_receive.specs.declared.fault.StreamFault.TheVariants.{Memory}
+use Rattle.mysql_receive.specs.declared.receiver.ReceiverError.{ReceiverError}
+use Rattle.mysql_receive.specs.declared.receiver.ReceiverError.TheVariants as receiver_error
+use Rattle.mysql_command_rules.specs.declared.refusal.Refusal.{Refusal}
+use Rattle.mysql_command_rules.specs.declared.road.Road.TheVariants.{Execute}
 use Rattle.mysql_bulk_builder.specs.Causes.{first_some}
-use Rattle.mysql_streams.specs.Cause.{cause_of}
-use Rattle.mysql_streams.specs.Sending.{RefusesGiven, SendsGiven}
-use Rattle.mysql_streams.specs.Sent.{AreSent}
-use Rattle.mysql_streams.specs.Sets.{Given, all_given_in_places}
+use Rattle.mysql_command_rules.specs.Cause.{cause_of}
+use Rattle.mysql_command_rules.specs.Sending.{RefusesGiven, SendsGiven}
+use Rattle.mysql_command_rules.specs.Sent.{AreSent}
+use Rattle.mysql_command_rules.specs.Sets.{Given, all_given_in_places}
 use Rattle.mysql_recoding.specs.declared.errors.RecodeError.{RecodeError}
 use Rattle.mysql_recoding.specs.declared.errors.RecodeError.TheVariants as errors
 use Rattle.mysql_recoding.specs.Causes.{ending_cause, error_for, recoding_cause, values_of_sets}

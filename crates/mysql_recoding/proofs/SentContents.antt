@@ -13,10 +13,10 @@ use Rattle.mysql_cells.specs.declared.value.Value.TheVariants as values
 use Rattle.mysql_values.specs.Content.{Content}
 use Rattle.mysql_values.specs.Content.TheVariants as content
 use Rattle.mysql_values.specs.Place.{Place}
-use Rattle.mysql_commands.specs.Reading.{Set}
+use Rattle.mysql_receive.specs.Reading.{Set}
 use Rattle.mysql_stmt.specs.Executions.{execute_command}
 use Rattle.mysql_stmt.specs.Statements.{ExecutionsHaveSizes}
-use Rattle.mysql_streams.specs.Reading.{HaveContents}
+use Rattle.mysql_command_rules.specs.Reading.{HaveContents}
 use Rattle.mysql_values.specs.Contents.{content_value, integer_value}
 use Rattle.mysql_wire.specs.Writing.{lenenc_int}
 use Rattle.mysql_recoding.specs.Causes.{values_of_sets}

@@ -7,14 +7,14 @@ use Rattle.std.specs.Result.{result_ok}
 use Rattle.mysql_wire.specs.Bytes.{AreBytes}
 use Rattle.mysql_wire.specs.Reading as buffer
 use Rattle.mysql_wire.specs.Wire.{◌>>=◌}
-use Rattle.mysql_commands.specs.declared.fault.StreamFault.{StreamFault}
-use Rattle.mysql_commands.specs.declared.fault.StreamFault.TheVariants.{BadBulk, BadExecute, BadPlace, BadType, WrongId}
-use Rattle.mysql_commands.specs.declared.param_type.ParamType.{ParamType}
-use Rattle.mysql_commands.specs.Fields.{bytes_or, number_or, must}
-use Rattle.mysql_commands.specs.Query.{Statement, place_count}
-use Rattle.mysql_commands.specs.Layout.{BulkHead, Command, ExecuteHead, Piece, Types, binding_at, bulk_head, command_of, execute_head, id_at, is_type, piece_at, type_at, types_at}
-use Rattle.mysql_commands.specs.Layout as layout
-use Rattle.mysql_commands.specs.InForce.{StatementState, is_end, joined, nothing_yet, said_by, since, speaks_of_place, speaks_of_types, state_after, waiting_for}
+use Rattle.mysql_receive.specs.declared.fault.StreamFault.{StreamFault}
+use Rattle.mysql_receive.specs.declared.fault.StreamFault.TheVariants.{BadBulk, BadExecute, BadPlace, BadType, WrongId}
+use Rattle.mysql_receive.specs.declared.param_type.ParamType.{ParamType}
+use Rattle.mysql_receive.specs.Fields.{bytes_or, number_or, must}
+use Rattle.mysql_receive.specs.Query.{Statement, place_count}
+use Rattle.mysql_receive.specs.Layout.{BulkHead, Command, ExecuteHead, Piece, Types, binding_at, bulk_head, command_of, execute_head, id_at, is_type, piece_at, type_at, types_at}
+use Rattle.mysql_receive.specs.Layout as layout
+use Rattle.mysql_receive.specs.InForce.{StatementState, is_end, joined, nothing_yet, said_by, since, speaks_of_place, speaks_of_types, state_after, waiting_for}
 use Rattle.mysql_recoding.proofs.ByteLists.{bytes_flat_map, bytes_tail}
 use Rattle.mysql_recoding.proofs.CarriedCells.{Leaves, bind_ok, bytes_leave, leaves, number_leaves, ok_same, read, some_is, some_same}
 

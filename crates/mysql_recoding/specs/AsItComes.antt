@@ -1,6 +1,8 @@
--- Recoding as the bytes come: what a recoder holds, what a piece of the stream makes it append, and why it refuses.
--- MySQL: Client/Server Protocol, "Protocol Basics: MySQL Packets", "Command Phase", "COM_STMT_PREPARE", "COM_STMT_EXECUTE".
-use Rattle.std.specs.Prelude.{◌≡◌, ◌⊎◌, ℕ, ◌+◌, ◌-◌, List, [], ◌∷◌, ◌++◌, length, map, Option, None, Some, Result, Ok, Err}
+-- Recoding as the bytes come: what a recoder holds, what a piece of the stream makes it append, and
+-- why it refuses. MySQL: Client/Server Protocol, "Protocol Basics: MySQL Packets", "Command Phase",
+-- "COM_STMT_PREPARE", "COM_STMT_EXECUTE".
+use Rattle.std.specs.Prelude.{◌≡◌, ◌⊎◌, ℕ, ◌+◌, ◌-◌, List, [], ◌∷◌, ◌++◌, length, map, Option, None, Some, Result, Ok}
+use Rattle.std.specs.Prelude.{Err}
 use Rattle.std.specs.List.{concat, flat_map}
 use Rattle.std.specs.Option.{option_map}
 use Rattle.mysql_wire.specs.Bytes.{AreBytes}
@@ -10,18 +12,18 @@ use Rattle.mysql_wire.specs.Stream.Numbering.{EachFromZero}
 use Rattle.mysql_values.specs.Queries.{places_from}
 use Rattle.mysql_values.specs.Tokens.{HasTokens}
 use Rattle.mysql_bulk_builder.specs.Causes.{first_some}
-use Rattle.mysql_commands.specs.declared.audit.End.TheVariants.{Whole}
-use Rattle.mysql_commands.specs.Audit.{Audit, AuditOf, IsAbout}
-use Rattle.mysql_commands.specs.GoingOn.{ReceiverDecides, ReceiverState, TakesAll, fresh_receiver}
-use Rattle.mysql_commands.specs.Query.{Statement, statement_of}
-use Rattle.mysql_commands.specs.Reading.{Set}
-use Rattle.mysql_commands.specs.Received.{Received, receiver_state}
-use Rattle.mysql_commands.specs.Taking.{with_sets}
-use Rattle.mysql_streams.specs.Cause.{cause_of, first_of_sets, query_cause, set_cause}
-use Rattle.mysql_streams.specs.Commands.{prepare_command}
-use Rattle.mysql_streams.specs.Sent.{as_execution, payloads_of, prepare_of}
-use Rattle.mysql_streams.specs.declared.refusal.Refusal.{Refusal}
-use Rattle.mysql_streams.specs.declared.road.Road.TheVariants.{Execute}
+use Rattle.mysql_receive.specs.declared.audit.End.TheVariants.{Whole}
+use Rattle.mysql_receive.specs.Audit.{Audit, AuditOf, IsAbout}
+use Rattle.mysql_receive.specs.GoingOn.{ReceiverDecides, ReceiverState, TakesAll, fresh_receiver}
+use Rattle.mysql_receive.specs.Query.{Statement, statement_of}
+use Rattle.mysql_receive.specs.Reading.{Set}
+use Rattle.mysql_receive.specs.Received.{Received, receiver_state}
+use Rattle.mysql_receive.specs.Taking.{with_sets}
+use Rattle.mysql_command_rules.specs.Cause.{cause_of, first_of_sets, query_cause, set_cause}
+use Rattle.mysql_command_rules.specs.Commands.{prepare_command}
+use Rattle.mysql_command_rules.specs.Sent.{as_execution, payloads_of, prepare_of}
+use Rattle.mysql_command_rules.specs.declared.refusal.Refusal.{Refusal}
+use Rattle.mysql_command_rules.specs.declared.road.Road.TheVariants.{Execute}
 use Rattle.mysql_senders.specs.OneSet.{execution_payloads, whole_execution}
 use Rattle.mysql_recoding.specs.declared.errors.RecodeError.{RecodeError}
 use Rattle.mysql_recoding.specs.declared.errors.RecodeError.TheVariants as recode_error
@@ -112,7 +114,8 @@ abbrev pub prepare_behind : RecoderState → List Set → List ℕ
 prepare_behind r [] = r.prepare
 prepare_behind r (set ∷ sets) = []
 
--- the first cause against the executions of sets by a statement with this id and so many placeholders, of which the first has this number
+-- the first cause against the executions of sets by a statement with this id and so many
+-- placeholders, of which the first has this number
 abbrev pub executions_cause : ℕ → ℕ → ℕ → ℕ → List Set → Option Refusal
 executions_cause id places limit number sets =
     first_of_sets (set_cause (whole_execution id) places (limit - 4)) number (map Ok (values_of_sets sets))
@@ -120,20 +123,25 @@ executions_cause id places limit number sets =
 abbrev pub sets_cause : Terms → ℕ → List Set → Option Refusal
 sets_cause terms number sets = executions_cause terms.conversation.id terms.places terms.limit number sets
 
--- the first cause, in the order of the stream, against what it says from here on: against one of its sets, else how it ends
+-- the first cause, in the order of the stream, against what it says from here on: against one of
+-- its sets, else how it ends
 abbrev pub cause_from : RecoderState → Audit → Option RecodeError
-cause_from r audit = first_some (option_map error_for (sets_cause r.terms r.count audit.sets) ∷ ending_cause audit.ending ∷ [])
+cause_from r audit = first_some (option_map error_for (sets_cause r.terms r.count audit.sets) ∷
+    ending_cause audit.ending ∷ [])
 
 -- what is decided of the bytes to come
 abbrev pub Decides : Terms → ReceiverState → List ℕ → Audit → Type 0
 Decides terms state z audit = ReceiverDecides terms.conversation terms.limit state z audit
 
--- A piece was recoded: nothing speaks against the sets of the payloads that stand whole with it, and they are appended. What is held then decides, over the
--- bytes to come, what was decided before it over the piece and them, but for these sets.
-pub record RecodesPiece (terms : Terms) (old : RecoderState) (piece appended : List ℕ) (new : RecoderState) : Type 0 where
+-- A piece was recoded: nothing speaks against the sets of the payloads that stand whole with it,
+-- and they are appended. What is held then decides, over the bytes to come, what was decided before
+-- it over the piece and them, but for these sets.
+pub record RecodesPiece (terms : Terms) (old : RecoderState) (piece appended : List ℕ)
+    (new : RecoderState) : Type 0 where
   pub sets : List Set
   pub takes : TakesAll terms.conversation terms.limit old.received piece (with_taken new.received sets)
-  pub goes_on : (z : List ℕ) (audit : Audit) → AreBytes z → Decides terms new.received z audit → Decides terms old.received (piece ++ z) (with_sets sets audit)
+  pub goes_on : (z : List ℕ) (audit : Audit) → AreBytes z → Decides terms new.received z audit →
+      Decides terms old.received (piece ++ z) (with_sets sets audit)
   pub none : sets_cause terms old.count sets ≡ None
   pub appended_is : appended ≡ appended_of old sets
   pub prepare : new.prepare ≡ prepare_behind old sets
@@ -145,7 +153,8 @@ pub record RecodesPiece (terms : Terms) (old : RecoderState) (piece appended : L
 abbrev pub RefusesPiece : RecoderState → List ℕ → RecodeError → Type 0
 RefusesPiece old piece error =
     (error ≡ recode_error.Memory)
-    ⊎ ((z : List ℕ) → AreBytes z → (audit : Audit) × Decides old.terms old.received (piece ++ z) audit × (cause_from old audit ≡ Some error))
+    ⊎ ((z : List ℕ) → AreBytes z → (audit : Audit) ×
+    Decides old.terms old.received (piece ++ z) audit × (cause_from old audit ≡ Some error))
 
 -- at the end the stream is whole, and a prepare that no set followed is appended
 pub record Finishes (r : RecoderState) (appended : List ℕ) : Type 0 where
@@ -157,11 +166,14 @@ pub record Finishes (r : RecoderState) (appended : List ℕ) : Type 0 where
 -- why the end is refused: Memory, or how the stream ends
 abbrev pub RefusesEnd : RecoderState → RecodeError → Type 0
 RefusesEnd r error =
-    (error ≡ recode_error.Memory) ⊎ ((audit : Audit) × Decides r.terms r.received [] audit × (ending_cause audit.ending ≡ Some error))
+    (error ≡ recode_error.Memory) ⊎
+    ((audit : Audit) × Decides r.terms r.received [] audit ×
+    (ending_cause audit.ending ≡ Some error))
 
 -- ---- the whole stream
 
--- the first cause against a stream in its own order: against preparing the query, then against its sets as they come, then how it ends
+-- the first cause against a stream in its own order: against preparing the query, then against its
+-- sets as they come, then how it ends
 abbrev pub cause_as_it_comes : Statement → ℕ → Audit → Option RecodeError
 cause_as_it_comes statement limit audit = first_some (
     option_map error_for (cause_of Execute statement limit (map Ok (values_of_sets audit.sets))) ∷
@@ -179,44 +191,58 @@ pub record IsCauseAsItComes (query : List ℕ) (id limit : ℕ) (stream : List �
 abbrev pub recoded_front : Statement → List Set → List ℕ
 recoded_front statement [] = []
 recoded_front statement (set ∷ sets) =
-    framings (payloads_of (prepare_of statement ∷ flat_map (as_execution statement) (values_of_sets (set ∷ sets)))) EachFromZero
+    framings (payloads_of (prepare_of statement ∷
+    flat_map (as_execution statement) (values_of_sets (set ∷ sets)))) EachFromZero
 
 -- pieces were recoded one after another, and this was appended
 abbrev pub RecodesPieces : RecoderState → List (List ℕ) → List ℕ → RecoderState → Type 0
 RecodesPieces old [] appended new = (appended ≡ []) × (new ≡ old)
 RecodesPieces old (piece ∷ pieces) appended new =
-    (first : List ℕ) × (rest : List ℕ) × (between : RecoderState) × RecodesPiece old.terms old piece first between × (between.terms ≡ old.terms)
+    (first : List ℕ) × (rest : List ℕ) × (between : RecoderState) ×
+    RecodesPiece old.terms old piece first between × (between.terms ≡ old.terms)
     × RecodesPieces between pieces rest new × (appended ≡ first ++ rest)
 
--- What pieces append, however the stream is cut into them, is the recoding of what they carry. Where the stream is whole, the prepare
--- follows if it wasn't appended, and all of it is what recoding appends; where it isn't, the end is refused as recoding it is. A piece is
--- refused for the first cause, in the order of the stream, against the pieces before it, it and whatever comes behind it.
-pub record RecodesTheSame (query : List ℕ) (id limit : ℕ) (pieces : List (List ℕ)) (appended : List ℕ) (now : RecoderState) : Type 0 where
+-- What pieces append, however the stream is cut into them, is the recoding of what they carry.
+-- Where the stream is whole, the prepare follows if it wasn't appended, and all of it is what
+-- recoding appends; where it isn't, the end is refused as recoding it is. A piece is refused for
+-- the first cause, in the order of the stream, against the pieces before it, it and whatever comes
+-- behind it.
+pub record RecodesTheSame (query : List ℕ) (id limit : ℕ) (pieces : List (List ℕ))
+    (appended : List ℕ) (now : RecoderState) : Type 0 where
   pub tokens : List (List ℕ)
   pub has : HasTokens query tokens
   pub audit : Audit
   pub says : AuditOf query id limit (concat pieces) audit
   pub front : appended ≡ recoded_front (statement_of query tokens id) audit.sets
-  pub whole : (last old : List ℕ) → Finishes now last → Recodes query id limit (concat pieces) old (old ++ (appended ++ last))
+  pub whole : (last old : List ℕ) → Finishes now last →
+      Recodes query id limit (concat pieces) old (old ++ (appended ++ last))
   pub ended : (error : RecodeError) → RefusesEnd now error → RefusesRecoding query id limit (concat pieces) error
-  pub refused : (piece behind : List ℕ) (error : RecodeError) → AreBytes piece → AreBytes behind → RefusesPiece now piece error
+  pub refused : (piece behind : List ℕ) (error : RecodeError) → AreBytes piece → AreBytes behind →
+      RefusesPiece now piece error
       → (error ≡ recode_error.Memory) ⊎ IsCauseAsItComes query id limit (concat pieces ++ (piece ++ behind)) error
 
--- How the first causes in the two orders agree: where the stream is whole, and where nothing speaks against its sets, they are one; there is none in the one
--- order exactly where there is none in the other.
+-- How the first causes in the two orders agree: where the stream is whole, and where nothing speaks
+-- against its sets, they are one; there is none in the one order exactly where there is none in the
+-- other.
 pub record CausesAgree (statement : Statement) (limit : ℕ) (audit : Audit) : Type 0 where
   pub whole : audit.ending ≡ Whole → cause_as_it_comes statement limit audit ≡ recoding_cause statement limit audit
-  pub sets_free : cause_of Execute statement limit (map Ok (values_of_sets audit.sets)) ≡ None → cause_as_it_comes statement limit audit ≡ recoding_cause statement limit audit
+  pub sets_free : cause_of Execute statement limit (map Ok (values_of_sets audit.sets)) ≡ None →
+      cause_as_it_comes statement limit audit ≡ recoding_cause statement limit audit
   pub none : recoding_cause statement limit audit ≡ None → cause_as_it_comes statement limit audit ≡ None
   pub none_back : cause_as_it_comes statement limit audit ≡ None → recoding_cause statement limit audit ≡ None
 
--- Recoding as the bytes come is recoding: pieces are recoded as the whole stream is, what can't be prepared is the first cause against any stream, and against a
--- stream that can be recoded there is none.
+-- Recoding as the bytes come is recoding: pieces are recoded as the whole stream is, what can't be
+-- prepared is the first cause against any stream, and against a stream that can be recoded there is
+-- none.
 pub record RecodedAsItComes : Type 0 where
-  pub pieces_recode : (query : List ℕ) (id limit : ℕ) (start now : RecoderState) (pieces : List (List ℕ)) (appended : List ℕ) → IsNewRecoder query id limit start
-      → AreBytes (concat pieces) → RecodesPieces start pieces appended now → RecodesTheSame query id limit pieces appended now
-  pub queries_refuse : (query : List ℕ) (id limit : ℕ) (stream : List ℕ) (error : RecodeError) → AreBytes stream → RefusesQuery query id limit error
+  pub pieces_recode : (query : List ℕ) (id limit : ℕ) (start now : RecoderState)
+      (pieces : List (List ℕ)) (appended : List ℕ) → IsNewRecoder query id limit start
+      → AreBytes (concat pieces) → RecodesPieces start pieces appended now →
+      RecodesTheSame query id limit pieces appended now
+  pub queries_refuse : (query : List ℕ) (id limit : ℕ) (stream : List ℕ) (error : RecodeError) →
+      AreBytes stream → RefusesQuery query id limit error
       → (error ≡ recode_error.Memory) ⊎ IsCauseAsItComes query id limit stream error
-  pub recoded_pass : (query : List ℕ) (id limit : ℕ) (stream old new : List ℕ) (error : RecodeError) → AreBytes stream → Recodes query id limit stream old new
+  pub recoded_pass : (query : List ℕ) (id limit : ℕ) (stream old new : List ℕ)
+      (error : RecodeError) → AreBytes stream → Recodes query id limit stream old new
       → IsCauseAsItComes query id limit stream error → ⊥
   pub causes_agree : (statement : Statement) (limit : ℕ) (audit : Audit) → CausesAgree statement limit audit

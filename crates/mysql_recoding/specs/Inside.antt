@@ -1,12 +1,19 @@
 -- What a recoder's fields stand for, and what is true of them.
 -- MySQL: Client/Server Protocol, "COM_STMT_PREPARE" (the number of parameters has two bytes).
 use Rattle.std.specs.Prelude.{◌≡◌, ◌≤◌}
-use Rattle.mysql_commands.specs.Query.{IsQuery}
+use Rattle.mysql_receive.specs.Query.{IsQuery}
 use Rattle.mysql_recoding.specs.declared.recoder.Recoder.TheInside.{Inside}
 use Rattle.mysql_recoding.specs.AsItComes.{Recoded}
 
 abbrev pub recoder_of : Inside → Recoded
-recoder_of r = record { receiver = r.receiver; places = r.places; count = r.count; prepare = r.prepare.items; refused = r.refused }
+recoder_of r = record {
+  receiver = r.receiver;
+  places = r.places;
+  count = r.count;
+  prepare =
+      r.prepare.items;
+  refused = r.refused;
+}
 
 -- it sends by its receiver's statement and limit, and that statement can be prepared
 pub record IsKept (r : Inside) : Type 0 where

@@ -1,18 +1,19 @@
--- What recoding a stream appends, and why nothing is.
--- MySQL: Client/Server Protocol, "Protocol Basics: MySQL Packets", "Command Phase", "COM_STMT_PREPARE", "COM_STMT_EXECUTE".
+-- What recoding a stream appends, and why nothing is. MySQL: Client/Server Protocol, "Protocol
+-- Basics: MySQL Packets", "Command Phase", "COM_STMT_PREPARE", "COM_STMT_EXECUTE".
 use Rattle.std.specs.Prelude.{◌≡◌, ◌⊎◌, ◌-◌, ℕ, List, ◌++◌, None, Some}
 use Rattle.mysql_wire.specs.Stream.{framings}
 use Rattle.mysql_wire.specs.Stream.Numbering.{EachFromZero}
 use Rattle.mysql_values.specs.Tokens.{HasTokens}
-use Rattle.mysql_commands.specs.Audit.{Audit, AuditOf}
-use Rattle.mysql_commands.specs.Query.{statement_of}
-use Rattle.mysql_streams.specs.Sent.{AreSent, SentPayload, payloads_of}
-use Rattle.mysql_streams.specs.declared.road.Road.TheVariants.{Execute}
+use Rattle.mysql_receive.specs.Audit.{Audit, AuditOf}
+use Rattle.mysql_receive.specs.Query.{statement_of}
+use Rattle.mysql_command_rules.specs.Sent.{AreSent, SentPayload, payloads_of}
+use Rattle.mysql_command_rules.specs.declared.road.Road.TheVariants.{Execute}
 use Rattle.mysql_recoding.specs.declared.errors.RecodeError.{RecodeError}
 use Rattle.mysql_recoding.specs.declared.errors.RecodeError.TheVariants as recode_error
 use Rattle.mysql_recoding.specs.Causes.{recoding_cause, values_of_sets}
 
--- no cause speaks against recoding the stream, and the framings of what is sent by execute of the sets that it carries are appended
+-- no cause speaks against recoding the stream, and the framings of what is sent by execute of the
+-- sets that it carries are appended
 pub record Recodes (query : List ℕ) (id limit : ℕ) (stream old new : List ℕ) : Type 0 where
   pub tokens : List (List ℕ)
   pub has : HasTokens query tokens
@@ -33,4 +34,5 @@ pub record IsRecodingCause (query : List ℕ) (id limit : ℕ) (stream : List �
 
 -- why it is refused: Memory may stand in place of any answer; each other refusal is the first cause
 abbrev pub RefusesRecoding : List ℕ → ℕ → ℕ → List ℕ → RecodeError → Type 0
-RefusesRecoding query id limit stream error = (error ≡ recode_error.Memory) ⊎ IsRecodingCause query id limit stream error
+RefusesRecoding query id limit stream error = (error ≡ recode_error.Memory) ⊎
+    IsRecodingCause query id limit stream error

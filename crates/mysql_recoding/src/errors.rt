@@ -1,17 +1,18 @@
 //! Why a stream is not recoded.
 
 ghost use Rattle.std.specs.Prelude.{◌≡◌, ◌⊎◌, IfNone, IfSome, Some};
-ghost use Rattle.mysql_commands.specs.declared.audit.End.TheVariants as ends;
-ghost use Rattle.mysql_commands.specs.Receiving.{IsMemory};
+ghost use Rattle.mysql_receive.specs.declared.audit.End.TheVariants as ends;
+ghost use Rattle.mysql_receive.specs.Receiving.{IsMemory};
 ghost use Rattle.mysql_recoding.specs.Causes.{ending_cause};
-ghost use Rattle.mysql_commands.specs.declared.receiver.ReceiverError.TheVariants as receiver_error;
+ghost use Rattle.mysql_receive.specs.declared.receiver.ReceiverError.TheVariants as receiver_error;
 ghost use Rattle.mysql_recoding.specs.declared.errors.RecodeError.TheVariants as recode_error;
 
-use mysql_commands::{End, ReceiverError, StreamFault};
+use mysql_receive::{End, ReceiverError, StreamFault};
 use std::alloc::{AllocError, AllocFailed};
 use thiserror::Error;
 
-/// Why a stream of commands is not recoded, in the order in which the causes are looked for. Payloads and sets are counted from 0.
+/// Why a stream of commands is not recoded, in the order in which the causes are looked for.
+/// Payloads and sets are counted from 0.
 #[derive(Clone, Copy, Debug, PartialEq, Eq, Error)]
 pub enum RecodeError {
     /// The query has both names and question marks.
@@ -37,11 +38,12 @@ pub enum RecodeError {
 }
 
 impl RecodeError {
-    /// Why a stream that ends so is not recoded; None where it is whole. For who reads a stream by a `Receiver`, before its contents
-    /// are sent by [`send_contents`](crate::send_contents).
+    /// Why a stream that ends so is not recoded; None where it is whole. For who reads a stream by
+    /// a `Receiver`, before its contents are sent by [`send_contents`](crate::send_contents).
     pub fn of_end(end: End) -> Option<RecodeError>
         ensures none { IfNone result (end ≡ ends.Whole) }
-        ensures some { IfSome result (λ error. ((error ≡ recode_error.Memory) × IsMemory end) ⊎ ((ending_cause end ≡ Some error) × (IsMemory end → ⊥))) }
+        ensures some { IfSome result (λ error. ((error ≡ recode_error.Memory) × IsMemory end) ⊎
+            ((ending_cause end ≡ Some error) × (IsMemory end → ⊥))) }
     {
         match end {
             End::Fault(_, StreamFault::Memory) => Some(RecodeError::Memory),
@@ -70,7 +72,8 @@ impl<T: Drop> From<AllocFailed<T>> for RecodeError {
 
 // A stream is refused before it is read for the query or for want of memory.
 impl From<ReceiverError> for RecodeError {
-    ghost from_gives = { λ error e. ((error ≡ receiver_error.Mixed) × (e ≡ recode_error.Mixed)) ⊎ ((error ≡ receiver_error.Memory) × (e ≡ recode_error.Memory)) };
+    ghost from_gives = { λ error e. ((error ≡ receiver_error.Mixed) × (e ≡ recode_error.Mixed)) ⊎
+        ((error ≡ receiver_error.Memory) × (e ≡ recode_error.Memory)) };
 
     fn from(error: ReceiverError) -> RecodeError {
         match error {

@@ -1,18 +1,20 @@
 //! Laws of recoding. Functions without a result do nothing: their contracts are the laws.
 
 ghost use Rattle.mysql_recoding.specs.AsItComes.{RecodedAsItComes};
-ghost use Rattle.mysql_recoding.specs.Laws.{CarriedSetsFillPlaces, EqualSetsRecodeEqually, JoinedStreamsRecode, RecodingsAreDecided, RecodingsAreSent, RecodingsCarryTheSame, RecodingsRecodeToThemselves};
+ghost use Rattle.mysql_recoding.specs.Laws.{CarriedSetsFillPlaces, EqualSetsRecodeEqually, JoinedStreamsRecode};
+ghost use Rattle.mysql_recoding.specs.Laws.{RecodingsAreDecided, RecodingsAreSent, RecodingsCarryTheSame};
+ghost use Rattle.mysql_recoding.specs.Laws.{RecodingsRecodeToThemselves};
 
-use mysql_commands::laws::{
+use mysql_command_rules::laws::sent_values_are_carried;
+use mysql_receive::laws::{
     start_decides_the_audit, stream_has_one_audit, there_is_one_audit, whole_streams_join,
 };
 use mysql_stmt::laws::executions_have_sizes;
-use mysql_streams::laws::sent_values_are_carried;
 use mysql_values::laws::tokens_of_a_text;
 use mysql_wire::laws::{framed_come_first, reader_laws};
 
-/// Each set that a stream carries has as many contents as the query has placeholders, its numbers are from -2^63 to 2^64-1, and of the
-/// values that it is sent as none is a float.
+/// Each set that a stream carries has as many contents as the query has placeholders, its numbers
+/// are from -2^63 to 2^64-1, and of the values that it is sent as none is a float.
 pub fn carried_sets_fill_places()
     ensures { CarriedSetsFillPlaces }
 {
@@ -43,7 +45,8 @@ pub fn recodings_recode_to_themselves()
     recodings_carry_the_same();
 }
 
-/// Two streams whose recodings with one query, id and limit succeed carry equal sets exactly where the recodings are equal.
+/// Two streams whose recodings with one query, id and limit succeed carry equal sets exactly where
+/// the recodings are equal.
 pub fn equal_sets_recode_equally()
     ensures { EqualSetsRecodeEqually }
 {
@@ -60,7 +63,8 @@ pub fn recodings_are_decided()
     tokens_of_a_text();
 }
 
-/// The recoding of two whole streams one behind the other is the first one's, and behind it the second one's without its prepare.
+/// The recoding of two whole streams one behind the other is the first one's, and behind it the
+/// second one's without its prepare.
 pub fn joined_streams_recode()
     ensures { JoinedStreamsRecode }
 {
@@ -69,8 +73,9 @@ pub fn joined_streams_recode()
     framed_come_first();
 }
 
-/// What a [`Recoder`](crate::Recoder) appends of a stream, however its bytes are cut, is what [`recode`](crate::recode) appends of all
-/// bytes, and what it refuses is the first cause in the order of the stream.
+/// What a [`Recoder`](crate::Recoder) appends of a stream, however its bytes are cut, is what
+/// [`recode`](crate::recode) appends of all bytes, and what it refuses is the first cause in the
+/// order of the stream.
 pub fn recoded_as_it_comes()
     ensures { RecodedAsItComes }
 {

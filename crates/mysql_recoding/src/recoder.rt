@@ -1,25 +1,28 @@
 //! Streams of commands as executions, as their bytes come.
 
-ghost use Rattle.std.specs.Prelude.{◌≡◌, ◌≤◌, ◌++◌, ◌⊎◌, ℕ, List, Err, IfErr, IfOk, IfSome, None, OnErr, OnOk, Some, length, take};
+ghost use Rattle.std.specs.Prelude.{◌≡◌, ◌≤◌, ◌++◌, ◌⊎◌, ℕ, List, Err, IfErr, IfOk, IfSome, None, OnErr, OnOk, Some};
+ghost use Rattle.std.specs.Prelude.{length, take};
 ghost use Rattle.std.specs.Option.{option_map};
-ghost use Rattle.mysql_commands.specs.Views.{sets_of};
+ghost use Rattle.mysql_receive.specs.Views.{sets_of};
 ghost use Rattle.mysql_recoding.specs.declared.errors.RecodeError.TheVariants as recode_error;
 ghost use Rattle.mysql_recoding.specs.Causes.{error_for};
-ghost use Rattle.mysql_recoding.specs.AsItComes.{Finishes, IsNewRecoder, RecodesPiece, RefusesEnd, RefusesPiece, RefusesQuery, answer_by, recoder_state, sets_cause};
+ghost use Rattle.mysql_recoding.specs.AsItComes.{Finishes, IsNewRecoder, RecodesPiece, RefusesEnd, RefusesPiece};
+ghost use Rattle.mysql_recoding.specs.AsItComes.{RefusesQuery, answer_by, recoder_state, sets_cause};
 ghost use Rattle.mysql_recoding.specs.Steps.{AppendsTo, CanBePrepared, PutsSets, ReadsPiece, RefusesSetsFrom};
 
 use crate::errors::RecodeError;
 use crate::whole::{refused, values_of_all};
-use mysql_commands::laws::there_is_one_audit;
-use mysql_commands::{Content, Receiver, StreamFault};
+use mysql_receive::laws::there_is_one_audit;
+use mysql_receive::{Content, Receiver, StreamFault};
 use mysql_senders::put_more_executions;
 use mysql_senders::statement::{put_prepare, statement_of};
 use mysql_wire::laws::one_split;
 use std::alloc::Global;
 use std::marker::Model;
 
-/// Recodes a stream of commands whose bytes come in pieces, as [`recode`](crate::recode) does a whole one. It holds the packet that
-/// isn't whole, the long data that waits, the types in force, the number of the sets so far, and the prepare until it is appended.
+/// Recodes a stream of commands whose bytes come in pieces, as [`recode`](crate::recode) does a
+/// whole one. It holds the packet that isn't whole, the long data that waits, the types in force,
+/// the number of the sets so far, and the prepare until it is appended.
 #[derive(Drop)]
 pub struct Recoder {
     alloc: Global,
@@ -88,8 +91,8 @@ fn read_piece(
     }
 }
 
-/// Appends the prepare, and the executions of sets of the statement, of which the first has the number `first`. Answers the number
-/// behind them.
+/// Appends the prepare, and the executions of sets of the statement, of which the first has the
+/// number `first`. Answers the number behind them.
 fn put_sets(
     alloc: Global,
     stmt_id: u32,
@@ -102,7 +105,8 @@ fn put_sets(
 ) -> Result<usize, RecodeError>
     requires limit { 4 ≤ limit }
     requires places { places ≤ 65535 }
-    ensures ok { IfOk result (λ count. AppendsTo stmt_id places limit first prepare.now (sets_of sets.items) out.old.items out.new.items count) }
+    ensures ok { IfOk result (λ count. AppendsTo stmt_id places limit first prepare.now
+        (sets_of sets.items) out.old.items out.new.items count) }
     ensures err { IfErr result (RefusesSetsFrom stmt_id places limit first (sets_of sets.items)) }
     ensures kept { take (length out.old.items) out.new.items ≡ out.old.items }
 {
@@ -122,16 +126,17 @@ fn put_sets(
 }
 
 impl Recoder {
-    /// A recoder of a stream of commands about this query, whose statement was given the id `stmt_id`. What it appends are
-    /// executions of that statement.
+    /// A recoder of a stream of commands about this query, whose statement was given the id
+    /// `stmt_id`. What it appends are executions of that statement.
     ///
-    /// The limit is the `max_allowed_packet` of the side that the packets go to, and at least 4. Calls that write count 4 bytes
-    /// for a packet's header in it: a payload has at most `limit - 4` bytes. Calls that read count the payload alone: it has at most
-    /// `limit` bytes. The stream is read, and what is appended written.
+    /// The limit is the `max_allowed_packet` of the side that the packets go to, and at least 4.
+    /// Calls that write count 4 bytes for a packet's header in it: a payload has at most `limit -
+    /// 4` bytes. Calls that read count the payload alone: it has at most `limit` bytes. The stream
+    /// is read, and what is appended written.
     ///
     /// # Errors
-    /// The first cause that holds: `Mixed` where both names and question marks occur in the query, `TooManyPlaces`, `PrepareTooLarge`;
-    /// `Memory` where a growth was refused.
+    /// The first cause that holds: `Mixed` where both names and question marks occur in the query,
+    /// `TooManyPlaces`, `PrepareTooLarge`; `Memory` where a growth was refused.
     ///
     /// (MySQL: Client/Server Protocol, "COM_STMT_PREPARE".)
     pub fn new(
@@ -165,7 +170,9 @@ impl Recoder {
     /// Appends the executions of sets, and before the first set of all the prepare.
     fn put(&mut self, sets: Vec<Vec<Content>>, out: &mut Vec<u8>) -> Result<(), RecodeError>
         ensures ok { OnOk result (PutsSets self.old (sets_of sets.items) out.old.items out.new.items self.new) }
-        ensures err { IfErr result (λ error. (error ≡ recode_error.Memory) ⊎ (option_map error_for (sets_cause (recoder_state self.old).terms self.old.count (sets_of sets.items)) ≡ Some error)) }
+        ensures err { IfErr result (λ error. (error ≡ recode_error.Memory) ⊎
+            (option_map error_for (sets_cause (recoder_state self.old).terms self.old.count
+            (sets_of sets.items)) ≡ Some error)) }
         ensures kept { take (length out.old.items) out.new.items ≡ out.old.items }
         ensures unchanged { OnErr result (self.new ≡ self.old) }
     {
@@ -188,7 +195,10 @@ impl Recoder {
 
     /// Recodes the next piece. A refusal is not held yet, and what was appended before it stands.
     fn recode_piece(&mut self, piece: &[u8], out: &mut Vec<u8>) -> Result<(), RecodeError>
-        ensures recoded { OnOk result ((appended : List ℕ) × (out.new.items ≡ out.old.items ++ appended) × RecodesPiece (recoder_state self.old).terms (recoder_state self.old) piece.now appended (recoder_state self.new)) }
+        ensures recoded { OnOk result ((appended : List ℕ) ×
+            (out.new.items ≡ out.old.items ++ appended) ×
+            RecodesPiece (recoder_state self.old).terms (recoder_state self.old) piece.now appended
+            (recoder_state self.new)) }
         ensures refused { IfErr result (RefusesPiece (recoder_state self.old) piece.now) }
         ensures kept { take (length out.old.items) out.new.items ≡ out.old.items }
         ensures terms { (recoder_state self.new).terms ≡ (recoder_state self.old).terms }
@@ -204,22 +214,28 @@ impl Recoder {
         }
     }
 
-    /// Takes the next piece of the stream, of any length, and appends to `out` the executions of the sets whose packets are whole with
-    /// it, in the order of the stream; before the first execution of all it appends the prepare. Each packet is numbered from 0.
+    /// Takes the next piece of the stream, of any length, and appends to `out` the executions of
+    /// the sets whose packets are whole with it, in the order of the stream; before the first
+    /// execution of all it appends the prepare. Each packet is numbered from 0.
     ///
-    /// What all calls append, and [`finish`](Recoder::finish) behind them, is what [`recode`](crate::recode) appends of all bytes,
-    /// however they are cut. Sets are sent as [`send_contents`](crate::send_contents) sends them.
+    /// What all calls append, and [`finish`](Recoder::finish) behind them, is what
+    /// [`recode`](crate::recode) appends of all bytes, however they are cut. Sets are sent as
+    /// [`send_contents`](crate::send_contents) sends them.
     ///
     /// # Errors
-    /// The first cause in the order of the stream: `PacketTooLarge` with the number of the set, among all sets of the stream; `Stream`
-    /// with the payload's number and its fault, which `recode` finds before it looks at sets; `Memory` where a growth was refused, or
-    /// more than 2^64-1 sets came. `out` is then as it was, also where sets of this piece stand before the cause. From then on each call
-    /// answers the same and changes nothing.
+    /// The first cause in the order of the stream: `PacketTooLarge` with the number of the set,
+    /// among all sets of the stream; `Stream` with the payload's number and its fault, which
+    /// `recode` finds before it looks at sets; `Memory` where a growth was refused, or more than
+    /// 2^64-1 sets came. `out` is then as it was, also where sets of this piece stand before the
+    /// cause. From then on each call answers the same and changes nothing.
     ///
-    /// (MySQL: Client/Server Protocol, "COM_QUERY", "COM_STMT_PREPARE", "COM_STMT_SEND_LONG_DATA", "COM_STMT_EXECUTE"; MariaDB:
-    /// Client/Server Protocol, "COM_STMT_BULK_EXECUTE".)
+    /// (MySQL: Client/Server Protocol, "COM_QUERY", "COM_STMT_PREPARE", "COM_STMT_SEND_LONG_DATA",
+    /// "COM_STMT_EXECUTE"; MariaDB: Client/Server Protocol, "COM_STMT_BULK_EXECUTE".)
     pub fn feed(&mut self, piece: &[u8], out: &mut Vec<u8>) -> Result<(), RecodeError>
-        ensures recoded { OnOk result ((appended : List ℕ) × (out.new.items ≡ out.old.items ++ appended) × RecodesPiece (recoder_state self.old).terms (recoder_state self.old) piece.now appended (recoder_state self.new)) }
+        ensures recoded { OnOk result ((appended : List ℕ) ×
+            (out.new.items ≡ out.old.items ++ appended) ×
+            RecodesPiece (recoder_state self.old).terms (recoder_state self.old) piece.now appended
+            (recoder_state self.new)) }
         ensures refused { self.old.refused ≡ None → IfErr result (RefusesPiece (recoder_state self.old) piece.now) }
         ensures stays { IfSome self.old.refused (λ error. (result ≡ Err error) × (self.new ≡ self.old)) }
         ensures answer { result ≡ answer_by self.new.refused }
@@ -243,12 +259,13 @@ impl Recoder {
     /// Ends the stream. Where it carried no sets, it appends the prepare to `out`, as [`recode`](crate::recode) does.
     ///
     /// # Errors
-    /// What a call of [`feed`](Recoder::feed) refused; else `Unfinished` where long data waits or a packet isn't whole; `Memory` where
-    /// a growth was refused. `out` is then as it was.
+    /// What a call of [`feed`](Recoder::feed) refused; else `Unfinished` where long data waits or a
+    /// packet isn't whole; `Memory` where a growth was refused. `out` is then as it was.
     ///
     /// (MySQL: Client/Server Protocol, "COM_STMT_PREPARE", "COM_STMT_SEND_LONG_DATA".)
     pub fn finish(self, out: &mut Vec<u8>) -> Result<(), RecodeError>
-        ensures finished { OnOk result ((appended : List ℕ) × (out.new.items ≡ out.old.items ++ appended) × Finishes (recoder_state self) appended) }
+        ensures finished { OnOk result ((appended : List ℕ) ×
+            (out.new.items ≡ out.old.items ++ appended) × Finishes (recoder_state self) appended) }
         ensures refused { self.refused ≡ None → IfErr result (RefusesEnd (recoder_state self)) }
         ensures stays { IfSome self.refused (λ error. result ≡ Err error) }
         ensures kept { OnErr result (out.new.items ≡ out.old.items) }

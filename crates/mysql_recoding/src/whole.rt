@@ -3,23 +3,23 @@
 ghost use Rattle.std.specs.Prelude.{◌≡◌, ◌≤◌, ◌⊎◌, IfErr, IfOk, OnErr, OnOk, Some, flat_map, map, ℕ};
 ghost use Rattle.mysql_wire.specs.Bytes.{AreBytes};
 ghost use Rattle.mysql_values.specs.Contents.{content_value};
-ghost use Rattle.mysql_commands.specs.declared.audit.End.TheVariants as ends;
-ghost use Rattle.mysql_commands.specs.Audit.{AuditOf};
-ghost use Rattle.mysql_commands.specs.Receiving.{audit_of};
-ghost use Rattle.mysql_streams.specs.declared.refusal.Refusal.TheVariants as refusals;
-ghost use Rattle.mysql_streams.specs.Reading.{SentReadable};
-ghost use Rattle.mysql_streams.specs.Sending.{RefusesGiven};
-ghost use Rattle.mysql_streams.specs.Sets.{all_given_in_places};
-ghost use Rattle.mysql_streams.specs.declared.road.Road.TheVariants as roads;
-ghost use Rattle.mysql_commands.specs.Views.{sets_of};
+ghost use Rattle.mysql_receive.specs.declared.audit.End.TheVariants as ends;
+ghost use Rattle.mysql_receive.specs.Audit.{AuditOf};
+ghost use Rattle.mysql_receive.specs.Receiving.{audit_of};
+ghost use Rattle.mysql_command_rules.specs.declared.refusal.Refusal.TheVariants as refusals;
+ghost use Rattle.mysql_command_rules.specs.Reading.{SentReadable};
+ghost use Rattle.mysql_command_rules.specs.Sending.{RefusesGiven};
+ghost use Rattle.mysql_command_rules.specs.Sets.{all_given_in_places};
+ghost use Rattle.mysql_command_rules.specs.declared.road.Road.TheVariants as roads;
+ghost use Rattle.mysql_receive.specs.Views.{sets_of};
 ghost use Rattle.mysql_recoding.specs.Causes.{error_for, values_of_sets};
 ghost use Rattle.mysql_recoding.specs.Recoding.{Recodes, RefusesRecoding};
 
 use crate::errors::RecodeError;
-use mysql_commands::laws::stream_has_one_audit;
-use mysql_commands::{Audit, Content, receive};
+use mysql_command_rules::Refusal;
+use mysql_receive::laws::stream_has_one_audit;
+use mysql_receive::{Audit, Content, receive};
 use mysql_senders::put_executions_of_values;
-use mysql_streams::Refusal;
 use mysql_to_values::ToValue;
 use mysql_values::Value;
 use std::alloc::Global;
@@ -66,18 +66,20 @@ pub(crate) fn values_of_all(
     Ok(all)
 }
 
-/// Appends to `out` the commands that carry sets of contents of a query to a server, as [`recode`] does of what a stream carries:
-/// one prepare, also where there are no sets, and an execution of the statement `stmt_id` for each set, its contents in the order
-/// of the placeholders: nothing as NULL, a number as `Int` where it fits, else as `UInt`, bytes as `Bytes`. No bytes are copied but
+/// Appends to `out` the commands that carry sets of contents of a query to a server, as [`recode`]
+/// does of what a stream carries: one prepare, also where there are no sets, and an execution of
+/// the statement `stmt_id` for each set, its contents in the order of the placeholders: nothing as
+/// NULL, a number as `Int` where it fits, else as `UInt`, bytes as `Bytes`. No bytes are copied but
 /// into `out`.
 ///
-/// The limit is the `max_allowed_packet` of the side that the packets go to, and at least 4. Calls that write count 4 bytes
-/// for a packet's header in it: a payload has at most `limit - 4` bytes. Calls that read count the payload alone: it has at most
-/// `limit` bytes.
+/// The limit is the `max_allowed_packet` of the side that the packets go to, and at least 4. Calls
+/// that write count 4 bytes for a packet's header in it: a payload has at most `limit - 4` bytes.
+/// Calls that read count the payload alone: it has at most `limit` bytes.
 ///
 /// # Errors
-/// The first cause that holds, in the order of [`Refusal`]: `Mixed`, `TooManyPlaces`, `PrepareTooLarge`; set by set `WrongCount`,
-/// `PacketTooLarge`; `Memory` where a growth was refused. `out` is then as it was.
+/// The first cause that holds, in the order of [`Refusal`]: `Mixed`, `TooManyPlaces`,
+/// `PrepareTooLarge`; set by set `WrongCount`, `PacketTooLarge`; `Memory` where a growth was
+/// refused. `out` is then as it was.
 ///
 /// (MySQL: Client/Server Protocol, "COM_STMT_PREPARE", "COM_STMT_SEND_LONG_DATA", "COM_STMT_EXECUTE".)
 pub fn send_contents(
@@ -89,8 +91,13 @@ pub fn send_contents(
     out: &mut Vec<u8>,
 ) -> Result<(), Refusal>
     requires { 4 ≤ limit }
-    ensures sent { OnOk result (SentReadable roads.Execute query.now (all_given_in_places (values_of_sets (sets_of sets.items))) stmt_id limit out.old.items out.new.items) }
-    ensures refused { IfErr result (RefusesGiven roads.Execute query.now (all_given_in_places (values_of_sets (sets_of sets.items))) stmt_id limit) }
+    ensures sent { OnOk result
+        (SentReadable roads.Execute query.now
+        (all_given_in_places (values_of_sets (sets_of sets.items))) stmt_id limit out.old.items
+        out.new.items) }
+    ensures refused { IfErr result
+        (RefusesGiven roads.Execute query.now
+        (all_given_in_places (values_of_sets (sets_of sets.items))) stmt_id limit) }
     ensures kept { OnErr result (out.new.items ≡ out.old.items) }
 {
     let start = out.len();
@@ -129,9 +136,12 @@ fn whole_audit(
     pieces: &[&[u8]],
 ) -> Result<Audit, RecodeError>
     requires { 4 ≤ limit }
-    ensures says { IfOk result (λ audit. AuditOf query.now stmt_id limit (flat_map (λ piece. piece.now) pieces.now) (audit_of audit)) }
+    ensures says { IfOk result
+        (λ audit. AuditOf query.now stmt_id limit (flat_map (λ piece. piece.now) pieces.now)
+        (audit_of audit)) }
     ensures whole { IfOk result (λ audit. audit.end ≡ ends.Whole) }
-    ensures refused { IfErr result (RefusesRecoding query.now stmt_id limit (flat_map (λ piece. piece.now) pieces.now)) }
+    ensures refused { IfErr result
+        (RefusesRecoding query.now stmt_id limit (flat_map (λ piece. piece.now) pieces.now)) }
 {
     stream_has_one_audit();
     all_are_bytes(pieces);
@@ -142,8 +152,8 @@ fn whole_audit(
     }
 }
 
-/// What a refusal of contents that a stream carries makes of the recoding. They are as many as the placeholders and no floats, so
-/// that the other refusals never come.
+/// What a refusal of contents that a stream carries makes of the recoding. They are as many as the
+/// placeholders and no floats, so that the other refusals never come.
 pub(crate) fn refused(refusal: Refusal) -> RecodeError
     ensures { result ≡ error_for refusal }
 {
@@ -156,24 +166,28 @@ pub(crate) fn refused(refusal: Refusal) -> RecodeError
     }
 }
 
-/// Appends to `out` the canonical form of what a stream of commands carries, whose bytes are those of the pieces, one after
-/// another, however they are cut: one prepare, also where there are no sets, and an execution of the statement `stmt_id` for each
-/// set, before it, where it would exceed 16777215 bytes, its byte strings as long data. Nothing is sent as NULL, a number as `Int`
-/// where it fits, else as `UInt`, bytes as `Bytes`. Streams of the same query, id and limit that carry the same sets are recoded
-/// to the same bytes, by whichever commands and types they carry them; the laws stand in `laws`.
+/// Appends to `out` the canonical form of what a stream of commands carries, whose bytes are those
+/// of the pieces, one after another, however they are cut: one prepare, also where there are no
+/// sets, and an execution of the statement `stmt_id` for each set, before it, where it would exceed
+/// 16777215 bytes, its byte strings as long data. Nothing is sent as NULL, a number as `Int` where
+/// it fits, else as `UInt`, bytes as `Bytes`. Streams of the same query, id and limit that carry
+/// the same sets are recoded to the same bytes, by whichever commands and types they carry them;
+/// the laws stand in `laws`.
 ///
 /// The stream was sent to the statement `stmt_id`.
 ///
-/// The limit is the `max_allowed_packet` of the side that the packets go to, and at least 4. Calls that write count 4 bytes
-/// for a packet's header in it: a payload has at most `limit - 4` bytes. Calls that read count the payload alone: it has at most
-/// `limit` bytes. The stream is read, and what is appended written.
+/// The limit is the `max_allowed_packet` of the side that the packets go to, and at least 4. Calls
+/// that write count 4 bytes for a packet's header in it: a payload has at most `limit - 4` bytes.
+/// Calls that read count the payload alone: it has at most `limit` bytes. The stream is read, and
+/// what is appended written.
 ///
 /// # Errors
-/// The first cause that holds: `Mixed`; `Stream` with the payload's number and its fault; `Unfinished`; `TooManyPlaces`;
-/// `PrepareTooLarge`; `PacketTooLarge` with the set; `Memory` where a growth was refused. `out` is then as it was.
+/// The first cause that holds: `Mixed`; `Stream` with the payload's number and its fault;
+/// `Unfinished`; `TooManyPlaces`; `PrepareTooLarge`; `PacketTooLarge` with the set; `Memory` where
+/// a growth was refused. `out` is then as it was.
 ///
-/// (MySQL: Client/Server Protocol, "COM_QUERY", "COM_STMT_PREPARE", "COM_STMT_SEND_LONG_DATA", "COM_STMT_EXECUTE"; MariaDB:
-/// Client/Server Protocol, "COM_STMT_BULK_EXECUTE".)
+/// (MySQL: Client/Server Protocol, "COM_QUERY", "COM_STMT_PREPARE", "COM_STMT_SEND_LONG_DATA",
+/// "COM_STMT_EXECUTE"; MariaDB: Client/Server Protocol, "COM_STMT_BULK_EXECUTE".)
 pub fn recode(
     alloc: Global,
     query: &[u8],
@@ -183,8 +197,11 @@ pub fn recode(
     out: &mut Vec<u8>,
 ) -> Result<(), RecodeError>
     requires { 4 ≤ limit }
-    ensures recoded { OnOk result (Recodes query.now stmt_id limit (flat_map (λ piece. piece.now) pieces.now) out.old.items out.new.items) }
-    ensures refused { IfErr result (RefusesRecoding query.now stmt_id limit (flat_map (λ piece. piece.now) pieces.now)) }
+    ensures recoded { OnOk result
+        (Recodes query.now stmt_id limit (flat_map (λ piece. piece.now) pieces.now) out.old.items
+        out.new.items) }
+    ensures refused { IfErr result
+        (RefusesRecoding query.now stmt_id limit (flat_map (λ piece. piece.now) pieces.now)) }
     ensures kept { OnErr result (out.new.items ≡ out.old.items) }
 {
     let audit = whole_audit(alloc, query, stmt_id, limit, pieces)?;

@@ -3,9 +3,9 @@ use Rattle.std.proofs.Common.{◌≡◌, ℕ, List, [], ◌∷◌, take, ◌==�
 use Rattle.byteorder.specs.Endian.{little_number}
 use Rattle.mysql_buf.specs.FirstBytes.{first-enough, first-short}
 use Rattle.mysql_columns.specs.Columns.{ColumnDefinition}
-use Rattle.mysql_raw.specs.Forms.{bytes_at, fixed_number_at}
-use Rattle.mysql_raw.specs.Laws.{ok_same}
-use Rattle.mysql_raw.specs.WireError.TheVariants.{BadConstant}
+use Rattle.mysql_fields.specs.Forms.{bytes_at, fixed_number_at}
+use Rattle.mysql_fields.specs.Laws.{ok_same}
+use Rattle.mysql_fields.specs.declared.error.WireError.TheVariants.{BadConstant}
 use Rattle.mysql_rows.specs.Rows.{binary_row_at, binary_row_body_at, binary_resultset_row_at}
 use Rattle.mysql_wire.specs.Constants.{constant_at, is_constant}
 use Rattle.mysql_wire.specs.Wire.{Reading, or_end, ◌>>=◌}

@@ -3,11 +3,11 @@ use Rattle.std.proofs.Common.{◌≡◌, ℕ, ◌+◌, ◌^◌, ◌<◌, ◌≤�
 use Rattle.std.specs.Prelude.{if◌then◌else◌, ◌==◌, OnOk, IfErr}
 use Rattle.std.proofs.lemmas.List.{append-nil}
 use Rattle.mysql_columns.specs.Columns.{ColumnDefinition}
-use Rattle.mysql_lent_rows.specs.LentRows.{lent_view, row_of, with_none_left}
-use Rattle.mysql_lent_rows.specs.declared.row.LentRow.{LentRow}
-use Rattle.mysql_lent_rows.specs.declared.errors.RowError.{RowError}
-use Rattle.mysql_lent_rows.specs.declared.errors.RowError.TheVariants.{BytesLeft}
-use Rattle.mysql_lent_rows.specs.declared.lender.RowLender.{RowLender}
+use Rattle.mysql_row_refs.specs.LentRows.{lent_view, row_of, with_none_left}
+use Rattle.mysql_row_refs.specs.declared.row.LentRow.{LentRow}
+use Rattle.mysql_row_refs.specs.declared.errors.RowError.{RowError}
+use Rattle.mysql_row_refs.specs.declared.errors.RowError.TheVariants.{BytesLeft}
+use Rattle.mysql_row_refs.specs.declared.lender.RowLender.{RowLender}
 use Rattle.mysql_rows.specs.Rows.{Row, as_row, binary_resultset_row_at, text_row_at}
 use Rattle.mysql_wire.specs.Wire.{Reading}
 use Rattle.mysql_wire.specs.Codec.{HandsOut, held, packet_number}

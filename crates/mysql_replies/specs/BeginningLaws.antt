@@ -3,6 +3,7 @@ use Rattle.std.specs.Prelude.{List, [], ◌∷◌, ◌++◌}
 use Rattle.mysql_replies.specs.Grammar.{Outcome}
 use Rattle.mysql_replies.specs.Beginnings.{IsFrontOf, first}
 
-pub front_behind : (before front results : List Outcome) → IsFrontOf front results → IsFrontOf (before ++ front) (before ++ results)
+pub front_behind : (before front results : List Outcome) → IsFrontOf front results →
+    IsFrontOf (before ++ front) (before ++ results)
 front_behind [] front results is = is
 front_behind (result ∷ before) front results is = first (front_behind before front results is)

@@ -12,11 +12,12 @@ use Rattle.mysql_replies.specs.Grammar.{Payload, Outcome, RowsResult, has_report
 use Rattle.mysql_replies.specs.Reply.{Answer, IsReply}
 use Rattle.mysql_replies.specs.Manual.{Reads, IsCount, IsColumnGroup, AreRows, IsResult}
 
--- A front of some results: none of them; or the first one whole, and a front of the others; or, where the first one is rows, some
--- of them from the first row on, without their end.
+-- A front of some results: none of them; or the first one whole, and a front of the others; or,
+-- where the first one is rows, some of them from the first row on, without their end.
 pub data IsFrontOf : List Outcome → List Outcome → Type 0 where
   none : {results : List Outcome} → IsFrontOf [] results
-  first : {result : Outcome} {front others : List Outcome} → IsFrontOf front others → IsFrontOf (result ∷ front) (result ∷ others)
+  first : {result : Outcome} {front others : List Outcome} → IsFrontOf front others →
+      IsFrontOf (result ∷ front) (result ∷ others)
   open_rows : {columns : List ColumnDefinition} (rows more : List Row) {end : Option OkPacket} {others : List Outcome} →
       IsFrontOf (RowsResult columns rows None ∷ []) (RowsResult columns (rows ++ more) end ∷ others)
 
@@ -24,15 +25,19 @@ pub data IsFrontOf : List Outcome → List Outcome → Type 0 where
 pub data PassesReports (c : Context) : List Payload → List Payload → Type 0 where
   nothing : PassesReports c [] []
   other : {payload : Payload} {payloads others : List Payload} →
-      has_report_form c payload ≡ false → PassesReports c payloads others → PassesReports c (payload ∷ payloads) (payload ∷ others)
+      has_report_form c payload ≡ false → PassesReports c payloads others →
+      PassesReports c (payload ∷ payloads) (payload ∷ others)
   report : {payload : Payload} {payloads others : List Payload} {report : ProgressReport} →
-      has_report_form c payload ≡ true → Reads (progress_report_at payload) report → PassesReports c payloads others → PassesReports c (payload ∷ payloads) others
+      has_report_form c payload ≡ true → Reads (progress_report_at payload) report →
+      PassesReports c payloads others → PassesReports c (payload ∷ payloads) others
 
--- Payloads that begin a reply, and what stands in them: results, each of which says that another follows; then rows so far, where
--- their count and their columns stand; or any payloads, of which nothing is said.
+-- Payloads that begin a reply, and what stands in them: results, each of which says that another
+-- follows; then rows so far, where their count and their columns stand; or any payloads, of which
+-- nothing is said.
 pub data BeginsReply (c : Context) : List Payload → List Outcome → Type 0 where
   unsaid : (payloads : List Payload) → BeginsReply c payloads []
-  rows_so_far : {count : Payload} {n : ℕ} (group rows : List Payload) {columns : List ColumnDefinition} {found : List Row} →
+  rows_so_far : {count : Payload} {n : ℕ} (group rows : List Payload)
+      {columns : List ColumnDefinition} {found : List Row} →
       is_prepare c.kind ≡ false → IsCount count n → IsColumnGroup c n group columns → AreRows c columns rows found →
       BeginsReply c (count ∷ group ++ rows) (RowsResult columns found None ∷ [])
   followed : (payloads others : List Payload) (listed rest : List Outcome) →
@@ -41,7 +46,8 @@ pub data BeginsReply (c : Context) : List Payload → List Outcome → Type 0 wh
 -- What stands in these payloads, progress reports among them, is there.
 abbrev pub HasWhatStands : Context → List Payload → List Outcome → Type 0
 HasWhatStands c payloads results =
-    (others : List Payload) (found : List Outcome) → PassesReports c payloads others → BeginsReply c others found → IsFrontOf found results
+    (others : List Payload) (found : List Outcome) → PassesReports c payloads others →
+    BeginsReply c others found → IsFrontOf found results
 
 -- The answer to any payloads has what stands in them.
 abbrev pub EachAnswerHasWhatStands : Type 0

@@ -33,7 +33,8 @@ pub record IsReplyOf (c : Context) (first_id limit : ℕ) (bytes : List ℕ) (an
 
 -- The answer that stops for want of memory after these payloads, which come first in the bytes: their results and
 -- reports, and their number. Each of them has its place, and the reply goes on behind them.
-pub record StopsAfter (c : Context) (first_id limit : ℕ) (bytes : List ℕ) (read : List Payload) (answer : Answer) : Type 0 where
+pub record StopsAfter (c : Context) (first_id limit : ℕ) (bytes : List ℕ) (read : List Payload)
+    (answer : Answer) : Type 0 where
   pub first : StandFirst limit (OnFrom first_id) bytes read
   pub whole : Answer
   pub reply : IsReply c (numbered 0 read) (after_numbered 0 read stream.Open) whole
@@ -42,8 +43,8 @@ pub record StopsAfter (c : Context) (first_id limit : ℕ) (bytes : List ℕ) (r
   pub progress : answer.progress ≡ whole.progress
   pub end : answer.end ≡ FaultAt (length read) Memory
 
--- The answer where memory ran out over one of the pieces: the pieces before it have no fault, and the answer stops after
--- the payloads that stand whole in them or after more, within that piece.
+-- The answer where memory ran out over one of the pieces: the pieces before it have no fault, and
+-- the answer stops after the payloads that stand whole in them or after more, within that piece.
 pub record IsShortReplyOf (c : Context) (first_id limit : ℕ) (pieces : List (List ℕ)) (answer : Answer) : Type 0 where
   pub before : List (List ℕ)
   pub piece : List ℕ
@@ -59,15 +60,19 @@ pub record IsShortReplyOf (c : Context) (first_id limit : ℕ) (pieces : List (L
 -- From what stands, the payloads still to come and the rest after them decide this answer, as far as they can
 -- be numbered.
 abbrev pub NumberedPayloadsDecide : Standing → List Payload → Rest → Answer → Type 0
-NumberedPayloadsDecide (GoingOn s) payloads rest answer = Continues s (numbered s.count payloads) (after_numbered s.count payloads rest) answer
+NumberedPayloadsDecide (GoingOn s) payloads rest answer =
+    Continues s (numbered s.count payloads) (after_numbered s.count payloads rest) answer
 NumberedPayloadsDecide (Answered known) payloads rest answer = answer ≡ known
 
 -- Any bytes have an answer.
 abbrev pub AnyBytesHaveAnswer : Type 0
-AnyBytesHaveAnswer = (c : Context) (first_id limit : ℕ) (bytes : List ℕ) → AreBytes bytes → (answer : Answer) × IsReplyOf c first_id limit bytes answer
+AnyBytesHaveAnswer = (c : Context) (first_id limit : ℕ) (bytes : List ℕ) → AreBytes bytes →
+    (answer : Answer) × IsReplyOf c first_id limit bytes answer
 
 -- Two cuttings of the same bytes have equal answers.
 abbrev pub CuttingsAgree : Type 0
-CuttingsAgree = (c : Context) (first_id limit : ℕ) (pieces others : List (List ℕ)) (a b : Answer) → AreBytes (flat_map (λ piece. piece) pieces) →
+CuttingsAgree = (c : Context) (first_id limit : ℕ) (pieces others : List (List ℕ)) (a b : Answer) →
+    AreBytes (flat_map (λ piece. piece) pieces) →
     flat_map (λ piece. piece) pieces ≡ flat_map (λ piece. piece) others →
-    IsReplyOf c first_id limit (flat_map (λ piece. piece) pieces) a → IsReplyOf c first_id limit (flat_map (λ piece. piece) others) b → a ≡ b
+    IsReplyOf c first_id limit (flat_map (λ piece. piece) pieces) a →
+    IsReplyOf c first_id limit (flat_map (λ piece. piece) others) b → a ≡ b

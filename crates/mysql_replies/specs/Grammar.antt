@@ -1,11 +1,13 @@
 -- The grammar of a reply, over the list of its payloads.
 -- MySQL: Client/Server Protocol, "COM_QUERY Response", "Text Resultset", "Binary Protocol Resultset" and
 -- "COM_STMT_PREPARE Response"; MariaDB: 'Progress report' of "ERR_Packet".
-use Rattle.std.specs.Prelude.{ℕ, zero, suc, List, [], ◌∷◌, ◌++◌, length, take, drop, Bool, true, false, Option, Some, None, Result, Ok, Err, nat_lt, ◌==◌, ◌&&◌, if◌then◌else◌, is_ok, bytes_eq}
+use Rattle.std.specs.Prelude.{ℕ, zero, suc, List, [], ◌∷◌, ◌++◌, length, take, drop, Bool, true, false, Option, Some}
+use Rattle.std.specs.Prelude.{None, Result, Ok, Err, nat_lt, ◌==◌, ◌&&◌, if◌then◌else◌, is_ok, bytes_eq}
 use Rattle.mysql_wire.specs.Forms.{lenenc_number_at}
 use Rattle.mysql_wire.specs.Wire.{Reading}
 use Rattle.mysql_wire.specs.Flags.{contains}
-use Rattle.mysql_ok_packets.specs.OkPackets.{OkPacket, ok_packet_at, old_eof_at, result_set_terminator_at, more_results_exist}
+use Rattle.mysql_ok_packets.specs.OkPackets.{OkPacket, ok_packet_at, old_eof_at, result_set_terminator_at}
+use Rattle.mysql_ok_packets.specs.OkPackets.{more_results_exist}
 pub use Rattle.mysql_packets.specs.Packets.{progress_obsolete}
 use Rattle.mysql_packets.specs.Packets.{PrepareOk, ServerError, error_at, progress_report_at, prepare_ok_at}
 use Rattle.mysql_columns.specs.Columns.{ColumnDefinition, column_at}
@@ -14,7 +16,8 @@ use Rattle.mysql_replies.specs.declared.context.ReplyKind.{ReplyKind}
 use Rattle.mysql_replies.specs.declared.context.ReplyKind.TheVariants.{Binary, Prepare}
 use Rattle.mysql_replies.specs.declared.context.Context.{Context}
 use Rattle.mysql_replies.specs.declared.fault.ReplyFault.{ReplyFault}
-use Rattle.mysql_replies.specs.declared.fault.ReplyFault.TheVariants.{BadHeader, BadCount, BadColumn, BadOk, BadError, BadRow, BadTerminator, BadPrepare}
+use Rattle.mysql_replies.specs.declared.fault.ReplyFault.TheVariants.{BadHeader, BadCount, BadColumn, BadOk, BadError}
+use Rattle.mysql_replies.specs.declared.fault.ReplyFault.TheVariants.{BadRow, BadTerminator, BadPrepare}
 
 abbrev pub Payload : Type 0
 Payload = List ℕ
@@ -123,7 +126,9 @@ is_binary kind = false
 -- A row, by the kind of the command.
 abbrev pub row : Context → List ColumnDefinition → Payload → Result Row ReplyFault
 row c columns payload =
-    whole_or_fault BadRow (as_row columns (if is_binary c.kind then binary_resultset_row_at columns payload else text_row_at columns payload))
+    whole_or_fault BadRow (as_row columns
+    (if is_binary c.kind then binary_resultset_row_at columns payload else text_row_at columns
+    payload))
 
 -- A terminator: the OK packet with fe with DEPRECATE_EOF, else the EOF packet.
 abbrev pub terminator : Context → Payload → Result OkPacket ReplyFault
@@ -153,7 +158,8 @@ pub record Stretch : Type 0 where
   pub more : Bool
 
 -- What a line means after these rows: a row goes on, a terminator or an error ends them.
-abbrev pub after_rows : List ColumnDefinition → List Row → (Row → Part Stretch) → Result Line ReplyFault → Payload → List Payload → Part Stretch
+abbrev pub after_rows : List ColumnDefinition → List Row → (Row → Part Stretch) →
+    Result Line ReplyFault → Payload → List Payload → Part Stretch
 after_rows columns rows on (Ok (RowLine found)) payload rest = on found
 after_rows columns rows on (Ok (TerminatorLine ok)) payload rest =
     Stands (record { results = RowsResult columns rows (Some ok) ∷ []; more = more_results_exist ok.status_flags }) rest
@@ -167,7 +173,8 @@ unfoldable pub rows : Context → List ColumnDefinition → List Row → List Pa
 rows c columns these [] = Begun (RowsResult columns these None ∷ [])
 rows c columns these (payload ∷ rest) =
     if is_report c payload then rows c columns these rest
-    else after_rows columns these (λ found. rows c columns (these ++ found ∷ []) rest) (unless_report c (line c columns) payload) payload rest
+    else after_rows columns these (λ found. rows c columns (these ++ found ∷ []) rest)
+    (unless_report c (line c columns) payload) payload rest
 
 -- A result set after its count: n more columns after these, the EOF that is due, and the rows.
 unfoldable pub result_set : Context → ℕ → List ColumnDefinition → List Payload → Part Stretch
@@ -176,7 +183,8 @@ result_set c n these payloads = do
   rows c columns.0 [] columns.1
 
 -- A prepared reply after its parameters: n more columns after these, and the EOF that is due.
-unfoldable pub prepared_columns : Context → PrepareOk → List ColumnDefinition → ℕ → List ColumnDefinition → List Payload → Part Stretch
+unfoldable pub prepared_columns : Context → PrepareOk → List ColumnDefinition → ℕ →
+    List ColumnDefinition → List Payload → Part Stretch
 prepared_columns c statement parameters n these payloads = do
   columns ← column_group c n these payloads
   Stands (record { results = PreparedResult statement parameters columns.0 ∷ []; more = false }) columns.1
@@ -209,7 +217,8 @@ abbrev pub opening : Context → Payload → Result Opening ReplyFault
 opening c payload =
     if begins_with 255 payload then map_ok ErrorOpening (or_fault BadError (error_at c.capabilities.0 payload))
     else if is_prepare c.kind then
-    (if begins_with 0 payload then map_ok StatementOpening (or_fault BadPrepare (prepare_ok_at payload)) else Err BadHeader)
+    (if begins_with 0 payload then map_ok StatementOpening
+    (or_fault BadPrepare (prepare_ok_at payload)) else Err BadHeader)
     else if begins_with 0 payload then map_ok OkOpening (or_fault BadOk (ok_packet_at c.capabilities.0 payload))
     else if begins_with 251 payload then Ok (FileOpening (drop 1 payload))
     else if length payload == 0 then Err BadHeader
@@ -217,7 +226,8 @@ opening c payload =
 
 -- A result after its first payload.
 abbrev pub after_opening : Context → Opening → List Payload → Part Stretch
-after_opening c (OkOpening ok) rest = Stands (record { results = OkResult ok ∷ []; more = more_results_exist ok.status_flags }) rest
+after_opening c (OkOpening ok) rest =
+    Stands (record { results = OkResult ok ∷ []; more = more_results_exist ok.status_flags }) rest
 after_opening c (ErrorOpening error) rest = Stands (record { results = ErrorResult error ∷ []; more = false }) rest
 after_opening c (FileOpening name) rest = Stands (record { results = FileResult name ∷ []; more = false }) rest
 after_opening c (CountOpening n) rest = result_set c n [] rest
@@ -237,7 +247,11 @@ pub data Ending : Type 0 where
 -- Results one after another, by what their first part makes of the payloads: another result follows exactly
 -- where the one before says so.
 pub data Results (c : Context) : Part Stretch → List Outcome → Ending → Type 0 where
-  last : (results : List Outcome) (rest : List Payload) → Results c (Stands (record { results = results; more = false }) rest) results (Ended rest)
-  more : (results : List Outcome) (rest : List Payload) {others : List Outcome} {ending : Ending} → Results c (one_result c rest) others ending → Results c (Stands (record { results = results; more = true }) rest) (results ++ others) ending
+  last : (results : List Outcome) (rest : List Payload) →
+      Results c (Stands (record { results = results; more = false }) rest) results (Ended rest)
+  more : (results : List Outcome) (rest : List Payload) {others : List Outcome} {ending : Ending} →
+      Results c (one_result c rest) others ending →
+      Results c (Stands (record { results = results; more = true }) rest) (results ++ others) ending
   begun : (results : List Outcome) → Results c (Begun results) results Open
-  unexpected : (results : List Outcome) (fault : ReplyFault) (rest : List Payload) → Results c (Unexpected results fault rest) results (Wrong fault rest)
+  unexpected : (results : List Outcome) (fault : ReplyFault) (rest : List Payload) →
+      Results c (Unexpected results fault rest) results (Wrong fault rest)

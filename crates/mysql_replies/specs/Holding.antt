@@ -32,7 +32,8 @@ pub record BytesDecide (s : Standing) (limit number : ℕ) (bytes : List ℕ) (a
   pub decides : NumberedPayloadsDecide s split.payloads split.rest answer
 
 abbrev pub ReaderDecidesFrom : Standing → ReaderState → List ℕ → Answer → Type 0
-ReaderDecidesFrom (GoingOn s) reader more answer = BytesDecide (GoingOn s) reader.limit reader.number (reader.bytes ++ more) answer
+ReaderDecidesFrom (GoingOn s) reader more answer =
+    BytesDecide (GoingOn s) reader.limit reader.number (reader.bytes ++ more) answer
 ReaderDecidesFrom (Answered known) reader more answer = answer ≡ known
 
 -- What is held and the bytes still to come decide this answer.
@@ -41,7 +42,8 @@ ReaderDecides reader more answer = ReaderDecidesFrom reader.standing reader more
 
 -- What is held after a piece decides, over all bytes still to come, what was decided before over the piece and these.
 abbrev pub ReaderGoesOn : ReaderState → List ℕ → ReaderState → Type 0
-ReaderGoesOn old piece new = (more : List ℕ) (answer : Answer) → AreBytes more → ReaderDecides new more answer → ReaderDecides old (piece ++ more) answer
+ReaderGoesOn old piece new = (more : List ℕ) (answer : Answer) → AreBytes more →
+    ReaderDecides new more answer → ReaderDecides old (piece ++ more) answer
 
 -- The fault that was met.
 abbrev pub fault_of_end : End → Option ReplyFault
@@ -76,11 +78,12 @@ pub record TakesAll (old : ReaderState) (bytes : List ℕ) (new : ReaderState) :
   pub limit : new.limit ≡ old.limit
   pub count : count_of new.standing ≡ count_of old.standing + length split.payloads
   pub goes_on : (payloads : List Payload) (rest : Rest) (answer : Answer) →
-      NumberedPayloadsDecide new.standing payloads rest answer → NumberedPayloadsDecide old.standing (split.payloads ++ payloads) rest answer
+      NumberedPayloadsDecide new.standing payloads rest answer →
+      NumberedPayloadsDecide old.standing (split.payloads ++ payloads) rest answer
 
--- Memory ran out over these bytes: the answer has the results and the reports of the payloads read before and of the
--- first payloads of the bytes, however many were read, and their number. Each of them has its place, and the reply goes on
--- behind them.
+-- Memory ran out over these bytes: the answer has the results and the reports of the payloads read
+-- before and of the first payloads of the bytes, however many were read, and their number. Each of
+-- them has its place, and the reply goes on behind them.
 pub record RunsShort (old : ReaderState) (bytes : List ℕ) (answer : Answer) : Type 0 where
   pub read : List Payload
   pub first : StandFirst old.limit (OnFrom old.number) bytes read
@@ -97,10 +100,13 @@ StandsShort old bytes new = (answer : Answer) × (new.standing ≡ Answered answ
 
 -- Whatever is held decides an answer over any bytes, and only one.
 abbrev pub EachReaderDecides : Type 0
-EachReaderDecides = (reader : ReaderState) (more : List ℕ) → AreBytes (reader.bytes ++ more) → (answer : Answer) × ReaderDecides reader more answer
+EachReaderDecides = (reader : ReaderState) (more : List ℕ) → AreBytes (reader.bytes ++ more) →
+    (answer : Answer) × ReaderDecides reader more answer
 
 abbrev pub ReadersAgree : Type 0
-ReadersAgree = (reader : ReaderState) (more : List ℕ) (a b : Answer) → AreBytes (reader.bytes ++ more) → ReaderDecides reader more a → ReaderDecides reader more b → a ≡ b
+ReadersAgree = (reader : ReaderState) (more : List ℕ) (a b : Answer) →
+    AreBytes (reader.bytes ++ more) → ReaderDecides reader more a → ReaderDecides reader more b →
+    a ≡ b
 
 -- A fresh reader decides the reply's answer.
 abbrev pub FreshReaderDecides : Type 0

@@ -6,8 +6,8 @@ use Rattle.std.specs.List.{flat_map}
 use Rattle.mysql_columns.specs.Columns.{ColumnDefinition}
 use Rattle.mysql_packets.specs.Packets.{ProgressReport}
 use Rattle.mysql_rows.specs.Rows.{Row}
-use Rattle.mysql_lent_rows.specs.LentRows.{lent_view}
-use Rattle.mysql_lent_rows.specs.declared.row.LentRow.{LentRow}
+use Rattle.mysql_row_refs.specs.LentRows.{lent_view}
+use Rattle.mysql_row_refs.specs.declared.row.LentRow.{LentRow}
 use Rattle.mysql_wire.specs.Bytes.{AreBytes}
 use Rattle.mysql_replies.specs.declared.context.Context.{Context}
 use Rattle.mysql_replies.specs.declared.fault.ReplyFault.{ReplyFault}
@@ -26,8 +26,8 @@ abbrev pub rows_listed : Standing → List Row
 rows_listed (GoingOn s) = flat_map rows_in s.results ++ rows_awaited s.awaited
 rows_listed (Answered answer) = flat_map rows_in answer.results
 
--- A row was read behind the bytes that were used, and isn't kept: fed these bytes, the reader would hold what it holds now, and this
--- row as the last one of those so far.
+-- A row was read behind the bytes that were used, and isn't kept: fed these bytes, the reader would
+-- hold what it holds now, and this row as the last one of those so far.
 pub record LendsRow (old : ReaderState) (piece : List ℕ) (row : Row) (new : ReaderState) (rest : List ℕ) : Type 0 where
   pub used : List ℕ
   pub cut : piece ≡ used ++ rest
@@ -36,23 +36,32 @@ pub record LendsRow (old : ReaderState) (piece : List ℕ) (row : Row) (new : Re
   pub columns : List ColumnDefinition
   pub rows : List Row
   pub awaits : s.awaited ≡ Rows columns rows
-  pub feeds : Feeds old (record new { standing = GoingOn (record s { awaited = Rows columns (rows ++ row ∷ []) }) }) used (Ok tt)
+  pub feeds : Feeds old (record new {
+    standing =
+        GoingOn (record s { awaited = Rows columns (rows ++ row ∷ []) });
+  }) used (Ok tt)
   pub whole : new.bytes ≡ []
 
--- What follows of a piece: its next row is lent; or it has no further row, and the reader was fed it and has found no fault, or met one.
+-- What follows of a piece: its next row is lent; or it has no further row, and the reader was fed
+-- it and has found no fault, or met one.
 abbrev pub Advances : ReaderState → List ℕ → Result (Option LentRow) ReplyFault → ReaderState → List ℕ → Type 0
 Advances old piece (Ok (Some row)) new rest = LendsRow old piece (lent_view row) new rest
 Advances old piece (Ok None) new rest = Feeds old new piece (Ok tt) × HasFoundNoFault new × (rest ≡ [])
 Advances old piece (Err fault) new rest = Feeds old new piece (Err fault) × (rest ≡ piece)
 
 -- The next row is lent, and no row is kept.
-pub record LendsNext (old : ReaderState) (piece : List ℕ) (r : Result (Option LentRow) ReplyFault) (new : ReaderState) (rest : List ℕ) : Type 0 where
+pub record LendsNext (old : ReaderState) (piece : List ℕ) (r : Result (Option LentRow) ReplyFault)
+    (new : ReaderState) (rest : List ℕ) : Type 0 where
   pub advances : Advances old piece r new rest
   pub keeps_none : rows_listed new.standing ≡ rows_listed old.standing
 
--- Where nothing else is listed, a row that was lent is as one that was kept and handed out at once, as a part of its result set. So
--- all that holds of results that were handed out holds of rows that were lent.
+-- Where nothing else is listed, a row that was lent is as one that was kept and handed out at once,
+-- as a part of its result set. So all that holds of results that were handed out holds of rows that
+-- were lent.
 abbrev pub LentRowsAreHandedOut : Type 0
-LentRowsAreHandedOut = (c : Context) (first_id limit : ℕ) (pieces : List (List ℕ)) (taken : List Outcome) (reports : List ProgressReport) (old new : ReaderState) (piece rest : List ℕ) (row : Row) →
-    Runs c first_id limit pieces taken reports old → AreBytes piece → (lent : LendsRow old piece row new rest) → results_in new.standing ≡ [] →
+LentRowsAreHandedOut = (c : Context) (first_id limit : ℕ) (pieces : List (List ℕ))
+    (taken : List Outcome) (reports : List ProgressReport) (old new : ReaderState)
+    (piece rest : List ℕ) (row : Row) →
+    Runs c first_id limit pieces taken reports old → AreBytes piece →
+    (lent : LendsRow old piece row new rest) → results_in new.standing ≡ [] →
     Runs c first_id limit (pieces ++ lent.used ∷ []) (taken ++ RowsResult lent.columns (row ∷ []) None ∷ []) reports new

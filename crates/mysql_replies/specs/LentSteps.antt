@@ -1,14 +1,15 @@
--- Words of the reader's own body, which no public call's clause has: what one more payload leads to where rows are lent.
--- MySQL: Client/Server Protocol, "COM_QUERY Response" and "Text Resultset".
-use Rattle.std.specs.Prelude.{◌≡◌, ℕ, Bool, true, false, not, ◌||◌, List, [], ◌∷◌, ◌++◌, Option, Some, None, Result, Ok, Err}
+-- Words of the reader's own body, which no public call's clause has: what one more payload leads to
+-- where rows are lent. MySQL: Client/Server Protocol, "COM_QUERY Response" and "Text Resultset".
+use Rattle.std.specs.Prelude.{◌≡◌, ℕ, Bool, true, false, not, ◌||◌, List, [], ◌∷◌, ◌++◌, Option, Some, None, Result, Ok}
+use Rattle.std.specs.Prelude.{Err}
 use Rattle.mysql_columns.specs.Columns.{ColumnDefinition}
 use Rattle.mysql_rows.specs.Rows.{Row}
 use Rattle.mysql_rows.specs.Views.{shared_columns}
-use Rattle.mysql_lent_rows.specs.LentRows.{HoldsRow, row_held, row_of}
-use Rattle.mysql_lent_rows.specs.declared.errors.RowError.{RowError}
-use Rattle.mysql_lent_rows.specs.declared.format.RowFormat.{RowFormat}
-use Rattle.mysql_lent_rows.specs.declared.format.RowFormat.TheVariants.{Binary, Text}
-use Rattle.mysql_lent_rows.specs.declared.lender.RowLender.{RowLender}
+use Rattle.mysql_row_refs.specs.LentRows.{HoldsRow, row_held, row_of}
+use Rattle.mysql_row_refs.specs.declared.errors.RowError.{RowError}
+use Rattle.mysql_row_refs.specs.declared.format.RowFormat.{RowFormat}
+use Rattle.mysql_row_refs.specs.declared.format.RowFormat.TheVariants.{Binary, Text}
+use Rattle.mysql_row_refs.specs.declared.lender.RowLender.{RowLender}
 use Rattle.mysql_wire.specs.Incoming.{Incoming}
 use Rattle.mysql_replies.specs.declared.awaited.Awaited as code
 use Rattle.mysql_replies.specs.declared.awaited.Awaited.TheVariants as awaiting
@@ -47,7 +48,8 @@ Lends (Some lender) payload row = HoldsRow lender payload × (row ≡ row_held l
 Lends None payload row = ⊥
 
 -- The lender holds the row that a payload is.
-pub record HasRead (lender : Option RowLender) (format : RowFormat) (columns : List ColumnDefinition) (payload : Payload) : Type 0 where
+pub record HasRead (lender : Option RowLender) (format : RowFormat)
+    (columns : List ColumnDefinition) (payload : Payload) : Type 0 where
   pub row : Row
   pub lends : Lends lender payload row
   pub read : row_of format columns payload ≡ Ok row
@@ -94,7 +96,8 @@ payload_at (places.InPiece payload) packets = payload.now
 payload_at places.InBuffer packets = packets.payload
 
 -- The row of the payload there is lent behind the bytes that were used of the piece.
-pub record LendsBehind (old : ReaderState) (piece : List ℕ) (place : Place) (state : ReplyState) (packets : Incoming) (rest : List ℕ) : Type 0 where
+pub record LendsBehind (old : ReaderState) (piece : List ℕ) (place : Place) (state : ReplyState)
+    (packets : Incoming) (rest : List ℕ) : Type 0 where
   pub row : Row
   pub lends : LendsAwaited state.awaited (payload_at place packets) row
   pub used : List ℕ

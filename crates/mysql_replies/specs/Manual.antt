@@ -1,21 +1,27 @@
--- A reply in the manual's words: which lists of payloads are a whole reply, and with which results. The grammar says what becomes of
--- any payloads, one by one; here whole lists are put together from their parts. That both say the same is the law at the end.
--- MySQL: Client/Server Protocol, "COM_QUERY Response", "Text Resultset", "Binary Protocol Resultset" and
--- "COM_STMT_PREPARE Response"; MariaDB: 'Progress report' of "ERR_Packet".
-use Rattle.std.specs.Prelude.{◌≡◌, ℕ, ◌<◌, ◌≤◌, ◌^◌, List, [], ◌∷◌, ◌++◌, length, Bool, true, false, Some, None, Ok, nat_lt, ◌&&◌, if◌then◌else◌}
+-- A reply in the manual's words: which lists of payloads are a whole reply, and with which results.
+-- The grammar says what becomes of any payloads, one by one; here whole lists are put together from
+-- their parts. That both say the same is the law at the end. MySQL: Client/Server Protocol,
+-- "COM_QUERY Response", "Text Resultset", "Binary Protocol Resultset" and "COM_STMT_PREPARE
+-- Response"; MariaDB: 'Progress report' of "ERR_Packet".
+use Rattle.std.specs.Prelude.{◌≡◌, ℕ, ◌<◌, ◌≤◌, ◌^◌, List, [], ◌∷◌, ◌++◌, length, Bool, true, false, Some, None, Ok}
+use Rattle.std.specs.Prelude.{nat_lt, ◌&&◌, if◌then◌else◌}
 use Rattle.std.specs.List.{AllZip, AllByRecursion}
 use Rattle.mysql_wire.specs.Forms.{lenenc_number_at}
 use Rattle.mysql_wire.specs.Stream.{Rest, framings}
 use Rattle.mysql_wire.specs.Stream.Numbering.{OnFrom}
 use Rattle.mysql_wire.specs.Stream.Rest.{Empty}
 use Rattle.mysql_wire.specs.Wire.{Reading}
-use Rattle.mysql_ok_packets.specs.OkPackets.{OkPacket, ok_packet_at, old_eof_at, result_set_terminator_at, more_results_exist}
-use Rattle.mysql_packets.specs.Packets.{ServerError, PrepareOk, ProgressReport, error_at, progress_report_at, prepare_ok_at}
+use Rattle.mysql_ok_packets.specs.OkPackets.{OkPacket, ok_packet_at, old_eof_at, result_set_terminator_at}
+use Rattle.mysql_ok_packets.specs.OkPackets.{more_results_exist}
+use Rattle.mysql_packets.specs.Packets.{ServerError, PrepareOk, ProgressReport, error_at, progress_report_at}
+use Rattle.mysql_packets.specs.Packets.{prepare_ok_at}
 use Rattle.mysql_columns.specs.Columns.{ColumnDefinition, column_at}
 pub use Rattle.mysql_rows.specs.Rows.{Row}
 use Rattle.mysql_rows.specs.Rows.{as_row, binary_resultset_row_at, text_row_at}
 use Rattle.mysql_replies.specs.declared.context.Context.{Context}
-use Rattle.mysql_replies.specs.Grammar.{Payload, Outcome, OkResult, RowsResult, PreparedResult, ErrorResult, FileResult, begins_with, deprecate_eof, has_report_form, is_binary, is_prepare, terminator_limit}
+use Rattle.mysql_replies.specs.Grammar.{Payload, Outcome, OkResult, RowsResult, PreparedResult, ErrorResult, FileResult}
+use Rattle.mysql_replies.specs.Grammar.{begins_with, deprecate_eof, has_report_form, is_binary, is_prepare}
+use Rattle.mysql_replies.specs.Grammar.{terminator_limit}
 use Rattle.mysql_replies.specs.Reply.{Answer, IsReply, Whole}
 use Rattle.mysql_replies.specs.Bytes.{IsReplyOf}
 
@@ -68,11 +74,14 @@ ends_rows c payload = begins_with 254 payload && nat_lt (length payload) (termin
 -- A terminator: with DEPRECATE_EOF an OK packet that begins with fe, else the EOF packet.
 pub record IsTerminator (c : Context) (payload : Payload) (ok : OkPacket) : Type 0 where
   pub ends : ends_rows c payload ≡ true
-  pub fields : Reads (if deprecate_eof c.capabilities.0 then result_set_terminator_at c.capabilities.0 payload else old_eof_at payload) ok
+  pub fields : Reads (if deprecate_eof c.capabilities.0 then result_set_terminator_at
+      c.capabilities.0 payload else old_eof_at payload) ok
 
 -- A row's reading, by the kind of the command.
 abbrev pub row_at : Context → List ColumnDefinition → Payload → Reading Row
-row_at c columns payload = as_row columns (if is_binary c.kind then binary_resultset_row_at columns payload else text_row_at columns payload)
+row_at c columns payload =
+    as_row columns (if is_binary c.kind then binary_resultset_row_at columns payload else
+    text_row_at columns payload)
 
 -- A row is no error and no terminator, and nothing is left behind it.
 pub record IsRow (c : Context) (columns : List ColumnDefinition) (payload : Payload) (row : Row) : Type 0 where
@@ -83,50 +92,61 @@ pub record IsRow (c : Context) (columns : List ColumnDefinition) (payload : Payl
 abbrev pub AreRows : Context → List ColumnDefinition → List Payload → List Row → Type 0
 AreRows c columns payloads rows = AllZip (IsRow c columns) payloads rows
 
--- Rows to their end, what they list, and whether another result follows: a terminator says so; an error, which is a result of
--- its own, leaves the rows without a terminator, and nothing follows it.
+-- Rows to their end, what they list, and whether another result follows: a terminator says so; an
+-- error, which is a result of its own, leaves the rows without a terminator, and nothing follows
+-- it.
 pub data EndedRows (c : Context) (columns : List ColumnDefinition) : List Payload → List Outcome → Bool → Type 0 where
   terminated : (payloads : List Payload) {rows : List Row} {last : Payload} {ok : OkPacket} →
       AreRows c columns payloads rows → IsTerminator c last ok →
-      EndedRows c columns (payloads ++ last ∷ []) (RowsResult columns rows (Some ok) ∷ []) (more_results_exist ok.status_flags)
+      EndedRows c columns (payloads ++ last ∷ []) (RowsResult columns rows (Some ok) ∷
+      []) (more_results_exist ok.status_flags)
   failed : (payloads : List Payload) {rows : List Row} {last : Payload} {error : ServerError} →
       AreRows c columns payloads rows → IsError c last error →
       EndedRows c columns (payloads ++ last ∷ []) (RowsResult columns rows None ∷ ErrorResult error ∷ []) false
 
--- The payloads of a result, what it lists, and whether another follows: an OK packet says so; none follows an error, the request of
--- a file or a prepared statement.
+-- The payloads of a result, what it lists, and whether another follows: an OK packet says so; none
+-- follows an error, the request of a file or a prepared statement.
 pub data IsResult (c : Context) : List Payload → List Outcome → Bool → Type 0 where
   ok : {payload : Payload} {ok : OkPacket} → is_prepare c.kind ≡ false → IsOk c payload ok →
       IsResult c (payload ∷ []) (OkResult ok ∷ []) (more_results_exist ok.status_flags)
-  error : {payload : Payload} {error : ServerError} → IsError c payload error → IsResult c (payload ∷ []) (ErrorResult error ∷ []) false
+  error : {payload : Payload} {error : ServerError} → IsError c payload error →
+      IsResult c (payload ∷ []) (ErrorResult error ∷ []) false
   file : {name : List ℕ} → is_prepare c.kind ≡ false → IsResult c ((251 ∷ name) ∷ []) (FileResult name ∷ []) false
-  rows : {count : Payload} {n : ℕ} (group rows : List Payload) {columns : List ColumnDefinition} {listed : List Outcome} {more : Bool} →
-      is_prepare c.kind ≡ false → IsCount count n → IsColumnGroup c n group columns → EndedRows c columns rows listed more →
+  rows : {count : Payload} {n : ℕ} (group rows : List Payload) {columns : List ColumnDefinition}
+      {listed : List Outcome} {more : Bool} →
+      is_prepare c.kind ≡ false → IsCount count n → IsColumnGroup c n group columns →
+      EndedRows c columns rows listed more →
       IsResult c (count ∷ group ++ rows) listed more
-  prepared : {packet : Payload} {statement : PrepareOk} (first second : List Payload) {parameters columns : List ColumnDefinition} →
+  prepared : {packet : Payload} {statement : PrepareOk} (first second : List Payload)
+      {parameters columns : List ColumnDefinition} →
       is_prepare c.kind ≡ true → begins_with 0 packet ≡ true → Reads (prepare_ok_at packet) statement →
       IsColumnGroup c statement.num_params first parameters → IsColumnGroup c statement.num_columns second columns →
       IsResult c (packet ∷ first ++ second) (PreparedResult statement parameters columns ∷ []) false
 
 -- Results one after another: another follows exactly where the one before says so.
 pub data AreResults (c : Context) : List Payload → List Outcome → Type 0 where
-  last : {payloads : List Payload} {listed : List Outcome} → IsResult c payloads listed false → AreResults c payloads listed
+  last : {payloads : List Payload} {listed : List Outcome} → IsResult c payloads listed false →
+      AreResults c payloads listed
   followed : (payloads others : List Payload) (listed rest : List Outcome) →
       IsResult c payloads listed true → AreResults c others rest → AreResults c (payloads ++ others) (listed ++ rest)
 
--- Payloads, what the progress reports among them report, and the others. Each payload in a report's form is read as one, and
--- stands before one of the others: behind the last result there is nothing, no report either.
+-- Payloads, what the progress reports among them report, and the others. Each payload in a report's
+-- form is read as one, and stands before one of the others: behind the last result there is
+-- nothing, no report either.
 pub data WithoutReports (c : Context) : List Payload → List ProgressReport → List Payload → Type 0 where
   nothing : WithoutReports c [] [] []
   other : {payload : Payload} {payloads others : List Payload} {reports : List ProgressReport} →
       has_report_form c payload ≡ false → WithoutReports c payloads reports others →
       WithoutReports c (payload ∷ payloads) reports (payload ∷ others)
-  report : {payload next : Payload} {payloads others : List Payload} {report : ProgressReport} {reports : List ProgressReport} →
-      has_report_form c payload ≡ true → Reads (progress_report_at payload) report → WithoutReports c payloads reports (next ∷ others) →
+  report : {payload next : Payload} {payloads others : List Payload} {report : ProgressReport}
+      {reports : List ProgressReport} →
+      has_report_form c payload ≡ true → Reads (progress_report_at payload) report →
+      WithoutReports c payloads reports (next ∷ others) →
       WithoutReports c (payload ∷ payloads) (report ∷ reports) (next ∷ others)
 
 -- A whole reply: its payloads without the reports are these results one after another.
-pub record IsWholeReply (c : Context) (payloads : List Payload) (listed : List Outcome) (reports : List ProgressReport) : Type 0 where
+pub record IsWholeReply (c : Context) (payloads : List Payload) (listed : List Outcome)
+    (reports : List ProgressReport) : Type 0 where
   pub others : List Payload
   pub without_reports : WithoutReports c payloads reports others
   pub results : AreResults c others listed
@@ -134,15 +154,18 @@ pub record IsWholeReply (c : Context) (payloads : List Payload) (listed : List O
 -- Each such list of payloads, with nothing behind it, has the answer Whole with these results and reports.
 abbrev pub EachSuchListIsWhole : Type 0
 EachSuchListIsWhole = (c : Context) (payloads : List Payload) (listed : List Outcome) (reports : List ProgressReport) →
-    IsWholeReply c payloads listed reports → IsReply c payloads Empty (record { results = listed; progress = reports; end = Whole })
+    IsWholeReply c payloads listed reports →
+    IsReply c payloads Empty (record { results = listed; progress = reports; end = Whole })
 
 -- An answer is Whole only of such a list with nothing behind it, and has its results and reports.
 abbrev pub OnlySuchListsAreWhole : Type 0
 OnlySuchListsAreWhole = (c : Context) (payloads : List Payload) (rest : Rest) (answer : Answer) →
-    IsReply c payloads rest answer → answer.end ≡ Whole → (rest ≡ Empty) × IsWholeReply c payloads answer.results answer.progress
+    IsReply c payloads rest answer → answer.end ≡ Whole → (rest ≡ Empty) ×
+    IsWholeReply c payloads answer.results answer.progress
 
 -- The framings of a whole reply, numbered on from the first id: below 2^64 payloads, each within the limit.
-pub record IsFramedReply (c : Context) (first_id limit : ℕ) (bytes : List ℕ) (listed : List Outcome) (reports : List ProgressReport) : Type 0 where
+pub record IsFramedReply (c : Context) (first_id limit : ℕ) (bytes : List ℕ) (listed : List Outcome)
+    (reports : List ProgressReport) : Type 0 where
   pub payloads : List Payload
   pub whole : IsWholeReply c payloads listed reports
   pub few : length payloads < 2 ^ 64
@@ -151,10 +174,14 @@ pub record IsFramedReply (c : Context) (first_id limit : ℕ) (bytes : List ℕ)
 
 -- The same of bytes: such framings have the answer Whole with these results and reports,
 abbrev pub EachFramingIsWhole : Type 0
-EachFramingIsWhole = (c : Context) (first_id limit : ℕ) (bytes : List ℕ) (listed : List Outcome) (reports : List ProgressReport) →
-    IsFramedReply c first_id limit bytes listed reports → IsReplyOf c first_id limit bytes (record { results = listed; progress = reports; end = Whole })
+EachFramingIsWhole = (c : Context) (first_id limit : ℕ) (bytes : List ℕ) (listed : List Outcome)
+    (reports : List ProgressReport) →
+    IsFramedReply c first_id limit bytes listed reports →
+    IsReplyOf c first_id limit bytes
+    (record { results = listed; progress = reports; end = Whole })
 
 -- and no other bytes have one.
 abbrev pub OnlyFramingsAreWhole : Type 0
 OnlyFramingsAreWhole = (c : Context) (first_id limit : ℕ) (bytes : List ℕ) (answer : Answer) →
-    IsReplyOf c first_id limit bytes answer → answer.end ≡ Whole → IsFramedReply c first_id limit bytes answer.results answer.progress
+    IsReplyOf c first_id limit bytes answer → answer.end ≡ Whole →
+    IsFramedReply c first_id limit bytes answer.results answer.progress

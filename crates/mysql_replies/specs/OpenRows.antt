@@ -5,8 +5,8 @@ use Rattle.std.specs.declared.alloc.Global.{Global}
 use Rattle.std.specs.declared.rc.RcSlice.{RcSlice}
 use Rattle.mysql_columns.specs.Columns.{ColumnDefinition}
 use Rattle.mysql_columns.specs.declared.column.Column.{Column}
-use Rattle.mysql_lent_rows.specs.declared.format.RowFormat.{RowFormat}
-use Rattle.mysql_lent_rows.specs.declared.lender.RowLender.{RowLender}
+use Rattle.mysql_row_refs.specs.declared.format.RowFormat.{RowFormat}
+use Rattle.mysql_row_refs.specs.declared.lender.RowLender.{RowLender}
 use Rattle.mysql_rows.specs.Rows as rows
 use Rattle.mysql_rows.specs.declared.row.Row.{Row}
 use Rattle.mysql_rows.specs.Views.{row_view, shared_columns}
@@ -27,4 +27,6 @@ HasShare columns None these = these ≡ []
 
 -- What lends rows lends them under the same columns, in this format.
 abbrev pub HasLender : RcSlice Column Global → RowFormat → Option RowLender → Type 0
-HasLender columns format lender = IfSome lender (λ it. (shared_columns it.columns ≡ shared_columns columns) × (it.format ≡ format))
+HasLender columns format lender =
+    IfSome lender (λ it. (shared_columns it.columns ≡ shared_columns columns) ×
+    (it.format ≡ format))

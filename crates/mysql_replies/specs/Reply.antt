@@ -12,7 +12,8 @@ use Rattle.mysql_replies.specs.declared.fault.ReplyFault.TheVariants.{AfterEnd}
 use Rattle.mysql_wire.specs.Stream.{Rest}
 use Rattle.mysql_wire.specs.Stream.Rest.{Empty, TooLarge, OutOfSync}
 use Rattle.mysql_replies.specs.declared.context.Context.{Context}
-use Rattle.mysql_replies.specs.Grammar.{Payload, Outcome, Part, Stands, Stretch, Ending, Ended, Open, Wrong, Results, has_report_form, rows, result_set, prepared, prepared_columns, one_result}
+use Rattle.mysql_replies.specs.Grammar.{Payload, Outcome, Part, Stands, Stretch, Ending, Ended, Open, Wrong, Results}
+use Rattle.mysql_replies.specs.Grammar.{has_report_form, rows, result_set, prepared, prepared_columns, one_result}
 
 -- How a reply ends: whole, unfinished, or at the payload of this number.
 pub data End : Type 0 where
@@ -82,7 +83,8 @@ rest_of c First payloads = one_result c payloads
 rest_of c (Columns n these) payloads = result_set c n these payloads
 rest_of c (Rows columns these) payloads = rows c columns these payloads
 rest_of c (Parameters statement n these) payloads = prepared c statement n these payloads
-rest_of c (PreparedColumns statement parameters n these) payloads = prepared_columns c statement parameters n these payloads
+rest_of c (PreparedColumns statement parameters n these) payloads =
+    prepared_columns c statement parameters n these payloads
 rest_of c Nothing payloads = Stands (record { results = []; more = false }) payloads
 
 -- What stands of a reply so far: what is listed, how many payloads there were, and what is awaited.
@@ -117,7 +119,8 @@ fresh c = GoingOn (record { context = c; results = []; progress = []; count = 0;
 
 -- Each list of payloads has an answer.
 abbrev pub EachHasAnswer : Type 0
-EachHasAnswer = (c : Context) (payloads : List Payload) (rest : Rest) → (answer : Answer) × IsReply c payloads rest answer
+EachHasAnswer = (c : Context) (payloads : List Payload) (rest : Rest) → (answer : Answer) ×
+    IsReply c payloads rest answer
 
 -- No list of payloads has two answers.
 abbrev pub AnswersAgree : Type 0
@@ -131,7 +134,8 @@ FreshStandingDecides = (c : Context) (payloads : List Payload) (rest : Rest) (an
 
 -- Whatever stands decides an answer, and only one.
 abbrev pub EachStandingDecides : Type 0
-EachStandingDecides = (s : Standing) (payloads : List Payload) (rest : Rest) → (answer : Answer) × PayloadsDecide s payloads rest answer
+EachStandingDecides = (s : Standing) (payloads : List Payload) (rest : Rest) → (answer : Answer) ×
+    PayloadsDecide s payloads rest answer
 
 abbrev pub StandingsAgree : Type 0
 StandingsAgree = (s : Standing) (payloads : List Payload) (rest : Rest) (a b : Answer) →

@@ -1,6 +1,8 @@
--- Words of the reader's own body, which no public call's clause has: what the code holds of a reply, as what stands of it.
--- MySQL: Client/Server Protocol, "COM_QUERY Response" and "MySQL Packets".
-use Rattle.std.specs.Prelude.{◌≡◌, ℕ, ◌<◌, ◌+◌, List, [], ◌∷◌, ◌++◌, length, map, Option, Some, None, Result, Err, Vec, vec_len, vec_capacity}
+-- Words of the reader's own body, which no public call's clause has: what the code holds of a
+-- reply, as what stands of it. MySQL: Client/Server Protocol, "COM_QUERY Response" and "MySQL
+-- Packets".
+use Rattle.std.specs.Prelude.{◌≡◌, ℕ, ◌<◌, ◌+◌, List, [], ◌∷◌, ◌++◌, length, map, Option, Some, None, Result, Err, Vec}
+use Rattle.std.specs.Prelude.{vec_len, vec_capacity}
 use Rattle.std.specs.declared.alloc.Global.{Global}
 use Rattle.mysql_packets.specs.Views.{progress_report_view}
 use Rattle.mysql_wire.specs.Codec.{Codec, CanGoOn, IsBetween, held, packet_number}
@@ -19,7 +21,8 @@ use Rattle.mysql_replies.specs.declared.awaited.Awaited.{Awaited}
 use Rattle.mysql_replies.specs.declared.awaited.Awaited.TheVariants as awaiting
 use Rattle.mysql_replies.specs.declared.state.ReplyState.{ReplyState}
 use Rattle.mysql_replies.specs.Grammar.{Payload}
-use Rattle.mysql_replies.specs.Reply.{Answer, PayloadsDecide, Progressing, Standing, GoingOn, Answered, FaultAt, End, Whole, Unfinished}
+use Rattle.mysql_replies.specs.Reply.{Answer, PayloadsDecide, Progressing, Standing, GoingOn, Answered, FaultAt, End}
+use Rattle.mysql_replies.specs.Reply.{Whole, Unfinished}
 use Rattle.mysql_replies.specs.Reply as reply
 use Rattle.mysql_replies.specs.Bytes.{NumberedPayloadsDecide}
 use Rattle.mysql_replies.specs.Holding.{ReaderState}
@@ -38,7 +41,12 @@ progressing_of s = record {
 
 -- The answer where this fault was met.
 abbrev pub faulted_at : Progressing → ReplyFault → Answer
-faulted_at s fault = record { results = s.results ++ listed_of s.awaited; progress = s.progress; end = FaultAt s.count fault }
+faulted_at s fault = record {
+  results = s.results ++ listed_of s.awaited;
+  progress =
+      s.progress;
+  end = FaultAt s.count fault;
+}
 
 abbrev pub faulted : Progressing → Option ReplyFault → Standing
 faulted s None = GoingOn s
@@ -88,7 +96,8 @@ StateGoesOn before payload after = (z : List Payload) (rest : Rest) (answer : An
 -- The same, as far as the payloads can be numbered.
 abbrev pub NumberedStateGoesOn : ReplyState → Payload → ReplyState → Type 0
 NumberedStateGoesOn before payload after = (z : List Payload) (rest : Rest) (answer : Answer) →
-    NumberedPayloadsDecide (standing_of after) z rest answer → NumberedPayloadsDecide (standing_of before) (payload ∷ z) rest answer
+    NumberedPayloadsDecide (standing_of after) z rest answer →
+    NumberedPayloadsDecide (standing_of before) (payload ∷ z) rest answer
 
 -- What stands where memory ran out over a payload: all that stood, and that fault.
 abbrev pub IsShortOf : ReplyState → ReplyState → Type 0
@@ -113,7 +122,14 @@ answer_of s = record {
 
 -- What a reader with this codec, src and dst holds.
 abbrev pub reader_state_of : ReplyState → Codec → List ℕ → List ℕ → ReaderState
-reader_state_of s codec src dst = record { standing = standing_of s; limit = codec.limit; number = packet_number codec dst; bytes = held codec src dst }
+reader_state_of s codec src dst =
+    record {
+      standing = standing_of s;
+      limit = codec.limit;
+      number =
+          packet_number codec dst;
+      bytes = held codec src dst;
+    }
 
 -- What a reader with these parts holds.
 abbrev pub reader_state : ReplyState → Incoming → ReaderState

@@ -1,6 +1,7 @@
 -- Words of the reader's own body, which no public call's clause has: what one more payload leads to.
 -- MySQL: Client/Server Protocol, "COM_QUERY Response" and "Text Resultset".
-use Rattle.std.specs.Prelude.{◌≡◌, ℕ, zero, suc, Bool, List, [], ◌∷◌, ◌++◌, length, true, false, nat_lt, ◌&&◌, if◌then◌else◌, None, Result, Ok, Err}
+use Rattle.std.specs.Prelude.{◌≡◌, ℕ, zero, suc, Bool, List, [], ◌∷◌, ◌++◌, length, true, false, nat_lt, ◌&&◌}
+use Rattle.std.specs.Prelude.{if◌then◌else◌, None, Result, Ok, Err}
 use Rattle.mysql_columns.specs.Columns.{ColumnDefinition}
 use Rattle.mysql_packets.specs.Packets.{PrepareOk}
 use Rattle.mysql_packets.specs.Views.{prepare_ok_view}
@@ -15,7 +16,8 @@ use Rattle.mysql_replies.specs.declared.awaited.Listed.{Listed}
 use Rattle.mysql_replies.specs.declared.awaited.Listed.TheVariants as listed
 use Rattle.mysql_replies.specs.declared.awaited.Stepped.{Stepped}
 use Rattle.mysql_replies.specs.declared.awaited.Stepped.TheVariants.{Moved, Failed}
-use Rattle.mysql_replies.specs.Grammar.{Payload, Outcome, RowsResult, PreparedResult, Part, Stands, Stretch, Ending, Ended, Wrong, Results, rows, prepared_columns}
+use Rattle.mysql_replies.specs.Grammar.{Payload, Outcome, RowsResult, PreparedResult, Part, Stands, Stretch, Ending}
+use Rattle.mysql_replies.specs.Grammar.{Ended, Wrong, Results, rows, prepared_columns}
 use Rattle.mysql_replies.specs.Reply.{Awaited, Columns, Rows, Parameters, PreparedColumns, Nothing, rest_of}
 use Rattle.mysql_replies.specs.OpenRows.{RowsSoFar}
 use Rattle.mysql_replies.specs.Views.{outcome_view, awaited_view, column_views}
@@ -30,7 +32,8 @@ pub data Move : Type 0 where
 -- What q makes of the payloads to come: these results, and then what is made of them where that is awaited.
 abbrev pub GoesOnTo : Context → (List Payload → Part Stretch) → List Outcome → Awaited → Type 0
 GoesOnTo c q results awaited =
-    (z : List Payload) (others : List Outcome) (ending : Ending) → Results c (rest_of c awaited z) others ending → Results c (q z) (results ++ others) ending
+    (z : List Payload) (others : List Outcome) (ending : Ending) →
+    Results c (rest_of c awaited z) others ending → Results c (q z) (results ++ others) ending
 
 -- The payload leads there, where q is what it and the payloads after it are read as.
 abbrev pub Leads : Context → (List Payload → Part Stretch) → Payload → Move → Type 0
@@ -59,8 +62,11 @@ group_awaited (OfPrepared statement parameters) n these = PreparedColumns statem
 -- What follows a group of these columns.
 abbrev pub after_group : Context → Group → List ColumnDefinition → List Payload → Part Stretch
 after_group c OfResultSet columns payloads = rows c columns [] payloads
-after_group c (OfParameters statement) columns payloads = prepared_columns c statement columns statement.num_columns [] payloads
-after_group c (OfPrepared statement parameters) columns payloads = Stands (record { results = PreparedResult statement parameters columns ∷ []; more = false }) payloads
+after_group c (OfParameters statement) columns payloads =
+    prepared_columns c statement columns statement.num_columns [] payloads
+after_group c (OfPrepared statement parameters) columns payloads =
+    Stands (record { results = PreparedResult statement parameters columns ∷ []; more = false })
+    payloads
 
 -- A payload in a row's place is read as a row: it begins no error and is no terminator.
 abbrev pub reads_as_row : Context → Payload → Bool
@@ -105,15 +111,19 @@ pub record LosesNone (c : Context) (before after : Awaited) : Type 0 where
 -- The step moves on from there: these results stand, and that is awaited of what q makes of the payloads to come. Where
 -- memory ran out nothing is listed of what is awaited.
 abbrev pub IsMove : Context → (List Payload → Part Stretch) → Stepped → Type 0
-IsMove c q (Moved listed awaited) = GoesOnTo c q (listed_views listed) (awaited_view awaited) × IsSettled c (awaited_view awaited)
-IsMove c q (Failed awaited fault) = (fault ≡ Memory) × (listed_of (awaited_view awaited) ≡ []) × IsSettled c (awaited_view awaited)
+IsMove c q (Moved listed awaited) = GoesOnTo c q (listed_views listed) (awaited_view awaited) ×
+    IsSettled c (awaited_view awaited)
+IsMove c q (Failed awaited fault) = (fault ≡ Memory) × (listed_of (awaited_view awaited) ≡ []) ×
+    IsSettled c (awaited_view awaited)
 
 -- A step leads where it says; a payload without a place changes nothing, and want of memory nothing that is listed.
 abbrev pub IsStep : Context → Awaited → Payload → Stepped → Type 0
 IsStep c a payload (Moved listed awaited) =
-    Leads c (λ z. rest_of c a (payload ∷ z)) payload (Moves (listed_views listed) (awaited_view awaited)) × IsSettled c (awaited_view awaited)
+    Leads c (λ z. rest_of c a (payload ∷ z)) payload
+    (Moves (listed_views listed) (awaited_view awaited)) × IsSettled c (awaited_view awaited)
 IsStep c a payload (Failed awaited Memory) = LosesNone c a (awaited_view awaited)
-IsStep c a payload (Failed awaited fault) = (awaited_view awaited ≡ a) × Leads c (λ z. rest_of c a (payload ∷ z)) payload (Fails (listed_of a) fault)
+IsStep c a payload (Failed awaited fault) = (awaited_view awaited ≡ a) ×
+    Leads c (λ z. rest_of c a (payload ∷ z)) payload (Fails (listed_of a) fault)
 
 -- The step that a row made, of which these are the rows now: it was added to them, or it has no place.
 abbrev pub row_stepped : RowsSoFar → Result (Unit {0}) ReplyFault → Stepped

@@ -12,11 +12,13 @@ use Rattle.mysql_replies.specs.declared.fault.ReplyFault.TheVariants.{Memory}
 use Rattle.mysql_replies.specs.Grammar.{Outcome, RowsResult}
 use Rattle.mysql_replies.specs.Reply.{Answer, Awaited, Rows, Standing, GoingOn, Answered}
 use Rattle.mysql_replies.specs.Bytes.{IsReplyOf, IsShortReplyOf}
-use Rattle.mysql_replies.specs.Holding.{ReaderState, fresh_reader, ReaderDecides, ReaderGoesOn, TakesAll, StandsShort, fault_of}
+use Rattle.mysql_replies.specs.Holding.{ReaderState, fresh_reader, ReaderDecides, ReaderGoesOn, TakesAll, StandsShort}
+use Rattle.mysql_replies.specs.Holding.{fault_of}
 
 -- Rows before what was listed later: they begin its first result, where that is rows.
 abbrev pub rows_before : List ColumnDefinition → List Row → List Outcome → List Outcome
-rows_before columns rows (RowsResult _ others terminator ∷ later) = RowsResult columns (rows ++ others) terminator ∷ later
+rows_before columns rows (RowsResult _ others terminator ∷ later) =
+    RowsResult columns (rows ++ others) terminator ∷ later
 rows_before columns rows later = RowsResult columns rows None ∷ later
 
 -- The parts of each result set as one: rows without a terminator go on in rows right behind them.
@@ -63,7 +65,9 @@ without_reports (Answered answer) = Answered (record answer { progress = [] })
 abbrev pub Lists : Standing → List Outcome → List Row → Type 0
 Lists (GoingOn s) results rows = (s.results ≡ results) × (rows_awaited s.awaited ≡ rows)
 Lists (Answered answer) results rows =
-    ((answer.results ≡ results) × (rows ≡ [])) ⊎ ((columns : List ColumnDefinition) × (answer.results ≡ results ++ RowsResult columns rows None ∷ []))
+    ((answer.results ≡ results) × (rows ≡ [])) ⊎
+    ((columns : List ColumnDefinition) ×
+    (answer.results ≡ results ++ RowsResult columns rows None ∷ []))
 
 abbrev pub ListsResults : Standing → List Outcome → Type 0
 ListsResults standing results = (rows : List Row) × Lists standing results rows
@@ -73,7 +77,13 @@ ListsRows standing rows = (results : List Outcome) × Lists standing results row
 
 -- What was handed out and the answer that came later, as one.
 abbrev pub joined_answer : List Outcome → List ProgressReport → Answer → Answer
-joined_answer taken reports later = record { results = joined (taken ++ later.results); progress = reports ++ later.progress; end = later.end }
+joined_answer taken reports later =
+    record {
+      results = joined (taken ++ later.results);
+      progress = reports ++ later.progress;
+      end =
+          later.end;
+    }
 
 -- What a reader's feed does, by its clauses.
 pub record Feeds (old new : ReaderState) (piece : List ℕ) (r : Result (Unit {0}) ReplyFault) : Type 0 where
@@ -84,17 +94,31 @@ pub record Feeds (old new : ReaderState) (piece : List ℕ) (r : Result (Unit {0
   pub goes_on : (r ≡ Err Memory → ⊥) → ReaderGoesOn old piece new
   pub short : fault_of old.standing ≡ None → r ≡ Err Memory → StandsShort old (old.bytes ++ piece) new
 
--- A fresh reader was fed these pieces, with takes before, between and after them: these results and reports were handed out, and
--- that is held.
-pub data Runs (c : Context) (first_id limit : ℕ) : List (List ℕ) → List Outcome → List ProgressReport → ReaderState → Type 0 where
+-- A fresh reader was fed these pieces, with takes before, between and after them: these results and
+-- reports were handed out, and that is held.
+pub data Runs (c : Context) (first_id limit : ℕ) : List (List ℕ) → List Outcome →
+    List ProgressReport → ReaderState → Type 0 where
   begins : Runs c first_id limit [] [] [] (fresh_reader c first_id limit)
-  feeds : {pieces : List (List ℕ)} {taken : List Outcome} {reports : List ProgressReport} {old : ReaderState} (piece : List ℕ) (r : Result (Unit {0}) ReplyFault) (new : ReaderState) → Runs c first_id limit pieces taken reports old → AreBytes piece → Feeds old new piece r → Runs c first_id limit (pieces ++ piece ∷ []) taken reports new
-  takes_results : {pieces : List (List ℕ)} {taken : List Outcome} {reports : List ProgressReport} {old : ReaderState} → Runs c first_id limit pieces taken reports old → Runs c first_id limit pieces (taken ++ results_in old.standing) reports (record old { standing = without_results old.standing })
-  takes_reports : {pieces : List (List ℕ)} {taken : List Outcome} {reports : List ProgressReport} {old : ReaderState} → Runs c first_id limit pieces taken reports old → Runs c first_id limit pieces taken (reports ++ reports_in old.standing) (record old { standing = without_reports old.standing })
+  feeds : {pieces : List (List ℕ)} {taken : List Outcome} {reports : List ProgressReport}
+      {old : ReaderState} (piece : List ℕ) (r : Result (Unit {0}) ReplyFault) (new : ReaderState) →
+      Runs c first_id limit pieces taken reports old → AreBytes piece → Feeds old new piece r →
+      Runs c first_id limit (pieces ++ piece ∷ []) taken reports new
+  takes_results : {pieces : List (List ℕ)} {taken : List Outcome} {reports : List ProgressReport}
+      {old : ReaderState} → Runs c first_id limit pieces taken reports old →
+      Runs c first_id limit pieces (taken ++ results_in old.standing) reports
+      (record old { standing = without_results old.standing })
+  takes_reports : {pieces : List (List ℕ)} {taken : List Outcome} {reports : List ProgressReport}
+      {old : ReaderState} → Runs c first_id limit pieces taken reports old →
+      Runs c first_id limit pieces taken (reports ++ reports_in old.standing)
+      (record old { standing = without_reports old.standing })
 
--- All that was handed out and the answer at the end are, joined, the reply of all the bytes, or where memory ran out that of
--- their first payloads.
+-- All that was handed out and the answer at the end are, joined, the reply of all the bytes, or
+-- where memory ran out that of their first payloads.
 abbrev pub TakenResultsAreTheReply : Type 0
-TakenResultsAreTheReply = (c : Context) (first_id limit : ℕ) (pieces : List (List ℕ)) (taken : List Outcome) (reports : List ProgressReport) (held : ReaderState) (answer : Answer) →
+TakenResultsAreTheReply =
+    (c : Context) (first_id limit : ℕ) (pieces : List (List ℕ)) (taken : List Outcome)
+    (reports : List ProgressReport) (held : ReaderState) (answer : Answer) →
     Runs c first_id limit pieces taken reports held → ReaderDecides held [] answer →
-    IsReplyOf c first_id limit (flat_map (λ piece. piece) pieces) (joined_answer taken reports answer) ⊎ IsShortReplyOf c first_id limit pieces (joined_answer taken reports answer)
+    IsReplyOf c first_id limit (flat_map (λ piece. piece) pieces)
+    (joined_answer taken reports answer) ⊎
+    IsShortReplyOf c first_id limit pieces (joined_answer taken reports answer)

@@ -1,6 +1,6 @@
--- What the code holds, as values; and what its functions answer. Public clauses have `answer_view`, `outcome_views`, `row_views` and
--- `report_views` alone.
--- MySQL: Client/Server Protocol, "COM_QUERY Response", its packets as the code holds them.
+-- What the code holds, as values; and what its functions answer. Public clauses have `answer_view`,
+-- `outcome_views`, `row_views` and `report_views` alone. MySQL: Client/Server Protocol, "COM_QUERY
+-- Response", its packets as the code holds them.
 use Rattle.std.specs.Prelude.{◌≡◌, List, map, Result, Ok, Err}
 use Rattle.mysql_wire.specs.WireError.{WireError}
 use Rattle.mysql_wire.specs.WireError.TheVariants as wire
@@ -77,8 +77,12 @@ line_view (lines.Error error) = grammar.ErrorLine (server_error_view error)
 
 abbrev pub outcome_view : ReplyResult → grammar.Outcome
 outcome_view (results.Ok ok) = grammar.OkResult (ok_packet_view ok)
-outcome_view (results.Rows columns these terminator) = grammar.RowsResult (shared_columns columns) (row_views these.items) (option_map ok_packet_view terminator)
-outcome_view (results.Prepared stmt params columns) = grammar.PreparedResult (prepare_ok_view stmt) (column_views params.items) (column_views columns.items)
+outcome_view (results.Rows columns these terminator) =
+    grammar.RowsResult (shared_columns columns) (row_views these.items)
+    (option_map ok_packet_view terminator)
+outcome_view (results.Prepared stmt params columns) =
+    grammar.PreparedResult (prepare_ok_view stmt) (column_views params.items)
+    (column_views columns.items)
 outcome_view (results.Error error) = grammar.ErrorResult (server_error_view error)
 outcome_view (results.File file) = grammar.FileResult (local_infile_view file)
 
@@ -92,8 +96,11 @@ abbrev pub awaited_view : Awaited → reply.Awaited
 awaited_view awaiting.First = reply.First
 awaited_view (awaiting.Columns left these) = reply.Columns left (column_views these.items)
 awaited_view (awaiting.Rows these) = reply.Rows these.columns these.rows
-awaited_view (awaiting.Parameters stmt left these) = reply.Parameters (prepare_ok_view stmt) left (column_views these.items)
-awaited_view (awaiting.PreparedColumns stmt params left these) = reply.PreparedColumns (prepare_ok_view stmt) (column_views params.items) left (column_views these.items)
+awaited_view (awaiting.Parameters stmt left these) =
+    reply.Parameters (prepare_ok_view stmt) left (column_views these.items)
+awaited_view (awaiting.PreparedColumns stmt params left these) =
+    reply.PreparedColumns (prepare_ok_view stmt) (column_views params.items) left
+    (column_views these.items)
 awaited_view awaiting.Nothing = reply.Nothing
 
 abbrev pub end_view : ReplyEnd → reply.End
@@ -103,4 +110,9 @@ end_view (ends.Fault count fault) = reply.FaultAt count fault
 
 -- A reply as its results, reports and end.
 abbrev pub answer_view : Reply → reply.Answer
-answer_view r = record { results = outcome_views r.results.items; progress = map progress_report_view r.progress.items; end = end_view r.end }
+answer_view r = record {
+  results = outcome_views r.results.items;
+  progress =
+      map progress_report_view r.progress.items;
+  end = end_view r.end;
+}

@@ -1,12 +1,14 @@
 //! Laws of the grammar of replies and of what a reader holds. Each function is its law alone.
 
 ghost use Rattle.mysql_replies.specs.Beginnings.{EachAnswerHasWhatStands};
-ghost use Rattle.mysql_replies.specs.Reply.{EachHasAnswer, AnswersAgree, EachStandingDecides, StandingsAgree, FreshStandingDecides, StandingGoesOn};
+ghost use Rattle.mysql_replies.specs.Reply.{EachHasAnswer, AnswersAgree, EachStandingDecides, StandingsAgree};
+ghost use Rattle.mysql_replies.specs.Reply.{FreshStandingDecides, StandingGoesOn};
 ghost use Rattle.mysql_replies.specs.Bytes.{AnyBytesHaveAnswer, CuttingsAgree};
 ghost use Rattle.mysql_replies.specs.Holding.{EachReaderDecides, ReadersAgree, FreshReaderDecides};
 ghost use Rattle.mysql_replies.specs.Lending.{LentRowsAreHandedOut};
 ghost use Rattle.mysql_replies.specs.Taking.{TakenResultsAreTheReply};
-ghost use Rattle.mysql_replies.specs.Manual.{EachSuchListIsWhole, OnlySuchListsAreWhole, EachFramingIsWhole, OnlyFramingsAreWhole};
+ghost use Rattle.mysql_replies.specs.Manual.{EachSuchListIsWhole, OnlySuchListsAreWhole, EachFramingIsWhole};
+ghost use Rattle.mysql_replies.specs.Manual.{OnlyFramingsAreWhole};
 
 use mysql_wire::laws::{one_split, reader_laws};
 
@@ -46,20 +48,23 @@ pub fn each_reader_decides()
     one_split();
 }
 
-/// Over any feeds and takes the results and the reports that were handed out and those at the end are, joined, the reply of all
-/// the bytes; where memory ran out, they are those of the first payloads.
+/// Over any feeds and takes the results and the reports that were handed out and those at the end
+/// are, joined, the reply of all the bytes; where memory ran out, they are those of the first
+/// payloads.
 pub fn taken_results_are_the_reply()
     ensures { TakenResultsAreTheReply }
 {}
 
-/// A row that was lent where nothing else is listed is as one that was handed out: over any feeds, takes and rows that were lent so,
-/// these rows, the results that were handed out and those at the end are, joined, the reply.
+/// A row that was lent where nothing else is listed is as one that was handed out: over any feeds,
+/// takes and rows that were lent so, these rows, the results that were handed out and those at the
+/// end are, joined, the reply.
 pub fn lent_rows_are_handed_out()
     ensures { LentRowsAreHandedOut }
 {}
 
-/// A list of payloads has an answer that ends whole exactly where the manual has it as a whole reply: results one after another, and
-/// before any of their payloads progress reports. The answer's results and reports are those.
+/// A list of payloads has an answer that ends whole exactly where the manual has it as a whole
+/// reply: results one after another, and before any of their payloads progress reports. The
+/// answer's results and reports are those.
 pub fn whole_replies_are_results()
     ensures some { EachSuchListIsWhole }
     ensures only { OnlySuchListsAreWhole }
@@ -73,8 +78,9 @@ pub fn whole_bytes_are_framed_results()
     reader_laws();
 }
 
-/// The answer to any payloads has each result that stands whole in them, where each but the last says that another follows, and
-/// behind these the rows whose columns stand, as far as they came. Progress reports may stand among the payloads.
+/// The answer to any payloads has each result that stands whole in them, where each but the last
+/// says that another follows, and behind these the rows whose columns stand, as far as they came.
+/// Progress reports may stand among the payloads.
 pub fn answers_have_what_stands()
     ensures { EachAnswerHasWhatStands }
 {}

@@ -3,7 +3,7 @@
 ghost use Rattle.std.specs.Prelude.{◌≡◌, ◌++◌, ◌<◌, [], Err, IfErr, IfOk, MatchOption, None, Ok, OnOk, Some, length};
 ghost use Rattle.std.specs.Borrow.{sem};
 ghost use Rattle.std.specs.Io.BufRead.{Rests};
-ghost use Rattle.mysql_lent_rows.specs.LentRows.{lent_view};
+ghost use Rattle.mysql_row_refs.specs.LentRows.{lent_view};
 ghost use Rattle.mysql_rows.specs.Rows.{Row};
 ghost use Rattle.mysql_wire.specs.Incoming.{codec_by};
 ghost use Rattle.mysql_replies.specs.Holding.{ReaderGoesOn, StandsShort, TakesAll};
@@ -15,7 +15,7 @@ use crate::fault::ReplyFault;
 use crate::framing::{bytes_are_bytes, framing_laws};
 use crate::reader::{ReaderParts, ReplyReader, fault_from};
 use crate::state::ReplyState;
-use mysql_lent_rows::LentRow;
+use mysql_row_refs::LentRow;
 use mysql_wire::PacketReader;
 use std::alloc::Global;
 
@@ -37,17 +37,30 @@ fn take_to_row<'p>(
     requires going { state.old.fault ≡ None }
     requires paused { IsPaused state.old (codec_by packets.old) packets.old.bytes [] }
     ensures reading { IsReading state.new }
-    ensures paused { OnOk result ((state.new.fault ≡ None) × IsPaused state.new (codec_by packets.new) packets.new.bytes []) }
+    ensures paused { OnOk result ((state.new.fault ≡ None) ×
+        IsPaused state.new (codec_by packets.new) packets.new.bytes []) }
     ensures fault { IfErr result (λ fault. state.new.fault ≡ Some fault) }
     ensures keeps_none { rows_listed (standing_of state.new) ≡ rows_listed (standing_of state.old) }
     ensures lends { IfOk result (λ found. MatchOption found
         ((rest.new.now ≡ [])
-        × TakesAll (reader_state state.old packets.old) ((reader_state state.old packets.old).bytes ++ rest.old.now) (reader_state state.new packets.new)
+        × TakesAll (reader_state state.old packets.old)
+        ((reader_state state.old packets.old).bytes ++
+        rest.old.now) (reader_state state.new packets.new)
         × ReaderGoesOn (reader_state state.old packets.old) rest.old.now (reader_state state.new packets.new))
-        (λ place. LendsBehind (reader_state state.old packets.old) rest.old.now place state.new packets.new rest.new.now)) }
-    ensures uses { IfOk result (λ found. MatchOption found (rest.new.now ≡ []) (λ _. length rest.new.now < length rest.old.now)) }
-    ensures goes_on { IfErr result (λ fault. UnlessMemory {X = Unit {0}} (Err fault) (ReaderGoesOn (reader_state state.old packets.old) rest.old.now (reader_state state.new packets.new))) }
-    ensures short { IfErr result (λ fault. OnMemory {X = Unit {0}} (Err fault) (StandsShort (reader_state state.old packets.old) ((reader_state state.old packets.old).bytes ++ rest.old.now) (reader_state state.new packets.new))) }
+        (λ place. LendsBehind (reader_state state.old packets.old) rest.old.now place state.new
+        packets.new rest.new.now)) }
+    ensures uses { IfOk result
+        (λ found. MatchOption found (rest.new.now ≡
+        []) (λ _. length rest.new.now < length rest.old.now)) }
+    ensures goes_on { IfErr result
+        (λ fault. UnlessMemory {X = Unit {0}} (Err fault)
+        (ReaderGoesOn (reader_state state.old packets.old) rest.old.now
+        (reader_state state.new packets.new))) }
+    ensures short { IfErr result
+        (λ fault. OnMemory {X = Unit {0}} (Err fault)
+        (StandsShort (reader_state state.old packets.old)
+        ((reader_state state.old packets.old).bytes ++
+        rest.old.now) (reader_state state.new packets.new))) }
 {
     framing_laws();
     bytes_are_bytes(*rest);
@@ -89,17 +102,31 @@ impl ReaderParts {
         requires going { self.old.state.fault ≡ None }
         requires paused { IsPaused self.old.state (codec_by self.old.packets) self.old.packets.bytes [] }
         ensures reading { IsReading self.new.state }
-        ensures paused { OnOk result ((self.new.state.fault ≡ None) × IsPaused self.new.state (codec_by self.new.packets) self.new.packets.bytes []) }
+        ensures paused { OnOk result ((self.new.state.fault ≡ None) ×
+            IsPaused self.new.state (codec_by self.new.packets) self.new.packets.bytes []) }
         ensures fault { IfErr result (λ fault. self.new.state.fault ≡ Some fault) }
         ensures keeps_none { rows_listed (standing_of self.new.state) ≡ rows_listed (standing_of self.old.state) }
         ensures lends { IfOk result (λ found. MatchOption found
             ((rest.new.now ≡ [])
-            × TakesAll (reader_state self.old.state self.old.packets) ((reader_state self.old.state self.old.packets).bytes ++ rest.old.now) (reader_state self.new.state self.new.packets)
-            × ReaderGoesOn (reader_state self.old.state self.old.packets) rest.old.now (reader_state self.new.state self.new.packets))
-            (λ place. LendsBehind (reader_state self.old.state self.old.packets) rest.old.now place self.new.state self.new.packets rest.new.now)) }
-        ensures uses { IfOk result (λ found. MatchOption found (rest.new.now ≡ []) (λ _. length rest.new.now < length rest.old.now)) }
-        ensures goes_on { IfErr result (λ fault. UnlessMemory {X = Unit {0}} (Err fault) (ReaderGoesOn (reader_state self.old.state self.old.packets) rest.old.now (reader_state self.new.state self.new.packets))) }
-        ensures short { IfErr result (λ fault. OnMemory {X = Unit {0}} (Err fault) (StandsShort (reader_state self.old.state self.old.packets) ((reader_state self.old.state self.old.packets).bytes ++ rest.old.now) (reader_state self.new.state self.new.packets))) }
+            × TakesAll (reader_state self.old.state self.old.packets)
+            ((reader_state self.old.state self.old.packets).bytes ++
+            rest.old.now) (reader_state self.new.state self.new.packets)
+            × ReaderGoesOn (reader_state self.old.state self.old.packets) rest.old.now
+            (reader_state self.new.state self.new.packets))
+            (λ place. LendsBehind (reader_state self.old.state self.old.packets) rest.old.now place
+            self.new.state self.new.packets rest.new.now)) }
+        ensures uses { IfOk result
+            (λ found. MatchOption found (rest.new.now ≡
+            []) (λ _. length rest.new.now < length rest.old.now)) }
+        ensures goes_on { IfErr result
+            (λ fault. UnlessMemory {X = Unit {0}} (Err fault)
+            (ReaderGoesOn (reader_state self.old.state self.old.packets) rest.old.now
+            (reader_state self.new.state self.new.packets))) }
+        ensures short { IfErr result
+            (λ fault. OnMemory {X = Unit {0}} (Err fault)
+            (StandsShort (reader_state self.old.state self.old.packets)
+            ((reader_state self.old.state self.old.packets).bytes ++
+            rest.old.now) (reader_state self.new.state self.new.packets))) }
     {
         take_to_row(alloc, &mut self.state, &mut self.packets, rest)
     }
@@ -120,30 +147,36 @@ impl ReaderParts {
 impl ReplyReader {
     ghost use Rattle.mysql_replies.specs.contracts.reader.ReplyReader.{the_row};
 
-    /// Reads on to the end of the next row of a result set, and lends it: its cells are read where they lie, and nothing of it is
-    /// kept. The bytes that were used are taken from the front of `rest`. Where the piece has no further row the answer is `None`,
-    /// and all of it was read, as [`ReplyReader::feed`] reads it. All that isn't a row is listed as ever, and
-    /// [`ReplyReader::take_results`] hands it out: of a result set that was lent the packet that ended it, and its rows that
-    /// [`ReplyReader::feed`] kept.
+    /// Reads on to the end of the next row of a result set, and lends it: its cells are read where
+    /// they lie, and nothing of it is kept. The bytes that were used are taken from the front of
+    /// `rest`. Where the piece has no further row the answer is `None`, and all of it was read, as
+    /// [`ReplyReader::feed`] reads it. All that isn't a row is listed as ever, and
+    /// [`ReplyReader::take_results`] hands it out: of a result set that was lent the packet that
+    /// ended it, and its rows that [`ReplyReader::feed`] kept.
     ///
     ///     let mut rest = piece;
     ///     while let Some(row) = reader.next_row(&mut rest)? {
     ///         let id: Option<Result<u64, _>> = row.get_opt(0);
     ///     }
     ///
-    /// Memory is asked for at the first row of a result set, for a packet that is cut by the pieces, and for what isn't a row.
+    /// Memory is asked for at the first row of a result set, for a packet that is cut by the
+    /// pieces, and for what isn't a row.
     ///
     /// # Errors
-    /// Those of [`ReplyReader::feed`], where they are met before a row. The piece is as it was; from then on the answer is the same, and
-    /// nothing changes.
+    /// Those of [`ReplyReader::feed`], where they are met before a row. The piece is as it was;
+    /// from then on the answer is the same, and nothing changes.
     ///
-    /// MySQL: Client/Server Protocol, "Text Resultset Row" and "Binary Protocol Resultset Row"; C API, "mysql_use_result()".
+    /// MySQL: Client/Server Protocol, "Text Resultset Row" and "Binary Protocol Resultset Row"; C
+    /// API, "mysql_use_result()".
     pub fn next_row<'r, 'p: 'r>(
         &'r mut self,
         rest: &mut &'p [u8],
     ) -> Result<Option<LentRow<'r, 'r>>, ReplyFault>
-        ensures* after { sem 𝓛 (Rests the_row self.entry (λ after. LendsNext self.old rest.old.now result after rest.new.now)) }
-        ensures uses { IfOk result (λ found. MatchOption found (rest.new.now ≡ []) (λ _. length rest.new.now < length rest.old.now)) }
+        ensures* after { sem 𝓛 (Rests the_row self.entry
+            (λ after. LendsNext self.old rest.old.now result after rest.new.now)) }
+        ensures uses { IfOk result
+            (λ found. MatchOption found (rest.new.now ≡
+            []) (λ _. length rest.new.now < length rest.old.now)) }
     {
         framing_laws();
         match self.parts.state.fault {

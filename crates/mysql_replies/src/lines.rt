@@ -75,7 +75,9 @@ fn terminator_of<'a>(
     capabilities: CapabilityFlags,
     buf: &mut ParseBuf<'a>,
 ) -> Result<OkPacket<'a>, WireError>
-    ensures { TellsPart ok_packet_view buf.new.0.now result (if deprecate_eof capabilities.0 then result_set_terminator_at capabilities.0 buf.old.0.now else old_eof_at buf.old.0.now) }
+    ensures { TellsPart ok_packet_view buf.new.0.now result
+        (if deprecate_eof capabilities.0 then result_set_terminator_at capabilities.0 buf.old.0.now
+        else old_eof_at buf.old.0.now) }
 {
     if deprecates_eof(capabilities) {
         let read: OkPacketDeserializer<ResultSetTerminator> = buf.parse(alloc, capabilities)?;

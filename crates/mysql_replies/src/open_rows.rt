@@ -1,7 +1,8 @@
 //! The rows so far of a result set that goes on.
 
-ghost use Rattle.std.specs.Prelude.{◌≡◌, ◌==◌, ◌<◌, [], ◌∷◌, ◌++◌, None, IfErr, IfSome, OnErr, OnOk, length, option_map};
-ghost use Rattle.mysql_lent_rows.specs.LentRows.{lent_view, row_of};
+ghost use Rattle.std.specs.Prelude.{◌≡◌, ◌==◌, ◌<◌, [], ◌∷◌, ◌++◌, None, IfErr, IfSome, OnErr, OnOk, length};
+ghost use Rattle.std.specs.Prelude.{option_map};
+ghost use Rattle.mysql_row_refs.specs.LentRows.{lent_view, row_of};
 ghost use Rattle.mysql_ok_packets.specs.Views.{ok_packet_view};
 ghost use Rattle.mysql_rows.specs.Rows.{Row as RowOf};
 ghost use Rattle.mysql_rows.specs.Views.{row_view, shared_columns};
@@ -13,16 +14,16 @@ ghost use Rattle.mysql_replies.specs.Views.{Refuses, outcome_view};
 use crate::fault::ReplyFault;
 use crate::results::ReplyResult;
 use mysql_columns::Column;
-use mysql_lent_rows::{LentRow, RowFormat, RowLender};
 use mysql_packets::OkPacket;
+use mysql_row_refs::{LentRow, RowFormat, RowLender};
 use mysql_rows::Row;
 use std::alloc::{AllocError, Global};
 use std::marker::Model;
 use std::mem;
 use std::rc::RcSlice;
 
-/// Rows under their columns, and a second share of these: with it the rows are handed out without a request for memory. Rows that
-/// are lent aren't among them.
+/// Rows under their columns, and a second share of these: with it the rows are handed out without a
+/// request for memory. Rows that are lent aren't among them.
 #[derive(Drop)]
 pub struct OpenRows {
     columns: RcSlice<Column>,
@@ -43,9 +44,15 @@ impl Model for OpenRows {
     ghost use Rattle.mysql_rows.specs.Views.{shared_columns};
     ghost use Rattle.mysql_replies.specs.OpenRows.{rows_of, HasLender, HasShare};
 
-    ghost view = { λ these. record { columns = shared_columns these.columns; rows = rows_of these.rows.items; lender = these.lender } };
+    ghost view = { λ these. record {
+      columns = shared_columns these.columns;
+      rows =
+          rows_of these.rows.items;
+      lender = these.lender;
+    } };
 
-    ghost invariant = { λ these. HasShare these.columns these.share these.rows.items × HasLender these.columns these.format these.lender };
+    ghost invariant = { λ these. HasShare these.columns these.share these.rows.items ×
+        HasLender these.columns these.format these.lender };
 }
 
 impl OpenRows {
@@ -119,8 +126,8 @@ impl OpenRows {
         self.make_lender(alloc, format)
     }
 
-    /// Reads the places of the cells of the row that a payload is, in this format; the row can be lent then, and isn't added. Memory
-    /// is asked for at the first row alone.
+    /// Reads the places of the cells of the row that a payload is, in this format; the row can be
+    /// lent then, and isn't added. Memory is asked for at the first row alone.
     #[inline(always)]
     pub fn read(
         &mut self,

@@ -1,14 +1,17 @@
 //! A reply, read from the bytes of a connection as they come.
 
-ghost use Rattle.std.specs.Prelude.{◌≡◌, ◌≢◌, ◌⊎◌, ◌∷◌, ◌+◌, ◌++◌, [], None, Some, Ok, Err, OnOk, IfErr, IfSome, false, flat_map, length, map, ◌<◌, ◌≤◌, ℕ, List};
+ghost use Rattle.std.specs.Prelude.{◌≡◌, ◌≢◌, ◌⊎◌, ◌∷◌, ◌+◌, ◌++◌, [], None, Some, Ok, Err, OnOk, IfErr, IfSome, false};
+ghost use Rattle.std.specs.Prelude.{flat_map, length, map, ◌<◌, ◌≤◌, ℕ, List};
 ghost use Rattle.std.specs.Bool.{OnFalse, OnTrue};
 ghost use Rattle.mysql_wire.specs.Incoming.{ReadsOn, bytes_kept, codec_by};
 ghost use Rattle.mysql_replies.specs.Steps.{IsAwaiting};
 ghost use Rattle.mysql_replies.specs.declared.fault.ReplyFault.TheVariants.{Memory};
 ghost use Rattle.mysql_replies.specs.Bytes.{IsReplyOf, IsShortReplyOf};
-ghost use Rattle.mysql_replies.specs.Holding.{fresh_reader, fault_of, ReaderDecides, ReaderGoesOn, HasFoundNoFault, TakesAll, StandsShort};
+ghost use Rattle.mysql_replies.specs.Holding.{fresh_reader, fault_of, ReaderDecides, ReaderGoesOn, HasFoundNoFault};
+ghost use Rattle.mysql_replies.specs.Holding.{TakesAll, StandsShort};
 ghost use Rattle.mysql_replies.specs.Standings.{reader_state, fault_named, IsReading, IsPaused, UnlessMemory, OnMemory};
-ghost use Rattle.mysql_replies.specs.Taking.{ListsResults, ListsRows, results_in, without_results, reports_in, without_reports};
+ghost use Rattle.mysql_replies.specs.Taking.{ListsResults, ListsRows, results_in, without_results, reports_in};
+ghost use Rattle.mysql_replies.specs.Taking.{without_reports};
 ghost use Rattle.mysql_replies.specs.Views.{answer_view, awaited_view, outcome_views, report_views, row_views};
 ghost use Rattle.mysql_replies.specs.Standings as states;
 
@@ -48,11 +51,20 @@ fn take_payloads(
     requires going { state.old.fault ≡ None }
     requires paused { IsPaused state.old (codec_by packets.old) packets.old.bytes [] }
     ensures reading { IsReading state.new }
-    ensures paused { OnOk result ((state.new.fault ≡ None) × IsPaused state.new (codec_by packets.new) packets.new.bytes []) }
+    ensures paused { OnOk result ((state.new.fault ≡ None) ×
+        IsPaused state.new (codec_by packets.new) packets.new.bytes []) }
     ensures fault { IfErr result (λ fault. state.new.fault ≡ Some fault) }
-    ensures took { OnOk result (TakesAll (reader_state state.old packets.old) ((reader_state state.old packets.old).bytes ++ piece.now) (reader_state state.new packets.new)) }
-    ensures goes_on { UnlessMemory result (ReaderGoesOn (reader_state state.old packets.old) piece.now (reader_state state.new packets.new)) }
-    ensures short { OnMemory result (StandsShort (reader_state state.old packets.old) ((reader_state state.old packets.old).bytes ++ piece.now) (reader_state state.new packets.new)) }
+    ensures took { OnOk result
+        (TakesAll (reader_state state.old packets.old)
+        ((reader_state state.old packets.old).bytes ++
+        piece.now) (reader_state state.new packets.new)) }
+    ensures goes_on { UnlessMemory result
+        (ReaderGoesOn (reader_state state.old packets.old) piece.now
+        (reader_state state.new packets.new)) }
+    ensures short { OnMemory result
+        (StandsShort (reader_state state.old packets.old)
+        ((reader_state state.old packets.old).bytes ++
+        piece.now) (reader_state state.new packets.new)) }
 {
     framing_laws();
     let mut rest = piece;
@@ -88,7 +100,8 @@ fn take_payloads(
 fn took_within(state: &ReplyState, packets: &mut PacketReader, piece: &[u8]) -> bool
     ensures awaiting { OnTrue result (IsAwaiting (awaited_view state.now.awaited)) }
     ensures waits { OnTrue result (ReadsOn packets.old piece.now false packets.new []) }
-    ensures used { OnTrue result (packets.new ≡ record packets.old { bytes = packets.old.bytes ++ piece.now; payload = [] }) }
+    ensures used { OnTrue result (packets.new ≡
+        record packets.old { bytes = packets.old.bytes ++ piece.now; payload = [] }) }
     ensures kept { OnFalse result (packets.new ≡ packets.old) }
 {
     if state.is_over() {
@@ -109,11 +122,20 @@ fn take_packets(
     requires going { state.old.fault ≡ None }
     requires paused { IsPaused state.old (codec_by packets.old) packets.old.bytes [] }
     ensures reading { IsReading state.new }
-    ensures paused { OnOk result ((state.new.fault ≡ None) × IsPaused state.new (codec_by packets.new) packets.new.bytes []) }
+    ensures paused { OnOk result ((state.new.fault ≡ None) ×
+        IsPaused state.new (codec_by packets.new) packets.new.bytes []) }
     ensures fault { IfErr result (λ fault. state.new.fault ≡ Some fault) }
-    ensures took { OnOk result (TakesAll (reader_state state.old packets.old) ((reader_state state.old packets.old).bytes ++ piece.now) (reader_state state.new packets.new)) }
-    ensures goes_on { UnlessMemory result (ReaderGoesOn (reader_state state.old packets.old) piece.now (reader_state state.new packets.new)) }
-    ensures short { OnMemory result (StandsShort (reader_state state.old packets.old) ((reader_state state.old packets.old).bytes ++ piece.now) (reader_state state.new packets.new)) }
+    ensures took { OnOk result
+        (TakesAll (reader_state state.old packets.old)
+        ((reader_state state.old packets.old).bytes ++
+        piece.now) (reader_state state.new packets.new)) }
+    ensures goes_on { UnlessMemory result
+        (ReaderGoesOn (reader_state state.old packets.old) piece.now
+        (reader_state state.new packets.new)) }
+    ensures short { OnMemory result
+        (StandsShort (reader_state state.old packets.old)
+        ((reader_state state.old packets.old).bytes ++
+        piece.now) (reader_state state.new packets.new)) }
 {
     framing_laws();
     if took_within(state, packets, piece) {
@@ -137,11 +159,20 @@ impl ReaderParts {
         requires going { self.old.state.fault ≡ None }
         requires paused { IsPaused self.old.state (codec_by self.old.packets) self.old.packets.bytes [] }
         ensures reading { IsReading self.new.state }
-        ensures paused { OnOk result ((self.new.state.fault ≡ None) × IsPaused self.new.state (codec_by self.new.packets) self.new.packets.bytes []) }
+        ensures paused { OnOk result ((self.new.state.fault ≡ None) ×
+            IsPaused self.new.state (codec_by self.new.packets) self.new.packets.bytes []) }
         ensures fault { IfErr result (λ fault. self.new.state.fault ≡ Some fault) }
-        ensures took { OnOk result (TakesAll (reader_state self.old.state self.old.packets) ((reader_state self.old.state self.old.packets).bytes ++ piece.now) (reader_state self.new.state self.new.packets)) }
-        ensures goes_on { UnlessMemory result (ReaderGoesOn (reader_state self.old.state self.old.packets) piece.now (reader_state self.new.state self.new.packets)) }
-        ensures short { OnMemory result (StandsShort (reader_state self.old.state self.old.packets) ((reader_state self.old.state self.old.packets).bytes ++ piece.now) (reader_state self.new.state self.new.packets)) }
+        ensures took { OnOk result
+            (TakesAll (reader_state self.old.state self.old.packets)
+            ((reader_state self.old.state self.old.packets).bytes ++
+            piece.now) (reader_state self.new.state self.new.packets)) }
+        ensures goes_on { UnlessMemory result
+            (ReaderGoesOn (reader_state self.old.state self.old.packets) piece.now
+            (reader_state self.new.state self.new.packets)) }
+        ensures short { OnMemory result
+            (StandsShort (reader_state self.old.state self.old.packets)
+            ((reader_state self.old.state self.old.packets).bytes ++
+            piece.now) (reader_state self.new.state self.new.packets)) }
     {
         take_packets(alloc, &mut self.state, &mut self.packets, piece)
     }
@@ -172,16 +203,17 @@ impl Model for ReplyReader {
 
     ghost view = { λ reader. reader_state reader.parts.state reader.parts.packets };
 
-    ghost invariant = { λ reader. IsReceiving reader.parts.state (codec_by reader.parts.packets) reader.parts.packets.bytes [] };
+    ghost invariant = { λ reader. IsReceiving reader.parts.state (codec_by reader.parts.packets)
+        reader.parts.packets.bytes [] };
 }
 
 impl ReplyReader {
-    /// A reader of the reply to a command of this kind, of which nothing came yet. The reply's first chunk has the number
-    /// `first_id`.
+    /// A reader of the reply to a command of this kind, of which nothing came yet. The reply's
+    /// first chunk has the number `first_id`.
     ///
-    /// The limit is the `max_allowed_packet` of the side that the packets go to, and at least 4. Calls that write count 4
-    /// bytes for a packet's header in it: a payload has at most `limit - 4` bytes. Calls that read count the payload alone: it
-    /// has at most `limit` bytes.
+    /// The limit is the `max_allowed_packet` of the side that the packets go to, and at least 4.
+    /// Calls that write count 4 bytes for a packet's header in it: a payload has at most `limit -
+    /// 4` bytes. Calls that read count the payload alone: it has at most `limit` bytes.
     pub fn new(
         alloc: Global,
         kind: ReplyKind,
@@ -202,10 +234,11 @@ impl ReplyReader {
         }
     }
 
-    /// Reads the next bytes. Answers the fault of the first payload that has no place, or of the bytes after the payloads, as
-    /// soon as no further bytes could mend it; from then on it answers that fault and changes nothing. Where memory ran out it
-    /// answers Memory from then on, and what was read of the payloads before stays: each of them has its place in a reply that
-    /// goes on behind them.
+    /// Reads the next bytes. Answers the fault of the first payload that has no place, or of the
+    /// bytes after the payloads, as soon as no further bytes could mend it; from then on it answers
+    /// that fault and changes nothing. Where memory ran out it answers Memory from then on, and
+    /// what was read of the payloads before stays: each of them has its place in a reply that goes
+    /// on behind them.
     pub fn feed(&mut self, piece: &[u8]) -> Result<(), ReplyFault>
         ensures stays { IfSome (fault_of self.old.standing) (λ fault. (result ≡ Err fault) × (self.new ≡ self.old)) }
         ensures going { OnOk result (fault_of self.new.standing ≡ None) }
@@ -213,7 +246,8 @@ impl ReplyReader {
         ensures fault { IfErr result (λ fault. fault_of self.new.standing ≡ Some fault) }
         ensures takes { OnOk result (TakesAll self.old (self.old.bytes ++ piece.now) self.new) }
         ensures goes_on { result ≢ Err Memory → ReaderGoesOn self.old piece.now self.new }
-        ensures short { fault_of self.old.standing ≡ None → result ≡ Err Memory → StandsShort self.old (self.old.bytes ++ piece.now) self.new }
+        ensures short { fault_of self.old.standing ≡ None → result ≡ Err Memory →
+            StandsShort self.old (self.old.bytes ++ piece.now) self.new }
     {
         framing_laws();
         match self.parts.state.fault {
@@ -223,10 +257,11 @@ impl ReplyReader {
         self.parts.take_packets(self.alloc, piece)
     }
 
-    /// Hands out the results so far: those that stand whole, and of a result set that goes on its rows so far, if there are any,
-    /// as [`ReplyResult::Rows`] without a terminator. Its later rows are listed anew, under the same columns: a result set that
-    /// was handed out in parts is theirs joined, all but the last without a terminator. Where a fault was met, or memory ran
-    /// out, all that is listed is handed out. Takes no memory.
+    /// Hands out the results so far: those that stand whole, and of a result set that goes on its
+    /// rows so far, if there are any, as [`ReplyResult::Rows`] without a terminator. Its later rows
+    /// are listed anew, under the same columns: a result set that was handed out in parts is theirs
+    /// joined, all but the last without a terminator. Where a fault was met, or memory ran out, all
+    /// that is listed is handed out. Takes no memory.
     ///
     /// MySQL: Client/Server Protocol, "COM_QUERY Response" and "Text Resultset".
     pub fn take_results(&mut self) -> Vec<ReplyResult>
@@ -267,9 +302,9 @@ impl ReplyReader {
         self.parts.state.progress.as_slice()
     }
 
-    /// How many bytes are held of the packet that isn't whole: those that came of it, but for the headers of its chunks, of which
-    /// only one that doesn't stand whole is held. Where no fault was met they are no more than the limit and three bytes of a
-    /// header. Takes no memory.
+    /// How many bytes are held of the packet that isn't whole: those that came of it, but for the
+    /// headers of its chunks, of which only one that doesn't stand whole is held. Where no fault
+    /// was met they are no more than the limit and three bytes of a header. Takes no memory.
     ///
     /// MySQL: Client/Server Protocol, "MySQL Packets".
     pub fn kept(&self) -> usize
@@ -287,13 +322,13 @@ impl ReplyReader {
     }
 }
 
-/// The reply of these pieces' bytes, one after another: the answer of a [`ReplyReader`] that is fed them. Where memory ran
-/// out over a piece its end is Fault(p, Memory), and it has the results and the reports of the first p payloads: at least
-/// of those that stand whole in the pieces before it.
+/// The reply of these pieces' bytes, one after another: the answer of a [`ReplyReader`] that is fed
+/// them. Where memory ran out over a piece its end is Fault(p, Memory), and it has the results and
+/// the reports of the first p payloads: at least of those that stand whole in the pieces before it.
 ///
-/// The limit is the `max_allowed_packet` of the side that the packets go to, and at least 4. Calls that write count 4 bytes
-/// for a packet's header in it: a payload has at most `limit - 4` bytes. Calls that read count the payload alone: it has at most
-/// `limit` bytes.
+/// The limit is the `max_allowed_packet` of the side that the packets go to, and at least 4. Calls
+/// that write count 4 bytes for a packet's header in it: a payload has at most `limit - 4` bytes.
+/// Calls that read count the payload alone: it has at most `limit` bytes.
 ///
 /// MySQL: Client/Server Protocol, "COM_QUERY Response", "Text Resultset", "Binary Protocol Resultset" and
 /// "COM_STMT_PREPARE Response".
@@ -305,8 +340,10 @@ pub fn read_reply(
     limit: usize,
     pieces: &[&[u8]],
 ) -> Reply
-    ensures { IsReplyOf (record { kind = kind; capabilities = capabilities }) first_id limit (flat_map (λ piece. piece.now) pieces.now) (answer_view result)
-        ⊎ IsShortReplyOf (record { kind = kind; capabilities = capabilities }) first_id limit (map (λ piece. piece.now) pieces.now) (answer_view result) }
+    ensures { IsReplyOf (record { kind = kind; capabilities = capabilities }) first_id limit
+        (flat_map (λ piece. piece.now) pieces.now) (answer_view result)
+        ⊎ IsShortReplyOf (record { kind = kind; capabilities = capabilities }) first_id limit
+        (map (λ piece. piece.now) pieces.now) (answer_view result) }
 {
     let mut reader = ReplyReader::new(alloc, kind, capabilities, first_id, limit);
     // After a fault the reader takes no notice of further pieces.

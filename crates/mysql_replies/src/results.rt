@@ -14,8 +14,9 @@ use std::rc::RcSlice;
 pub enum ReplyResult {
     /// A command that gives no rows was done.
     Ok(OkPacket<'static>),
-    /// Rows under their columns, which they share, and the packet that ended them. Without it they ended by an error, which is the next
-    /// result, or haven't ended; those that were handed out before their end go on in the next result.
+    /// Rows under their columns, which they share, and the packet that ended them. Without it they
+    /// ended by an error, which is the next result, or haven't ended; those that were handed out
+    /// before their end go on in the next result.
     Rows {
         columns: RcSlice<Column>,
         rows: Vec<Row>,

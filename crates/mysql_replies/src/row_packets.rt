@@ -11,7 +11,7 @@ ghost use Rattle.mysql_replies.specs.Views.{Gives};
 use crate::context::ReplyKind;
 use crate::fault::ReplyFault;
 use mysql_columns::Column;
-use mysql_null_bitmap::ServerSide;
+use mysql_field_lists::ServerSide;
 use mysql_rows::{Row, RowDeserializer};
 use mysql_wire::{Binary, ConstU8, ParseBuf, ParseExt, Text, WireError};
 use std::alloc::Global;
@@ -28,7 +28,9 @@ fn binary_row_of(
     columns: RcSlice<Column>,
     buf: &mut ParseBuf,
 ) -> Result<Row, WireError>
-    ensures { GivesPart row_view buf.new.0.now result (as_row (shared_columns columns) (binary_resultset_row_at (shared_columns columns) buf.old.0.now)) }
+    ensures { GivesPart row_view buf.new.0.now result
+        (as_row (shared_columns columns)
+        (binary_resultset_row_at (shared_columns columns) buf.old.0.now)) }
 {
     let mut header = *buf;
     header.parse::<ConstU8<InvalidRowHeader, 0>>(alloc, ())?;
@@ -42,7 +44,8 @@ fn text_row_of(
     columns: RcSlice<Column>,
     buf: &mut ParseBuf,
 ) -> Result<Row, WireError>
-    ensures { GivesPart row_view buf.new.0.now result (as_row (shared_columns columns) (text_row_at (shared_columns columns) buf.old.0.now)) }
+    ensures { GivesPart row_view buf.new.0.now result
+        (as_row (shared_columns columns) (text_row_at (shared_columns columns) buf.old.0.now)) }
 {
     let row: RowDeserializer<ServerSide, Text> = buf.parse(alloc, columns)?;
     Ok(row.into_inner())
@@ -55,7 +58,10 @@ fn row_of(
     columns: RcSlice<Column>,
     buf: &mut ParseBuf,
 ) -> Result<Row, WireError>
-    ensures { GivesPart row_view buf.new.0.now result (as_row (shared_columns columns) (if is_binary kind then binary_resultset_row_at (shared_columns columns) buf.old.0.now else text_row_at (shared_columns columns) buf.old.0.now)) }
+    ensures { GivesPart row_view buf.new.0.now result
+        (as_row (shared_columns columns)
+        (if is_binary kind then binary_resultset_row_at (shared_columns columns) buf.old.0.now else
+        text_row_at (shared_columns columns) buf.old.0.now)) }
 {
     match kind {
         ReplyKind::Binary => binary_row_of(alloc, columns, buf),
@@ -70,7 +76,10 @@ pub fn row_packet(
     columns: &RcSlice<Column>,
     payload: &[u8],
 ) -> Result<Row, ReplyFault>
-    ensures { Gives row_view result (whole_or_fault BadRow (as_row (shared_columns columns.now) (if is_binary kind then binary_resultset_row_at (shared_columns columns.now) payload.now else text_row_at (shared_columns columns.now) payload.now))) }
+    ensures { Gives row_view result
+        (whole_or_fault BadRow (as_row (shared_columns columns.now)
+        (if is_binary kind then binary_resultset_row_at (shared_columns columns.now) payload.now
+        else text_row_at (shared_columns columns.now) payload.now))) }
 {
     let Ok(columns) = columns.clone() else {
         return Err(ReplyFault::Memory);

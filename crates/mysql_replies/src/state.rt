@@ -1,6 +1,7 @@
 //! A reply, read payload by payload.
 
-ghost use Rattle.std.specs.Prelude.{◌≡◌, ◌||◌, not, ℕ, ◌<◌, ◌+◌, ◌-◌, ◌^◌, List, [], ◌∷◌, ◌++◌, true, false, None, Some, vec_len, vec_capacity, ◌≤◌, ◌↔◌, IsTrue, length, map, OnOk, IfErr};
+ghost use Rattle.std.specs.Prelude.{◌≡◌, ◌||◌, not, ℕ, ◌<◌, ◌+◌, ◌-◌, ◌^◌, List, [], ◌∷◌, ◌++◌, true, false, None};
+ghost use Rattle.std.specs.Prelude.{Some, vec_len, vec_capacity, ◌≤◌, ◌↔◌, IsTrue, length, map, OnOk, IfErr};
 ghost use Rattle.mysql_replies.specs.Grammar.{progress_obsolete};
 ghost use Rattle.mysql_packets.specs.Packets.{progress_report_at};
 ghost use Rattle.mysql_packets.specs.Views.{progress_report_view};
@@ -10,14 +11,15 @@ ghost use Rattle.mysql_replies.specs.Grammar.{or_fault, has_report_form};
 ghost use Rattle.mysql_replies.specs.Reply.{fresh};
 ghost use Rattle.mysql_replies.specs.Reply as reply;
 ghost use Rattle.mysql_replies.specs.OpenRows.{rows_of};
-ghost use Rattle.mysql_lent_rows.specs.LentRows.{lent_view};
+ghost use Rattle.mysql_row_refs.specs.LentRows.{lent_view};
 ghost use Rattle.mysql_rows.specs.Rows.{Row as RowOf};
 ghost use Rattle.mysql_replies.specs.Lending.{rows_listed};
 ghost use Rattle.mysql_replies.specs.LentSteps.{IsNoRow, LendStep, LendsAwaited, format_of, passed_as};
 ghost use Rattle.mysql_replies.specs.Taking.{part_of, results_in, without_results, rows_awaited};
 ghost use Rattle.mysql_replies.specs.Views.{Gives, awaited_view, outcome_views, end_view, answer_view};
 ghost use Rattle.mysql_replies.specs.Steps.{IsSettled, IsAwaiting, listed_views, listed_of, reads_as_row};
-ghost use Rattle.mysql_replies.specs.Standings.{standing_of, UnlessMemory, OnMemory, IsReading, IsShortOf, StateGoesOn, NumberedStateGoesOn, HasRoom, HasSpare, end_at, answer_of};
+ghost use Rattle.mysql_replies.specs.Standings.{standing_of, UnlessMemory, OnMemory, IsReading, IsShortOf, StateGoesOn};
+ghost use Rattle.mysql_replies.specs.Standings.{NumberedStateGoesOn, HasRoom, HasSpare, end_at, answer_of};
 
 use crate::awaited::{Awaited, Listed, Stepped};
 use crate::context::{Context, ReplyKind};
@@ -29,8 +31,8 @@ use crate::results::{Reply, ReplyEnd, ReplyResult};
 use crate::steps::{row_step, step};
 use bitflags::Flags;
 use mysql_const::CapabilityFlags;
-use mysql_lent_rows::{LentRow, RowFormat};
 use mysql_packets::ProgressReport;
+use mysql_row_refs::{LentRow, RowFormat};
 use mysql_rows::Row;
 use mysql_wire::{ParseBuf, ParseExt, WireError};
 use std::alloc::Global;
@@ -190,7 +192,8 @@ impl ReplyState {
     /// Adds results to the list.
     fn list(&mut self, listed: Listed)
         requires { vec_len self.old.results + 3 ≤ vec_capacity self.old.results }
-        ensures results { outcome_views self.new.results.items ≡ outcome_views self.old.results.items ++ listed_views listed }
+        ensures results { outcome_views self.new.results.items ≡
+            outcome_views self.old.results.items ++ listed_views listed }
         ensures rest { self.new ≡ record self.old { results = self.new.results } }
         ensures room { vec_len self.new.results < vec_capacity self.new.results }
     {
@@ -405,7 +408,8 @@ fn closed(mut results: Vec<ReplyResult>, awaited: Awaited) -> Vec<ReplyResult>
     }
 }
 
-/// Hands out the results and the rows so far of a result set that goes on, if there are any. The other list takes their place.
+/// Hands out the results and the rows so far of a result set that goes on, if there are any. The
+/// other list takes their place.
 fn take_open(
     alloc: Global,
     results: &mut Vec<ReplyResult>,
@@ -415,7 +419,8 @@ fn take_open(
     requires room { vec_len results.old < vec_capacity results.old }
     requires spare { HasSpare these.old results.old spare.old }
     requires empty { spare.old.items ≡ [] }
-    ensures taken { outcome_views result.items ≡ outcome_views results.old.items ++ part_of (reply.Rows these.old.columns these.old.rows) }
+    ensures taken { outcome_views result.items ≡ outcome_views results.old.items ++
+        part_of (reply.Rows these.old.columns these.old.rows) }
     ensures rest { these.new ≡ record these.old { rows = [] } }
     ensures none { results.new.items ≡ [] }
     ensures room { vec_len results.new < vec_capacity results.new }
@@ -445,7 +450,8 @@ fn end_after(awaited: &Awaited) -> ReplyEnd
 }
 
 impl ReplyState {
-    /// Hands out what is listed. The rows of a result set that goes on are listed anew behind it; where a fault was met nothing is.
+    /// Hands out what is listed. The rows of a result set that goes on are listed anew behind it;
+    /// where a fault was met nothing is.
     pub fn take_results(&mut self, alloc: Global) -> Vec<ReplyResult>
         requires reading { IsReading self.old }
         ensures reading { IsReading self.new }
@@ -453,7 +459,8 @@ impl ReplyState {
         ensures left { standing_of self.new ≡ without_results (standing_of self.old) }
         ensures fault { self.new.fault ≡ self.old.fault }
         ensures context { self.new.context ≡ self.old.context }
-        ensures over { awaited_view self.new.awaited ≡ reply.Nothing → self.new.fault ≡ None → awaited_view self.old.awaited ≡ reply.Nothing }
+        ensures over { awaited_view self.new.awaited ≡ reply.Nothing → self.new.fault ≡ None →
+            awaited_view self.old.awaited ≡ reply.Nothing }
     {
         if self.fault.is_some() {
             let awaited = mem::replace(&mut self.awaited, Awaited::Nothing);

@@ -1,13 +1,16 @@
 //! What one more payload leads to.
 
-ghost use Rattle.std.specs.Prelude.{◌≡◌, ℕ, ◌<◌, List, map, length, Ok, Err, true, false, [], ◌∷◌, ◌++◌, if◌then◌else◌, ◌==◌, ◌||◌, ◌&&◌};
+ghost use Rattle.std.specs.Prelude.{◌≡◌, ℕ, ◌<◌, List, map, length, Ok, Err, true, false, [], ◌∷◌, ◌++◌, if◌then◌else◌};
+ghost use Rattle.std.specs.Prelude.{◌==◌, ◌||◌, ◌&&◌};
 ghost use Rattle.mysql_replies.specs.Grammar.{deprecate_eof};
 ghost use Rattle.mysql_ok_packets.specs.OkPackets.{more_results_exist};
 ghost use Rattle.mysql_packets.specs.Views.{prepare_ok_view};
 ghost use Rattle.mysql_replies.specs.Grammar.{has_report_form, one_result, rows};
 ghost use Rattle.mysql_replies.specs.Reply as reply;
 ghost use Rattle.mysql_replies.specs.Views.{awaited_view, column_views};
-ghost use Rattle.mysql_replies.specs.Steps.{IsStep, IsMove, IsSettled, IsGroupSettled, IsAwaiting, Leads, Moves, OfParameters, reads_as_row, row_stepped, group_view, group_awaited, after_group};
+ghost use Rattle.mysql_replies.specs.Steps.{IsStep, IsMove, IsSettled, IsGroupSettled, IsAwaiting, Leads, Moves};
+ghost use Rattle.mysql_replies.specs.Steps.{OfParameters, reads_as_row, row_stepped, group_view, group_awaited};
+ghost use Rattle.mysql_replies.specs.Steps.{after_group};
 
 use crate::awaited::{Awaited, ColumnGroup, Listed, Stepped};
 use crate::context::Context;
@@ -58,7 +61,8 @@ fn after_parameters(
     stmt: StmtPacket,
     params: Vec<Column>,
 ) -> Stepped
-    ensures { IsMove context (λ z. after_group context (OfParameters (prepare_ok_view stmt)) (column_views params.items) z) result }
+    ensures { IsMove context (λ z. after_group context (OfParameters (prepare_ok_view stmt))
+        (column_views params.items) z) result }
 {
     let left = stmt.num_columns();
     let columns = Vec::new(alloc);
@@ -112,7 +116,8 @@ fn columns_awaited(
     left: u16,
     these: Vec<Column>,
 ) -> Stepped
-    ensures { IsMove context (λ z. reply.rest_of context (group_awaited (group_view group) left (column_views these.items)) z) result }
+    ensures { IsMove context (λ z. reply.rest_of context
+        (group_awaited (group_view group) left (column_views these.items)) z) result }
 {
     if left > 0 {
         Stepped::Moved(Listed::None, awaited_of_group(group, left, these))

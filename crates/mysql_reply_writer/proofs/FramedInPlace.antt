@@ -4,7 +4,7 @@ use Rattle.std.proofs.lemmas.Bool.{le-leb, lt-ltb}
 use Rattle.std.proofs.lemmas.List.{drop_at, take_all, take_at}
 use Rattle.std.specs.List.{flat_map, range_with_len}
 use Rattle.mysql_wire.specs.Framing.{chunk, chunk_count, chunks, framing, max_payload_len, number_after, slice}
-use Rattle.mysql_reply_packets.specs.Refusals.{too_large}
+use Rattle.mysql_reply_rules.specs.Refusals.{too_large}
 use Rattle.mysql_reply_writer.specs.Puts.{Place, Puts}
 
 one : (payload : List ℕ) → length payload < max_payload_len → chunk_count payload ≡ 1

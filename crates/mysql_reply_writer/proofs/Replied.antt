@@ -8,10 +8,10 @@ use Rattle.mysql_replies.specs.Bytes.{IsReplyOf}
 use Rattle.mysql_replies.specs.Grammar.{Outcome}
 use Rattle.mysql_replies.specs.Manual.{EachFramingIsWhole, IsFramedReply}
 use Rattle.mysql_replies.specs.Reply.{Answer}
-use Rattle.mysql_reply_fronts.specs.Fronts.{EachFramedFrontIsUnfinished, EachFramedReplyIsWhole}
-use Rattle.mysql_reply_packets.specs.Refusals.{refusal_of}
-use Rattle.mysql_reply_packets.specs.declared.refusal.ReplyRefusal.{ReplyRefusal}
-use Rattle.mysql_reply_packets.specs.Written.{reports_read, results_read}
+use Rattle.mysql_reply_rules.specs.Fronts.{EachFramedFrontIsUnfinished, EachFramedReplyIsWhole}
+use Rattle.mysql_reply_rules.specs.Refusals.{refusal_of}
+use Rattle.mysql_reply_rules.specs.declared.refusal.ReplyRefusal.{ReplyRefusal}
+use Rattle.mysql_reply_rules.specs.Written.{reports_read, results_read}
 use Rattle.mysql_reply_writer.specs.Replies.{Replies, reply_stream, whole_answer}
 use Rattle.mysql_reply_writer.specs.Writer.{AppendsReply}
 

@@ -4,8 +4,8 @@ use Rattle.std.specs.Prelude.{◌≡◌, ℕ, List, ◌∷◌, ◌++◌, None}
 use Rattle.mysql_packets.specs.Packets.{ProgressReport}
 use Rattle.mysql_replies.specs.declared.context.Context.{Context}
 use Rattle.mysql_replies.specs.Grammar.{Outcome}
-use Rattle.mysql_reply_packets.specs.Refusals.{end_cause}
-use Rattle.mysql_reply_packets.specs.Written.{Step, reply_steps, reports_read, results_read}
+use Rattle.mysql_reply_rules.specs.Refusals.{end_cause}
+use Rattle.mysql_reply_rules.specs.Written.{Step, reply_steps, reports_read, results_read}
 use Rattle.mysql_reply_writer.specs.Writer.{AppendsReply, Writer, Wrote, fresh_writer}
 
 -- What was written call by call was written at once.
@@ -15,6 +15,9 @@ WritingsGoOn = (old now new : Writer) (xs ys : List Step) (before mid after : Li
 
 -- A writer that wrote the steps of some results, and may end there, has appended that reply.
 abbrev pub WholeWritingsAreReplies : Type 0
-WholeWritingsAreReplies = (c : Context) (first_id limit : ℕ) (first : Outcome) (others : List Outcome) (progress : List ProgressReport) (new : Writer) (before after : List ℕ) →
-    Wrote (fresh_writer c first_id limit) (reply_steps (first ∷ others) progress) new before after → end_cause new.standing ≡ None →
+WholeWritingsAreReplies =
+    (c : Context) (first_id limit : ℕ) (first : Outcome) (others : List Outcome)
+    (progress : List ProgressReport) (new : Writer) (before after : List ℕ) →
+    Wrote (fresh_writer c first_id limit) (reply_steps (first ∷ others) progress) new before after →
+    end_cause new.standing ≡ None →
     AppendsReply c first_id limit (results_read c (first ∷ others)) (reports_read c progress) before after

@@ -4,9 +4,9 @@ use Rattle.std.specs.Prelude.{◌≡◌, ℕ, ◌+◌, List, [], ◌∷◌, ◌+
 use Rattle.mysql_wire.specs.Framing.{number_after}
 use Rattle.mysql_wire.specs.Stream.{framings}
 use Rattle.mysql_wire.specs.Stream.Numbering.{OnFrom}
-use Rattle.mysql_reply_packets.specs.declared.refusal.ReplyRefusal.{ReplyRefusal}
-use Rattle.mysql_reply_packets.specs.declared.refusal.ReplyRefusal.TheVariants.{Memory}
-use Rattle.mysql_reply_packets.specs.Refusals.{too_large}
+use Rattle.mysql_reply_rules.specs.declared.refusal.ReplyRefusal.{ReplyRefusal}
+use Rattle.mysql_reply_rules.specs.declared.refusal.ReplyRefusal.TheVariants.{Memory}
+use Rattle.mysql_reply_rules.specs.Refusals.{too_large}
 
 -- The number of the next chunk, and how many payloads were written.
 pub record Place : Type 0 where
@@ -20,7 +20,12 @@ number_behind (payload ∷ payloads) number = number_behind payloads (number_aft
 
 -- The place behind payloads.
 abbrev pub place_behind : List (List ℕ) → Place → Place
-place_behind payloads place = record { number = number_behind payloads place.number; payloads = place.payloads + length payloads }
+place_behind payloads place =
+    record {
+      number = number_behind payloads place.number;
+      payloads =
+          place.payloads + length payloads;
+    }
 
 -- Payloads within this limit were put behind these bytes.
 pub record Puts (room : ℕ) (old : Place) (payloads : List (List ℕ)) (new : Place) (before after : List ℕ) : Type 0 where

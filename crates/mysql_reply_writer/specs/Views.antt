@@ -1,8 +1,8 @@
 -- What the code holds, as values.
 use Rattle.std.specs.Prelude.{ℕ, ◌+◌, Option, Some, None, option_map, Result, Ok, Err}
 use Rattle.mysql_rows.specs.Views.{shared_columns}
-use Rattle.mysql_reply_packets.specs.declared.refusal.ReplyRefusal.{ReplyRefusal}
-use Rattle.mysql_reply_packets.specs.Refusals as refusals
+use Rattle.mysql_reply_rules.specs.declared.refusal.ReplyRefusal.{ReplyRefusal}
+use Rattle.mysql_reply_rules.specs.Refusals as refusals
 use Rattle.mysql_reply_writer.specs.declared.packets.Packets.{Packets}
 use Rattle.mysql_reply_writer.specs.declared.writer.OpenRows.{OpenRows}
 use Rattle.mysql_reply_writer.specs.Puts.{Place}

@@ -8,10 +8,10 @@ use Rattle.mysql_packets.specs.Packets.{ProgressReport}
 use Rattle.mysql_replies.specs.declared.context.Context.{Context}
 use Rattle.mysql_replies.specs.Grammar.{Outcome}
 use Rattle.mysql_replies.specs.Manual.{IsFramedReply}
-use Rattle.mysql_reply_packets.specs.declared.refusal.ReplyRefusal.{ReplyRefusal}
-use Rattle.mysql_reply_packets.specs.Fits.{StepsFit}
-use Rattle.mysql_reply_packets.specs.Refusals.{OpenRows, Writing, after_steps, nothing_written, steps_cause}
-use Rattle.mysql_reply_packets.specs.Written.{Step, steps_payloads}
+use Rattle.mysql_reply_rules.specs.declared.refusal.ReplyRefusal.{ReplyRefusal}
+use Rattle.mysql_reply_rules.specs.Fits.{StepsFit}
+use Rattle.mysql_reply_rules.specs.Refusals.{OpenRows, Writing, after_steps, nothing_written, steps_cause}
+use Rattle.mysql_reply_rules.specs.Written.{Step, steps_payloads}
 use Rattle.mysql_reply_writer.specs.Puts.{IsCause, number_behind}
 
 -- A writer: where the writing of its reply stands, and the number of the next chunk.
@@ -32,8 +32,8 @@ columns_of (Some rows) = rows.columns
 abbrev pub payloads_of : Writer → List Step → List (List ℕ)
 payloads_of writer steps = steps_payloads writer.standing.context steps
 
--- Steps against which nothing speaks were written: the framings of their payloads are appended, numbered on, and the writer stands behind
--- them.
+-- Steps against which nothing speaks were written: the framings of their payloads are appended,
+-- numbered on, and the writer stands behind them.
 pub record Wrote (old : Writer) (steps : List Step) (new : Writer) (before after : List ℕ) : Type 0 where
   pub allowed : steps_cause old.standing steps ≡ None
   pub standing : new.standing ≡ after_steps old.standing steps
@@ -45,7 +45,8 @@ pub record Wrote (old : Writer) (steps : List Step) (new : Writer) (before after
 abbrev pub Refuses : Writer → List Step → ReplyRefusal → Type 0
 Refuses writer steps refusal = IsCause (steps_cause writer.standing steps) refusal
 
--- The framings of a whole reply were appended, with these results and these progress reports: bytes that reading answers so, and Whole.
+-- The framings of a whole reply were appended, with these results and these progress reports: bytes
+-- that reading answers so, and Whole.
 abbrev pub AppendsReply : Context → ℕ → ℕ → List Outcome → List ProgressReport → List ℕ → List ℕ → Type 0
 AppendsReply c first_id limit listed reports before after =
     (appended : List ℕ) × (after ≡ before ++ appended) × IsFramedReply c first_id limit appended listed reports

@@ -9,6 +9,6 @@ mod reply;
 mod whole;
 mod writer;
 
-pub use mysql_reply_packets::ReplyRefusal;
+pub use mysql_reply_rules::ReplyRefusal;
 pub use reply::write_reply;
 pub use writer::ReplyWriter;

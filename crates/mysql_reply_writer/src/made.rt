@@ -8,8 +8,9 @@ ghost use Rattle.mysql_packets.specs.Views.{err_packet_view, progress_report_vie
 ghost use Rattle.mysql_replies.specs.Grammar.{deprecate_eof, is_binary as is_binary_kind};
 ghost use Rattle.mysql_replies.specs.Views.{column_views};
 ghost use Rattle.mysql_ok_packets.specs.Written.{eof_bytes, ok_packet_bytes};
-ghost use Rattle.mysql_reply_packets.specs.Refusals.{cells_cause_at, form_cause};
-ghost use Rattle.mysql_reply_packets.specs.Written.{cells_payload, error_written, nothing_said, report_written, saying, state_written, terminator_payload, with_more as more_flag};
+ghost use Rattle.mysql_reply_rules.specs.Refusals.{cells_cause_at, form_cause};
+ghost use Rattle.mysql_reply_rules.specs.Written.{cells_payload, error_written, nothing_said, report_written, saying};
+ghost use Rattle.mysql_reply_rules.specs.Written.{state_written, terminator_payload, with_more as more_flag};
 ghost use Rattle.mysql_reply_writer.specs.Puts.{IsCause};
 ghost use Rattle.mysql_rows.specs.CellsWritten.{PutsRow};
 ghost use Rattle.mysql_rows.specs.Views.{row_view, shared_columns};
@@ -21,7 +22,7 @@ use mysql_const::{CapabilityFlags, StatusFlags};
 use mysql_ok_packets::{CommonOkPacket, OldEofPacket, ResultSetTerminator};
 use mysql_packets::{ErrPacket, OkPacket, ProgressReport, ServerError, SqlState};
 use mysql_replies::ReplyKind;
-use mysql_reply_packets::ReplyRefusal;
+use mysql_reply_rules::ReplyRefusal;
 use mysql_rows::{Row, RowRefusal};
 use std::alloc::AllocError;
 use std::borrow::CowSlice;
@@ -81,7 +82,8 @@ pub(crate) fn make_terminator(
     more: bool,
     ok: &OkPacket<'_>,
 ) -> Result<(), AllocError>
-    ensures { OnOk result (payload.new.items ≡ terminator_payload capabilities.0 (saying more (ok_packet_view ok.now))) }
+    ensures { OnOk result (payload.new.items ≡
+        terminator_payload capabilities.0 (saying more (ok_packet_view ok.now))) }
 {
     payload.clear();
     let status = with_more(more, ok.status_flags());
@@ -124,7 +126,8 @@ pub(crate) fn end_room(capabilities: CapabilityFlags, limit: usize) -> usize
 
 // The state that is written: for the protocol of version 4.1 a general error's where there is none, else none.
 fn state_of(states: bool, state: Option<&SqlState>) -> Option<SqlState>
-    ensures { option_map sql_state_view result ≡ state_written states (option_map (λ state. sql_state_view state.now) state.entry) }
+    ensures { option_map sql_state_view result ≡
+        state_written states (option_map (λ state. sql_state_view state.now) state.entry) }
 {
     if !states {
         return None;
@@ -171,7 +174,9 @@ fn put_cells(
     row: &Row,
 ) -> Result<(), RowRefusal>
     requires { length columns.now ≡ length (row_view row.now).cells }
-    ensures { PutsRow (form_cause binary (column_views columns.now) (row_view row.now).cells) (cells_payload binary (column_views columns.now) (row_view row.now).cells) out.old.items out.new.items result }
+    ensures { PutsRow (form_cause binary (column_views columns.now) (row_view row.now).cells)
+        (cells_payload binary (column_views columns.now) (row_view row.now).cells) out.old.items
+        out.new.items result }
 {
     if binary {
         row.write_binary(columns, out)
@@ -189,9 +194,14 @@ pub(crate) fn put_row_payload(
     rows: &OpenRows,
     row: &Row,
 ) -> Result<(), ReplyRefusal>
-    ensures ok { OnOk result ((out.new.items ≡ out.old.items ++ cells_payload binary (shared_columns rows.now.columns) (row_view row.now).cells) × (cells_cause_at binary result_number rows.now.count (shared_columns rows.now.columns) (row_view row.now).cells ≡ None)) }
+    ensures ok { OnOk result ((out.new.items ≡ out.old.items ++
+        cells_payload binary (shared_columns rows.now.columns) (row_view row.now).cells) ×
+        (cells_cause_at binary result_number rows.now.count (shared_columns rows.now.columns)
+        (row_view row.now).cells ≡ None)) }
     ensures kept { OnErr result (out.new.items ≡ out.old.items) }
-    ensures err { IfErr result (IsCause (cells_cause_at binary result_number rows.now.count (shared_columns rows.now.columns) (row_view row.now).cells)) }
+    ensures err { IfErr result
+        (IsCause (cells_cause_at binary result_number rows.now.count
+        (shared_columns rows.now.columns) (row_view row.now).cells)) }
 {
     if row.len() != rows.columns.as_slice().len() {
         return Err(ReplyRefusal::CellCount {

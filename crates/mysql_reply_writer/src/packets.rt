@@ -1,15 +1,15 @@
 //! Payloads, numbered and framed.
 
 ghost use Rattle.std.specs.Prelude.{◌≡◌, ◌++◌, ◌-◌, ◌≤◌, ◌∷◌, [], IfErr, None, OnErr, OnOk, drop, length, map, take};
-ghost use Rattle.mysql_reply_packets.specs.Refusals.{cells_cause_at, or_cause, too_large};
+ghost use Rattle.mysql_reply_rules.specs.Refusals.{cells_cause_at, or_cause, too_large};
 ghost use Rattle.mysql_rows.specs.Views.{row_view, shared_columns};
 ghost use Rattle.mysql_buf.specs.Writing.{lenenc_int};
 ghost use Rattle.mysql_packets.specs.Packets.{prepare_ok};
 ghost use Rattle.mysql_packets.specs.Views.{prepare_ok_view};
 ghost use Rattle.mysql_columns.specs.Columns.{column};
 ghost use Rattle.mysql_replies.specs.Views.{column_views};
-ghost use Rattle.mysql_reply_packets.specs.Fits.{CellsFit, ColumnsFit};
-ghost use Rattle.mysql_reply_packets.specs.Written.{cells_payload, eof_due, group_payloads, prepared_payloads};
+ghost use Rattle.mysql_reply_rules.specs.Fits.{CellsFit, ColumnsFit};
+ghost use Rattle.mysql_reply_rules.specs.Written.{cells_payload, eof_due, group_payloads, prepared_payloads};
 ghost use Rattle.mysql_wire.specs.Framing.{chunk, max_payload_len};
 ghost use Rattle.mysql_reply_writer.specs.Puts.{IsCause, Puts, RefusesPayloads};
 ghost use Rattle.mysql_reply_writer.specs.Views.{place_view};
@@ -21,9 +21,9 @@ use byteorder::{ByteOrder, LittleEndian};
 use mysql_buf::BufMutExt;
 use mysql_columns::Column;
 use mysql_const::{CapabilityFlags, MAX_PAYLOAD_LEN};
+use mysql_fields::MySerialize;
 use mysql_packets::StmtPacket;
-use mysql_raw::MySerialize;
-use mysql_reply_packets::ReplyRefusal;
+use mysql_reply_rules::ReplyRefusal;
 use mysql_rows::Row;
 use mysql_wire::packet_to_chunks;
 use std::alloc::Global;
@@ -70,7 +70,8 @@ impl Packets {
 
     /// Appends the payload that was made, which has at most so many bytes.
     pub(crate) fn put_made(&mut self, room: usize, out: &mut Vec<u8>) -> Result<(), ReplyRefusal>
-        ensures ok { OnOk result (Puts room (place_view self.old) (self.old.payload.items ∷ []) (place_view self.new) out.old.items out.new.items) }
+        ensures ok { OnOk result (Puts room (place_view self.old) (self.old.payload.items ∷
+            []) (place_view self.new) out.old.items out.new.items) }
         ensures err { IfErr result (RefusesPayloads room (place_view self.old) (self.old.payload.items ∷ [])) }
         ensures kept { OnErr result (out.new.items ≡ out.old.items) }
         ensures place { OnErr result (place_view self.new ≡ place_view self.old) }
@@ -90,7 +91,8 @@ impl Packets {
         payload: &P,
         out: &mut Vec<u8>,
     ) -> Result<(), ReplyRefusal>
-        ensures ok { OnOk result (Puts self.old.limit (place_view self.old) (P.written payload.now ∷ []) (place_view self.new) out.old.items out.new.items) }
+        ensures ok { OnOk result (Puts self.old.limit (place_view self.old) (P.written payload.now ∷
+            []) (place_view self.new) out.old.items out.new.items) }
         ensures err { IfErr result (RefusesPayloads self.old.limit (place_view self.old) (P.written payload.now ∷ [])) }
         ensures kept { OnErr result (out.new.items ≡ out.old.items) }
         ensures place { OnErr result (place_view self.new ≡ place_view self.old) }
@@ -101,13 +103,17 @@ impl Packets {
         self.put_made(self.limit, out)
     }
 
-    /// Frames the payload that stands from this place on, behind room for a header: it is taken into the buffer and appended again.
+    /// Frames the payload that stands from this place on, behind room for a header: it is taken
+    /// into the buffer and appended again.
     #[cold]
     fn frame_again(&mut self, start: usize, out: &mut Vec<u8>) -> Result<(), ReplyRefusal>
         requires behind { 4 ≤ start }
         requires inside { start ≤ length out.old.items }
-        ensures ok { OnOk result (Puts self.old.limit (place_view self.old) (drop start out.old.items ∷ []) (place_view self.new) (take (start - 4) out.old.items) out.new.items) }
-        ensures err { IfErr result (RefusesPayloads self.old.limit (place_view self.old) (drop start out.old.items ∷ [])) }
+        ensures ok { OnOk result (Puts self.old.limit (place_view self.old)
+            (drop start out.old.items ∷ []) (place_view self.new) (take (start - 4) out.old.items)
+            out.new.items) }
+        ensures err { IfErr result
+            (RefusesPayloads self.old.limit (place_view self.old) (drop start out.old.items ∷ [])) }
         ensures kept { OnErr result (take (start - 4) out.new.items ≡ take (start - 4) out.old.items) }
         ensures place { OnErr result (place_view self.new ≡ place_view self.old) }
         ensures limit { self.new.limit ≡ self.old.limit }
@@ -124,8 +130,11 @@ impl Packets {
     fn frame(&mut self, start: usize, out: &mut Vec<u8>) -> Result<(), ReplyRefusal>
         requires behind { 4 ≤ start }
         requires inside { start ≤ length out.old.items }
-        ensures ok { OnOk result (Puts self.old.limit (place_view self.old) (drop start out.old.items ∷ []) (place_view self.new) (take (start - 4) out.old.items) out.new.items) }
-        ensures err { IfErr result (RefusesPayloads self.old.limit (place_view self.old) (drop start out.old.items ∷ [])) }
+        ensures ok { OnOk result (Puts self.old.limit (place_view self.old)
+            (drop start out.old.items ∷ []) (place_view self.new) (take (start - 4) out.old.items)
+            out.new.items) }
+        ensures err { IfErr result
+            (RefusesPayloads self.old.limit (place_view self.old) (drop start out.old.items ∷ [])) }
         ensures kept { OnErr result (take (start - 4) out.new.items ≡ take (start - 4) out.old.items) }
         ensures place { OnErr result (place_view self.new ≡ place_view self.old) }
         ensures limit { self.new.limit ≡ self.old.limit }
@@ -153,9 +162,18 @@ impl Packets {
         row: &Row,
         out: &mut Vec<u8>,
     ) -> Result<(), ReplyRefusal>
-        ensures ok { OnOk result (Puts self.old.limit (place_view self.old) (cells_payload binary (shared_columns rows.now.columns) (row_view row.now).cells ∷ []) (place_view self.new) out.old.items out.new.items) }
-        ensures form { OnOk result (cells_cause_at binary result_number rows.now.count (shared_columns rows.now.columns) (row_view row.now).cells ≡ None) }
-        ensures err { IfErr result (IsCause (or_cause (cells_cause_at binary result_number rows.now.count (shared_columns rows.now.columns) (row_view row.now).cells) (too_large self.old.limit self.old.payloads (cells_payload binary (shared_columns rows.now.columns) (row_view row.now).cells ∷ [])))) }
+        ensures ok { OnOk result (Puts self.old.limit (place_view self.old)
+            (cells_payload binary (shared_columns rows.now.columns) (row_view row.now).cells ∷
+            []) (place_view self.new) out.old.items out.new.items) }
+        ensures form { OnOk result
+            (cells_cause_at binary result_number rows.now.count (shared_columns rows.now.columns)
+            (row_view row.now).cells ≡ None) }
+        ensures err { IfErr result
+            (IsCause (or_cause (cells_cause_at binary result_number rows.now.count
+            (shared_columns rows.now.columns) (row_view row.now).cells)
+            (too_large self.old.limit self.old.payloads
+            (cells_payload binary (shared_columns rows.now.columns) (row_view row.now).cells ∷
+            [])))) }
         ensures kept { take (length out.old.items) out.new.items ≡ out.old.items }
         ensures place { OnErr result (place_view self.new ≡ place_view self.old) }
         ensures limit { self.new.limit ≡ self.old.limit }
@@ -175,10 +193,19 @@ impl Packets {
         row: &Row,
         out: &mut Vec<u8>,
     ) -> Result<(), ReplyRefusal>
-        ensures ok { OnOk result (Puts self.old.limit (place_view self.old) (cells_payload binary (shared_columns rows.now.columns) (row_view row.now).cells ∷ []) (place_view self.new) out.old.items out.new.items) }
-        ensures form { OnOk result (cells_cause_at binary result_number rows.now.count (shared_columns rows.now.columns) (row_view row.now).cells ≡ None) }
+        ensures ok { OnOk result (Puts self.old.limit (place_view self.old)
+            (cells_payload binary (shared_columns rows.now.columns) (row_view row.now).cells ∷
+            []) (place_view self.new) out.old.items out.new.items) }
+        ensures form { OnOk result
+            (cells_cause_at binary result_number rows.now.count (shared_columns rows.now.columns)
+            (row_view row.now).cells ≡ None) }
         ensures fit { OnOk result (CellsFit (row_view row.now).cells) }
-        ensures err { IfErr result (IsCause (or_cause (cells_cause_at binary result_number rows.now.count (shared_columns rows.now.columns) (row_view row.now).cells) (too_large self.old.limit self.old.payloads (cells_payload binary (shared_columns rows.now.columns) (row_view row.now).cells ∷ [])))) }
+        ensures err { IfErr result
+            (IsCause (or_cause (cells_cause_at binary result_number rows.now.count
+            (shared_columns rows.now.columns) (row_view row.now).cells)
+            (too_large self.old.limit self.old.payloads
+            (cells_payload binary (shared_columns rows.now.columns) (row_view row.now).cells ∷
+            [])))) }
         ensures kept { OnErr result (out.new.items ≡ out.old.items) }
         ensures place { OnErr result (place_view self.new ≡ place_view self.old) }
         ensures limit { self.new.limit ≡ self.old.limit }
@@ -194,9 +221,13 @@ impl Packets {
 
     /// Appends a packet for each column.
     fn put_columns(&mut self, columns: &[Column], out: &mut Vec<u8>) -> Result<(), ReplyRefusal>
-        ensures ok { OnOk result (Puts self.old.limit (place_view self.old) (map column (column_views columns.now)) (place_view self.new) out.old.items out.new.items) }
+        ensures ok { OnOk result (Puts self.old.limit (place_view self.old)
+            (map column (column_views columns.now)) (place_view self.new) out.old.items
+            out.new.items) }
         ensures fit { OnOk result (ColumnsFit (column_views columns.now)) }
-        ensures err { IfErr result (RefusesPayloads self.old.limit (place_view self.old) (map column (column_views columns.now))) }
+        ensures err { IfErr result
+            (RefusesPayloads self.old.limit (place_view self.old)
+            (map column (column_views columns.now))) }
         ensures kept { take (length out.old.items) out.new.items ≡ out.old.items }
         ensures limit { self.new.limit ≡ self.old.limit }
     {
@@ -214,8 +245,12 @@ impl Packets {
         columns: &[Column],
         out: &mut Vec<u8>,
     ) -> Result<(), ReplyRefusal>
-        ensures ok { OnOk result (Puts self.old.limit (place_view self.old) (eof_due capabilities.0 (column_views columns.now)) (place_view self.new) out.old.items out.new.items) }
-        ensures err { IfErr result (RefusesPayloads self.old.limit (place_view self.old) (eof_due capabilities.0 (column_views columns.now))) }
+        ensures ok { OnOk result (Puts self.old.limit (place_view self.old)
+            (eof_due capabilities.0 (column_views columns.now)) (place_view self.new) out.old.items
+            out.new.items) }
+        ensures err { IfErr result
+            (RefusesPayloads self.old.limit (place_view self.old)
+            (eof_due capabilities.0 (column_views columns.now))) }
         ensures kept { take (length out.old.items) out.new.items ≡ out.old.items }
         ensures limit { self.new.limit ≡ self.old.limit }
     {
@@ -233,9 +268,13 @@ impl Packets {
         columns: &[Column],
         out: &mut Vec<u8>,
     ) -> Result<(), ReplyRefusal>
-        ensures ok { OnOk result (Puts self.old.limit (place_view self.old) (group_payloads capabilities.0 (column_views columns.now)) (place_view self.new) out.old.items out.new.items) }
+        ensures ok { OnOk result (Puts self.old.limit (place_view self.old)
+            (group_payloads capabilities.0 (column_views columns.now)) (place_view self.new)
+            out.old.items out.new.items) }
         ensures fit { OnOk result (ColumnsFit (column_views columns.now)) }
-        ensures err { IfErr result (RefusesPayloads self.old.limit (place_view self.old) (group_payloads capabilities.0 (column_views columns.now))) }
+        ensures err { IfErr result
+            (RefusesPayloads self.old.limit (place_view self.old)
+            (group_payloads capabilities.0 (column_views columns.now))) }
         ensures kept { take (length out.old.items) out.new.items ≡ out.old.items }
         ensures limit { self.new.limit ≡ self.old.limit }
     {
@@ -243,16 +282,22 @@ impl Packets {
         self.put_eof_due(capabilities, columns, out)
     }
 
-    /// Appends a count of columns, the columns, and the EOF that is due. After a refusal what stood before stands in front.
+    /// Appends a count of columns, the columns, and the EOF that is due. After a refusal what stood
+    /// before stands in front.
     fn put_head_packets(
         &mut self,
         capabilities: CapabilityFlags,
         columns: &[Column],
         out: &mut Vec<u8>,
     ) -> Result<(), ReplyRefusal>
-        ensures ok { OnOk result (Puts self.old.limit (place_view self.old) (lenenc_int (length columns.now) ∷ group_payloads capabilities.0 (column_views columns.now)) (place_view self.new) out.old.items out.new.items) }
+        ensures ok { OnOk result (Puts self.old.limit (place_view self.old)
+            (lenenc_int (length columns.now) ∷
+            group_payloads capabilities.0 (column_views columns.now)) (place_view self.new)
+            out.old.items out.new.items) }
         ensures fit { OnOk result (ColumnsFit (column_views columns.now)) }
-        ensures err { IfErr result (RefusesPayloads self.old.limit (place_view self.old) (lenenc_int (length columns.now) ∷ group_payloads capabilities.0 (column_views columns.now))) }
+        ensures err { IfErr result
+            (RefusesPayloads self.old.limit (place_view self.old) (lenenc_int (length columns.now) ∷
+            group_payloads capabilities.0 (column_views columns.now))) }
         ensures kept { take (length out.old.items) out.new.items ≡ out.old.items }
         ensures limit { self.new.limit ≡ self.old.limit }
     {
@@ -269,9 +314,14 @@ impl Packets {
         columns: &[Column],
         out: &mut Vec<u8>,
     ) -> Result<(), ReplyRefusal>
-        ensures ok { OnOk result (Puts self.old.limit (place_view self.old) (lenenc_int (length columns.now) ∷ group_payloads capabilities.0 (column_views columns.now)) (place_view self.new) out.old.items out.new.items) }
+        ensures ok { OnOk result (Puts self.old.limit (place_view self.old)
+            (lenenc_int (length columns.now) ∷
+            group_payloads capabilities.0 (column_views columns.now)) (place_view self.new)
+            out.old.items out.new.items) }
         ensures fit { OnOk result (ColumnsFit (column_views columns.now)) }
-        ensures err { IfErr result (RefusesPayloads self.old.limit (place_view self.old) (lenenc_int (length columns.now) ∷ group_payloads capabilities.0 (column_views columns.now))) }
+        ensures err { IfErr result
+            (RefusesPayloads self.old.limit (place_view self.old) (lenenc_int (length columns.now) ∷
+            group_payloads capabilities.0 (column_views columns.now))) }
         ensures kept { OnErr result (out.new.items ≡ out.old.items) }
         ensures place { OnErr result (place_view self.new ≡ place_view self.old) }
         ensures limit { self.new.limit ≡ self.old.limit }
@@ -298,8 +348,20 @@ impl Packets {
     ) -> Result<(), ReplyRefusal>
         requires parameters { parameters ≤ 65535 }
         requires columns { columns ≤ 65535 }
-        ensures ok { OnOk result (Puts self.old.limit (place_view self.old) (prepare_ok (record (prepare_ok_view statement.now) { num_params = parameters; num_columns = columns }) ∷ []) (place_view self.new) out.old.items out.new.items) }
-        ensures err { IfErr result (RefusesPayloads self.old.limit (place_view self.old) (prepare_ok (record (prepare_ok_view statement.now) { num_params = parameters; num_columns = columns }) ∷ [])) }
+        ensures ok { OnOk result (Puts self.old.limit (place_view self.old)
+            (prepare_ok (record (prepare_ok_view statement.now) {
+              num_params =
+                  parameters;
+              num_columns = columns;
+            }) ∷ []) (place_view self.new) out.old.items
+            out.new.items) }
+        ensures err { IfErr result
+            (RefusesPayloads self.old.limit (place_view self.old)
+            (prepare_ok (record (prepare_ok_view statement.now) {
+              num_params =
+                  parameters;
+              num_columns = columns;
+            }) ∷ [])) }
         ensures kept { OnErr result (out.new.items ≡ out.old.items) }
         ensures limit { self.new.limit ≡ self.old.limit }
     {
@@ -312,8 +374,8 @@ impl Packets {
         self.put(&packet, out)
     }
 
-    /// Appends a statement packet with the counts of these lists, and each list as a group. After a refusal what stood before stands
-    /// in front.
+    /// Appends a statement packet with the counts of these lists, and each list as a group. After a
+    /// refusal what stood before stands in front.
     fn put_prepared_packets(
         &mut self,
         capabilities: CapabilityFlags,
@@ -324,9 +386,15 @@ impl Packets {
     ) -> Result<(), ReplyRefusal>
         requires parameters { length parameters.now ≤ 65535 }
         requires columns { length columns.now ≤ 65535 }
-        ensures ok { OnOk result (Puts self.old.limit (place_view self.old) (prepared_payloads capabilities.0 (prepare_ok_view statement.now) (column_views parameters.now) (column_views columns.now)) (place_view self.new) out.old.items out.new.items) }
+        ensures ok { OnOk result (Puts self.old.limit (place_view self.old)
+            (prepared_payloads capabilities.0 (prepare_ok_view statement.now)
+            (column_views parameters.now) (column_views columns.now)) (place_view self.new)
+            out.old.items out.new.items) }
         ensures fit { OnOk result (ColumnsFit (column_views parameters.now) × ColumnsFit (column_views columns.now)) }
-        ensures err { IfErr result (RefusesPayloads self.old.limit (place_view self.old) (prepared_payloads capabilities.0 (prepare_ok_view statement.now) (column_views parameters.now) (column_views columns.now))) }
+        ensures err { IfErr result
+            (RefusesPayloads self.old.limit (place_view self.old)
+            (prepared_payloads capabilities.0 (prepare_ok_view statement.now)
+            (column_views parameters.now) (column_views columns.now))) }
         ensures kept { take (length out.old.items) out.new.items ≡ out.old.items }
         ensures limit { self.new.limit ≡ self.old.limit }
     {
@@ -346,9 +414,15 @@ impl Packets {
     ) -> Result<(), ReplyRefusal>
         requires parameters { length parameters.now ≤ 65535 }
         requires columns { length columns.now ≤ 65535 }
-        ensures ok { OnOk result (Puts self.old.limit (place_view self.old) (prepared_payloads capabilities.0 (prepare_ok_view statement.now) (column_views parameters.now) (column_views columns.now)) (place_view self.new) out.old.items out.new.items) }
+        ensures ok { OnOk result (Puts self.old.limit (place_view self.old)
+            (prepared_payloads capabilities.0 (prepare_ok_view statement.now)
+            (column_views parameters.now) (column_views columns.now)) (place_view self.new)
+            out.old.items out.new.items) }
         ensures fit { OnOk result (ColumnsFit (column_views parameters.now) × ColumnsFit (column_views columns.now)) }
-        ensures err { IfErr result (RefusesPayloads self.old.limit (place_view self.old) (prepared_payloads capabilities.0 (prepare_ok_view statement.now) (column_views parameters.now) (column_views columns.now))) }
+        ensures err { IfErr result
+            (RefusesPayloads self.old.limit (place_view self.old)
+            (prepared_payloads capabilities.0 (prepare_ok_view statement.now)
+            (column_views parameters.now) (column_views columns.now))) }
         ensures kept { OnErr result (out.new.items ≡ out.old.items) }
         ensures place { OnErr result (place_view self.new ≡ place_view self.old) }
         ensures limit { self.new.limit ≡ self.old.limit }

@@ -2,7 +2,7 @@
 
 ghost use Rattle.std.specs.Prelude.{◌≡◌, IfErr, OnErr, OnOk};
 ghost use Rattle.mysql_replies.specs.Views.{outcome_views, report_views};
-ghost use Rattle.mysql_reply_packets.specs.Refusals.{refusal_of};
+ghost use Rattle.mysql_reply_rules.specs.Refusals.{refusal_of};
 ghost use Rattle.mysql_reply_writer.specs.Puts.{IsCause};
 ghost use Rattle.mysql_reply_writer.specs.Replies.{Replies};
 
@@ -11,20 +11,22 @@ use mysql_const::CapabilityFlags;
 use mysql_packets::ProgressReport;
 use mysql_replies::laws::whole_bytes_are_framed_results;
 use mysql_replies::{ReplyKind, ReplyResult};
-use mysql_reply_fronts::laws::byte_fronts_are_unfinished;
-use mysql_reply_packets::ReplyRefusal;
+use mysql_reply_rules::ReplyRefusal;
+use mysql_reply_rules::fronts::byte_fronts_are_unfinished;
 use std::alloc::Global;
 
-/// Appends a server's reply to a command of this kind: the packets of these results one after another, before them the progress
-/// reports. The first chunk has the number `first_id`. A payload has at most `limit` bytes, as calls that read count them: without
-/// the headers of its chunks. Another result follows each but the last: of each status the writer sets or clears
-/// SERVER_MORE_RESULTS_EXISTS itself. Progress reports go only to a client that knows them, by the capability PROGRESS_OBSOLETE.
-/// After a refusal `out` is as it was.
+/// Appends a server's reply to a command of this kind: the packets of these results one after
+/// another, before them the progress reports. The first chunk has the number `first_id`. A payload
+/// has at most `limit` bytes, as calls that read count them: without the headers of its chunks.
+/// Another result follows each but the last: of each status the writer sets or clears
+/// SERVER_MORE_RESULTS_EXISTS itself. Progress reports go only to a client that knows them, by the
+/// capability PROGRESS_OBSOLETE. After a refusal `out` is as it was.
 ///
 /// # Errors
-/// `NoResults` where there is no result; else the first cause in the order of the stream, each payload's `PacketTooLarge` behind the other
-/// causes of what is written with it: of a progress report, a result that isn't rows, the columns of rows, a row, the end of rows. `Memory`
-/// may stand in place of any answer.
+/// `NoResults` where there is no result; else the first cause in the order of the stream, each
+/// payload's `PacketTooLarge` behind the other causes of what is written with it: of a progress
+/// report, a result that isn't rows, the columns of rows, a row, the end of rows. `Memory` may
+/// stand in place of any answer.
 ///
 /// MySQL: Client/Server Protocol, "COM_QUERY Response", "Text Resultset", "Binary Protocol Resultset" and
 /// "COM_STMT_PREPARE Response"; MariaDB: 'Progress report' of "ERR_Packet".
@@ -38,9 +40,13 @@ pub fn write_reply(
     progress: &[ProgressReport<'static>],
     out: &mut Vec<u8>,
 ) -> Result<(), ReplyRefusal>
-    ensures refused { IfErr result (IsCause (refusal_of (record { kind = kind; capabilities = capabilities }) limit (outcome_views results.now) (report_views progress.now))) }
+    ensures refused { IfErr result
+        (IsCause (refusal_of (record { kind = kind; capabilities = capabilities }) limit
+        (outcome_views results.now) (report_views progress.now))) }
     ensures kept { OnErr result (out.new.items ≡ out.old.items) }
-    ensures delivered { OnOk result (Replies (record { kind = kind; capabilities = capabilities }) first_id limit (outcome_views results.now) (report_views progress.now) out.old.items out.new.items) }
+    ensures delivered { OnOk result
+        (Replies (record { kind = kind; capabilities = capabilities }) first_id limit
+        (outcome_views results.now) (report_views progress.now) out.old.items out.new.items) }
 {
     whole_bytes_are_framed_results();
     byte_fronts_are_unfinished();

@@ -7,8 +7,9 @@ ghost use Rattle.mysql_replies.specs.Views.{outcome_view, outcome_views, report_
 ghost use Rattle.mysql_rows.specs.Views.{shared_columns};
 ghost use Rattle.mysql_wire.specs.Stream.{framings};
 ghost use Rattle.mysql_wire.specs.Stream.Numbering.{OnFrom};
-ghost use Rattle.mysql_reply_packets.specs.Refusals.{end_cause, refusal_of, whole_cause};
-ghost use Rattle.mysql_reply_packets.specs.Written.{ReportStep, RowStep, end_steps, reply_payloads, reply_steps, reports_read, result_steps, results_read, results_steps};
+ghost use Rattle.mysql_reply_rules.specs.Refusals.{end_cause, refusal_of, whole_cause};
+ghost use Rattle.mysql_reply_rules.specs.Written.{ReportStep, RowStep, end_steps, reply_payloads, reply_steps};
+ghost use Rattle.mysql_reply_rules.specs.Written.{reports_read, result_steps, results_read, results_steps};
 ghost use Rattle.mysql_reply_writer.specs.Puts.{IsCause};
 ghost use Rattle.mysql_reply_writer.specs.Writer.{AppendsReply, Refuses, Wrote, columns_of};
 
@@ -17,16 +18,20 @@ use mysql_columns::Column;
 use mysql_const::CapabilityFlags;
 use mysql_packets::{OkPacket, ProgressReport};
 use mysql_replies::{ReplyKind, ReplyResult};
-use mysql_reply_packets::ReplyRefusal;
-use mysql_reply_packets::laws::written_replies_are_whole;
+use mysql_reply_rules::ReplyRefusal;
+use mysql_reply_rules::laws::written_replies_are_whole;
 use mysql_rows::Row;
 use std::alloc::Global;
 use std::rc::RcSlice;
 
 // Writes rows under the columns that rows began with.
 fn put_rows(writer: &mut ReplyWriter, rows: &[Row], out: &mut Vec<u8>) -> Result<(), ReplyRefusal>
-    ensures ok { OnOk result (Wrote writer.old (map (RowStep (columns_of writer.old.standing.rows)) (row_views rows.now)) writer.new out.old.items out.new.items) }
-    ensures err { IfErr result (Refuses writer.old (map (RowStep (columns_of writer.old.standing.rows)) (row_views rows.now))) }
+    ensures ok { OnOk result (Wrote writer.old
+        (map (RowStep (columns_of writer.old.standing.rows)) (row_views rows.now)) writer.new
+        out.old.items out.new.items) }
+    ensures err { IfErr result
+        (Refuses writer.old (map (RowStep (columns_of writer.old.standing.rows))
+        (row_views rows.now))) }
     ensures kept { take (length out.old.items) out.new.items ≡ out.old.items }
 {
     'rows: for row in rows {
@@ -42,7 +47,9 @@ fn put_end(
     more: bool,
     out: &mut Vec<u8>,
 ) -> Result<(), ReplyRefusal>
-    ensures ok { OnOk result (Wrote writer.old (end_steps more (option_map ok_packet_view terminator.now)) writer.new out.old.items out.new.items) }
+    ensures ok { OnOk result (Wrote writer.old
+        (end_steps more (option_map ok_packet_view terminator.now)) writer.new out.old.items
+        out.new.items) }
     ensures err { IfErr result (Refuses writer.old (end_steps more (option_map ok_packet_view terminator.now))) }
     ensures kept { take (length out.old.items) out.new.items ≡ out.old.items }
 {
@@ -61,8 +68,13 @@ fn put_row_set(
     more: bool,
     out: &mut Vec<u8>,
 ) -> Result<(), ReplyRefusal>
-    ensures ok { OnOk result (Wrote writer.old (result_steps more (RowsResult (shared_columns columns.now) (row_views rows.now) (option_map ok_packet_view terminator.now))) writer.new out.old.items out.new.items) }
-    ensures err { IfErr result (Refuses writer.old (result_steps more (RowsResult (shared_columns columns.now) (row_views rows.now) (option_map ok_packet_view terminator.now)))) }
+    ensures ok { OnOk result (Wrote writer.old
+        (result_steps more (RowsResult (shared_columns columns.now) (row_views rows.now)
+        (option_map ok_packet_view terminator.now))) writer.new out.old.items out.new.items) }
+    ensures err { IfErr result
+        (Refuses writer.old (result_steps more
+        (RowsResult (shared_columns columns.now) (row_views rows.now)
+        (option_map ok_packet_view terminator.now)))) }
     ensures kept { take (length out.old.items) out.new.items ≡ out.old.items }
 {
     writer.columns(columns, out)?;
@@ -77,7 +89,8 @@ fn put_result(
     more: bool,
     out: &mut Vec<u8>,
 ) -> Result<(), ReplyRefusal>
-    ensures ok { OnOk result (Wrote writer.old (result_steps more (outcome_view reply_result.now)) writer.new out.old.items out.new.items) }
+    ensures ok { OnOk result (Wrote writer.old (result_steps more (outcome_view reply_result.now))
+        writer.new out.old.items out.new.items) }
     ensures err { IfErr result (Refuses writer.old (result_steps more (outcome_view reply_result.now))) }
     ensures kept { take (length out.old.items) out.new.items ≡ out.old.items }
 {
@@ -104,7 +117,8 @@ fn put_results(
     results: &[ReplyResult],
     out: &mut Vec<u8>,
 ) -> Result<(), ReplyRefusal>
-    ensures ok { OnOk result (Wrote writer.old (results_steps (outcome_views results.now)) writer.new out.old.items out.new.items) }
+    ensures ok { OnOk result (Wrote writer.old (results_steps (outcome_views results.now))
+        writer.new out.old.items out.new.items) }
     ensures err { IfErr result (Refuses writer.old (results_steps (outcome_views results.now))) }
     ensures kept { take (length out.old.items) out.new.items ≡ out.old.items }
 {
@@ -121,7 +135,8 @@ fn put_reports(
     progress: &[ProgressReport<'static>],
     out: &mut Vec<u8>,
 ) -> Result<(), ReplyRefusal>
-    ensures ok { OnOk result (Wrote writer.old (map ReportStep (report_views progress.now)) writer.new out.old.items out.new.items) }
+    ensures ok { OnOk result (Wrote writer.old (map ReportStep (report_views progress.now))
+        writer.new out.old.items out.new.items) }
     ensures err { IfErr result (Refuses writer.old (map ReportStep (report_views progress.now))) }
     ensures kept { take (length out.old.items) out.new.items ≡ out.old.items }
 {
@@ -138,9 +153,13 @@ fn put_reply(
     progress: &[ProgressReport<'static>],
     out: &mut Vec<u8>,
 ) -> Result<(), ReplyRefusal>
-    ensures ok { OnOk result (Wrote writer.old (reply_steps (outcome_views results.now) (report_views progress.now)) writer.new out.old.items out.new.items) }
+    ensures ok { OnOk result (Wrote writer.old
+        (reply_steps (outcome_views results.now) (report_views progress.now)) writer.new
+        out.old.items out.new.items) }
     ensures whole { OnOk result (end_cause writer.new.standing ≡ None) }
-    ensures err { IfErr result (IsCause (whole_cause writer.old.standing (reply_steps (outcome_views results.now) (report_views progress.now)))) }
+    ensures err { IfErr result
+        (IsCause (whole_cause writer.old.standing
+        (reply_steps (outcome_views results.now) (report_views progress.now)))) }
     ensures kept { take (length out.old.items) out.new.items ≡ out.old.items }
 {
     put_reports(writer, progress, out)?;
@@ -159,11 +178,22 @@ pub(crate) fn put_whole_reply(
     progress: &[ProgressReport<'static>],
     out: &mut Vec<u8>,
 ) -> Result<(), ReplyRefusal>
-    ensures refused { IfErr result (IsCause (refusal_of (record { kind = kind; capabilities = capabilities }) limit (outcome_views results.now) (report_views progress.now))) }
+    ensures refused { IfErr result
+        (IsCause (refusal_of (record { kind = kind; capabilities = capabilities }) limit
+        (outcome_views results.now) (report_views progress.now))) }
     ensures kept { OnErr result (out.new.items ≡ out.old.items) }
-    ensures allowed { OnOk result (refusal_of (record { kind = kind; capabilities = capabilities }) limit (outcome_views results.now) (report_views progress.now) ≡ None) }
-    ensures written { OnOk result (out.new.items ≡ out.old.items ++ framings (reply_payloads (record { kind = kind; capabilities = capabilities }) (outcome_views results.now) (report_views progress.now)) (OnFrom first_id)) }
-    ensures reads_back { OnOk result (AppendsReply (record { kind = kind; capabilities = capabilities }) first_id limit (results_read (record { kind = kind; capabilities = capabilities }) (outcome_views results.now)) (reports_read (record { kind = kind; capabilities = capabilities }) (report_views progress.now)) out.old.items out.new.items) }
+    ensures allowed { OnOk result
+        (refusal_of (record { kind = kind; capabilities = capabilities }) limit
+        (outcome_views results.now) (report_views progress.now) ≡ None) }
+    ensures written { OnOk result (out.new.items ≡ out.old.items ++
+        framings (reply_payloads (record { kind = kind; capabilities = capabilities })
+        (outcome_views results.now) (report_views progress.now)) (OnFrom first_id)) }
+    ensures reads_back { OnOk result
+        (AppendsReply (record { kind = kind; capabilities = capabilities }) first_id limit
+        (results_read (record { kind = kind; capabilities = capabilities })
+        (outcome_views results.now))
+        (reports_read (record { kind = kind; capabilities = capabilities })
+        (report_views progress.now)) out.old.items out.new.items) }
 {
     written_replies_are_whole();
     if results.is_empty() {

@@ -3,12 +3,15 @@
 ghost use Rattle.std.specs.Prelude.{◌≡◌, ◌==◌, ◌∷◌, [], IfErr, OnErr, OnOk, is_some, length, not};
 ghost use Rattle.mysql_columns.specs.Columns.{ColumnDefinition};
 ghost use Rattle.mysql_ok_packets.specs.Views.{ok_packet_view};
-ghost use Rattle.mysql_packets.specs.Views.{local_infile_view, prepare_ok_view, progress_report_view, server_error_view};
+ghost use Rattle.mysql_packets.specs.Views.{local_infile_view, prepare_ok_view, progress_report_view};
+ghost use Rattle.mysql_packets.specs.Views.{server_error_view};
 ghost use Rattle.mysql_replies.specs.Grammar.{is_prepare};
 ghost use Rattle.mysql_replies.specs.Views.{column_views};
 ghost use Rattle.mysql_rows.specs.Views.{row_view, shared_columns};
-ghost use Rattle.mysql_reply_packets.specs.Refusals.{count_cause, end_cause, error_number, first_cause, kind_cause, over_cause, place_cause, rows_cause, status_cause, step_checks};
-ghost use Rattle.mysql_reply_packets.specs.Written.{ColumnsStep, EndStep, ErrorStep, FileStep, OkStep, PreparedStep, ReportStep, RowStep};
+ghost use Rattle.mysql_reply_rules.specs.Refusals.{count_cause, end_cause, error_number, first_cause, kind_cause};
+ghost use Rattle.mysql_reply_rules.specs.Refusals.{over_cause, place_cause, rows_cause, status_cause, step_checks};
+ghost use Rattle.mysql_reply_rules.specs.Written.{ColumnsStep, EndStep, ErrorStep, FileStep, OkStep, PreparedStep};
+ghost use Rattle.mysql_reply_rules.specs.Written.{ReportStep, RowStep};
 ghost use Rattle.mysql_reply_writer.specs.Views.{cause_in};
 ghost use Rattle.mysql_reply_writer.specs.Writer.{Refuses, Wrote, columns_of, fresh_writer};
 
@@ -22,7 +25,7 @@ use mysql_const::CapabilityFlags;
 use mysql_ok_packets::has_named_status;
 use mysql_packets::{LocalInfilePacket, OkPacket, ProgressReport, ServerError, StmtPacket};
 use mysql_replies::{Context, ReplyKind};
-use mysql_reply_packets::ReplyRefusal;
+use mysql_reply_rules::ReplyRefusal;
 use mysql_rows::Row;
 use std::alloc::Global;
 use std::marker::Model;
@@ -36,9 +39,10 @@ pub(crate) struct OpenRows {
     pub(crate) count: usize,
 }
 
-/// Writes a reply result by result, as they come: of a reply that doesn't fit in memory, or whose rows are still being found. Each
-/// call appends the packets of what it is given, or refuses it, and then neither the writer nor the output has changed. What it
-/// holds is one packet. A reply that was written whole is one at whose end [`ReplyWriter::finish`] has nothing to refuse.
+/// Writes a reply result by result, as they come: of a reply that doesn't fit in memory, or whose
+/// rows are still being found. Each call appends the packets of what it is given, or refuses it,
+/// and then neither the writer nor the output has changed. What it holds is one packet. A reply
+/// that was written whole is one at whose end [`ReplyWriter::finish`] has nothing to refuse.
 ///
 /// MySQL: Client/Server Protocol, "COM_QUERY Response", "Text Resultset", "Binary Protocol Resultset" and
 /// "COM_STMT_PREPARE Response".
@@ -76,8 +80,9 @@ impl Model for ReplyWriter {
 }
 
 impl ReplyWriter {
-    /// A writer of the reply to a command of this kind, of which nothing is written yet. The reply's first chunk has the number
-    /// `first_id`. A payload has at most `limit` bytes, as calls that read count them: without the headers of its chunks.
+    /// A writer of the reply to a command of this kind, of which nothing is written yet. The
+    /// reply's first chunk has the number `first_id`. A payload has at most `limit` bytes, as calls
+    /// that read count them: without the headers of its chunks.
     pub fn new(
         alloc: Global,
         kind: ReplyKind,
@@ -180,7 +185,8 @@ impl ReplyWriter {
 
     // Columns may begin rows.
     fn check_columns(&self, columns: &[Column]) -> Result<(), ReplyRefusal>
-        ensures { cause_in result ≡ first_cause (step_checks self.now.standing (ColumnsStep (column_views columns.now))) }
+        ensures { cause_in result ≡
+            first_cause (step_checks self.now.standing (ColumnsStep (column_views columns.now))) }
     {
         self.check_place()?;
         self.check_kind(self.is_prepare())?;
@@ -213,7 +219,8 @@ impl ReplyWriter {
 
     // An error may be written.
     fn check_error(&self, error: &ServerError<'_>) -> Result<(), ReplyRefusal>
-        ensures { cause_in result ≡ first_cause (step_checks self.now.standing (ErrorStep (server_error_view error.now))) }
+        ensures { cause_in result ≡
+            first_cause (step_checks self.now.standing (ErrorStep (server_error_view error.now))) }
     {
         self.check_over()?;
         if error.error_code() == 0xffff && tells_progress(self.context.capabilities) {
@@ -224,7 +231,8 @@ impl ReplyWriter {
 
     // A request for a file may be written.
     fn check_file(&self, file: &LocalInfilePacket<'_>) -> Result<(), ReplyRefusal>
-        ensures { cause_in result ≡ first_cause (step_checks self.now.standing (FileStep (local_infile_view file.now))) }
+        ensures { cause_in result ≡
+            first_cause (step_checks self.now.standing (FileStep (local_infile_view file.now))) }
     {
         let _file = file;
         self.check_place()?;
@@ -238,7 +246,10 @@ impl ReplyWriter {
         parameters: &[Column],
         columns: &[Column],
     ) -> Result<(), ReplyRefusal>
-        ensures { cause_in result ≡ first_cause (step_checks self.now.standing (PreparedStep (prepare_ok_view statement.now) (column_views parameters.now) (column_views columns.now))) }
+        ensures { cause_in result ≡
+            first_cause (step_checks self.now.standing
+            (PreparedStep (prepare_ok_view statement.now) (column_views parameters.now)
+            (column_views columns.now))) }
     {
         let _statement = statement;
         self.check_place()?;
@@ -247,8 +258,9 @@ impl ReplyWriter {
         self.check_count(columns)
     }
 
-    /// Writes an OK packet as a result, and whether another result follows it: without one the reply ends here. Of the packet's status
-    /// the writer sets or clears SERVER_MORE_RESULTS_EXISTS itself.
+    /// Writes an OK packet as a result, and whether another result follows it: without one the
+    /// reply ends here. Of the packet's status the writer sets or clears SERVER_MORE_RESULTS_EXISTS
+    /// itself.
     ///
     /// # Errors
     /// In this order `AfterEnd`, `NotEnded`, `WrongKind`, `Status`, `PacketTooLarge`, `Memory`.
@@ -260,7 +272,8 @@ impl ReplyWriter {
         more: bool,
         out: &mut Vec<u8>,
     ) -> Result<(), ReplyRefusal>
-        ensures ok { OnOk result (Wrote self.old (OkStep more (ok_packet_view ok.now) ∷ []) self.new out.old.items out.new.items) }
+        ensures ok { OnOk result (Wrote self.old (OkStep more (ok_packet_view ok.now) ∷
+            []) self.new out.old.items out.new.items) }
         ensures err { IfErr result (Refuses self.old (OkStep more (ok_packet_view ok.now) ∷ [])) }
         ensures kept { OnErr result (out.new.items ≡ out.old.items) }
         ensures stays { OnErr result (self.new ≡ self.old) }
@@ -277,9 +290,9 @@ impl ReplyWriter {
         Ok(())
     }
 
-    /// Writes what ends rows, and whether another result follows them: without one the reply ends here. Of the packet's status the
-    /// writer sets or clears SERVER_MORE_RESULTS_EXISTS itself. Where EOF packets are not deprecated only status and warnings are
-    /// written.
+    /// Writes what ends rows, and whether another result follows them: without one the reply ends
+    /// here. Of the packet's status the writer sets or clears SERVER_MORE_RESULTS_EXISTS itself.
+    /// Where EOF packets are not deprecated only status and warnings are written.
     ///
     /// # Errors
     /// In this order `AfterEnd`, `NotBegun`, `Status`, `PacketTooLarge`, `Memory`.
@@ -291,7 +304,8 @@ impl ReplyWriter {
         more: bool,
         out: &mut Vec<u8>,
     ) -> Result<(), ReplyRefusal>
-        ensures ok { OnOk result (Wrote self.old (EndStep more (ok_packet_view ok.now) ∷ []) self.new out.old.items out.new.items) }
+        ensures ok { OnOk result (Wrote self.old (EndStep more (ok_packet_view ok.now) ∷
+            []) self.new out.old.items out.new.items) }
         ensures err { IfErr result (Refuses self.old (EndStep more (ok_packet_view ok.now) ∷ [])) }
         ensures kept { OnErr result (out.new.items ≡ out.old.items) }
         ensures stays { OnErr result (self.new ≡ self.old) }
@@ -315,7 +329,8 @@ impl ReplyWriter {
     ///
     /// MySQL: Client/Server Protocol, "ERR_Packet".
     pub fn error(&mut self, error: &ServerError<'_>, out: &mut Vec<u8>) -> Result<(), ReplyRefusal>
-        ensures ok { OnOk result (Wrote self.old (ErrorStep (server_error_view error.now) ∷ []) self.new out.old.items out.new.items) }
+        ensures ok { OnOk result (Wrote self.old (ErrorStep (server_error_view error.now) ∷
+            []) self.new out.old.items out.new.items) }
         ensures err { IfErr result (Refuses self.old (ErrorStep (server_error_view error.now) ∷ [])) }
         ensures kept { OnErr result (out.new.items ≡ out.old.items) }
         ensures stays { OnErr result (self.new ≡ self.old) }
@@ -342,7 +357,8 @@ impl ReplyWriter {
         file: &LocalInfilePacket<'_>,
         out: &mut Vec<u8>,
     ) -> Result<(), ReplyRefusal>
-        ensures ok { OnOk result (Wrote self.old (FileStep (local_infile_view file.now) ∷ []) self.new out.old.items out.new.items) }
+        ensures ok { OnOk result (Wrote self.old (FileStep (local_infile_view file.now) ∷
+            []) self.new out.old.items out.new.items) }
         ensures err { IfErr result (Refuses self.old (FileStep (local_infile_view file.now) ∷ [])) }
         ensures kept { OnErr result (out.new.items ≡ out.old.items) }
         ensures stays { OnErr result (self.new ≡ self.old) }
@@ -355,8 +371,8 @@ impl ReplyWriter {
         Ok(())
     }
 
-    /// Writes a progress report, which may stand before any payload of a result. To a client that doesn't know progress reports, by
-    /// the capability PROGRESS_OBSOLETE, nothing is written.
+    /// Writes a progress report, which may stand before any payload of a result. To a client that
+    /// doesn't know progress reports, by the capability PROGRESS_OBSOLETE, nothing is written.
     ///
     /// # Errors
     /// In this order `AfterEnd`, `PacketTooLarge`, `Memory`.
@@ -367,7 +383,8 @@ impl ReplyWriter {
         report: &ProgressReport<'_>,
         out: &mut Vec<u8>,
     ) -> Result<(), ReplyRefusal>
-        ensures ok { OnOk result (Wrote self.old (ReportStep (progress_report_view report.now) ∷ []) self.new out.old.items out.new.items) }
+        ensures ok { OnOk result (Wrote self.old (ReportStep (progress_report_view report.now) ∷
+            []) self.new out.old.items out.new.items) }
         ensures err { IfErr result (Refuses self.old (ReportStep (progress_report_view report.now) ∷ [])) }
         ensures kept { OnErr result (out.new.items ≡ out.old.items) }
         ensures stays { OnErr result (self.new ≡ self.old) }
@@ -392,7 +409,8 @@ impl ReplyWriter {
         columns: &RcSlice<Column>,
         out: &mut Vec<u8>,
     ) -> Result<(), ReplyRefusal>
-        ensures ok { OnOk result (Wrote self.old (ColumnsStep (shared_columns columns.now) ∷ []) self.new out.old.items out.new.items) }
+        ensures ok { OnOk result (Wrote self.old (ColumnsStep (shared_columns columns.now) ∷
+            []) self.new out.old.items out.new.items) }
         ensures err { IfErr result (Refuses self.old (ColumnsStep (shared_columns columns.now) ∷ [])) }
         ensures kept { OnErr result (out.new.items ≡ out.old.items) }
         ensures stays { OnErr result (self.new ≡ self.old) }
@@ -415,8 +433,11 @@ impl ReplyWriter {
     ///
     /// MySQL: Client/Server Protocol, "Text Resultset Row" and "Binary Protocol Resultset Row".
     pub fn row(&mut self, row: &Row, out: &mut Vec<u8>) -> Result<(), ReplyRefusal>
-        ensures ok { OnOk result (Wrote self.old (RowStep (columns_of self.old.standing.rows) (row_view row.now) ∷ []) self.new out.old.items out.new.items) }
-        ensures err { IfErr result (Refuses self.old (RowStep (columns_of self.old.standing.rows) (row_view row.now) ∷ [])) }
+        ensures ok { OnOk result (Wrote self.old
+            (RowStep (columns_of self.old.standing.rows) (row_view row.now) ∷
+            []) self.new out.old.items out.new.items) }
+        ensures err { IfErr result
+            (Refuses self.old (RowStep (columns_of self.old.standing.rows) (row_view row.now) ∷ [])) }
         ensures kept { OnErr result (out.new.items ≡ out.old.items) }
         ensures stays { OnErr result (self.new ≡ self.old) }
     {
@@ -439,8 +460,8 @@ impl ReplyWriter {
         answer
     }
 
-    /// Writes a prepared statement with its parameters and its columns, whose counts stand in place of those that the packet has. The
-    /// reply ends here.
+    /// Writes a prepared statement with its parameters and its columns, whose counts stand in place
+    /// of those that the packet has. The reply ends here.
     ///
     /// # Errors
     /// In this order `AfterEnd`, `NotEnded`, `WrongKind`, `TooManyColumns`, `PacketTooLarge`, `Memory`.
@@ -453,8 +474,12 @@ impl ReplyWriter {
         columns: &[Column],
         out: &mut Vec<u8>,
     ) -> Result<(), ReplyRefusal>
-        ensures ok { OnOk result (Wrote self.old (PreparedStep (prepare_ok_view statement.now) (column_views parameters.now) (column_views columns.now) ∷ []) self.new out.old.items out.new.items) }
-        ensures err { IfErr result (Refuses self.old (PreparedStep (prepare_ok_view statement.now) (column_views parameters.now) (column_views columns.now) ∷ [])) }
+        ensures ok { OnOk result (Wrote self.old
+            (PreparedStep (prepare_ok_view statement.now) (column_views parameters.now)
+            (column_views columns.now) ∷ []) self.new out.old.items out.new.items) }
+        ensures err { IfErr result
+            (Refuses self.old (PreparedStep (prepare_ok_view statement.now)
+            (column_views parameters.now) (column_views columns.now) ∷ [])) }
         ensures kept { OnErr result (out.new.items ≡ out.old.items) }
         ensures stays { OnErr result (self.new ≡ self.old) }
     {
@@ -483,8 +508,8 @@ impl ReplyWriter {
     /// Ends the writing.
     ///
     /// # Errors
-    /// `NoResults` where nothing but progress reports was written; `NotEnded` with the number of a result whose rows go on, or that was
-    /// said to follow.
+    /// `NoResults` where nothing but progress reports was written; `NotEnded` with the number of a
+    /// result whose rows go on, or that was said to follow.
     pub fn finish(&self) -> Result<(), ReplyRefusal>
         ensures { cause_in result ≡ end_cause self.now.standing }
     {

@@ -13,13 +13,13 @@ use Rattle.std.proofs.lemmas.List.FromFn.{get_or-map-range_with_len, length-map-
 use Rattle.byteorder.specs.Endian.{little_bytes, little_number}
 use mir.Val.{bits, hbits}
 use Rattle.mysql_buf.specs.FirstBytes.{first-enough}
-use Rattle.mysql_raw.specs.Laws.{bytes_at-back, fixed_number_at-back}
-use Rattle.mysql_raw.specs.Wire.{Reading, ◌>>=◌}
+use Rattle.mysql_fields.specs.Laws.{bytes_at-back, fixed_number_at-back}
+use Rattle.mysql_fields.specs.Wire.{Reading, ◌>>=◌}
 use Rattle.mysql_const.specs.NamedLaws.{column_type-names_back}
 use Rattle.mysql_const.specs.declared.column_flags.ColumnFlags.{ColumnFlags}
 use Rattle.mysql_const.specs.declared.column_type.ColumnType.{ColumnType}
 use Rattle.mysql_const.specs.ColumnTypes.{column_type_number}
-use Rattle.mysql_null_bitmap.specs.NullBitmap.{bitmap_len, has_bit, is_null_at}
+use Rattle.mysql_field_lists.specs.NullBitmap.{bitmap_len, has_bit, is_null_at}
 use Rattle.mysql_cells.specs.AsSql.{FitsFields}
 use Rattle.mysql_cells.specs.CellLaws.{CellsReadBack}
 use Rattle.mysql_cells.specs.Cells.{cell_at, column_cell_at, form, form_of, has_no_sign, number_value_at, unsigned_value, value_at, whole_value}

@@ -12,8 +12,8 @@ use mir.Val.{bits, hbits}
 use Rattle.mysql_buf.specs.Bytes.{AreBytes}
 use Rattle.mysql_buf.specs.FirstBytes.{first-some}
 use Rattle.mysql_buf.specs.Reading.{bytes_at, first, lenenc_int_at, lenenc_str_at, little_at, then_at, u8_str_at}
-use Rattle.mysql_raw.specs.Wire.{Reading, ◌>>=◌, or_end}
-use Rattle.mysql_null_bitmap.specs.NullBitmap.{bitmap_len, is_null_at}
+use Rattle.mysql_fields.specs.Wire.{Reading, ◌>>=◌, or_end}
+use Rattle.mysql_field_lists.specs.NullBitmap.{bitmap_len, is_null_at}
 use Rattle.mysql_cells.specs.Cells.{cell_at, date_of, form, has_no_sign, number_value_at, time_of, unsigned_value, value_at, whole_value}
 use Rattle.mysql_cells.specs.Values.{is_null, without_zero_sign}
 use Rattle.mysql_cells.specs.declared.cell_form.CellForm.{CellForm}

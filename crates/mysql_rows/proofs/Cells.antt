@@ -4,14 +4,14 @@ use Rattle.std.proofs.lemmas.List.{drop_all}
 use Rattle.std.specs.List.{range_with_len}
 use Rattle.mysql_buf.specs.FirstBytes.{first-some}
 use Rattle.mysql_buf.specs.Reading.{bytes_at}
-use Rattle.mysql_raw.specs.WireError.{WireError}
-use Rattle.mysql_raw.specs.Wire.{Reading, Refuses, ◌>>=◌}
-use Rattle.mysql_raw_lists.specs.ElementLaws.{with_front}
-use Rattle.mysql_raw_lists.specs.Lists.{elements_at}
+use Rattle.mysql_fields.specs.declared.error.WireError.{WireError}
+use Rattle.mysql_fields.specs.Wire.{Reading, Refuses, ◌>>=◌}
+use Rattle.mysql_field_lists.specs.ElementLaws.{with_front}
+use Rattle.mysql_field_lists.specs.Lists.{elements_at}
 use Rattle.mysql_cells.specs.declared.value.Value.{Value}
 use Rattle.mysql_columns.specs.declared.column.Column.{Column}
 use Rattle.mysql_columns.specs.Views.{column_view}
-use Rattle.mysql_null_bitmap.specs.NullBitmap.{is_null_at}
+use Rattle.mysql_field_lists.specs.NullBitmap.{is_null_at}
 use Rattle.mysql_rows.specs.Rows.{binary_cell_at, binary_cells_at, some_cells}
 use Rattle.mysql_rows.specs.Views.{column_views}
 

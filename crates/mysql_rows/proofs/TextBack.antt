@@ -7,14 +7,14 @@ use Rattle.std.specs.List.{AllByRecursion, position_from}
 use Rattle.std.specs.Option.{option_and_then}
 use Rattle.std.specs.Prelude.{FitsSigned, if◌then◌else◌}
 use Rattle.byteorder.specs.Endian.{little_bytes}
-use Rattle.mysql_raw.specs.WireError.TheVariants.{BadLength}
+use Rattle.mysql_fields.specs.declared.error.WireError.TheVariants.{BadLength}
 use Rattle.std.proofs.lemmas.Bool.{cases_lt, eqb-false, le-ltb, lt-ltb, ne_eqb}
 use Rattle.std.proofs.lemmas.Fmt.{length-decimal-le}
 use Rattle.mysql_buf.specs.Reading.{lenenc_str_at}
 use Rattle.mysql_buf.specs.TextLaws.{lenenc_str-reads_back}
 use Rattle.mysql_buf.specs.Writing.{lenenc_int, lenenc_str}
-use Rattle.mysql_raw.specs.Wire.{Reading, ◌>>=◌, or_end}
-use Rattle.mysql_raw_lists.specs.Lists.{elements_at}
+use Rattle.mysql_fields.specs.Wire.{Reading, ◌>>=◌, or_end}
+use Rattle.mysql_field_lists.specs.Lists.{elements_at}
 use Rattle.mysql_cells.specs.AsSql.{FitsFields}
 use Rattle.mysql_cells.specs.Cells.{text_cell_at}
 use Rattle.mysql_cells.specs.Values.{date_text, is_zero_time, time_text}

@@ -1,7 +1,8 @@
 -- What the code of writing speaks of: rows by their cells, of which some may have been taken, and what a call answered.
 -- MySQL: Client/Server Protocol, "Text Resultset Row", "Binary Protocol Resultset Row".
 use Rattle.std.proofs.Common.{get_or, set}
-use Rattle.std.specs.Prelude.{◌≡◌, ℕ, ◌+◌, ◌/◌, ◌%◌, ◌^◌, ◌&&◌, if◌then◌else◌, Bool, false, not, List, [], ◌∷◌, ◌++◌, map, flat_map, zip, Option, Some, None, Result, Ok, Err, unwrap_or}
+use Rattle.std.specs.Prelude.{◌≡◌, ℕ, ◌+◌, ◌/◌, ◌%◌, ◌^◌, ◌&&◌, if◌then◌else◌, Bool, false, not, List, [], ◌∷◌, ◌++◌}
+use Rattle.std.specs.Prelude.{map, flat_map, zip, Option, Some, None, Result, Ok, Err, unwrap_or}
 use Rattle.std.specs.Option.{option_and_then}
 use Rattle.byteorder.specs.Endian.{little_bytes}
 use Rattle.mysql_cells.specs.Cells.{cell}
@@ -44,9 +45,11 @@ cell_bytes (Own value) = cell value.now
 
 -- the text of a date or a time, an all-zero time taken as positive
 abbrev pub temporal_text : Value → Option (List ℕ)
-temporal_text (Date year month day hour minute second micros) = Some (date_text year month day hour minute second micros)
+temporal_text (Date year month day hour minute second micros) =
+    Some (date_text year month day hour minute second micros)
 temporal_text (Time negative days hours minutes seconds micros) =
-    Some (time_text (negative && not (is_zero_time days hours minutes seconds micros)) days hours minutes seconds micros)
+    Some (time_text (negative && not (is_zero_time days hours minutes seconds micros)) days hours
+    minutes seconds micros)
 temporal_text value = None
 
 -- the text cells that there are
@@ -55,7 +58,8 @@ text_cells cells = flat_map (λ cell. unwrap_or (option_and_then text_cell cell)
 
 -- the cells by their columns that there are
 abbrev pub cells_in : List ColumnDefinition → List (Option Value) → List ℕ
-cells_in columns cells = flat_map (λ placed. unwrap_or (option_and_then (cell_in placed.0) placed.1) []) (zip columns cells)
+cells_in columns cells = flat_map
+    (λ placed. unwrap_or (option_and_then (cell_in placed.0) placed.1) []) (zip columns cells)
 
 -- whether a cell holds NULL
 abbrev pub holds_null : Option Value → Bool
@@ -68,9 +72,12 @@ null_marks cells = false ∷ false ∷ map holds_null cells
 
 -- bytes in which, where a cell is NULL, the bit of this number was added to the bitmap that stands from a place on
 abbrev pub marked : Bool → ℕ → ℕ → List ℕ → List ℕ
-marked null bitmap number bytes = if null then set bytes (bitmap + number / 8) (get_or bytes (bitmap + number / 8) 0 + 2 ^ (number % 8)) else bytes
+marked null bitmap number bytes =
+    if null then set bytes (bitmap + number / 8)
+    (get_or bytes (bitmap + number / 8) 0 + 2 ^ (number % 8)) else bytes
 
--- A row was appended; or it was refused, by the place that speaks against it, or where none does for want of memory, and nothing changed.
+-- A row was appended; or it was refused, by the place that speaks against it, or where none does
+-- for want of memory, and nothing changed.
 abbrev pub PutsRow : Option ℕ → List ℕ → List ℕ → List ℕ → Result (Unit {0}) RowRefusal → Type 0
 PutsRow cause row old new (Ok _) = (cause ≡ None) × (new ≡ old ++ row)
 PutsRow cause row old new (Err (NoForm place)) = (cause ≡ Some place) × (new ≡ old)

@@ -1,13 +1,14 @@
 -- Rows of a result set, as read from their payloads, and what is known of a row's cells.
 -- MySQL: Client/Server Protocol, "Text Resultset Row" and "Binary Protocol Resultset Row".
 -- A reading takes bytes from the front: x.0 is what was read and x.1 the bytes left; the first refusal counts.
-use Rattle.std.specs.Prelude.{ℕ, ◌+◌, Bool, List, [], ◌∷◌, length, map, Option, Some, None, is_some, Ok, slice_get, slice_set, nat_lt, bytes_eq, if◌then◌else◌}
+use Rattle.std.specs.Prelude.{ℕ, ◌+◌, Bool, List, [], ◌∷◌, length, map, Option, Some, None, is_some, Ok, slice_get}
+use Rattle.std.specs.Prelude.{slice_set, nat_lt, bytes_eq, if◌then◌else◌}
 use Rattle.std.specs.List.{list_all, position_from}
 use Rattle.std.specs.Option.{option_flatten}
 use Rattle.mysql_cells.specs.declared.value.Value.{Value}
 use Rattle.mysql_cells.specs.declared.value.Value.TheVariants.{NULL}
 use Rattle.mysql_cells.specs.Cells.{column_cell_at, text_cell_at}
-use Rattle.mysql_null_bitmap.specs.NullBitmap.{bitmap_len, is_null_at}
+use Rattle.mysql_field_lists.specs.NullBitmap.{bitmap_len, is_null_at}
 use Rattle.mysql_columns.specs.Columns.{ColumnDefinition}
 use Rattle.mysql_wire.specs.Wire.{Reading, ◌>>=◌}
 use Rattle.mysql_wire.specs.Forms.{bytes_at}
@@ -20,7 +21,8 @@ text_row_at columns bytes = elements_at text_cell_at (length columns) bytes
 
 -- A cell of a binary row: null by the bitmap, else by the column's type and flags.
 abbrev pub binary_cell_at : Bool → ColumnDefinition → List ℕ → Reading Value
-binary_cell_at is_null column bytes = if is_null then Ok (NULL, bytes) else column_cell_at (column.column_type, column.flags) bytes
+binary_cell_at is_null column bytes =
+    if is_null then Ok (NULL, bytes) else column_cell_at (column.column_type, column.flags) bytes
 
 -- The cells of a binary row from this place on, by a bitmap with so many bits before that of the first column.
 unfoldable pub binary_cells_at : ℕ → List ℕ → ℕ → List ColumnDefinition → List ℕ → Reading (List Value)

@@ -1,6 +1,9 @@
--- Rows of a result set, as a server writes them, and what speaks against a row.
--- MySQL: Client/Server Protocol, "Text Resultset Row", "Binary Protocol Resultset Row", "Null-Bitmap", "Binary Protocol Value".
-use Rattle.std.specs.Prelude.{ℕ, zero, suc, ℤ, pos, negsuc, ◌+◌, ◌-◌, ◌*◌, ◌/◌, ◌^◌, Bool, true, false, if◌then◌else◌, List, [], ◌∷◌, ◌++◌, length, map, drop, nat_lt, Option, Some, None, is_none, unwrap_or, zip, filter_map, flat_map}
+-- Rows of a result set, as a server writes them, and what speaks against a row. MySQL:
+-- Client/Server Protocol, "Text Resultset Row", "Binary Protocol Resultset Row", "Null-Bitmap",
+-- "Binary Protocol Value".
+use Rattle.std.specs.Prelude.{ℕ, zero, suc, ℤ, pos, negsuc, ◌+◌, ◌-◌, ◌*◌, ◌/◌, ◌^◌, Bool, true, false, if◌then◌else◌}
+use Rattle.std.specs.Prelude.{List, [], ◌∷◌, ◌++◌, length, map, drop, nat_lt, Option, Some, None, is_none, unwrap_or}
+use Rattle.std.specs.Prelude.{zip, filter_map, flat_map}
 use Rattle.std.specs.Fmt.{signed_decimal}
 use Rattle.std.specs.Int.{Width, w8, w16, w32, w64, cast_unsigned}
 use Rattle.std.specs.List.{position_from, range_with_len}
@@ -13,7 +16,8 @@ use Rattle.mysql_cells.specs.CellLaws.{read_back}
 use Rattle.mysql_cells.specs.Cells.{date_cell, form, has_no_sign, time_cell}
 use Rattle.mysql_cells.specs.Values.{content_of, is_null}
 use Rattle.mysql_cells.specs.declared.cell_form.CellForm.{CellForm}
-use Rattle.mysql_cells.specs.declared.cell_form.CellForm.TheVariants.{Whole1, Whole2, Whole4, Whole8, FloatBits, DoubleBits, Counted, DateAndTime, Duration}
+use Rattle.mysql_cells.specs.declared.cell_form.CellForm.TheVariants.{Whole1, Whole2, Whole4, Whole8, FloatBits}
+use Rattle.mysql_cells.specs.declared.cell_form.CellForm.TheVariants.{DoubleBits, Counted, DateAndTime, Duration}
 use Rattle.mysql_cells.specs.declared.value.Value.{Value}
 use Rattle.mysql_cells.specs.declared.value.Value.TheVariants.{NULL, Bytes, Int, UInt, Float, Double, Date, Time}
 use Rattle.mysql_columns.specs.Columns.{ColumnDefinition}
@@ -76,15 +80,19 @@ some_cell Whole8 unsigned value = whole_cell 8 w64 unsigned value
 some_cell FloatBits unsigned (Float float) = Some (little_bytes 4 float)
 some_cell DoubleBits unsigned (Double double) = Some (little_bytes 8 double)
 some_cell Counted unsigned (Bytes bytes) = Some (lenenc_str bytes)
-some_cell DateAndTime unsigned (Date year month day hour minute second micros) = Some (date_cell year month day hour minute second micros)
-some_cell Duration unsigned (Time negative days hours minutes seconds micros) = Some (time_cell negative days hours minutes seconds micros)
+some_cell DateAndTime unsigned (Date year month day hour minute second micros) =
+    Some (date_cell year month day hour minute second micros)
+some_cell Duration unsigned (Time negative days hours minutes seconds micros) =
+    Some (time_cell negative days hours minutes seconds micros)
 some_cell column unsigned value = None
 
--- the cell of a value in a binary row, where there is one; NULL, of which its bit tells, takes no bytes in whatever form
+-- the cell of a value in a binary row, where there is one; NULL, of which its bit tells, takes no
+-- bytes in whatever form
 abbrev pub binary_cell : CellForm → Bool → Value → Option (List ℕ)
 binary_cell column unsigned value = if is_null value then Some [] else some_cell column unsigned value
 
--- what a value's binary cell is read as: the value, but an unsigned number below 2 ^ 63 as Int, and an all-zero time as positive
+-- what a value's binary cell is read as: the value, but an unsigned number below 2 ^ 63 as Int, and
+-- an all-zero time as positive
 abbrev pub as_binary : Value → Value
 as_binary = read_back
 
@@ -126,4 +134,6 @@ text_cause cells = position_from (λ cell. is_none (option_and_then text_cell ce
 
 -- the least place whose value was taken, or has no cell by its column
 abbrev pub binary_cause : List ColumnDefinition → List (Option Value) → Option ℕ
-binary_cause columns cells = position_from (λ placed. is_none (option_and_then (cell_in placed.0) placed.1)) 0 (zip columns cells)
+binary_cause columns cells =
+    position_from (λ placed. is_none (option_and_then (cell_in placed.0) placed.1)) 0
+    (zip columns cells)

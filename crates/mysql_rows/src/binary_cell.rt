@@ -6,7 +6,7 @@ ghost use Rattle.std.specs.Int.{w8, w16, w32, w64};
 ghost use Rattle.std.specs.Option.{option_map};
 ghost use Rattle.byteorder.specs.Endian.{little_bytes};
 ghost use Rattle.mysql_buf.specs.Writing.{lenenc_str};
-ghost use Rattle.mysql_raw.specs.Wire.{Appends};
+ghost use Rattle.mysql_fields.specs.Wire.{Appends};
 ghost use Rattle.mysql_columns.specs.Views.{column_view};
 ghost use Rattle.mysql_cells.specs.Cells.{form as form_by_type, has_no_sign as is_without_sign};
 ghost use Rattle.mysql_cells.specs.declared.cell_form.CellForm.TheVariants as cell_form;
@@ -21,7 +21,7 @@ use bitflags::Flags;
 use mysql_cells::Value;
 use mysql_columns::Column;
 use mysql_const::{ColumnFlags, ColumnType};
-use mysql_raw::MySerialize;
+use mysql_fields::MySerialize;
 use std::alloc::{AllocError, AllocFailed};
 
 /// The form of a type's cells.
@@ -212,7 +212,8 @@ impl From<AllocFailed<u8>> for NotWritten {
 /// Appends the cell of a value by its column's type and flags.
 #[inline(never)]
 fn put_any(column: &Column, value: &Value, out: &mut Vec<u8>) -> Result<(), NotWritten>
-    ensures ok { OnOk result (IsSomeAnd (cell_in (column_view column.now) value.now) (λ bytes. out.new.items ≡ out.old.items ++ bytes)) }
+    ensures ok { OnOk result (IsSomeAnd (cell_in (column_view column.now) value.now)
+        (λ bytes. out.new.items ≡ out.old.items ++ bytes)) }
     ensures kept { OnErr result (out.new.items ≡ out.old.items) }
 {
     match cell_of(column, value) {
@@ -224,7 +225,8 @@ fn put_any(column: &Column, value: &Value, out: &mut Vec<u8>) -> Result<(), NotW
 /// Appends the cell of bytes.
 #[inline(always)]
 fn put_bytes(column: &Column, bytes: &[u8], out: &mut Vec<u8>) -> Result<(), NotWritten>
-    ensures ok { OnOk result ((form_by_type (column_view column.now).column_type ≡ cell_form.Counted) × (out.new.items ≡ out.old.items ++ lenenc_str bytes.now)) }
+    ensures ok { OnOk result ((form_by_type (column_view column.now).column_type ≡
+        cell_form.Counted) × (out.new.items ≡ out.old.items ++ lenenc_str bytes.now)) }
     ensures kept { OnErr result (out.new.items ≡ out.old.items) }
 {
     match form_of(column.column_type()) {
@@ -236,7 +238,8 @@ fn put_bytes(column: &Column, bytes: &[u8], out: &mut Vec<u8>) -> Result<(), Not
 /// Appends the eight bytes of a number that is in range.
 #[inline(always)]
 fn put_eight(number: Option<u64>, out: &mut Vec<u8>) -> Result<(), NotWritten>
-    ensures ok { OnOk result (IsSomeAnd (option_map (little_bytes 8) number) (λ bytes. out.new.items ≡ out.old.items ++ bytes)) }
+    ensures ok { OnOk result (IsSomeAnd (option_map (little_bytes 8) number)
+        (λ bytes. out.new.items ≡ out.old.items ++ bytes)) }
     ensures kept { OnErr result (out.new.items ≡ out.old.items) }
 {
     match number {
@@ -248,7 +251,8 @@ fn put_eight(number: Option<u64>, out: &mut Vec<u8>) -> Result<(), NotWritten>
 /// The same of four bytes.
 #[inline(always)]
 fn put_four(number: Option<u32>, out: &mut Vec<u8>) -> Result<(), NotWritten>
-    ensures ok { OnOk result (IsSomeAnd (option_map (little_bytes 4) number) (λ bytes. out.new.items ≡ out.old.items ++ bytes)) }
+    ensures ok { OnOk result (IsSomeAnd (option_map (little_bytes 4) number)
+        (λ bytes. out.new.items ≡ out.old.items ++ bytes)) }
     ensures kept { OnErr result (out.new.items ≡ out.old.items) }
 {
     match number {
@@ -261,7 +265,8 @@ fn put_four(number: Option<u32>, out: &mut Vec<u8>) -> Result<(), NotWritten>
 #[inline(always)]
 fn put_int(column: &Column, value: &Value, number: i64, out: &mut Vec<u8>) -> Result<(), NotWritten>
     requires { value.now ≡ Int number }
-    ensures ok { OnOk result (IsSomeAnd (cell_in (column_view column.now) value.now) (λ bytes. out.new.items ≡ out.old.items ++ bytes)) }
+    ensures ok { OnOk result (IsSomeAnd (cell_in (column_view column.now) value.now)
+        (λ bytes. out.new.items ≡ out.old.items ++ bytes)) }
     ensures kept { OnErr result (out.new.items ≡ out.old.items) }
 {
     let unsigned = has_no_sign(column.flags());
@@ -272,8 +277,8 @@ fn put_int(column: &Column, value: &Value, number: i64, out: &mut Vec<u8>) -> Re
     }
 }
 
-/// Appends the cell of the value at a place; NULL sets its bit in the bitmap that stands from `bitmap` on. The kinds that most
-/// values have come first.
+/// Appends the cell of the value at a place; NULL sets its bit in the bitmap that stands from
+/// `bitmap` on. The kinds that most values have come first.
 #[inline(always)]
 pub fn put_value(
     bitmap: usize,
@@ -285,7 +290,9 @@ pub fn put_value(
     requires few { place ≤ usize.MAX - 2 }
     requires inside { bitmap + (place + 2) / 8 < length out.old.items }
     requires room { get_or out.old.items (bitmap + (place + 2) / 8) 0 + 2 ^ ((place + 2) % 8) < 256 }
-    ensures ok { OnOk result (IsSomeAnd (cell_in (column_view column.now) value.now) (λ bytes. out.new.items ≡ marked (is_null value.now) bitmap (place + 2) out.old.items ++ bytes)) }
+    ensures ok { OnOk result (IsSomeAnd (cell_in (column_view column.now) value.now)
+        (λ bytes. out.new.items ≡ marked (is_null value.now) bitmap (place + 2) out.old.items ++
+        bytes)) }
     ensures kept { OnErr result (out.new.items ≡ out.old.items) }
 {
     match value {

@@ -1,6 +1,7 @@
 //! Binary rows as they are written.
 
-ghost use Rattle.std.specs.Prelude.{◌≡◌, ◌++◌, ◌∷◌, ◌+◌, ◌-◌, ◌/◌, ◌%◌, ◌^◌, ◌<◌, ◌≤◌, [], None, OnErr, OnOk, drop, false, is_none, length, map, replicate, take, unwrap_or};
+ghost use Rattle.std.specs.Prelude.{◌≡◌, ◌++◌, ◌∷◌, ◌+◌, ◌-◌, ◌/◌, ◌%◌, ◌^◌, ◌<◌, ◌≤◌, [], None, OnErr, OnOk, drop};
+ghost use Rattle.std.specs.Prelude.{false, is_none, length, map, replicate, take, unwrap_or};
 ghost use Rattle.std.proofs.Common.{get_or};
 ghost use Rattle.std.specs.Option.{option_and_then, option_map};
 ghost use Rattle.mysql_columns.specs.Views.{column_view};
@@ -12,7 +13,7 @@ use crate::binary_cell::{Cell, NotWritten, cell_of, put_value};
 use crate::held::Held;
 use crate::row_bitmap::put_zeros;
 use mysql_columns::Column;
-use mysql_null_bitmap::{NullBitmap, ServerSide};
+use mysql_field_lists::{NullBitmap, ServerSide};
 
 /// The cell of what is held, by its column.
 fn held_cell<'a, C: Held>(column: &Column, cell: &'a C) -> Option<Cell<'a>>
@@ -35,8 +36,8 @@ pub fn first_without_form<C: Held>(columns: &[Column], cells: &[C]) -> Option<us
     None
 }
 
-/// Appends what is held at a place; NULL sets its bit in the bitmap that stands from `bitmap` on. Refused where that has no form, or
-/// for want of memory.
+/// Appends what is held at a place; NULL sets its bit in the bitmap that stands from `bitmap` on.
+/// Refused where that has no form, or for want of memory.
 #[inline(always)]
 fn put_held<C: Held>(
     bitmap: usize,
@@ -48,8 +49,11 @@ fn put_held<C: Held>(
     requires few { place ≤ usize.MAX - 2 }
     requires inside { bitmap + (place + 2) / 8 < length out.old.items }
     requires room { get_or out.old.items (bitmap + (place + 2) / 8) 0 + 2 ^ ((place + 2) % 8) < 256 }
-    ensures ok { OnOk result (out.new.items ≡ marked (is_held_null (C.held cell.now)) bitmap (place + 2) out.old.items ++ unwrap_or (option_and_then (cell_in (column_view column.now)) (C.held cell.now)) []) }
-    ensures form { OnOk result (is_none (option_and_then (cell_in (column_view column.now)) (C.held cell.now)) ≡ false) }
+    ensures ok { OnOk result (out.new.items ≡
+        marked (is_held_null (C.held cell.now)) bitmap (place + 2) out.old.items ++
+        unwrap_or (option_and_then (cell_in (column_view column.now)) (C.held cell.now)) []) }
+    ensures form { OnOk result
+        (is_none (option_and_then (cell_in (column_view column.now)) (C.held cell.now)) ≡ false) }
     ensures kept { OnErr result (out.new.items ≡ out.old.items) }
 {
     match cell.held() {
@@ -58,8 +62,9 @@ fn put_held<C: Held>(
     }
 }
 
-/// Appends the cells, of which each one has to have a form, and sets the bits of those that are NULL in the bitmap of zeros that
-/// stands from a place on. After a refusal what stood before the bitmap stands in front.
+/// Appends the cells, of which each one has to have a form, and sets the bits of those that are
+/// NULL in the bitmap of zeros that stands from a place on. After a refusal what stood before the
+/// bitmap stands in front.
 fn put_cells<C: Held>(
     bitmap: usize,
     columns: &[Column],
@@ -71,7 +76,9 @@ fn put_cells<C: Held>(
     requires from { bitmap ≤ length out.old.items }
     requires clear { drop bitmap out.old.items ≡ replicate ((length cells.now + 9) / 8) 0 }
     ensures form { OnOk result (binary_cause (column_views columns.now) (map C.held cells.now) ≡ None) }
-    ensures ok { OnOk result (out.new.items ≡ take bitmap out.old.items ++ (bits_bytes (null_marks (map C.held cells.now)) ++ cells_in (column_views columns.now) (map C.held cells.now))) }
+    ensures ok { OnOk result (out.new.items ≡ take bitmap out.old.items ++
+        (bits_bytes (null_marks (map C.held cells.now)) ++
+        cells_in (column_views columns.now) (map C.held cells.now))) }
     ensures kept { take bitmap out.new.items ≡ take bitmap out.old.items }
 {
     for (place, column) in columns.iter().enumerate() {
@@ -89,7 +96,9 @@ pub fn put_row<C: Held>(
 ) -> Result<(), NotWritten>
     requires { length columns.now ≡ length cells.now }
     ensures form { OnOk result (binary_cause (column_views columns.now) (map C.held cells.now) ≡ None) }
-    ensures ok { OnOk result (out.new.items ≡ out.old.items ++ 0 ∷ (bits_bytes (null_marks (map C.held cells.now)) ++ cells_in (column_views columns.now) (map C.held cells.now))) }
+    ensures ok { OnOk result (out.new.items ≡ out.old.items ++ 0 ∷
+        (bits_bytes (null_marks (map C.held cells.now)) ++
+        cells_in (column_views columns.now) (map C.held cells.now))) }
     ensures kept { take (length out.old.items) out.new.items ≡ out.old.items }
 {
     let _few = columns.len();

@@ -106,7 +106,8 @@ impl Row {
     // Takes a value out of its cell.
     fn take_value<I: ColumnIndex>(&mut self, index: &I) -> Option<Value>
         ensures value { result ≡ cell_at (row_view self.old) (I.place index.now (row_view self.old).columns) }
-        ensures taken { row_view self.new ≡ without_cell (row_view self.old) (I.place index.now (row_view self.old).columns) }
+        ensures taken { row_view self.new ≡
+            without_cell (row_view self.old) (I.place index.now (row_view self.old).columns) }
     {
         let number = index.idx(self.columns.as_slice())?;
         if number < self.cells.len() {
@@ -116,15 +117,18 @@ impl Row {
         }
     }
 
-    /// A copy of the value in a cell, converted to `T`; None where there is no such column, or its value was taken. Where
-    /// the value doesn't convert the error holds it. Refused for want of memory alone.
+    /// A copy of the value in a cell, converted to `T`; None where there is no such column, or its
+    /// value was taken. Where the value doesn't convert the error holds it. Refused for want of
+    /// memory alone.
     #[inline(always)]
     pub fn get_opt<T: FromValue, I: ColumnIndex>(
         &self,
         alloc: Global,
         index: I,
     ) -> Result<Option<Result<T, FromValueError>>, AllocError>
-        ensures { IfOk result (λ answer. option_map (answer_view T.shown) answer ≡ option_map (converted_or_value T.converted) (cell_at (row_view self.now) (I.place index (row_view self.now).columns))) }
+        ensures { IfOk result (λ answer. option_map (answer_view T.shown) answer ≡
+            option_map (converted_or_value T.converted)
+            (cell_at (row_view self.now) (I.place index (row_view self.now).columns))) }
     {
         match self.value_at(&index) {
             Some(value) => Ok(Some(T::from_value_ref_opt(alloc, value)?)),
@@ -132,16 +136,20 @@ impl Row {
         }
     }
 
-    /// A copy of the value in a cell, converted to `T`, where it converts, as [`get_opt`](Self::get_opt) tells; None where there
-    /// is no such column, or its value was taken. Refused for want of memory alone.
+    /// A copy of the value in a cell, converted to `T`, where it converts, as
+    /// [`get_opt`](Self::get_opt) tells; None where there is no such column, or its value was
+    /// taken. Refused for want of memory alone.
     #[inline(always)]
     pub fn get<T: FromValue, I: ColumnIndex>(
         &self,
         alloc: Global,
         index: I,
     ) -> Result<Option<T>, AllocError>
-        requires { IfSome (cell_at (row_view self.now) (I.place index (row_view self.now).columns)) (λ value. IsSome (T.converted value)) }
-        ensures { IfOk result (λ answer. option_map T.shown answer ≡ option_and_then T.converted (cell_at (row_view self.now) (I.place index (row_view self.now).columns))) }
+        requires { IfSome (cell_at (row_view self.now) (I.place index (row_view self.now).columns))
+            (λ value. IsSome (T.converted value)) }
+        ensures { IfOk result (λ answer. option_map T.shown answer ≡
+            option_and_then T.converted
+            (cell_at (row_view self.now) (I.place index (row_view self.now).columns))) }
     {
         match self.value_at(&index) {
             Some(value) => match T::from_value_ref_opt(alloc, value)? {
@@ -152,14 +160,18 @@ impl Row {
         }
     }
 
-    /// Takes the value out of a cell and converts it to `T`; None where there is no such column, or its value was taken.
-    /// Where the value doesn't convert it is taken all the same, and the error holds it.
+    /// Takes the value out of a cell and converts it to `T`; None where there is no such column, or
+    /// its value was taken. Where the value doesn't convert it is taken all the same, and the error
+    /// holds it.
     pub fn take_opt<T: FromValue, I: ColumnIndex>(
         &mut self,
         index: I,
     ) -> Option<Result<T, FromValueError>>
-        ensures value { option_map (answer_view T.shown) result ≡ option_map (converted_or_value T.converted) (cell_at (row_view self.old) (I.place index (row_view self.old).columns)) }
-        ensures taken { row_view self.new ≡ without_cell (row_view self.old) (I.place index (row_view self.old).columns) }
+        ensures value { option_map (answer_view T.shown) result ≡
+            option_map (converted_or_value T.converted)
+            (cell_at (row_view self.old) (I.place index (row_view self.old).columns)) }
+        ensures taken { row_view self.new ≡
+            without_cell (row_view self.old) (I.place index (row_view self.old).columns) }
     {
         match self.take_value(&index) {
             Some(value) => Some(T::from_value_opt(value)),
@@ -167,12 +179,16 @@ impl Row {
         }
     }
 
-    /// Takes the value out of a cell and converts it to `T`, where it converts; None where there is no such column, or its
-    /// value was taken.
+    /// Takes the value out of a cell and converts it to `T`, where it converts; None where there is
+    /// no such column, or its value was taken.
     pub fn take<T: FromValue, I: ColumnIndex>(&mut self, index: I) -> Option<T>
-        requires { IfSome (cell_at (row_view self.old) (I.place index (row_view self.old).columns)) (λ value. IsSome (T.converted value)) }
-        ensures value { option_map T.shown result ≡ option_and_then T.converted (cell_at (row_view self.old) (I.place index (row_view self.old).columns)) }
-        ensures taken { row_view self.new ≡ without_cell (row_view self.old) (I.place index (row_view self.old).columns) }
+        requires { IfSome (cell_at (row_view self.old) (I.place index (row_view self.old).columns))
+            (λ value. IsSome (T.converted value)) }
+        ensures value { option_map T.shown result ≡
+            option_and_then T.converted
+            (cell_at (row_view self.old) (I.place index (row_view self.old).columns)) }
+        ensures taken { row_view self.new ≡
+            without_cell (row_view self.old) (I.place index (row_view self.old).columns) }
     {
         match self.take_value(&index) {
             Some(value) => Some(T::from_value(value)),
@@ -180,7 +196,8 @@ impl Row {
         }
     }
 
-    /// Puts a value into the cell of this number, below the number of cells. The value that it held, if any, is dropped.
+    /// Puts a value into the cell of this number, below the number of cells. The value that it
+    /// held, if any, is dropped.
     pub fn place(&mut self, index: usize, value: Value)
         requires { index < length (row_view self.old).cells }
         ensures { row_view self.new ≡ with_cell (row_view self.old) index (Some value) }
@@ -202,21 +219,25 @@ impl Row {
     ///
     /// MySQL: Client/Server Protocol, "Text Resultset Row".
     pub fn write_text(&self, out: &mut Vec<u8>) -> Result<(), RowRefusal>
-        ensures { PutsRow (text_cause (row_view self.now).cells) (text_row (values_of (row_view self.now).cells)) out.old.items out.new.items result }
+        ensures { PutsRow (text_cause (row_view self.now).cells)
+            (text_row (values_of (row_view self.now).cells)) out.old.items out.new.items result }
     {
         write_text(self.cells.as_slice(), out)
     }
 
-    /// Appends the binary row of the cells' values by these columns, as many as there are cells, and not by the row's own; as
-    /// [`write_binary_row`](crate::write_binary_row) does.
+    /// Appends the binary row of the cells' values by these columns, as many as there are cells,
+    /// and not by the row's own; as [`write_binary_row`](crate::write_binary_row) does.
     ///
     /// # Errors
-    /// `NoForm` with the least place whose value was taken or has no cell by its column, then `Memory`. `out` is then as it was.
+    /// `NoForm` with the least place whose value was taken or has no cell by its column, then
+    /// `Memory`. `out` is then as it was.
     ///
     /// MySQL: Client/Server Protocol, "Binary Protocol Resultset Row", "Null-Bitmap" and "Binary Protocol Value".
     pub fn write_binary(&self, columns: &[Column], out: &mut Vec<u8>) -> Result<(), RowRefusal>
         requires { length columns.now ≡ length (row_view self.now).cells }
-        ensures { PutsRow (binary_cause (column_views columns.now) (row_view self.now).cells) (binary_row (column_views columns.now) (values_of (row_view self.now).cells)) out.old.items out.new.items result }
+        ensures { PutsRow (binary_cause (column_views columns.now) (row_view self.now).cells)
+            (binary_row (column_views columns.now) (values_of (row_view self.now).cells))
+            out.old.items out.new.items result }
     {
         write_binary(columns, self.cells.as_slice(), out)
     }
@@ -268,7 +289,8 @@ impl Index<&str> for Row {
 
     ghost can_index = { λ row name. IsSome (cell_at (row_view row) (column_named name.now (row_view row).columns)) };
 
-    ghost index_gives = { λ row name value. cell_at (row_view row) (column_named name.now (row_view row).columns) ≡ Some value };
+    ghost index_gives = { λ row name value. cell_at (row_view row)
+        (column_named name.now (row_view row).columns) ≡ Some value };
 
     fn index(&self, name: &str) -> &Value {
         match self.value_at(&name) {

@@ -1,28 +1,30 @@
 //! Rows read from their payloads.
 
 ghost use Rattle.std.specs.Prelude.{◌≡◌, ◌≤◌, ◌∷◌, Bool, IfOk, List, None, length};
-ghost use Rattle.mysql_raw.specs.Laws.{unsized};
+ghost use Rattle.mysql_fields.specs.Laws.{unsized};
 ghost use Rattle.mysql_wire.specs.Wire.{GivesPart};
-ghost use Rattle.mysql_null_bitmap.specs.NullBitmap.{bitmap_len, is_null_at};
+ghost use Rattle.mysql_field_lists.specs.NullBitmap.{bitmap_len, is_null_at};
 ghost use Rattle.mysql_columns.specs.Views.{column_view};
-ghost use Rattle.mysql_rows.specs.Rows.{Row as RowOf, as_row, binary_cell_at, binary_cells_at, binary_row_at, binary_row_body_at, some_cells, text_row_at};
+ghost use Rattle.mysql_rows.specs.Rows.{Row as RowOf, as_row, binary_cell_at, binary_cells_at, binary_row_at};
+ghost use Rattle.mysql_rows.specs.Rows.{binary_row_body_at, some_cells, text_row_at};
 ghost use Rattle.mysql_wire.specs.Lists.{elements_at};
 ghost use Rattle.mysql_cells.specs.Cells.{text_cell_at};
-ghost use Rattle.mysql_null_bitmap.specs.NullBits.{bits_left};
+ghost use Rattle.mysql_field_lists.specs.NullBits.{bits_left};
 ghost use Rattle.mysql_rows.specs.Views.{column_views, row_view, shared_columns};
 
 use crate::calls::new_row_raw;
 use crate::row::Row;
 use mysql_cells::{BinValue, Value, ValueDeserializer, read_text_cell};
 use mysql_columns::Column;
-use mysql_null_bitmap::{NullBitmap, NullBits, SerializationSide};
+use mysql_field_lists::{NullBitmap, NullBits, SerializationSide};
 use mysql_wire::{Binary, MyDeserialize, ParseBuf, ParseExt, Readable, Text, WireError};
 use std::alloc::{AllocError, Global};
 use std::marker::PhantomData;
 use std::rc::RcSlice;
 
-/// A row that was read by the protocol `P`, `Text` or `Binary`. In the binary protocol the side `S` wrote it: a bitmap of
-/// a server has two bits before that of the first column, and one of a client none.
+/// A row that was read by the protocol `P`, `Text` or `Binary`. In the binary protocol the side `S`
+/// wrote it: a bitmap of a server has two bits before that of the first column, and one of a client
+/// none.
 #[derive(Drop)]
 #[derive_where(Debug, PartialEq)]
 pub struct RowDeserializer<S, P>(Row, PhantomData<(S, P)>);
@@ -59,7 +61,8 @@ fn text_cells(
     count: usize,
     rest: &mut ParseBuf,
 ) -> Result<Vec<Option<Value>>, WireError>
-    ensures cells { GivesPart (λ cells. cells.items) rest.new.0.now result (some_cells (elements_at text_cell_at count rest.old.0.now)) }
+    ensures cells { GivesPart (λ cells. cells.items) rest.new.0.now result
+        (some_cells (elements_at text_cell_at count rest.old.0.now)) }
     ensures len { IfOk result (λ cells. length cells.items ≡ count) }
 {
     let mut cells = Vec::with_capacity(alloc, count)?;
@@ -72,7 +75,8 @@ fn text_cells(
 
 // Whether the next column is NULL.
 fn next_is_null(nulls: &mut NullBits) -> bool
-    ensures { (first : Bool) (others : List Bool) → bits_left nulls.old ≡ first ∷ others → (result ≡ first) × (bits_left nulls.new ≡ others) }
+    ensures { (first : Bool) (others : List Bool) → bits_left nulls.old ≡ first ∷ others →
+        (result ≡ first) × (bits_left nulls.new ≡ others) }
 {
     match nulls.next() {
         Some(is_null) => is_null,
@@ -87,7 +91,8 @@ fn binary_cell(
     column: &Column,
     rest: &mut ParseBuf,
 ) -> Result<Value, WireError>
-    ensures { GivesPart (λ value. value) rest.new.0.now result (binary_cell_at is_null (column_view column.now) rest.old.0.now) }
+    ensures { GivesPart (λ value. value) rest.new.0.now result
+        (binary_cell_at is_null (column_view column.now) rest.old.0.now) }
 {
     if is_null {
         return Ok(Value::NULL);
@@ -105,7 +110,9 @@ fn binary_cells<S: SerializationSide>(
     rest: &mut ParseBuf,
 ) -> Result<Vec<Option<Value>>, WireError>
     requires { bitmap_len S.BIT_OFFSET (length columns.now) ≤ length bitmap.now }
-    ensures cells { GivesPart (λ cells. cells.items) rest.new.0.now result (some_cells (binary_cells_at S.BIT_OFFSET bitmap.now 0 (column_views columns.now) rest.old.0.now)) }
+    ensures cells { GivesPart (λ cells. cells.items) rest.new.0.now result
+        (some_cells (binary_cells_at S.BIT_OFFSET bitmap.now 0 (column_views columns.now)
+        rest.old.0.now)) }
     ensures len { IfOk result (λ cells. length cells.items ≡ length columns.now) }
 {
     let bitmap = NullBitmap::<S, &[u8]>::from_bytes(bitmap);
@@ -126,7 +133,8 @@ fn binary_row<S: SerializationSide>(
     columns: &[Column],
     rest: &mut ParseBuf,
 ) -> Result<Vec<Option<Value>>, WireError>
-    ensures cells { GivesPart (λ cells. cells.items) rest.new.0.now result (some_cells (binary_row_at S.BIT_OFFSET (column_views columns.now) rest.old.0.now)) }
+    ensures cells { GivesPart (λ cells. cells.items) rest.new.0.now result
+        (some_cells (binary_row_at S.BIT_OFFSET (column_views columns.now) rest.old.0.now)) }
     ensures len { IfOk result (λ cells. length cells.items ≡ length columns.now) }
 {
     let Some(_header) = rest.checked_eat(1) else {
@@ -152,7 +160,8 @@ impl<S> Readable for RowDeserializer<S, Text> {
 
     ghost read_at = { λ columns bytes. as_row (shared_columns columns) (text_row_at (shared_columns columns) bytes) };
 
-    ghost sized = { λ columns. unsized (λ bytes. as_row (shared_columns columns) (text_row_at (shared_columns columns) bytes)) };
+    ghost sized = { λ columns. unsized
+        (λ bytes. as_row (shared_columns columns) (text_row_at (shared_columns columns) bytes)) };
 
     fn size() -> Option<usize>
         ensures { result ≡ None }
@@ -189,9 +198,12 @@ impl<S: SerializationSide> Readable for RowDeserializer<S, Binary> {
 
     ghost kept = { λ x. row_view x.0 };
 
-    ghost read_at = { λ columns bytes. as_row (shared_columns columns) (binary_row_at S.BIT_OFFSET (shared_columns columns) bytes) };
+    ghost read_at = { λ columns bytes. as_row (shared_columns columns)
+        (binary_row_at S.BIT_OFFSET (shared_columns columns) bytes) };
 
-    ghost sized = { λ columns. unsized (λ bytes. as_row (shared_columns columns) (binary_row_at S.BIT_OFFSET (shared_columns columns) bytes)) };
+    ghost sized = { λ columns. unsized
+        (λ bytes. as_row (shared_columns columns)
+        (binary_row_at S.BIT_OFFSET (shared_columns columns) bytes)) };
 
     fn size() -> Option<usize>
         ensures { result ≡ None }
@@ -200,9 +212,10 @@ impl<S: SerializationSide> Readable for RowDeserializer<S, Binary> {
     }
 }
 
-/// Reads a row: a byte of any value, the bitmap of the columns that are NULL, and the cells of the others by their
-/// columns' types and flags. Refuses UnexpectedEof where the first byte or the bitmap is cut off, then, at the first cell
-/// that fails, UnexpectedEof or UnsupportedType (a type without cells), and Memory; all bytes are then left.
+/// Reads a row: a byte of any value, the bitmap of the columns that are NULL, and the cells of the
+/// others by their columns' types and flags. Refuses UnexpectedEof where the first byte or the
+/// bitmap is cut off, then, at the first cell that fails, UnexpectedEof or UnsupportedType (a type
+/// without cells), and Memory; all bytes are then left.
 ///
 /// MySQL: Client/Server Protocol, "Binary Protocol Resultset Row".
 impl<'de, S: SerializationSide> MyDeserialize<'de> for RowDeserializer<S, Binary> {

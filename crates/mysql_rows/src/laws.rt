@@ -1,6 +1,7 @@
 //! What holds of rows.
 
-ghost use Rattle.mysql_rows.specs.WrittenLaws.{BinaryRowsBegin, BinaryRowsReadBack, ReadBinaryRowsAreWritten, ReadTextRowsAreWritten, TextRowsBegin, TextRowsReadBack};
+ghost use Rattle.mysql_rows.specs.WrittenLaws.{BinaryRowsBegin, BinaryRowsReadBack, ReadBinaryRowsAreWritten};
+ghost use Rattle.mysql_rows.specs.WrittenLaws.{ReadTextRowsAreWritten, TextRowsBegin, TextRowsReadBack};
 ghost use Rattle.mysql_rows.specs.RowLaws.{CellIsTakenOnce, NamedColumnIsFirst, OtherCellsStay, PlacedValueStands};
 
 use mysql_cells::laws::cells_read_back;
@@ -41,15 +42,16 @@ pub fn read_text_rows_are_written()
     ensures { ReadTextRowsAreWritten }
 {}
 
-/// A text row never begins with ff, by which an error begins, and with fe, by which the end of rows begins, only where it has
-/// 2^24 bytes or more.
+/// A text row never begins with ff, by which an error begins, and with fe, by which the end of rows
+/// begins, only where it has 2^24 bytes or more.
 #[tactic(auto, using(crate::proofs::TextBack::text_rows_begin))]
 pub fn text_rows_begin()
     ensures { TextRowsBegin }
 {}
 
-/// A binary row of values that all have a cell by their columns is read again, whatever follows it: each value as itself, but
-/// an unsigned number below 2^63 as `Int`, and an all-zero time as positive.
+/// A binary row of values that all have a cell by their columns is read again, whatever follows it:
+/// each value as itself, but an unsigned number below 2^63 as `Int`, and an all-zero time as
+/// positive.
 pub fn binary_rows_read_back()
     ensures { BinaryRowsReadBack }
 {
@@ -62,8 +64,8 @@ pub fn binary_rows_begin()
     ensures { BinaryRowsBegin }
 {}
 
-/// The values of a binary row that was read have cells by their columns, and are read again as they are, but an all-zero
-/// time as positive.
+/// The values of a binary row that was read have cells by their columns, and are read again as they
+/// are, but an all-zero time as positive.
 #[tactic(auto, using(crate::proofs::BinaryRead::read_binary_rows_are_written))]
 pub fn read_binary_rows_are_written()
     ensures { ReadBinaryRowsAreWritten }

@@ -1,10 +1,11 @@
 //! Text rows as they are written.
 
-ghost use Rattle.std.specs.Prelude.{◌≡◌, ◌++◌, [], IsSome, MatchResult, None, OnOk, Some, is_none, length, map, take, unwrap_or};
+ghost use Rattle.std.specs.Prelude.{◌≡◌, ◌++◌, [], IsSome, MatchResult, None, OnOk, Some, is_none, length, map, take};
+ghost use Rattle.std.specs.Prelude.{unwrap_or};
 ghost use Rattle.std.specs.Fmt.{decimal, signed_decimal};
 ghost use Rattle.std.specs.Option.{option_and_then};
 ghost use Rattle.mysql_buf.specs.Writing.{lenenc_str};
-ghost use Rattle.mysql_raw.specs.Wire.{Appends};
+ghost use Rattle.mysql_fields.specs.Wire.{Appends};
 ghost use Rattle.mysql_rows.specs.Written.{text_cause, text_cell};
 ghost use Rattle.mysql_rows.specs.CellsWritten.{temporal_text, text_cells};
 
@@ -45,8 +46,8 @@ fn put_signed(number: i64, out: &mut Vec<u8>) -> Result<(), AllocError>
     put_text(buffer.format(number).as_bytes(), out)
 }
 
-/// Appends the text of a date or a time after its length. Its literal is this text between quotes: the length takes the first
-/// one's place, and the last one goes.
+/// Appends the text of a date or a time after its length. Its literal is this text between quotes:
+/// the length takes the first one's place, and the last one goes.
 fn put_temporal(temporal: &Value, out: &mut Vec<u8>) -> Result<(), AllocError>
     requires { IsSome (temporal_text temporal.now) }
     ensures { Appends result out.old.items out.new.items (lenenc_str (unwrap_or (temporal_text temporal.now) [])) }
@@ -98,7 +99,8 @@ fn held_room<C: Held>(cell: &C) -> Option<usize>
 
 /// Bytes that are enough for a row of these cells; or the first one that has no form.
 pub fn row_room<C: Held>(cells: &[C]) -> Result<usize, usize>
-    ensures { MatchResult result (λ _. text_cause (map C.held cells.now) ≡ None) (λ place. text_cause (map C.held cells.now) ≡ Some place) }
+    ensures { MatchResult result (λ _. text_cause (map C.held cells.now) ≡
+        None) (λ place. text_cause (map C.held cells.now) ≡ Some place) }
 {
     let mut room: usize = 0;
     for (place, cell) in cells.iter().enumerate() {

@@ -13,7 +13,8 @@ use mysql_columns::Column;
 
 /// Appends a text row, after room was made for all of it.
 pub(crate) fn write_text<C: Held>(cells: &[C], out: &mut Vec<u8>) -> Result<(), RowRefusal>
-    ensures { PutsRow (text_cause (map C.held cells.now)) (text_row (values_of (map C.held cells.now))) out.old.items out.new.items result }
+    ensures { PutsRow (text_cause (map C.held cells.now))
+        (text_row (values_of (map C.held cells.now))) out.old.items out.new.items result }
 {
     let room = match text_writing::row_room(cells) {
         Ok(room) => room,
@@ -35,7 +36,9 @@ pub(crate) fn write_binary<C: Held>(
     out: &mut Vec<u8>,
 ) -> Result<(), RowRefusal>
     requires { length columns.now ≡ length cells.now }
-    ensures { PutsRow (binary_cause (column_views columns.now) (map C.held cells.now)) (binary_row (column_views columns.now) (values_of (map C.held cells.now))) out.old.items out.new.items result }
+    ensures { PutsRow (binary_cause (column_views columns.now) (map C.held cells.now))
+        (binary_row (column_views columns.now) (values_of (map C.held cells.now))) out.old.items
+        out.new.items result }
 {
     let len = out.len();
     if binary_writing::put_row(columns, cells, out).is_ok() {
@@ -48,8 +51,9 @@ pub(crate) fn write_binary<C: Held>(
     }
 }
 
-/// Appends the text row of these values: NULL as fb, else the value's text after its length, of a number its digits, bytes and
-/// the texts of dates and times as they are. An all-zero time is written without its sign.
+/// Appends the text row of these values: NULL as fb, else the value's text after its length, of a
+/// number its digits, bytes and the texts of dates and times as they are. An all-zero time is
+/// written without its sign.
 ///
 /// # Errors
 /// `NoForm` with the least place that holds a float, which has no text here, then `Memory`. `out` is then as it was.
@@ -61,9 +65,10 @@ pub fn write_text_row(values: &[Value], out: &mut Vec<u8>) -> Result<(), RowRefu
     write_text(values, out)
 }
 
-/// Appends the binary row of these values, as many as there are columns: a zero, the bitmap of those that are NULL, and the
-/// cells of the others by their columns' types and flags. A whole number is written in as many bytes as its column's type
-/// has, where it is in range there; floats, bytes, dates and times in columns of such types; NULL in each column.
+/// Appends the binary row of these values, as many as there are columns: a zero, the bitmap of
+/// those that are NULL, and the cells of the others by their columns' types and flags. A whole
+/// number is written in as many bytes as its column's type has, where it is in range there; floats,
+/// bytes, dates and times in columns of such types; NULL in each column.
 ///
 /// # Errors
 /// `NoForm` with the least place whose value has no cell by its column, then `Memory`. `out` is then as it was.
@@ -75,7 +80,8 @@ pub fn write_binary_row(
     out: &mut Vec<u8>,
 ) -> Result<(), RowRefusal>
     requires { length columns.now ≡ length values.now }
-    ensures { PutsRow (binary_cause (column_views columns.now) (map Some values.now)) (binary_row (column_views columns.now) values.now) out.old.items out.new.items result }
+    ensures { PutsRow (binary_cause (column_views columns.now) (map Some values.now))
+        (binary_row (column_views columns.now) values.now) out.old.items out.new.items result }
 {
     write_binary(columns, values, out)
 }

@@ -8,7 +8,7 @@ use Rattle.mysql_values.specs.declared.params.SetError.{SetError}
 use Rattle.mysql_values.specs.declared.params.SetError.TheVariants as set_error
 use Rattle.mysql_values.specs.Value.{Value}
 use Rattle.mysql_values.specs.Params.{values_over}
-use Rattle.mysql_streams.specs.Sets.{Given, given_by, given_up_to}
+use Rattle.mysql_command_rules.specs.Sets.{Given, given_by, given_up_to}
 use Rattle.mysql_senders.specs.OneSet.{behind}
 
 -- values over a query's names are given

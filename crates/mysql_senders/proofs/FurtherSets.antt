@@ -8,14 +8,14 @@ use Rattle.mysql_wire.specs.Stream.{framings}
 use Rattle.mysql_wire.specs.Stream.Numbering.{EachFromZero}
 use Rattle.mysql_values.specs.Parsed.{names_of}
 use Rattle.mysql_values.specs.Value.{Value}
-use Rattle.mysql_commands.specs.Query.{Statement, place_count, statement_of}
-use Rattle.mysql_streams.specs.declared.refusal.Refusal.{Refusal}
-use Rattle.mysql_streams.specs.declared.road.Road.TheVariants.{Execute}
-use Rattle.mysql_streams.specs.Cause.{first_of_sets, query_cause, set_cause}
-use Rattle.mysql_streams.specs.Reading.{IsReadable}
-use Rattle.mysql_streams.specs.Sending.{SendsGiven}
-use Rattle.mysql_streams.specs.Sent.{SentPayload, as_execution, on_the_way, payloads_of, prepare_of, stream_of}
-use Rattle.mysql_streams.specs.Sets.{Given}
+use Rattle.mysql_receive.specs.Query.{Statement, place_count, statement_of}
+use Rattle.mysql_command_rules.specs.declared.refusal.Refusal.{Refusal}
+use Rattle.mysql_command_rules.specs.declared.road.Road.TheVariants.{Execute}
+use Rattle.mysql_command_rules.specs.Cause.{first_of_sets, query_cause, set_cause}
+use Rattle.mysql_command_rules.specs.Reading.{IsReadable}
+use Rattle.mysql_command_rules.specs.Sending.{SendsGiven}
+use Rattle.mysql_command_rules.specs.Sent.{SentPayload, as_execution, on_the_way, payloads_of, prepare_of, stream_of}
+use Rattle.mysql_command_rules.specs.Sets.{Given}
 use Rattle.mysql_senders.specs.Laws.{FurtherSetsAreSent}
 use Rattle.mysql_senders.specs.OneSet.{execution_payloads, whole_execution}
 use Rattle.mysql_senders.proofs.SentSets.{framings-append}

@@ -8,13 +8,13 @@ use Rattle.mysql_values.specs.Queries.{places_from}
 use Rattle.mysql_values.specs.Parsed.{names_of}
 use Rattle.mysql_values.specs.declared.params.Params.{Params}
 use Rattle.mysql_values.specs.declared.params.SetError.{SetError}
-use Rattle.mysql_streams.specs.declared.refusal.Refusal.{Refusal}
-use Rattle.mysql_streams.specs.declared.refusal.Refusal.TheVariants as refusals
-use Rattle.mysql_streams.specs.declared.road.Road.TheVariants.{Text}
-use Rattle.mysql_streams.specs.Cause.{places_cause}
-use Rattle.mysql_streams.specs.Reading.{SentReadable}
-use Rattle.mysql_streams.specs.Sending.{RefusesGiven}
-use Rattle.mysql_streams.specs.Sets.{Given, all_given, given_by}
+use Rattle.mysql_command_rules.specs.declared.refusal.Refusal.{Refusal}
+use Rattle.mysql_command_rules.specs.declared.refusal.Refusal.TheVariants as refusals
+use Rattle.mysql_command_rules.specs.declared.road.Road.TheVariants.{Text}
+use Rattle.mysql_command_rules.specs.Cause.{places_cause}
+use Rattle.mysql_command_rules.specs.Reading.{SentReadable}
+use Rattle.mysql_command_rules.specs.Sending.{RefusesGiven}
+use Rattle.mysql_command_rules.specs.Sets.{Given, all_given, given_by}
 use Rattle.mysql_senders.specs.MadeSets.{AllMade, IsSetAt, given_by_made}
 use Rattle.mysql_senders.specs.OneSet.{AppendsExecution, AppendsExecutions, AppendsQuery, Limits, RefusesQuery, RefusesSet, RefusesSets, whole_execution}
 use Rattle.mysql_senders.proofs.SentSets.{next_set}

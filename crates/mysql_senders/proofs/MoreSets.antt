@@ -6,9 +6,9 @@ use Rattle.std.proofs.lemmas.List.{append-nil, drop-map, drop_all, take-append-l
 use Rattle.mysql_wire.specs.Stream.{framings}
 use Rattle.mysql_wire.specs.Stream.Numbering.{EachFromZero}
 use Rattle.mysql_values.specs.Value.{Value}
-use Rattle.mysql_streams.specs.declared.refusal.Refusal.{Refusal}
-use Rattle.mysql_streams.specs.Cause.{first_of_sets, set_cause}
-use Rattle.mysql_streams.specs.Sets.{Given}
+use Rattle.mysql_command_rules.specs.declared.refusal.Refusal.{Refusal}
+use Rattle.mysql_command_rules.specs.Cause.{first_of_sets, set_cause}
+use Rattle.mysql_command_rules.specs.Sets.{Given}
 use Rattle.mysql_senders.specs.OneSet.{AppendsExecution, AppendsExecutions, AppendsMore, Limits, RefusesMore, RefusesSet, execution_payloads, whole_execution}
 use Rattle.mysql_senders.proofs.Contents.{gives_one}
 use Rattle.mysql_senders.proofs.SentSets.{first_is, framings-append, front_length}

@@ -11,7 +11,7 @@ use Rattle.mysql_wire.specs.Stream.Numbering.{EachFromZero}
 use Rattle.mysql_values.specs.Value.{Value}
 use Rattle.mysql_stmt.specs.Executions.{execute_command, needs_long_data, whole_size}
 use Rattle.mysql_stmt.specs.Statements.{ExecutionsHaveSizes}
-use Rattle.mysql_streams.specs.Commands.{piece_of, pieces_from, prepare_command}
+use Rattle.mysql_command_rules.specs.Commands.{piece_of, pieces_from, prepare_command}
 use Rattle.mysql_senders.specs.OneSet.{execution_payloads, whole_execution}
 use Rattle.mysql_senders.proofs.SentSets.{framings-append, front_length, next_set}
 

@@ -8,9 +8,9 @@ use Rattle.mysql_values.specs.Value.{Value}
 use Rattle.mysql_stmt.specs.Executions.{whole_size}
 use Rattle.mysql_cells.specs.Values.{first_float}
 use Rattle.mysql_stmt.specs.Statements.{ExecutionsHaveSizes}
-use Rattle.mysql_streams.specs.declared.refusal.Refusal.{Refusal}
-use Rattle.mysql_streams.specs.declared.refusal.Refusal.TheVariants as refusals
-use Rattle.mysql_streams.specs.Cause.{cause_if, set_cause}
+use Rattle.mysql_command_rules.specs.declared.refusal.Refusal.{Refusal}
+use Rattle.mysql_command_rules.specs.declared.refusal.Refusal.TheVariants as refusals
+use Rattle.mysql_command_rules.specs.Cause.{cause_if, set_cause}
 use Rattle.mysql_senders.specs.OneSet.{whole_execution}
 
 -- what one pass finds: no value is a float, and so many bytes, which are within the room

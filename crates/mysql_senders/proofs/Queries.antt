@@ -14,15 +14,15 @@ use Rattle.mysql_values.specs.Parsed.{names_of}
 use Rattle.mysql_values.specs.Tokens.{HasTokens}
 use Rattle.mysql_values.specs.Place.{Place}
 use Rattle.mysql_values.specs.Queries.{HasPlaces, places_from}
-use Rattle.mysql_commands.specs.Query.{statement_of}
-use Rattle.mysql_streams.specs.declared.refusal.Refusal.{Refusal}
-use Rattle.mysql_streams.specs.declared.refusal.Refusal.TheVariants as refusals
-use Rattle.mysql_streams.specs.declared.road.Road.TheVariants.{Text}
-use Rattle.mysql_streams.specs.Sets.{Given, given_by}
-use Rattle.mysql_streams.specs.Sent.{as_text, payloads_of}
-use Rattle.mysql_streams.specs.Cause.{first_of_sets, places_cause, set_cause}
-use Rattle.mysql_streams.specs.Reading.{IsReadable, SentReadable}
-use Rattle.mysql_streams.specs.Sending.{RefusesGiven}
+use Rattle.mysql_receive.specs.Query.{statement_of}
+use Rattle.mysql_command_rules.specs.declared.refusal.Refusal.{Refusal}
+use Rattle.mysql_command_rules.specs.declared.refusal.Refusal.TheVariants as refusals
+use Rattle.mysql_command_rules.specs.declared.road.Road.TheVariants.{Text}
+use Rattle.mysql_command_rules.specs.Sets.{Given, given_by}
+use Rattle.mysql_command_rules.specs.Sent.{as_text, payloads_of}
+use Rattle.mysql_command_rules.specs.Cause.{first_of_sets, places_cause, set_cause}
+use Rattle.mysql_command_rules.specs.Reading.{IsReadable, SentReadable}
+use Rattle.mysql_command_rules.specs.Sending.{RefusesGiven}
 use Rattle.mysql_senders.specs.OneSet.{AppendsQuery, AppendsSet, RefusesQuery, limits_of, query_and_set_cause, text_command, text_payloads}
 use Rattle.mysql_senders.proofs.Contents.{gives_one, gives_values}
 use Rattle.mysql_senders.proofs.SentSets.{AllSent, SetsSent, all_sent as all_of, cause_behind, first_is, first_of_two, first_refused, front_length, none_of_two, none_sent as none_of, one_more}

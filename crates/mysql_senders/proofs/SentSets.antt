@@ -8,9 +8,9 @@ use Rattle.mysql_wire.specs.Framing.{framing}
 use Rattle.mysql_wire.specs.Stream.{framings}
 use Rattle.mysql_wire.specs.Stream.Numbering.{EachFromZero}
 use Rattle.mysql_values.specs.Value.{Value}
-use Rattle.mysql_streams.specs.declared.refusal.Refusal.{Refusal}
-use Rattle.mysql_streams.specs.Sets.{Given}
-use Rattle.mysql_streams.specs.Cause.{first_of_sets, set_cause}
+use Rattle.mysql_command_rules.specs.declared.refusal.Refusal.{Refusal}
+use Rattle.mysql_command_rules.specs.Sets.{Given}
+use Rattle.mysql_command_rules.specs.Cause.{first_of_sets, set_cause}
 use Rattle.mysql_senders.specs.OneSet.{AppendsSet, Limits}
 
 -- framings that are each numbered from 0 stand apart

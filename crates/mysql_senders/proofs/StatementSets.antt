@@ -13,16 +13,16 @@ use Rattle.mysql_values.specs.Value.{Value}
 use Rattle.mysql_values.specs.Params.{values_over}
 use Rattle.mysql_values.specs.Parsed.{Parsed, names_of}
 use Rattle.mysql_values.specs.Queries.{is_mixed, places_from}
-use Rattle.mysql_commands.specs.Query.{Statement, statement_of}
-use Rattle.mysql_streams.specs.declared.refusal.Refusal.{Refusal}
-use Rattle.mysql_streams.specs.declared.refusal.Refusal.TheVariants as refusals
-use Rattle.mysql_streams.specs.declared.road.Road.TheVariants.{Execute}
-use Rattle.mysql_streams.specs.Commands.{prepare_command}
-use Rattle.mysql_streams.specs.Sets.{Given, given_by}
-use Rattle.mysql_streams.specs.Sent.{SentPayload, as_execution, on_the_way, payloads_of, prepare_of}
-use Rattle.mysql_streams.specs.Cause.{cause_if, first_of_sets, max_places, prepare_cause, set_cause}
-use Rattle.mysql_streams.specs.Reading.{SentReadable}
-use Rattle.mysql_streams.specs.Sending.{RefusesGiven}
+use Rattle.mysql_receive.specs.Query.{Statement, statement_of}
+use Rattle.mysql_command_rules.specs.declared.refusal.Refusal.{Refusal}
+use Rattle.mysql_command_rules.specs.declared.refusal.Refusal.TheVariants as refusals
+use Rattle.mysql_command_rules.specs.declared.road.Road.TheVariants.{Execute}
+use Rattle.mysql_command_rules.specs.Commands.{prepare_command}
+use Rattle.mysql_command_rules.specs.Sets.{Given, given_by}
+use Rattle.mysql_command_rules.specs.Sent.{SentPayload, as_execution, on_the_way, payloads_of, prepare_of}
+use Rattle.mysql_command_rules.specs.Cause.{cause_if, first_of_sets, max_places, prepare_cause, set_cause}
+use Rattle.mysql_command_rules.specs.Reading.{SentReadable}
+use Rattle.mysql_command_rules.specs.Sending.{RefusesGiven}
 use Rattle.mysql_senders.specs.OneSet.{AppendsExecution, AppendsExecutions, IsStatement, Limits, RefusesSet, RefusesSets, execution_payloads, limits_of, whole_execution}
 use Rattle.mysql_senders.proofs.Contents.{gives_values}
 use Rattle.mysql_senders.proofs.SentSets.{AllSent, SetsSent, all_sent as all_of, cause_behind, first_is, first_of_two, first_refused, front_length, none_of_two, none_sent as none_of, one_more}

@@ -20,14 +20,14 @@ use Rattle.mysql_values.specs.Laws.{PiecesAreSlices}
 use Rattle.mysql_values.specs.Params.{IsMeaning, values_over}
 use Rattle.mysql_values.specs.Parsed.{names_of}
 use Rattle.mysql_values.specs.Binding.{IsBound, IsBindCause, alone_cause, given_cause as bound_cause, values_cause}
-use Rattle.mysql_commands.specs.Reading.{TextReadsAs}
-use Rattle.mysql_commands.specs.Query.{statement_of}
-use Rattle.mysql_streams.specs.declared.refusal.Refusal.{Refusal}
-use Rattle.mysql_streams.specs.declared.refusal.Refusal.TheVariants as refusals
-use Rattle.mysql_streams.specs.Commands.{query_command}
-use Rattle.mysql_streams.specs.Sets.{given_by}
-use Rattle.mysql_streams.specs.Sent.{query_text_of}
-use Rattle.mysql_streams.specs.Cause.{cause_if, set_cause}
+use Rattle.mysql_receive.specs.Reading.{TextReadsAs}
+use Rattle.mysql_receive.specs.Query.{statement_of}
+use Rattle.mysql_command_rules.specs.declared.refusal.Refusal.{Refusal}
+use Rattle.mysql_command_rules.specs.declared.refusal.Refusal.TheVariants as refusals
+use Rattle.mysql_command_rules.specs.Commands.{query_command}
+use Rattle.mysql_command_rules.specs.Sets.{given_by}
+use Rattle.mysql_command_rules.specs.Sent.{query_text_of}
+use Rattle.mysql_command_rules.specs.Cause.{cause_if, set_cause}
 use Rattle.mysql_senders.specs.OneSet.{AppendsQuery, Limits, RefusesQuery, limits_of, refusal_by, text_command}
 use Rattle.mysql_senders.proofs.Contents.{gives_values}
 use Rattle.mysql_senders.proofs.SentSets.{first_is, one_framed}

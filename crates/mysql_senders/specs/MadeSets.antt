@@ -5,7 +5,7 @@ use Rattle.mysql_values.specs.declared.params.Params.{Params}
 use Rattle.mysql_values.specs.declared.params.ParamsError.TheVariants as params_error
 use Rattle.mysql_values.specs.declared.params.SetError.{SetError}
 use Rattle.mysql_values.specs.declared.params.SetError.TheVariants as set_error
-use Rattle.mysql_streams.specs.Sets.{Given, all_given, given_by}
+use Rattle.mysql_command_rules.specs.Sets.{Given, all_given, given_by}
 
 -- whether an error of a set is want of memory, which a refusal tells as its own and never as a set's
 abbrev pub is_want_of_memory : SetError → Bool

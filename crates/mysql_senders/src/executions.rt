@@ -1,28 +1,30 @@
 //! Parameter sets as executions of a prepared statement.
 
-ghost use Rattle.std.specs.Prelude.{◌≡◌, ◌+◌, ◌-◌, ◌^◌, ◌++◌, ◌∷◌, ◌<◌, ◌≤◌, ℕ, [], IfErr, IfOk, IfSome, List, None, Ok, OnErr, OnOk, OnSome, Some, false, is_none, length, map, nat_lt, take};
+ghost use Rattle.std.specs.Prelude.{◌≡◌, ◌+◌, ◌-◌, ◌^◌, ◌++◌, ◌∷◌, ◌<◌, ◌≤◌, ℕ, [], IfErr, IfOk, IfSome, List, None};
+ghost use Rattle.std.specs.Prelude.{Ok, OnErr, OnOk, OnSome, Some, false, is_none, length, map, nat_lt, take};
 ghost use Rattle.byteorder.specs.Endian.{little_bytes};
 ghost use Rattle.mysql_stmt.specs.Executions.{execute_command};
 ghost use Rattle.mysql_cells.specs.Values.{first_float};
 ghost use Rattle.mysql_wire.specs.Framing.{framing};
 ghost use Rattle.mysql_wire.specs.Stream.{framings};
 ghost use Rattle.mysql_wire.specs.Stream.Numbering.{EachFromZero};
-ghost use Rattle.mysql_streams.specs.Cause.{set_cause};
-ghost use Rattle.mysql_streams.specs.Commands.{piece_of, pieces_from};
-ghost use Rattle.mysql_streams.specs.Reading.{SentReadable};
-ghost use Rattle.mysql_streams.specs.Sending.{RefusesGiven};
-ghost use Rattle.mysql_streams.specs.Sets.{all_given, all_given_in_places, given_by};
-ghost use Rattle.mysql_streams.specs.declared.refusal.Refusal.TheVariants as refusals;
-ghost use Rattle.mysql_streams.specs.declared.road.Road.TheVariants as roads;
-ghost use Rattle.mysql_senders.specs.OneSet.{AppendsExecution, AppendsExecutions, AppendsMore, IsStatement, RefusesMore, RefusesSet, RefusesSets, execution_payloads, whole_execution};
+ghost use Rattle.mysql_command_rules.specs.Cause.{set_cause};
+ghost use Rattle.mysql_command_rules.specs.Commands.{piece_of, pieces_from};
+ghost use Rattle.mysql_command_rules.specs.Reading.{SentReadable};
+ghost use Rattle.mysql_command_rules.specs.Sending.{RefusesGiven};
+ghost use Rattle.mysql_command_rules.specs.Sets.{all_given, all_given_in_places, given_by};
+ghost use Rattle.mysql_command_rules.specs.declared.refusal.Refusal.TheVariants as refusals;
+ghost use Rattle.mysql_command_rules.specs.declared.road.Road.TheVariants as roads;
+ghost use Rattle.mysql_senders.specs.OneSet.{AppendsExecution, AppendsExecutions, AppendsMore, IsStatement};
+ghost use Rattle.mysql_senders.specs.OneSet.{RefusesMore, RefusesSet, RefusesSets, execution_payloads, whole_execution};
 
 use crate::set_values::{check_values, list_values_for, values_fit, values_in_order};
 use crate::statement::{Statement, check_count, found_statement, put_prepare, statement_of};
+use mysql_command_rules::Refusal;
 use mysql_const::MAX_PAYLOAD_LEN;
-use mysql_raw::MySerialize;
+use mysql_fields::MySerialize;
 use mysql_stmt::laws::executions_have_sizes;
 use mysql_stmt::{ComStmtSendLongData, HasValue, put_execution, size_within, size_without_floats};
-use mysql_streams::Refusal;
 use mysql_values::{Params, Value};
 use mysql_wire::packet_to_chunks;
 use std::alloc::{AllocError, Global};
@@ -73,7 +75,8 @@ fn put_pieces<V: HasValue>(
     out: &mut Vec<u8>,
 ) -> Result<(), Refusal>
     requires { length values.now ≤ 65535 }
-    ensures ok { OnOk result (out.new.items ≡ out.old.items ++ framings (pieces_from id 0 (map V.value values.now)) EachFromZero) }
+    ensures ok { OnOk result (out.new.items ≡ out.old.items ++
+        framings (pieces_from id 0 (map V.value values.now)) EachFromZero) }
     ensures err { IfErr result (λ refusal. refusal ≡ refusals.Memory) }
     ensures kept { take (length out.old.items) out.new.items ≡ out.old.items }
 {
@@ -92,7 +95,8 @@ fn put_buffered<V: HasValue>(
     out: &mut Vec<u8>,
 ) -> Result<(), Refusal>
     requires { length values.now ≤ 65535 }
-    ensures ok { OnOk result (out.new.items ≡ out.old.items ++ framing (execute_command id (map V.value values.now) apart) 0) }
+    ensures ok { OnOk result (out.new.items ≡ out.old.items ++
+        framing (execute_command id (map V.value values.now) apart) 0) }
     ensures err { IfErr result (λ refusal. refusal ≡ refusals.Memory) }
     ensures kept { OnErr result (out.new.items ≡ out.old.items) }
 {
@@ -113,7 +117,8 @@ fn put_long<V: HasValue>(
 ) -> Result<(), Refusal>
     requires count { length values.now ≤ 65535 }
     requires size { length (whole_execution id (map V.value values.now)) ≡ size }
-    ensures ok { OnOk result (out.new.items ≡ out.old.items ++ framings (execution_payloads id (map V.value values.now)) EachFromZero) }
+    ensures ok { OnOk result (out.new.items ≡ out.old.items ++
+        framings (execution_payloads id (map V.value values.now)) EachFromZero) }
     ensures err { IfErr result (λ refusal. refusal ≡ refusals.Memory) }
     ensures kept { take (length out.old.items) out.new.items ≡ out.old.items }
 {
@@ -146,7 +151,8 @@ fn put_short<V: HasValue>(
     requires count { length values.now ≤ 65535 }
     requires size { length (whole_execution id (map V.value values.now)) ≡ size }
     requires short { size < 16777215 }
-    ensures ok { OnOk result (out.new.items ≡ out.old.items ++ framings (execution_payloads id (map V.value values.now)) EachFromZero) }
+    ensures ok { OnOk result (out.new.items ≡ out.old.items ++
+        framings (execution_payloads id (map V.value values.now)) EachFromZero) }
     ensures kept { take (length out.old.items) out.new.items ≡ out.old.items }
 {
     executions_have_sizes();
@@ -165,7 +171,8 @@ fn put_sized<V: HasValue>(
 ) -> Result<(), Refusal>
     requires count { length values.now ≤ 65535 }
     requires size { length (whole_execution id (map V.value values.now)) ≡ size }
-    ensures ok { OnOk result (out.new.items ≡ out.old.items ++ framings (execution_payloads id (map V.value values.now)) EachFromZero) }
+    ensures ok { OnOk result (out.new.items ≡ out.old.items ++
+        framings (execution_payloads id (map V.value values.now)) EachFromZero) }
     ensures err { IfErr result (λ refusal. refusal ≡ refusals.Memory) }
     ensures kept { take (length out.old.items) out.new.items ≡ out.old.items }
 {
@@ -189,14 +196,16 @@ fn size_in<V: HasValue>(values: &[V], room: usize) -> Option<usize>
     size_within(values, room)
 }
 
-/// The bytes of a set's execution, found in one pass over values that nothing speaks against, where one packet holds it.
+/// The bytes of a set's execution, found in one pass over values that nothing speaks against, where
+/// one packet holds it.
 #[inline(always)]
 fn short_size<V: HasValue>(values: &[V], places: usize, room: usize) -> Option<usize>
     requires { places ≤ 65535 }
     ensures count { OnSome result (length values.now ≡ places) }
     ensures size { IfSome result (λ size. (id : ℕ) → length (whole_execution id (map V.value values.now)) ≡ size) }
     ensures short { IfSome result (λ size. size < 16777215) }
-    ensures none { OnSome result ((set id : ℕ) → set_cause (whole_execution id) places room set (Ok (map V.value values.now)) ≡ None) }
+    ensures none { OnSome result ((set id : ℕ) →
+        set_cause (whole_execution id) places room set (Ok (map V.value values.now)) ≡ None) }
 {
     executions_have_sizes();
     if values.len() != places {
@@ -219,8 +228,11 @@ fn size_or_cause<V: HasValue>(
     requires { places ≤ 65535 }
     ensures count { OnOk result (length values.now ≤ 65535) }
     ensures size { IfOk result (λ size. (id : ℕ) → length (whole_execution id (map V.value values.now)) ≡ size) }
-    ensures ok { OnOk result ((id : ℕ) → set_cause (whole_execution id) places room set (Ok (map V.value values.now)) ≡ None) }
-    ensures err { IfErr result (λ refusal. (id : ℕ) → set_cause (whole_execution id) places room set (Ok (map V.value values.now)) ≡ Some refusal) }
+    ensures ok { OnOk result ((id : ℕ) →
+        set_cause (whole_execution id) places room set (Ok (map V.value values.now)) ≡ None) }
+    ensures err { IfErr result (λ refusal. (id : ℕ) →
+        set_cause (whole_execution id) places room set (Ok (map V.value values.now)) ≡
+        Some refusal) }
 {
     check_values(values, places, set)?;
     match size_in(values, room) {
@@ -229,7 +241,8 @@ fn size_or_cause<V: HasValue>(
     }
 }
 
-/// Appends the execution of a statement of this id and so many placeholders with these values, which are checked for one cause after another.
+/// Appends the execution of a statement of this id and so many placeholders with these values,
+/// which are checked for one cause after another.
 #[inline(never)]
 fn put_checked<V: HasValue>(
     id: u32,
@@ -241,8 +254,11 @@ fn put_checked<V: HasValue>(
     out: &mut Vec<u8>,
 ) -> Result<(), Refusal>
     requires { places ≤ 65535 }
-    ensures ok { OnOk result (AppendsExecution id (record { places = places; bytes = room }) set (Ok (map V.value values.now)) out.old.items out.new.items) }
-    ensures err { IfErr result (RefusesSet (whole_execution id) (record { places = places; bytes = room }) set (Ok (map V.value values.now))) }
+    ensures ok { OnOk result (AppendsExecution id (record { places = places; bytes = room }) set
+        (Ok (map V.value values.now)) out.old.items out.new.items) }
+    ensures err { IfErr result
+        (RefusesSet (whole_execution id) (record { places = places; bytes = room }) set
+        (Ok (map V.value values.now))) }
     ensures kept { take (length out.old.items) out.new.items ≡ out.old.items }
 {
     let size = size_or_cause(values, places, room, set)?;
@@ -262,8 +278,11 @@ fn put_values<V: HasValue>(
     out: &mut Vec<u8>,
 ) -> Result<(), Refusal>
     requires { places ≤ 65535 }
-    ensures ok { OnOk result (AppendsExecution id (record { places = places; bytes = room }) set (Ok (map V.value values.now)) out.old.items out.new.items) }
-    ensures err { IfErr result (RefusesSet (whole_execution id) (record { places = places; bytes = room }) set (Ok (map V.value values.now))) }
+    ensures ok { OnOk result (AppendsExecution id (record { places = places; bytes = room }) set
+        (Ok (map V.value values.now)) out.old.items out.new.items) }
+    ensures err { IfErr result
+        (RefusesSet (whole_execution id) (record { places = places; bytes = room }) set
+        (Ok (map V.value values.now))) }
     ensures kept { take (length out.old.items) out.new.items ≡ out.old.items }
 {
     let Some(size) = short_size(values, places, room) else {
@@ -273,8 +292,8 @@ fn put_values<V: HasValue>(
     Ok(put_short(id, values, size, out)?)
 }
 
-/// Appends the execution of one set, whose values are listed in place of what the list holds: one whose values lie otherwise than
-/// the placeholders.
+/// Appends the execution of one set, whose values are listed in place of what the list holds: one
+/// whose values lie otherwise than the placeholders.
 #[inline(never)]
 fn put_listed_set<'a>(
     statement: &Statement<'_>,
@@ -286,8 +305,13 @@ fn put_listed_set<'a>(
     out: &mut Vec<u8>,
 ) -> Result<(), Refusal>
     requires { statement.now.places ≤ 65535 }
-    ensures ok { OnOk result (AppendsExecution statement.now.id (record { places = statement.now.places; bytes = room }) set (given_by statement.now.parsed.names params.entry.now) out.old.items out.new.items) }
-    ensures err { IfErr result (RefusesSet (whole_execution statement.now.id) (record { places = statement.now.places; bytes = room }) set (given_by statement.now.parsed.names params.entry.now)) }
+    ensures ok { OnOk result (AppendsExecution statement.now.id
+        (record { places = statement.now.places; bytes = room }) set
+        (given_by statement.now.parsed.names params.entry.now) out.old.items out.new.items) }
+    ensures err { IfErr result
+        (RefusesSet (whole_execution statement.now.id)
+        (record { places = statement.now.places; bytes = room }) set
+        (given_by statement.now.parsed.names params.entry.now)) }
     ensures kept { take (length out.old.items) out.new.items ≡ out.old.items }
 {
     list_values_for(statement, set, params, values)?;
@@ -302,9 +326,10 @@ fn put_listed_set<'a>(
     )
 }
 
-/// Appends the execution of the set of this number, framed and numbered from 0, to what stands: of a list as it lies; any other
-/// set's values are listed in place of what `values` holds. Payloads have at most `room` bytes. The lists `values` and `command`
-/// keep their room from set to set. After a refusal what stood before stands in front of `out`.
+/// Appends the execution of the set of this number, framed and numbered from 0, to what stands: of
+/// a list as it lies; any other set's values are listed in place of what `values` holds. Payloads
+/// have at most `room` bytes. The lists `values` and `command` keep their room from set to set.
+/// After a refusal what stood before stands in front of `out`.
 ///
 /// # Errors
 /// `Params`, `WrongCount`, `Float`, `PacketTooLarge`; `Memory` where a growth was refused.
@@ -321,8 +346,13 @@ pub fn put_set<'a>(
     out: &mut Vec<u8>,
 ) -> Result<(), Refusal>
     requires { statement.now.places ≤ 65535 }
-    ensures ok { OnOk result (AppendsExecution statement.now.id (record { places = statement.now.places; bytes = room }) set (given_by statement.now.parsed.names params.entry.now) out.old.items out.new.items) }
-    ensures err { IfErr result (RefusesSet (whole_execution statement.now.id) (record { places = statement.now.places; bytes = room }) set (given_by statement.now.parsed.names params.entry.now)) }
+    ensures ok { OnOk result (AppendsExecution statement.now.id
+        (record { places = statement.now.places; bytes = room }) set
+        (given_by statement.now.parsed.names params.entry.now) out.old.items out.new.items) }
+    ensures err { IfErr result
+        (RefusesSet (whole_execution statement.now.id)
+        (record { places = statement.now.places; bytes = room }) set
+        (given_by statement.now.parsed.names params.entry.now)) }
     ensures kept { take (length out.old.items) out.new.items ≡ out.old.items }
 {
     match values_in_order(statement, params) {
@@ -348,8 +378,13 @@ fn put_sets(
     out: &mut Vec<u8>,
 ) -> Result<(), Refusal>
     requires { statement.now.places ≤ 65535 }
-    ensures ok { OnOk result (AppendsExecutions statement.now.id (record { places = statement.now.places; bytes = room }) (all_given sets.now statement.now.parsed.names) out.old.items out.new.items) }
-    ensures err { IfErr result (RefusesSets (whole_execution statement.now.id) (record { places = statement.now.places; bytes = room }) (all_given sets.now statement.now.parsed.names)) }
+    ensures ok { OnOk result (AppendsExecutions statement.now.id
+        (record { places = statement.now.places; bytes = room })
+        (all_given sets.now statement.now.parsed.names) out.old.items out.new.items) }
+    ensures err { IfErr result
+        (RefusesSets (whole_execution statement.now.id)
+        (record { places = statement.now.places; bytes = room })
+        (all_given sets.now statement.now.parsed.names)) }
     ensures kept { take (length out.old.items) out.new.items ≡ out.old.items }
 {
     let mut values = Vec::new(alloc);
@@ -372,8 +407,11 @@ fn put_value_sets(
 ) -> Result<(), Refusal>
     requires places { places ≤ 65535 }
     requires numbers { first + length sets.now < 2 ^ 64 }
-    ensures ok { OnOk result (AppendsMore id (record { places = places; bytes = room }) first (map (λ set. set.items) sets.now) out.old.items out.new.items) }
-    ensures err { IfErr result (RefusesMore id (record { places = places; bytes = room }) first (map (λ set. set.items) sets.now)) }
+    ensures ok { OnOk result (AppendsMore id (record { places = places; bytes = room }) first
+        (map (λ set. set.items) sets.now) out.old.items out.new.items) }
+    ensures err { IfErr result
+        (RefusesMore id (record { places = places; bytes = room }) first
+        (map (λ set. set.items) sets.now)) }
     ensures kept { take (length out.old.items) out.new.items ≡ out.old.items }
 {
     let mut command = Vec::new(alloc);
@@ -400,8 +438,13 @@ pub fn put_executions_over(
 ) -> Result<(), Refusal>
     requires { 4 ≤ limit }
     // This holds of each query whose statement it is.
-    ensures ok { OnOk result ((query : List ℕ) → IsStatement query statement.now.parsed statement.now.places → SentReadable roads.Execute query (all_given sets.now) statement.now.id limit out.old.items out.new.items) }
-    ensures err { IfErr result (λ refusal. (query : List ℕ) → IsStatement query statement.now.parsed statement.now.places → RefusesGiven roads.Execute query (all_given sets.now) statement.now.id limit refusal) }
+    ensures ok { OnOk result ((query : List ℕ) →
+        IsStatement query statement.now.parsed statement.now.places →
+        SentReadable roads.Execute query (all_given sets.now) statement.now.id limit out.old.items
+        out.new.items) }
+    ensures err { IfErr result (λ refusal. (query : List ℕ) →
+        IsStatement query statement.now.parsed statement.now.places →
+        RefusesGiven roads.Execute query (all_given sets.now) statement.now.id limit refusal) }
     ensures kept { take (length out.old.items) out.new.items ≡ out.old.items }
 {
     check_count(statement.places)?;
@@ -409,16 +452,18 @@ pub fn put_executions_over(
     put_sets(alloc, statement, sets, limit - 4, out)
 }
 
-/// Appends the commands that carry parameter sets of a query to a server as executions of a prepared statement, each framed as
-/// packets that are numbered from 0: one prepare, also where there are no sets, and an execution of the statement `stmt_id` for
-/// each set. An execution of more than 16777215 bytes is sent without its byte strings, each of which goes before it as long data
-/// in one piece. Sets and places count from 0; a payload has at most `limit - 4` bytes, as the limit counts a packet with its
-/// header, and so has an execution with all its values, also where they are sent apart. After a refusal what stood before
-/// stands in front of `out`.
+/// Appends the commands that carry parameter sets of a query to a server as executions of a
+/// prepared statement, each framed as packets that are numbered from 0: one prepare, also where
+/// there are no sets, and an execution of the statement `stmt_id` for each set. An execution of
+/// more than 16777215 bytes is sent without its byte strings, each of which goes before it as long
+/// data in one piece. Sets and places count from 0; a payload has at most `limit - 4` bytes, as the
+/// limit counts a packet with its header, and so has an execution with all its values, also where
+/// they are sent apart. After a refusal what stood before stands in front of `out`.
 ///
 /// # Errors
-/// The first cause that holds, in the order of [`Refusal`]: `Mixed`, `TooManyPlaces`, `PrepareTooLarge`; set by set `Params`,
-/// `WrongCount`, `Float`, `PacketTooLarge`; `Memory` where a growth was refused.
+/// The first cause that holds, in the order of [`Refusal`]: `Mixed`, `TooManyPlaces`,
+/// `PrepareTooLarge`; set by set `Params`, `WrongCount`, `Float`, `PacketTooLarge`; `Memory` where
+/// a growth was refused.
 ///
 /// MySQL: Client/Server Protocol, "COM_STMT_PREPARE", "COM_STMT_SEND_LONG_DATA", "COM_STMT_EXECUTE".
 pub fn put_executions(
@@ -430,7 +475,8 @@ pub fn put_executions(
     out: &mut Vec<u8>,
 ) -> Result<(), Refusal>
     requires { 4 ≤ limit }
-    ensures ok { OnOk result (SentReadable roads.Execute query.now (all_given sets.now) stmt_id limit out.old.items out.new.items) }
+    ensures ok { OnOk result (SentReadable roads.Execute query.now (all_given sets.now) stmt_id
+        limit out.old.items out.new.items) }
     ensures err { IfErr result (RefusesGiven roads.Execute query.now (all_given sets.now) stmt_id limit) }
     ensures kept { take (length out.old.items) out.new.items ≡ out.old.items }
 {
@@ -441,8 +487,9 @@ pub fn put_executions(
 /// The same as [`put_executions`] over sets of values that stand in the order of the query's placeholders.
 ///
 /// # Errors
-/// The first cause that holds, in the order of [`Refusal`]: `Mixed`, `TooManyPlaces`, `PrepareTooLarge`; set by set `WrongCount`,
-/// `Float`, `PacketTooLarge`; `Memory` where a growth was refused.
+/// The first cause that holds, in the order of [`Refusal`]: `Mixed`, `TooManyPlaces`,
+/// `PrepareTooLarge`; set by set `WrongCount`, `Float`, `PacketTooLarge`; `Memory` where a growth
+/// was refused.
 ///
 /// MySQL: Client/Server Protocol, "COM_STMT_PREPARE", "COM_STMT_SEND_LONG_DATA", "COM_STMT_EXECUTE".
 pub fn put_executions_of_values(
@@ -454,8 +501,12 @@ pub fn put_executions_of_values(
     out: &mut Vec<u8>,
 ) -> Result<(), Refusal>
     requires { 4 ≤ limit }
-    ensures ok { OnOk result (SentReadable roads.Execute query.now (all_given_in_places (map (λ set. set.items) sets.now)) stmt_id limit out.old.items out.new.items) }
-    ensures err { IfErr result (RefusesGiven roads.Execute query.now (all_given_in_places (map (λ set. set.items) sets.now)) stmt_id limit) }
+    ensures ok { OnOk result (SentReadable roads.Execute query.now
+        (all_given_in_places (map (λ set. set.items) sets.now)) stmt_id limit out.old.items
+        out.new.items) }
+    ensures err { IfErr result
+        (RefusesGiven roads.Execute query.now
+        (all_given_in_places (map (λ set. set.items) sets.now)) stmt_id limit) }
     ensures kept { take (length out.old.items) out.new.items ≡ out.old.items }
 {
     let statement = statement_of(alloc, query, stmt_id)?;
@@ -464,13 +515,15 @@ pub fn put_executions_of_values(
     put_value_sets(alloc, statement.id, statement.places, 0, sets, room, out)
 }
 
-/// Appends the executions of further sets of values of the statement `stmt_id`, which was prepared with so many placeholders, as
-/// [`put_executions_of_values`] appends those behind its prepare. Sets are numbered on from `first`, the number of those that were
-/// appended before; they stand in the order of the placeholders. A payload has at most `limit - 4` bytes, and so has an
-/// execution with all its values. After a refusal what stood before stands in front of `out`.
+/// Appends the executions of further sets of values of the statement `stmt_id`, which was prepared
+/// with so many placeholders, as [`put_executions_of_values`] appends those behind its prepare.
+/// Sets are numbered on from `first`, the number of those that were appended before; they stand in
+/// the order of the placeholders. A payload has at most `limit - 4` bytes, and so has an execution
+/// with all its values. After a refusal what stood before stands in front of `out`.
 ///
 /// # Errors
-/// The first cause that holds, set by set: `WrongCount`, `Float`, `PacketTooLarge`; `Memory` where a growth was refused.
+/// The first cause that holds, set by set: `WrongCount`, `Float`, `PacketTooLarge`; `Memory` where
+/// a growth was refused.
 ///
 /// MySQL: Client/Server Protocol, "COM_STMT_SEND_LONG_DATA", "COM_STMT_EXECUTE".
 pub fn put_more_executions(
@@ -485,8 +538,11 @@ pub fn put_more_executions(
     requires limit { 4 ≤ limit }
     requires places { places ≤ 65535 }
     requires numbers { first + length sets.now < 2 ^ 64 }
-    ensures ok { OnOk result (AppendsMore stmt_id (record { places = places; bytes = limit - 4 }) first (map (λ set. set.items) sets.now) out.old.items out.new.items) }
-    ensures err { IfErr result (RefusesMore stmt_id (record { places = places; bytes = limit - 4 }) first (map (λ set. set.items) sets.now)) }
+    ensures ok { OnOk result (AppendsMore stmt_id (record { places = places; bytes = limit - 4 })
+        first (map (λ set. set.items) sets.now) out.old.items out.new.items) }
+    ensures err { IfErr result
+        (RefusesMore stmt_id (record { places = places; bytes = limit - 4 }) first
+        (map (λ set. set.items) sets.now)) }
     ensures kept { take (length out.old.items) out.new.items ≡ out.old.items }
 {
     put_value_sets(alloc, stmt_id, places, first, sets, limit - 4, out)

@@ -7,12 +7,12 @@ ghost use Rattle.mysql_values.specs.Binding.{values_cause};
 ghost use Rattle.mysql_values.specs.Params.{values_over};
 ghost use Rattle.mysql_values.specs.Values.{content_of, first_float as float_at};
 ghost use Rattle.mysql_values.specs.declared.params.ParamsError.{ParamsError as ParamsErrorOf};
-ghost use Rattle.mysql_streams.specs.declared.refusal.Refusal.TheVariants as refusals;
+ghost use Rattle.mysql_command_rules.specs.declared.refusal.Refusal.TheVariants as refusals;
 ghost use Rattle.mysql_senders.specs.OneSet.{refusal_of};
 
 use crate::statement::Statement;
+use mysql_command_rules::Refusal;
 use mysql_stmt::HasValue;
-use mysql_streams::Refusal;
 use mysql_values::laws::fields_fit;
 use mysql_values::{Params, ParamsError, SetError, Value};
 use std::alloc::Global;
@@ -73,8 +73,11 @@ pub fn list_values_for<'a>(
     params: &'a Params,
     values: &mut Vec<&'a Value>,
 ) -> Result<(), Refusal>
-    ensures ok { OnOk result (values_over statement.now.parsed.names params.entry.now ≡ Ok (map (λ value. value.now) values.new.items)) }
-    ensures err { IfErr result (λ refusal. (refusal ≡ refusals.Memory) ⊎ ((e : ParamsErrorOf) × (values_over statement.now.parsed.names params.entry.now ≡ Err e) × (refusal ≡ refusal_of set e))) }
+    ensures ok { OnOk result (values_over statement.now.parsed.names params.entry.now ≡
+        Ok (map (λ value. value.now) values.new.items)) }
+    ensures err { IfErr result (λ refusal. (refusal ≡ refusals.Memory) ⊎
+        ((e : ParamsErrorOf) × (values_over statement.now.parsed.names params.entry.now ≡ Err e) ×
+        (refusal ≡ refusal_of set e))) }
 {
     match params.list_values_for(&statement.parsed, values) {
         Ok(()) => Ok(()),
@@ -89,8 +92,11 @@ pub fn values_for<'a>(
     set: usize,
     params: &'a Params,
 ) -> Result<Vec<&'a Value>, Refusal>
-    ensures ok { IfOk result (λ values. values_over statement.now.parsed.names params.entry.now ≡ Ok (map (λ value. value.now) values.items)) }
-    ensures err { IfErr result (λ refusal. (refusal ≡ refusals.Memory) ⊎ ((e : ParamsErrorOf) × (values_over statement.now.parsed.names params.entry.now ≡ Err e) × (refusal ≡ refusal_of set e))) }
+    ensures ok { IfOk result (λ values. values_over statement.now.parsed.names params.entry.now ≡
+        Ok (map (λ value. value.now) values.items)) }
+    ensures err { IfErr result (λ refusal. (refusal ≡ refusals.Memory) ⊎
+        ((e : ParamsErrorOf) × (values_over statement.now.parsed.names params.entry.now ≡ Err e) ×
+        (refusal ≡ refusal_of set e))) }
 {
     let mut values = Vec::new(alloc);
     list_values_for(statement, set, params, &mut values)?;
@@ -102,8 +108,11 @@ pub fn values_for<'a>(
 /// # Errors
 /// `WrongCount`, then `Float` with the least place.
 pub fn check_values<V: HasValue>(values: &[V], places: usize, set: usize) -> Result<(), Refusal>
-    ensures ok { OnOk result (values_cause (refusals.WrongCount set) (λ place. refusals.Float set place) places (map V.value values.now) ≡ None) }
-    ensures err { IfErr result (λ refusal. values_cause (refusals.WrongCount set) (λ place. refusals.Float set place) places (map V.value values.now) ≡ Some refusal) }
+    ensures ok { OnOk result (values_cause (refusals.WrongCount set)
+        (λ place. refusals.Float set place) places (map V.value values.now) ≡ None) }
+    ensures err { IfErr result
+        (λ refusal. values_cause (refusals.WrongCount set) (λ place. refusals.Float set place)
+        places (map V.value values.now) ≡ Some refusal) }
 {
     if values.len() != places {
         return Err(Refusal::WrongCount(set));

@@ -4,13 +4,13 @@ ghost use Rattle.std.specs.Prelude.{◌≡◌, ◌<◌, ◌≤◌, ◌++◌, ◌
 ghost use Rattle.mysql_values.specs.Parsed.{HasNames};
 ghost use Rattle.mysql_values.specs.Queries.{HasMixed, HasPlaces, IsParsed};
 ghost use Rattle.mysql_wire.specs.Framing.{framing};
-ghost use Rattle.mysql_streams.specs.Commands.{prepare_command};
-ghost use Rattle.mysql_streams.specs.declared.refusal.Refusal.TheVariants as refusals;
+ghost use Rattle.mysql_command_rules.specs.Commands.{prepare_command};
+ghost use Rattle.mysql_command_rules.specs.declared.refusal.Refusal.TheVariants as refusals;
 ghost use Rattle.mysql_senders.specs.OneSet.{IsPreparable, IsStatement, RefusesStatement};
 
 use crate::executions::packet_header;
+use mysql_command_rules::Refusal;
 use mysql_const::{Command, MAX_PAYLOAD_LEN};
-use mysql_streams::Refusal;
 use mysql_values::laws::tokens_of_a_text;
 use mysql_values::{NamedParamsError, ParsedNamedParams, Place, places};
 use mysql_wire::packet_to_chunks;
@@ -70,8 +70,10 @@ pub fn statement_over<'q>(
     id: u32,
 ) -> Result<Statement<'q>, Refusal>
     requires { HasPlaces query.now places.now }
-    ensures ok { IfOk result (λ statement. IsStatement query.entry.now statement.parsed statement.places × (statement.id ≡ id)) }
-    ensures mixed { IfErr result (λ refusal. (refusal ≡ refusals.Memory) ⊎ ((refusal ≡ refusals.Mixed) × HasMixed query.entry.now true)) }
+    ensures ok { IfOk result (λ statement. IsStatement query.entry.now statement.parsed
+        statement.places × (statement.id ≡ id)) }
+    ensures mixed { IfErr result (λ refusal. (refusal ≡ refusals.Memory) ⊎
+        ((refusal ≡ refusals.Mixed) × HasMixed query.entry.now true)) }
 {
     tokens_of_a_text();
     let parsed = parsed(alloc, query, places)?;
@@ -93,7 +95,8 @@ pub fn found_statement<'q>(
     query: &'q [u8],
     id: u32,
 ) -> Result<Statement<'q>, Refusal>
-    ensures ok { IfOk result (λ statement. IsStatement query.entry.now statement.parsed statement.places × (statement.id ≡ id)) }
+    ensures ok { IfOk result (λ statement. IsStatement query.entry.now statement.parsed
+        statement.places × (statement.id ≡ id)) }
     ensures err { IfErr result (RefusesStatement query.entry.now) }
 {
     let places = found_places(alloc, query)?;
@@ -124,7 +127,8 @@ pub fn check_count(places: usize) -> Result<(), Refusal>
 ///
 /// MySQL: Client/Server Protocol, "COM_STMT_PREPARE" (the number of parameters has two bytes).
 pub fn statement_of<'q>(alloc: Global, query: &'q [u8], id: u32) -> Result<Statement<'q>, Refusal>
-    ensures ok { IfOk result (λ statement. IsPreparable query.entry.now statement.parsed statement.places × (statement.id ≡ id)) }
+    ensures ok { IfOk result (λ statement. IsPreparable query.entry.now statement.parsed
+        statement.places × (statement.id ≡ id)) }
     ensures err { IfErr result (RefusesStatement query.entry.now) }
 {
     let statement = found_statement(alloc, query, id)?;
@@ -173,7 +177,9 @@ pub fn put_prepare(
 ) -> Result<(), Refusal>
     ensures ok { OnOk result ((length (prepare_command statement.now.parsed.query) ≤ room)
         × (out.new.items ≡ out.old.items ++ framing (prepare_command statement.now.parsed.query) 0)) }
-    ensures err { IfErr result (λ refusal. (refusal ≡ refusals.Memory) ⊎ ((refusal ≡ refusals.PrepareTooLarge) × (room < length (prepare_command statement.now.parsed.query)))) }
+    ensures err { IfErr result (λ refusal. (refusal ≡ refusals.Memory) ⊎
+        ((refusal ≡ refusals.PrepareTooLarge) ×
+        (room < length (prepare_command statement.now.parsed.query)))) }
     ensures kept { OnErr result (out.new.items ≡ out.old.items) }
 {
     let parsed = statement.parsed.query();

@@ -7,19 +7,19 @@ use Rattle.mysql_values.specs.Laws.{OneTokens}
 use Rattle.mysql_values.specs.Parsed.{names_of}
 use Rattle.mysql_values.specs.Queries.{is_place, places_from}
 use Rattle.mysql_values.specs.Value.{Value}
-use Rattle.mysql_commands.specs.declared.audit.End.TheVariants.{Whole}
-use Rattle.mysql_commands.specs.Audit.{Audit, AuditOf}
-use Rattle.mysql_commands.specs.Laws.{CuttingsAgree}
-use Rattle.mysql_commands.specs.Reading.{Set}
-use Rattle.mysql_commands.specs.Query.{statement_of}
-use Rattle.mysql_streams.specs.Cause.{cause_of}
-use Rattle.mysql_streams.specs.Laws.{IsDelivered, SentPayloadsFit, SentSetsAreDelivered}
-use Rattle.mysql_streams.specs.Reading.{AreMeanings, HaveContents, IsReadable}
-use Rattle.mysql_streams.specs.Sending.{SendsGiven}
-use Rattle.mysql_streams.specs.Sent.{stream_of}
-use Rattle.mysql_streams.specs.Sets.{Given, all_given_in_places}
-use Rattle.mysql_streams.specs.declared.road.Road.{Road}
-use Rattle.mysql_streams.specs.declared.road.Road.TheVariants.{Execute}
+use Rattle.mysql_receive.specs.declared.audit.End.TheVariants.{Whole}
+use Rattle.mysql_receive.specs.Audit.{Audit, AuditOf}
+use Rattle.mysql_receive.specs.Laws.{CuttingsAgree}
+use Rattle.mysql_receive.specs.Reading.{Set}
+use Rattle.mysql_receive.specs.Query.{statement_of}
+use Rattle.mysql_command_rules.specs.Cause.{cause_of}
+use Rattle.mysql_command_rules.specs.Laws.{IsDelivered, SentPayloadsFit, SentSetsAreDelivered}
+use Rattle.mysql_command_rules.specs.Reading.{AreMeanings, HaveContents, IsReadable}
+use Rattle.mysql_command_rules.specs.Sending.{SendsGiven}
+use Rattle.mysql_command_rules.specs.Sent.{stream_of}
+use Rattle.mysql_command_rules.specs.Sets.{Given, all_given_in_places}
+use Rattle.mysql_command_rules.specs.declared.road.Road.{Road}
+use Rattle.mysql_command_rules.specs.declared.road.Road.TheVariants.{Execute}
 use Rattle.mysql_senders.specs.Laws.{FurtherSetsAreSent}
 use Rattle.mysql_senders.specs.OneSet.{AppendsMore, limits_of}
 use Rattle.mysql_recoding.specs.Causes.{values_of_sets}

@@ -13,18 +13,18 @@ use Rattle.mysql_values.specs.declared.params.Params.{Params}
 use Rattle.mysql_values.specs.Laws.{OneTokens}
 use Rattle.mysql_values.specs.Value.{Value}
 use Rattle.mysql_values.specs.Values.{content_of}
-use Rattle.mysql_commands.specs.declared.audit.End.TheVariants.{Whole}
-use Rattle.mysql_commands.specs.Audit.{Audit, Audited, AuditOf}
-use Rattle.mysql_commands.specs.Laws.{StreamHasOneAudit}
-use Rattle.mysql_commands.specs.Query.{Statement, statement_of}
-use Rattle.mysql_commands.specs.Reading.{Set}
-use Rattle.mysql_streams.specs.declared.road.Road.{Road}
-use Rattle.mysql_streams.specs.declared.road.Road.TheVariants.{Text, Execute, Bulk}
-use Rattle.mysql_streams.specs.Reading.{HaveContents}
-use Rattle.mysql_streams.specs.Sent.{SentPayload, payloads_of, sets_of, stream_of}
-use Rattle.mysql_streams.specs.Sets.{Given, all_given}
-use Rattle.mysql_streams.proofs.Held.{one_contents}
-use Rattle.mysql_streams.proofs.Statements.{query_is}
+use Rattle.mysql_receive.specs.declared.audit.End.TheVariants.{Whole}
+use Rattle.mysql_receive.specs.Audit.{Audit, Audited, AuditOf}
+use Rattle.mysql_receive.specs.Laws.{StreamHasOneAudit}
+use Rattle.mysql_receive.specs.Query.{Statement, statement_of}
+use Rattle.mysql_receive.specs.Reading.{Set}
+use Rattle.mysql_command_rules.specs.declared.road.Road.{Road}
+use Rattle.mysql_command_rules.specs.declared.road.Road.TheVariants.{Text, Execute, Bulk}
+use Rattle.mysql_command_rules.specs.Reading.{HaveContents}
+use Rattle.mysql_command_rules.specs.Sent.{SentPayload, payloads_of, sets_of, stream_of}
+use Rattle.mysql_command_rules.specs.Sets.{Given, all_given}
+use Rattle.mysql_command_rules.proofs.Held.{one_contents}
+use Rattle.mysql_command_rules.proofs.Statements.{query_is}
 use Rattle.mysql_set_writer.specs.declared.error.SendToError.TheVariants.{Io}
 use Rattle.mysql_set_writer.specs.Writing.{FailsAmong, FailsWithin, Writes}
 use Rattle.mysql_session.specs.Delivery.{Delivers}

@@ -15,17 +15,17 @@ use Rattle.mysql_values.specs.declared.params.SetError.TheVariants as set_error
 use Rattle.mysql_values.specs.Parsed.{names_of}
 use Rattle.mysql_convert.specs.Sets.{IsMadeOf, too_long}
 use Rattle.mysql_convert.specs.Sets.Parts.{InOrder}
-use Rattle.mysql_commands.specs.Query.{Statement, place_count, statement_of}
-use Rattle.mysql_streams.specs.declared.refusal.Refusal.{Refusal}
-use Rattle.mysql_streams.specs.declared.refusal.Refusal.TheVariants as refusals
-use Rattle.mysql_streams.specs.declared.road.Road.{Road}
+use Rattle.mysql_receive.specs.Query.{Statement, place_count, statement_of}
+use Rattle.mysql_command_rules.specs.declared.refusal.Refusal.{Refusal}
+use Rattle.mysql_command_rules.specs.declared.refusal.Refusal.TheVariants as refusals
+use Rattle.mysql_command_rules.specs.declared.road.Road.{Road}
 use Rattle.mysql_session.specs.Objects.{AreMade, all_given_by_objects, given_by_objects, given_in_order, unless_refused}
 use Rattle.mysql_session.specs.Laws.{MadeSetsGiveTheSame}
-use Rattle.mysql_streams.specs.Sets.{Given, all_given, given_by, given_up_to, values_of}
-use Rattle.mysql_streams.specs.Sent.{whole_command}
-use Rattle.mysql_streams.specs.Cause.{cause_of, first_of_sets, query_cause, set_cause, sets_cause}
-use Rattle.mysql_streams.specs.Reading.{SentReadable}
-use Rattle.mysql_streams.specs.Sending.{RefusesGiven, SendsGiven}
+use Rattle.mysql_command_rules.specs.Sets.{Given, all_given, given_by, given_up_to, values_of}
+use Rattle.mysql_command_rules.specs.Sent.{whole_command}
+use Rattle.mysql_command_rules.specs.Cause.{cause_of, first_of_sets, query_cause, set_cause, sets_cause}
+use Rattle.mysql_command_rules.specs.Reading.{SentReadable}
+use Rattle.mysql_command_rules.specs.Sending.{RefusesGiven, SendsGiven}
 use Rattle.mysql_senders.specs.MadeSets.{IsSetAt, given_by_made}
 use Rattle.mysql_session.specs.Made.{AreLeft, AreMadeUpTo}
 

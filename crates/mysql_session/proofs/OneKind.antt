@@ -14,16 +14,16 @@ use Rattle.mysql_values.specs.declared.bind.BindError.{BindError}
 use Rattle.mysql_values.specs.declared.bind.BindError.TheVariants as bind_error
 use Rattle.mysql_values.specs.declared.params.Params.{Params}
 use Rattle.mysql_values.specs.declared.params.ParamsError.{ParamsError}
-use Rattle.mysql_commands.specs.Query.{Query, Statement, place_count, statement_of}
-use Rattle.mysql_streams.specs.declared.refusal.Refusal.{Refusal}
-use Rattle.mysql_streams.specs.declared.refusal.Refusal.TheVariants as refusals
-use Rattle.mysql_streams.specs.declared.road.Road.{Road}
-use Rattle.mysql_streams.specs.declared.road.Road.TheVariants.{Text, Execute, Bulk}
-use Rattle.mysql_streams.specs.Cause.{cause_if, first_of_sets, max_places, places_cause, prepare_cause, query_cause, set_cause, sets_cause}
-use Rattle.mysql_streams.specs.Commands.{prepare_command}
-use Rattle.mysql_streams.specs.Sending.{RefusesGiven}
-use Rattle.mysql_streams.specs.Sent.{whole_command}
-use Rattle.mysql_streams.specs.Sets.{Given, values_of}
+use Rattle.mysql_receive.specs.Query.{Query, Statement, place_count, statement_of}
+use Rattle.mysql_command_rules.specs.declared.refusal.Refusal.{Refusal}
+use Rattle.mysql_command_rules.specs.declared.refusal.Refusal.TheVariants as refusals
+use Rattle.mysql_command_rules.specs.declared.road.Road.{Road}
+use Rattle.mysql_command_rules.specs.declared.road.Road.TheVariants.{Text, Execute, Bulk}
+use Rattle.mysql_command_rules.specs.Cause.{cause_if, first_of_sets, max_places, places_cause, prepare_cause, query_cause, set_cause, sets_cause}
+use Rattle.mysql_command_rules.specs.Commands.{prepare_command}
+use Rattle.mysql_command_rules.specs.Sending.{RefusesGiven}
+use Rattle.mysql_command_rules.specs.Sent.{whole_command}
+use Rattle.mysql_command_rules.specs.Sets.{Given, values_of}
 use Rattle.mysql_senders.specs.OneSet.{IsStatement}
 
 -- a cause, if any, is not that both kinds occur

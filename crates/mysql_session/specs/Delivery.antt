@@ -1,29 +1,33 @@
--- The front page: what is promised of the sets that `send` and `send_values` append. docs/THEOREM.md reads it aloud, word by word.
--- MySQL: Client/Server Protocol, "Protocol Basics: MySQL Packets", "Command Phase".
+-- The front page: what is promised of the sets that `send` and `send_values` append.
+-- docs/THEOREM.md reads it aloud, word by word. MySQL: Client/Server Protocol, "Protocol Basics:
+-- MySQL Packets", "Command Phase".
 use Rattle.std.specs.Prelude.{◌≡◌, ◌↔◌, ◌≤◌, ◌-◌, ℕ, List, ◌++◌, filter, length, map, None, Ok}
 use Rattle.std.specs.List.{AllByRecursion, concat}
 use Rattle.mysql_values.specs.Parsed.{names_of}
 use Rattle.mysql_values.specs.Queries.{is_place}
 use Rattle.mysql_values.specs.Tokens.{HasTokens}
 use Rattle.mysql_values.specs.Value.{Value}
-use Rattle.mysql_commands.specs.declared.audit.End.TheVariants.{Whole}
-use Rattle.mysql_commands.specs.Audit.{Audit, AuditOf}
-use Rattle.mysql_commands.specs.Query.{statement_of}
-use Rattle.mysql_commands.specs.Reading.{Set}
-use Rattle.mysql_streams.specs.declared.road.Road.{Road}
-use Rattle.mysql_streams.specs.Cause.{cause_of}
-use Rattle.mysql_streams.specs.Reading.{FrontsRead, HaveContents, IsReadable}
-use Rattle.mysql_streams.specs.Sending.{HasFewest}
-use Rattle.mysql_streams.specs.Sent.{AreSent, SentPayload, stream_of}
-use Rattle.mysql_streams.specs.Sets.{Given}
+use Rattle.mysql_receive.specs.declared.audit.End.TheVariants.{Whole}
+use Rattle.mysql_receive.specs.Audit.{Audit, AuditOf}
+use Rattle.mysql_receive.specs.Query.{statement_of}
+use Rattle.mysql_receive.specs.Reading.{Set}
+use Rattle.mysql_command_rules.specs.declared.road.Road.{Road}
+use Rattle.mysql_command_rules.specs.Cause.{cause_of}
+use Rattle.mysql_command_rules.specs.Reading.{FrontsRead, HaveContents, IsReadable}
+use Rattle.mysql_command_rules.specs.Sending.{HasFewest}
+use Rattle.mysql_command_rules.specs.Sent.{AreSent, SentPayload, stream_of}
+use Rattle.mysql_command_rules.specs.Sets.{Given}
 
 -- A stream, in whichever pieces it comes, has one audit: these contents, and Whole.
 abbrev pub ReadsWholeAs : List ℕ → ℕ → ℕ → List ℕ → List Set → Type 0
 ReadsWholeAs query id limit stream contents =
-    (pieces : List (List ℕ)) (audit : Audit) → concat pieces ≡ stream → AuditOf query id limit (concat pieces) audit ↔ (audit ≡ record { sets = contents; ending = Whole })
+    (pieces : List (List ℕ)) (audit : Audit) → concat pieces ≡ stream →
+    AuditOf query id limit (concat pieces) audit ↔ (audit ≡
+    record { sets = contents; ending = Whole })
 
 -- Sets that give this for the query's names are delivered by what was appended.
-pub record Delivers (road : Road) (query : List ℕ) (sets : List (List ℕ) → List Given) (id limit : ℕ) (old new : List ℕ) : Type 0 where
+pub record Delivers (road : Road) (query : List ℕ) (sets : List (List ℕ) →
+    List Given) (id limit : ℕ) (old new : List ℕ) : Type 0 where
   -- The query has these tokens, and each set gives values for its names, as many as it has placeholders.
   pub tokens : List (List ℕ)
   pub has : HasTokens query tokens
@@ -40,7 +44,8 @@ pub record Delivers (road : Road) (query : List ℕ) (sets : List (List ℕ) →
   -- The stream reads as what the values mean, to its end, and as nothing else.
   pub contents : List Set
   pub meanings : HaveContents values contents
-  -- Each set can be read back: by text its query reads as its contents, by the other roads the numbers of its values fit their fields.
+  -- Each set can be read back: by text its query reads as its contents, by the other roads the
+  -- numbers of its values fit their fields.
   pub readable : AllByRecursion (IsReadable road (statement_of query tokens id).query) values
   pub read_back : ReadsWholeAs query id limit (stream_of sent) contents
   -- Each front of it reads, without a fault, as the sets that stand whole in it.

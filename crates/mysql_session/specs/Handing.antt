@@ -8,14 +8,14 @@ use Rattle.mysql_wire.specs.Bytes.{AreBytes}
 use Rattle.mysql_wire.specs.Stream.{StandWhole}
 use Rattle.mysql_wire.specs.Stream.Numbering.{EachFromZero}
 use Rattle.mysql_values.specs.declared.params.Params.{Params}
-use Rattle.mysql_commands.specs.Audit.{Audit, AuditOf, IsNoFault}
-use Rattle.mysql_commands.specs.Receiving.{IsMemory, IsReceived}
-use Rattle.mysql_streams.specs.declared.road.Road.{Road}
-use Rattle.mysql_streams.specs.declared.road.Road.TheVariants.{Text, Execute, Bulk}
-use Rattle.mysql_streams.specs.Reading.{SentReadable}
-use Rattle.mysql_streams.specs.Sending.{RefusesGiven}
-use Rattle.mysql_streams.specs.Sent.{payloads_of, sets_of}
-use Rattle.mysql_streams.specs.Sets.{Given, all_given}
+use Rattle.mysql_receive.specs.Audit.{Audit, AuditOf, IsNoFault}
+use Rattle.mysql_receive.specs.Receiving.{IsMemory, IsReceived}
+use Rattle.mysql_command_rules.specs.declared.road.Road.{Road}
+use Rattle.mysql_command_rules.specs.declared.road.Road.TheVariants.{Text, Execute, Bulk}
+use Rattle.mysql_command_rules.specs.Reading.{SentReadable}
+use Rattle.mysql_command_rules.specs.Sending.{RefusesGiven}
+use Rattle.mysql_command_rules.specs.Sent.{payloads_of, sets_of}
+use Rattle.mysql_command_rules.specs.Sets.{Given, all_given}
 use Rattle.mysql_set_writer.specs.Lots.{TakesFront}
 use Rattle.mysql_set_writer.specs.Writing.{FailsWithin, Stops}
 use Rattle.mysql_set_writer.specs.declared.error.SendToError.{SendToError}
@@ -24,7 +24,8 @@ use Rattle.mysql_session.specs.Delivery.{Delivers}
 
 -- Sets that give this for the query's names are delivered to a writer: it takes a stream that carries them, so that no
 -- cause speaks against them, and that delivers them where it has fewer than 2 ^ 64 bytes.
-pub record DeliversTo (road : Road) (query : List ℕ) (sets : List (List ℕ) → List Given) (id limit : ℕ) (old new : Option (List ℕ)) : Type 0 where
+pub record DeliversTo (road : Road) (query : List ℕ) (sets : List (List ℕ) →
+    List Given) (id limit : ℕ) (old new : Option (List ℕ)) : Type 0 where
   pub stream : List ℕ
   pub bytes : AreBytes stream
   pub taken : Appends old new stream
@@ -33,7 +34,8 @@ pub record DeliversTo (road : Road) (query : List ℕ) (sets : List (List ℕ) �
 
 -- By bulk sets are refused before anything is written, and a writer that fails does so within what carries all of them.
 abbrev pub StopsRequests : List ℕ → List Params → ℕ → ℕ → Option (List ℕ) → Option (List ℕ) → SendToError → Type 0
-StopsRequests query sets id limit old new (Refused refusal count) = RefusesGiven Bulk query (all_given sets) id limit refusal × (count ≡ 0) × Keeps old new
+StopsRequests query sets id limit old new (Refused refusal count) =
+    RefusesGiven Bulk query (all_given sets) id limit refusal × (count ≡ 0) × Keeps old new
 StopsRequests query sets id limit old new (Io error) = FailsWithin Bulk query (all_given sets) id limit old new
 
 -- Why not all sets are delivered, and what then is written.
@@ -46,19 +48,22 @@ StopsSending Bulk query sets id limit old new error = StopsRequests query sets i
 
 -- A front of a stream that delivers sets has one audit, and `receive` answers this of it in whichever pieces, but
 -- Memory: no fault, and from the first on as many of the sets' contents as stand whole in the front.
-pub record FrontReads (road : Road) (query : List ℕ) (sets : List (List ℕ) → List Given) (id limit : ℕ) (stream front : List ℕ) : Type 0 where
+pub record FrontReads (road : Road) (query : List ℕ) (sets : List (List ℕ) →
+    List Given) (id limit : ℕ) (stream front : List ℕ) : Type 0 where
   pub delivery : Delivers road query sets id limit [] stream
   pub count : ℕ
   pub whole : StandWhole EachFromZero (payloads_of delivery.sent) front count
   pub audit : Audit
   pub one : (other : Audit) → AuditOf query id limit front other ↔ (other ≡ audit)
-  pub received : (pieces : List (List ℕ)) (answer : Audit) → concat pieces ≡ front → IsReceived query id limit pieces answer → (IsMemory answer.ending → ⊥) → answer ≡ audit
+  pub received : (pieces : List (List ℕ)) (answer : Audit) → concat pieces ≡ front →
+      IsReceived query id limit pieces answer → (IsMemory answer.ending → ⊥) → answer ≡ audit
   pub no_fault : IsNoFault audit.ending
   pub reads : audit.sets ≡ take (length (sets_of (take count delivery.sent))) delivery.contents
 
 -- A failed writer took a front of a stream that carries the first sets, so many, by bulk all, and not all of that
 -- stream. Where the stream has fewer than 2 ^ 64 bytes, the front reads as the sets that stand whole in it.
-pub record TakesReadable (road : Road) (query : List ℕ) (sets : List Params) (id limit : ℕ) (old new : Option (List ℕ)) : Type 0 where
+pub record TakesReadable (road : Road) (query : List ℕ) (sets : List Params) (id limit : ℕ)
+    (old new : Option (List ℕ)) : Type 0 where
   pub count : ℕ
   pub inside : count ≤ length sets
   pub all : road ≡ Bulk → count ≡ length sets
@@ -70,5 +75,6 @@ pub record TakesReadable (road : Road) (query : List ℕ) (sets : List Params) (
 -- A writer that failed while sets were sent to it took such a front.
 abbrev pub FailedWritersAreRead : Type 0
 FailedWritersAreRead =
-    (road : Road) (query : List ℕ) (sets : List Params) (id limit : ℕ) (old new : Option (List ℕ)) (error : Error) → id < 2 ^ 32 → 4 ≤ limit
+    (road : Road) (query : List ℕ) (sets : List Params) (id limit : ℕ) (old new : Option (List ℕ))
+    (error : Error) → id < 2 ^ 32 → 4 ≤ limit
     → StopsSending road query sets id limit old new (Io error) → TakesReadable road query sets id limit old new

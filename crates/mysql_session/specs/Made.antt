@@ -14,7 +14,8 @@ AreLeft (Some error) [] = ⊥
 AreLeft (Some error) (objects ∷ left) = too_long 0 objects ≡ Some error
 
 -- sets are made of the lists of objects up to the first that is refused
-pub record AreMadeUpTo (lists : List (List (Option Value))) (sets : List Params) (refusal : Option SetError) : Type 0 where
+pub record AreMadeUpTo (lists : List (List (Option Value))) (sets : List Params)
+    (refusal : Option SetError) : Type 0 where
   pub front : List (List (Option Value))
   pub left : List (List (Option Value))
   pub parts : lists ≡ front ++ left

@@ -1,22 +1,22 @@
-//! The laws of the crates below, of sets that are delivered, and of lists of objects. A function without a result does nothing: its
-//! contract is the law.
+//! The laws of the crates below, of sets that are delivered, and of lists of objects. A function
+//! without a result does nothing: its contract is the law.
 
 ghost use Rattle.mysql_session.specs.Handing.{FailedWritersAreRead};
-ghost use Rattle.mysql_session.specs.Laws.{DeliveriesAreReadBack, DeliveriesAreReceived, FurtherSetsAreDelivered, MadeSetsGiveTheSame, ReadableSetsAreDelivered, RecodingsAreDelivered};
+ghost use Rattle.mysql_session.specs.Laws.{DeliveriesAreReadBack, DeliveriesAreReceived, FurtherSetsAreDelivered};
+ghost use Rattle.mysql_session.specs.Laws.{MadeSetsGiveTheSame, ReadableSetsAreDelivered, RecodingsAreDelivered};
 
-pub use mysql_commands::laws as commands;
-use mysql_commands::laws::{cuttings_agree, stream_has_one_audit};
+pub use mysql_command_rules::laws as streams;
+use mysql_command_rules::laws::{sent_payloads_fit, sent_sets_are_delivered};
+pub use mysql_command_rules::laws::{roads_read_equally, sent_streams_join};
+pub use mysql_receive::laws as commands;
+use mysql_receive::laws::{cuttings_agree, stream_has_one_audit};
 pub use mysql_recoding::laws as recoding;
 use mysql_recoding::laws::recodings_are_sent;
 pub use mysql_replies::laws as replies;
-pub use mysql_reply_fronts::laws as reply_fronts;
-pub use mysql_reply_packets::laws as reply_packets;
+pub use mysql_reply_rules::{fronts as reply_fronts, laws as reply_packets};
 pub use mysql_reply_writer::laws as reply_writer;
 pub use mysql_senders::laws as senders;
 use mysql_senders::laws::further_sets_are_sent;
-pub use mysql_streams::laws as streams;
-use mysql_streams::laws::{sent_payloads_fit, sent_sets_are_delivered};
-pub use mysql_streams::laws::{roads_read_equally, sent_streams_join};
 pub use mysql_values::laws as values;
 use mysql_values::laws::tokens_of_a_text;
 pub use mysql_wire::laws as wire;
@@ -32,8 +32,9 @@ pub fn readable_sets_are_delivered()
     tokens_of_a_text();
 }
 
-/// Sets that are delivered were sent, are read back as what they mean, and each front of their stream reads as the sets that stand
-/// whole in it: what [`sent_streams_join`] and [`roads_read_equally`] go by.
+/// Sets that are delivered were sent, are read back as what they mean, and each front of their
+/// stream reads as the sets that stand whole in it: what [`sent_streams_join`] and
+/// [`roads_read_equally`] go by.
 pub fn deliveries_are_read_back()
     ensures { DeliveriesAreReadBack }
 {}
@@ -43,10 +44,10 @@ pub fn deliveries_are_received()
     ensures { DeliveriesAreReceived }
 {}
 
-/// Where a writer fails while sets are sent to it by `Query::send_to`, it has taken a front of a stream that carries the
-/// first of them, by bulk all, and not all of that stream. Where the stream has fewer than 2^64 bytes, the front reads,
-/// without a fault, as exactly the sets that stand whole in it: that is what `receive` answers of it, in whichever
-/// pieces, but Memory.
+/// Where a writer fails while sets are sent to it by `Query::send_to`, it has taken a front of a
+/// stream that carries the first of them, by bulk all, and not all of that stream. Where the stream
+/// has fewer than 2^64 bytes, the front reads, without a fault, as exactly the sets that stand
+/// whole in it: that is what `receive` answers of it, in whichever pieces, but Memory.
 pub fn failed_writers_are_read()
     ensures { FailedWritersAreRead }
 {
@@ -64,8 +65,8 @@ pub fn recodings_are_delivered()
     readable_sets_are_delivered();
 }
 
-/// Sets of values that [`Query::send_more`](crate::Query::send_more) appends behind sets that were delivered by execute, numbered on
-/// from them, are delivered with them.
+/// Sets of values that [`Query::send_more`](crate::Query::send_more) appends behind sets that were
+/// delivered by execute, numbered on from them, are delivered with them.
 pub fn further_sets_are_delivered()
     ensures { FurtherSetsAreDelivered }
 {
@@ -74,8 +75,9 @@ pub fn further_sets_are_delivered()
     tokens_of_a_text();
 }
 
-/// Parameter sets that are made of lists of objects give every query what the lists give. So by [`roads_read_equally`] what
-/// `send` appended of the ones and `send_values` of the others read as the same contents.
+/// Parameter sets that are made of lists of objects give every query what the lists give. So by
+/// [`roads_read_equally`] what `send` appended of the ones and `send_values` of the others read as
+/// the same contents.
 pub fn made_sets_give_the_same()
     ensures { MadeSetsGiveTheSame }
 {}

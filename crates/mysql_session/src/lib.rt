@@ -7,27 +7,27 @@ mod query;
 mod sender;
 
 pub use bitflags::Flags;
-pub use mysql_commands::{Audit, End, Receiver, ReceiverError, StreamFault, receive};
+pub use mysql_command_rules::{Refusal, Road};
 pub use mysql_const::{CapabilityFlags, StatusFlags};
 pub use mysql_convert::{
     FromValue, FromValueError, Intermediate, IntoParams, ParseIr, ToValue, ToValueError,
     from_value, from_value_opt,
 };
-pub use mysql_lent_rows::{
-    FromValueRef, LentRow, RowError, RowFormat, RowLender, StoredRows, ValueRef,
-};
 pub use mysql_packets;
 pub use mysql_packets::{
     Column, LocalInfilePacket, OkPacket, ProgressReport, ServerError, SqlState, StmtPacket,
 };
+pub use mysql_receive::{Audit, End, Receiver, ReceiverError, StreamFault, receive};
 pub use mysql_recoding::{RecodeError, Recoder, recode, send_contents};
 pub use mysql_replies::{
     Reply, ReplyEnd, ReplyFault, ReplyKind, ReplyReader, ReplyResult, read_reply,
 };
 pub use mysql_reply_writer::{ReplyRefusal, ReplyWriter, write_reply};
+pub use mysql_row_refs::{
+    FromValueRef, LentRow, RowError, RowFormat, RowLender, StoredRows, ValueRef,
+};
 pub use mysql_rows::{ColumnIndex, Row};
 pub use mysql_set_writer::SendToError;
-pub use mysql_streams::{Refusal, Road};
 pub use mysql_values::{
     BindError, ByteString, Content, MissingNamedParameterError, Params, ParamsConfusionError,
     ParamsError, SetError, Value,

@@ -1,22 +1,23 @@
 //! Lists of objects as commands.
 
-ghost use Rattle.std.specs.Prelude.{◌≡◌, ◌≤◌, IfErr, IfOk, IfSome, MatchResult, OnErr, OnOk, Some, false, length, map, take};
+ghost use Rattle.std.specs.Prelude.{◌≡◌, ◌≤◌, IfErr, IfOk, IfSome, MatchResult, OnErr, OnOk, Some, false, length, map};
+ghost use Rattle.std.specs.Prelude.{take};
 ghost use Rattle.mysql_convert.specs.Sets.{IsMadeOf, too_long};
 ghost use Rattle.mysql_convert.specs.Sets.Parts.{InOrder};
 ghost use Rattle.mysql_session.specs.Delivery.{Delivers};
 ghost use Rattle.mysql_session.specs.Made.{AreMadeUpTo};
 ghost use Rattle.mysql_session.specs.Objects.{all_given_by_objects};
 ghost use Rattle.mysql_senders.specs.MadeSets.{is_want_of_memory};
-ghost use Rattle.mysql_streams.specs.Reading.{SentReadable};
-ghost use Rattle.mysql_streams.specs.Sending.{RefusesGiven};
-ghost use Rattle.mysql_streams.specs.declared.road.Road.TheVariants as roads;
+ghost use Rattle.mysql_command_rules.specs.Reading.{SentReadable};
+ghost use Rattle.mysql_command_rules.specs.Sending.{RefusesGiven};
+ghost use Rattle.mysql_command_rules.specs.declared.road.Road.TheVariants as roads;
 
 use crate::laws::readable_sets_are_delivered;
 use crate::sender::are_bytes;
-use mysql_bulk_sender::put_requests;
+use mysql_command_rules::{Refusal, Road};
 use mysql_convert::{IntoParams, ToValue};
+use mysql_send_bulk::put_requests;
 use mysql_senders::{SetMaker, put_made_executions, put_made_queries};
-use mysql_streams::{Refusal, Road};
 use mysql_values::{Params, SetError};
 use std::alloc::{AllocError, Global};
 
@@ -32,7 +33,9 @@ fn set_or_refusal<T: ToValue>(
     alloc: Global,
     objects: &[T],
 ) -> Result<Result<Params, SetError>, AllocError>
-    ensures made { IfOk result (λ made. MatchResult made (λ set. IsMadeOf (InOrder (map T.as_value objects.now)) set) (λ error. too_long 0 (map T.as_value objects.now) ≡ Some error)) }
+    ensures made { IfOk result
+        (λ made. MatchResult made (λ set. IsMadeOf (InOrder (map T.as_value objects.now)) set)
+        (λ error. too_long 0 (map T.as_value objects.now) ≡ Some error)) }
     ensures why { IfOk result (λ made. IfErr made (λ error. is_want_of_memory error ≡ false)) }
 {
     match objects.to_params(alloc) {
@@ -67,7 +70,9 @@ fn sets_of_objects(
     alloc: Global,
     lists: &[Vec<Box<dyn ToValue + Drop>>],
 ) -> Result<MadeSets, AllocError>
-    ensures made { IfOk result (λ made. AreMadeUpTo (map (λ list. map (λ object. as_value object) list.items) lists.now) made.sets.items made.refusal) }
+    ensures made { IfOk result
+        (λ made. AreMadeUpTo (map (λ list. map (λ object. as_value object) list.items) lists.now)
+        made.sets.items made.refusal) }
     ensures why { IfOk result (λ made. IfSome made.refusal (λ error. is_want_of_memory error ≡ false)) }
 {
     let mut sets = Vec::with_capacity(alloc, lists.len())?;
@@ -98,8 +103,13 @@ fn put_held_sets(
     out: &mut Vec<u8>,
 ) -> Result<(), Refusal>
     requires { 4 ≤ limit }
-    ensures ok { OnOk result (SentReadable roads.Bulk query.now (all_given_by_objects (map (λ list. map (λ object. as_value object) list.items) lists.now)) stmt_id limit out.old.items out.new.items) }
-    ensures err { IfErr result (RefusesGiven roads.Bulk query.now (all_given_by_objects (map (λ list. map (λ object. as_value object) list.items) lists.now)) stmt_id limit) }
+    ensures ok { OnOk result (SentReadable roads.Bulk query.now
+        (all_given_by_objects (map (λ list. map (λ object. as_value object) list.items) lists.now))
+        stmt_id limit out.old.items out.new.items) }
+    ensures err { IfErr result
+        (RefusesGiven roads.Bulk query.now
+        (all_given_by_objects (map (λ list. map (λ object. as_value object) list.items) lists.now))
+        stmt_id limit) }
     ensures kept { take (length out.old.items) out.new.items ≡ out.old.items }
 {
     let MadeSets { sets, refusal } = sets_of_objects(alloc, lists)?;
@@ -117,9 +127,15 @@ fn send_lists(
     out: &mut Vec<u8>,
 ) -> Result<(), Refusal>
     requires { 4 ≤ limit }
-    ensures refused { IfErr result (RefusesGiven road query.now (all_given_by_objects (map (λ list. map (λ object. as_value object) list.items) lists.now)) stmt_id limit) }
+    ensures refused { IfErr result
+        (RefusesGiven road query.now
+        (all_given_by_objects (map (λ list. map (λ object. as_value object) list.items) lists.now))
+        stmt_id limit) }
     ensures kept { OnErr result (out.new.items ≡ out.old.items) }
-    ensures sent { OnOk result (SentReadable road query.now (all_given_by_objects (map (λ list. map (λ object. as_value object) list.items) lists.now)) stmt_id limit out.old.items out.new.items) }
+    ensures sent { OnOk result
+        (SentReadable road query.now
+        (all_given_by_objects (map (λ list. map (λ object. as_value object) list.items) lists.now))
+        stmt_id limit out.old.items out.new.items) }
 {
     let start = out.len();
     let sets = Lists { lists };
@@ -134,25 +150,27 @@ fn send_lists(
     sent
 }
 
-/// Appends to `out` the commands that carry lists of objects to a server: what [`send`](crate::send) appends of parameter sets
-/// of the objects' values, in order, one set for each list. A list without objects is the empty set. `receive` with the same
-/// query, id and limit reads back what the values mean.
+/// Appends to `out` the commands that carry lists of objects to a server: what
+/// [`send`](crate::send) appends of parameter sets of the objects' values, in order, one set for
+/// each list. A list without objects is the empty set. `receive` with the same query, id and limit
+/// reads back what the values mean.
 ///
-/// The limit is the `max_allowed_packet` of the side that the packets go to, and at least 4. Calls that write count 4 bytes
-/// for a packet's header in it: a payload has at most `limit - 4` bytes. Calls that read count the payload alone: it has at most
-/// `limit` bytes.
+/// The limit is the `max_allowed_packet` of the side that the packets go to, and at least 4. Calls
+/// that write count 4 bytes for a packet's header in it: a payload has at most `limit - 4` bytes.
+/// Calls that read count the payload alone: it has at most `limit` bytes.
 ///
 /// By text **safe for** the servers that `mysql_values::bind_text` names; by execute and bulk for any.
 ///
 /// # Errors
-/// The first cause that holds, in the order of [`Refusal`]: `Mixed`; by text `NotAlone`; by execute and bulk `TooManyPlaces`,
-/// `PrepareTooLarge`; by bulk `NoPlaces`; list by list `Params` with `TooLong` and the least place whose object is too long for
-/// a value, `Params` with `PositionalParamsForNamedQuery` where a query with names is given objects, `WrongCount`, `Float`, and
-/// but by bulk `PacketTooLarge`; by bulk over all lists `MixedKinds`, `RowTooLarge`; `Memory` where a growth was refused. `out`
-/// is then as it was.
+/// The first cause that holds, in the order of [`Refusal`]: `Mixed`; by text `NotAlone`; by execute
+/// and bulk `TooManyPlaces`, `PrepareTooLarge`; by bulk `NoPlaces`; list by list `Params` with
+/// `TooLong` and the least place whose object is too long for a value, `Params` with
+/// `PositionalParamsForNamedQuery` where a query with names is given objects, `WrongCount`,
+/// `Float`, and but by bulk `PacketTooLarge`; by bulk over all lists `MixedKinds`, `RowTooLarge`;
+/// `Memory` where a growth was refused. `out` is then as it was.
 ///
-/// (MySQL: Client/Server Protocol, "COM_QUERY", "COM_STMT_PREPARE", "COM_STMT_SEND_LONG_DATA", "COM_STMT_EXECUTE"; MariaDB:
-/// Client/Server Protocol, "COM_STMT_BULK_EXECUTE".)
+/// (MySQL: Client/Server Protocol, "COM_QUERY", "COM_STMT_PREPARE", "COM_STMT_SEND_LONG_DATA",
+/// "COM_STMT_EXECUTE"; MariaDB: Client/Server Protocol, "COM_STMT_BULK_EXECUTE".)
 pub fn send_values(
     alloc: Global,
     query: &[u8],
@@ -163,9 +181,15 @@ pub fn send_values(
     out: &mut Vec<u8>,
 ) -> Result<(), Refusal>
     requires { 4 ≤ limit }
-    ensures refused { IfErr result (RefusesGiven road query.now (all_given_by_objects (map (λ set. map (λ object. as_value object) set.items) sets.now)) stmt_id limit) }
+    ensures refused { IfErr result
+        (RefusesGiven road query.now
+        (all_given_by_objects (map (λ set. map (λ object. as_value object) set.items) sets.now))
+        stmt_id limit) }
     ensures kept { OnErr result (out.new.items ≡ out.old.items) }
-    ensures delivered { OnOk result (Delivers road query.now (all_given_by_objects (map (λ set. map (λ object. as_value object) set.items) sets.now)) stmt_id limit out.old.items out.new.items) }
+    ensures delivered { OnOk result
+        (Delivers road query.now (all_given_by_objects
+        (map (λ set. map (λ object. as_value object) set.items) sets.now)) stmt_id limit
+        out.old.items out.new.items) }
 {
     readable_sets_are_delivered();
     let sent = send_lists(alloc, query, sets, road, stmt_id, limit, out);

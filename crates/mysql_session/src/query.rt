@@ -1,6 +1,7 @@
 //! A query that is kept for calls that each send or read sets of it.
 
-ghost use Rattle.std.specs.Prelude.{◌≡◌, ◌≢◌, ◌⊎◌, ◌≤◌, ◌++◌, ℕ, IfErr, IfOk, List, OnErr, OnOk, false, length, true, ◌+◌, ◌<◌, ◌^◌, map};
+ghost use Rattle.std.specs.Prelude.{◌≡◌, ◌≢◌, ◌⊎◌, ◌≤◌, ◌++◌, ℕ, IfErr, IfOk, List, OnErr, OnOk, false, length, true};
+ghost use Rattle.std.specs.Prelude.{◌+◌, ◌<◌, ◌^◌, map};
 ghost use Rattle.mysql_values.specs.Binding.{IsBindCause, IsBound};
 ghost use Rattle.mysql_values.specs.Content.{Content};
 ghost use Rattle.mysql_values.specs.Params.{IsMeaning};
@@ -8,27 +9,27 @@ ghost use Rattle.mysql_values.specs.Parsed.{names_of};
 ghost use Rattle.mysql_values.specs.Place.{Place as PlaceOf};
 ghost use Rattle.mysql_values.specs.Queries.{HasMixed, HasPlaces, Lexes, Slices};
 ghost use Rattle.mysql_values.specs.declared.bind.BindError.TheVariants as bind_error;
-ghost use Rattle.mysql_commands.specs.Audit.{IsAbout};
-ghost use Rattle.mysql_commands.specs.GoingOn.{fresh_receiver};
-ghost use Rattle.mysql_commands.specs.Received.{receiver_state};
+ghost use Rattle.mysql_receive.specs.Audit.{IsAbout};
+ghost use Rattle.mysql_receive.specs.GoingOn.{fresh_receiver};
+ghost use Rattle.mysql_receive.specs.Received.{receiver_state};
 ghost use Rattle.mysql_session.specs.Delivery.{Delivers};
 ghost use Rattle.mysql_session.specs.Kept.{AppendsFurther, RefusesFurther};
 ghost use Rattle.mysql_session.specs.Handing.{DeliversTo, StopsSending};
 ghost use Rattle.mysql_set_writer.specs.Writing.{Writes};
-ghost use Rattle.mysql_streams.specs.declared.road.Road.TheVariants as roads;
-ghost use Rattle.mysql_streams.specs.Reading.{SentReadable};
-ghost use Rattle.mysql_streams.specs.Sending.{RefusesGiven};
-ghost use Rattle.mysql_streams.specs.Sets.{Given, all_given, all_given_in_places};
-ghost use Rattle.mysql_streams.specs.declared.refusal.Refusal.TheVariants as refusals;
+ghost use Rattle.mysql_command_rules.specs.declared.road.Road.TheVariants as roads;
+ghost use Rattle.mysql_command_rules.specs.Reading.{SentReadable};
+ghost use Rattle.mysql_command_rules.specs.Sending.{RefusesGiven};
+ghost use Rattle.mysql_command_rules.specs.Sets.{Given, all_given, all_given_in_places};
+ghost use Rattle.mysql_command_rules.specs.declared.refusal.Refusal.TheVariants as refusals;
 
 use crate::laws::{further_sets_are_delivered, readable_sets_are_delivered};
 use crate::sender::are_bytes;
-use mysql_bulk_sender::put_requests_over;
-use mysql_commands::Receiver;
+use mysql_command_rules::{Refusal, Road};
+use mysql_receive::Receiver;
+use mysql_send_bulk::put_requests_over;
 use mysql_senders::statement::{Statement, check_count, statement_over};
 use mysql_senders::{put_executions_over, put_more_executions, put_queries_over};
 use mysql_set_writer::{SendToError, hand_on, write_executions_over, write_queries_over};
-use mysql_streams::{Refusal, Road};
 use mysql_values::bind::bind_text_over;
 use mysql_values::laws::{pieces_of_a_query, tokens_of_a_text};
 use mysql_values::{BindError, Params, Place, Value, first_not_alone, places};
@@ -36,9 +37,10 @@ use std::alloc::{AllocError, Global};
 use std::io::Write;
 use std::marker::Model;
 
-/// The text of a query and the id of its statement, with what [`send`](crate::send), [`Receiver::new`] and `bind_text` find of
-/// a text: its placeholders, their names and the text with a question mark for each. So calls that each send or read sets of one
-/// query need find these once.
+/// The text of a query and the id of its statement, with what [`send`](crate::send),
+/// [`Receiver::new`] and `bind_text` find of a text: its placeholders, their names and the text
+/// with a question mark for each. So calls that each send or read sets of one query need find these
+/// once.
 #[derive(Drop)]
 pub struct Query<'q> {
     text: &'q [u8],
@@ -69,7 +71,8 @@ impl<'q> Query<'q> {
         ensures text { IfOk result (λ query. query.text ≡ text.entry.now) }
         ensures id { IfOk result (λ query. query.id ≡ stmt_id) }
         ensures one_kind { OnOk result (HasMixed text.entry.now false) }
-        ensures mixed { IfErr result (λ refusal. (refusal ≡ refusals.Memory) ⊎ ((refusal ≡ refusals.Mixed) × HasMixed text.entry.now true)) }
+        ensures mixed { IfErr result (λ refusal. (refusal ≡ refusals.Memory) ⊎
+            ((refusal ≡ refusals.Mixed) × HasMixed text.entry.now true)) }
     {
         tokens_of_a_text();
         let Ok(places) = places(alloc, text) else {
@@ -119,7 +122,9 @@ impl<'q> Query<'q> {
         requires { 4 ≤ limit }
         ensures refused { IfErr result (RefusesGiven road self.now.text (all_given sets.now) self.now.id limit) }
         ensures kept { OnErr result (out.new.items ≡ out.old.items) }
-        ensures sent { OnOk result (SentReadable road self.now.text (all_given sets.now) self.now.id limit out.old.items out.new.items) }
+        ensures sent { OnOk result
+            (SentReadable road self.now.text (all_given sets.now) self.now.id limit out.old.items
+            out.new.items) }
     {
         pieces_of_a_query();
         let start = out.len();
@@ -143,16 +148,17 @@ impl<'q> Query<'q> {
         sent
     }
 
-    /// Appends to `out` what [`send`](crate::send) appends of sets of this text and id, by the same road within the same limit,
-    /// and is refused as it is.
+    /// Appends to `out` what [`send`](crate::send) appends of sets of this text and id, by the same
+    /// road within the same limit, and is refused as it is.
     ///
     /// By text **safe for** the servers that `mysql_values::bind_text` names; by execute and bulk for any.
     ///
     /// # Errors
-    /// Those of [`send`](crate::send) but for `Mixed`, which [`Query::new`] refused, in its order. `out` is then as it was.
+    /// Those of [`send`](crate::send) but for `Mixed`, which [`Query::new`] refused, in its order.
+    /// `out` is then as it was.
     ///
-    /// (MySQL: Client/Server Protocol, "COM_QUERY", "COM_STMT_PREPARE", "COM_STMT_SEND_LONG_DATA", "COM_STMT_EXECUTE"; MariaDB:
-    /// Client/Server Protocol, "COM_STMT_BULK_EXECUTE".)
+    /// (MySQL: Client/Server Protocol, "COM_QUERY", "COM_STMT_PREPARE", "COM_STMT_SEND_LONG_DATA",
+    /// "COM_STMT_EXECUTE"; MariaDB: Client/Server Protocol, "COM_STMT_BULK_EXECUTE".)
     pub fn send(
         &self,
         alloc: Global,
@@ -165,7 +171,9 @@ impl<'q> Query<'q> {
         ensures refused { IfErr result (RefusesGiven road self.now.text (all_given sets.now) self.now.id limit) }
         ensures never_mixed { IfErr result (λ refusal. refusal ≢ refusals.Mixed) }
         ensures kept { OnErr result (out.new.items ≡ out.old.items) }
-        ensures delivered { OnOk result (Delivers road self.now.text (all_given sets.now) self.now.id limit out.old.items out.new.items) }
+        ensures delivered { OnOk result
+            (Delivers road self.now.text (all_given sets.now) self.now.id limit out.old.items
+            out.new.items) }
     {
         readable_sets_are_delivered();
         tokens_of_a_text();
@@ -186,7 +194,8 @@ impl<'q> Query<'q> {
     ) -> Result<(), Refusal>
         requires limit { 4 ≤ limit }
         requires numbers { first + length sets.now < 2 ^ 64 }
-        ensures ok { OnOk result (AppendsFurther self.now limit first (map (λ set. set.items) sets.now) out.old.items out.new.items) }
+        ensures ok { OnOk result (AppendsFurther self.now limit first
+            (map (λ set. set.items) sets.now) out.old.items out.new.items) }
         ensures err { IfErr result (RefusesFurther self.now limit first (map (λ set. set.items) sets.now)) }
         ensures kept { OnErr result (out.new.items ≡ out.old.items) }
     {
@@ -200,15 +209,16 @@ impl<'q> Query<'q> {
         sent
     }
 
-    /// Appends the executions of further sets of values, numbered on from `first` and with it fewer than 2^64, as [`Query::send`] by
-    /// [`Road::Execute`] appends those behind its prepare: for a statement that was prepared once. `first` is the number of the sets
-    /// that were sent before; values stand in the order of the placeholders. A payload has at most `limit - 4` bytes, and so has an
-    /// execution with all its values. Behind sets that were delivered by execute, with their number as `first`, they are delivered
-    /// with them.
+    /// Appends the executions of further sets of values, numbered on from `first` and with it fewer
+    /// than 2^64, as [`Query::send`] by [`Road::Execute`] appends those behind its prepare: for a
+    /// statement that was prepared once. `first` is the number of the sets that were sent before;
+    /// values stand in the order of the placeholders. A payload has at most `limit - 4` bytes, and
+    /// so has an execution with all its values. Behind sets that were delivered by execute, with
+    /// their number as `first`, they are delivered with them.
     ///
     /// # Errors
-    /// `TooManyPlaces`; then the first cause that holds, set by set: `WrongCount`, `Float`, `PacketTooLarge`; `Memory` where a growth was
-    /// refused. `out` is then as it was.
+    /// `TooManyPlaces`; then the first cause that holds, set by set: `WrongCount`, `Float`,
+    /// `PacketTooLarge`; `Memory` where a growth was refused. `out` is then as it was.
     ///
     /// (MySQL: Client/Server Protocol, "COM_STMT_SEND_LONG_DATA", "COM_STMT_EXECUTE".)
     pub fn send_more(
@@ -221,13 +231,18 @@ impl<'q> Query<'q> {
     ) -> Result<(), Refusal>
         requires limit { 4 ≤ limit }
         requires numbers { first + length sets.now < 2 ^ 64 }
-        ensures ok { OnOk result (AppendsFurther self.now limit first (map (λ set. set.items) sets.now) out.old.items out.new.items) }
+        ensures ok { OnOk result (AppendsFurther self.now limit first
+            (map (λ set. set.items) sets.now) out.old.items out.new.items) }
         ensures err { IfErr result (RefusesFurther self.now limit first (map (λ set. set.items) sets.now)) }
         ensures kept { OnErr result (out.new.items ≡ out.old.items) }
         // Whatever stood in front of the sets that were delivered.
-        ensures delivered { OnOk result ((before : List (List ℕ) → List Given) (start : List ℕ) → (delivery : Delivers roads.Execute self.now.text before self.now.id limit start out.old.items)
+        ensures delivered { OnOk result ((before : List (List ℕ) → List Given) (start : List ℕ) →
+            (delivery : Delivers roads.Execute self.now.text before self.now.id limit start
+            out.old.items)
             → length (before (names_of delivery.tokens)) ≡ first
-            → Delivers roads.Execute self.now.text (λ names. before names ++ all_given_in_places (map (λ set. set.items) sets.now) names) self.now.id limit start out.new.items) }
+            → Delivers roads.Execute self.now.text (λ names. before names ++
+            all_given_in_places (map (λ set. set.items) sets.now) names) self.now.id limit start
+            out.new.items) }
     {
         further_sets_are_delivered();
         let _id = self.statement.id;
@@ -245,8 +260,12 @@ impl<'q> Query<'q> {
         to: &mut W,
     ) -> Result<(), SendToError>
         requires { 4 ≤ limit }
-        ensures written { OnOk result (Writes roads.Bulk self.now.text (all_given sets.now) self.now.id limit (W.contents to.old) (W.contents to.new)) }
-        ensures stopped { IfErr result (StopsSending roads.Bulk self.now.text sets.now self.now.id limit (W.contents to.old) (W.contents to.new)) }
+        ensures written { OnOk result
+            (Writes roads.Bulk self.now.text (all_given sets.now) self.now.id limit
+            (W.contents to.old) (W.contents to.new)) }
+        ensures stopped { IfErr result
+            (StopsSending roads.Bulk self.now.text sets.now self.now.id limit (W.contents to.old)
+            (W.contents to.new)) }
     {
         let mut requests = Vec::new(alloc);
         match put_requests_over(alloc, &self.statement, sets, None, limit, &mut requests) {
@@ -265,8 +284,12 @@ impl<'q> Query<'q> {
         to: &mut W,
     ) -> Result<(), SendToError>
         requires { 4 ≤ limit }
-        ensures written { OnOk result (Writes road self.now.text (all_given sets.now) self.now.id limit (W.contents to.old) (W.contents to.new)) }
-        ensures stopped { IfErr result (StopsSending road self.now.text sets.now self.now.id limit (W.contents to.old) (W.contents to.new)) }
+        ensures written { OnOk result
+            (Writes road self.now.text (all_given sets.now) self.now.id limit (W.contents to.old)
+            (W.contents to.new)) }
+        ensures stopped { IfErr result
+            (StopsSending road self.now.text sets.now self.now.id limit (W.contents to.old)
+            (W.contents to.new)) }
     {
         pieces_of_a_query();
         match road {
@@ -311,16 +334,20 @@ impl<'q> Query<'q> {
         to: &mut W,
     ) -> Result<(), SendToError>
         requires { 4 ≤ limit }
-        ensures delivered { OnOk result (DeliversTo road self.now.text (all_given sets.now) self.now.id limit (W.contents to.old) (W.contents to.new)) }
-        ensures stopped { IfErr result (StopsSending road self.now.text sets.now self.now.id limit (W.contents to.old) (W.contents to.new)) }
+        ensures delivered { OnOk result
+            (DeliversTo road self.now.text (all_given sets.now) self.now.id limit
+            (W.contents to.old) (W.contents to.new)) }
+        ensures stopped { IfErr result
+            (StopsSending road self.now.text sets.now self.now.id limit (W.contents to.old)
+            (W.contents to.new)) }
     {
         readable_sets_are_delivered();
         let _id = self.statement.id;
         self.send_sets_to(alloc, sets, road, limit, to)
     }
 
-    /// A receiver of a stream of commands about this query, as [`Receiver::new`] makes it of this text and id, with its limit.
-    /// Refused for want of memory alone.
+    /// A receiver of a stream of commands about this query, as [`Receiver::new`] makes it of this
+    /// text and id, with its limit. Refused for want of memory alone.
     ///
     /// (MySQL: Client/Server Protocol, "MySQL Packets" and "Command Phase".)
     pub fn receiver(&self, alloc: Global, limit: usize) -> Result<Receiver, AllocError>
@@ -340,13 +367,14 @@ impl<'q> Query<'q> {
         )
     }
 
-    /// Appends the text with the literals of a set's values in the places of its placeholders, as `mysql_values::bind_text` does.
+    /// Appends the text with the literals of a set's values in the places of its placeholders, as
+    /// `mysql_values::bind_text` does.
     ///
     /// **Safe for** the servers that `mysql_values::bind_text` names.
     ///
     /// # Errors
-    /// `NotAlone` with the first such placeholder, `Params`, `WrongCount`, `Float` with the first such placeholder, `Memory`;
-    /// nothing is appended then.
+    /// `NotAlone` with the first such placeholder, `Params`, `WrongCount`, `Float` with the first
+    /// such placeholder, `Memory`; nothing is appended then.
     ///
     /// (MySQL Reference Manual, "Literal Values".)
     pub fn bind_text(
@@ -356,8 +384,10 @@ impl<'q> Query<'q> {
         out: &mut Vec<u8>,
     ) -> Result<(), BindError>
         // What is appended is the text of the set over the query, and reads as the set's meaning in both ways.
-        ensures ok { OnOk result ((text : List ℕ) × (contents : List Content) × (out.new.items ≡ out.old.items ++ text) × IsBound self.now.text params.now text
-            × IsMeaning self.now.text params.now contents × Slices self.now.text text contents × Lexes self.now.text text contents) }
+        ensures ok { OnOk result ((text : List ℕ) × (contents : List Content) ×
+            (out.new.items ≡ out.old.items ++ text) × IsBound self.now.text params.now text
+            × IsMeaning self.now.text params.now contents × Slices self.now.text text contents ×
+            Lexes self.now.text text contents) }
         ensures err { IfErr result (λ e. (e ≡ bind_error.Memory) ⊎ IsBindCause self.now.text params.now e) }
         ensures never_mixed { IfErr result (λ e. e ≢ bind_error.Mixed) }
         ensures kept { OnErr result (out.new.items ≡ out.old.items) }

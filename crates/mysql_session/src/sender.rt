@@ -3,14 +3,14 @@
 ghost use Rattle.std.specs.Prelude.{◌≡◌, ◌<◌, ◌≤◌, ◌^◌, IfErr, OnErr, OnOk, length};
 ghost use Rattle.mysql_wire.specs.Bytes.{AreBytes};
 ghost use Rattle.mysql_session.specs.Delivery.{Delivers};
-ghost use Rattle.mysql_streams.specs.Reading.{SentReadable};
-ghost use Rattle.mysql_streams.specs.Sending.{RefusesGiven};
-ghost use Rattle.mysql_streams.specs.Sets.{all_given};
+ghost use Rattle.mysql_command_rules.specs.Reading.{SentReadable};
+ghost use Rattle.mysql_command_rules.specs.Sending.{RefusesGiven};
+ghost use Rattle.mysql_command_rules.specs.Sets.{all_given};
 
 use crate::laws::readable_sets_are_delivered;
-use mysql_bulk_sender::put_requests;
+use mysql_command_rules::{Refusal, Road};
+use mysql_send_bulk::put_requests;
 use mysql_senders::{put_executions, put_queries};
-use mysql_streams::{Refusal, Road};
 use mysql_values::Params;
 use std::alloc::Global;
 
@@ -36,7 +36,8 @@ fn send_sets(
     requires { 4 ≤ limit }
     ensures refused { IfErr result (RefusesGiven road query.now (all_given sets.now) stmt_id limit) }
     ensures kept { OnErr result (out.new.items ≡ out.old.items) }
-    ensures sent { OnOk result (SentReadable road query.now (all_given sets.now) stmt_id limit out.old.items out.new.items) }
+    ensures sent { OnOk result
+        (SentReadable road query.now (all_given sets.now) stmt_id limit out.old.items out.new.items) }
 {
     let start = out.len();
     let sent = match road {
@@ -50,36 +51,40 @@ fn send_sets(
     sent
 }
 
-/// Appends to `out` the commands that carry parameter sets of a query to a server, as framed packets, each numbered from 0:
-/// by [`Road::Text`] a query for each set, its values as literals in the places of the placeholders; by [`Road::Execute`] one
-/// prepare, also where there are no sets, and an execution of the statement `stmt_id` for each set, before it, where it would
-/// exceed 16777215 bytes, its byte strings as long data; by [`Road::Bulk`] one prepare, and the fewest bulk executions that
-/// there can be. Sets and places count from 0. `receive` with the same query, id and limit reads the sets back, and of each
-/// front of what was appended the sets whose last command stands whole in it.
+/// Appends to `out` the commands that carry parameter sets of a query to a server, as framed
+/// packets, each numbered from 0: by [`Road::Text`] a query for each set, its values as literals in
+/// the places of the placeholders; by [`Road::Execute`] one prepare, also where there are no sets,
+/// and an execution of the statement `stmt_id` for each set, before it, where it would exceed
+/// 16777215 bytes, its byte strings as long data; by [`Road::Bulk`] one prepare, and the fewest
+/// bulk executions that there can be. Sets and places count from 0. `receive` with the same query,
+/// id and limit reads the sets back, and of each front of what was appended the sets whose last
+/// command stands whole in it.
 ///
-/// A placeholder is a question mark, or a colon and a name of `a` to `z`, `0` to `9` and `_` that begins with no digit, by
-/// which, without the colon, a set gives its value. `:aB` is the placeholder `a` before a `B`; `:Name` is none, so that a set
-/// that names values is refused by `Params` over `SELECT :Name`.
+/// A placeholder is a question mark, or a colon and a name of `a` to `z`, `0` to `9` and `_` that
+/// begins with no digit, by which, without the colon, a set gives its value. `:aB` is the
+/// placeholder `a` before a `B`; `:Name` is none, so that a set that names values is refused by
+/// `Params` over `SELECT :Name`.
 ///
 /// What is appended behind another stream of the same query, id and limit, by whichever road, also by
 /// [`send_values`](crate::send_values), reads behind its sets: the law `laws::sent_streams_join`, which stands on
-/// `mysql_commands::laws::whole_streams_join`.
+/// `mysql_receive::laws::whole_streams_join`.
 ///
-/// The limit is the `max_allowed_packet` of the side that the packets go to, and at least 4. Calls that write count 4 bytes
-/// for a packet's header in it: a payload has at most `limit - 4` bytes. Calls that read count the payload alone: it has at most
-/// `limit` bytes.
+/// The limit is the `max_allowed_packet` of the side that the packets go to, and at least 4. Calls
+/// that write count 4 bytes for a packet's header in it: a payload has at most `limit - 4` bytes.
+/// Calls that read count the payload alone: it has at most `limit` bytes.
 ///
 /// By execute and bulk **safe for** any server. By text for one that takes backslash escapes (NO_BACKSLASH_ESCAPES
 /// isn't in its SQL mode) over a connection in UTF-8, as `mysql_values::bind_text` is: for any other a value may end
 /// its literal, and what stands behind the quote is read as SQL.
 ///
 /// # Errors
-/// The first cause that holds, in the order of [`Refusal`]: `Mixed`; by text `NotAlone`; by execute and bulk `TooManyPlaces`,
-/// `PrepareTooLarge`; by bulk `NoPlaces`; set by set `Params`, `WrongCount`, `Float`, and but by bulk `PacketTooLarge`; by bulk
-/// over all sets `MixedKinds`, `RowTooLarge`; `Memory` where a growth was refused. `out` is then as it was.
+/// The first cause that holds, in the order of [`Refusal`]: `Mixed`; by text `NotAlone`; by execute
+/// and bulk `TooManyPlaces`, `PrepareTooLarge`; by bulk `NoPlaces`; set by set `Params`,
+/// `WrongCount`, `Float`, and but by bulk `PacketTooLarge`; by bulk over all sets `MixedKinds`,
+/// `RowTooLarge`; `Memory` where a growth was refused. `out` is then as it was.
 ///
-/// (MySQL: Client/Server Protocol, "COM_QUERY", "COM_STMT_PREPARE", "COM_STMT_SEND_LONG_DATA", "COM_STMT_EXECUTE"; MariaDB:
-/// Client/Server Protocol, "COM_STMT_BULK_EXECUTE".)
+/// (MySQL: Client/Server Protocol, "COM_QUERY", "COM_STMT_PREPARE", "COM_STMT_SEND_LONG_DATA",
+/// "COM_STMT_EXECUTE"; MariaDB: Client/Server Protocol, "COM_STMT_BULK_EXECUTE".)
 pub fn send(
     alloc: Global,
     query: &[u8],
@@ -92,7 +97,8 @@ pub fn send(
     requires { 4 ≤ limit }
     ensures refused { IfErr result (RefusesGiven road query.now (all_given sets.now) stmt_id limit) }
     ensures kept { OnErr result (out.new.items ≡ out.old.items) }
-    ensures delivered { OnOk result (Delivers road query.now (all_given sets.now) stmt_id limit out.old.items out.new.items) }
+    ensures delivered { OnOk result
+        (Delivers road query.now (all_given sets.now) stmt_id limit out.old.items out.new.items) }
 {
     readable_sets_are_delivered();
     let sent = send_sets(alloc, query, sets, road, stmt_id, limit, out);

@@ -1,6 +1,6 @@
 -- What was written of a session's state is read again.
 use Rattle.std.proofs.Common.{refl}
-use Rattle.mysql_raw_bytes.specs.TextLaws.{lenenc_text_at-back}
+use Rattle.mysql_fields.specs.TextLaws.{lenenc_text_at-back}
 use Rattle.mysql_session_states.specs.Reading.{EatsBytes}
 use Rattle.mysql_session_states.specs.SessionStates.{state_at, variable_at}
 use Rattle.mysql_session_states.specs.StateLaws.{change_at-back, state_at-back, state_at-eats, states_at-back, variable_at-back, variable_at-eats}

@@ -1,9 +1,9 @@
 -- Reading elements one after the other to the end, as a loop does.
 use Rattle.std.proofs.Common.{◌≡◌, ◌≢◌, ◌==◌, Bool, true, false, ℕ, List, [], ◌∷◌, ◌++◌, length, Ok, Err, refl, sym, ap, ◌∙◌, append_assoc, append-nil, arith}
 use Rattle.std.proofs.lemmas.Bool.{eqb-false, eqb-true}
-use Rattle.mysql_raw.specs.Wire.{Reading, Refuses, ◌>>=◌}
-use Rattle.mysql_raw.specs.WireError.{WireError}
-use Rattle.mysql_raw_lists.specs.ElementLaws.{with_front}
+use Rattle.mysql_fields.specs.Wire.{Reading, Refuses, ◌>>=◌}
+use Rattle.mysql_fields.specs.declared.error.WireError.{WireError}
+use Rattle.mysql_field_lists.specs.ElementLaws.{with_front}
 use Rattle.mysql_session_states.specs.Reading.{EatsBytes, at_most_at, to_end_at}
 use Rattle.mysql_session_states.specs.ReadingLaws.{before_others, same-room}
 

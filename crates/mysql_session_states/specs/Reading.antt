@@ -2,9 +2,9 @@
 -- (MySQL: Client/Server Protocol, "OK_Packet", 'Session State Information'.)
 -- A reading takes bytes from the front: x.0 is what was read and x.1 the bytes left; the first refusal counts.
 use Rattle.std.specs.Prelude.{◌≡◌, ◌≢◌, ◌<◌, ℕ, zero, suc, List, [], ◌∷◌, length, Result, Ok, Err}
-use Rattle.mysql_raw.specs.Wire.{Reading, ◌>>=◌}
-use Rattle.mysql_raw.specs.WireError.{WireError}
-use Rattle.mysql_raw.specs.WireError.TheVariants.{Memory, UnexpectedEof}
+use Rattle.mysql_fields.specs.Wire.{Reading, ◌>>=◌}
+use Rattle.mysql_fields.specs.declared.error.WireError.{WireError}
+use Rattle.mysql_fields.specs.declared.error.WireError.TheVariants.{Memory, UnexpectedEof}
 
 -- each element takes a byte at least
 abbrev pub EatsBytes : {Y : Type 0} → (List ℕ → Reading Y) → Type 0

@@ -1,18 +1,26 @@
 -- Changes of a session's state, as values and as bytes.
 -- MySQL: Client/Server Protocol, "OK_Packet", 'Session State Information'.
 -- A reading takes bytes from the front: x.0 is what was read and x.1 the bytes left; the first refusal counts.
-use Rattle.std.specs.Prelude.{◌≡◌, ◌<◌, ◌^◌, ℕ, ⊤, List, [], ◌∷◌, ◌++◌, length, Bool, true, false, Option, Some, None, Ok}
+use Rattle.std.specs.Prelude.{◌≡◌, ◌<◌, ◌^◌, ℕ, ⊤, List, [], ◌∷◌, ◌++◌, length, Bool, true, false, Option, Some, None}
+use Rattle.std.specs.Prelude.{Ok}
 use Rattle.std.specs.List.{AllByRecursion, flat_map}
 use Rattle.std.specs.Str.{bytes_eq}
 use Rattle.byteorder.specs.Endian.{little_bytes}
 use Rattle.mysql_buf.specs.Writing.{lenenc_str}
 use Rattle.mysql_const.specs.SessionStates.{session_state_named, session_state_number}
 use Rattle.mysql_const.specs.declared.session_state.SessionStateType.{SessionStateType}
-use Rattle.mysql_const.specs.declared.session_state.SessionStateType.TheVariants.{SESSION_TRACK_SYSTEM_VARIABLES, SESSION_TRACK_SCHEMA, SESSION_TRACK_STATE_CHANGE, SESSION_TRACK_GTIDS, SESSION_TRACK_TRANSACTION_CHARACTERISTICS, SESSION_TRACK_TRANSACTION_STATE}
-use Rattle.mysql_raw.specs.Forms.{fixed_number_at}
-use Rattle.mysql_raw.specs.Wire.{Reading, ◌>>=◌}
-use Rattle.mysql_raw_bytes.specs.Texts.{lenenc_text_at}
-use Rattle.mysql_raw_consts.specs.Constants.{named_at}
+use Rattle.mysql_const.specs.declared.session_state.SessionStateType.TheVariants.{SESSION_TRACK_SYSTEM_VARIABLES}
+use Rattle.mysql_const.specs.declared.session_state.SessionStateType.TheVariants.{SESSION_TRACK_SCHEMA}
+use Rattle.mysql_const.specs.declared.session_state.SessionStateType.TheVariants.{SESSION_TRACK_STATE_CHANGE}
+use Rattle.mysql_const.specs.declared.session_state.SessionStateType.TheVariants.{SESSION_TRACK_GTIDS}
+use Rattle.mysql_const.specs.declared.session_state.SessionStateType.TheVariants.{
+  SESSION_TRACK_TRANSACTION_CHARACTERISTICS,
+}
+use Rattle.mysql_const.specs.declared.session_state.SessionStateType.TheVariants.{SESSION_TRACK_TRANSACTION_STATE}
+use Rattle.mysql_fields.specs.Forms.{fixed_number_at}
+use Rattle.mysql_fields.specs.Wire.{Reading, ◌>>=◌}
+use Rattle.mysql_fields.specs.Texts.{lenenc_text_at}
+use Rattle.mysql_field_constants.specs.Constants.{named_at}
 use Rattle.mysql_session_states.specs.Reading.{to_end_at}
 
 -- A text to the end.
@@ -37,8 +45,8 @@ pub record IsVariable (v : Variable) : Type 0 where
   pub name : length v.name < 2 ^ 64
   pub value : length v.value < 2 ^ 64
 
--- A change: whether changes are tracked, the schema, system variables, GTIDs, how transactions are begun, the state of one, or
--- what is of no known type.
+-- A change: whether changes are tracked, the schema, system variables, GTIDs, how transactions are
+-- begun, the state of one, or what is of no known type.
 pub data Change : Type 0 where
   IsTracked : Bool → Change
   Schema : List ℕ → Change
@@ -64,11 +72,14 @@ change (Unsupported bytes) = lenenc_str bytes
 
 -- A change is read by its type.
 unfoldable pub change_at : SessionStateType → List ℕ → Reading Change
-change_at SESSION_TRACK_SYSTEM_VARIABLES bytes = to_end_at variable_at bytes >>= λ all. Ok (SystemVariables all.0, all.1)
+change_at SESSION_TRACK_SYSTEM_VARIABLES bytes =
+    to_end_at variable_at bytes >>= λ all. Ok (SystemVariables all.0, all.1)
 change_at SESSION_TRACK_SCHEMA bytes = lenenc_text_at bytes >>= λ name. Ok (Schema name.0, name.1)
-change_at SESSION_TRACK_STATE_CHANGE bytes = lenenc_text_at bytes >>= λ text. Ok (IsTracked (bytes_eq text.0 (tracking true)), text.1)
+change_at SESSION_TRACK_STATE_CHANGE bytes =
+    lenenc_text_at bytes >>= λ text. Ok (IsTracked (bytes_eq text.0 (tracking true)), text.1)
 change_at SESSION_TRACK_GTIDS bytes = rest_at bytes >>= λ set. Ok (Gtids set.0, set.1)
-change_at SESSION_TRACK_TRANSACTION_CHARACTERISTICS bytes = lenenc_text_at bytes >>= λ text. Ok (TransactionCharacteristics text.0, text.1)
+change_at SESSION_TRACK_TRANSACTION_CHARACTERISTICS bytes =
+    lenenc_text_at bytes >>= λ text. Ok (TransactionCharacteristics text.0, text.1)
 change_at SESSION_TRACK_TRANSACTION_STATE bytes = lenenc_text_at bytes >>= λ text. Ok (TransactionState text.0, text.1)
 
 -- The type that a change has; none reads what is unsupported.

@@ -3,8 +3,10 @@ use Rattle.std.specs.Prelude.{◌≡◌, ◌<◌, ◌^◌, ℕ, List, [], ◌++�
 use Rattle.std.specs.List.{AllByRecursion, flat_map}
 use Rattle.mysql_buf.specs.Writing.{lenenc_str}
 use Rattle.mysql_const.specs.declared.session_state.SessionStateType.{SessionStateType}
-use Rattle.mysql_raw_bytes.specs.Texts.{lenenc_text_at}
-use Rattle.mysql_session_states.specs.SessionStates.{Change, IsReadBy, IsState, IsVariable, State, Variable, change, change_at, rest_at, state, state_at, states_at, variable, variable_at}
+use Rattle.mysql_fields.specs.Texts.{lenenc_text_at}
+use Rattle.mysql_session_states.specs.SessionStates.{Change, IsReadBy, IsState, IsVariable, State, Variable, change}
+use Rattle.mysql_session_states.specs.SessionStates.{change_at, rest_at, state, state_at, states_at, variable}
+use Rattle.mysql_session_states.specs.SessionStates.{variable_at}
 
 -- a member after its length, whatever follows
 abbrev pub TextsReadBack : Type 0
@@ -20,7 +22,8 @@ VariablesReadBack = (v : Variable) (rest : List ℕ) → IsVariable v → variab
 
 -- by its own type; with nothing following where it stands to the end
 abbrev pub ChangesReadBack : Type 0
-ChangesReadBack = (type : SessionStateType) (c : Change) (rest : List ℕ) → IsReadBy type c rest → change_at type (change c ++ rest) ≡ Ok (c, rest)
+ChangesReadBack = (type : SessionStateType) (c : Change) (rest : List ℕ) → IsReadBy type c rest →
+    change_at type (change c ++ rest) ≡ Ok (c, rest)
 
 -- whatever follows
 abbrev pub StatesReadBack : Type 0

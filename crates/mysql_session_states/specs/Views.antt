@@ -37,7 +37,8 @@ change_view (told.IsTracked tracked) = content.IsTracked tracked
 change_view (told.Schema schema) = content.Schema (schema_view schema)
 change_view (told.SystemVariables all) = content.SystemVariables (map variable_view all.items)
 change_view (told.Gtids gtids) = content.Gtids (gtids_view gtids)
-change_view (told.TransactionCharacteristics statements) = content.TransactionCharacteristics (characteristics_view statements)
+change_view (told.TransactionCharacteristics statements) =
+    content.TransactionCharacteristics (characteristics_view statements)
 change_view (told.TransactionState letters) = content.TransactionState (transaction_view letters)
 change_view (told.Unsupported bytes) = content.Unsupported (unsupported_view bytes)
 

@@ -2,8 +2,8 @@
 
 ghost use Rattle.std.specs.Prelude.{◌≡◌, IfOk, None, map};
 ghost use Rattle.std.specs.List.{flat_map};
-ghost use Rattle.mysql_raw.specs.Laws.{unsized};
-ghost use Rattle.mysql_raw.specs.Wire.{Appends};
+ghost use Rattle.mysql_fields.specs.Laws.{unsized};
+ghost use Rattle.mysql_fields.specs.Wire.{Appends};
 ghost use Rattle.mysql_session_states.specs.SessionStates.{Change, IsReadBy, change, change_at, type_of, variable};
 ghost use Rattle.mysql_session_states.specs.StateLaws.{change_at-back};
 ghost use Rattle.mysql_session_states.specs.Views.{change_view, variable_view};
@@ -14,8 +14,8 @@ use crate::to_end::{parse_to_end, put_all};
 use crate::variable::SystemVariable;
 use mysql_buf::ParseBuf;
 use mysql_const::SessionStateType;
-use mysql_raw::{MyDeserialize, MySerialize, ParseExt, Readable, ReadsBack, WireError};
-use mysql_raw_lists::{Seq, Unknown};
+use mysql_field_lists::{Seq, Unknown};
+use mysql_fields::{MyDeserialize, MySerialize, ParseExt, Readable, ReadsBack, WireError};
 use std::alloc::{AllocError, Global};
 use std::borrow::CowSlice;
 
@@ -142,8 +142,8 @@ fn put_variables(all: &[SystemVariable], buf: &mut Vec<u8>) -> Result<(), AllocE
     put_all(all, buf)
 }
 
-/// Whether changes are tracked, as the text `1` or `0` after its length; variables one after another; each other member as its
-/// own type writes it.
+/// Whether changes are tracked, as the text `1` or `0` after its length; variables one after
+/// another; each other member as its own type writes it.
 #[tactic(auto, unfolding(crate::specs::SessionStates::change))]
 impl<'a> MySerialize for SessionStateChange<'a> {
     ghost written = { λ c. change (change_view c) };
@@ -190,8 +190,8 @@ impl<'a> ReadsBack for SessionStateChange<'a> {
     ghost reads_back = { λ type c. change_at-back type (change_view c) };
 }
 
-/// The change of this type. Refused by `UnexpectedEof` where a text is cut off, and by `Memory`. Bytes behind a text are left;
-/// variables and GTIDs stand to the end.
+/// The change of this type. Refused by `UnexpectedEof` where a text is cut off, and by `Memory`.
+/// Bytes behind a text are left; variables and GTIDs stand to the end.
 ///
 /// MySQL: Client/Server Protocol, "OK_Packet", 'Session State Information'.
 #[tactic(auto, using(crate::proofs::Back::variables_eat), unfolding(crate::specs::SessionStates::change_at))]

@@ -5,13 +5,13 @@ ghost use Rattle.std.specs.Cow.{cow_slice_items, cow_str_bytes};
 ghost use Rattle.std.specs.Str.{encode_utf8_all};
 ghost use Rattle.bstr.specs.Utf8.{lossy_chars};
 ghost use Rattle.mysql_buf.specs.Writing.{lenenc_str};
-ghost use Rattle.mysql_raw.specs.Wire.{Tells};
-ghost use Rattle.mysql_raw.specs.WireError.TheVariants as wire;
-ghost use Rattle.mysql_raw_bytes.specs.Texts.{lenenc_text_at};
+ghost use Rattle.mysql_fields.specs.Wire.{Tells};
+ghost use Rattle.mysql_fields.specs.declared.error.WireError.TheVariants as wire;
+ghost use Rattle.mysql_fields.specs.Texts.{lenenc_text_at};
 
 use bstr::ByteSlice;
 use mysql_buf::{BufMutExt, ParseBuf};
-use mysql_raw::{MySerialize, WireError};
+use mysql_fields::{MySerialize, WireError};
 use std::alloc::{AllocError, Global};
 use std::borrow::{CowSlice, CowStr};
 

@@ -3,10 +3,11 @@
 ghost use Rattle.std.specs.Prelude.{◌≡◌, IfOk, None, [], false, map, option_map};
 ghost use Rattle.std.specs.Cow.{cow_slice_items};
 ghost use Rattle.std.specs.List.{flat_map};
-ghost use Rattle.mysql_raw.specs.Laws.{unsized};
-ghost use Rattle.mysql_raw.specs.Wire.{Appends, GivesPart};
+ghost use Rattle.mysql_fields.specs.Laws.{unsized};
+ghost use Rattle.mysql_fields.specs.Wire.{Appends, GivesPart};
 ghost use Rattle.mysql_session_states.specs.Reading.{GivesValue, value_at};
-ghost use Rattle.mysql_session_states.specs.SessionStates.{IsState, State, change_at, state, state_at, state_of, states_at, type_of};
+ghost use Rattle.mysql_session_states.specs.SessionStates.{IsState, State, change_at, state, state_at, state_of};
+ghost use Rattle.mysql_session_states.specs.SessionStates.{states_at, type_of};
 ghost use Rattle.mysql_session_states.specs.StateLaws.{state_at-back};
 ghost use Rattle.mysql_session_states.specs.Views.{change_view, state_view};
 
@@ -15,8 +16,8 @@ use crate::fields::{CountedText, copy_of, owned, text_from};
 use crate::to_end::{parse_to_end, put_all};
 use mysql_buf::ParseBuf;
 use mysql_const::SessionStateType;
-use mysql_raw::{MyDeserialize, MySerialize, ParseExt, Readable, ReadsBack, WireError};
-use mysql_raw_consts::Const;
+use mysql_field_constants::Const;
+use mysql_fields::{MyDeserialize, MySerialize, ParseExt, Readable, ReadsBack, WireError};
 use std::alloc::{AllocError, Global};
 use std::borrow::CowSlice;
 
@@ -40,13 +41,14 @@ impl<'a> SessionStateInfo<'a> {
         }
     }
 
-    /// The state that tells this change: of its type, with the bytes that it is written as. An unsupported change has no type,
-    /// and no state. Refused for want of memory.
+    /// The state that tells this change: of its type, with the bytes that it is written as. An
+    /// unsupported change has no type, and no state. Refused for want of memory.
     pub fn of_change(
         alloc: Global,
         change: &SessionStateChange<'_>,
     ) -> Result<Option<SessionStateInfo<'static>>, AllocError>
-        ensures { IfOk result (λ made. option_map state_view made ≡ option_map (state_of (change_view change.now)) (type_of (change_view change.now))) }
+        ensures { IfOk result (λ made. option_map state_view made ≡
+            option_map (state_of (change_view change.now)) (type_of (change_view change.now))) }
     {
         let Some(data_type) = change.data_type() else {
             return Ok(None);
@@ -70,10 +72,11 @@ impl<'a> SessionStateInfo<'a> {
         self.data.as_slice()
     }
 
-    /// The change that the bytes tell; bytes that are left behind it are ignored. Refused by `UnexpectedEof` where a text is cut
-    /// off, and by `Memory`.
+    /// The change that the bytes tell; bytes that are left behind it are ignored. Refused by
+    /// `UnexpectedEof` where a text is cut off, and by `Memory`.
     pub fn decode(&self, alloc: Global) -> Result<SessionStateChange<'_>, WireError>
-        ensures { GivesValue change_view result (value_at (change_at (state_view self.now).data_type (state_view self.now).content)) }
+        ensures { GivesValue change_view result
+            (value_at (change_at (state_view self.now).data_type (state_view self.now).content)) }
     {
         ParseBuf(self.data.as_slice()).parse(alloc, self.data_type)
     }
@@ -141,8 +144,8 @@ impl<'a> ReadsBack for SessionStateInfo<'a> {
     ghost reads_back = { λ _ info. state_at-back (state_view info) };
 }
 
-/// Refused by `UnexpectedEof` where there is no byte, then by `UnknownValue` for a type without a name, then by `UnexpectedEof`
-/// where the data are cut off.
+/// Refused by `UnexpectedEof` where there is no byte, then by `UnknownValue` for a type without a
+/// name, then by `UnexpectedEof` where the data are cut off.
 ///
 /// MySQL: Client/Server Protocol, "OK_Packet", 'Session State Information'.
 #[tactic(auto, unfolding(crate::specs::SessionStates::state_at))]
@@ -163,8 +166,8 @@ impl<'de> MyDeserialize<'de> for SessionStateInfo<'de> {
     }
 }
 
-/// The states that stand one after another in these bytes, to their end. Refused where one of them is, by the first one's
-/// refusal, and by `Memory`.
+/// The states that stand one after another in these bytes, to their end. Refused where one of them
+/// is, by the first one's refusal, and by `Memory`.
 ///
 /// MySQL: Client/Server Protocol, "OK_Packet", 'Session State Information'.
 #[tactic(auto, using(crate::proofs::Back::states_eat))]
@@ -174,8 +177,8 @@ pub fn states_of(alloc: Global, bytes: &[u8]) -> Result<Vec<SessionStateInfo<'_>
     parse_to_end(alloc, ParseBuf(bytes))
 }
 
-/// Appends these states one after another, as an OK packet has them: what `OkPacket::new` takes. Where memory is refused nothing
-/// is appended.
+/// Appends these states one after another, as an OK packet has them: what `OkPacket::new` takes.
+/// Where memory is refused nothing is appended.
 ///
 /// MySQL: Client/Server Protocol, "OK_Packet", 'Session State Information'.
 pub fn put_states(states: &[SessionStateInfo<'_>], buf: &mut Vec<u8>) -> Result<(), AllocError>

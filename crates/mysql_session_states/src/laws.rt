@@ -1,6 +1,7 @@
 //! Laws of session states. Functions without a result do nothing: their contracts are the laws.
 
-ghost use Rattle.mysql_session_states.specs.Statements.{ChangesReadBack, GtidsReadBack, ListsOfStatesReadBack, StatesReadBack, TextsReadBack, VariablesReadBack};
+ghost use Rattle.mysql_session_states.specs.Statements.{ChangesReadBack, GtidsReadBack, ListsOfStatesReadBack};
+ghost use Rattle.mysql_session_states.specs.Statements.{StatesReadBack, TextsReadBack, VariablesReadBack};
 
 /// A member that is written after its length is read again, whatever follows it.
 #[tactic(auto, using(crate::proofs::Back::texts_read_back))]
@@ -20,7 +21,8 @@ pub fn variables_read_back()
     ensures { VariablesReadBack }
 {}
 
-/// A change that was written is read again by its type: whatever follows it, or where nothing does if it stands to the end.
+/// A change that was written is read again by its type: whatever follows it, or where nothing does
+/// if it stands to the end.
 #[tactic(auto, using(crate::proofs::Back::changes_read_back))]
 pub fn changes_read_back()
     ensures { ChangesReadBack }

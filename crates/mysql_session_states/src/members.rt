@@ -5,16 +5,17 @@ ghost use Rattle.std.specs.Cow.{cow_slice_items, cow_str_bytes};
 ghost use Rattle.std.specs.Str.{encode_utf8_all};
 ghost use Rattle.bstr.specs.Utf8.{lossy_chars};
 ghost use Rattle.mysql_buf.specs.Writing.{lenenc_str};
-ghost use Rattle.mysql_raw.specs.Laws.{unsized};
-ghost use Rattle.mysql_raw.specs.WireError.TheVariants as wire;
-ghost use Rattle.mysql_raw_bytes.specs.TextLaws.{all-back, lenenc_text_at-back};
-ghost use Rattle.mysql_raw_bytes.specs.Texts.{lenenc_text_at};
+ghost use Rattle.mysql_fields.specs.Laws.{unsized};
+ghost use Rattle.mysql_fields.specs.declared.error.WireError.TheVariants as wire;
+ghost use Rattle.mysql_fields.specs.TextLaws.{all-back, lenenc_text_at-back};
+ghost use Rattle.mysql_fields.specs.Texts.{lenenc_text_at};
 ghost use Rattle.mysql_session_states.specs.SessionStates.{rest_at};
-ghost use Rattle.mysql_session_states.specs.Views.{characteristics_view, gtids_view, schema_view, transaction_view, unsupported_view};
+ghost use Rattle.mysql_session_states.specs.Views.{characteristics_view, gtids_view, schema_view, transaction_view};
+ghost use Rattle.mysql_session_states.specs.Views.{unsupported_view};
 
 use crate::fields::{CountedText, copy_of, lossy, owned, text_from};
 use mysql_buf::ParseBuf;
-use mysql_raw::{MyDeserialize, MySerialize, Readable, ReadsBack, WireError};
+use mysql_fields::{MyDeserialize, MySerialize, Readable, ReadsBack, WireError};
 use std::alloc::{AllocError, Global};
 use std::borrow::{CowSlice, CowStr};
 
@@ -135,7 +136,8 @@ impl<'a> Schema<'a> {
     /// The name as text, where bytes that aren't UTF-8 are replaced. Refused for want of memory.
     pub fn as_str(&self, alloc: Global) -> Result<CowStr<'_>, WireError>
         ensures memory { IsOkUnless result wire.Memory }
-        ensures value { IfOk result (λ text. cow_str_bytes text ≡ encode_utf8_all (lossy_chars (schema_view self.now))) }
+        ensures value { IfOk result (λ text. cow_str_bytes text ≡
+            encode_utf8_all (lossy_chars (schema_view self.now))) }
     {
         lossy(alloc, self.0.as_slice())
     }
@@ -204,9 +206,11 @@ impl<'de> MyDeserialize<'de> for Schema<'de> {
     }
 }
 
-/// The statements that would begin a transaction as the session's next one is to be begun, each ended by a semicolon; none where nothing was set.
+/// The statements that would begin a transaction as the session's next one is to be begun, each
+/// ended by a semicolon; none where nothing was set.
 ///
-/// MySQL: Client/Server Protocol, "OK_Packet", 'Session State Information' (`SESSION_TRACK_TRANSACTION_CHARACTERISTICS`).
+/// MySQL: Client/Server Protocol, "OK_Packet", 'Session State Information'
+/// (`SESSION_TRACK_TRANSACTION_CHARACTERISTICS`).
 #[derive(Debug, PartialEq, Eq, Hash, Drop)]
 pub struct TransactionCharacteristics<'a>(CowSlice<'a, u8>);
 
@@ -228,7 +232,8 @@ impl<'a> TransactionCharacteristics<'a> {
     /// The statements as text, where bytes that aren't UTF-8 are replaced. Refused for want of memory.
     pub fn as_str(&self, alloc: Global) -> Result<CowStr<'_>, WireError>
         ensures memory { IsOkUnless result wire.Memory }
-        ensures value { IfOk result (λ text. cow_str_bytes text ≡ encode_utf8_all (lossy_chars (characteristics_view self.now))) }
+        ensures value { IfOk result (λ text. cow_str_bytes text ≡
+            encode_utf8_all (lossy_chars (characteristics_view self.now))) }
     {
         lossy(alloc, self.0.as_slice())
     }
@@ -324,7 +329,8 @@ impl<'a> TransactionState<'a> {
     /// The letters as text, where bytes that aren't UTF-8 are replaced. Refused for want of memory.
     pub fn as_str(&self, alloc: Global) -> Result<CowStr<'_>, WireError>
         ensures memory { IsOkUnless result wire.Memory }
-        ensures value { IfOk result (λ text. cow_str_bytes text ≡ encode_utf8_all (lossy_chars (transaction_view self.now))) }
+        ensures value { IfOk result (λ text. cow_str_bytes text ≡
+            encode_utf8_all (lossy_chars (transaction_view self.now))) }
     {
         lossy(alloc, self.0.as_slice())
     }
@@ -417,7 +423,8 @@ impl<'a> Unsupported<'a> {
     /// The data as text, where bytes that aren't UTF-8 are replaced. Refused for want of memory.
     pub fn as_str(&self, alloc: Global) -> Result<CowStr<'_>, WireError>
         ensures memory { IsOkUnless result wire.Memory }
-        ensures value { IfOk result (λ text. cow_str_bytes text ≡ encode_utf8_all (lossy_chars (unsupported_view self.now))) }
+        ensures value { IfOk result (λ text. cow_str_bytes text ≡
+            encode_utf8_all (lossy_chars (unsupported_view self.now))) }
     {
         lossy(alloc, self.0.as_slice())
     }

@@ -2,11 +2,11 @@
 
 ghost use Rattle.std.specs.Prelude.{map, []};
 ghost use Rattle.std.specs.List.{flat_map};
-ghost use Rattle.mysql_raw.specs.Wire.{Appends, GivesPart};
+ghost use Rattle.mysql_fields.specs.Wire.{Appends, GivesPart};
 ghost use Rattle.mysql_session_states.specs.Reading.{EatsBytes, to_end_at};
 
 use mysql_buf::ParseBuf;
-use mysql_raw::{MyDeserialize, MySerialize, ParseExt, Readable, WireError};
+use mysql_fields::{MyDeserialize, MySerialize, ParseExt, Readable, WireError};
 use std::alloc::{AllocError, Global};
 
 // Reads elements to the end, of which each takes a byte at least; the list grows as they come.

@@ -4,15 +4,15 @@ ghost use Rattle.std.specs.Prelude.{◌≡◌, IfOk, IsOkUnless, None, false};
 ghost use Rattle.std.specs.Cow.{cow_slice_items, cow_str_bytes};
 ghost use Rattle.std.specs.Str.{encode_utf8_all};
 ghost use Rattle.bstr.specs.Utf8.{lossy_chars};
-ghost use Rattle.mysql_raw.specs.Laws.{unsized};
-ghost use Rattle.mysql_raw.specs.WireError.TheVariants as wire;
+ghost use Rattle.mysql_fields.specs.Laws.{unsized};
+ghost use Rattle.mysql_fields.specs.declared.error.WireError.TheVariants as wire;
 ghost use Rattle.mysql_session_states.specs.SessionStates.{IsVariable, Variable, variable, variable_at};
 ghost use Rattle.mysql_session_states.specs.StateLaws.{variable_at-back};
 ghost use Rattle.mysql_session_states.specs.Views.{variable_view};
 
 use crate::fields::{CountedText, copy_of, lossy, owned, text_from};
 use mysql_buf::ParseBuf;
-use mysql_raw::{MyDeserialize, MySerialize, Readable, ReadsBack, WireError};
+use mysql_fields::{MyDeserialize, MySerialize, Readable, ReadsBack, WireError};
 use std::alloc::{AllocError, Global};
 use std::borrow::{CowSlice, CowStr};
 
@@ -28,7 +28,8 @@ pub struct SystemVariable<'a> {
 impl<'a> SystemVariable<'a> {
     /// The variable of this name with this value.
     pub fn new(name: CowSlice<'a, u8>, value: CowSlice<'a, u8>) -> SystemVariable<'a>
-        ensures { variable_view result ≡ record { name = cow_slice_items name.entry; value = cow_slice_items value.entry } }
+        ensures { variable_view result ≡
+            record { name = cow_slice_items name.entry; value = cow_slice_items value.entry } }
     {
         SystemVariable { name, value }
     }
@@ -43,7 +44,8 @@ impl<'a> SystemVariable<'a> {
     /// The name as text, where bytes that aren't UTF-8 are replaced. Refused for want of memory.
     pub fn name_str(&self, alloc: Global) -> Result<CowStr<'_>, WireError>
         ensures memory { IsOkUnless result wire.Memory }
-        ensures value { IfOk result (λ text. cow_str_bytes text ≡ encode_utf8_all (lossy_chars (variable_view self.now).name)) }
+        ensures value { IfOk result (λ text. cow_str_bytes text ≡
+            encode_utf8_all (lossy_chars (variable_view self.now).name)) }
     {
         lossy(alloc, self.name.as_slice())
     }
@@ -58,7 +60,8 @@ impl<'a> SystemVariable<'a> {
     /// The value as text, where bytes that aren't UTF-8 are replaced. Refused for want of memory.
     pub fn value_str(&self, alloc: Global) -> Result<CowStr<'_>, WireError>
         ensures memory { IsOkUnless result wire.Memory }
-        ensures value { IfOk result (λ text. cow_str_bytes text ≡ encode_utf8_all (lossy_chars (variable_view self.now).value)) }
+        ensures value { IfOk result (λ text. cow_str_bytes text ≡
+            encode_utf8_all (lossy_chars (variable_view self.now).value)) }
     {
         lossy(alloc, self.value.as_slice())
     }

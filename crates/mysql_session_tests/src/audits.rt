@@ -125,8 +125,9 @@ fn are_first(
     }
 }
 
-/// Asserts what a stream was found to say: whether memory sufficed. Where it was refused, with the piece behind so many bytes,
-/// the sets are those of the payloads that its end counts, among them all that stood whole before.
+/// Asserts what a stream was found to say: whether memory sufficed. Where it was refused, with the
+/// piece behind so many bytes, the sets are those of the payloads that its end counts, among them
+/// all that stood whole before.
 fn says(
     assert: &impl Assert,
     alloc: Global,
@@ -159,7 +160,8 @@ fn is_read(assert: &impl Assert, alloc: Global, reading: Reading<'_>) -> bool {
     }
 }
 
-/// Feeds a stream byte by byte: how many bytes came before the one that was refused first. Its fault has to be answered again.
+/// Feeds a stream byte by byte: how many bytes came before the one that was refused first. Its
+/// fault has to be answered again.
 fn feed_bytes(assert: &impl Assert, receiver: &mut Receiver, stream: &[u8]) -> usize {
     let mut last = Ok(());
     let mut before = 0;
@@ -190,7 +192,8 @@ fn is_read_by_bytes(assert: &impl Assert, alloc: Global, reading: Reading<'_>) -
     }
 }
 
-/// Asserts what a stream says, with the id 1: in one piece, and byte by byte. It is read once more where memory was refused.
+/// Asserts what a stream says, with the id 1: in one piece, and byte by byte. It is read once more
+/// where memory was refused.
 pub fn assert_audits(
     assert: &impl Assert,
     alloc: Global,

@@ -31,8 +31,8 @@ const THREE: WantedSet = &[Want::Number(3)];
 
 const NOTHING: WantedSet = &[Want::Null];
 
-/// A prepare, and behind it bulk requests. One with types has 9 bytes before its rows over one place, one without them 7; a row
-/// of a number has 9, and one of NULL 1.
+/// A prepare, and behind it bulk requests. One with types has 9 bytes before its rows over one
+/// place, one without them 7; a row of a number has 9, and one of NULL 1.
 const SENT: [RoundTrip; 8] = [
     (
         (Road::Bulk, QUERY, &[INT_1, INT_2], 31),
@@ -42,24 +42,28 @@ const SENT: [RoundTrip; 8] = [
     // A byte less: the second request carries no types.
     (
         (Road::Bulk, QUERY, &[INT_1, INT_2], 30),
-        b"\x09\0\0\0\x16SELECT ?\x12\0\0\0\xfa\x01\0\0\0\x80\0\x08\0\0\x01\0\0\0\0\0\0\0\x10\0\0\0\xfa\x01\0\0\0\0\0\0\x02\0\0\0\0\0\0\0",
+        b"\x09\0\0\0\x16SELECT ?\x12\0\0\0\xfa\x01\0\0\0\x80\0\x08\0\0\x01\0\0\0\0\0\0\0\x10\0\0\0\
+        \xfa\x01\0\0\0\0\0\0\x02\0\0\0\0\0\0\0",
         &[ONE, TWO],
     ),
     // Two rows fit a request without types alone.
     (
         (Road::Bulk, QUERY, &[INT_1, INT_2, INT_3], 29),
-        b"\x09\0\0\0\x16SELECT ?\x12\0\0\0\xfa\x01\0\0\0\x80\0\x08\0\0\x01\0\0\0\0\0\0\0\x19\0\0\0\xfa\x01\0\0\0\0\0\0\x02\0\0\0\0\0\0\0\0\x03\0\0\0\0\0\0\0",
+        b"\x09\0\0\0\x16SELECT ?\x12\0\0\0\xfa\x01\0\0\0\x80\0\x08\0\0\x01\0\0\0\0\0\0\0\x19\0\0\0\
+        \xfa\x01\0\0\0\0\0\0\x02\0\0\0\0\0\0\0\0\x03\0\0\0\0\0\0\0",
         &[ONE, TWO, THREE],
     ),
     // NULL in the first request leaves its place without a type, so that the second one carries types again.
     (
         (Road::Bulk, QUERY, &[NULL, INT_1], 22),
-        b"\x09\0\0\0\x16SELECT ?\x0a\0\0\0\xfa\x01\0\0\0\x80\0\x06\0\x01\x12\0\0\0\xfa\x01\0\0\0\x80\0\x08\0\0\x01\0\0\0\0\0\0\0",
+        b"\x09\0\0\0\x16SELECT ?\x0a\0\0\0\xfa\x01\0\0\0\x80\0\x06\0\x01\x12\0\0\0\xfa\x01\0\0\0\
+        \x80\0\x08\0\0\x01\0\0\0\0\0\0\0",
         &[NOTHING, ONE],
     ),
     (
         (Road::Bulk, QUERY, &[NULL, INT_1, INT_2], 22),
-        b"\x09\0\0\0\x16SELECT ?\x0a\0\0\0\xfa\x01\0\0\0\x80\0\x06\0\x01\x12\0\0\0\xfa\x01\0\0\0\x80\0\x08\0\0\x01\0\0\0\0\0\0\0\x10\0\0\0\xfa\x01\0\0\0\0\0\0\x02\0\0\0\0\0\0\0",
+        b"\x09\0\0\0\x16SELECT ?\x0a\0\0\0\xfa\x01\0\0\0\x80\0\x06\0\x01\x12\0\0\0\xfa\x01\0\0\0\
+        \x80\0\x08\0\0\x01\0\0\0\0\0\0\0\x10\0\0\0\xfa\x01\0\0\0\0\0\0\x02\0\0\0\0\0\0\0",
         &[NOTHING, ONE, TWO],
     ),
     (
@@ -79,7 +83,8 @@ const SENT: [RoundTrip; 8] = [
             ],
             38,
         ),
-        b"\x0c\0\0\0\x16SELECT ?, ?\x22\0\0\0\xfa\x01\0\0\0\x80\0\xfd\0\x06\0\0\x14xxxxxxxxxxxxxxxxxxxx\x01\x1b\0\0\0\xfa\x01\0\0\0\x80\0\xfd\0\x08\0\0\x01x\x01\0\x01x\0\x04\0\0\0\0\0\0\0",
+        b"\x0c\0\0\0\x16SELECT ?, ?\x22\0\0\0\xfa\x01\0\0\0\x80\0\xfd\0\x06\0\0\x14xxxxxxxxxxxxxxxx\
+        xxxx\x01\x1b\0\0\0\xfa\x01\0\0\0\x80\0\xfd\0\x08\0\0\x01x\x01\0\x01x\0\x04\0\0\0\0\0\0\0",
         &[
             &[Want::Filled(20), Want::Null],
             &[Want::Filled(1), Want::Null],

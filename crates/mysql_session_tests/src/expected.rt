@@ -294,8 +294,9 @@ fn has_as_many(
 /// The bytes of a reply, and what they have to say.
 type Reading<'a> = (Start, &'a [u8], Wanted<'a>);
 
-/// Asserts what a reply was found to say: whether memory sufficed. Where it was refused, with the piece behind so many bytes, the
-/// reports and results are those of the payloads that its end counts, among them all that stood whole before.
+/// Asserts what a reply was found to say: whether memory sufficed. Where it was refused, with the
+/// piece behind so many bytes, the reports and results are those of the payloads that its end
+/// counts, among them all that stood whole before.
 fn says(
     assert: &impl Assert,
     alloc: Global,
@@ -372,8 +373,8 @@ fn assert_reads_cut(assert: &impl Assert, alloc: Global, reading: Reading<'_>) {
     }
 }
 
-/// Asserts what the bytes of a reply say: in one piece, byte by byte, and where they are few cut in two at each place. They are
-/// read once more where memory was refused.
+/// Asserts what the bytes of a reply say: in one piece, byte by byte, and where they are few cut in
+/// two at each place. They are read once more where memory was refused.
 pub fn assert_reads(
     assert: &impl Assert,
     alloc: Global,

@@ -59,7 +59,8 @@ fn no_replies(rt: HostRuntime) {
     assert_replies(&Asserting(&rt), rt.alloc(), TEXT, &NO_REPLIES);
 }
 
-/// Asserts that a reader answers this fault from now on, and ends with it; where there is none, that the reply is whole.
+/// Asserts that a reader answers this fault from now on, and ends with it; where there is none,
+/// that the reply is whole.
 fn assert_stays(assert: &impl Assert, mut reader: ReplyReader, fault: Option<ReplyFault>) {
     match fault {
         Some(fault) => {

@@ -7,8 +7,8 @@ use tests_support::{Assert, once_more};
 
 const LARGE: usize = 20_000_000;
 
-/// The limit of a packet, what came of one, and how many bytes of it are held: not the header, once it stands whole. The text
-/// `SELECT 1` as a packet, and the header of a full chunk alone.
+/// The limit of a packet, what came of one, and how many bytes of it are held: not the header, once
+/// it stands whole. The text `SELECT 1` as a packet, and the header of a full chunk alone.
 const KEPT: [(usize, &[u8], usize); 6] = [
     (1000, b"", 0),
     (1000, b"\x09\0\0", 3),
@@ -18,7 +18,8 @@ const KEPT: [(usize, &[u8], usize); 6] = [
     (LARGE, b"\xff\xff\xff\0", 0),
 ];
 
-/// How many bytes a receiver holds that was fed these in pieces of this size, behind an empty one; None where memory was refused.
+/// How many bytes a receiver holds that was fed these in pieces of this size, behind an empty one;
+/// None where memory was refused.
 fn kept_of(
     assert: &impl Assert,
     alloc: Global,
@@ -46,8 +47,8 @@ fn kept_of(
     }
 }
 
-/// Asserts how many bytes a receiver holds of what came in one piece, and byte by byte. They are fed once more where memory was
-/// refused.
+/// Asserts how many bytes a receiver holds of what came in one piece, and byte by byte. They are
+/// fed once more where memory was refused.
 fn assert_kept(assert: &impl Assert, alloc: Global, limit: usize, stream: &[u8], wanted: usize) {
     for size in [usize::MAX, 1] {
         let mut found = kept_of(assert, alloc, (limit, size), stream);

@@ -76,7 +76,8 @@ fn a_text_cut_off(rt: HostRuntime) {
 
 pub const TWO_PLACES: &[u8] = b"SELECT :a, :b";
 
-/// What stands before the data of the large piece: the prepare, a chunk's header, and the command with its id and place.
+/// What stands before the data of the large piece: the prepare, a chunk's header, and the command
+/// with its id and place.
 const BEFORE: &[u8] = b"\x0c\0\0\0\x16SELECT ?, ?\xff\xff\xff\0\x18\x01\0\0\0\0\0";
 
 /// What stands behind a full chunk: the last seven bytes of its payload, a piece of no bytes for the second place, an
@@ -145,8 +146,8 @@ fn long_data(rt: HostRuntime) {
     );
 }
 
-/// Behind the prepare, behind the header of the first chunk, between the chunks of the first piece, behind it, inside the next
-/// header, and a byte before the end.
+/// Behind the prepare, behind the header of the first chunk, between the chunks of the first piece,
+/// behind it, inside the next header, and a byte before the end.
 const LONG_DATA_CUT_OFF: [Front; 6] = [
     (16, &[], End::Whole),
     (20, &[], End::UnfinishedPacket),

@@ -290,7 +290,8 @@ const ONE_COLUMN: &[u8] =
 
 /// The packets before the rows: two columns.
 const TWO_COLUMNS: &[u8] =
-    b"\x01\0\0\x01\x02\x16\0\0\x02\x03def\0\0\0\0\0\x0c\x3f\0\x01\0\0\0\x08\0\0\0\0\0\x16\0\0\x03\x03def\0\0\0\0\0\x0c\x3f\0\x01\0\0\0\x08\0\0\0\0\0";
+    b"\x01\0\0\x01\x02\x16\0\0\x02\x03def\0\0\0\0\0\x0c\x3f\0\x01\0\0\0\x08\0\0\0\0\0\x16\0\0\x03\
+    \x03def\0\0\0\0\0\x0c\x3f\0\x01\0\0\0\x08\0\0\0\0\0";
 
 /// The kind, the capabilities, the packets, how many rows they have, and the end.
 type Stream = (

@@ -1,8 +1,8 @@
-//! Tests of `mysql_session` from outside: parameter sets that are sent and read back, streams of commands and replies, in one
-//! piece and byte by byte.
+//! Tests of `mysql_session` from outside: parameter sets that are sent and read back, streams of
+//! commands and replies, in one piece and byte by byte.
 //!
-//! At most one allocation of a run is refused. So a call that answers that memory was refused is made once more, and then has
-//! to answer.
+//! At most one allocation of a run is refused. So a call that answers that memory was refused is
+//! made once more, and then has to answer.
 #![tactic(auto)]
 
 #[cfg(test)]

@@ -105,7 +105,8 @@ const STREAMS: [(&[u8], &[Standing]); 5] = [
         ],
     ),
     (
-        b"\x09\0\0\0\x16SELECT ?\x16\0\0\0\x17\x01\0\0\0\0\x01\0\0\0\0\x01\x08\0\x01\0\0\0\0\0\0\0\x16\0\0\0\x17\x01\0\0\0\0\x01\0\0\0\0\x01\x08\0\x02\0\0\0\0\0\0\0",
+        b"\x09\0\0\0\x16SELECT ?\x16\0\0\0\x17\x01\0\0\0\0\x01\0\0\0\0\x01\x08\0\x01\0\0\0\0\0\0\0\
+        \x16\0\0\0\x17\x01\0\0\0\0\x01\0\0\0\0\x01\x08\0\x02\0\0\0\0\0\0\0",
         &[
             (13, &[]),
             (39, &[]),
@@ -132,7 +133,8 @@ fn streams(rt: HostRuntime) {
     }
 }
 
-/// How many bytes of a reply have to come until the next payload is whole, and the reports and results that stand before it.
+/// How many bytes of a reply have to come until the next payload is whole, and the reports and
+/// results that stand before it.
 type Stage = (usize, &'static [Report], &'static [Expected]);
 
 /// Feeds a reply byte by byte up to the byte at which memory is refused: how many bytes stand before it.
@@ -147,7 +149,8 @@ fn taken_of_reply(assert: &impl Assert, reader: &mut ReplyReader, stream: &[u8])
     None
 }
 
-/// Whether reports and results are those of the payloads before the one that is counted, which wasn't whole after so many bytes.
+/// Whether reports and results are those of the payloads before the one that is counted, which
+/// wasn't whole after so many bytes.
 fn is_front_of_reply(reply: &Reply, taken: usize, stages: &[Stage]) -> bool {
     for (payload, (end, reports, results)) in stages.iter().enumerate() {
         let refused = ReplyEnd::Fault(payload as u64, ReplyFault::Memory);
@@ -227,7 +230,8 @@ const REPLIES: [(CapabilityFlags, &[u8], &[Stage]); 3] = [
     // One column of 31 bytes with its count, a row of 6, and an end of 11.
     (
         WITHOUT_EOF,
-        b"\x01\0\0\x01\x01\x16\0\0\x02\x03def\0\0\0\0\0\x0c\x3f\0\x01\0\0\0\x08\0\0\0\0\0\x02\0\0\x03\x015\x07\0\0\x04\xfe\0\0\x02\0\0\0",
+        b"\x01\0\0\x01\x01\x16\0\0\x02\x03def\0\0\0\0\0\x0c\x3f\0\x01\0\0\0\x08\0\0\0\0\0\x02\0\0\
+        \x03\x015\x07\0\0\x04\xfe\0\0\x02\0\0\0",
         &[
             (5, &[], &[]),
             (31, &[], &[]),
@@ -260,8 +264,8 @@ fn replies(rt: HostRuntime) {
     }
 }
 
-/// Asserts that what was to be appended to `front` stands behind it, or that memory was refused and nothing is: whether it
-/// sufficed.
+/// Asserts that what was to be appended to `front` stands behind it, or that memory was refused and
+/// nothing is: whether it sufficed.
 fn is_appended<E: PartialEq + Drop>(
     assert: &impl Assert,
     answer: Result<(), E>,
@@ -293,7 +297,8 @@ const ROADS: [(Road, &[u8]); 3] = [
 ];
 
 const EXECUTIONS: &[u8] =
-    b"\x09\0\0\0\x16SELECT ?\x16\0\0\0\x17\x01\0\0\0\0\x01\0\0\0\0\x01\x08\0\x01\0\0\0\0\0\0\0\x16\0\0\0\x17\x01\0\0\0\0\x01\0\0\0\0\x01\x08\0\x02\0\0\0\0\0\0\0";
+    b"\x09\0\0\0\x16SELECT ?\x16\0\0\0\x17\x01\0\0\0\0\x01\0\0\0\0\x01\x08\0\x01\0\0\0\0\0\0\0\x16\
+    \0\0\0\x17\x01\0\0\0\0\x01\0\0\0\0\x01\x08\0\x02\0\0\0\0\0\0\0";
 
 const SETS: [Set; 2] = [Set::A(Given::Int(1)), Set::A(Given::Int(2))];
 

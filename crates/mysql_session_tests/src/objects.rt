@@ -120,7 +120,9 @@ const SENT: [RoundTrip; 5] = [
                 Object::Millis(1500),
             ]],
         ),
-        b"\x15\0\0\0\x16SELECT ?, ?, ?, ?, ?\x35\0\0\0\x17\x01\0\0\0\0\x01\0\0\0\x08\x01\x08\0\x08\x80\xfd\0\x06\0\x0b\0\xff\xff\xff\xff\xff\xff\xff\xff\xff\xff\xff\xff\xff\xff\xff\xff\x01x\x0c\0\0\0\0\0\0\0\x01\x20\xa1\x07\0",
+        b"\x15\0\0\0\x16SELECT ?, ?, ?, ?, ?\x35\0\0\0\x17\x01\0\0\0\0\x01\0\0\0\x08\x01\x08\0\x08\
+        \x80\xfd\0\x06\0\x0b\0\xff\xff\xff\xff\xff\xff\xff\xff\xff\xff\xff\xff\xff\xff\xff\xff\x01x\
+        \x0c\0\0\0\0\0\0\0\x01\x20\xa1\x07\0",
         &[&[
             Want::Number(-1),
             Want::Number(18446744073709551615),
@@ -135,7 +137,8 @@ const SENT: [RoundTrip; 5] = [
             b"SELECT ?",
             &[&[Object::Int(1)], &[Object::Nothing]],
         ),
-        b"\x09\0\0\0\x16SELECT ?\x16\0\0\0\x17\x01\0\0\0\0\x01\0\0\0\0\x01\x08\0\x01\0\0\0\0\0\0\0\x0e\0\0\0\x17\x01\0\0\0\0\x01\0\0\0\x01\x01\x06\0",
+        b"\x09\0\0\0\x16SELECT ?\x16\0\0\0\x17\x01\0\0\0\0\x01\0\0\0\0\x01\x08\0\x01\0\0\0\0\0\0\0\
+        \x0e\0\0\0\x17\x01\0\0\0\0\x01\0\0\0\x01\x01\x06\0",
         &[&[Want::Number(1)], &[Want::Null]],
     ),
     // By bulk the lists are the rows of one request.

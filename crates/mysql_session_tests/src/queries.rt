@@ -1,5 +1,5 @@
-//! Queries that are kept: what they tell, receivers of them, texts bound to them, and where memory is refused. That they send
-//! what `send` sends is asserted with each row of the other tests.
+//! Queries that are kept: what they tell, receivers of them, texts bound to them, and where memory
+//! is refused. That they send what `send` sends is asserted with each row of the other tests.
 
 ghost use Rattle.std.specs.Prelude.{◌+◌, ◌<◌, ◌≤◌, ◌^◌, length};
 
@@ -87,7 +87,8 @@ const ROADS: [(Road, &[u8]); 3] = [
     (Road::Text, b"\x09\0\0\0\x03SELECT 1\x09\0\0\0\x03SELECT 2"),
     (
         Road::Execute,
-        b"\x09\0\0\0\x16SELECT ?\x16\0\0\0\x17\x01\0\0\0\0\x01\0\0\0\0\x01\x08\0\x01\0\0\0\0\0\0\0\x16\0\0\0\x17\x01\0\0\0\0\x01\0\0\0\0\x01\x08\0\x02\0\0\0\0\0\0\0",
+        b"\x09\0\0\0\x16SELECT ?\x16\0\0\0\x17\x01\0\0\0\0\x01\0\0\0\0\x01\x08\0\x01\0\0\0\0\0\0\0\
+        \x16\0\0\0\x17\x01\0\0\0\0\x01\0\0\0\0\x01\x08\0\x02\0\0\0\0\0\0\0",
     ),
     (
         Road::Bulk,
@@ -108,7 +109,8 @@ fn received(rt: HostRuntime) {
     }
 }
 
-/// Asserts that the sets stand behind `front`, or that memory was refused and nothing stands behind it: whether it sufficed.
+/// Asserts that the sets stand behind `front`, or that memory was refused and nothing stands behind
+/// it: whether it sufficed.
 fn are_sent(
     assert: &impl Assert,
     alloc: Global,
@@ -287,7 +289,8 @@ fn sent_behind_a_prepare(rt: HostRuntime) {
     let assert = Asserting(&rt);
     let alloc = rt.alloc();
     let stands =
-        b"\x16\0\0\0\x17\x01\0\0\0\0\x01\0\0\0\0\x01\x08\0\x01\0\0\0\0\0\0\0\x16\0\0\0\x17\x01\0\0\0\0\x01\0\0\0\0\x01\x08\0\x02\0\0\0\0\0\0\0";
+        b"\x16\0\0\0\x17\x01\0\0\0\0\x01\0\0\0\0\x01\x08\0\x01\0\0\0\0\0\0\0\x16\0\0\0\x17\x01\0\0\
+        \0\0\x01\0\0\0\0\x01\x08\0\x02\0\0\0\0\0\0\0";
     assert_more(&assert, alloc, QUERY, 31, Ok(()), stands);
     let large = Err(Refusal::PacketTooLarge(7));
     assert_more(&assert, alloc, QUERY, 25, large, b"");

@@ -4,7 +4,7 @@ use crate::large::{LIMIT, PIECE_LEN, TWO_PLACES};
 use crate::sending::{Given, Sending, Set, assert_appended, list, named};
 use crate::support::{Asserting, filled};
 use mysql_bulk_builder::{BulkExecuteRequestBuilderError, ComStmtBulkExecuteRequestBuilder};
-use mysql_raw::MySerialize;
+use mysql_fields::MySerialize;
 use mysql_session::{Road, Value};
 use mysql_stmt::{ComStmtExecuteRequestBuilder, ComStmtSendLongData};
 use mysql_values::{BindError, ByteString, NamedParamsError, ParsedNamedParams, bind_text};

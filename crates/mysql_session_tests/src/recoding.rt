@@ -72,7 +72,8 @@ fn assert_recoded(
     assert.holds(out.as_slice().strip_prefix(b"front") == Some(wanted));
 }
 
-/// Asserts as which packets a stream of `SELECT :a` is recoded, also byte by byte, and that these are recoded as themselves.
+/// Asserts as which packets a stream of `SELECT :a` is recoded, also byte by byte, and that these
+/// are recoded as themselves.
 fn assert_recodes(assert: &impl Assert, alloc: Global, pieces: &[&[u8]], packets: &[&[u8]]) {
     let wanted = joined(assert, alloc, packets);
     let query = (QUERY, 1000);
@@ -181,7 +182,8 @@ const TEXT_1_2: &[u8] = b"\x0c\0\0\0\x03SELECT 1, 2";
 
 /// A prepare of 16 bytes, and an execution of 36 with two numbers, of which no set gives both for the same name.
 const TWO_NUMBERS: &[u8] =
-    b"\x0c\0\0\0\x16SELECT ?, ?\x20\0\0\0\x17\x01\0\0\0\0\x01\0\0\0\0\x01\x08\0\x08\0\x01\0\0\0\0\0\0\0\x02\0\0\0\0\0\0\0";
+    b"\x0c\0\0\0\x16SELECT ?, ?\x20\0\0\0\x17\x01\0\0\0\0\x01\0\0\0\0\x01\x08\0\x08\0\x01\0\0\0\0\0\
+    \0\0\x02\0\0\0\0\0\0\0";
 
 const BOTH_NUMBERS: [Standing; 3] = [
     (0, &[]),

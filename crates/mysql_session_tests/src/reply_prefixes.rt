@@ -78,7 +78,8 @@ const REPLIES: [Staged; 11] = [
     (
         ReplyKind::Text,
         WITHOUT_EOF,
-        b"\x01\0\0\x01\x01\x16\0\0\x02\x03def\0\0\0\0\0\x0c\x3f\0\x01\0\0\0\x08\0\0\0\0\0\x02\0\0\x03\x015\x07\0\0\x04\xfe\0\0\x02\0\0\0",
+        b"\x01\0\0\x01\x01\x16\0\0\x02\x03def\0\0\0\0\0\x0c\x3f\0\x01\0\0\0\x08\0\0\0\0\0\x02\0\0\
+        \x03\x015\x07\0\0\x04\xfe\0\0\x02\0\0\0",
         48,
         &[
             (31, &[], &[NO_ROWS], ReplyEnd::Unfinished),
@@ -107,7 +108,8 @@ const REPLIES: [Staged; 11] = [
     (
         ReplyKind::Binary,
         WITHOUT_EOF,
-        b"\x01\0\0\x01\x01\x16\0\0\x02\x03def\0\0\0\0\0\x0c\x3f\0\x01\0\0\0\x08\0\0\0\0\0\x0a\0\0\x03\0\0\x05\0\0\0\0\0\0\0\x07\0\0\x04\xfe\0\0\x02\0\0\0",
+        b"\x01\0\0\x01\x01\x16\0\0\x02\x03def\0\0\0\0\0\x0c\x3f\0\x01\0\0\0\x08\0\0\0\0\0\x0a\0\0\
+        \x03\0\0\x05\0\0\0\0\0\0\0\x07\0\0\x04\xfe\0\0\x02\0\0\0",
         56,
         &[
             (31, &[], &[NO_NUMBERS], ReplyEnd::Unfinished),
@@ -129,7 +131,8 @@ const REPLIES: [Staged; 11] = [
     (
         ReplyKind::Binary,
         WITHOUT_EOF,
-        b"\x01\0\0\x01\x01\x16\0\0\x02\x03def\0\0\0\0\0\x0c\x3f\0\x01\0\0\0\x08\0\0\0\0\0\x02\0\0\x03\0\x04\x07\0\0\x04\xfe\0\0\x02\0\0\0",
+        b"\x01\0\0\x01\x01\x16\0\0\x02\x03def\0\0\0\0\0\x0c\x3f\0\x01\0\0\0\x08\0\0\0\0\0\x02\0\0\
+        \x03\0\x04\x07\0\0\x04\xfe\0\0\x02\0\0\0",
         48,
         &[
             (31, &[], &[NO_NUMBERS], ReplyEnd::Unfinished),
@@ -190,12 +193,13 @@ const REPLIES: [Staged; 11] = [
         4,
         &[(4, &[], &[], ReplyEnd::Fault(0, ReplyFault::BadHeader))],
     ),
-    // Two columns of 57 bytes with their count, and in place of a row a cell before one that begins with ff, and an error without
-    // a code.
+    // Two columns of 57 bytes with their count, and in place of a row a cell before one that begins
+    // with ff, and an error without a code.
     (
         ReplyKind::Text,
         WITHOUT_EOF,
-        b"\x01\0\0\x01\x02\x16\0\0\x02\x03def\0\0\0\0\0\x0c\x3f\0\x01\0\0\0\x08\0\0\0\0\0\x16\0\0\x03\x03def\0\0\0\0\0\x0c\x3f\0\x01\0\0\0\x08\0\0\0\0\0\x03\0\0\x04\x015\xff",
+        b"\x01\0\0\x01\x02\x16\0\0\x02\x03def\0\0\0\0\0\x0c\x3f\0\x01\0\0\0\x08\0\0\0\0\0\x16\0\0\
+        \x03\x03def\0\0\0\0\0\x0c\x3f\0\x01\0\0\0\x08\0\0\0\0\0\x03\0\0\x04\x015\xff",
         64,
         &[
             (57, &[], &[NO_ROWS_OF_TWO], ReplyEnd::Unfinished),
@@ -210,7 +214,8 @@ const REPLIES: [Staged; 11] = [
     (
         ReplyKind::Text,
         WITHOUT_EOF,
-        b"\x01\0\0\x01\x02\x16\0\0\x02\x03def\0\0\0\0\0\x0c\x3f\0\x01\0\0\0\x08\0\0\0\0\0\x16\0\0\x03\x03def\0\0\0\0\0\x0c\x3f\0\x01\0\0\0\x08\0\0\0\0\0\x01\0\0\x04\xff",
+        b"\x01\0\0\x01\x02\x16\0\0\x02\x03def\0\0\0\0\0\x0c\x3f\0\x01\0\0\0\x08\0\0\0\0\0\x16\0\0\
+        \x03\x03def\0\0\0\0\0\x0c\x3f\0\x01\0\0\0\x08\0\0\0\0\0\x01\0\0\x04\xff",
         62,
         &[
             (57, &[], &[NO_ROWS_OF_TWO], ReplyEnd::Unfinished),

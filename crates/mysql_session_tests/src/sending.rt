@@ -298,7 +298,8 @@ fn assert_refused_by_kept(assert: &impl Assert, alloc: Global, sending: Sending,
     assert.holds(out.as_slice() == b"front".as_slice());
 }
 
-/// Asserts that each of these sets are refused for this cause, also by a query that is kept, and that nothing is appended.
+/// Asserts that each of these sets are refused for this cause, also by a query that is kept, and
+/// that nothing is appended.
 pub fn assert_refusals(assert: &impl Assert, alloc: Global, rows: &[(Sending, Cause)]) {
     for (sending, cause) in rows {
         assert_refused(assert, alloc, *sending, *cause);

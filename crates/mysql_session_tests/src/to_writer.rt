@@ -1,5 +1,5 @@
-//! Sets that are written to a writer: in pieces, to one that fails, and refused. Where memory is refused, the sets that are
-//! counted have to be written, as at each other refusal.
+//! Sets that are written to a writer: in pieces, to one that fails, and refused. Where memory is
+//! refused, the sets that are counted have to be written, as at each other refusal.
 
 use crate::audits::{Want, WantedSet, assert_audits};
 use crate::sending::{Cause, Given, Sending, Set, all_params, assert_cause, sent_at_last};
@@ -95,7 +95,8 @@ enum Answer {
 /// How many bytes a writer took, the sets that they carry, and how they end.
 type Front = (usize, &'static [WantedSet], End);
 
-/// What is sent; how many of the sets can be, or None where nothing can; to which writer; the answer, and what the writer took.
+/// What is sent; how many of the sets can be, or None where nothing can; to which writer; the
+/// answer, and what the writer took.
 type Row = (Sending, Option<usize>, Limits, Answer, Front);
 
 /// The stream of the first sets, so many; no bytes for None.
@@ -223,8 +224,9 @@ const NULL: Set = Set::A(Given::Null);
 
 const FLOAT: Set = Set::A(Given::Float(0));
 
-/// By text packets of 15, 20014, 16, 5014, 5014 and 15 bytes. By execute one of 13, and behind it of 20, 20021, 18, 5021, 5021
-/// and 20. Each of both gathers two of them or three, then three, and then one. By bulk packets of 13, 25025 and 5018 bytes.
+/// By text packets of 15, 20014, 16, 5014, 5014 and 15 bytes. By execute one of 13, and behind it
+/// of 20, 20021, 18, 5021, 5021 and 20. Each of both gathers two of them or three, then three, and
+/// then one. By bulk packets of 13, 25025 and 5018 bytes.
 const SETS: &[Set] = &[X, LONG, NULL, HALF, HALF, X];
 
 const AN_X: WantedSet = &[Want::Filled(1)];
@@ -379,8 +381,9 @@ const BROKEN: [Row; 12] = [
     ),
 ];
 
-/// Writers that fail behind one write: a lot has 8192 bytes at least. By text a packet has 14 bytes more than its `x`, by execute
-/// the prepare has 13, and an execution 18 more, or 20 where their number takes three.
+/// Writers that fail behind one write: a lot has 8192 bytes at least. By text a packet has 14 bytes
+/// more than its `x`, by execute the prepare has 13, and an execution 18 more, or 20 where their
+/// number takes three.
 const LOTS: [Row; 4] = [
     (
         (Road::Text, QUERY, &[Set::A(Given::Filled(8178)), X], 30000),

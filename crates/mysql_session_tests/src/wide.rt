@@ -24,7 +24,8 @@ const COUNT: &[u8] = b"\x03\0\0\x01\xfc\xff\xff";
 /// A column behind its packet's number.
 const COLUMN: &[u8] = b"\x03def\0\0\0\0\0\x0c\x3f\0\x01\0\0\0\x08\0\0\0\0\0";
 
-/// The header of a row of 65535 bytes. The numbers 2 to 65536 are the columns'; this is number 65537, of which a byte is sent.
+/// The header of a row of 65535 bytes. The numbers 2 to 65536 are the columns'; this is number
+/// 65537, of which a byte is sent.
 const ROW: &[u8] = b"\xff\xff\0\x01";
 
 const TERMINATOR: &[u8] = b"\x07\0\0\x02\xfe\0\0\x02\0\0\0";
@@ -113,8 +114,8 @@ fn are_results(results: &[ReplyResult], payloads: u64) -> bool {
     }
 }
 
-/// Asserts that a reply has the columns and the row: whether memory sufficed. Where it was refused, with the piece behind so many
-/// bytes, it has what the payloads before say.
+/// Asserts that a reply has the columns and the row: whether memory sufficed. Where it was refused,
+/// with the piece behind so many bytes, it has what the payloads before say.
 fn is_wide(assert: &impl Assert, stream: &[u8], before: usize, reply: &Reply) -> bool {
     if let ReplyEnd::Fault(payloads, ReplyFault::Memory) = reply.end {
         assert.holds(front_behind(stream, before, payloads).is_some());

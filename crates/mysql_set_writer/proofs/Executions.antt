@@ -8,13 +8,13 @@ use Rattle.mysql_values.specs.Laws.{OneTokens}
 use Rattle.mysql_values.specs.Parsed.{Parsed, names_of}
 use Rattle.mysql_values.specs.Queries.{places_from}
 use Rattle.mysql_values.specs.Value.{Value}
-use Rattle.mysql_commands.specs.Query.{Statement, statement_of}
-use Rattle.mysql_streams.specs.declared.refusal.Refusal.{Refusal}
-use Rattle.mysql_streams.specs.declared.road.Road.TheVariants.{Execute}
-use Rattle.mysql_streams.specs.Cause.{set_cause}
-use Rattle.mysql_streams.specs.Reading.{SentReadable}
-use Rattle.mysql_streams.specs.Sent.{SentPayload, as_execution, on_the_way, payloads_of}
-use Rattle.mysql_streams.specs.Sets.{Given, all_given, given_by}
+use Rattle.mysql_receive.specs.Query.{Statement, statement_of}
+use Rattle.mysql_command_rules.specs.declared.refusal.Refusal.{Refusal}
+use Rattle.mysql_command_rules.specs.declared.road.Road.TheVariants.{Execute}
+use Rattle.mysql_command_rules.specs.Cause.{set_cause}
+use Rattle.mysql_command_rules.specs.Reading.{SentReadable}
+use Rattle.mysql_command_rules.specs.Sent.{SentPayload, as_execution, on_the_way, payloads_of}
+use Rattle.mysql_command_rules.specs.Sets.{Given, all_given, given_by}
 use Rattle.mysql_senders.specs.OneSet.{AppendsExecution, IsStatement, RefusesSet, execution_payloads, whole_execution}
 use Rattle.mysql_set_writer.proofs.OneMore.{before, one_more, up_to}
 use Rattle.mysql_set_writer.proofs.Stands.{Stands}

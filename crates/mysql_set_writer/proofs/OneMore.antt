@@ -9,15 +9,15 @@ use Rattle.mysql_wire.specs.Stream.Numbering.{EachFromZero}
 use Rattle.mysql_values.specs.declared.params.Params.{Params}
 use Rattle.mysql_values.specs.Parsed.{names_of}
 use Rattle.mysql_values.specs.Value.{Value}
-use Rattle.mysql_commands.specs.Query.{Statement, place_count, statement_of}
-use Rattle.mysql_streams.specs.declared.refusal.Refusal.{Refusal}
-use Rattle.mysql_streams.specs.declared.road.Road.{Road}
-use Rattle.mysql_streams.specs.declared.road.Road.TheVariants.{Text, Execute, Bulk}
-use Rattle.mysql_streams.specs.Cause.{first_of_sets, query_cause, set_cause, sets_cause}
-use Rattle.mysql_streams.specs.Reading.{IsReadable, SentReadable}
-use Rattle.mysql_streams.specs.Sending.{RefusesGiven}
-use Rattle.mysql_streams.specs.Sent.{AreSent, SentPayload, as_execution, as_text, payloads_of, prepare_of, stream_of, whole_command}
-use Rattle.mysql_streams.specs.Sets.{Given, all_given, given_by, values_of}
+use Rattle.mysql_receive.specs.Query.{Statement, place_count, statement_of}
+use Rattle.mysql_command_rules.specs.declared.refusal.Refusal.{Refusal}
+use Rattle.mysql_command_rules.specs.declared.road.Road.{Road}
+use Rattle.mysql_command_rules.specs.declared.road.Road.TheVariants.{Text, Execute, Bulk}
+use Rattle.mysql_command_rules.specs.Cause.{first_of_sets, query_cause, set_cause, sets_cause}
+use Rattle.mysql_command_rules.specs.Reading.{IsReadable, SentReadable}
+use Rattle.mysql_command_rules.specs.Sending.{RefusesGiven}
+use Rattle.mysql_command_rules.specs.Sent.{AreSent, SentPayload, as_execution, as_text, payloads_of, prepare_of, stream_of, whole_command}
+use Rattle.mysql_command_rules.specs.Sets.{Given, all_given, given_by, values_of}
 use Rattle.mysql_senders.proofs.SentSets.{framings-append, next_set}
 
 -- ---- first causes

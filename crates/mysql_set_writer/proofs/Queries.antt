@@ -13,12 +13,12 @@ use Rattle.mysql_values.specs.Queries.{places_from}
 use Rattle.mysql_values.specs.Tokens.{HasTokens}
 use Rattle.mysql_values.specs.Value.{Value}
 use Rattle.mysql_values.specs.Values.{content_of}
-use Rattle.mysql_commands.specs.Query.{statement_of}
-use Rattle.mysql_streams.specs.declared.refusal.Refusal.{Refusal}
-use Rattle.mysql_streams.specs.declared.road.Road.TheVariants.{Text}
-use Rattle.mysql_streams.specs.Cause.{places_cause, set_cause}
-use Rattle.mysql_streams.specs.Reading.{IsReadable, SentReadable}
-use Rattle.mysql_streams.specs.Sets.{Given, all_given, given_by}
+use Rattle.mysql_receive.specs.Query.{statement_of}
+use Rattle.mysql_command_rules.specs.declared.refusal.Refusal.{Refusal}
+use Rattle.mysql_command_rules.specs.declared.road.Road.TheVariants.{Text}
+use Rattle.mysql_command_rules.specs.Cause.{places_cause, set_cause}
+use Rattle.mysql_command_rules.specs.Reading.{IsReadable, SentReadable}
+use Rattle.mysql_command_rules.specs.Sets.{Given, all_given, given_by}
 use Rattle.mysql_senders.specs.OneSet.{AppendsQuery, RefusesQuery, query_and_set_cause, text_command, text_payloads}
 use Rattle.mysql_senders.proofs.Contents.{gives_one, gives_values}
 use Rattle.mysql_set_writer.proofs.OneMore.{before, no_query_cause, none_of_three, one_more, up_to}

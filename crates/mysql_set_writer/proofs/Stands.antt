@@ -6,7 +6,7 @@ use Rattle.std.proofs.lemmas.List.{get_or-append-add}
 use Rattle.std.proofs.Math.ListN.{get_or-append}
 use Rattle.std.proofs.KnownBytes.{Appends-nil, Appends-trans}
 use Rattle.mysql_wire.specs.Bytes.{AreBytes}
-use Rattle.mysql_streams.specs.declared.refusal.Refusal.{Refusal}
+use Rattle.mysql_command_rules.specs.declared.refusal.Refusal.{Refusal}
 use Rattle.mysql_set_writer.specs.Lots.{HandsOn, TakesFront, standing}
 
 -- so many sets stand in what the writer took and what is gathered behind it

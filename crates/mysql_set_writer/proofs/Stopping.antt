@@ -4,16 +4,16 @@ use Rattle.std.specs.Prelude.{IfErr, OnOk}
 use Rattle.std.specs.Io.KnownBytes.{Appends}
 use Rattle.mysql_wire.specs.Bytes.{AreBytes}
 use Rattle.mysql_values.specs.declared.params.Params.{Params}
-use Rattle.mysql_streams.specs.declared.refusal.Refusal.{Refusal}
-use Rattle.mysql_streams.specs.declared.road.Road.{Road}
-use Rattle.mysql_streams.specs.Reading.{SentReadable}
-use Rattle.mysql_streams.specs.Sending.{RefusesGiven}
-use Rattle.mysql_streams.specs.Sets.{all_given}
+use Rattle.mysql_command_rules.specs.declared.refusal.Refusal.{Refusal}
+use Rattle.mysql_command_rules.specs.declared.road.Road.{Road}
+use Rattle.mysql_command_rules.specs.Reading.{SentReadable}
+use Rattle.mysql_command_rules.specs.Sending.{RefusesGiven}
+use Rattle.mysql_command_rules.specs.Sets.{all_given}
 use Rattle.mysql_set_writer.specs.declared.error.SendToError.{SendToError}
 use Rattle.mysql_set_writer.specs.declared.error.SendToError.TheVariants.{Refused, Io}
 use Rattle.mysql_set_writer.specs.Lots.{StopsAt, TakesFront}
 use Rattle.mysql_set_writer.specs.Writing.{FailsAmong, Stops, StopsAtSet, Writes}
-use Rattle.mysql_streams.specs.Sets.{given_by}
+use Rattle.mysql_command_rules.specs.Sets.{given_by}
 use Rattle.mysql_set_writer.proofs.OneMore.{IsApart, around, cause, names, one_refused, up_to}
 use Rattle.mysql_set_writer.proofs.Stands.{Failed, Stands, all, fails, fails_at}
 

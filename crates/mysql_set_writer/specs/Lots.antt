@@ -1,9 +1,10 @@
--- What a writer takes of the bytes that are gathered for it: of packets, each of which the protocol lets follow the one before at once.
--- MySQL: Client/Server Protocol, "Protocol Basics: MySQL Packets".
+-- What a writer takes of the bytes that are gathered for it: of packets, each of which the protocol
+-- lets follow the one before at once. MySQL: Client/Server Protocol, "Protocol Basics: MySQL
+-- Packets".
 use Rattle.std.specs.Prelude.{◌≡◌, ◌<◌, ℕ, List, ◌++◌, length, take, Option, Result, Ok, Err}
 use Rattle.std.specs.Io.KnownBytes.{Appends}
 use Rattle.mysql_wire.specs.Bytes.{AreBytes}
-use Rattle.mysql_streams.specs.declared.refusal.Refusal.{Refusal}
+use Rattle.mysql_command_rules.specs.declared.refusal.Refusal.{Refusal}
 use Rattle.mysql_set_writer.specs.declared.error.SendToError.{SendToError}
 use Rattle.mysql_set_writer.specs.declared.error.SendToError.TheVariants.{Refused, Io}
 
@@ -27,7 +28,11 @@ abbrev pub standing : Result (Unit {0}) Refusal → ℕ → List ℕ → List �
 standing (Ok done) start gathered = gathered
 standing (Err refusal) start gathered = take start gathered
 
--- why a set isn't handed on: it was refused, and what stood before it is handed on; or the writer failed within what stands
-abbrev pub StopsAt : Option (List ℕ) → Option (List ℕ) → Result (Unit {0}) Refusal → ℕ → ℕ → List ℕ → SendToError → Type 0
-StopsAt old new put set start gathered (Refused refusal count) = (put ≡ Err refusal) × (count ≡ set) × AreBytes (take start gathered) × Appends old new (take start gathered)
-StopsAt old new put set start gathered (Io error) = AreBytes (standing put start gathered) × TakesFront old new (standing put start gathered)
+-- why a set isn't handed on: it was refused, and what stood before it is handed on; or the writer
+-- failed within what stands
+abbrev pub StopsAt : Option (List ℕ) → Option (List ℕ) → Result (Unit {0}) Refusal → ℕ → ℕ →
+    List ℕ → SendToError → Type 0
+StopsAt old new put set start gathered (Refused refusal count) = (put ≡ Err refusal) ×
+    (count ≡ set) × AreBytes (take start gathered) × Appends old new (take start gathered)
+StopsAt old new put set start gathered (Io error) = AreBytes (standing put start gathered) ×
+    TakesFront old new (standing put start gathered)

@@ -1,7 +1,7 @@
 ghost use Rattle.std.specs.Prelude.{◌≡◌};
 ghost use Rattle.mysql_set_writer.specs.declared.error.SendToError.TheVariants as errors;
 
-use mysql_streams::Refusal;
+use mysql_command_rules::Refusal;
 use std::io;
 use thiserror::Error;
 

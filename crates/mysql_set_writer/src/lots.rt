@@ -6,13 +6,14 @@ ghost use Rattle.mysql_wire.specs.Bytes.{AreBytes};
 ghost use Rattle.mysql_set_writer.specs.Lots.{HandsOn, StopsAt, TakesFront};
 
 use crate::SendToError;
-use mysql_streams::Refusal;
+use mysql_command_rules::Refusal;
 use std::io::{self, ErrorKind, Write};
 
 /// So many bytes are handed on together, and what was gathered beyond them.
 const LOT_LEN: usize = 8192;
 
-/// Writes all bytes. A writer that was interrupted is asked again; one that failed has taken a front of them, and not all.
+/// Writes all bytes. A writer that was interrupted is asked again; one that failed has taken a
+/// front of them, and not all.
 fn write_bytes<W: Write>(bytes: &[u8], to: &mut W) -> io::Result<()>
     ensures ok { OnOk result (Appends (W.contents to.old) (W.contents to.new) bytes.now) }
     ensures err { OnErr result (TakesFront (W.contents to.old) (W.contents to.new) bytes.now) }

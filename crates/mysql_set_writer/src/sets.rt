@@ -4,18 +4,18 @@ ghost use Rattle.std.specs.Cow.{cow_slice_items};
 ghost use Rattle.std.specs.Prelude.{◌≡◌, ◌≤◌, ℕ, [], IfErr, List, OnOk, map};
 ghost use Rattle.mysql_values.specs.Parsed.{names_at};
 ghost use Rattle.mysql_values.specs.Queries.{HasPlaces};
-ghost use Rattle.mysql_streams.specs.Reading.{SentReadable};
-ghost use Rattle.mysql_streams.specs.Sending.{RefusesGiven};
-ghost use Rattle.mysql_streams.specs.Sets.{all_given};
-ghost use Rattle.mysql_streams.specs.declared.road.Road.TheVariants as roads;
+ghost use Rattle.mysql_command_rules.specs.Reading.{SentReadable};
+ghost use Rattle.mysql_command_rules.specs.Sending.{RefusesGiven};
+ghost use Rattle.mysql_command_rules.specs.Sets.{all_given};
+ghost use Rattle.mysql_command_rules.specs.declared.road.Road.TheVariants as roads;
 ghost use Rattle.mysql_senders.specs.OneSet.{IsStatement};
 ghost use Rattle.mysql_set_writer.specs.Writing.{Stops, Writes};
 
 use crate::SendToError;
 use crate::lots::{hand_on, hand_on_set};
+use mysql_command_rules::Refusal;
 use mysql_senders::statement::{Statement, check_count};
 use mysql_senders::{check_places, put_executions_over, put_query, put_set};
-use mysql_streams::Refusal;
 use mysql_values::laws::tokens_of_a_text;
 use mysql_values::{Params, Place};
 use std::alloc::Global;
@@ -45,8 +45,11 @@ pub fn write_queries_over<W: Write>(
     requires places { HasPlaces query.now places.now }
     requires names { map cow_slice_items names.now ≡ names_at query.now places.now }
     // A text query carries no id: this holds of each.
-    ensures ok { OnOk result ((id : ℕ) → Writes roads.Text query.now (all_given sets.now) id limit (W.contents to.old) (W.contents to.new)) }
-    ensures err { IfErr result (λ e. (id : ℕ) → Stops roads.Text query.now sets.now id limit (W.contents to.old) (W.contents to.new) e) }
+    ensures ok { OnOk result ((id : ℕ) →
+        Writes roads.Text query.now (all_given sets.now) id limit (W.contents to.old)
+        (W.contents to.new)) }
+    ensures err { IfErr result (λ e. (id : ℕ) →
+        Stops roads.Text query.now sets.now id limit (W.contents to.old) (W.contents to.new) e) }
 {
     tokens_of_a_text();
     if let Err(refusal) = check_places(places) {
@@ -81,8 +84,13 @@ fn put_front(
 ) -> Result<(), Refusal>
     requires { 4 ≤ limit }
     ensures few { OnOk result (statement.now.places ≤ 65535) }
-    ensures ok { OnOk result ((query : List ℕ) → IsStatement query statement.now.parsed statement.now.places → SentReadable roads.Execute query (all_given []) statement.now.id limit out.old.items out.new.items) }
-    ensures err { IfErr result (λ refusal. (query : List ℕ) → IsStatement query statement.now.parsed statement.now.places → RefusesGiven roads.Execute query (all_given []) statement.now.id limit refusal) }
+    ensures ok { OnOk result ((query : List ℕ) →
+        IsStatement query statement.now.parsed statement.now.places →
+        SentReadable roads.Execute query (all_given []) statement.now.id limit out.old.items
+        out.new.items) }
+    ensures err { IfErr result (λ refusal. (query : List ℕ) →
+        IsStatement query statement.now.parsed statement.now.places →
+        RefusesGiven roads.Execute query (all_given []) statement.now.id limit refusal) }
 {
     check_count(statement.places)?;
     put_executions_over(alloc, statement, &[], limit, out)
@@ -107,8 +115,14 @@ pub fn write_executions_over<W: Write>(
 ) -> Result<(), SendToError>
     requires { 4 ≤ limit }
     // This holds of each query whose statement it is.
-    ensures ok { OnOk result ((query : List ℕ) → IsStatement query statement.now.parsed statement.now.places → Writes roads.Execute query (all_given sets.now) statement.now.id limit (W.contents to.old) (W.contents to.new)) }
-    ensures err { IfErr result (λ e. (query : List ℕ) → IsStatement query statement.now.parsed statement.now.places → Stops roads.Execute query sets.now statement.now.id limit (W.contents to.old) (W.contents to.new) e) }
+    ensures ok { OnOk result ((query : List ℕ) →
+        IsStatement query statement.now.parsed statement.now.places →
+        Writes roads.Execute query (all_given sets.now) statement.now.id limit (W.contents to.old)
+        (W.contents to.new)) }
+    ensures err { IfErr result (λ e. (query : List ℕ) →
+        IsStatement query statement.now.parsed statement.now.places →
+        Stops roads.Execute query sets.now statement.now.id limit (W.contents to.old)
+        (W.contents to.new) e) }
 {
     tokens_of_a_text();
     let (mut lot, mut values, mut command) = (Vec::new(alloc), Vec::new(alloc), Vec::new(alloc));

@@ -2,7 +2,7 @@
 use Rattle.std.proofs.Common.{◌≡◌, ℕ, ◌==◌, Bool, false, List, [], ◌∷◌, ◌++◌, length, map, Result, refl, ap, sym, subst}
 use Rattle.std.specs.List.{flat_map}
 use Rattle.std.proofs.lemmas.Bool.{eqb-false}
-use Rattle.mysql_raw.specs.Wire.{Appends}
+use Rattle.mysql_fields.specs.Wire.{Appends}
 use Rattle.mysql_cells.specs.declared.value.Value.{Value}
 use Rattle.mysql_stmt.specs.Executions.{parameters, sent_cell, type_bytes}
 

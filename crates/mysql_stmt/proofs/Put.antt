@@ -3,7 +3,7 @@ use Rattle.std.proofs.Common.{◌≡◌, ℕ, ◌==◌, Bool, false, List, [], �
 use Rattle.std.specs.Prelude.{OnOk, is_err}
 use Rattle.std.specs.List.{flat_map}
 use Rattle.byteorder.specs.Endian.{little_bytes}
-use Rattle.mysql_raw.specs.Wire.{Appends}
+use Rattle.mysql_fields.specs.Wire.{Appends}
 use Rattle.mysql_cells.specs.declared.value.Value.{Value}
 use Rattle.mysql_stmt.specs.Executions.{execute_command, execution, null_bitmap, parameters, sent_cell, type_bytes}
 use Rattle.mysql_stmt.proofs.Lists.{over_lent, some_parameters}

@@ -1,15 +1,16 @@
--- The commands of a prepared statement that carry its id and no values: what is written of their fields, and what is read.
--- MySQL: Client/Server Protocol, "COM_STMT_SEND_LONG_DATA", "COM_STMT_CLOSE" and "COM_STMT_RESET".
--- A reading takes bytes from the front: x.0 is what was read and x.1 the bytes left; the first refusal counts.
+-- The commands of a prepared statement that carry its id and no values: what is written of their
+-- fields, and what is read. MySQL: Client/Server Protocol, "COM_STMT_SEND_LONG_DATA",
+-- "COM_STMT_CLOSE" and "COM_STMT_RESET". A reading takes bytes from the front: x.0 is what was read
+-- and x.1 the bytes left; the first refusal counts.
 use Rattle.std.specs.Prelude.{ℕ, ◌^◌, ◌<◌, List, [], ◌∷◌, Ok}
 use Rattle.std.specs.List.{concat}
 use Rattle.byteorder.specs.Endian.{little_bytes}
 use Rattle.mysql_const.specs.Commands.{command_number}
 use Rattle.mysql_const.specs.declared.command.Command.{Command}
 use Rattle.mysql_const.specs.declared.command.Command.TheVariants.{COM_STMT_SEND_LONG_DATA}
-use Rattle.mysql_raw.specs.Forms.{fixed_number_at}
-use Rattle.mysql_raw.specs.Wire.{Reading, from_block, ◌>>=◌}
-use Rattle.mysql_raw_consts.specs.Constants.{constant_at}
+use Rattle.mysql_fields.specs.Forms.{fixed_number_at}
+use Rattle.mysql_fields.specs.Wire.{Reading, from_block, ◌>>=◌}
+use Rattle.mysql_field_constants.specs.Constants.{constant_at}
 
 -- a command that says no more than a statement's id: its number, the id
 unfoldable pub by_id : Command → ℕ → List ℕ
@@ -37,5 +38,6 @@ pub record LongData : Type 0 where
 
 unfoldable pub long_data : LongData → List ℕ
 long_data p = concat (
-    little_bytes 1 (command_number COM_STMT_SEND_LONG_DATA) ∷ little_bytes 4 p.stmt_id ∷ little_bytes 2 p.place ∷ p.bytes ∷ []
+    little_bytes 1 (command_number COM_STMT_SEND_LONG_DATA) ∷ little_bytes 4 p.stmt_id ∷
+    little_bytes 2 p.place ∷ p.bytes ∷ []
     )

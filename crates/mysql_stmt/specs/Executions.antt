@@ -1,6 +1,7 @@
 -- The payload of an execution of a prepared statement.
 -- MySQL: Client/Server Protocol, "COM_STMT_EXECUTE", "Null-Bitmap".
-use Rattle.std.specs.Prelude.{ℕ, zero, suc, ◌+◌, ◌*◌, ◌/◌, Bool, true, if◌then◌else◌, List, [], ◌∷◌, ◌++◌, length, drop, map, nat_lt}
+use Rattle.std.specs.Prelude.{ℕ, zero, suc, ◌+◌, ◌*◌, ◌/◌, Bool, true, if◌then◌else◌, List, [], ◌∷◌, ◌++◌, length, drop}
+use Rattle.std.specs.Prelude.{map, nat_lt}
 use Rattle.std.specs.List.{flat_map, range_with_len, sum_by}
 use Rattle.byteorder.specs.Endian.{little_bytes}
 use Rattle.mysql_const.specs.Commands.{command_number}
@@ -29,7 +30,8 @@ abbrev pub sent_cell : Bool → Value → List ℕ
 sent_cell true (Bytes bytes) = []
 sent_cell apart value = cell value
 
--- what an execution carries of its values: the bitmap, a mark that types follow, the types, the cells. Nothing where there are none
+-- what an execution carries of its values: the bitmap, a mark that types follow, the types, the
+-- cells. Nothing where there are none
 abbrev pub parameters : List ℕ → List Value → Bool → List ℕ
 parameters bitmap [] apart = []
 parameters bitmap (value ∷ values) apart =
@@ -44,7 +46,8 @@ pub record Execution : Type 0 where
 
 -- what is written of it: its number, the statement's id, no cursor, a count of 1, and what it carries of the values
 unfoldable pub execution : Execution → List ℕ
-execution e = command_number COM_STMT_EXECUTE ∷ (little_bytes 4 e.stmt_id ++ 0 ∷ (little_bytes 4 1 ++ parameters e.bitmap e.values e.apart))
+execution e = command_number COM_STMT_EXECUTE ∷
+    (little_bytes 4 e.stmt_id ++ 0 ∷ (little_bytes 4 1 ++ parameters e.bitmap e.values e.apart))
 
 -- the execution of the statement with this id
 abbrev pub execution_of : ℕ → List Value → Bool → Execution

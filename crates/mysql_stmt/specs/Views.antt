@@ -10,4 +10,10 @@ abbrev pub long_data_view : ComStmtSendLongData → LongData
 long_data_view p = record { stmt_id = p.stmt_id; place = p.param_index; bytes = cow_slice_items p.bytes }
 
 abbrev pub execution_view : ComStmtExecuteRequest → Execution
-execution_view r = record { stmt_id = r.stmt_id; bitmap = r.bitmap.items; values = map (λ value. value.now) r.params.items; apart = r.as_long_data }
+execution_view r = record {
+  stmt_id = r.stmt_id;
+  bitmap = r.bitmap.items;
+  values =
+      map (λ value. value.now) r.params.items;
+  apart = r.as_long_data;
+}

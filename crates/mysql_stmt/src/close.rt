@@ -2,13 +2,13 @@
 
 ghost use Rattle.std.specs.Prelude.{◌≡◌, ℕ, Some, false};
 ghost use Rattle.mysql_const.specs.declared.command.Command.TheVariants.{COM_STMT_CLOSE};
-ghost use Rattle.mysql_raw.specs.Wire.{TellsPart};
+ghost use Rattle.mysql_fields.specs.Wire.{TellsPart};
 ghost use Rattle.mysql_stmt.specs.CommandLaws.{by_id_at-sized, close_at-back};
 ghost use Rattle.mysql_stmt.specs.Commands.{IsId, by_id, by_id_at, by_id_fields_at};
 
 use crate::headers::ComStmtCloseHeader;
 use mysql_buf::ParseBuf;
-use mysql_raw::{
+use mysql_fields::{
     LeU32, MyDeserialize, MySerialize, ParseExt, RawInt, Readable, ReadsBack, WireError, in_order,
 };
 use std::alloc::{AllocError, Global};
@@ -80,7 +80,8 @@ fn fields_from(alloc: Global, rest: &mut ParseBuf) -> Result<ComStmtClose, WireE
     Ok(ComStmtClose::new(stmt_id))
 }
 
-/// Reads a request. Refused by UnexpectedEof where there are fewer than 5 bytes, then by BadConstant for another first byte.
+/// Reads a request. Refused by UnexpectedEof where there are fewer than 5 bytes, then by
+/// BadConstant for another first byte.
 ///
 /// MySQL: Client/Server Protocol, "COM_STMT_CLOSE".
 #[tactic(auto, unfolding(crate::specs::Commands::by_id_at))]

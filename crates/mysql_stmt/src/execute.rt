@@ -1,12 +1,15 @@
 //! Executions of prepared statements.
 
-ghost use Rattle.std.specs.Prelude.{◌≡◌, ◌++◌, ◌∷◌, ◌<◌, ◌≤◌, IfOk, None, OnOk, Some, SomeIff, flat_map, if◌then◌else◌, is_none, length, map, nat_lt, take};
+ghost use Rattle.std.specs.Prelude.{◌≡◌, ◌++◌, ◌∷◌, ◌<◌, ◌≤◌, IfOk, None, OnOk, Some, SomeIff, flat_map, if◌then◌else◌};
+ghost use Rattle.std.specs.Prelude.{is_none, length, map, nat_lt, take};
 ghost use Rattle.byteorder.specs.Endian.{little_bytes};
 ghost use Rattle.mysql_buf.specs.Writing.{lenenc_str};
 ghost use Rattle.mysql_cells.specs.Cells.{bin_len, cell};
 ghost use Rattle.mysql_cells.specs.Values.{content_of, first_float};
-ghost use Rattle.mysql_raw.specs.Wire.{Appends};
-ghost use Rattle.mysql_stmt.specs.Executions.{execute_command, execution, execution_of, needs_long_data as has_to_be_apart, null_bitmap, parameters, sent_cell, type_bytes, whole_size};
+ghost use Rattle.mysql_fields.specs.Wire.{Appends};
+ghost use Rattle.mysql_stmt.specs.Executions.{execute_command, execution, execution_of};
+ghost use Rattle.mysql_stmt.specs.Executions.{needs_long_data as has_to_be_apart, null_bitmap, parameters, sent_cell};
+ghost use Rattle.mysql_stmt.specs.Executions.{type_bytes, whole_size};
 ghost use Rattle.mysql_stmt.specs.Views.{execution_view};
 
 use crate::has_value::HasValue;
@@ -16,7 +19,7 @@ use crate::null_bits::{null_bitmap_of, put_null_bitmap};
 use mysql_buf::{BufMutExt, lenenc_str_len};
 use mysql_cells::Value;
 use mysql_const::{ColumnType, CursorType, MAX_PAYLOAD_LEN, StmtExecuteParamsFlags};
-use mysql_raw::{IntRepr, LeI64, LeU32, MySerialize, RawInt, in_order};
+use mysql_fields::{IntRepr, LeI64, LeU32, MySerialize, RawInt, in_order};
 use std::alloc::{AllocError, Global};
 use std::mem::replace;
 
@@ -43,8 +46,9 @@ impl ComStmtExecuteRequestBuilder {
         ComStmtExecuteRequestBuilder { stmt_id }
     }
 
-    /// Whether an execution with these values, at most 65535, that holds the cells of all of them is longer than so many bytes.
-    /// An execution without values has 10 bytes, and counts as one of 11 here.
+    /// Whether an execution with these values, at most 65535, that holds the cells of all of them
+    /// is longer than so many bytes. An execution without values has 10 bytes, and counts as one of
+    /// 11 here.
     ///
     /// MySQL: Client/Server Protocol, "COM_STMT_EXECUTE".
     pub fn exceeds(values: &[&Value], most: usize) -> bool
@@ -54,8 +58,9 @@ impl ComStmtExecuteRequestBuilder {
         is_longer(values, most)
     }
 
-    /// The execution with these values, at most 65535, and whether their byte strings have to be sent before it as long data:
-    /// where an execution that holds them exceeds the most bytes of one chunk. Refused for want of memory.
+    /// The execution with these values, at most 65535, and whether their byte strings have to be
+    /// sent before it as long data: where an execution that holds them exceeds the most bytes of
+    /// one chunk. Refused for want of memory.
     ///
     /// MySQL: Client/Server Protocol, "COM_STMT_EXECUTE" and "COM_STMT_SEND_LONG_DATA".
     pub fn build<'a>(
@@ -64,7 +69,8 @@ impl ComStmtExecuteRequestBuilder {
         params: &'a [Value],
     ) -> Result<(ComStmtExecuteRequest<'a>, bool), AllocError>
         requires { length params.now ≤ 65535 }
-        ensures request { IfOk result (λ made. execution_view made.0 ≡ execution_of self.stmt_id params.entry.now (has_to_be_apart params.entry.now)) }
+        ensures request { IfOk result (λ made. execution_view made.0 ≡
+            execution_of self.stmt_id params.entry.now (has_to_be_apart params.entry.now)) }
         ensures apart { IfOk result (λ made. made.1 ≡ has_to_be_apart params.entry.now) }
     {
         self.build_from_refs(alloc, lent(alloc, params)?)
@@ -77,7 +83,9 @@ impl ComStmtExecuteRequestBuilder {
         params: Vec<&'a Value>,
     ) -> Result<(ComStmtExecuteRequest<'a>, bool), AllocError>
         requires { length params.items ≤ 65535 }
-        ensures request { let values = map (λ value. value.now) params.entry.items in IfOk result (λ made. execution_view made.0 ≡ execution_of self.stmt_id values (has_to_be_apart values)) }
+        ensures request { let values = map (λ value. value.now) params.entry.items in
+            IfOk result (λ made. execution_view made.0 ≡
+            execution_of self.stmt_id values (has_to_be_apart values)) }
         ensures apart { IfOk result (λ made. made.1 ≡ has_to_be_apart (map (λ value. value.now) params.entry.items)) }
     {
         let bitmap = null_bitmap_of(alloc, &params)?;
@@ -103,8 +111,9 @@ fn lent<'a>(alloc: Global, values: &'a [Value]) -> Result<Vec<&'a Value>, AllocE
     Ok(lent)
 }
 
-/// The bytes of an execution with these values, at most 65535, that holds the cells of all of them, where it has at most so many.
-/// An execution without values has 10 bytes, and counts as one of 11 here.
+/// The bytes of an execution with these values, at most 65535, that holds the cells of all of them,
+/// where it has at most so many. An execution without values has 10 bytes, and counts as one of 11
+/// here.
 ///
 /// MySQL: Client/Server Protocol, "COM_STMT_EXECUTE".
 pub fn size_within<V: HasValue>(values: &[V], most: usize) -> Option<usize>
@@ -133,12 +142,14 @@ fn exact_cell_size(value: &Value) -> Option<u64>
     }
 }
 
-/// The same as [`size_within`], for senders that refuse floats: `None` also where a value is one. Both are found in one pass over the values.
+/// The same as [`size_within`], for senders that refuse floats: `None` also where a value is one.
+/// Both are found in one pass over the values.
 ///
 /// MySQL: Client/Server Protocol, "COM_STMT_EXECUTE".
 pub fn size_without_floats<V: HasValue>(values: &[V], most: usize) -> Option<usize>
     requires { length values.now ≤ 65535 }
-    ensures { SomeIff result ((first_float (map V.value values.now) ≡ None) × (whole_size (map V.value values.now) ≤ most)) (whole_size (map V.value values.now)) }
+    ensures { SomeIff result ((first_float (map V.value values.now) ≡ None) ×
+        (whole_size (map V.value values.now) ≤ most)) (whole_size (map V.value values.now)) }
 {
     let head = 10 + (values.len() + 7) / 8 + 1 + 2 * values.len();
     let mut room = most.checked_sub(head)? as u64;
@@ -379,7 +390,8 @@ fn put_cell(value: &Value, apart: bool, buf: &mut Vec<u8>) -> Result<(), AllocEr
 // The cells of values.
 #[inline(always)]
 fn put_cells<V: HasValue>(values: &[V], apart: bool, buf: &mut Vec<u8>) -> Result<(), AllocError>
-    ensures { Appends result buf.old.items buf.new.items (flat_map (λ value. sent_cell apart (V.value value)) values.now) }
+    ensures { Appends result buf.old.items buf.new.items
+        (flat_map (λ value. sent_cell apart (V.value value)) values.now) }
 {
     let len = buf.len();
     for value in values {
@@ -422,7 +434,8 @@ fn put_parameters<V: HasValue>(
     out: &mut Vec<u8>,
 ) -> Result<(), AllocError>
     requires { length values.now ≤ 65535 }
-    ensures ok { OnOk result (out.new.items ≡ out.old.items ++ parameters (null_bitmap (map V.value values.now)) (map V.value values.now) apart) }
+    ensures ok { OnOk result (out.new.items ≡ out.old.items ++
+        parameters (null_bitmap (map V.value values.now)) (map V.value values.now) apart) }
     ensures kept { take (length out.old.items) out.new.items ≡ out.old.items }
 {
     if values.is_empty() {
@@ -435,8 +448,9 @@ fn put_parameters<V: HasValue>(
     put_cells(values, apart, out)
 }
 
-/// Appends the execution with these values, at most 65535, of the statement with this id: without the cells of byte strings where
-/// these are sent `apart`, as long data before it. Refused for want of memory.
+/// Appends the execution with these values, at most 65535, of the statement with this id: without
+/// the cells of byte strings where these are sent `apart`, as long data before it. Refused for want
+/// of memory.
 ///
 /// MySQL: Client/Server Protocol, "COM_STMT_EXECUTE".
 #[inline(always)]

@@ -5,7 +5,8 @@ ghost use Rattle.mysql_cells.specs.declared.value.Value.{Value as ValueOf};
 
 use mysql_cells::Value;
 
-/// What lends a value: the value itself, or a reference to one. So a list of values is sent as it lies, and so is a list of references.
+/// What lends a value: the value itself, or a reference to one. So a list of values is sent as it
+/// lies, and so is a list of references.
 pub trait HasValue {
     ghost value: { Self → ValueOf };
 

@@ -1,6 +1,6 @@
 //! The constant fields of the commands of prepared statements.
 
-use mysql_raw_consts::{ConstU8, ConstU32};
+use mysql_field_constants::{ConstU8, ConstU32};
 use thiserror::Error;
 
 /// Another first byte than that of COM_STMT_EXECUTE.

@@ -5,8 +5,8 @@ ghost use Rattle.std.specs.Prelude.{◌≡◌, ◌++◌, ◌+◌, ◌≤◌, OnO
 use std::alloc::AllocError;
 use std::mem::replace;
 
-/// Makes room for so many bytes more. Most often it stands. Where it is made, that is done to another vector, so that no
-/// reference leads to this one, and its parts lie in registers.
+/// Makes room for so many bytes more. Most often it stands. Where it is made, that is done to
+/// another vector, so that no reference leads to this one, and its parts lie in registers.
 #[inline(always)]
 pub(crate) fn make_room(more: usize, out: &mut Vec<u8>) -> Result<(), AllocError>
     ensures items { out.new.items ≡ out.old.items }

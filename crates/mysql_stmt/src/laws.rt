@@ -1,6 +1,7 @@
 //! Laws of the commands. Functions without a result do nothing: their contracts are the laws.
 
-ghost use Rattle.mysql_stmt.specs.Statements.{BitmapsSayWhichAreNull, ClosesReadBack, ExecutionsHaveSizes, ResetsReadBack};
+ghost use Rattle.mysql_stmt.specs.Statements.{BitmapsSayWhichAreNull, ClosesReadBack, ExecutionsHaveSizes};
+ghost use Rattle.mysql_stmt.specs.Statements.{ResetsReadBack};
 
 use mysql_cells::laws::cells_have_lengths;
 
@@ -22,8 +23,8 @@ pub fn bitmaps_say_which_are_null()
     ensures { BitmapsSayWhichAreNull }
 {}
 
-/// An execution that holds the cells of all its values has as many bytes as `ComStmtExecuteRequestBuilder::exceeds` counts, and
-/// one without values has 10.
+/// An execution that holds the cells of all its values has as many bytes as
+/// `ComStmtExecuteRequestBuilder::exceeds` counts, and one without values has 10.
 pub fn executions_have_sizes()
     ensures { ExecutionsHaveSizes }
 {

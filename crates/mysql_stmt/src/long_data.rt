@@ -6,11 +6,12 @@ ghost use Rattle.mysql_stmt.specs.Commands.{long_data};
 ghost use Rattle.mysql_stmt.specs.Views.{long_data_view};
 
 use crate::headers::ComStmtSendLongDataHeader;
-use mysql_raw::{LeU16, LeU32, MySerialize, RawInt, in_order};
+use mysql_fields::{LeU16, LeU32, MySerialize, RawInt, in_order};
 use std::alloc::{AllocError, Global};
 use std::borrow::CowSlice;
 
-/// A piece of a parameter of a prepared statement, sent before the statement is executed. Pieces for one place are joined.
+/// A piece of a parameter of a prepared statement, sent before the statement is executed. Pieces
+/// for one place are joined.
 ///
 /// MySQL: Client/Server Protocol, "COM_STMT_SEND_LONG_DATA".
 #[derive(Debug, PartialEq, Eq, Drop)]
@@ -33,7 +34,8 @@ fn owned(alloc: Global, bytes: CowSlice<'_, u8>) -> Result<CowSlice<'static, u8>
 impl<'a> ComStmtSendLongData<'a> {
     /// These bytes for the parameter at this place, counted from 0, of the statement with this id.
     pub fn new(stmt_id: u32, param_index: u16, bytes: CowSlice<'a, u8>) -> ComStmtSendLongData<'a>
-        ensures { long_data_view result ≡ record { stmt_id = stmt_id; place = param_index; bytes = cow_slice_items bytes.entry } }
+        ensures { long_data_view result ≡
+            record { stmt_id = stmt_id; place = param_index; bytes = cow_slice_items bytes.entry } }
     {
         ComStmtSendLongData {
             stmt_id,

@@ -1,6 +1,7 @@
--- The values of Rust's booleans, durations and options.
--- MySQL Reference Manual, "Boolean Literals", "The TIME Type", "Fractional Seconds in Time Values", "Working with NULL Values".
-use Rattle.std.specs.Prelude.{ℕ, ℤ, pos, ◌+◌, ◌/◌, ◌%◌, ◌^◌, Bool, true, false, nat_le, nat_lt, Option, Some, None, if◌then◌else◌}
+-- The values of Rust's booleans, durations and options. MySQL Reference Manual, "Boolean Literals",
+-- "The TIME Type", "Fractional Seconds in Time Values", "Working with NULL Values".
+use Rattle.std.specs.Prelude.{ℕ, ℤ, pos, ◌+◌, ◌/◌, ◌%◌, ◌^◌, Bool, true, false, nat_le, nat_lt, Option, Some, None}
+use Rattle.std.specs.Prelude.{if◌then◌else◌}
 use Rattle.mysql_cells.specs.declared.value.Value.{Value}
 use Rattle.mysql_cells.specs.declared.value.Value.TheVariants.{NULL, Time}
 
@@ -13,7 +14,8 @@ number_of_boolean true = pos 1
 abbrev pub time_value : ℕ → Option Value
 time_value micros =
     if nat_lt (micros / 86_400_000_000) (2 ^ 32)
-    then Some (Time false (micros / 86_400_000_000) (micros / 3_600_000_000 % 24) (micros / 60_000_000 % 60) (micros / 1_000_000 % 60) (micros % 1_000_000))
+    then Some (Time false (micros / 86_400_000_000) (micros / 3_600_000_000 % 24)
+    (micros / 60_000_000 % 60) (micros / 1_000_000 % 60) (micros % 1_000_000))
     else None
 
 -- nanoseconds rounded to microseconds, halves up

@@ -11,12 +11,13 @@ use std::alloc::Global;
 
 /// A type that converts to a [`Value`].
 ///
-/// Whole numbers convert to `Int`, but `u64` and `usize` to `UInt`; `i128` and `u128` to `Int` where they fit, else to `UInt`, else to
-/// `Bytes` of their digits; `bool` to `Int` of 0 or 1; texts and bytes to `Bytes`; `Duration` to `Time`, rounded half up to microseconds;
-/// None to `NULL`, a `Content` to the value that carries it, and a [`Value`] to itself.
+/// Whole numbers convert to `Int`, but `u64` and `usize` to `UInt`; `i128` and `u128` to `Int`
+/// where they fit, else to `UInt`, else to `Bytes` of their digits; `bool` to `Int` of 0 or 1;
+/// texts and bytes to `Bytes`; `Duration` to `Time`, rounded half up to microseconds; None to
+/// `NULL`, a `Content` to the value that carries it, and a [`Value`] to itself.
 ///
-/// An impl says by `as_value` which value it gives. `Box<dyn ToValue + Drop>` is such a type too, so that a list can hold
-/// values of several types.
+/// An impl says by `as_value` which value it gives. `Box<dyn ToValue + Drop>` is such a type too,
+/// so that a list can hold values of several types.
 pub trait ToValue {
     // the value that it converts to, none where it is too long for any
     ghost as_value: { Self → Option ValueOf };
@@ -27,7 +28,8 @@ pub trait ToValue {
     /// `TooLong` for a duration of more than 2^32-1 days, `Memory`.
     fn to_value(&self, alloc: Global) -> Result<Value, ToValueError>
         ensures ok { IfOk result (λ value. as_value self.now ≡ Some value) }
-        ensures err { IfErr result (λ e. (e ≡ to_value_error.Memory) ⊎ ((e ≡ to_value_error.TooLong) × (as_value self.now ≡ None))) };
+        ensures err { IfErr result (λ e. (e ≡ to_value_error.Memory) ⊎
+            ((e ≡ to_value_error.TooLong) × (as_value self.now ≡ None))) };
 }
 
 impl ToValue for Value {

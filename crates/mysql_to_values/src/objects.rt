@@ -1,6 +1,7 @@
 //! The values of lists, and of elements of several types.
 
-ghost use Rattle.std.specs.Prelude.{◌≡◌, ◌++◌, ◌⊎◌, IfErr, IfOk, List, OnErr, OnOk, [], ◌∷◌, None, Option, Some, map, vec_len};
+ghost use Rattle.std.specs.Prelude.{◌≡◌, ◌++◌, ◌⊎◌, IfErr, IfOk, List, OnErr, OnOk, [], ◌∷◌, None, Option, Some, map};
+ghost use Rattle.std.specs.Prelude.{vec_len};
 ghost use Rattle.mysql_cells.specs.declared.value.Value.{Value as ValueOf};
 ghost use Rattle.mysql_to_values.specs.Sets.{too_long};
 ghost use Rattle.mysql_values.specs.declared.params.SetError.TheVariants as set_error;
@@ -24,7 +25,8 @@ fn refused(place: usize, error: ToValueError) -> SetError
 /// The value of the element at a place. Refuses `TooLong` with the place, `Memory`.
 fn value_at<T: ToValue>(alloc: Global, place: usize, x: &T) -> Result<Value, SetError>
     ensures ok { IfOk result (λ value. T.as_value x.now ≡ Some value) }
-    ensures err { IfErr result (λ e. (e ≡ set_error.Memory) ⊎ ((e ≡ set_error.TooLong place) × (T.as_value x.now ≡ None))) }
+    ensures err { IfErr result (λ e. (e ≡ set_error.Memory) ⊎
+        ((e ≡ set_error.TooLong place) × (T.as_value x.now ≡ None))) }
 {
     match x.to_value(alloc) {
         Ok(value) => Ok(value),
@@ -53,7 +55,8 @@ pub(crate) trait Elements {
     /// Appends the values. Refuses `TooLong` with the least place, `Memory`.
     fn push_to(&self, alloc: Global, values: &mut Vec<Value>) -> Result<(), SetError>
         ensures ok { OnOk result (map Some values.new.items ≡ map Some values.old.items ++ as_values self.now) }
-        ensures err { IfErr result (λ e. (e ≡ set_error.Memory) ⊎ (too_long (vec_len values.old) (as_values self.now) ≡ Some e)) };
+        ensures err { IfErr result (λ e. (e ≡ set_error.Memory) ⊎
+            (too_long (vec_len values.old) (as_values self.now) ≡ Some e)) };
 }
 
 impl Elements for () {

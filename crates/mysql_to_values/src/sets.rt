@@ -1,6 +1,7 @@
 //! Parameter sets made of lists, pairs, tuples and boxed objects.
 
-ghost use Rattle.std.specs.Prelude.{◌≡◌, ◌++◌, ◌⊎◌, IfErr, IfOk, List, OnOk, [], ◌∷◌, None, Option, Some, if◌then◌else◌, is_none, is_some, map, nat_eq, ℕ};
+ghost use Rattle.std.specs.Prelude.{◌≡◌, ◌++◌, ◌⊎◌, IfErr, IfOk, List, OnOk, [], ◌∷◌, None, Option, Some};
+ghost use Rattle.std.specs.Prelude.{if◌then◌else◌, is_none, is_some, map, nat_eq, ℕ};
 ghost use Rattle.std.specs.Cmp.Lexicographic.{pointwise};
 ghost use Rattle.std.specs.Option.{option_or};
 ghost use Rattle.mysql_values.specs.Params.{value_named};
@@ -18,9 +19,11 @@ use std::convert::AsSlice;
 
 /// What a parameter set is made of.
 ///
-/// A list (`Vec<T>`, `&[T]`) and a tuple of 1 to 12 elements make a set of their values in order; `()` and a list without elements make the empty set.
-/// A list of pairs of a name (text or bytes, without the colon) and a value makes a set of a value for each name, also where it has no pairs.
-/// A list of `Box<dyn ToValue + Drop>` holds values of several types. A reference to any of these makes the same set.
+/// A list (`Vec<T>`, `&[T]`) and a tuple of 1 to 12 elements make a set of their values in order;
+/// `()` and a list without elements make the empty set. A list of pairs of a name (text or bytes,
+/// without the colon) and a value makes a set of a value for each name, also where it has no pairs.
+/// A list of `Box<dyn ToValue + Drop>` holds values of several types. A reference to any of these
+/// makes the same set.
 ///
 /// The values are copied: `into_params` drops what it takes, `to_params` leaves it.
 pub trait IntoParams: Sized + Drop {
@@ -30,7 +33,8 @@ pub trait IntoParams: Sized + Drop {
     /// The set of the values.
     ///
     /// # Errors
-    /// `Redefined` with the first name that an earlier pair has, `TooLong` with the least place whose value is too long, `Memory`.
+    /// `Redefined` with the first name that an earlier pair has, `TooLong` with the least place
+    /// whose value is too long, `Memory`.
     fn to_params(&self, alloc: Global) -> Result<Params, SetError>
         ensures ok { IfOk result (IsMadeOf (parts self.now)) }
         ensures none { OnOk result (set_cause (parts self.now) ≡ None) }
@@ -64,7 +68,8 @@ fn set_of(values: Vec<Value>) -> Params
 pub(crate) fn set_of_list<T: ToValue>(alloc: Global, list: &[T]) -> Result<Params, SetError>
     ensures ok { IfOk result (IsMadeOf (InOrder (map T.as_value list.now))) }
     ensures none { OnOk result (set_cause (InOrder (map T.as_value list.now)) ≡ None) }
-    ensures err { IfErr result (λ e. (e ≡ set_error.Memory) ⊎ (set_cause (InOrder (map T.as_value list.now)) ≡ Some e)) }
+    ensures err { IfErr result (λ e. (e ≡ set_error.Memory) ⊎
+        (set_cause (InOrder (map T.as_value list.now)) ≡ Some e)) }
 {
     Ok(set_of(values_of_list(alloc, list)?))
 }
@@ -77,7 +82,8 @@ pub(crate) fn set_of_elements<E: Elements, F: Elements>(
 ) -> Result<Params, SetError>
     ensures ok { IfOk result (IsMadeOf (InOrder (E.as_values first.now ++ F.as_values second.now))) }
     ensures none { OnOk result (too_long 0 (E.as_values first.now ++ F.as_values second.now) ≡ None) }
-    ensures err { IfErr result (λ e. (e ≡ set_error.Memory) ⊎ (too_long 0 (E.as_values first.now ++ F.as_values second.now) ≡ Some e)) }
+    ensures err { IfErr result (λ e. (e ≡ set_error.Memory) ⊎
+        (too_long 0 (E.as_values first.now ++ F.as_values second.now) ≡ Some e)) }
 {
     let mut values = Vec::new(alloc);
     first.push_to(alloc, &mut values)?;
@@ -130,8 +136,10 @@ fn named_set<N: AsSlice<u8>, V: ToValue>(
     pairs: &[(N, V)],
 ) -> Result<Params, SetError>
     ensures ok { IfOk result (IsMadeOf (ByName (map (λ pair. (N.items pair.0, V.as_value pair.1)) pairs.now))) }
-    ensures none { OnOk result (set_cause (ByName (map (λ pair. (N.items pair.0, V.as_value pair.1)) pairs.now)) ≡ None) }
-    ensures err { IfErr result (λ e. (e ≡ set_error.Memory) ⊎ (set_cause (ByName (map (λ pair. (N.items pair.0, V.as_value pair.1)) pairs.now)) ≡ Some e)) }
+    ensures none { OnOk result
+        (set_cause (ByName (map (λ pair. (N.items pair.0, V.as_value pair.1)) pairs.now)) ≡ None) }
+    ensures err { IfErr result (λ e. (e ≡ set_error.Memory) ⊎
+        (set_cause (ByName (map (λ pair. (N.items pair.0, V.as_value pair.1)) pairs.now)) ≡ Some e)) }
 {
     let mut entries = HashMap::new(alloc);
     let mut first_long = None;

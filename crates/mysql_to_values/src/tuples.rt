@@ -35,7 +35,8 @@ impl<A: ToValue + Drop, B: ToValue + Drop, C: ToValue + Drop> IntoParams for (A,
 
 impl<A: ToValue + Drop, B: ToValue + Drop, C: ToValue + Drop, D: ToValue + Drop> IntoParams
     for (A, B, C, D) {
-    ghost parts = { λ tuple. InOrder (A.as_value tuple.0 ∷ B.as_value tuple.1 ∷ C.as_value tuple.2 ∷ D.as_value tuple.3 ∷ []) };
+    ghost parts = { λ tuple. InOrder (A.as_value tuple.0 ∷ B.as_value tuple.1 ∷ C.as_value tuple.2 ∷
+        D.as_value tuple.3 ∷ []) };
 
     fn to_params(&self, alloc: Global) -> Result<Params, SetError> {
         set_of_elements(
@@ -53,7 +54,8 @@ impl<
     D: ToValue + Drop,
     E: ToValue + Drop,
 > IntoParams for (A, B, C, D, E) {
-    ghost parts = { λ tuple. InOrder (A.as_value tuple.0 ∷ B.as_value tuple.1 ∷ C.as_value tuple.2 ∷ D.as_value tuple.3 ∷ E.as_value tuple.4 ∷ []) };
+    ghost parts = { λ tuple. InOrder (A.as_value tuple.0 ∷ B.as_value tuple.1 ∷ C.as_value tuple.2 ∷
+        D.as_value tuple.3 ∷ E.as_value tuple.4 ∷ []) };
 
     fn to_params(&self, alloc: Global) -> Result<Params, SetError> {
         set_of_elements(
@@ -72,7 +74,8 @@ impl<
     E: ToValue + Drop,
     F: ToValue + Drop,
 > IntoParams for (A, B, C, D, E, F) {
-    ghost parts = { λ tuple. InOrder (A.as_value tuple.0 ∷ B.as_value tuple.1 ∷ C.as_value tuple.2 ∷ D.as_value tuple.3 ∷ E.as_value tuple.4 ∷ F.as_value tuple.5 ∷ []) };
+    ghost parts = { λ tuple. InOrder (A.as_value tuple.0 ∷ B.as_value tuple.1 ∷ C.as_value tuple.2 ∷
+        D.as_value tuple.3 ∷ E.as_value tuple.4 ∷ F.as_value tuple.5 ∷ []) };
 
     fn to_params(&self, alloc: Global) -> Result<Params, SetError> {
         set_of_elements(
@@ -92,7 +95,8 @@ impl<
     F: ToValue + Drop,
     G: ToValue + Drop,
 > IntoParams for (A, B, C, D, E, F, G) {
-    ghost parts = { λ tuple. InOrder (A.as_value tuple.0 ∷ B.as_value tuple.1 ∷ C.as_value tuple.2 ∷ D.as_value tuple.3 ∷ E.as_value tuple.4 ∷ F.as_value tuple.5
+    ghost parts = { λ tuple. InOrder (A.as_value tuple.0 ∷ B.as_value tuple.1 ∷ C.as_value tuple.2 ∷
+        D.as_value tuple.3 ∷ E.as_value tuple.4 ∷ F.as_value tuple.5
         ∷ G.as_value tuple.6 ∷ []) };
 
     fn to_params(&self, alloc: Global) -> Result<Params, SetError> {
@@ -114,7 +118,8 @@ impl<
     G: ToValue + Drop,
     H: ToValue + Drop,
 > IntoParams for (A, B, C, D, E, F, G, H) {
-    ghost parts = { λ tuple. InOrder (A.as_value tuple.0 ∷ B.as_value tuple.1 ∷ C.as_value tuple.2 ∷ D.as_value tuple.3 ∷ E.as_value tuple.4 ∷ F.as_value tuple.5
+    ghost parts = { λ tuple. InOrder (A.as_value tuple.0 ∷ B.as_value tuple.1 ∷ C.as_value tuple.2 ∷
+        D.as_value tuple.3 ∷ E.as_value tuple.4 ∷ F.as_value tuple.5
         ∷ G.as_value tuple.6 ∷ H.as_value tuple.7 ∷ []) };
 
     fn to_params(&self, alloc: Global) -> Result<Params, SetError> {
@@ -137,7 +142,8 @@ impl<
     H: ToValue + Drop,
     I: ToValue + Drop,
 > IntoParams for (A, B, C, D, E, F, G, H, I) {
-    ghost parts = { λ tuple. InOrder (A.as_value tuple.0 ∷ B.as_value tuple.1 ∷ C.as_value tuple.2 ∷ D.as_value tuple.3 ∷ E.as_value tuple.4 ∷ F.as_value tuple.5
+    ghost parts = { λ tuple. InOrder (A.as_value tuple.0 ∷ B.as_value tuple.1 ∷ C.as_value tuple.2 ∷
+        D.as_value tuple.3 ∷ E.as_value tuple.4 ∷ F.as_value tuple.5
         ∷ G.as_value tuple.6 ∷ H.as_value tuple.7 ∷ I.as_value tuple.8 ∷ []) };
 
     fn to_params(&self, alloc: Global) -> Result<Params, SetError> {
@@ -161,7 +167,8 @@ impl<
     I: ToValue + Drop,
     J: ToValue + Drop,
 > IntoParams for (A, B, C, D, E, F, G, H, I, J) {
-    ghost parts = { λ tuple. InOrder (A.as_value tuple.0 ∷ B.as_value tuple.1 ∷ C.as_value tuple.2 ∷ D.as_value tuple.3 ∷ E.as_value tuple.4 ∷ F.as_value tuple.5
+    ghost parts = { λ tuple. InOrder (A.as_value tuple.0 ∷ B.as_value tuple.1 ∷ C.as_value tuple.2 ∷
+        D.as_value tuple.3 ∷ E.as_value tuple.4 ∷ F.as_value tuple.5
         ∷ G.as_value tuple.6 ∷ H.as_value tuple.7 ∷ I.as_value tuple.8 ∷ J.as_value tuple.9 ∷ []) };
 
     fn to_params(&self, alloc: Global) -> Result<Params, SetError> {
@@ -186,8 +193,10 @@ impl<
     J: ToValue + Drop,
     K: ToValue + Drop,
 > IntoParams for (A, B, C, D, E, F, G, H, I, J, K) {
-    ghost parts = { λ tuple. InOrder (A.as_value tuple.0 ∷ B.as_value tuple.1 ∷ C.as_value tuple.2 ∷ D.as_value tuple.3 ∷ E.as_value tuple.4 ∷ F.as_value tuple.5
-        ∷ G.as_value tuple.6 ∷ H.as_value tuple.7 ∷ I.as_value tuple.8 ∷ J.as_value tuple.9 ∷ K.as_value tuple.10 ∷ []) };
+    ghost parts = { λ tuple. InOrder (A.as_value tuple.0 ∷ B.as_value tuple.1 ∷ C.as_value tuple.2 ∷
+        D.as_value tuple.3 ∷ E.as_value tuple.4 ∷ F.as_value tuple.5
+        ∷ G.as_value tuple.6 ∷ H.as_value tuple.7 ∷ I.as_value tuple.8 ∷ J.as_value tuple.9 ∷
+        K.as_value tuple.10 ∷ []) };
 
     fn to_params(&self, alloc: Global) -> Result<Params, SetError> {
         set_of_elements(
@@ -212,8 +221,10 @@ impl<
     K: ToValue + Drop,
     L: ToValue + Drop,
 > IntoParams for (A, B, C, D, E, F, G, H, I, J, K, L) {
-    ghost parts = { λ tuple. InOrder (A.as_value tuple.0 ∷ B.as_value tuple.1 ∷ C.as_value tuple.2 ∷ D.as_value tuple.3 ∷ E.as_value tuple.4 ∷ F.as_value tuple.5
-        ∷ G.as_value tuple.6 ∷ H.as_value tuple.7 ∷ I.as_value tuple.8 ∷ J.as_value tuple.9 ∷ K.as_value tuple.10 ∷ L.as_value tuple.11 ∷ []) };
+    ghost parts = { λ tuple. InOrder (A.as_value tuple.0 ∷ B.as_value tuple.1 ∷ C.as_value tuple.2 ∷
+        D.as_value tuple.3 ∷ E.as_value tuple.4 ∷ F.as_value tuple.5
+        ∷ G.as_value tuple.6 ∷ H.as_value tuple.7 ∷ I.as_value tuple.8 ∷ J.as_value tuple.9 ∷
+        K.as_value tuple.10 ∷ L.as_value tuple.11 ∷ []) };
 
     fn to_params(&self, alloc: Global) -> Result<Params, SetError> {
         set_of_elements(

@@ -23,9 +23,12 @@ bind_error_of (Missing name) = bind_error.Params (Missing name)
 bind_error_of (Confusion confusion) = bind_error.Params (Confusion confusion)
 bind_error_of Memory = bind_error.Memory
 
--- what is wrong with values for so many placeholders, by the errors that are handed in: they are not as many, or else the first float.
+-- what is wrong with values for so many placeholders, by the errors that are handed in: they are
+-- not as many, or else the first float.
 abbrev pub values_cause : {E : Type 0} → E → (ℕ → E) → ℕ → List Value → Option E
-values_cause wrong_count float count values = if length values == count then option_map (λ place. float place) (first_float values) else Some wrong_count
+values_cause wrong_count float count values =
+    if length values == count then option_map (λ place. float place) (first_float values) else Some
+    wrong_count
 
 -- what is wrong with what a set gives for so many placeholders: no values, or what is wrong with these
 abbrev pub given_cause : ℕ → Result (List Value) ParamsError → Option BindError
@@ -37,14 +40,18 @@ abbrev pub alone_cause : Option ℕ → Option BindError → Option BindError
 alone_cause None other = other
 alone_cause (Some place) other = Some (bind_error.NotAlone place)
 
--- The first cause, in the order of the errors, for which no text is bound to these placeholders and the values over them.
+-- The first cause, in the order of the errors, for which no text is bound to these placeholders and
+-- the values over them.
 abbrev pub bind_cause : List Place → Result (List Value) ParamsError → Option BindError
-bind_cause places over = if is_mixed places then Some bind_error.Mixed else alone_cause (first_not_alone places) (given_cause (length places) over)
+bind_cause places over = if is_mixed places then Some bind_error.Mixed else alone_cause
+    (first_not_alone places) (given_cause (length places) over)
 
 -- no text is bound, for this cause
 abbrev pub IsBindCause : List ℕ → Params → BindError → Type 0
 IsBindCause query params error =
-    (tokens : List (List ℕ)) × HasTokens query tokens × (bind_cause (places_from query 0 tokens) (values_over (names_of tokens) params) ≡ Some error)
+    (tokens : List (List ℕ)) × HasTokens query tokens ×
+    (bind_cause (places_from query 0 tokens) (values_over (names_of tokens) params) ≡
+    Some error)
 
 -- the text that is bound: the query's pieces with the literal of each value between them; no cause speaks against it
 pub record IsBound (query : List ℕ) (params : Params) (text : List ℕ) : Type 0 where
@@ -57,7 +64,8 @@ pub record IsBound (query : List ℕ) (params : Params) (text : List ℕ) : Type
   pub each : map literal_of values ≡ map Some literals
   pub spelled : text ≡ interleaved (pieces_of tokens) literals
 
--- a text between the placeholders of a query: its pieces with the literals of the values between them, each a literal of its content
+-- a text between the placeholders of a query: its pieces with the literals of the values between
+-- them, each a literal of its content
 pub record IsFilled (query : List ℕ) (places : List Place) (values : List Value) (text : List ℕ) : Type 0 where
   pub literals : List (List ℕ)
   pub each : map literal_of values ≡ map Some literals

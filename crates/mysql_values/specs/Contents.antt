@@ -9,7 +9,8 @@ use Rattle.mysql_cells.specs.declared.value.Value.TheVariants.{NULL, Bytes, Int,
 
 -- The value of a whole number of any size: Int where it fits, else UInt, else its digits.
 abbrev pub integer_value : ℤ → Value
-integer_value (pos n) = if nat_lt n (2 ^ 63) then Int (pos n) else (if nat_lt n (2 ^ 64) then UInt n else Bytes (decimal n))
+integer_value (pos n) = if nat_lt n (2 ^ 63) then Int (pos n) else
+    (if nat_lt n (2 ^ 64) then UInt n else Bytes (decimal n))
 integer_value (negsuc n) = if nat_lt n (2 ^ 63) then Int (negsuc n) else Bytes (0x2d ∷ decimal (suc n))
 
 -- The value that a content is sent as: NULL, a number as Int where it fits, else UInt, or bytes.

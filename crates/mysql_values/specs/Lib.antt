@@ -1,5 +1,5 @@
 pub use Rattle.mysql_buf.specs.Bytes
-pub use Rattle.mysql_raw.specs.WireError
+pub use Rattle.mysql_fields.specs.declared.error.WireError
 pub use Rattle.mysql_queries.specs.Tokens
 pub use Rattle.mysql_queries.specs.Literals
 pub use Rattle.mysql_queries.specs.Queries

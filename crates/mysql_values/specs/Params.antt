@@ -1,6 +1,7 @@
--- The values that a parameter set gives a query, and what they mean.
--- MySQL Reference Manual, "PREPARE Statement" (parameter markers); names as placeholders are a form of client libraries.
-use Rattle.std.specs.Prelude.{◌≡◌, ℕ, List, [], ◌∷◌, map, filter, length, Option, Some, None, Result, Ok, Err, nat_eq, if◌then◌else◌, Vec}
+-- The values that a parameter set gives a query, and what they mean. MySQL Reference Manual,
+-- "PREPARE Statement" (parameter markers); names as placeholders are a form of client libraries.
+use Rattle.std.specs.Prelude.{◌≡◌, ℕ, List, [], ◌∷◌, map, filter, length, Option, Some, None, Result, Ok, Err, nat_eq}
+use Rattle.std.specs.Prelude.{if◌then◌else◌, Vec}
 use Rattle.std.specs.Cmp.Lexicographic.{pointwise}
 use Rattle.std.specs.declared.alloc.Global.{Global}
 use Rattle.mysql_queries.specs.Tokens.{HasTokens}
@@ -13,12 +14,14 @@ use Rattle.mysql_values.specs.declared.params.Params.{Params}
 use Rattle.mysql_values.specs.declared.params.Params.TheVariants.{Empty, Named, Positional}
 use Rattle.mysql_values.specs.declared.params.ParamsError.{ParamsError}
 use Rattle.mysql_values.specs.declared.params.ParamsError.TheVariants.{Missing, Confusion}
-use Rattle.mysql_values.specs.declared.params.ParamsConfusionError.TheVariants.{NamedParamsForPositionalQuery, PositionalParamsForNamedQuery}
+use Rattle.mysql_values.specs.declared.params.ParamsConfusionError.TheVariants.{NamedParamsForPositionalQuery}
+use Rattle.mysql_values.specs.declared.params.ParamsConfusionError.TheVariants.{PositionalParamsForNamedQuery}
 
 -- the value beside the first entry of this name
 abbrev pub value_named : List ℕ → List (Vec ℕ Global × Value) → Option Value
 value_named name [] = None
-value_named name (entry ∷ entries) = if pointwise nat_eq name entry.0.items then Some entry.1 else value_named name entries
+value_named name (entry ∷ entries) =
+    if pointwise nat_eq name entry.0.items then Some entry.1 else value_named name entries
 
 -- the error for a name without a value
 abbrev pub value_missing : List ℕ → ParamsError
@@ -35,7 +38,9 @@ abbrev pub values_named : List (Vec ℕ Global × Value) → List (List ℕ) →
 values_named entries [] = Ok []
 values_named entries (name ∷ names) = value_first name (value_named name entries) (values_named entries names)
 
--- The values that a set gives a query with these names, in order; or why it gives none. A query without names takes a list of values, and one with names a value for each name; the empty set gives any query no values.
+-- The values that a set gives a query with these names, in order; or why it gives none. A query
+-- without names takes a list of values, and one with names a value for each name; the empty set
+-- gives any query no values.
 abbrev pub values_over : List (List ℕ) → Params → Result (List Value) ParamsError
 values_over names Empty = Ok []
 values_over [] (Positional values) = Ok values.items
@@ -52,7 +57,8 @@ names_given (Some names) = map (λ name. name.items) names
 abbrev pub IsPositional : List (List ℕ) → Params → Params → Type 0
 IsPositional names Empty result = result ≡ Empty
 IsPositional names (Positional values) result = result ≡ Positional values
-IsPositional names (Named values) result = (list : Vec Value Global) × (result ≡ Positional list) × (values_named values.entries names ≡ Ok list.items)
+IsPositional names (Named values) result = (list : Vec Value Global) × (result ≡ Positional list) ×
+    (values_named values.entries names ≡ Ok list.items)
 
 -- a name of the list has no entry, and each name before it has one
 abbrev pub IsMissing : List (List ℕ) → Params → ParamsError → Type 0

@@ -4,7 +4,8 @@ ghost use Rattle.mysql_cells.specs.AsSql.{HasLiteral};
 ghost use Rattle.mysql_values.specs.Binding.{IsBindCause, IsBound, IsFilled, bind_cause, bind_error_of, given_cause};
 ghost use Rattle.mysql_values.specs.Params.{IsMeaning, values_over};
 ghost use Rattle.mysql_queries.specs.Parsed.{names_at};
-ghost use Rattle.mysql_queries.specs.Queries.{HasPlaces, Lexes, Slices, first_not_alone as first_apart, is_mixed as has_both_kinds};
+ghost use Rattle.mysql_queries.specs.Queries.{HasPlaces, Lexes, Slices, first_not_alone as first_apart};
+ghost use Rattle.mysql_queries.specs.Queries.{is_mixed as has_both_kinds};
 ghost use Rattle.mysql_cells.specs.Values.{first_float, literal_of};
 ghost use Rattle.mysql_queries.specs.declared.content.Content.{Content};
 ghost use Rattle.mysql_values.specs.declared.params.ParamsError.{ParamsError as ParamsErrorOf};
@@ -100,7 +101,8 @@ impl From<ParamsError> for BindError {
 fn check_places(places: &[Place]) -> Result<(), BindError>
     ensures one_kind { OnOk result (has_both_kinds places.now ≡ false) }
     ensures alone { OnOk result (first_apart places.now ≡ None) }
-    ensures err { IfErr result (λ e. (over : Result (List ValueOf) ParamsErrorOf) → bind_cause places.now over ≡ Some e) }
+    ensures err { IfErr result (λ e. (over : Result (List ValueOf) ParamsErrorOf) →
+        bind_cause places.now over ≡ Some e) }
 {
     if is_mixed(places) {
         return Err(BindError::Mixed);
@@ -118,9 +120,11 @@ fn list_values<'a>(
     params: &'a Params,
     values: &mut Vec<&'a Value>,
 ) -> Result<(), BindError>
-    ensures over { OnOk result (values_over (map cow_slice_items names.now) params.entry.now ≡ Ok (map (λ value. value.now) values.new.items)) }
+    ensures over { OnOk result (values_over (map cow_slice_items names.now) params.entry.now ≡
+        Ok (map (λ value. value.now) values.new.items)) }
     ensures count { OnOk result (length values.new.items ≡ count) }
-    ensures err { IfErr result (λ e. (e ≡ bind_error.Memory) ⊎ (given_cause count (values_over (map cow_slice_items names.now) params.entry.now) ≡ Some e)) }
+    ensures err { IfErr result (λ e. (e ≡ bind_error.Memory) ⊎
+        (given_cause count (values_over (map cow_slice_items names.now) params.entry.now) ≡ Some e)) }
 {
     list_values_over_names(params, names, values)?;
     if values.len() == count {
@@ -133,7 +137,8 @@ fn list_values<'a>(
 /// Appends the literal of the value at a placeholder.
 fn put_literal(out: &mut Vec<u8>, value: &Value, place: usize) -> Result<(), BindError>
     ensures ok { OnOk result (IsSomeAnd (literal_of value.now) (λ text. out.new.items ≡ out.old.items ++ text)) }
-    ensures err { IfErr result (λ e. (e ≡ bind_error.Memory) ⊎ ((e ≡ bind_error.Float place) × (literal_of value.now ≡ None))) }
+    ensures err { IfErr result (λ e. (e ≡ bind_error.Memory) ⊎
+        ((e ≡ bind_error.Float place) × (literal_of value.now ≡ None))) }
     ensures kept { OnErr result (out.new.items ≡ out.old.items) }
     ensures literal { HasLiteral value.now }
 {
@@ -153,8 +158,11 @@ fn put_text(
 ) -> Result<(), BindError>
     requires places { HasPlaces query.now places.now }
     requires count { length values.now ≡ length places.now }
-    ensures ok { OnOk result ((text : List ℕ) × (out.new.items ≡ out.old.items ++ text) × IsFilled query.now places.now (map (λ value. value.now) values.now) text) }
-    ensures err { IfErr result (λ e. (e ≡ bind_error.Memory) ⊎ ((place : ℕ) × (e ≡ bind_error.Float place) × (first_float (map (λ value. value.now) values.now) ≡ Some place))) }
+    ensures ok { OnOk result ((text : List ℕ) × (out.new.items ≡ out.old.items ++ text) ×
+        IsFilled query.now places.now (map (λ value. value.now) values.now) text) }
+    ensures err { IfErr result (λ e. (e ≡ bind_error.Memory) ⊎
+        ((place : ℕ) × (e ≡ bind_error.Float place) ×
+        (first_float (map (λ value. value.now) values.now) ≡ Some place))) }
     ensures kept { take (length out.old.items) out.new.items ≡ out.old.items }
 {
     pieces_of_a_query();
@@ -169,9 +177,10 @@ fn put_text(
     Ok(())
 }
 
-/// [`bind_text_at`] for one of many sets of a query: what doesn't depend on the set is found once. The placeholders are of one
-/// kind and stand alone, and `names` are those among them, as [`names_among`] lists them. `values` keeps its room from set to
-/// set; what it held leaves it, and what it then holds isn't said. Safe for the servers that [`bind_text`] names.
+/// [`bind_text_at`] for one of many sets of a query: what doesn't depend on the set is found once.
+/// The placeholders are of one kind and stand alone, and `names` are those among them, as
+/// [`names_among`] lists them. `values` keeps its room from set to set; what it held leaves it, and
+/// what it then holds isn't said. Safe for the servers that [`bind_text`] names.
 ///
 /// # Errors
 /// `Params`, `WrongCount`, `Float` with the first such placeholder, `Memory`; nothing is appended then.
@@ -188,8 +197,10 @@ pub fn bind_text_over<'a>(
     requires alone { first_apart places.now ≡ None }
     requires names { map cow_slice_items names.now ≡ names_at query.now places.now }
     // What is appended is the text of the set over the query, and reads as the set's meaning in both ways.
-    ensures ok { OnOk result ((text : List ℕ) × (contents : List Content) × (out.new.items ≡ out.old.items ++ text) × IsBound query.now params.entry.now text
-        × IsMeaning query.now params.entry.now contents × Slices query.now text contents × Lexes query.now text contents) }
+    ensures ok { OnOk result ((text : List ℕ) × (contents : List Content) ×
+        (out.new.items ≡ out.old.items ++ text) × IsBound query.now params.entry.now text
+        × IsMeaning query.now params.entry.now contents × Slices query.now text contents ×
+        Lexes query.now text contents) }
     ensures err { IfErr result (λ e. (e ≡ bind_error.Memory) ⊎ IsBindCause query.now params.entry.now e) }
     ensures kept { OnErr result (out.new.items ≡ out.old.items) }
 {
@@ -206,8 +217,8 @@ pub fn bind_text_over<'a>(
     }
 }
 
-/// [`bind_text`] over the placeholders of the query, as [`places`] lists them, so that many sets need them found once. Safe for
-/// the servers that [`bind_text`] names.
+/// [`bind_text`] over the placeholders of the query, as [`places`] lists them, so that many sets
+/// need them found once. Safe for the servers that [`bind_text`] names.
 ///
 /// # Errors
 /// Those of [`bind_text`], in its order; nothing is appended then.
@@ -220,7 +231,8 @@ pub fn bind_text_at(
 ) -> Result<(), BindError>
     requires { HasPlaces query.now places.now }
     // What is appended is the text of the set over the query, and reads as the set's meaning in both ways.
-    ensures ok { OnOk result ((text : List ℕ) × (contents : List Content) × (out.new.items ≡ out.old.items ++ text) × IsBound query.now params.now text
+    ensures ok { OnOk result ((text : List ℕ) × (contents : List Content) ×
+        (out.new.items ≡ out.old.items ++ text) × IsBound query.now params.now text
         × IsMeaning query.now params.now contents × Slices query.now text contents × Lexes query.now text contents) }
     ensures err { IfErr result (λ e. (e ≡ bind_error.Memory) ⊎ IsBindCause query.now params.now e) }
     ensures kept { OnErr result (out.new.items ≡ out.old.items) }
@@ -234,17 +246,20 @@ pub fn bind_text_at(
 
 /// Appends the text of a query with the literals of a set's values in the places of its placeholders.
 ///
-/// A placeholder is a question mark, or a colon and a name of `a` to `z`, `0` to `9` and `_` that begins with no digit; the
-/// set gives values by these names, without the colon. Names end at the first other byte: `:aB` is the placeholder `a` before
-/// a `B`. `:Name` is none: over `SELECT :Name` a set that names values is refused by `Params`.
+/// A placeholder is a question mark, or a colon and a name of `a` to `z`, `0` to `9` and `_` that
+/// begins with no digit; the set gives values by these names, without the colon. Names end at the
+/// first other byte: `:aB` is the placeholder `a` before a `B`. `:Name` is none: over `SELECT
+/// :Name` a set that names values is refused by `Params`.
 ///
-/// **Safe for** a server that takes backslash escapes (NO_BACKSLASH_ESCAPES isn't in its SQL mode) over a connection in UTF-8. For
+/// **Safe for** a server that takes backslash escapes (NO_BACKSLASH_ESCAPES isn't in its SQL mode)
+/// over a connection in UTF-8. For
 /// any other a value may end its literal, and what stands behind the quote is read as SQL: send by execution there.
 ///
 /// An all-zero time is written without its sign.
 ///
 /// # Errors
-/// `Mixed`, `NotAlone` with the first such placeholder, `Params`, `WrongCount`, `Float` with the first such placeholder, `Memory`; nothing is appended then.
+/// `Mixed`, `NotAlone` with the first such placeholder, `Params`, `WrongCount`, `Float` with the
+/// first such placeholder, `Memory`; nothing is appended then.
 pub fn bind_text(
     alloc: Global,
     query: &[u8],
@@ -252,7 +267,8 @@ pub fn bind_text(
     out: &mut Vec<u8>,
 ) -> Result<(), BindError>
     // What is appended is the text of the set over the query, and reads as the set's meaning in both ways.
-    ensures ok { OnOk result ((text : List ℕ) × (contents : List Content) × (out.new.items ≡ out.old.items ++ text) × IsBound query.now params.now text
+    ensures ok { OnOk result ((text : List ℕ) × (contents : List Content) ×
+        (out.new.items ≡ out.old.items ++ text) × IsBound query.now params.now text
         × IsMeaning query.now params.now contents × Slices query.now text contents × Lexes query.now text contents) }
     ensures err { IfErr result (λ e. (e ≡ bind_error.Memory) ⊎ IsBindCause query.now params.now e) }
     ensures kept { OnErr result (out.new.items ≡ out.old.items) }

@@ -11,7 +11,7 @@ pub use contents::ContentExt;
 pub use mysql_cells::{
     AsSqlError, BinValue, TextValue, Value, ValueDeserializer, read_cell, read_text_cell,
 };
-pub use mysql_null_bitmap::{ClientSide, SerializationSide, ServerSide};
+pub use mysql_field_lists::{ClientSide, SerializationSide, ServerSide};
 pub use mysql_queries::{
     ByteString, Content, Literal, MixedParamsError, NamedParamsError, ParsedNamedParams, Place,
     first_not_alone, is_mixed, places, read_literal, read_text,

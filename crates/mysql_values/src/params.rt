@@ -1,6 +1,7 @@
 //! Parameter sets of a query.
 
-ghost use Rattle.mysql_values.specs.Params.{IsMissing, IsPositional, names_given, value_named, values_named, values_over};
+ghost use Rattle.mysql_values.specs.Params.{IsMissing, IsPositional, names_given, value_named, values_named};
+ghost use Rattle.mysql_values.specs.Params.{values_over};
 ghost use Rattle.std.specs.Prelude.{◌≡◌, ◌⊎◌, Err, IfErr, IfOk, List, Ok, OnOk, map, option_copied, ℕ};
 ghost use Rattle.mysql_values.specs.declared.params.ParamsError.TheVariants as params_error;
 ghost use Rattle.mysql_values.specs.declared.params.SetError.TheVariants as set_error;
@@ -134,8 +135,10 @@ fn look_up<'a, N: AsSlice<u8>>(
     names: &[N],
     values: &mut Vec<&'a Value>,
 ) -> Result<(), ParamsError>
-    ensures ok { OnOk result (values_named entries.entry.now.entries (map N.items names.now) ≡ Ok (map (λ value. value.now) values.new.items)) }
-    ensures err { IfErr result (λ e. (e ≡ params_error.Memory) ⊎ (values_named entries.entry.now.entries (map N.items names.now) ≡ Err e)) }
+    ensures ok { OnOk result (values_named entries.entry.now.entries (map N.items names.now) ≡
+        Ok (map (λ value. value.now) values.new.items)) }
+    ensures err { IfErr result (λ e. (e ≡ params_error.Memory) ⊎
+        (values_named entries.entry.now.entries (map N.items names.now) ≡ Err e)) }
 {
     values.clear();
     values.reserve(names.len())?;
@@ -167,8 +170,10 @@ pub(crate) fn list_values_over_names<'a, N: AsSlice<u8>>(
     names: &[N],
     values: &mut Vec<&'a Value>,
 ) -> Result<(), ParamsError>
-    ensures ok { OnOk result (values_over (map N.items names.now) params.entry.now ≡ Ok (map (λ value. value.now) values.new.items)) }
-    ensures err { IfErr result (λ e. (e ≡ params_error.Memory) ⊎ (values_over (map N.items names.now) params.entry.now ≡ Err e)) }
+    ensures ok { OnOk result (values_over (map N.items names.now) params.entry.now ≡
+        Ok (map (λ value. value.now) values.new.items)) }
+    ensures err { IfErr result (λ e. (e ≡ params_error.Memory) ⊎
+        (values_over (map N.items names.now) params.entry.now ≡ Err e)) }
 {
     match params {
         Params::Empty => {
@@ -198,8 +203,10 @@ pub(crate) fn values_over_names<'a, N: AsSlice<u8>>(
     params: &'a Params,
     names: &[N],
 ) -> Result<Vec<&'a Value>, ParamsError>
-    ensures ok { IfOk result (λ values. values_over (map N.items names.now) params.entry.now ≡ Ok (map (λ value. value.now) values.items)) }
-    ensures err { IfErr result (λ e. (e ≡ params_error.Memory) ⊎ (values_over (map N.items names.now) params.entry.now ≡ Err e)) }
+    ensures ok { IfOk result (λ values. values_over (map N.items names.now) params.entry.now ≡
+        Ok (map (λ value. value.now) values.items)) }
+    ensures err { IfErr result (λ e. (e ≡ params_error.Memory) ⊎
+        (values_over (map N.items names.now) params.entry.now ≡ Err e)) }
 {
     let mut values = Vec::new(alloc);
     list_values_over_names(params, names, &mut values)?;
@@ -226,8 +233,10 @@ fn copies_of(
     entries: &HashMap<Vec<u8>, Value>,
     names: &[Vec<u8>],
 ) -> Result<Vec<Value>, ParamsError>
-    ensures ok { IfOk result (λ values. values_named entries.now.entries (map (λ name. name.items) names.now) ≡ Ok values.items) }
-    ensures err { IfErr result (λ e. (e ≡ params_error.Memory) ⊎ (values_named entries.now.entries (map (λ name. name.items) names.now) ≡ Err e)) }
+    ensures ok { IfOk result (λ values. values_named entries.now.entries
+        (map (λ name. name.items) names.now) ≡ Ok values.items) }
+    ensures err { IfErr result (λ e. (e ≡ params_error.Memory) ⊎
+        (values_named entries.now.entries (map (λ name. name.items) names.now) ≡ Err e)) }
 {
     let mut values = Vec::new(alloc);
     look_up(entries, names, &mut values)?;
@@ -250,24 +259,29 @@ impl Params {
 
     /// The values that the set gives a query, in the order of its placeholders, lent.
     ///
-    /// A set by name looks up each name of the query, a name that occurs twice twice; names that the query lacks are left aside.
+    /// A set by name looks up each name of the query, a name that occurs twice twice; names that
+    /// the query lacks are left aside.
     ///
     /// # Errors
-    /// `Missing` with the first name that has no entry; `Confusion` for names over a query without names, and for a list of values over a query with names; `Memory`.
+    /// `Missing` with the first name that has no entry; `Confusion` for names over a query without
+    /// names, and for a list of values over a query with names; `Memory`.
     pub fn values_for<'a>(
         &'a self,
         alloc: Global,
         query: &ParsedNamedParams<'_>,
     ) -> Result<Vec<&'a Value>, ParamsError>
-        ensures ok { IfOk result (λ values. values_over query.now.names self.entry.now ≡ Ok (map (λ value. value.now) values.items)) }
-        ensures err { IfErr result (λ e. (e ≡ params_error.Memory) ⊎ (values_over query.now.names self.entry.now ≡ Err e)) }
+        ensures ok { IfOk result (λ values. values_over query.now.names self.entry.now ≡
+            Ok (map (λ value. value.now) values.items)) }
+        ensures err { IfErr result (λ e. (e ≡ params_error.Memory) ⊎
+            (values_over query.now.names self.entry.now ≡ Err e)) }
     {
         let mut values = Vec::new(alloc);
         self.list_values_for(query, &mut values)?;
         Ok(values)
     }
 
-    /// The values of [`Params::values_for`], listed in `values`, whose room is kept from set to set; what it held leaves it.
+    /// The values of [`Params::values_for`], listed in `values`, whose room is kept from set to
+    /// set; what it held leaves it.
     ///
     /// # Errors
     /// Those of [`Params::values_for`]. What the list then holds isn't said.
@@ -276,23 +290,29 @@ impl Params {
         query: &ParsedNamedParams<'_>,
         values: &mut Vec<&'a Value>,
     ) -> Result<(), ParamsError>
-        ensures ok { OnOk result (values_over query.now.names self.entry.now ≡ Ok (map (λ value. value.now) values.new.items)) }
-        ensures err { IfErr result (λ e. (e ≡ params_error.Memory) ⊎ (values_over query.now.names self.entry.now ≡ Err e)) }
+        ensures ok { OnOk result (values_over query.now.names self.entry.now ≡
+            Ok (map (λ value. value.now) values.new.items)) }
+        ensures err { IfErr result (λ e. (e ≡ params_error.Memory) ⊎
+            (values_over query.now.names self.entry.now ≡ Err e)) }
     {
         list_values_over_names(self, query.params(), values)
     }
 
-    /// The values that the set gives a query with these names, in the order of its placeholders. An empty list of names counts as none.
+    /// The values that the set gives a query with these names, in the order of its placeholders. An
+    /// empty list of names counts as none.
     ///
     /// # Errors
-    /// `Missing` with the first name that has no entry; `Confusion` for names over a query without names, and for a list of values over a query with names; `Memory`.
+    /// `Missing` with the first name that has no entry; `Confusion` for names over a query without
+    /// names, and for a list of values over a query with names; `Memory`.
     pub fn into_values(
         self,
         alloc: Global,
         named_params: Option<&[Vec<u8>]>,
     ) -> Result<Vec<Value>, ParamsError>
-        ensures ok { IfOk result (λ values. values_over (names_given (option_copied named_params.entry)) self ≡ Ok values.items) }
-        ensures err { IfErr result (λ e. (e ≡ params_error.Memory) ⊎ (values_over (names_given (option_copied named_params.entry)) self ≡ Err e)) }
+        ensures ok { IfOk result (λ values. values_over
+            (names_given (option_copied named_params.entry)) self ≡ Ok values.items) }
+        ensures err { IfErr result (λ e. (e ≡ params_error.Memory) ⊎
+            (values_over (names_given (option_copied named_params.entry)) self ≡ Err e)) }
     {
         let names = named_params.unwrap_or(&[]);
         match self {
@@ -325,7 +345,8 @@ impl Params {
         named_params: &[Vec<u8>],
     ) -> Result<Params, ParamsError>
         ensures ok { IfOk result (λ set. IsPositional (map (λ name. name.items) named_params.now) self set) }
-        ensures err { IfErr result (λ e. (e ≡ params_error.Memory) ⊎ IsMissing (map (λ name. name.items) named_params.now) self e) }
+        ensures err { IfErr result (λ e. (e ≡ params_error.Memory) ⊎
+            IsMissing (map (λ name. name.items) named_params.now) self e) }
     {
         match self {
             Params::Empty => Ok(Params::Empty),

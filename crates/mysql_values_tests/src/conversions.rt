@@ -369,7 +369,8 @@ fn durations(rt: HostRuntime) {
     }
 }
 
-/// No field of a time is checked. This one's duration has no value of its own, and undoing the conversion gives the time.
+/// No field of a time is checked. This one's duration has no value of its own, and undoing the
+/// conversion gives the time.
 #[test]
 fn the_longest_time(rt: HostRuntime) {
     let assert = Asserting(&rt);

@@ -1,7 +1,8 @@
-//! Tests of `mysql_values` and `mysql_convert` from outside: worked rows of placeholders, literals, parameters, texts and conversions.
+//! Tests of `mysql_values` and `mysql_convert` from outside: worked rows of placeholders, literals,
+//! parameters, texts and conversions.
 //!
-//! At most one allocation of a run is refused. So a call that answers that memory was refused is made once more, and then has
-//! to answer.
+//! At most one allocation of a run is refused. So a call that answers that memory was refused is
+//! made once more, and then has to answer.
 #![tactic(auto)]
 
 #[cfg(test)]

@@ -1,5 +1,6 @@
--- Words of the reader's own body, which no public call's clause has: how its fields stand for what it holds, and what is true of them.
--- (MySQL: Client/Server Protocol, "Protocol Basics: MySQL Packets".)
+-- Words of the reader's own body, which no public call's clause has: how its fields stand for what
+-- it holds, and what is true of them. (MySQL: Client/Server Protocol, "Protocol Basics: MySQL
+-- Packets".)
 use Rattle.std.specs.Prelude.{◌≡◌, ◌≢◌, ◌==◌, ℕ, Bool, true, false, not, List, [], length, None}
 use Rattle.std.specs.Option.{IfSome}
 use Rattle.mysql_wire.specs.Codec.{Codec, CanGoOn, held, packet_number}
@@ -42,6 +43,8 @@ pub record Stands (codec : Codec) (header packet : List ℕ) (number : ℕ) (byt
 
 -- after a refusal nothing is held
 pub record IsKept (r : Inside) : Type 0 where
-  pub stands : r.codec.refused ≡ None → Stands r.codec r.header (unfinished r.begun r.packet.items) r.number (bytes_of r.begun r.codec r.header r.packet.items)
+  pub stands : r.codec.refused ≡ None →
+      Stands r.codec r.header (unfinished r.begun r.packet.items) r.number
+      (bytes_of r.begun r.codec r.header r.packet.items)
   pub begun : (length (bytes_of r.begun r.codec r.header r.packet.items) == 0) ≡ not r.begun
   pub refused : IfSome r.codec.refused (λ _. (r.begun ≡ false) × (r.packet.items ≡ []))

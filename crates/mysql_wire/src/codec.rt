@@ -1,6 +1,7 @@
 //! The codec: reads packets from a stream and writes payloads as packets.
 
-ghost use Rattle.std.specs.Prelude.{◌≡◌, ◌≢◌, ◌++◌, ◌<◌, ◌≤◌, [], None, Err, IfErr, IfOk, IfSome, Ok, OnErr, OnOk, false, length};
+ghost use Rattle.std.specs.Prelude.{◌≡◌, ◌≢◌, ◌++◌, ◌<◌, ◌≤◌, [], None, Err, IfErr, IfOk, IfSome, Ok, OnErr, OnOk};
+ghost use Rattle.std.specs.Prelude.{false, length};
 ghost use Rattle.mysql_wire.specs.Chunk.{IsTooLargeOrMemory};
 ghost use Rattle.mysql_wire.specs.Codec.{CanGoOn, Decodes, RefusesBy, Waits, codec_at, error_of};
 ghost use Rattle.std.specs.Bool.{OnFalse, OnTrue};
@@ -84,7 +85,13 @@ impl Model for PacketCodec {
 
     ghost Value = { Codec };
 
-    ghost view = { λ c. record { limit = c.max_allowed_packet; number = c.number; begun = begun_of c.begun; refused = c.refused } };
+    ghost view = { λ c. record {
+      limit = c.max_allowed_packet;
+      number = c.number;
+      begun =
+          begun_of c.begun;
+      refused = c.refused;
+    } };
 }
 
 impl Default for PacketCodec {
@@ -203,7 +210,8 @@ impl PacketCodec {
         ensures refused { IfErr result (RefusesBy self.old (B.unread src.old) dst.old.items self.new) }
         ensures stays { IfSome self.old.refused (λ refusal. (result ≡ Err (error_of refusal))
             × (self.new ≡ self.old) × (src.new ≡ src.old) × (dst.new ≡ dst.old)) }
-        // What came of a chunk is moved at once: what is left is the front of a header, or nothing behind a chunk that was begun.
+        // What came of a chunk is moved at once: what is left is the front of a header, or nothing
+        // behind a chunk that was begun.
         ensures moved { result ≡ Ok false → length (B.unread src.new) < 4 }
         ensures used { result ≡ Ok false → self.new.begun ≢ None → B.unread src.new ≡ [] }
     {
@@ -226,7 +234,8 @@ impl PacketCodec {
     fn decode_within(&mut self, piece: &[u8], packet: &mut Vec<u8>) -> bool
         requires open { self.old.refused ≡ None }
         requires goes_on { CanGoOn self.old packet.old.items }
-        ensures waits { OnTrue result ((self.old.begun ≢ None) × Waits self.old piece.now packet.old.items self.new [] packet.new.items) }
+        ensures waits { OnTrue result ((self.old.begun ≢ None) ×
+            Waits self.old piece.now packet.old.items self.new [] packet.new.items) }
         ensures kept { OnFalse result ((self.new ≡ self.old) × (packet.new.items ≡ packet.old.items)) }
     {
         move_within(&mut self.begun, piece, packet)
@@ -243,7 +252,9 @@ impl PacketCodec {
         requires filled { filled ≡ length (D.written dst.old) }
         ensures ok { IfOk result (λ whole. Decodes self.old (B.unread src.old) (D.written dst.old) whole
             self.new (B.unread src.new) (D.written dst.new)) }
-        ensures refused { IfErr result (λ refusal. RefusesBy self.old (B.unread src.old) (D.written dst.old) self.new (error_of refusal)) }
+        ensures refused { IfErr result
+            (λ refusal. RefusesBy self.old (B.unread src.old) (D.written dst.old) self.new
+            (error_of refusal)) }
         ensures stays { IfSome self.old.refused (λ refusal. (result ≡ Err refusal)
             × (self.new ≡ self.old) × (src.new ≡ src.old) × (dst.new ≡ dst.old)) }
         ensures moved { result ≡ Ok false → length (B.unread src.new) < 4 }

@@ -16,17 +16,15 @@ pub use mysql_buf::{
 pub use mysql_const::{
     DEFAULT_MAX_ALLOWED_PACKET, MAX_PAYLOAD_LEN, UTF8_GENERAL_CI, UTF8MB4_GENERAL_CI,
 };
-pub use mysql_raw::{
-    Binary, IntRepr, InvalidLengthEncodedInteger, LeI16, LeI24, LeI32, LeI56, LeI64, LeU16, LeU24,
-    LeU32, LeU32LowerHalf, LeU32UpperHalf, LeU48, LeU56, LeU64, LenEnc, MyDeserialize, MySerialize,
-    ParseExt, RawInt, Readable, ReadsBack, Text, VarLen, WireError,
-};
-pub use mysql_raw_bytes::{
-    BareBytes, BareU8Bytes, BareU16Bytes, BytesRepr, EofBytes, FixedLengthText, NullBytes,
-    RawBytes, U8Bytes, U32Bytes,
-};
-pub use mysql_raw_consts::{
+pub use mysql_field_constants::{
     Const, ConstBytes, ConstBytesValue, ConstU8, ConstU32, ConstValue, Either, RawConst, RawFlags,
     Skip,
 };
-pub use mysql_raw_lists::{RawSeq, Seq, SeqRepr, Unknown};
+pub use mysql_field_lists::{RawSeq, Seq, SeqRepr, Unknown};
+pub use mysql_fields::{
+    BareBytes, BareU8Bytes, BareU16Bytes, Binary, BytesRepr, EofBytes, FixedLengthText, IntRepr,
+    InvalidLengthEncodedInteger, LeI16, LeI24, LeI32, LeI56, LeI64, LeU16, LeU24, LeU32,
+    LeU32LowerHalf, LeU32UpperHalf, LeU48, LeU56, LeU64, LenEnc, MyDeserialize, MySerialize,
+    NullBytes, ParseExt, RawBytes, RawInt, Readable, ReadsBack, Text, U8Bytes, U32Bytes, VarLen,
+    WireError,
+};

@@ -1,7 +1,7 @@
 //! Bitmaps of columns that are NULL.
 
 use crate::support::Asserting;
-use mysql_null_bitmap::{ClientSide, NullBitmap, NullBits, ServerSide};
+use mysql_field_lists::{ClientSide, NullBitmap, NullBits, ServerSide};
 use mysql_wire::{ParseBuf, WireError};
 use std::alloc::Global;
 use std::borrow::CowSlice;

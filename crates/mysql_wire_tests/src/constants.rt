@@ -9,11 +9,11 @@ use mysql_const::{
     BinlogDumpFlags, ColumnType, Command, GeometryType, ItemResult, MariadbBulkIndicator,
     SessionStateType, StatusFlags,
 };
-use mysql_raw::{IntRepr, LeU16, ParseExt, RawInt, WireError};
-use mysql_raw_consts::{
+use mysql_field_constants::{
     Const, ConstBytes, ConstBytesValue, ConstU8, ConstU32, ConstValue, Either, RawConst, RawFlags,
     Skip,
 };
+use mysql_fields::{IntRepr, LeU16, ParseExt, RawInt, WireError};
 use std::alloc::Global;
 use std::fmt::Debug;
 use std::test::*;

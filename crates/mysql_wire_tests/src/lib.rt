@@ -1,8 +1,8 @@
-//! Tests of the lower layers from outside: constants, numbers and texts in buffers and streams, representations of fields, and
-//! packets in chunks, in one piece and byte by byte.
+//! Tests of the lower layers from outside: constants, numbers and texts in buffers and streams,
+//! representations of fields, and packets in chunks, in one piece and byte by byte.
 //!
-//! At most one allocation of a run is refused. So a call that answers that memory was refused is looked at for what has to
-//! stand then, and made once more; then it has to answer.
+//! At most one allocation of a run is refused. So a call that answers that memory was refused is
+//! looked at for what has to stand then, and made once more; then it has to answer.
 #![tactic(auto)]
 
 #[cfg(test)]

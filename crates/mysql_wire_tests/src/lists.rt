@@ -2,9 +2,8 @@
 
 use crate::support::Asserting;
 use mysql_buf::ParseBuf;
-use mysql_raw::{LeU16, LenEnc, RawInt, WireError};
-use mysql_raw_bytes::RawBytes;
-use mysql_raw_lists::{RawSeq, Seq, Unknown};
+use mysql_field_lists::{RawSeq, Seq, Unknown};
+use mysql_fields::{LeU16, LenEnc, RawBytes, RawInt, WireError};
 use std::alloc::Global;
 use std::borrow::CowSlice;
 use std::test::*;

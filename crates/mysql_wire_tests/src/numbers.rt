@@ -2,7 +2,7 @@
 
 use crate::support::Asserting;
 use mysql_buf::ParseBuf;
-use mysql_raw::{
+use mysql_fields::{
     IntRepr, LeI16, LeI24, LeI32, LeI56, LeI64, LeU16, LeU24, LeU32, LeU32LowerHalf,
     LeU32UpperHalf, LeU48, LeU56, LeU64, LenEnc, ParseExt, RawInt, VarLen, WireError,
 };
@@ -11,7 +11,8 @@ use std::fmt::Debug;
 use std::test::*;
 use tests_support::{Assert, assert_equal, assert_same, assert_written, once_more, whole};
 
-// Asserts that a number in a representation, through its bound, is written as these bytes, and that they are read as it.
+// Asserts that a number in a representation, through its bound, is written as these bytes, and that
+// they are read as it.
 fn assert_number<T: IntRepr<Primitive = P>, P: Copy + PartialEq + Debug + Drop>(
     assert: &impl Assert,
     alloc: Global,

@@ -4,12 +4,12 @@ use crate::support::Asserting;
 use mysql_const::{
     DEFAULT_MAX_ALLOWED_PACKET, MAX_PAYLOAD_LEN, UTF8_GENERAL_CI, UTF8MB4_GENERAL_CI,
 };
-use mysql_raw::{IntRepr, LeU32, LenEnc, RawInt, Readable, VarLen};
-use mysql_raw_bytes::{
-    BareU8Bytes, BareU16Bytes, BytesRepr, FixedLengthText, NullBytes, RawBytes, U8Bytes, U32Bytes,
+use mysql_field_constants::{ConstU32, Skip};
+use mysql_field_lists::Seq;
+use mysql_fields::{
+    BareU8Bytes, BareU16Bytes, BytesRepr, FixedLengthText, IntRepr, LeU32, LenEnc, NullBytes,
+    RawBytes, RawInt, Readable, U8Bytes, U32Bytes, VarLen,
 };
-use mysql_raw_consts::{ConstU32, Skip};
-use mysql_raw_lists::Seq;
 use std::test::*;
 use tests_support::Assert;
 

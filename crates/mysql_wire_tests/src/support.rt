@@ -60,7 +60,8 @@ pub fn is_too_large<T: Drop>(answer: Result<T, PacketCodecError>) -> bool {
     matches!(&answer, Err(PacketCodecError::PacketTooLarge))
 }
 
-/// The number after a payload that is written to an empty buffer; None where memory was refused, and nothing was written.
+/// The number after a payload that is written to an empty buffer; None where memory was refused,
+/// and nothing was written.
 fn next_number(assert: &impl Assert, number: u8, payload: &[u8], out: &mut BytesMut) -> Option<u8> {
     let next = packet_to_chunks(number, payload, out).ok();
     assert.holds(next.is_some() || out.is_empty());
@@ -136,8 +137,8 @@ fn feed(
     are_wanted(assert, &found, wanted)
 }
 
-/// Asserts which packets a stream that comes in pieces has, and why reading stops. It is read once more where memory was
-/// refused; the packets are the stream's first ones then.
+/// Asserts which packets a stream that comes in pieces has, and why reading stops. It is read once
+/// more where memory was refused; the packets are the stream's first ones then.
 pub fn assert_fed(
     assert: &impl Assert,
     alloc: Global,

@@ -2,10 +2,9 @@
 
 use crate::support::Asserting;
 use mysql_buf::ParseBuf;
-use mysql_raw::{LenEnc, VarLen, WireError};
-use mysql_raw_bytes::{
-    BareBytes, BareU8Bytes, BareU16Bytes, BytesRepr, EofBytes, FixedLengthText, NullBytes,
-    RawBytes, U8Bytes, U32Bytes,
+use mysql_fields::{
+    BareBytes, BareU8Bytes, BareU16Bytes, BytesRepr, EofBytes, FixedLengthText, LenEnc, NullBytes,
+    RawBytes, U8Bytes, U32Bytes, VarLen, WireError,
 };
 use std::alloc::Global;
 use std::test::*;

@@ -44,7 +44,8 @@ pub fn once_more<T: Drop, E: Drop>(
     }
 }
 
-/// Asserts what a call answered; or, where that is what stands for refused memory, what the same call answered once more.
+/// Asserts what a call answered; or, where that is what stands for refused memory, what the same
+/// call answered once more.
 pub fn assert_answer<T: PartialEq + Debug + Drop>(
     assert: &impl Assert,
     first: T,

@@ -2,7 +2,7 @@
 
 use crate::assert::{Assert, assert_bytes, assert_same, once_more};
 use mysql_buf::ParseBuf;
-use mysql_raw::{MyDeserialize, MySerialize, ParseExt, Readable, WireError};
+use mysql_fields::{MyDeserialize, MySerialize, ParseExt, Readable, WireError};
 use std::alloc::{AllocError, Global};
 use std::fmt::Debug;
 

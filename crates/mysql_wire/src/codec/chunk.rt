@@ -1,7 +1,8 @@
 //! Single chunks: their headers, and the decoder that takes one at a time.
 
 ghost use Rattle.std.specs.Prelude.{◌≡◌, ◌≤◌, IfErr, IfOk, IfSome, MatchOption, None, Ok, OnErr, length};
-ghost use Rattle.mysql_wire.specs.Chunk.{IsTooLargeOrMemory, LacksChunk, PassesLimit, StillAwaits, TakesChunk, info_number, is_last};
+ghost use Rattle.mysql_wire.specs.Chunk.{IsTooLargeOrMemory, LacksChunk, PassesLimit, StillAwaits, TakesChunk};
+ghost use Rattle.mysql_wire.specs.Chunk.{info_number, is_last};
 ghost use Rattle.mysql_wire.specs.Framing.{announced, max_payload_len, number_at};
 ghost use Rattle.mysql_wire.specs.Incoming.{LacksFrontChunk, IsFrontChunk};
 ghost use Rattle.mysql_buf.specs.Bytes.{AreBytes};
@@ -94,11 +95,15 @@ impl ChunkDecoder {
             (LacksChunk self.old max_allowed_packet src.old.items dst.old.items)
             (TakesChunk self.old max_allowed_packet src.old.items dst.old.items src.new.items dst.new.items)) }
         ensures waits { result ≡ Ok None → (src.new.items ≡ src.old.items) × (dst.new.items ≡ dst.old.items) }
-        ensures too_large { IfErr result (λ e. IsTooLargeOrMemory e (PassesLimit self.old max_allowed_packet src.old.items dst.old.items)) }
+        ensures too_large { IfErr result
+            (λ e. IsTooLargeOrMemory e
+            (PassesLimit self.old max_allowed_packet src.old.items dst.old.items)) }
         ensures err { OnErr result ((src.new.items ≡ src.old.items) × (dst.new.items ≡ dst.old.items)) }
         ensures kept { OnErr result (self.new ≡ self.old) }
         // A chunk that is awaited is the one whose header stands; after one was taken, any is.
-        ensures awaits { IfOk result (λ info. MatchOption info (StillAwaits self.old src.old.items self.new) (λ _. self.new ≡ ChunkDecoder.Idle)) }
+        ensures awaits { IfOk result
+            (λ info. MatchOption info (StillAwaits self.old src.old.items self.new) (λ _. self.new ≡
+            ChunkDecoder.Idle)) }
     {
         if src.len() < 4 {
             return Ok(None);

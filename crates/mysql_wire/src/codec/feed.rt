@@ -55,8 +55,11 @@ fn drain(
     piece: &[u8],
     packets: &mut Vec<Vec<u8>>,
 ) -> Result<(), PacketCodecError>
-    ensures { (limit id : ℕ) (bytes : List ℕ) → HasRead limit (OnFrom id) bytes (payloads_of packets.old.items) (codec_by reader.old) (reader.old.bytes ++ piece.now) []
-        → IsDrained limit (OnFrom id) bytes result (payloads_of packets.new.items) (codec_by reader.new) reader.new.bytes [] }
+    ensures { (limit id : ℕ) (bytes : List ℕ) →
+        HasRead limit (OnFrom id) bytes (payloads_of packets.old.items) (codec_by reader.old)
+        (reader.old.bytes ++ piece.now) []
+        → IsDrained limit (OnFrom id) bytes result (payloads_of packets.new.items)
+        (codec_by reader.new) reader.new.bytes [] }
 {
     let mut rest = piece;
     'packets: loop {
@@ -87,7 +90,8 @@ fn drain(
 /// (MySQL: Client/Server Protocol, "Protocol Basics: MySQL Packets", "Sending More Than 16Mb" and "Sequence ID".)
 pub fn feed_all(alloc: Global, codec: PacketCodec, pieces: &[&[u8]]) -> Packets
     requires { IsBetween codec }
-    ensures { IsAnswer codec.limit (OnFrom codec.number) (flat_map (λ piece. piece.now) pieces.now) (payloads_of result.packets.items) result.fault }
+    ensures { IsAnswer codec.limit (OnFrom codec.number) (flat_map (λ piece. piece.now) pieces.now)
+        (payloads_of result.packets.items) result.fault }
 {
     let mut reader = PacketReader::new(alloc, codec.seq_id(), codec.max_allowed_packet);
     let mut packets = Vec::new(alloc);

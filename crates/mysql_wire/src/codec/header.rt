@@ -50,8 +50,8 @@ impl PartialHeader {
         PartialHeader { bytes, len }
     }
 
-    // Takes a piece behind the bytes that came, where they are fewer than four with it, and answers whether they are. Else
-    // nothing changes.
+    // Takes a piece behind the bytes that came, where they are fewer than four with it, and answers
+    // whether they are. Else nothing changes.
     pub(super) fn append(&mut self, piece: &[u8]) -> bool
         ensures taken { OnTrue result ((self.new ≡ self.old ++ piece.now) × (length self.new < 4)) }
         ensures kept { OnFalse result (self.new ≡ self.old) }

@@ -1,7 +1,8 @@
 //! One packet read from a buffer: its payload bytes go on to where they are wanted as they come.
 
 ghost use Rattle.std.specs.Bool.{OnFalse, OnTrue};
-ghost use Rattle.std.specs.Prelude.{◌≡◌, ◌≢◌, ◌⊎◌, ◌%◌, ◌^◌, [], None, false, ◌<◌, ◌≤◌, ◌++◌, IfErr, IfOk, Ok, OnErr, OnOk, drop, length, take};
+ghost use Rattle.std.specs.Prelude.{◌≡◌, ◌≢◌, ◌⊎◌, ◌%◌, ◌^◌, [], None, false, ◌<◌, ◌≤◌, ◌++◌, IfErr, IfOk, Ok, OnErr};
+ghost use Rattle.std.specs.Prelude.{OnOk, drop, length, take};
 ghost use Rattle.mysql_wire.specs.Codec.{Decodes, IsDue, IsOfPacket};
 ghost use Rattle.mysql_wire.specs.Framing.{max_payload_len};
 ghost use Rattle.mysql_wire.specs.Moving.{EndsWithin, NextChunk, begun_of, codec_of};
@@ -82,15 +83,16 @@ fn append(piece: &[u8], packet: &mut Vec<u8>) -> bool
     packet.extend_from_slice(piece).is_ok()
 }
 
-/// Moves a piece to the end of a packet where it ends within the chunk that was begun, and answers whether it did. Else, or
-/// where no room was to be had, nothing changes.
+/// Moves a piece to the end of a packet where it ends within the chunk that was begun, and answers
+/// whether it did. Else, or where no room was to be had, nothing changes.
 #[inline(always)]
 pub(super) fn move_within(
     begun: &mut Option<BegunChunk>,
     piece: &[u8],
     packet: &mut Vec<u8>,
 ) -> bool
-    ensures moved { OnTrue result (EndsWithin begun.old piece.now begun.new × (packet.new.items ≡ packet.old.items ++ piece.now)) }
+    ensures moved { OnTrue result (EndsWithin begun.old piece.now begun.new ×
+        (packet.new.items ≡ packet.old.items ++ piece.now)) }
     ensures kept { OnFalse result ((begun.new ≡ begun.old) × (packet.new.items ≡ packet.old.items)) }
 {
     let Some(chunk) = begun else {
@@ -103,8 +105,8 @@ pub(super) fn move_within(
     true
 }
 
-/// Moves the bytes of one packet from `src` to the end of `dst`, which has `filled` of them, as far as they came, and answers
-/// whether it is whole.
+/// Moves the bytes of one packet from `src` to the end of `dst`, which has `filled` of them, as far
+/// as they came, and answers whether it is whole.
 pub(super) fn take_packet<B: Buf, D: BufMut>(
     number: &mut u8,
     begun: &mut Option<BegunChunk>,
@@ -115,7 +117,8 @@ pub(super) fn take_packet<B: Buf, D: BufMut>(
 ) -> Result<bool, Refusal>
     requires goes_on { IsOfPacket limit (begun_of begun.old) (D.written dst.old) }
     requires filled { filled ≡ length (D.written dst.old) }
-    ensures ok { IfOk result (λ whole. Decodes (codec_of number.old limit begun.old) (B.unread src.old) (D.written dst.old) whole
+    ensures ok { IfOk result (λ whole. Decodes (codec_of number.old limit begun.old)
+        (B.unread src.old) (D.written dst.old) whole
         (codec_of number.new limit begun.new) (B.unread src.new) (D.written dst.new)) }
     ensures err { IfErr result (IsDue (codec_of number.old limit begun.old) (B.unread src.old) (D.written dst.old)) }
     ensures moved { result ≡ Ok false → length (B.unread src.new) < 4 }

@@ -1,6 +1,7 @@
 //! A reader of the packets of a stream that comes in pieces.
 
-ghost use Rattle.std.specs.Prelude.{◌≡◌, ◌≢◌, ◌+◌, ◌%◌, ◌==◌, ◌<◌, ◌++◌, not, [], None, Err, IfErr, IfOk, IfSome, MatchOption, Ok, OnErr, OnOk, false, length, true};
+ghost use Rattle.std.specs.Prelude.{◌≡◌, ◌≢◌, ◌+◌, ◌%◌, ◌==◌, ◌<◌, ◌++◌, not, [], None, Err, IfErr, IfOk, IfSome};
+ghost use Rattle.std.specs.Prelude.{MatchOption, Ok, OnErr, OnOk, false, length, true};
 ghost use Rattle.std.specs.Bool.{OnFalse, OnTrue};
 ghost use Rattle.mysql_wire.specs.Codec.{Decodes, RefusesBy, error_of, held, packet_number};
 ghost use Rattle.mysql_wire.specs.Incoming.{LacksFrontChunk, Reads, ReadsOn, RefusesOn, bytes_kept, incoming_at};
@@ -22,12 +23,13 @@ use std::mem;
 ///     let mut rest = piece;
 ///     while let Some(payload) = reader.read(&mut rest)? { .. }
 ///
-/// A reply's packets count on from its command. In a stream of commands [`PacketReader::reset_seq_id`] comes after each payload, since
-/// each command begins at the number 0.
+/// A reply's packets count on from its command. In a stream of commands
+/// [`PacketReader::reset_seq_id`] comes after each payload, since each command begins at the number
+/// 0.
 ///
-/// Contracts see the limit, the number of the next packet's first chunk, the bytes of that packet that came, the payload
-/// and the refusal.
-/// (MySQL: Client/Server Protocol, "Protocol Basics: MySQL Packets", "Sending More Than 16Mb" and "Sequence ID".)
+/// Contracts see the limit, the number of the next packet's first chunk, the bytes of that packet
+/// that came, the payload and the refusal. (MySQL: Client/Server Protocol, "Protocol Basics: MySQL
+/// Packets", "Sending More Than 16Mb" and "Sequence ID".)
 #[derive(Debug, Drop)]
 pub struct PacketReader {
     codec: PacketCodec,
@@ -51,8 +53,8 @@ impl Model for PacketReader {
     ghost invariant = { IsKept };
 }
 
-// Hands out the next payload of the piece, where no byte of a header is kept, and leaves what follows it in the piece; where
-// none stands whole, the piece is used up.
+// Hands out the next payload of the piece, where no byte of a header is kept, and leaves what
+// follows it in the piece; where none stands whole, the piece is used up.
 fn decode_straight(
     codec: &mut PacketCodec,
     header: &mut PartialHeader,
@@ -60,12 +62,18 @@ fn decode_straight(
     piece: &mut &[u8],
 ) -> Result<bool, Refusal>
     requires none { header.old ≡ [] }
-    requires stands { codec.old.refused ≡ None → Stands codec.old header.old packet.old.items (packet_number codec.old packet.old.items) (held codec.old header.old packet.old.items) }
-    ensures ok { IfOk result (λ whole. Decodes codec.old (header.old ++ piece.old.now) packet.old.items whole codec.new (header.new ++ piece.new.now) packet.new.items) }
+    requires stands { codec.old.refused ≡ None →
+        Stands codec.old header.old packet.old.items (packet_number codec.old packet.old.items)
+        (held codec.old header.old packet.old.items) }
+    ensures ok { IfOk result (λ whole. Decodes codec.old (header.old ++
+        piece.old.now) packet.old.items whole codec.new (header.new ++
+        piece.new.now) packet.new.items) }
     ensures whole { result ≡ Ok true → (header.new ≡ []) × (length piece.new.now < length piece.old.now) }
     ensures used { result ≡ Ok false → piece.new.now ≡ [] }
     ensures moved { result ≡ Ok false → codec.new.begun ≢ None → header.new ≡ [] }
-    ensures refused { IfErr result (λ refusal. RefusesBy codec.old (header.old ++ piece.old.now) packet.old.items codec.new (error_of refusal)) }
+    ensures refused { IfErr result
+        (λ refusal. RefusesBy codec.old (header.old ++ piece.old.now) packet.old.items codec.new
+        (error_of refusal)) }
     ensures stays { IfSome codec.old.refused (λ refusal. (result ≡ Err refusal) × (codec.new ≡ codec.old)) }
     ensures err { OnErr result (piece.new ≡ piece.old) }
 {
@@ -88,12 +96,18 @@ fn decode_behind(
     packet: &mut Vec<u8>,
     piece: &mut &[u8],
 ) -> Result<bool, Refusal>
-    requires { codec.old.refused ≡ None → Stands codec.old header.old packet.old.items (packet_number codec.old packet.old.items) (held codec.old header.old packet.old.items) }
-    ensures ok { IfOk result (λ whole. Decodes codec.old (header.old ++ piece.old.now) packet.old.items whole codec.new (header.new ++ piece.new.now) packet.new.items) }
+    requires { codec.old.refused ≡ None →
+        Stands codec.old header.old packet.old.items (packet_number codec.old packet.old.items)
+        (held codec.old header.old packet.old.items) }
+    ensures ok { IfOk result (λ whole. Decodes codec.old (header.old ++
+        piece.old.now) packet.old.items whole codec.new (header.new ++
+        piece.new.now) packet.new.items) }
     ensures whole { result ≡ Ok true → (header.new ≡ []) × (length piece.new.now < length piece.old.now) }
     ensures used { result ≡ Ok false → piece.new.now ≡ [] }
     ensures moved { result ≡ Ok false → codec.new.begun ≢ None → header.new ≡ [] }
-    ensures refused { IfErr result (λ refusal. RefusesBy codec.old (header.old ++ piece.old.now) packet.old.items codec.new (error_of refusal)) }
+    ensures refused { IfErr result
+        (λ refusal. RefusesBy codec.old (header.old ++ piece.old.now) packet.old.items codec.new
+        (error_of refusal)) }
     ensures stays { IfSome codec.old.refused (λ refusal. (result ≡ Err refusal) × (codec.new ≡ codec.old)) }
     ensures err { OnErr result (piece.new ≡ piece.old) }
 {
@@ -110,20 +124,26 @@ fn decode_behind(
     Ok(false)
 }
 
-// Hands out the next payload of the header's bytes followed by the piece, and leaves what follows it in the piece; where none
-// stands whole, the piece is used up.
+// Hands out the next payload of the header's bytes followed by the piece, and leaves what follows
+// it in the piece; where none stands whole, the piece is used up.
 fn decode_piece(
     codec: &mut PacketCodec,
     header: &mut PartialHeader,
     packet: &mut Vec<u8>,
     piece: &mut &[u8],
 ) -> Result<bool, Refusal>
-    requires { codec.old.refused ≡ None → Stands codec.old header.old packet.old.items (packet_number codec.old packet.old.items) (held codec.old header.old packet.old.items) }
-    ensures ok { IfOk result (λ whole. Decodes codec.old (header.old ++ piece.old.now) packet.old.items whole codec.new (header.new ++ piece.new.now) packet.new.items) }
+    requires { codec.old.refused ≡ None →
+        Stands codec.old header.old packet.old.items (packet_number codec.old packet.old.items)
+        (held codec.old header.old packet.old.items) }
+    ensures ok { IfOk result (λ whole. Decodes codec.old (header.old ++
+        piece.old.now) packet.old.items whole codec.new (header.new ++
+        piece.new.now) packet.new.items) }
     ensures whole { result ≡ Ok true → (header.new ≡ []) × (length piece.new.now < length piece.old.now) }
     ensures used { result ≡ Ok false → piece.new.now ≡ [] }
     ensures moved { result ≡ Ok false → codec.new.begun ≢ None → header.new ≡ [] }
-    ensures refused { IfErr result (λ refusal. RefusesBy codec.old (header.old ++ piece.old.now) packet.old.items codec.new (error_of refusal)) }
+    ensures refused { IfErr result
+        (λ refusal. RefusesBy codec.old (header.old ++ piece.old.now) packet.old.items codec.new
+        (error_of refusal)) }
     ensures stays { IfSome codec.old.refused (λ refusal. (result ≡ Err refusal) × (codec.new ≡ codec.old)) }
     ensures err { OnErr result (piece.new ≡ piece.old) }
 {
@@ -146,8 +166,8 @@ fn keep_unfinished(begun: bool, packet: &mut Vec<u8>)
 impl PacketReader {
     ghost use Rattle.mysql_wire.specs.contracts.codec.reader.PacketReader.{the_row};
 
-    /// A reader of a stream of which nothing came: the first chunk has this number, and `max_allowed_packet` is the most
-    /// payload bytes of one packet.
+    /// A reader of a stream of which nothing came: the first chunk has this number, and
+    /// `max_allowed_packet` is the most payload bytes of one packet.
     pub fn new(alloc: Global, number: u8, max_allowed_packet: usize) -> Self
         ensures { result ≡ incoming_at number max_allowed_packet }
     {
@@ -164,7 +184,8 @@ impl PacketReader {
     #[inline(always)]
     fn take_bytes(&mut self, piece: &[u8]) -> bool
         ensures waits { OnTrue result (ReadsOn self.old piece.now false self.new []) }
-        ensures used { OnTrue result (self.new ≡ record self.old { bytes = self.old.bytes ++ piece.now; payload = [] }) }
+        ensures used { OnTrue result (self.new ≡
+            record self.old { bytes = self.old.bytes ++ piece.now; payload = [] }) }
         ensures fine { OnTrue result (self.old.refused ≡ None) }
         ensures kept { OnFalse result (self.new ≡ self.old) }
     {
@@ -178,7 +199,8 @@ impl PacketReader {
     #[inline(never)]
     fn take_header(&mut self, piece: &[u8]) -> bool
         ensures waits { OnTrue result (ReadsOn self.old piece.now false self.new []) }
-        ensures used { OnTrue result (self.new ≡ record self.old { bytes = self.old.bytes ++ piece.now; payload = [] }) }
+        ensures used { OnTrue result (self.new ≡
+            record self.old { bytes = self.old.bytes ++ piece.now; payload = [] }) }
         ensures fine { OnTrue result (self.old.refused ≡ None) }
         ensures kept { OnFalse result (self.new ≡ self.old) }
     {
@@ -190,15 +212,17 @@ impl PacketReader {
         true
     }
 
-    /// Takes a piece that ends within a chunk's header or within the chunk, and answers whether it did. After `true` the piece
-    /// is used up, and no payload stands whole in the bytes that came; after `false` nothing changed, and
-    /// [`PacketReader::advance`] reads on, which does the same with any piece. It is the quick way where few bytes come at a time.
+    /// Takes a piece that ends within a chunk's header or within the chunk, and answers whether it
+    /// did. After `true` the piece is used up, and no payload stands whole in the bytes that came;
+    /// after `false` nothing changed, and [`PacketReader::advance`] reads on, which does the same
+    /// with any piece. It is the quick way where few bytes come at a time.
     ///
     /// (MySQL: Client/Server Protocol, "Protocol Basics: MySQL Packets".)
     #[inline(always)]
     pub fn take_within(&mut self, piece: &[u8]) -> bool
         ensures waits { OnTrue result (ReadsOn self.old piece.now false self.new []) }
-        ensures used { OnTrue result (self.new ≡ record self.old { bytes = self.old.bytes ++ piece.now; payload = [] }) }
+        ensures used { OnTrue result (self.new ≡
+            record self.old { bytes = self.old.bytes ++ piece.now; payload = [] }) }
         ensures fine { OnTrue result (self.old.refused ≡ None) }
         ensures kept { OnFalse result (self.new ≡ self.old) }
     {
@@ -216,7 +240,8 @@ impl PacketReader {
         ensures waits { result ≡ Ok false → (piece.new.now ≡ [])
             × (self.new ≡ record self.old { bytes = self.old.bytes ++ piece.old.now; payload = [] }) }
         ensures refused { IfErr result (RefusesOn self.old piece.old.now self.new) }
-        ensures err { OnErr result ((self.new ≡ record self.old { bytes = []; payload = []; refused = self.new.refused })
+        ensures err { OnErr result
+            ((self.new ≡ record self.old { bytes = []; payload = []; refused = self.new.refused })
             × (piece.new ≡ piece.old)) }
         ensures stays { IfSome self.old.refused (λ refusal. (result ≡ Err (error_of refusal)) × (self.new ≡ self.old)) }
     {
@@ -240,21 +265,24 @@ impl PacketReader {
         }
     }
 
-    /// Reads on to the end of the next packet, and answers whether its payload stands whole; the bytes that were used are
-    /// taken from the front of `piece`. After `true` [`PacketReader::payload`] has it until more is read, and the number goes
-    /// on. After `false` the piece is used up, and no payload stands whole in the bytes that came.
+    /// Reads on to the end of the next packet, and answers whether its payload stands whole; the
+    /// bytes that were used are taken from the front of `piece`. After `true`
+    /// [`PacketReader::payload`] has it until more is read, and the number goes on. After `false`
+    /// the piece is used up, and no payload stands whole in the bytes that came.
     ///
-    /// Errors, in this order: `PacketTooLarge` once a chunk's header stands with which the packet would pass the limit;
-    /// `Memory` where a growth was refused; `PacketsOutOfSync` once a chunk stands whole that hasn't the number due. The piece
-    /// is as it was. Each further call answers the same and changes nothing.
-    /// (MySQL: Client/Server Protocol, "Protocol Basics: MySQL Packets", "Sending More Than 16Mb" and "Sequence ID".)
+    /// Errors, in this order: `PacketTooLarge` once a chunk's header stands with which the packet
+    /// would pass the limit; `Memory` where a growth was refused; `PacketsOutOfSync` once a chunk
+    /// stands whole that hasn't the number due. The piece is as it was. Each further call answers
+    /// the same and changes nothing. (MySQL: Client/Server Protocol, "Protocol Basics: MySQL
+    /// Packets", "Sending More Than 16Mb" and "Sequence ID".)
     pub fn advance(&mut self, piece: &mut &[u8]) -> Result<bool, PacketCodecError>
         ensures ok { IfOk result (λ whole. ReadsOn self.old piece.old.now whole self.new piece.new.now) }
         ensures whole { result ≡ Ok true → (self.new.bytes ≡ []) × (length piece.new.now < length piece.old.now) }
         ensures waits { result ≡ Ok false → (piece.new.now ≡ [])
             × (self.new ≡ record self.old { bytes = self.old.bytes ++ piece.old.now; payload = [] }) }
         ensures refused { IfErr result (RefusesOn self.old piece.old.now self.new) }
-        ensures err { OnErr result ((self.new ≡ record self.old { bytes = []; payload = []; refused = self.new.refused })
+        ensures err { OnErr result
+            ((self.new ≡ record self.old { bytes = []; payload = []; refused = self.new.refused })
             × (piece.new ≡ piece.old)) }
         ensures stays { IfSome self.old.refused (λ refusal. (result ≡ Err (error_of refusal)) × (self.new ≡ self.old)) }
     {
@@ -277,19 +305,24 @@ impl PacketReader {
         self.codec.set_seq_id(self.number);
     }
 
-    /// The payload of the next packet, read in place, where the packet is one chunk that stands whole at the front of the piece
-    /// and of which nothing came before. Its bytes are taken from the front of `piece`, and the number goes on; no payload is
-    /// kept. Else the answer is `None`, nothing changes, and [`PacketReader::advance`] reads on.
+    /// The payload of the next packet, read in place, where the packet is one chunk that stands
+    /// whole at the front of the piece and of which nothing came before. Its bytes are taken from
+    /// the front of `piece`, and the number goes on; no payload is kept. Else the answer is `None`,
+    /// nothing changes, and [`PacketReader::advance`] reads on.
     ///
     ///     while let Some(payload) = reader.read_in_place(&mut rest) { .. }
     ///
     /// (MySQL: Client/Server Protocol, "Protocol Basics: MySQL Packets" and "Sequence ID".)
     pub fn read_in_place<'a>(&mut self, piece: &mut &'a [u8]) -> Option<&'a [u8]>
-        ensures found { IfSome result (λ payload. ReadsOn self.old piece.old.now true (record self.new { payload = payload.now }) piece.new.now) }
-        ensures between { IfSome result (λ _. (self.new.bytes ≡ []) × (self.new.payload ≡ []) × (length piece.new.now < length piece.old.now)) }
+        ensures found { IfSome result
+            (λ payload. ReadsOn self.old piece.old.now true
+            (record self.new { payload = payload.now }) piece.new.now) }
+        ensures between { IfSome result (λ _. (self.new.bytes ≡ []) × (self.new.payload ≡ []) ×
+            (length piece.new.now < length piece.old.now)) }
         ensures waits { result ≡ None → (self.new ≡ self.old) × (piece.new ≡ piece.old) }
         // It is left to `advance` only where it has to be.
-        ensures lacks { result ≡ None → self.old.refused ≡ None → self.old.bytes ≡ [] → LacksFrontChunk self.old.limit self.old.number piece.old.now }
+        ensures lacks { result ≡ None → self.old.refused ≡ None → self.old.bytes ≡ [] →
+            LacksFrontChunk self.old.limit self.old.number piece.old.now }
     {
         if self.begun || !self.codec.is_open() {
             return None;
@@ -303,14 +336,17 @@ impl PacketReader {
         Some(&all[4..4 + count])
     }
 
-    /// The payload of the next packet that stands whole, as [`PacketReader::advance`] finds it, or `None` where the piece is
-    /// used up.
+    /// The payload of the next packet that stands whole, as [`PacketReader::advance`] finds it, or
+    /// `None` where the piece is used up.
     ///
     /// Errors as [`PacketReader::advance`] answers them.
     /// (MySQL: Client/Server Protocol, "Protocol Basics: MySQL Packets", "Sending More Than 16Mb" and "Sequence ID".)
     pub fn read(&mut self, piece: &mut &[u8]) -> Result<Option<&[u8]>, PacketCodecError>
-        ensures* after { sem 𝓛 (Rests the_row self.entry (λ after. Reads self.old piece.old.now result after piece.new.now)) }
-        ensures uses { IfOk result (λ found. MatchOption found (piece.new.now ≡ []) (λ _. length piece.new.now < length piece.old.now)) }
+        ensures* after { sem 𝓛 (Rests the_row self.entry
+            (λ after. Reads self.old piece.old.now result after piece.new.now)) }
+        ensures uses { IfOk result
+            (λ found. MatchOption found (piece.new.now ≡
+            []) (λ _. length piece.new.now < length piece.old.now)) }
     {
         if self.advance(piece)? {
             return Ok(Some(self.payload()));
@@ -318,8 +354,8 @@ impl PacketReader {
         Ok(None)
     }
 
-    /// How many bytes are held of the packet that isn't whole: those that came, but for the headers of its chunks, of which only
-    /// one that doesn't stand whole is held.
+    /// How many bytes are held of the packet that isn't whole: those that came, but for the headers
+    /// of its chunks, of which only one that doesn't stand whole is held.
     pub fn kept(&self) -> usize
         ensures { result ≡ bytes_kept (length self.now.bytes) }
     {
@@ -361,9 +397,9 @@ impl PacketReader {
         self.begun
     }
 
-    /// The next packet begins at the number 0, as the first one of each command does. No byte of it may have come, which
-    /// [`PacketReader::is_begun`] tells; after a payload none has.
-    /// (MySQL: Client/Server Protocol, "Sequence ID".)
+    /// The next packet begins at the number 0, as the first one of each command does. No byte of it
+    /// may have come, which [`PacketReader::is_begun`] tells; after a payload none has. (MySQL:
+    /// Client/Server Protocol, "Sequence ID".)
     pub fn reset_seq_id(&mut self)
         requires { self.old.bytes ≡ [] }
         ensures { self.new ≡ record self.old { number = 0 } }

@@ -1,5 +1,5 @@
 use Rattle.std.proofs.Common.{◌≡◌, drop}
-use Rattle.mysql_raw_lists.specs.ElementLaws.{with_front}
+use Rattle.mysql_field_lists.specs.ElementLaws.{with_front}
 use Rattle.mysql_bulk.specs.Reading.{each_at, param_value_at}
 use Rattle.mysql_bulk.proofs.reading.values_of.Given as goal
 

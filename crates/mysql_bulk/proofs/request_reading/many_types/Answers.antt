@@ -1,6 +1,6 @@
 use Rattle.std.proofs.lemmas.Result.{err_from_is_err_and}
-use Rattle.mysql_raw_lists.specs.ElementLaws.{ends, goes_on, is_done}
-use Rattle.mysql_raw_lists.specs.Lists.{elements_at}
+use Rattle.mysql_field_lists.specs.ElementLaws.{ends, goes_on, is_done}
+use Rattle.mysql_field_lists.specs.Lists.{elements_at}
 use Rattle.mysql_bulk.specs.Reading.{param_type_at}
 use Rattle.mysql_bulk.proofs.request_reading.many_types.Goals as goal
 

@@ -1,6 +1,6 @@
 use Rattle.std.proofs.Common.{◌≡◌, ◌-◌}
-use Rattle.mysql_raw_lists.specs.ElementLaws.{with_front}
-use Rattle.mysql_raw_lists.specs.Lists.{elements_at}
+use Rattle.mysql_field_lists.specs.ElementLaws.{with_front}
+use Rattle.mysql_field_lists.specs.Lists.{elements_at}
 use Rattle.mysql_bulk.specs.Reading.{param_type_at}
 use Rattle.mysql_bulk.proofs.request_reading.many_types.Given as goal
 

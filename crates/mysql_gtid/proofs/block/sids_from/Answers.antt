@@ -1,10 +1,10 @@
 use Rattle.std.proofs.Common.{◌≡◌, ◌++◌, ◌∷◌, [], map}
 use Rattle.std.proofs.lemmas.Result.{err_from_is_err_and}
 use Rattle.std.proofs.lemmas.List.{map_push}
-use Rattle.mysql_raw_lists.specs.Lists.{elements_at}
+use Rattle.mysql_field_lists.specs.Lists.{elements_at}
 use Rattle.mysql_gtid.specs.Blocks.{sid_at}
 use Rattle.mysql_gtid.specs.Sids.{sid_view}
-use Rattle.mysql_raw_lists.specs.ElementLaws.{goes_on, ends, is_done}
+use Rattle.mysql_field_lists.specs.ElementLaws.{goes_on, ends, is_done}
 use Rattle.mysql_gtid.proofs.block.sids_from.Goals as goal
 
 pub returns-in_err-sid : goal.returns-in_err-sid

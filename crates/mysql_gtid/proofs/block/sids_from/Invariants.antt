@@ -1,8 +1,8 @@
 use Rattle.std.proofs.Common.{◌≡◌, ◌-◌, map}
-use Rattle.mysql_raw_lists.specs.Lists.{elements_at}
+use Rattle.mysql_field_lists.specs.Lists.{elements_at}
 use Rattle.mysql_gtid.specs.Blocks.{sid_at}
 use Rattle.mysql_gtid.specs.Sids.{sid_view}
-use Rattle.mysql_raw_lists.specs.ElementLaws.{with_front}
+use Rattle.mysql_field_lists.specs.ElementLaws.{with_front}
 use Rattle.mysql_gtid.proofs.block.sids_from.Given as goal
 
 abbrev pub invariant-loop : goal.invariant-loop

@@ -1,7 +1,7 @@
 use Rattle.std.proofs.lemmas.Result.{err_from_is_err_and}
-use Rattle.mysql_raw_lists.specs.Lists.{elements_at}
+use Rattle.mysql_field_lists.specs.Lists.{elements_at}
 use Rattle.mysql_gtid.specs.Blocks.{interval_at}
-use Rattle.mysql_raw_lists.specs.ElementLaws.{goes_on, ends, is_done}
+use Rattle.mysql_field_lists.specs.ElementLaws.{goes_on, ends, is_done}
 use Rattle.mysql_gtid.proofs.block.some_intervals.Goals as goal
 
 pub returns-in_err-interval : goal.returns-in_err-interval

@@ -1,7 +1,7 @@
 use Rattle.std.proofs.Common.{◌≡◌, ◌-◌}
-use Rattle.mysql_raw_lists.specs.Lists.{elements_at}
+use Rattle.mysql_field_lists.specs.Lists.{elements_at}
 use Rattle.mysql_gtid.specs.Blocks.{interval_at}
-use Rattle.mysql_raw_lists.specs.ElementLaws.{with_front}
+use Rattle.mysql_field_lists.specs.ElementLaws.{with_front}
 use Rattle.mysql_gtid.proofs.block.some_intervals.Given as goal
 
 abbrev pub invariant-loop : goal.invariant-loop

@@ -1,5 +1,5 @@
 use Rattle.std.specs.List.{flat_map}
-use Rattle.mysql_commands.specs.Receiving.{audit_of}
+use Rattle.mysql_receive.specs.Receiving.{audit_of}
 use Rattle.mysql_recoding.proofs.Recodings.{refused_is_cause, sent_is_recoded}
 use Rattle.mysql_recoding.proofs.whole.recode.Goals as goal
 

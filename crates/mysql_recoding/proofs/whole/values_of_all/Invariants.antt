@@ -1,5 +1,5 @@
 use Rattle.std.proofs.Common.{◌≡◌, ◌++◌, map}
-use Rattle.mysql_commands.specs.Views.{sets_of}
+use Rattle.mysql_receive.specs.Views.{sets_of}
 use Rattle.mysql_recoding.specs.Causes.{values_of_sets}
 use Rattle.mysql_recoding.proofs.whole.values_of_all.Given as goal
 

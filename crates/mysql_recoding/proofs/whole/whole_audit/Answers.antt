@@ -1,5 +1,5 @@
 use Rattle.std.specs.List.{flat_map}
-use Rattle.mysql_commands.specs.Receiving.{audit_of}
+use Rattle.mysql_receive.specs.Receiving.{audit_of}
 use Rattle.mysql_recoding.proofs.Recodings.{end_is_cause, received_audit, refused_before, whole_is_known}
 use Rattle.mysql_recoding.proofs.whole.whole_audit.Goals as goal
 

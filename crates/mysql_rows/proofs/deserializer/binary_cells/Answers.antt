@@ -1,6 +1,6 @@
 use Rattle.std.proofs.Common.{◌∙◌, arith, length, Some}
 use Rattle.std.proofs.lemmas.Result.{err_from_is_err_and}
-use Rattle.mysql_null_bitmap.specs.NullBitmap.{is_null_at}
+use Rattle.mysql_field_lists.specs.NullBitmap.{is_null_at}
 use Rattle.mysql_rows.specs.Rows.{binary_cells_at, some_cells}
 use Rattle.mysql_rows.specs.Views.{column_views}
 use Rattle.mysql_rows.proofs.Cells.{binary_goes_on, binary_ends, binary_is_done, next_bit, next_column, one_more}

@@ -1,8 +1,8 @@
 use Rattle.std.proofs.Common.{◌≡◌, ◌≤◌, ◌-◌, length, map, vec_capacity}
 use Rattle.std.specs.List.{range_with_len}
-use Rattle.mysql_raw_lists.specs.ElementLaws.{with_front}
-use Rattle.mysql_null_bitmap.specs.NullBitmap.{is_null_at}
-use Rattle.mysql_null_bitmap.specs.NullBits.{bits_left}
+use Rattle.mysql_field_lists.specs.ElementLaws.{with_front}
+use Rattle.mysql_field_lists.specs.NullBitmap.{is_null_at}
+use Rattle.mysql_field_lists.specs.NullBits.{bits_left}
 use Rattle.mysql_rows.specs.Rows.{binary_cells_at, some_cells}
 use Rattle.mysql_rows.specs.Views.{column_views}
 use Rattle.mysql_rows.proofs.Cells.{cells_from}

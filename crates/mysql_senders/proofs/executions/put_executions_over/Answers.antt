@@ -1,7 +1,7 @@
 use Rattle.std.proofs.Common.{refl}
 use Rattle.mysql_wire.specs.Framing.{framing}
-use Rattle.mysql_streams.specs.Commands.{prepare_command}
-use Rattle.mysql_streams.specs.Sets.{all_given}
+use Rattle.mysql_command_rules.specs.Commands.{prepare_command}
+use Rattle.mysql_command_rules.specs.Sets.{all_given}
 use Rattle.mysql_senders.proofs.SentSets.{on_err, on_ok}
 use Rattle.mysql_senders.proofs.StatementSets.{all_executed, kept_behind, refused_sets}
 use Rattle.mysql_senders.proofs.executions.put_executions_over.Goals as goal

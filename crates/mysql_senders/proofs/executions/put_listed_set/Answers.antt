@@ -2,7 +2,7 @@ use Rattle.std.proofs.Common.{map, ap, sym, ◌∙◌, Bor, List, Ok}
 use Rattle.std.specs.Prelude.{IfErr, OnOk}
 use Rattle.mysql_values.specs.Value.{Value}
 use Rattle.mysql_senders.specs.OneSet.{AppendsExecution, RefusesSet, whole_execution}
-use Rattle.mysql_streams.specs.Sets.{Given}
+use Rattle.mysql_command_rules.specs.Sets.{Given}
 use Rattle.mysql_senders.proofs.StatementSets.{over_given}
 use Rattle.mysql_senders.proofs.executions.put_listed_set.Goals as goal
 

@@ -1,6 +1,6 @@
 use Rattle.std.specs.Prelude.{IfErr, OnOk}
 use Rattle.mysql_senders.specs.OneSet.{AppendsExecution, RefusesSet, whole_execution}
-use Rattle.mysql_streams.specs.Sets.{Given}
+use Rattle.mysql_command_rules.specs.Sets.{Given}
 use Rattle.mysql_senders.proofs.StatementSets.{over_list}
 use Rattle.mysql_senders.proofs.executions.put_set.Goals as goal
 

@@ -1,5 +1,5 @@
 use Rattle.std.proofs.Common.{[]}
-use Rattle.mysql_streams.specs.Sets.{all_given, given_by}
+use Rattle.mysql_command_rules.specs.Sets.{all_given, given_by}
 use Rattle.mysql_senders.proofs.StatementSets.{ExecutionsSent}
 use Rattle.mysql_senders.proofs.executions.put_sets.Given as goal
 

@@ -1,5 +1,5 @@
 use Rattle.mysql_wire.specs.Framing.{framing}
-use Rattle.mysql_streams.specs.Commands.{prepare_command}
+use Rattle.mysql_command_rules.specs.Commands.{prepare_command}
 use Rattle.mysql_senders.proofs.SentSets.{on_err, on_ok}
 use Rattle.mysql_senders.proofs.StatementSets.{all_executed, kept_behind, refused_sets}
 use Rattle.mysql_senders.proofs.made_sets.put_made_executions.Goals as goal

@@ -1,6 +1,6 @@
 use Rattle.std.proofs.Common.{[], None, Some, arith, inr, refl}
 use Rattle.std.proofs.lemmas.Result.{err_from_is_err_and}
-use Rattle.mysql_streams.specs.Sets.{all_given, given_by}
+use Rattle.mysql_command_rules.specs.Sets.{all_given, given_by}
 use Rattle.mysql_senders.proofs.Contents.{given_is}
 use Rattle.mysql_senders.proofs.Queries.{all_sent, none_sent, over_tokens, refused_at, refused_places, sent_next}
 use Rattle.mysql_senders.proofs.SentSets.{next_set}

@@ -1,10 +1,10 @@
 use Rattle.std.proofs.Common.{List, subst}
 use Rattle.std.specs.Prelude.{IfErr, OnOk}
 use Rattle.mysql_values.specs.declared.params.Params.{Params}
-use Rattle.mysql_streams.specs.Reading.{SentReadable}
-use Rattle.mysql_streams.specs.Sending.{RefusesGiven}
-use Rattle.mysql_streams.specs.Sets.{given_up_to}
-use Rattle.mysql_streams.specs.declared.road.Road.TheVariants as roads
+use Rattle.mysql_command_rules.specs.Reading.{SentReadable}
+use Rattle.mysql_command_rules.specs.Sending.{RefusesGiven}
+use Rattle.mysql_command_rules.specs.Sets.{given_up_to}
+use Rattle.mysql_command_rules.specs.declared.road.Road.TheVariants as roads
 use Rattle.mysql_session.proofs.OnAnswers.{on_err, on_ok}
 use Rattle.mysql_session.proofs.ObjectSets.{refused, sent}
 use Rattle.mysql_session.proofs.objects.put_held_sets.Goals as goal

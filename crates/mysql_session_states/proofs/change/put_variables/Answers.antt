@@ -1,6 +1,6 @@
 use Rattle.std.proofs.Common.{List, ℕ, map, subst, sym}
 use Rattle.std.proofs.lemmas.List.Folds.{flat_map-map}
-use Rattle.mysql_raw.specs.Wire.{Appends}
+use Rattle.mysql_fields.specs.Wire.{Appends}
 use Rattle.mysql_session_states.specs.SessionStates.{variable}
 use Rattle.mysql_session_states.specs.Views.{variable_view}
 use Rattle.mysql_session_states.proofs.change.put_variables.Goals as goal

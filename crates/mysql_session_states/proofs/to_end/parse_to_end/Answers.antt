@@ -1,7 +1,7 @@
 use Rattle.std.proofs.Common.{◌≡◌, ◌++◌, ◌∷◌, [], Ok, Err, length, map}
 use Rattle.std.proofs.lemmas.Result.{err_from_is_err_and}
 use Rattle.std.proofs.lemmas.List.{map_push}
-use Rattle.mysql_raw.specs.Laws.{gives}
+use Rattle.mysql_fields.specs.Laws.{gives}
 use Rattle.mysql_session_states.specs.Reading.{to_end_at}
 use Rattle.mysql_session_states.proofs.Elements.{ends, goes_on, is_done, no_bytes, some_bytes}
 use Rattle.mysql_session_states.proofs.to_end.parse_to_end.Goals as goal

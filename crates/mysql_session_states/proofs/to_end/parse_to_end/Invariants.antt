@@ -1,5 +1,5 @@
 use Rattle.std.proofs.Common.{◌≡◌, length, map}
-use Rattle.mysql_raw_lists.specs.ElementLaws.{with_front}
+use Rattle.mysql_field_lists.specs.ElementLaws.{with_front}
 use Rattle.mysql_session_states.specs.Reading.{to_end_at}
 use Rattle.mysql_session_states.proofs.to_end.parse_to_end.Given as goal
 

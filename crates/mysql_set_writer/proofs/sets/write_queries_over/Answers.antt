@@ -3,8 +3,8 @@ use Rattle.std.proofs.KnownBytes.{Keeps-refl}
 use Rattle.std.proofs.lemmas.List.{take_all}
 use Rattle.std.proofs.lemmas.Result.{err_from_is_err_and}
 use Rattle.mysql_values.specs.declared.params.Params.{Params}
-use Rattle.mysql_streams.specs.declared.road.Road.TheVariants.{Text}
-use Rattle.mysql_streams.specs.Sets.{all_given}
+use Rattle.mysql_command_rules.specs.declared.road.Road.TheVariants.{Text}
+use Rattle.mysql_command_rules.specs.Sets.{all_given}
 use Rattle.mysql_senders.proofs.Queries.{over_tokens, refused_places}
 use Rattle.mysql_set_writer.specs.Lots.{StopsAt}
 use Rattle.mysql_set_writer.specs.Writing.{Writes}

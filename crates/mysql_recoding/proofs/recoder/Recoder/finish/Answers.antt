@@ -1,5 +1,5 @@
 use Rattle.std.proofs.Common.{subst}
-use Rattle.mysql_commands.specs.Receiving.{audit_of}
+use Rattle.mysql_receive.specs.Receiving.{audit_of}
 use Rattle.mysql_recoding.specs.AsItComes.{Recoded, RefusesEnd, recoder_state}
 use Rattle.mysql_recoding.specs.Inside.{recoder_of}
 use Rattle.mysql_recoding.proofs.RecoderSteps.{end_refused}

@@ -1,6 +1,6 @@
 use Rattle.std.proofs.Common.{subst}
 use Rattle.std.proofs.lemmas.Result.{err_from_is_err_and}
-use Rattle.mysql_commands.specs.Views.{sets_of}
+use Rattle.mysql_receive.specs.Views.{sets_of}
 use Rattle.mysql_recoding.specs.AsItComes.{Recoded, RefusesPiece, recoder_state}
 use Rattle.mysql_recoding.specs.Inside.{recoder_of}
 use Rattle.mysql_recoding.proofs.RecoderSteps.{fault_refused, set_refused}

@@ -1,6 +1,6 @@
 use Rattle.std.proofs.Common.{◌<◌, ◌^◌, false, subst, arith}
 use Rattle.mysql_values.specs.Queries.{HasMixed}
-use Rattle.mysql_streams.specs.Sets.{all_given}
+use Rattle.mysql_command_rules.specs.Sets.{all_given}
 use Rattle.mysql_session.specs.Kept.{KeptQuery}
 use Rattle.mysql_session.proofs.OnAnswers.{on_err, on_ok}
 use Rattle.mysql_session.proofs.OneKind.{never_mixed, of_statement}

@@ -1,8 +1,8 @@
 use Rattle.std.proofs.Common.{subst}
 use Rattle.std.specs.Prelude.{IfErr, OnOk}
-use Rattle.mysql_streams.specs.Reading.{SentReadable}
-use Rattle.mysql_streams.specs.Sending.{RefusesGiven}
-use Rattle.mysql_streams.specs.Sets.{all_given}
+use Rattle.mysql_command_rules.specs.Reading.{SentReadable}
+use Rattle.mysql_command_rules.specs.Sending.{RefusesGiven}
+use Rattle.mysql_command_rules.specs.Sets.{all_given}
 use Rattle.mysql_session.specs.Kept.{KeptQuery}
 use Rattle.mysql_session.proofs.OnAnswers.{on_err, on_ok}
 use Rattle.mysql_session.proofs.query.Query.send_sets.Goals.{in-Bulk, in-Execute, in-Text}

@@ -1,0 +1,10 @@
+pub mod Commands
+pub mod Sets
+pub mod Sent
+pub mod Cause
+pub mod Sending
+pub mod Reading
+pub mod Laws
+pub mod Cells
+pub mod Manual
+pub mod ManualLaws

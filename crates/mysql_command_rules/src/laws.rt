@@ -1,0 +1,104 @@
+//! Laws of what is sent. Functions without a result do nothing: their contracts are the laws.
+
+ghost use Rattle.mysql_command_rules.specs.Laws.{OneStatement, RequestsHaveTheirSize, RoadsReadEqually};
+ghost use Rattle.mysql_command_rules.specs.Laws.{SentPayloadsFit, SentPayloadsRead, SentSetsAreDelivered};
+ghost use Rattle.mysql_command_rules.specs.Laws.{SentStreamsJoin, SentValuesAreCarried, SetsMeanEach};
+ghost use Rattle.mysql_command_rules.specs.declared.road.Road.TheVariants as roads;
+
+use mysql_bulk_builder::laws::{tight_typed_has_fewest, types_in_force_serve};
+use mysql_receive::laws::{
+    fronts_read_on, looking_back_goes_on, whole_streams_join, written_cells_are_held,
+};
+use mysql_values::laws::{cells_have_lengths, tokens_of_a_text};
+
+/// Text queries read as the sets whose values they carry.
+pub fn queries_read()
+    ensures { SentPayloadsRead roads.Text }
+{
+    looking_back_goes_on();
+}
+
+/// A prepare and executions, with long data before those that need it, read as the sets whose values they carry.
+pub fn executions_read()
+    ensures { SentPayloadsRead roads.Execute }
+{
+    looking_back_goes_on();
+    written_cells_are_held();
+}
+
+/// A bulk request takes as many bytes as are counted for its part.
+pub fn requests_have_their_size()
+    ensures { RequestsHaveTheirSize }
+{
+    cells_have_lengths();
+}
+
+/// Each payload that is sent of sets without a cause has at most `limit - 4` bytes.
+pub fn sent_payloads_fit()
+    ensures { SentPayloadsFit }
+{
+    requests_have_their_size();
+}
+
+/// A prepare and bulk requests read as the sets whose values they carry.
+pub fn requests_read()
+    ensures { SentPayloadsRead roads.Bulk }
+{
+    looking_back_goes_on();
+    written_cells_are_held();
+    cells_have_lengths();
+    types_in_force_serve();
+}
+
+/// A query and an id have one statement.
+pub fn statements_are_one()
+    ensures { OneStatement }
+{
+    tokens_of_a_text();
+}
+
+/// Values that were sent are carried by what was appended, whichever sets gave them.
+pub fn sent_values_are_carried()
+    ensures { SentValuesAreCarried }
+{
+    queries_read();
+    executions_read();
+    requests_read();
+}
+
+/// Sets that were sent are read back, each front of their stream reads as the sets that stand whole
+/// in it, and by bulk no requests could be fewer.
+pub fn sent_sets_are_delivered()
+    ensures { SentSetsAreDelivered }
+{
+    queries_read();
+    executions_read();
+    requests_read();
+    sent_values_are_carried();
+    fronts_read_on();
+    tokens_of_a_text();
+    tight_typed_has_fewest();
+}
+
+/// Parameter sets mean what each of them means by itself, as `bind_text` goes by it.
+pub fn sets_mean_each()
+    ensures { SetsMeanEach }
+{}
+
+/// Sets that are appended behind others, each by whichever road, read as all of them one after
+/// another: parameter sets or lists of objects behind either.
+pub fn sent_streams_join()
+    ensures { SentStreamsJoin }
+{
+    tokens_of_a_text();
+    whole_streams_join();
+}
+
+/// Sets that give a query the same read as the same contents, by whichever road they are sent: the
+/// same parameter sets, the same lists of objects, or lists of objects and the parameter sets that
+/// are made of them.
+pub fn roads_read_equally()
+    ensures { RoadsReadEqually }
+{
+    tokens_of_a_text();
+}

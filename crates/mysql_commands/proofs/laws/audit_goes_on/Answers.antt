@@ -1,5 +1,0 @@
-use Rattle.mysql_commands.proofs.Auditing.{audits_append}
-use Rattle.mysql_commands.proofs.laws.audit_goes_on.Goals as goal
-
-pub returns : goal.returns
-returns _ = audits_append

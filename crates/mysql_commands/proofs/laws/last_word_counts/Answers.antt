@@ -1,5 +1,0 @@
-use Rattle.mysql_commands.proofs.Looking.{last_word}
-use Rattle.mysql_commands.proofs.laws.last_word_counts.Goals as goal
-
-pub returns : goal.returns
-returns c = last_word

@@ -1,7 +1,0 @@
-use Rattle.mysql_commands.proofs.Feeding.{takes_append, short_append, short_longer}
-use Rattle.mysql_commands.proofs.laws.pieces_are_taken.Goals as goal
-
-pub returns : goal.returns
-returns a c limit old mid new front back =
-    let wire = a.reader_laws.ensures in
-    (takes_append wire c limit old mid new front back, short_append wire c limit old mid new front back, short_longer wire c limit old new front back)

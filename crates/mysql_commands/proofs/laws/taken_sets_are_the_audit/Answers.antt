@@ -1,5 +1,0 @@
-use Rattle.mysql_commands.proofs.Taking.{taken_sets_are_the_audit}
-use Rattle.mysql_commands.proofs.laws.taken_sets_are_the_audit.Goals as goal
-
-pub returns : goal.returns
-returns c = taken_sets_are_the_audit c.reader_laws.ensures

@@ -1,5 +1,0 @@
-use Rattle.mysql_commands.specs.Views.{state_of}
-use Rattle.mysql_commands.proofs.step.on_command.Goals as goal
-
-pub returns-in-3-clause-judged : goal.returns-in-3-clause-judged
-returns-in-3-clause-judged c = rw c.in-3.is (c.text.ensures (state_of c.args.statement.now))

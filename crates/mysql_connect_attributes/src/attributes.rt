@@ -1,0 +1,315 @@
+//! The attributes of a connection.
+
+ghost use Rattle.std.specs.Prelude.{◌≡◌, IfOk, IfSome, List, None, [], length, map, IsOkUnless};
+ghost use Rattle.std.specs.Cow.{cow_slice_items};
+ghost use Rattle.std.specs.List.{flat_map};
+ghost use Rattle.std.specs.String.{string_bytes};
+ghost use Rattle.mysql_connect_attributes.specs.Attributes.{Attribute, attribute, attribute_at, attributes};
+ghost use Rattle.mysql_connect_attributes.specs.Attributes.{attributes_at, kept_attributes_at, with_attribute};
+ghost use Rattle.mysql_connect_attributes.specs.Attributes.{with_last_values};
+ghost use Rattle.mysql_connect_attributes.specs.AttributeViews.{attributes_view, lossy_attribute, lossy_text};
+ghost use Rattle.mysql_connect_attributes.specs.AttributeViews.{shown_attribute, text_attribute};
+ghost use Rattle.mysql_fields.specs.Laws.{unsized};
+ghost use Rattle.mysql_fields.specs.Wire.{Appends, GivesPart, TellsPart};
+ghost use Rattle.mysql_fields.specs.declared.error.WireError.TheVariants as wire;
+
+use bstr::ByteSlice;
+use indexmap::IndexMap;
+use mysql_buf::{BufMutExt, ParseBuf, lenenc_str_len};
+use mysql_fields::{
+    BytesRepr, LenEnc, MyDeserialize, MySerialize, ParseExt, RawBytes, RawInt, Readable, WireError,
+};
+use std::alloc::{AllocError, Global};
+use std::borrow::CowSlice;
+
+/// The attributes of a connection: each key once, in the order in which the keys first came, and
+/// with its last value. Keys are compared and hashed by their bytes.
+/// (MySQL: Client/Server Protocol, "Protocol::HandshakeResponse41".)
+///
+/// Reading is refused by `UnexpectedEof` where the total or the bytes that it counts are cut off, or
+/// where an attribute doesn't end within them, and by `Memory`.
+#[derive(Debug, PartialEq, Eq, Drop)]
+pub struct ConnectAttributes<'a> {
+    entries: IndexMap<RawBytes<'a, LenEnc>, RawBytes<'a, LenEnc>>,
+}
+
+impl<'a> ConnectAttributes<'a> {
+    // No attributes.
+    fn new(alloc: Global) -> ConnectAttributes<'a>
+        ensures { attributes_view result ≡ [] }
+    {
+        ConnectAttributes {
+            entries: IndexMap::new(alloc),
+        }
+    }
+
+    // Puts one more attribute.
+    fn put(
+        &mut self,
+        key: RawBytes<'a, LenEnc>,
+        value: RawBytes<'a, LenEnc>,
+    ) -> Result<(), AllocError>
+        ensures { IfOk result (λ _. attributes_view self.new ≡
+            with_attribute (attributes_view self.old) (shown_attribute (key.entry, value.entry))) }
+    {
+        self.entries.insert(key, value)?;
+        Ok(())
+    }
+
+    /// The attributes of these texts, which are moved and not copied. Refused for want of memory
+    /// alone.
+    pub fn from_texts(
+        alloc: Global,
+        texts: IndexMap<String, String>,
+    ) -> Result<ConnectAttributes<'a>, AllocError>
+        ensures { IfOk result (λ all. attributes_view all ≡ map text_attribute texts.entries) }
+    {
+        let mut all = ConnectAttributes::new(alloc);
+        for (key, value) in texts {
+            let key = RawBytes::new(CowSlice::Owned(key.into_bytes()));
+            let value = RawBytes::new(CowSlice::Owned(value.into_bytes()));
+            all.put(key, value)?;
+        }
+        Ok(all)
+    }
+
+    /// The same attributes, which borrow nothing. Refused for want of memory alone.
+    pub fn into_owned(self, alloc: Global) -> Result<ConnectAttributes<'static>, AllocError>
+        ensures { IfOk result (λ all. attributes_view all ≡ attributes_view self.entry) }
+    {
+        let mut all = ConnectAttributes::new(alloc);
+        for (key, value) in self.entries {
+            all.put_owned(alloc, key, value)?;
+        }
+        Ok(all)
+    }
+
+    /// A copy of the attributes, which borrows nothing. Refused for want of memory alone.
+    pub fn clone(&self, alloc: Global) -> Result<ConnectAttributes<'static>, AllocError>
+        ensures { IfOk result (λ all. attributes_view all ≡ attributes_view self.now) }
+    {
+        let mut all = ConnectAttributes::new(alloc);
+        for (key, value) in &self.entries {
+            all.put_copy(alloc, key, value)?;
+        }
+        Ok(all)
+    }
+
+    /// The attributes as texts, where bytes that aren't UTF-8 are replaced. Of keys with the same
+    /// text the first one's place and the last one's value stay. Refused for want of memory alone.
+    pub fn texts(&self, alloc: Global) -> Result<IndexMap<String, String>, WireError>
+        ensures memory { IsOkUnless result wire.Memory }
+        ensures value { IfOk result (λ texts. map text_attribute texts.entries ≡
+            with_last_values (map lossy_attribute (attributes_view self.now))) }
+    {
+        let mut texts = IndexMap::new(alloc);
+        for (key, value) in &self.entries {
+            put_lossy(alloc, &mut texts, key.0.as_slice(), value.0.as_slice())?;
+        }
+        Ok(texts)
+    }
+}
+
+impl ConnectAttributes<'static> {
+    // Puts one more attribute, which then borrows nothing.
+    fn put_owned(
+        &mut self,
+        alloc: Global,
+        key: RawBytes<LenEnc>,
+        value: RawBytes<LenEnc>,
+    ) -> Result<(), AllocError>
+        ensures { IfOk result (λ _. attributes_view self.new ≡
+            with_attribute (attributes_view self.old) (shown_attribute (key.entry, value.entry))) }
+    {
+        let (key, value) = owned_pair(alloc, key, value)?;
+        self.put(key, value)
+    }
+
+    // Puts a copy of one more attribute.
+    fn put_copy(
+        &mut self,
+        alloc: Global,
+        key: &RawBytes<LenEnc>,
+        value: &RawBytes<LenEnc>,
+    ) -> Result<(), AllocError>
+        ensures { IfOk result (λ _. attributes_view self.new ≡
+            with_attribute (attributes_view self.old) (shown_attribute (key.now, value.now))) }
+    {
+        let (key, value) = copied_pair(alloc, key, value)?;
+        self.put(key, value)
+    }
+}
+
+/// Two texts of a packet, which borrow nothing: of an attribute, or of a user and a database. Refused for
+/// want of memory alone.
+pub fn owned_pair<T: BytesRepr, U: BytesRepr>(
+    alloc: Global,
+    first: RawBytes<T>,
+    second: RawBytes<U>,
+) -> Result<(RawBytes<'static, T>, RawBytes<'static, U>), AllocError>
+    ensures first { IfOk result (λ owned. cow_slice_items owned.0.0 ≡ cow_slice_items first.entry.0) }
+    ensures second { IfOk result (λ owned. cow_slice_items owned.1.0 ≡ cow_slice_items second.entry.0) }
+{
+    let first = first.into_owned(alloc)?;
+    let second = second.into_owned(alloc)?;
+    Ok((first, second))
+}
+
+/// Copies of two texts of a packet, which borrow nothing. Refused for want of memory alone.
+pub fn copied_pair<T: BytesRepr, U: BytesRepr>(
+    alloc: Global,
+    first: &RawBytes<T>,
+    second: &RawBytes<U>,
+) -> Result<(RawBytes<'static, T>, RawBytes<'static, U>), AllocError>
+    ensures first { IfOk result (λ copy. cow_slice_items copy.0.0 ≡ cow_slice_items first.now.0) }
+    ensures second { IfOk result (λ copy. cow_slice_items copy.1.0 ≡ cow_slice_items second.now.0) }
+{
+    let first = first.clone(alloc)?;
+    let second = second.clone(alloc)?;
+    Ok((first, second))
+}
+
+// Bytes as text, where bytes that aren't UTF-8 are replaced.
+fn lossy(alloc: Global, bytes: &[u8]) -> Result<String, AllocError>
+    ensures { IfOk result (λ text. string_bytes text ≡ lossy_text bytes.now) }
+{
+    bytes.to_str_lossy(alloc)?.into_owned(alloc)
+}
+
+// Puts one more attribute.
+fn put_text(
+    texts: &mut IndexMap<String, String>,
+    key: String,
+    value: String,
+) -> Result<(), AllocError>
+    ensures { IfOk result (λ _. map text_attribute texts.new.entries ≡
+        with_attribute (map text_attribute texts.old.entries) (text_attribute (key, value))) }
+{
+    texts.insert(key, value)?;
+    Ok(())
+}
+
+// Puts one more attribute as texts.
+fn put_lossy(
+    alloc: Global,
+    texts: &mut IndexMap<String, String>,
+    key: &[u8],
+    value: &[u8],
+) -> Result<(), AllocError>
+    ensures { IfOk result (λ _. map text_attribute texts.new.entries ≡
+        with_attribute (map text_attribute texts.old.entries)
+        (lossy_attribute (key.now, value.now))) }
+{
+    let key = lossy(alloc, key)?;
+    let value = lossy(alloc, value)?;
+    put_text(texts, key, value)
+}
+
+// The attribute that stands first.
+#[tactic(auto, unfolding(crate::specs::Attributes::attribute_at))]
+fn parse_attribute<'de>(
+    alloc: Global,
+    rest: &mut ParseBuf<'de>,
+) -> Result<(RawBytes<'de, LenEnc>, RawBytes<'de, LenEnc>), WireError>
+    ensures { TellsPart shown_attribute rest.new.0.now result (attribute_at rest.old.0.now) }
+{
+    let key = rest.parse(alloc, ())?;
+    let value = rest.parse(alloc, ())?;
+    Ok((key, value))
+}
+
+// The attributes that stand one after another to the end.
+fn parse_all<'de>(
+    alloc: Global,
+    mut pairs: ParseBuf<'de>,
+) -> Result<ConnectAttributes<'de>, WireError>
+    ensures { GivesPart attributes_view [] result (kept_attributes_at pairs.entry.0.now) }
+{
+    let mut all = ConnectAttributes::new(alloc);
+    while !pairs.is_empty() {
+        let (key, value) = parse_attribute(alloc, &mut pairs)?;
+        all.put(key, value)?;
+    }
+    Ok(all)
+}
+
+impl<'a> Readable for ConnectAttributes<'a> {
+    type Ctx = ();
+
+    ghost SIZE = { None };
+
+    ghost Shown = { List Attribute };
+
+    ghost shown = { attributes_view };
+
+    ghost read_at = { λ _ bytes. attributes_at bytes };
+
+    ghost kept = { attributes_view };
+
+    ghost sized = { λ _. unsized attributes_at };
+
+    fn size() -> Option<usize>
+        ensures { result ≡ None }
+    {
+        None
+    }
+}
+
+#[tactic(auto, unfolding(crate::specs::Attributes::attributes_at))]
+impl<'de> MyDeserialize<'de> for ConnectAttributes<'de> {
+    fn deserialize(
+        alloc: Global,
+        _ctx: (),
+        buf: &mut ParseBuf<'de>,
+    ) -> Result<ConnectAttributes<'de>, WireError> {
+        let mut rest = *buf;
+        let total: RawInt<LenEnc> = rest.parse(alloc, ())?;
+        let pairs: &'de [u8] = rest.parse(alloc, total.0 as usize)?;
+        let all = parse_all(alloc, ParseBuf(pairs))?;
+        *buf = rest;
+        Ok(all)
+    }
+}
+
+// How many bytes these attributes take, where 64 bits can say it.
+fn bytes_of_all(all: &ConnectAttributes) -> Option<u64>
+    ensures { IfSome result (λ total. total ≡ length (flat_map attribute (attributes_view all.now))) }
+{
+    let mut total: u64 = 0;
+    for (key, value) in &all.entries {
+        total = total.checked_add(lenenc_str_len(key.0.as_slice()))?;
+        total = total.checked_add(lenenc_str_len(value.0.as_slice()))?;
+    }
+    Some(total)
+}
+
+// Appends all attributes or none.
+fn put_all(all: &ConnectAttributes, buf: &mut Vec<u8>) -> Result<(), AllocError>
+    ensures { Appends result buf.old.items buf.new.items (flat_map attribute (attributes_view all.now)) }
+{
+    let len = buf.len();
+    for one in &all.entries {
+        if let Err(e) = one.serialize(buf) {
+            buf.truncate(len);
+            return Err(e);
+        }
+    }
+    Ok(())
+}
+
+impl<'a> MySerialize for ConnectAttributes<'a> {
+    ghost written = { λ all. attributes (attributes_view all) };
+
+    fn serialize(&self, buf: &mut Vec<u8>) -> Result<(), AllocError> {
+        let Some(total) = bytes_of_all(self) else {
+            return Err(AllocError);
+        };
+        let len = buf.len();
+        buf.put_lenenc_int(total)?;
+        let answer = put_all(self, buf);
+        if answer.is_err() {
+            buf.truncate(len);
+        }
+        answer
+    }
+}

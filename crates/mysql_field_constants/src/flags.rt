@@ -1,0 +1,51 @@
+//! The sets of flags that are read with named bits alone, as values by their bits.
+
+ghost use Rattle.std.specs.Prelude.{◌≡◌, true};
+ghost use Rattle.mysql_const.specs.BinlogDumpFlags.{binlog_dump_flags};
+ghost use Rattle.mysql_const.specs.StatusFlags.{status_flags};
+ghost use Rattle.mysql_field_constants.specs.FlagLaws.{flags_named-back};
+ghost use Rattle.mysql_field_constants.specs.Flags.{are_named, binlog_dump_named, status_named};
+
+use crate::consts::ConstValue;
+use bitflags::Flags;
+use mysql_const::{BinlogDumpFlags, StatusFlags};
+
+impl ConstValue for StatusFlags {
+    type Number = u16;
+
+    ghost number = { λ flags. flags.0 };
+
+    ghost named = { status_named };
+
+    ghost IsNamed = { λ flags. are_named status_flags flags.0 ≡ true };
+
+    ghost names_back = { λ flags. flags_named-back status_flags (λ b. record { 0 = b }) flags.0 };
+
+    fn to_number(self) -> u16 {
+        self.0
+    }
+
+    fn from_number(n: u16) -> Option<StatusFlags> {
+        StatusFlags::from_bits(n)
+    }
+}
+
+impl ConstValue for BinlogDumpFlags {
+    type Number = u16;
+
+    ghost number = { λ flags. flags.0 };
+
+    ghost named = { binlog_dump_named };
+
+    ghost IsNamed = { λ flags. are_named binlog_dump_flags flags.0 ≡ true };
+
+    ghost names_back = { λ flags. flags_named-back binlog_dump_flags (λ b. record { 0 = b }) flags.0 };
+
+    fn to_number(self) -> u16 {
+        self.0
+    }
+
+    fn from_number(n: u16) -> Option<BinlogDumpFlags> {
+        BinlogDumpFlags::from_bits(n)
+    }
+}

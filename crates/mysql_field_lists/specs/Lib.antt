@@ -1,0 +1,5 @@
+pub mod ElementLaws
+pub mod ListLaws
+pub mod Lists
+pub mod NullBitmap
+pub mod NullBits

@@ -1,0 +1,5 @@
+pub mod Forms
+pub mod Laws
+pub mod Wire
+pub mod TextLaws
+pub mod Texts

@@ -1,0 +1,651 @@
+//! Representations of whole numbers.
+
+ghost use Rattle.std.specs.Prelude.{◌≡◌, ◌%◌, ◌<◌, ◌^◌, List, None, Ok, Option, Some, ◌++◌, false, length, ℕ};
+ghost use Rattle.std.specs.Int.{cast_unsigned, w8, w16, w32, w64};
+ghost use Rattle.byteorder.specs.Endian.{little_bytes};
+ghost use Rattle.mysql_buf.specs.Laws.{FitsBytes};
+ghost use Rattle.mysql_buf.specs.Varlen.{varlen};
+ghost use Rattle.mysql_buf.specs.Writing.{lenenc_int};
+ghost use Rattle.mysql_fields.specs.Forms.{lenenc_number_at, fixed_number_at, signed_at, upper_half, upper_half_at};
+ghost use Rattle.mysql_fields.specs.Forms.{varlen_number_at};
+ghost use Rattle.mysql_fields.specs.Laws.{lenenc_number_at-back, fixed_number_at-back, fixed_number_at-sized};
+ghost use Rattle.mysql_fields.specs.Laws.{signed_16-back, signed_24-back, signed_32-back, signed_56-back};
+ghost use Rattle.mysql_fields.specs.Laws.{signed_64-back, signed_8-back, signed_at-sized, unsized, upper_half_at-back};
+ghost use Rattle.mysql_fields.specs.Laws.{upper_half_at-sized, varlen_number_at-back};
+ghost use Rattle.mysql_fields.specs.Wire.{Appends, IsSized, Reading, Suffices, Tells};
+
+use crate::WireError;
+use crate::io::{MyDeserialize, MySerialize, Readable, ReadsBack};
+use bytes::BufMut;
+use mysql_buf::{BufMutExt, ParseBuf, read_varlen_uint, write_varlen_uint};
+use std::alloc::{AllocError, Global};
+use std::fmt;
+use std::marker::PhantomData;
+
+/// A representation of whole numbers.
+/// (MySQL: Client/Server Protocol, "Protocol Basics: Integer Types".)
+pub trait IntRepr {
+    /// The type of the numbers.
+    type Primitive: Copy;
+
+    /// The number of bytes that are needed and eaten, where it is the same for all numbers.
+    const SIZE: Option<usize>;
+
+    ghost SIZE: { Option ℕ };
+
+    // the numbers that are read back
+    ghost IsKept: { Self.Primitive → Type 0 };
+
+    // the bytes that are written of a number
+    ghost written: { Self.Primitive → List ℕ };
+
+    // what reading answers, of every list of bytes
+    ghost read_at: { List ℕ → Reading Self.Primitive };
+
+    /// Appends a number. Refused for want of memory alone, and the buffer is then as it was.
+    fn serialize(number: Self::Primitive, buf: &mut Vec<u8>) -> Result<(), AllocError>
+        ensures { Appends result buf.old.items buf.new.items (written number) };
+
+    /// Reads the number that stands first. Refused by `UnexpectedEof` where it is cut off; all
+    /// bytes are then left.
+    fn deserialize(buf: &mut ParseBuf) -> Result<Self::Primitive, WireError>
+        requires { Suffices SIZE (length buf.old.0.now) }
+        ensures { Tells (λ x. x) buf.old.0.now buf.new.0.now result (read_at buf.old.0.now) };
+
+    // where there is a size, that many bytes are needed and eaten
+    ghost sized: { IsSized SIZE read_at };
+
+    ghost reads_back: { (x : Self.Primitive) (rest : List ℕ) → IsKept x → read_at (written x ++ rest) ≡ Ok (x, rest) };
+}
+
+/// A number in the representation `T`.
+#[derive(Drop)]
+#[derive_where(Clone)]
+#[derive_where(Default, PartialEq, Eq, Hash; T::Primitive)]
+pub struct RawInt<T: IntRepr>(pub T::Primitive, PhantomData<T>);
+
+impl<T: IntRepr> RawInt<T> {
+    /// A number that is to be written.
+    pub fn new(number: T::Primitive) -> RawInt<T>
+        ensures { result.0 ≡ number }
+    {
+        RawInt(number, PhantomData)
+    }
+
+    /// The number.
+    pub fn get(&self) -> T::Primitive
+        ensures { result ≡ self.now.0 }
+    {
+        self.0
+    }
+}
+
+/// Shows the number.
+impl<T: IntRepr> fmt::Debug for RawInt<T>
+where
+    T::Primitive: fmt::Debug,
+{
+    fn fmt<W: fmt::Write>(&self, f: &mut fmt::Formatter<W>) -> fmt::Result {
+        self.0.fmt(f)
+    }
+}
+
+impl<T: IntRepr> MySerialize for RawInt<T> {
+    ghost written = { λ x. T.written x.0 };
+
+    fn serialize(&self, buf: &mut Vec<u8>) -> Result<(), AllocError> {
+        T::serialize(self.0, buf)
+    }
+}
+
+impl<T: IntRepr> Readable for RawInt<T> {
+    fn size() -> Option<usize> {
+        T::SIZE
+    }
+
+    type Ctx = ();
+
+    ghost SIZE = { T.SIZE };
+
+    ghost AsksForMemory = { false };
+
+    ghost Shown = { T.Primitive };
+
+    ghost shown = { λ x. x.0 };
+
+    ghost kept = { λ x. x.0 };
+
+    ghost read_at = { λ _ bytes. T.read_at bytes };
+
+    ghost IsReadBack = { λ _ x _. T.IsKept x.0 };
+
+    ghost sized = { λ _. T.sized };
+}
+
+impl<T: IntRepr> ReadsBack for RawInt<T> {
+    ghost reads_back = { λ _ x rest. T.reads_back x.0 rest };
+}
+
+impl<'de, T: IntRepr> MyDeserialize<'de> for RawInt<T> {
+    fn deserialize(
+        _alloc: Global,
+        _ctx: (),
+        buf: &mut ParseBuf<'de>,
+    ) -> Result<RawInt<T>, WireError> {
+        let number = T::deserialize(buf)?;
+        Ok(RawInt(number, PhantomData))
+    }
+}
+
+/// One byte.
+impl IntRepr for u8 {
+    type Primitive = u8;
+
+    const SIZE: Option<usize> = Some(1);
+
+    ghost SIZE = { Some 1 };
+
+    ghost IsKept = { λ x. x < 2 ^ 8 };
+
+    ghost written = { little_bytes 1 };
+
+    ghost read_at = { fixed_number_at 1 };
+
+    ghost sized = { fixed_number_at-sized 1 };
+
+    ghost reads_back = { fixed_number_at-back 1 };
+
+    fn serialize(number: u8, buf: &mut Vec<u8>) -> Result<(), AllocError> {
+        buf.put_u8(number)
+    }
+
+    fn deserialize(buf: &mut ParseBuf) -> Result<u8, WireError> {
+        Ok(buf.eat_u8())
+    }
+}
+
+/// One byte in two's complement.
+impl IntRepr for i8 {
+    type Primitive = i8;
+
+    const SIZE: Option<usize> = Some(1);
+
+    ghost SIZE = { Some 1 };
+
+    ghost IsKept = { FitsBytes 1 };
+
+    ghost written = { λ z. little_bytes 1 (cast_unsigned w8 z) };
+
+    ghost read_at = { signed_at 1 };
+
+    ghost sized = { signed_at-sized 1 };
+
+    ghost reads_back = { signed_8-back };
+
+    fn serialize(number: i8, buf: &mut Vec<u8>) -> Result<(), AllocError> {
+        buf.put_i8(number)
+    }
+
+    fn deserialize(buf: &mut ParseBuf) -> Result<i8, WireError> {
+        Ok(buf.eat_i8())
+    }
+}
+
+/// Two bytes, lowest first.
+#[derive(Clone, Copy, Debug, PartialEq, Eq)]
+pub struct LeU16;
+
+impl IntRepr for LeU16 {
+    type Primitive = u16;
+
+    const SIZE: Option<usize> = Some(2);
+
+    ghost SIZE = { Some 2 };
+
+    ghost IsKept = { λ x. x < 2 ^ 16 };
+
+    ghost written = { little_bytes 2 };
+
+    ghost read_at = { fixed_number_at 2 };
+
+    ghost sized = { fixed_number_at-sized 2 };
+
+    ghost reads_back = { fixed_number_at-back 2 };
+
+    fn serialize(number: u16, buf: &mut Vec<u8>) -> Result<(), AllocError> {
+        buf.put_u16_le(number)
+    }
+
+    fn deserialize(buf: &mut ParseBuf) -> Result<u16, WireError> {
+        Ok(buf.eat_u16_le())
+    }
+}
+
+/// Two bytes in two's complement, lowest first.
+#[derive(Clone, Copy, Debug, PartialEq, Eq)]
+pub struct LeI16;
+
+impl IntRepr for LeI16 {
+    type Primitive = i16;
+
+    const SIZE: Option<usize> = Some(2);
+
+    ghost SIZE = { Some 2 };
+
+    ghost IsKept = { FitsBytes 2 };
+
+    ghost written = { λ z. little_bytes 2 (cast_unsigned w16 z) };
+
+    ghost read_at = { signed_at 2 };
+
+    ghost sized = { signed_at-sized 2 };
+
+    ghost reads_back = { signed_16-back };
+
+    fn serialize(number: i16, buf: &mut Vec<u8>) -> Result<(), AllocError> {
+        buf.put_i16_le(number)
+    }
+
+    fn deserialize(buf: &mut ParseBuf) -> Result<i16, WireError> {
+        Ok(buf.eat_i16_le())
+    }
+}
+
+/// The low three bytes, lowest first.
+#[derive(Clone, Copy, Debug, PartialEq, Eq)]
+pub struct LeU24;
+
+impl IntRepr for LeU24 {
+    type Primitive = u32;
+
+    const SIZE: Option<usize> = Some(3);
+
+    ghost SIZE = { Some 3 };
+
+    ghost IsKept = { λ x. x < 2 ^ 24 };
+
+    ghost written = { little_bytes 3 };
+
+    ghost read_at = { fixed_number_at 3 };
+
+    ghost sized = { fixed_number_at-sized 3 };
+
+    ghost reads_back = { fixed_number_at-back 3 };
+
+    fn serialize(number: u32, buf: &mut Vec<u8>) -> Result<(), AllocError> {
+        buf.put_u24_le(number)
+    }
+
+    fn deserialize(buf: &mut ParseBuf) -> Result<u32, WireError> {
+        Ok(buf.eat_u24_le())
+    }
+}
+
+/// The low three bytes in two's complement, lowest first.
+#[derive(Clone, Copy, Debug, PartialEq, Eq)]
+pub struct LeI24;
+
+impl IntRepr for LeI24 {
+    type Primitive = i32;
+
+    const SIZE: Option<usize> = Some(3);
+
+    ghost SIZE = { Some 3 };
+
+    ghost IsKept = { FitsBytes 3 };
+
+    ghost written = { λ z. little_bytes 3 (cast_unsigned w32 z) };
+
+    ghost read_at = { signed_at 3 };
+
+    ghost sized = { signed_at-sized 3 };
+
+    ghost reads_back = { signed_24-back };
+
+    fn serialize(number: i32, buf: &mut Vec<u8>) -> Result<(), AllocError> {
+        buf.put_i24_le(number)
+    }
+
+    fn deserialize(buf: &mut ParseBuf) -> Result<i32, WireError> {
+        Ok(buf.eat_i24_le())
+    }
+}
+
+/// Four bytes, lowest first.
+#[derive(Clone, Copy, Debug, PartialEq, Eq)]
+pub struct LeU32;
+
+impl IntRepr for LeU32 {
+    type Primitive = u32;
+
+    const SIZE: Option<usize> = Some(4);
+
+    ghost SIZE = { Some 4 };
+
+    ghost IsKept = { λ x. x < 2 ^ 32 };
+
+    ghost written = { little_bytes 4 };
+
+    ghost read_at = { fixed_number_at 4 };
+
+    ghost sized = { fixed_number_at-sized 4 };
+
+    ghost reads_back = { fixed_number_at-back 4 };
+
+    fn serialize(number: u32, buf: &mut Vec<u8>) -> Result<(), AllocError> {
+        buf.put_u32_le(number)
+    }
+
+    fn deserialize(buf: &mut ParseBuf) -> Result<u32, WireError> {
+        Ok(buf.eat_u32_le())
+    }
+}
+
+/// Four bytes in two's complement, lowest first.
+#[derive(Clone, Copy, Debug, PartialEq, Eq)]
+pub struct LeI32;
+
+impl IntRepr for LeI32 {
+    type Primitive = i32;
+
+    const SIZE: Option<usize> = Some(4);
+
+    ghost SIZE = { Some 4 };
+
+    ghost IsKept = { FitsBytes 4 };
+
+    ghost written = { λ z. little_bytes 4 (cast_unsigned w32 z) };
+
+    ghost read_at = { signed_at 4 };
+
+    ghost sized = { signed_at-sized 4 };
+
+    ghost reads_back = { signed_32-back };
+
+    fn serialize(number: i32, buf: &mut Vec<u8>) -> Result<(), AllocError> {
+        buf.put_i32_le(number)
+    }
+
+    fn deserialize(buf: &mut ParseBuf) -> Result<i32, WireError> {
+        Ok(buf.eat_i32_le())
+    }
+}
+
+/// The low six bytes, lowest first.
+#[derive(Clone, Copy, Debug, PartialEq, Eq)]
+pub struct LeU48;
+
+impl IntRepr for LeU48 {
+    type Primitive = u64;
+
+    const SIZE: Option<usize> = Some(6);
+
+    ghost SIZE = { Some 6 };
+
+    ghost IsKept = { λ x. x < 2 ^ 48 };
+
+    ghost written = { little_bytes 6 };
+
+    ghost read_at = { fixed_number_at 6 };
+
+    ghost sized = { fixed_number_at-sized 6 };
+
+    ghost reads_back = { fixed_number_at-back 6 };
+
+    fn serialize(number: u64, buf: &mut Vec<u8>) -> Result<(), AllocError> {
+        buf.put_u48_le(number)
+    }
+
+    fn deserialize(buf: &mut ParseBuf) -> Result<u64, WireError> {
+        Ok(buf.eat_u48_le())
+    }
+}
+
+/// The low seven bytes, lowest first.
+#[derive(Clone, Copy, Debug, PartialEq, Eq)]
+pub struct LeU56;
+
+impl IntRepr for LeU56 {
+    type Primitive = u64;
+
+    const SIZE: Option<usize> = Some(7);
+
+    ghost SIZE = { Some 7 };
+
+    ghost IsKept = { λ x. x < 2 ^ 56 };
+
+    ghost written = { little_bytes 7 };
+
+    ghost read_at = { fixed_number_at 7 };
+
+    ghost sized = { fixed_number_at-sized 7 };
+
+    ghost reads_back = { fixed_number_at-back 7 };
+
+    fn serialize(number: u64, buf: &mut Vec<u8>) -> Result<(), AllocError> {
+        buf.put_u56_le(number)
+    }
+
+    fn deserialize(buf: &mut ParseBuf) -> Result<u64, WireError> {
+        Ok(buf.eat_u56_le())
+    }
+}
+
+/// The low seven bytes in two's complement, lowest first.
+#[derive(Clone, Copy, Debug, PartialEq, Eq)]
+pub struct LeI56;
+
+impl IntRepr for LeI56 {
+    type Primitive = i64;
+
+    const SIZE: Option<usize> = Some(7);
+
+    ghost SIZE = { Some 7 };
+
+    ghost IsKept = { FitsBytes 7 };
+
+    ghost written = { λ z. little_bytes 7 (cast_unsigned w64 z) };
+
+    ghost read_at = { signed_at 7 };
+
+    ghost sized = { signed_at-sized 7 };
+
+    ghost reads_back = { signed_56-back };
+
+    fn serialize(number: i64, buf: &mut Vec<u8>) -> Result<(), AllocError> {
+        buf.put_i56_le(number)
+    }
+
+    fn deserialize(buf: &mut ParseBuf) -> Result<i64, WireError> {
+        Ok(buf.eat_i56_le())
+    }
+}
+
+/// Eight bytes, lowest first.
+#[derive(Clone, Copy, Debug, PartialEq, Eq)]
+pub struct LeU64;
+
+impl IntRepr for LeU64 {
+    type Primitive = u64;
+
+    const SIZE: Option<usize> = Some(8);
+
+    ghost SIZE = { Some 8 };
+
+    ghost IsKept = { λ x. x < 2 ^ 64 };
+
+    ghost written = { little_bytes 8 };
+
+    ghost read_at = { fixed_number_at 8 };
+
+    ghost sized = { fixed_number_at-sized 8 };
+
+    ghost reads_back = { fixed_number_at-back 8 };
+
+    fn serialize(number: u64, buf: &mut Vec<u8>) -> Result<(), AllocError> {
+        buf.put_u64_le(number)
+    }
+
+    fn deserialize(buf: &mut ParseBuf) -> Result<u64, WireError> {
+        Ok(buf.eat_u64_le())
+    }
+}
+
+/// Eight bytes in two's complement, lowest first.
+#[derive(Clone, Copy, Debug, PartialEq, Eq)]
+pub struct LeI64;
+
+impl IntRepr for LeI64 {
+    type Primitive = i64;
+
+    const SIZE: Option<usize> = Some(8);
+
+    ghost SIZE = { Some 8 };
+
+    ghost IsKept = { FitsBytes 8 };
+
+    ghost written = { λ z. little_bytes 8 (cast_unsigned w64 z) };
+
+    ghost read_at = { signed_at 8 };
+
+    ghost sized = { signed_at-sized 8 };
+
+    ghost reads_back = { signed_64-back };
+
+    fn serialize(number: i64, buf: &mut Vec<u8>) -> Result<(), AllocError> {
+        buf.put_i64_le(number)
+    }
+
+    fn deserialize(buf: &mut ParseBuf) -> Result<i64, WireError> {
+        Ok(buf.eat_i64_le())
+    }
+}
+
+/// The two low bytes of a number of four, lowest first. What is read has no other bytes.
+#[derive(Clone, Copy, Debug, PartialEq, Eq)]
+pub struct LeU32LowerHalf;
+
+impl IntRepr for LeU32LowerHalf {
+    type Primitive = u32;
+
+    const SIZE: Option<usize> = Some(2);
+
+    ghost SIZE = { Some 2 };
+
+    ghost IsKept = { λ x. x < 2 ^ 16 };
+
+    ghost written = { little_bytes 2 };
+
+    ghost read_at = { fixed_number_at 2 };
+
+    ghost sized = { fixed_number_at-sized 2 };
+
+    ghost reads_back = { fixed_number_at-back 2 };
+
+    fn serialize(number: u32, buf: &mut Vec<u8>) -> Result<(), AllocError> {
+        buf.put_u16_le((number & 0xffff) as u16)
+    }
+
+    fn deserialize(buf: &mut ParseBuf) -> Result<u32, WireError> {
+        Ok(u32::from(buf.eat_u16_le()))
+    }
+}
+
+/// The two high bytes of a number of four, lowest first. What is read has no other bytes.
+#[derive(Clone, Copy, Debug, PartialEq, Eq)]
+pub struct LeU32UpperHalf;
+
+impl IntRepr for LeU32UpperHalf {
+    type Primitive = u32;
+
+    const SIZE: Option<usize> = Some(2);
+
+    ghost SIZE = { Some 2 };
+
+    ghost IsKept = { λ x. (x < 2 ^ 32) × (x % 2 ^ 16 ≡ 0) };
+
+    ghost written = { upper_half };
+
+    ghost read_at = { upper_half_at };
+
+    ghost sized = { upper_half_at-sized };
+
+    ghost reads_back = { upper_half_at-back };
+
+    fn serialize(number: u32, buf: &mut Vec<u8>) -> Result<(), AllocError> {
+        buf.put_u16_le((number >> 16) as u16)
+    }
+
+    fn deserialize(buf: &mut ParseBuf) -> Result<u32, WireError> {
+        Ok(u32::from(buf.eat_u16_le()) * 0x1_0000)
+    }
+}
+
+/// A length-encoded number; as a text, bytes after their length as such a number. After a first
+/// byte `fb` or `ff` the number is 0.
+/// (MySQL: Client/Server Protocol, "Protocol::LengthEncodedInteger".)
+#[derive(Clone, Copy, Debug, PartialEq, Eq)]
+pub struct LenEnc;
+
+impl IntRepr for LenEnc {
+    type Primitive = u64;
+
+    const SIZE: Option<usize> = None;
+
+    ghost SIZE = { None };
+
+    ghost IsKept = { λ x. x < 2 ^ 64 };
+
+    ghost written = { lenenc_int };
+
+    ghost read_at = { lenenc_number_at };
+
+    ghost sized = { unsized lenenc_number_at };
+
+    ghost reads_back = { lenenc_number_at-back };
+
+    fn serialize(number: u64, buf: &mut Vec<u8>) -> Result<(), AllocError> {
+        buf.put_lenenc_int(number)
+    }
+
+    fn deserialize(buf: &mut ParseBuf) -> Result<u64, WireError> {
+        match buf.checked_eat_lenenc_int() {
+            Some(number) => Ok(number),
+            None => Err(WireError::UnexpectedEof),
+        }
+    }
+}
+
+/// A number of variable length; as a text, bytes after their length as such a number.
+/// (MySQL: Source Code Documentation, "mysql::serialization", "Variable-length integer".)
+#[derive(Clone, Copy, Debug, PartialEq, Eq)]
+pub struct VarLen;
+
+impl IntRepr for VarLen {
+    type Primitive = u64;
+
+    const SIZE: Option<usize> = None;
+
+    ghost SIZE = { None };
+
+    ghost IsKept = { λ x. x < 2 ^ 64 };
+
+    ghost written = { varlen };
+
+    ghost read_at = { varlen_number_at };
+
+    ghost sized = { unsized varlen_number_at };
+
+    ghost reads_back = { varlen_number_at-back };
+
+    fn serialize(number: u64, buf: &mut Vec<u8>) -> Result<(), AllocError> {
+        write_varlen_uint(buf, number)
+    }
+
+    fn deserialize(buf: &mut ParseBuf) -> Result<u64, WireError> {
+        match read_varlen_uint(buf) {
+            Some(number) => Ok(number),
+            None => Err(WireError::UnexpectedEof),
+        }
+    }
+}

@@ -1,0 +1,21 @@
+//! The fields of packets: how numbers and texts are written as bytes and read from them, and why bytes are no field.
+#![tactic(auto)]
+
+mod compared;
+mod error;
+mod int;
+mod io;
+mod plain;
+mod texts;
+
+pub use crate::error::{InvalidLengthEncodedInteger, WireError};
+pub use crate::int::{
+    IntRepr, LeI16, LeI24, LeI32, LeI56, LeI64, LeU16, LeU24, LeU32, LeU32LowerHalf,
+    LeU32UpperHalf, LeU48, LeU56, LeU64, LenEnc, RawInt, VarLen,
+};
+pub use crate::io::{MyDeserialize, MySerialize, ParseExt, Readable, ReadsBack};
+pub use crate::plain::{Binary, Text};
+pub use crate::texts::{
+    BareBytes, BareU8Bytes, BareU16Bytes, BytesRepr, EofBytes, FixedLengthText, NullBytes,
+    RawBytes, U8Bytes, U32Bytes,
+};

@@ -1,9 +1,0 @@
-use Rattle.std.proofs.Common.{ap, sym, ◌∙◌}
-use Rattle.std.specs.Option.{option_map}
-use Rattle.mysql_lent_rows.specs.LentRows.{lent_view}
-use Rattle.mysql_lent_rows.proofs.KeptRows.{rows_from}
-use Rattle.mysql_lent_rows.proofs.stored_iter.StoredIterIterator.next.Goals as goal
-
-pub returns-clause-steps : goal.returns-clause-steps
-returns-clause-steps c =
-    rows_from c.args.self.now.stored.now.rows c.args.self.now.next (lent_view c.in_ok-row.row) (sym c.row.ensures ∙ ap (option_map lent_view) c.in_ok-row.was)

@@ -1,2 +1,0 @@
-pub mod NullBitmap
-pub mod NullBits

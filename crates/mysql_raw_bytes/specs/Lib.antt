@@ -1,2 +1,0 @@
-pub mod TextLaws
-pub mod Texts

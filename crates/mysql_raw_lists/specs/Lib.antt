@@ -1,3 +1,0 @@
-pub mod ElementLaws
-pub mod ListLaws
-pub mod Lists

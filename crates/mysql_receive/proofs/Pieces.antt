@@ -1,0 +1,52 @@
+-- What waits for the places, as a list of places.
+use Rattle.std.proofs.Common.{◌≡◌, ℕ, zero, suc, ◌<◌, ◌⊎◌, cond, List, [], ◌∷◌, ◌++◌, length, set, get_or, Option, Some, None, refl, sym, ap, ◌∙◌, arith, inl, inr}
+use Rattle.std.specs.Global.{Vec}
+use Rattle.std.specs.List.{slice_get}
+use Rattle.std.specs.Option.{option_map, option_and_then, option_to_list}
+use Rattle.std.proofs.lemmas.Bool.{cases_eq, eq-eqb, ne_eqb}
+use Rattle.std.proofs.lemmas.Option.{slice_get-get_or}
+use Rattle.mysql_receive.specs.InForce.{joined}
+use Rattle.mysql_receive.specs.Steps.{with_piece}
+use Rattle.mysql_receive.specs.Views.{piece_kept}
+
+get_same : {A : Type 0} (xs : List A) (i : ℕ) (x : A) → i < length xs → slice_get (set xs i x) i ≡ Some x
+get_same [] i x lt = absurd (omega arith)
+get_same (y ∷ ys) zero x lt = refl
+get_same (y ∷ ys) (suc i) x lt = get_same ys i x (omega arith)
+
+get_other : {A : Type 0} (xs : List A) (i k : ℕ) (x : A) → (i ≡ k → ⊥) → slice_get (set xs i x) k ≡ slice_get xs k
+get_other [] i k x n = refl
+get_other (y ∷ ys) zero zero x n = absurd (n refl)
+get_other (y ∷ ys) zero (suc k) x n = refl
+get_other (y ∷ ys) (suc i) zero x n = refl
+get_other (y ∷ ys) (suc i) (suc k) x n = get_other ys i k x (λ e. n (ap suc e))
+
+get_pushed : (xs : List (Option (Vec ℕ))) (k : ℕ) → piece_kept (xs ++ None ∷ []) k ≡ piece_kept xs k
+get_pushed [] zero = refl
+get_pushed [] (suc k) = refl
+get_pushed (x ∷ xs) zero = refl
+get_pushed (x ∷ xs) (suc k) = get_pushed xs k
+
+-- a place where nothing waits changes nothing
+pub pushed_none : (xs : List (Option (Vec ℕ))) → piece_kept (xs ++ None ∷ []) ≡ piece_kept xs
+pushed_none xs = λ i k. get_pushed xs k i
+
+pub none_kept : piece_kept [] ≡ (λ place. None)
+none_kept = refl
+
+-- more data for one place
+pub kept_set : (xs : List (Option (Vec ℕ))) (place : ℕ) (v : Vec ℕ) (bytes : List ℕ) (old : Option (Vec ℕ)) → place < length xs → get_or xs place None ≡ old
+    → Some v.items ≡ joined (option_to_list (option_map (λ piece. piece.items) old) ++ bytes ∷ []) → piece_kept (set xs place (Some v)) ≡ with_piece (piece_kept xs) place bytes
+kept_set xs place v bytes old lt here is = λ i k. at k (cases_eq place k) i
+  where
+    at : (k : ℕ) → ((place ≡ k) ⊎ (place ≡ k → ⊥)) → piece_kept (set xs place (Some v)) k ≡ with_piece (piece_kept xs) place bytes k
+    at k (inr other) =
+        ap (λ (o : Option (Option (Vec ℕ))). option_and_then (λ piece. option_map (λ bytes. bytes.items) piece) o) (get_other xs place k (Some v) other)
+        ∙ sym (ap (λ b. cond b (joined (option_to_list (piece_kept xs k) ++ bytes ∷ [])) (piece_kept xs k)) (ne_eqb place k other))
+    at k (inl same) =
+        ap (λ (n : ℕ). piece_kept (set xs place (Some v)) n) (sym same)
+        ∙ ap (λ (o : Option (Option (Vec ℕ))). option_and_then (λ piece. option_map (λ bytes. bytes.items) piece) o) (get_same xs place (Some v) lt)
+        ∙ is
+        ∙ ap (λ (o : Option (List ℕ)). joined (option_to_list o ++ bytes ∷ [])) (sym (ap (λ (o : Option (Option (Vec ℕ))). option_and_then (λ piece. option_map (λ bytes. bytes.items) piece) o) (slice_get-get_or xs place None lt) ∙ ap (λ (o : Option (Vec ℕ)). option_map (λ bytes. bytes.items) o) here))
+        ∙ ap (λ (n : ℕ). joined (option_to_list (piece_kept xs n) ++ bytes ∷ [])) same
+        ∙ sym (ap (λ b. cond b (joined (option_to_list (piece_kept xs k) ++ bytes ∷ [])) (piece_kept xs k)) (eq-eqb place k same))

@@ -1,0 +1,104 @@
+-- What a stream of commands says: its parameter sets, and how it ends.
+-- MySQL: Client/Server Protocol, "MySQL Packets" and "Command Phase".
+use Rattle.std.specs.Prelude.{◌≡◌, ℕ, ◌+◌, ◌<◌, ◌≤◌, ◌⊎◌, List, [], ◌∷◌, ◌++◌, length, take, slice_index_or}
+use Rattle.std.specs.Prelude.{if◌then◌else◌}
+use Rattle.std.specs.List.{concat, flat_map}
+use Rattle.mysql_values.specs.Tokens.{HasTokens}
+use Rattle.mysql_receive.specs.declared.fault.StreamFault.{StreamFault}
+use Rattle.mysql_receive.specs.declared.fault.StreamFault.TheVariants.{TooLarge, OutOfSync, Memory}
+use Rattle.mysql_receive.specs.declared.audit.End.{End}
+use Rattle.mysql_receive.specs.declared.audit.End.TheVariants.{Fault, WaitingPieces, UnfinishedPacket, Whole}
+use Rattle.mysql_receive.specs.Query.{Statement, statement_of}
+use Rattle.mysql_receive.specs.InForce.{StatementState, nothing_yet, state_after, is_waiting}
+use Rattle.mysql_receive.specs.Reading.{Set, ReadsAs, Faulty}
+use Rattle.mysql_wire.specs.Stream.{Rest, Split, IsSplit, IsFault}
+use Rattle.mysql_wire.specs.Stream.Rest.{Empty as EmptyRest, TooLarge as TooLargeRest, OutOfSync as OutOfSyncRest}
+use Rattle.mysql_wire.specs.Stream.Rest.{Open as OpenRest}
+use Rattle.mysql_wire.specs.Stream.Numbering.{EachFromZero}
+
+pub record Audit : Type 0 where
+  pub sets : List Set
+  pub ending : End
+
+-- the end where no payload is faulty: by the rest, and by the pieces that wait
+abbrev pub end_by_rest : Statement → StatementState → ℕ → Rest → End
+end_by_rest c s count TooLargeRest = Fault count TooLarge
+end_by_rest c s count OutOfSyncRest = Fault count OutOfSync
+end_by_rest c s count OpenRest = if is_waiting c s then WaitingPieces else UnfinishedPacket
+end_by_rest c s count EmptyRest = if is_waiting c s then WaitingPieces else Whole
+
+-- The payloads read as these, one after another, each by what is in force there. The first of them
+-- has the number first.
+pub record Read (c : Statement) (s : StatementState) (first : ℕ) (payloads : List (List ℕ))
+    (reads : List (List Set)) : Type 0 where
+  pub within : length reads ≤ length payloads
+  pub each : (i : ℕ) → i < length reads →
+      ReadsAs c s first (take i payloads) (slice_index_or payloads i []) (slice_index_or reads i [])
+
+-- Behind so many payloads that were read comes the fault of the next one, or none comes and the rest decides.
+abbrev pub Ends : Statement → StatementState → ℕ → List (List ℕ) → Rest → ℕ → End → Type 0
+Ends c s first payloads rest n ending =
+    ((f : StreamFault) × (n < length payloads) ×
+    Faulty c s first (take n payloads) (slice_index_or payloads n []) f ×
+    (ending ≡ Fault (first + n) f))
+    ⊎ ((n ≡ length payloads) × (ending ≡ end_by_rest c (state_after c s payloads) (first + n) rest))
+
+-- The audit of payloads and a rest, where this is in force before them: the sets of all payloads
+-- before the least faulty one, and the end.
+pub record Audits (c : Statement) (s : StatementState) (first : ℕ) (payloads : List (List ℕ))
+    (rest : Rest) (audit : Audit) : Type 0 where
+  pub reads : List (List Set)
+  pub each : Read c s first payloads reads
+  pub sets : audit.sets ≡ flat_map (λ sets. sets) reads
+  pub ending : Ends c s first payloads rest (length reads) audit.ending
+
+-- Want of memory stopped the reading: the sets of the first payloads, as many as the end counts.
+pub record Stopped (c : Statement) (s : StatementState) (first : ℕ) (payloads : List (List ℕ))
+    (audit : Audit) : Type 0 where
+  pub reads : List (List Set)
+  pub each : Read c s first payloads reads
+  pub sets : audit.sets ≡ flat_map (λ sets. sets) reads
+  pub ending : audit.ending ≡ Fault (first + length reads) Memory
+
+-- the audit of a whole stream of commands
+abbrev pub Audited : Statement → ℕ → List ℕ → Audit → Type 0
+Audited c limit bytes audit = (split : Split) × IsSplit limit EachFromZero bytes split ×
+    Audits c nothing_yet 0 split.payloads split.rest audit
+
+-- Memory ran out over one of the pieces that the stream came in, and no bytes before it are a
+-- fault: of the bytes up to its end the first payloads were read, and at least those that stand
+-- whole before it.
+pub record OutOfMemory (c : Statement) (limit : ℕ) (pieces : List (List ℕ)) (audit : Audit) : Type 0 where
+  pub before : List (List ℕ)
+  pub piece : List ℕ
+  pub after : List (List ℕ)
+  pub cut : pieces ≡ before ++ piece ∷ after
+  pub earlier : Split
+  pub is_earlier : IsSplit limit EachFromZero (concat before) earlier
+  pub no_fault : ¬ IsFault earlier.rest
+  pub split : Split
+  pub is_split : IsSplit limit EachFromZero (concat before ++ piece) split
+  pub stopped : Stopped c nothing_yet 0 split.payloads audit
+  pub at_least : length earlier.payloads ≤ length stopped.reads
+
+-- an end that is no fault
+abbrev pub IsNoFault : End → Type 0
+IsNoFault (Fault n f) = ⊥
+IsNoFault WaitingPieces = Unit {0}
+IsNoFault UnfinishedPacket = Unit {0}
+IsNoFault Whole = Unit {0}
+
+-- the statement is the query's, with this id
+abbrev pub IsAbout : Statement → List ℕ → ℕ → Type 0
+IsAbout statement query id = (tokens : List (List ℕ)) × HasTokens query tokens ×
+    (statement ≡ statement_of query tokens id)
+
+-- The audit of a stream of commands: what the bytes say of the query's parameter sets, with packets up to the limit.
+abbrev pub AuditOf : List ℕ → ℕ → ℕ → List ℕ → Audit → Type 0
+AuditOf query id limit bytes audit = (tokens : List (List ℕ)) × HasTokens query tokens ×
+    Audited (statement_of query tokens id) limit bytes audit
+
+-- as much of it as was read of the pieces that the stream came in, where memory ran out over one of them
+abbrev pub OutOfMemoryIn : List ℕ → ℕ → ℕ → List (List ℕ) → Audit → Type 0
+OutOfMemoryIn query id limit pieces audit =
+    (tokens : List (List ℕ)) × HasTokens query tokens × OutOfMemory (statement_of query tokens id) limit pieces audit

@@ -1,0 +1,44 @@
+-- A query, as its placeholders cut it, and its statement at a server.
+-- MySQL: Client/Server Protocol, "COM_QUERY" and "COM_STMT_PREPARE".
+use Rattle.std.specs.Prelude.{ℕ, Bool, List, length}
+use Rattle.std.specs.List.{join_with_byte, list_all}
+use Rattle.mysql_values.specs.Place.{Place}
+use Rattle.mysql_values.specs.Queries.{HasPlaces, IsParsed, pieces_of, places_from}
+use Rattle.mysql_values.specs.Tokens.{question}
+
+-- the query's text, the text with a question mark for each placeholder, and the placeholders
+pub record Query : Type 0 where
+  pub text : List ℕ
+  pub parsed : List ℕ
+  pub places : List Place
+
+-- a statement: its query, and the id that it has at the server
+pub record Statement : Type 0 where
+  pub query : Query
+  pub id : ℕ
+
+-- the statement of a query with these tokens
+abbrev pub statement_of : List ℕ → List (List ℕ) → ℕ → Statement
+statement_of query tokens id =
+    record {
+      query = record {
+        text = query;
+        parsed =
+            join_with_byte question (pieces_of tokens);
+        places = places_from query 0 tokens;
+      };
+      id = id;
+    }
+
+-- the parsed text and the placeholders are those of the query's text
+pub record IsQuery (query : Query) : Type 0 where
+  pub parsed : IsParsed query.text query.parsed
+  pub places : HasPlaces query.text query.places
+
+-- how many placeholders it has
+abbrev pub place_count : Query → ℕ
+place_count query = length query.places
+
+-- each placeholder stands alone
+abbrev pub all_alone : Query → Bool
+all_alone query = list_all (λ place. place.alone) query.places

@@ -1,0 +1,62 @@
+//! Fields of a payload, read from the left.
+
+ghost use Rattle.std.specs.Prelude.{◌≡◌};
+ghost use Rattle.mysql_receive.specs.Fields.{number_or, bytes_or};
+ghost use Rattle.mysql_receive.specs.Layout.{is_type};
+ghost use Rattle.mysql_receive.specs.Views.{Gives};
+
+use crate::fault::StreamFault;
+use crate::refusal::Refusal;
+use mysql_const::ColumnType;
+use mysql_wire::ParseBuf;
+
+/// The first bytes, and the rest.
+pub fn front(fault: StreamFault, n: usize, bytes: &[u8]) -> Result<(&[u8], &[u8]), Refusal>
+    ensures { Gives (λ x. (x.0.now, x.1.now)) result (bytes_or fault n bytes.now) }
+{
+    let mut buf = ParseBuf(bytes);
+    match buf.checked_eat(n) {
+        Some(front) => Ok((front, buf.0)),
+        None => Err(Refusal::Fault(fault)),
+    }
+}
+
+/// The number in the first byte, and the rest.
+pub fn number1(fault: StreamFault, bytes: &[u8]) -> Result<(u8, &[u8]), Refusal>
+    ensures { Gives (λ x. (x.0, x.1.now)) result (number_or fault 1 bytes.now) }
+{
+    let mut buf = ParseBuf(bytes);
+    match buf.checked_eat_u8() {
+        Some(number) => Ok((number, buf.0)),
+        None => Err(Refusal::Fault(fault)),
+    }
+}
+
+/// The number in the first two bytes, and the rest.
+pub fn number2(fault: StreamFault, bytes: &[u8]) -> Result<(u16, &[u8]), Refusal>
+    ensures { Gives (λ x. (x.0, x.1.now)) result (number_or fault 2 bytes.now) }
+{
+    let mut buf = ParseBuf(bytes);
+    match buf.checked_eat_u16_le() {
+        Some(number) => Ok((number, buf.0)),
+        None => Err(Refusal::Fault(fault)),
+    }
+}
+
+/// The number in the first four bytes, and the rest.
+pub fn number4(fault: StreamFault, bytes: &[u8]) -> Result<(u32, &[u8]), Refusal>
+    ensures { Gives (λ x. (x.0, x.1.now)) result (number_or fault 4 bytes.now) }
+{
+    let mut buf = ParseBuf(bytes);
+    match buf.checked_eat_u32_le() {
+        Some(number) => Ok((number, buf.0)),
+        None => Err(Refusal::Fault(fault)),
+    }
+}
+
+/// Whether the number is that of a type.
+pub fn is_type_number(number: u8) -> bool
+    ensures { result ≡ is_type number }
+{
+    ColumnType::try_from(number).is_ok()
+}

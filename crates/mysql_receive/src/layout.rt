@@ -1,0 +1,246 @@
+//! What commands say by their own bytes.
+
+ghost use Rattle.std.specs.Prelude.{◌≡◌, ℕ, ◌+◌, ◌/◌, ◌<◌, ◌^◌, Option, Some, None, IfOk, IfSome, Ok, OnOk, map};
+ghost use Rattle.std.specs.Prelude.{length};
+ghost use Rattle.std.specs.Option.{option_map};
+ghost use Rattle.mysql_receive.specs.Layout.{type_at, types_at, id_at, piece_at, binding_at, execute_head, bulk_head};
+ghost use Rattle.mysql_receive.specs.Query.{place_count};
+ghost use Rattle.mysql_receive.specs.declared.fault.StreamFault.{StreamFault};
+ghost use Rattle.mysql_receive.specs.Views.{Gives, statement_view, execute_head_of, bulk_head_of, piece_of};
+ghost use Rattle.mysql_receive.specs.Views.{types_carried, types_kept, some_types};
+
+use crate::fault::StreamFault;
+use crate::fields::{front, is_type_number, number1, number2, number4};
+use crate::param_type::{OwnTypes, ParamType};
+use crate::refusal::Refusal;
+use crate::statement::Statement;
+use mysql_wire::ParseBuf;
+use std::alloc::Global;
+
+/// What stands before an execute's cells.
+#[derive(Drop)]
+pub struct ExecuteHead<'a> {
+    pub nulls: &'a [u8],
+    pub own: OwnTypes,
+    pub cells: &'a [u8],
+}
+
+/// What stands before a bulk's rows.
+#[derive(Drop)]
+pub struct BulkHead<'a> {
+    pub own: OwnTypes,
+    pub rows: &'a [u8],
+}
+
+/// A piece of a place's bytes.
+#[derive(Drop)]
+pub struct Piece<'a> {
+    pub place: u16,
+    pub bytes: &'a [u8],
+}
+
+/// A pair of a type and a flag.
+pub fn type_pair(short: StreamFault, bytes: &[u8]) -> Result<(ParamType, &[u8]), Refusal>
+    ensures { Gives (λ x. (x.0, x.1.now)) result (type_at short bytes.now) }
+{
+    let (number, rest) = number1(short, bytes)?;
+    if !is_type_number(number) {
+        return Err(Refusal::Fault(StreamFault::BadType));
+    }
+    let (flags, rest) = number1(short, rest)?;
+    let unsigned = flags == 128;
+    if unsigned || flags == 0 {
+        Ok((ParamType { number, unsigned }, rest))
+    } else {
+        Err(Refusal::Fault(StreamFault::BadType))
+    }
+}
+
+/// Pairs of a type and a flag.
+pub fn types(
+    alloc: Global,
+    short: StreamFault,
+    count: usize,
+    bytes: &[u8],
+) -> Result<(Vec<ParamType>, &[u8]), Refusal>
+    ensures { Gives (λ x. (x.0.items, x.1.now)) result (types_at short count bytes.now) }
+{
+    let mut types = Vec::new(alloc);
+    let mut rest = bytes;
+    for _ in 0..count {
+        let (next, after) = type_pair(short, rest)?;
+        types.push(next)?;
+        rest = after;
+    }
+    Ok((types, rest))
+}
+
+/// What follows the pair of a type in force, where the bytes begin with it.
+#[inline(always)]
+fn behind_pair(kept: ParamType, bytes: &[u8]) -> Option<&[u8]>
+    ensures { IfSome result (λ rest. (short : StreamFault) → type_at short bytes.now ≡ Ok (kept, rest.now)) }
+{
+    let mut buf = ParseBuf(bytes);
+    let number = buf.checked_eat_u8()?;
+    let flags = buf.checked_eat_u8()?;
+    let unsigned = flags == 128;
+    let kind = ParamType { number, unsigned };
+    if kind == kept && (unsigned || flags == 0) && is_type_number(number) {
+        Some(buf.0)
+    } else {
+        None
+    }
+}
+
+/// What follows the pairs of the types in force, where the bytes begin with them.
+fn behind_kept<'a>(kept: &[ParamType], bytes: &'a [u8]) -> Option<&'a [u8]>
+    ensures { IfSome result (λ rest. (short : StreamFault) →
+        types_at short (length kept.now) bytes.now ≡ Ok (kept.now, rest.now)) }
+{
+    let mut rest = bytes;
+    for kind in kept {
+        rest = behind_pair(*kind, rest)?;
+    }
+    Some(rest)
+}
+
+/// Pairs of a type and a flag, of which no list is made where they are those in force.
+fn own_types<'a>(
+    alloc: Global,
+    short: StreamFault,
+    count: usize,
+    kept: &Option<Vec<ParamType>>,
+    bytes: &'a [u8],
+) -> Result<(OwnTypes, &'a [u8]), Refusal>
+    ensures { Gives (λ x. (types_carried (types_kept kept.now) x.0, x.1.now)) result
+        (some_types (types_at short count bytes.now)) }
+{
+    if let Some(kept) = kept {
+        if kept.len() == count {
+            if let Some(rest) = behind_kept(kept, bytes) {
+                return Ok((OwnTypes::Kept, rest));
+            }
+        }
+    }
+    let (anew, rest) = types(alloc, short, count, bytes)?;
+    Ok((OwnTypes::Anew(anew), rest))
+}
+
+/// The statement's id.
+pub fn id<'a>(conversation: &Statement, bytes: &'a [u8]) -> Result<&'a [u8], Refusal>
+    ensures { Gives (λ x. x.now) result (id_at (statement_view conversation.now) bytes.now) }
+{
+    let (id, rest) = number4(StreamFault::WrongId, bytes)?;
+    if id == conversation.id {
+        Ok(rest)
+    } else {
+        Err(Refusal::Fault(StreamFault::WrongId))
+    }
+}
+
+/// The body of a long data command.
+pub fn long_data<'a>(conversation: &Statement, body: &'a [u8]) -> Result<Piece<'a>, Refusal>
+    ensures { Gives piece_of result (piece_at (statement_view conversation.now) body.now) }
+{
+    let rest = id(conversation, body)?;
+    let (place, bytes) = number2(StreamFault::BadPlace, rest)?;
+    if (place as usize) < conversation.places.len() {
+        Ok(Piece { place, bytes })
+    } else {
+        Err(Refusal::Fault(StreamFault::BadPlace))
+    }
+}
+
+// How many bytes hold a bit for each place.
+fn bitmap_len(places: usize) -> usize
+    ensures { result ≡ (places + 7) / 8 }
+{
+    places.div_ceil(8)
+}
+
+#[tactic(auto, unfolding(crate::specs::Layout::binding_at))]
+fn binding<'a>(
+    alloc: Global,
+    places: usize,
+    kept: &Option<Vec<ParamType>>,
+    bytes: &'a [u8],
+) -> Result<ExecuteHead<'a>, Refusal>
+    ensures { Gives (execute_head_of (types_kept kept.now)) result (binding_at places bytes.now) }
+{
+    let (nulls, rest) = front(StreamFault::BadExecute, bitmap_len(places), bytes)?;
+    let (bound, rest) = number1(StreamFault::BadExecute, rest)?;
+    if bound > 1 {
+        return Err(Refusal::Fault(StreamFault::BadExecute));
+    }
+    if bound == 0 {
+        return Ok(ExecuteHead {
+            nulls,
+            own: OwnTypes::Without,
+            cells: rest,
+        });
+    }
+    let (own, cells) = own_types(alloc, StreamFault::BadExecute, places, kept, rest)?;
+    Ok(ExecuteHead { nulls, own, cells })
+}
+
+/// What stands before an execute's cells.
+#[tactic(auto, unfolding(crate::specs::Layout::execute_head))]
+pub fn execute_front<'a>(
+    alloc: Global,
+    conversation: &Statement,
+    kept: &Option<Vec<ParamType>>,
+    body: &'a [u8],
+) -> Result<ExecuteHead<'a>, Refusal>
+    ensures { Gives (execute_head_of (types_kept kept.now)) result
+        (execute_head (statement_view conversation.now) body.now) }
+{
+    let rest = id(conversation, body)?;
+    let (cursor, rest) = number1(StreamFault::BadExecute, rest)?;
+    if cursor != 0 {
+        return Err(Refusal::Fault(StreamFault::BadExecute));
+    }
+    let (count, rest) = number4(StreamFault::BadExecute, rest)?;
+    if count != 1 {
+        return Err(Refusal::Fault(StreamFault::BadExecute));
+    }
+    let places = conversation.places.len();
+    if places == 0 {
+        return Ok(ExecuteHead {
+            nulls: &[],
+            own: OwnTypes::Without,
+            cells: rest,
+        });
+    }
+    binding(alloc, places, kept, rest)
+}
+
+/// What stands before a bulk's rows.
+#[tactic(auto, unfolding(crate::specs::Layout::bulk_head))]
+pub fn bulk_front<'a>(
+    alloc: Global,
+    conversation: &Statement,
+    kept: &Option<Vec<ParamType>>,
+    body: &'a [u8],
+) -> Result<BulkHead<'a>, Refusal>
+    ensures { Gives (bulk_head_of (types_kept kept.now)) result (bulk_head (statement_view conversation.now) body.now) }
+{
+    let rest = id(conversation, body)?;
+    let (flags, rest) = number2(StreamFault::BadBulk, rest)?;
+    if !matches!(flags, 0 | 64 | 128 | 192) {
+        return Err(Refusal::Fault(StreamFault::BadBulk));
+    }
+    if flags < 128 {
+        return Ok(BulkHead {
+            own: OwnTypes::Without,
+            rows: rest,
+        });
+    }
+    let (own, rows) = own_types(
+        alloc,
+        StreamFault::BadBulk,
+        conversation.places.len(),
+        kept,
+        rest,
+    )?;
+    Ok(BulkHead { own, rows })
+}

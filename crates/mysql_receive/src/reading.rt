@@ -1,0 +1,257 @@
+//! What one payload reads as.
+
+ghost use Rattle.std.specs.Prelude.{◌≡◌, ℕ, ◌+◌, ◌*◌, ◌<◌, ◌≤◌, ◌^◌, List, [], Option, Some, None, Ok, IfOk, drop};
+ghost use Rattle.std.specs.Prelude.{false, get_or, length, map, is_some};
+ghost use Rattle.std.specs.Option.{option_map};
+ghost use Rattle.mysql_field_lists.specs.NullBits.{bits_left};
+ghost use Rattle.mysql_receive.specs.Query.{place_count};
+ghost use Rattle.mysql_receive.specs.InForce.{is_waiting, execute_types, bulk_types};
+ghost use Rattle.mysql_receive.specs.Reading.{types_in_force, parameter_at, set_at, execute_at, column_at, columns_at};
+ghost use Rattle.mysql_receive.specs.Reading.{row_at, RowsAt, FaultyRow, BulkReadsAs, BulkFaulty};
+ghost use Rattle.mysql_receive.specs.Views.{Gives, Finds, sets_of, types_carried, types_kept, piece_kept};
+ghost use Rattle.mysql_receive.specs.Views.{statement_view, state_of};
+
+use crate::cells::cell_content;
+use crate::fault::StreamFault;
+use crate::fields::number1;
+use crate::layout::{BulkHead, ExecuteHead, bulk_front, execute_front};
+use crate::param_type::{OwnTypes, ParamType};
+use crate::refusal::Refusal;
+use crate::statement::{Statement, StatementState};
+use mysql_field_lists::{ClientSide, NullBitmap, NullBits};
+use mysql_values::{ByteString, Content};
+use std::alloc::Global;
+
+/// The types that count.
+fn counting<'a>(
+    conversation: &Statement,
+    statement: &'a StatementState,
+    own: &'a OwnTypes,
+) -> Result<&'a [ParamType], Refusal>
+    ensures { Gives (λ x. x.now) result
+        (types_in_force (statement_view conversation.now) (state_of statement.now)
+        (types_carried (types_kept statement.now.types) own.now)) }
+{
+    if conversation.places.len() == 0 {
+        return Ok(&[]);
+    }
+    match own {
+        OwnTypes::Anew(types) => Ok(types.as_slice()),
+        OwnTypes::Kept | OwnTypes::Without => match &statement.types {
+            Some(types) => Ok(types.as_slice()),
+            None => Err(Refusal::Fault(StreamFault::NoTypes)),
+        },
+    }
+}
+
+/// What a place of an execute holds.
+#[tactic(auto, unfolding(crate::specs::Reading::content_at))]
+#[inline(always)]
+fn parameter<'a>(
+    alloc: Global,
+    statement: &StatementState,
+    place: usize,
+    is_null: bool,
+    kind: ParamType,
+    bytes: &'a [u8],
+) -> Result<(Content, &'a [u8]), Refusal>
+    ensures { Gives (λ x. (x.0, x.1.now)) result
+        (parameter_at (piece_kept statement.now.pieces.items place) is_null kind bytes.now) }
+{
+    if let Some(Some(piece)) = statement.pieces.get(place) {
+        return Ok((Content::Bytes(ByteString::copy(alloc, piece)?), bytes));
+    }
+    if is_null {
+        return Ok((Content::Null, bytes));
+    }
+    cell_content(alloc, StreamFault::BadExecute, kind, bytes)
+}
+
+/// How many of so many places have a bit in the bitmap.
+fn bit_count(nulls: &[u8], places: usize) -> usize
+    ensures few { result ≤ places }
+    ensures inside { result ≤ 8 * length nulls.now }
+    ensures all { result < places → result ≡ 8 * length nulls.now }
+{
+    places.min(nulls.len().saturating_mul(8))
+}
+
+/// The next bit; where none is left, nothing is null.
+fn next_bit(bits: &mut NullBits<'_>) -> bool
+    ensures bit { result ≡ get_or (bits_left bits.old) 0 false }
+    ensures left { bits_left bits.new ≡ drop 1 (bits_left bits.old) }
+{
+    bits.next().unwrap_or(false)
+}
+
+/// What all places hold.
+fn whole_set(
+    alloc: Global,
+    statement: &StatementState,
+    nulls: &[u8],
+    types: &[ParamType],
+    cells: &[u8],
+) -> Result<Vec<Content>, Refusal>
+    ensures { Gives (λ x. x.items) result
+        (set_at (piece_kept statement.now.pieces.items) nulls.now 0 types.now cells.now) }
+{
+    let mut set = Vec::with_capacity(alloc, types.len())?;
+    let mut rest = cells;
+    let bitmap = NullBitmap::<ClientSide, &[u8]>::from_bytes(nulls);
+    let mut bits = bitmap.iter(bit_count(nulls, types.len()));
+    for (place, kind) in types.iter().enumerate() {
+        let is_null = next_bit(&mut bits);
+        let (next, after) = parameter(alloc, statement, place, is_null, *kind, rest)?;
+        set.push_reserved(next);
+        rest = after;
+    }
+    if !rest.is_empty() {
+        return Err(Refusal::Fault(StreamFault::BadExecute));
+    }
+    Ok(set)
+}
+
+/// Columns of a row, one after another.
+fn columns<'a>(
+    alloc: Global,
+    types: &[ParamType],
+    bytes: &'a [u8],
+) -> Result<(Vec<Content>, &'a [u8]), Refusal>
+    ensures { Gives (λ x. (x.0.items, x.1.now)) result (columns_at types.now bytes.now) }
+{
+    let mut set = Vec::with_capacity(alloc, types.len())?;
+    let mut rest = bytes;
+    for kind in types {
+        let (next, after) = column(alloc, *kind, rest)?;
+        set.push_reserved(next);
+        rest = after;
+    }
+    Ok((set, rest))
+}
+
+/// A column of a row: an indicator, and a cell or nothing.
+fn column<'a>(
+    alloc: Global,
+    kind: ParamType,
+    bytes: &'a [u8],
+) -> Result<(Content, &'a [u8]), Refusal>
+    ensures { Gives (λ x. (x.0, x.1.now)) result (column_at kind bytes.now) }
+{
+    let (indicator, rest) = number1(StreamFault::BadBulk, bytes)?;
+    match indicator {
+        0 => cell_content(alloc, StreamFault::BadBulk, kind, rest),
+        1 => Ok((Content::Null, rest)),
+        _ => Err(Refusal::Fault(StreamFault::Indicator)),
+    }
+}
+
+/// A row of a bulk: a column for each type, at least one.
+fn row<'a>(
+    alloc: Global,
+    types: &[ParamType],
+    bytes: &'a [u8],
+) -> Result<(Vec<Content>, &'a [u8]), Refusal>
+    ensures { Gives (λ x. (x.0.items, x.1.now)) result (row_at types.now bytes.now) }
+{
+    match types {
+        [] => Err(Refusal::Fault(StreamFault::BadBulk)),
+        [_, ..] => columns(alloc, types, bytes),
+    }
+}
+
+/// Rows to the end of the bytes.
+fn rows(alloc: Global, types: &[ParamType], bytes: &[u8]) -> Result<Vec<Vec<Content>>, Refusal>
+    ensures { Finds (λ x. sets_of x.items) result (λ sets. RowsAt types.now bytes.now sets [])
+        (FaultyRow types.now bytes.now) }
+{
+    let mut sets = Vec::new(alloc);
+    let mut rest = bytes;
+    while !rest.is_empty() {
+        let (set, after) = row(alloc, types, rest)?;
+        sets.push(set)?;
+        rest = after;
+    }
+    Ok(sets)
+}
+
+/// An execute, as one set.
+#[tactic(auto, unfolding(crate::specs::Reading::execute_at))]
+pub fn execute(
+    alloc: Global,
+    conversation: &Statement,
+    statement: &StatementState,
+    body: &[u8],
+) -> Result<(Vec<Content>, OwnTypes), Refusal>
+    ensures set { Gives (λ x. x.0.items) result
+        (execute_at (statement_view conversation.now) (state_of statement.now) body.now) }
+    ensures own { IfOk result (λ x. types_carried (types_kept statement.now.types) x.1 ≡
+        execute_types (statement_view conversation.now) body.now) }
+{
+    if !statement.prepared {
+        return Err(Refusal::Fault(StreamFault::NotPrepared));
+    }
+    let head = execute_front(alloc, conversation, &statement.types, body)?;
+    let types = counting(conversation, statement, &head.own)?;
+    let set = whole_set(alloc, statement, head.nulls, types, head.cells)?;
+    let ExecuteHead {
+        nulls: _,
+        own,
+        cells: _,
+    } = head;
+    Ok((set, own))
+}
+
+/// A bulk, as its rows.
+#[tactic(auto, unfolding(crate::specs::Reading::bulk_rows))]
+pub fn bulk(
+    alloc: Global,
+    conversation: &Statement,
+    statement: &StatementState,
+    body: &[u8],
+) -> Result<(Vec<Vec<Content>>, OwnTypes), Refusal>
+    ensures sets { Finds (λ x. sets_of x.0.items) result
+        (BulkReadsAs (statement_view conversation.now) (state_of statement.now) body.now)
+        (BulkFaulty (statement_view conversation.now) (state_of statement.now) body.now) }
+    ensures own { IfOk result (λ x. types_carried (types_kept statement.now.types) x.1 ≡
+        bulk_types (statement_view conversation.now) body.now) }
+{
+    if !statement.prepared {
+        return Err(Refusal::Fault(StreamFault::NotPrepared));
+    }
+    if waits(conversation, statement) {
+        return Err(Refusal::Fault(StreamFault::PiecesBeforeBulk));
+    }
+    if conversation.places.len() == 0 {
+        return Err(Refusal::Fault(StreamFault::BadBulk));
+    }
+    let head = bulk_front(alloc, conversation, &statement.types, body)?;
+    let types = counting(conversation, statement, &head.own)?;
+    if head.rows.is_empty() {
+        return Err(Refusal::Fault(StreamFault::NoRows));
+    }
+    let sets = rows(alloc, types, head.rows)?;
+    let BulkHead { own, rows: _ } = head;
+    Ok((sets, own))
+}
+
+/// Whether pieces wait for any place.
+pub fn waits(conversation: &Statement, statement: &StatementState) -> bool
+    ensures { result ≡ is_waiting (statement_view conversation.now) (state_of statement.now) }
+{
+    for place in 0..conversation.places.len() {
+        if has_pieces(statement, place) {
+            return true;
+        }
+    }
+    false
+}
+
+/// Whether pieces wait for the place.
+fn has_pieces(statement: &StatementState, place: usize) -> bool
+    ensures { result ≡ is_some (piece_kept statement.now.pieces.items place) }
+{
+    match statement.pieces.get(place) {
+        Some(piece) => piece.is_some(),
+        None => false,
+    }
+}

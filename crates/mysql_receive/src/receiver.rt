@@ -1,0 +1,384 @@
+//! Reading a stream of commands back.
+
+ghost use Rattle.std.specs.Prelude.{◌≡◌, ◌≢◌, ◌≤◌, ◌⊎◌, [], true, false, None, Err, IfErr, IfOk, IfSome, OnOk, length};
+ghost use Rattle.mysql_wire.specs.Bytes.{AreBytes};
+ghost use Rattle.mysql_wire.specs.Incoming.{bytes_kept};
+ghost use Rattle.mysql_values.specs.Queries.{HasMixed, HasPlaces, IsParsed};
+ghost use Rattle.mysql_receive.specs.declared.fault.StreamFault.TheVariants.{Memory};
+ghost use Rattle.mysql_receive.specs.declared.receiver.ReceiverError.TheVariants as receiver_error;
+ghost use Rattle.mysql_receive.specs.Query.{IsQuery};
+ghost use Rattle.mysql_receive.specs.Audit.{IsAbout};
+ghost use Rattle.mysql_receive.specs.GoingOn.{HasFoundNoFault, ReceiverGoesOn, ReceiverDecides, RunsShort, TakesAll};
+ghost use Rattle.mysql_receive.specs.GoingOn.{fresh_receiver};
+ghost use Rattle.mysql_receive.specs.Receiving.{answer_by, audit_of};
+ghost use Rattle.mysql_receive.specs.Parts.{end_by, fault_from, state_of_parts};
+ghost use Rattle.mysql_receive.specs.Received.{receiver_state};
+ghost use Rattle.mysql_receive.specs.Taking.{HandsOut, most_kept};
+ghost use Rattle.mysql_receive.specs.Views.{statement_view, sets_of};
+
+use crate::audit::{Audit, End};
+use crate::fault::StreamFault;
+use crate::incoming::read_piece;
+use crate::progress::Progress;
+use crate::reading::waits;
+use crate::refusal::Refusal;
+use crate::statement::{Statement, StatementState};
+use mysql_values::laws::tokens_of_a_text;
+use mysql_values::{Content, NamedParamsError, ParsedNamedParams, Place, places};
+use mysql_wire::laws::reader_laws;
+use mysql_wire::{PacketReader, WireError};
+use std::alloc::{AllocError, Global};
+use std::marker::Model;
+use std::mem;
+use thiserror::Error;
+
+/// Why a receiver can't be made.
+#[derive(Clone, Copy, Debug, PartialEq, Eq, Error)]
+pub enum ReceiverError {
+    /// The query has both names and question marks as placeholders.
+    #[error("the query has both named and positional parameters")]
+    Mixed,
+    /// A growth of memory was refused.
+    #[error("out of memory")]
+    Memory,
+}
+
+impl From<AllocError> for ReceiverError {
+    ghost from_gives = { λ _ e. e ≡ receiver_error.Memory };
+
+    fn from(_e: AllocError) -> ReceiverError {
+        ReceiverError::Memory
+    }
+}
+
+// What is read of a query is refused for want of memory alone.
+impl From<WireError> for ReceiverError {
+    ghost from_gives = { λ _ e. e ≡ receiver_error.Memory };
+
+    fn from(_e: WireError) -> ReceiverError {
+        ReceiverError::Memory
+    }
+}
+
+/// The parsed text of a query with these placeholders.
+fn parsed<'a>(
+    alloc: Global,
+    query: &'a [u8],
+    places: &[Place],
+) -> Result<ParsedNamedParams<'a>, ReceiverError>
+    requires { HasPlaces query.now places.now }
+    ensures query { IfOk result (λ parsed. IsParsed query.entry.now parsed.query) }
+    ensures one_kind { OnOk result (HasMixed query.entry.now false) }
+    ensures mixed { IfErr result (λ e. (e ≡ receiver_error.Memory) ⊎
+        ((e ≡ receiver_error.Mixed) × HasMixed query.entry.now true)) }
+{
+    match ParsedNamedParams::parse_at(alloc, query, places) {
+        Ok(parsed) => Ok(parsed),
+        Err(NamedParamsError::Mixed(_)) => Err(ReceiverError::Mixed),
+        Err(NamedParamsError::Memory) => Err(ReceiverError::Memory),
+    }
+}
+
+/// The statement of a query, with this id.
+fn conversation(alloc: Global, query: &[u8], stmt_id: u32) -> Result<Statement, ReceiverError>
+    ensures query { IfOk result (λ c. IsQuery (statement_view c).query) }
+    ensures about { IfOk result (λ c. IsAbout (statement_view c) query.now stmt_id) }
+    ensures one_kind { OnOk result (HasMixed query.now false) }
+    ensures mixed { IfErr result (λ e. (e ≡ receiver_error.Memory) ⊎
+        ((e ≡ receiver_error.Mixed) × HasMixed query.now true)) }
+{
+    tokens_of_a_text();
+    let places = places(alloc, query)?;
+    let parsed = parsed(alloc, query, &places)?;
+    Ok(Statement {
+        query: Vec::from_slice(alloc, query)?,
+        parsed: Vec::from_slice(alloc, parsed.query())?,
+        places,
+        id: stmt_id,
+    })
+}
+
+/// The statement of a query with this parsed text and these placeholders, of which it holds copies, with this id.
+fn copied_statement(
+    alloc: Global,
+    query: &[u8],
+    parsed: &[u8],
+    places: &[Place],
+    stmt_id: u32,
+) -> Result<Statement, AllocError>
+    requires parsed { IsParsed query.now parsed.now }
+    requires places { HasPlaces query.now places.now }
+    ensures query { IfOk result (λ c. IsQuery (statement_view c).query) }
+    ensures about { IfOk result (λ c. IsAbout (statement_view c) query.now stmt_id) }
+{
+    tokens_of_a_text();
+    Ok(Statement {
+        query: Vec::from_slice(alloc, query)?,
+        parsed: Vec::from_slice(alloc, parsed)?,
+        places: Vec::from_slice(alloc, places)?,
+        id: stmt_id,
+    })
+}
+
+/// Reads a stream of commands about one query that is handed over in pieces.
+///
+/// Contracts see what it holds in place of the bytes that it was fed: the payloads read, what is in
+/// force behind them, the bytes of the packet that isn't whole, the sets so far, and the fault.
+#[derive(Drop)]
+pub struct Receiver {
+    alloc: Global,
+    conversation: Statement,
+    packets: PacketReader,
+    progress: Progress,
+    fault: Option<StreamFault>,
+}
+
+impl Model for Receiver {
+    ghost use Rattle.mysql_receive.specs.Received.{Received};
+
+    ghost Value = { Received };
+
+    ghost use Rattle.mysql_receive.specs.Inside.{received_of, IsKept};
+
+    ghost view = { received_of };
+
+    ghost invariant = { IsKept };
+}
+
+/// The fault that a refusal is.
+fn fault_of(refusal: Refusal) -> StreamFault
+    ensures { result ≡ fault_from refusal }
+{
+    match refusal {
+        Refusal::Memory => StreamFault::Memory,
+        Refusal::Fault(fault) => fault,
+    }
+}
+
+/// How a stream ends as things stand.
+fn end_now(
+    conversation: &Statement,
+    progress: &Progress,
+    begun: bool,
+    fault: Option<StreamFault>,
+) -> End
+    ensures { result ≡ end_by (statement_view conversation.now) (state_of_parts progress.now [] fault) begun fault }
+{
+    if let Some(fault) = fault {
+        return End::Fault(progress.count, fault);
+    }
+    if waits(conversation, &progress.statement) {
+        return End::WaitingPieces;
+    }
+    if begun {
+        return End::UnfinishedPacket;
+    }
+    End::Whole
+}
+
+impl Receiver {
+    /// A receiver of a stream of commands about this query, whose statement was given this id.
+    ///
+    /// The limit is the `max_allowed_packet` of the side that the packets go to, and at least 4.
+    /// Calls that write count 4 bytes for a packet's header in it: a payload has at most `limit -
+    /// 4` bytes. Calls that read count the payload alone: it has at most `limit` bytes.
+    ///
+    /// # Errors
+    /// `Mixed` where both names and question marks occur in the query, `Memory`.
+    pub fn new(
+        alloc: Global,
+        query: &[u8],
+        stmt_id: u32,
+        limit: usize,
+    ) -> Result<Receiver, ReceiverError>
+        requires { 4 ≤ limit }
+        ensures fresh { IfOk result (λ r. receiver_state r ≡ fresh_receiver) }
+        ensures about { IfOk result (λ r. IsAbout r.conversation query.now stmt_id) }
+        ensures limit { IfOk result (λ r. r.limit ≡ limit) }
+        ensures one_kind { OnOk result (HasMixed query.now false) }
+        ensures mixed { IfErr result (λ e. (e ≡ receiver_error.Memory) ⊎
+            ((e ≡ receiver_error.Mixed) × HasMixed query.now true)) }
+    {
+        let conversation = conversation(alloc, query, stmt_id)?;
+        Ok(Receiver::over(alloc, conversation, limit))
+    }
+
+    /// [`Receiver::new`] over what was found of the query before: its placeholders, as
+    /// `mysql_values::places` lists them, and its text with a question mark for each, as
+    /// `ParsedNamedParams` makes it. They are copied. Refused for want of memory alone.
+    pub fn of_places(
+        alloc: Global,
+        query: &[u8],
+        parsed: &[u8],
+        places: &[Place],
+        stmt_id: u32,
+        limit: usize,
+    ) -> Result<Receiver, AllocError>
+        requires limit { 4 ≤ limit }
+        requires parsed { IsParsed query.now parsed.now }
+        requires places { HasPlaces query.now places.now }
+        requires one_kind { HasMixed query.now false }
+        ensures fresh { IfOk result (λ r. receiver_state r ≡ fresh_receiver) }
+        ensures about { IfOk result (λ r. IsAbout r.conversation query.now stmt_id) }
+        ensures limit { IfOk result (λ r. r.limit ≡ limit) }
+    {
+        let conversation = copied_statement(alloc, query, parsed, places, stmt_id)?;
+        Ok(Receiver::over(alloc, conversation, limit))
+    }
+
+    /// A receiver that was fed nothing.
+    fn over(alloc: Global, conversation: Statement, limit: usize) -> Receiver
+        requires { IsQuery (statement_view conversation).query }
+        ensures fresh { receiver_state result ≡ fresh_receiver }
+        ensures conversation { result.conversation ≡ statement_view conversation }
+        ensures limit { result.limit ≡ limit }
+    {
+        reader_laws();
+        Receiver {
+            alloc,
+            conversation,
+            packets: PacketReader::new(alloc, 0, limit),
+            progress: Progress {
+                statement: StatementState {
+                    prepared: false,
+                    types: None,
+                    pieces: Vec::new(alloc),
+                },
+                sets: Vec::new(alloc),
+                count: 0,
+            },
+            fault: None,
+        }
+    }
+
+    /// Takes the next piece of the stream, of any length.
+    ///
+    /// What is held after it decides, over all bytes to come, what was decided before it over the
+    /// piece and them. No more is held of the bytes than the packet that isn't whole. A fault that
+    /// needs no more bytes is answered at once: after `Ok` what came ends without one.
+    ///
+    /// # Errors
+    /// The first fault of the stream, [`StreamFault::Memory`] where a growth was refused. From then
+    /// on each call answers that fault and changes nothing. Where memory ran out, what was read of
+    /// the payloads before stays.
+    ///
+    /// Follows the MySQL Client/Server Protocol, "MySQL Packets" and "Command Phase".
+    pub fn feed(&mut self, piece: &[u8]) -> Result<(), StreamFault>
+        ensures goes_on { result ≢ Err Memory →
+            ReceiverGoesOn self.old.conversation self.old.limit (receiver_state self.old) piece.now
+            (receiver_state self.new) }
+        ensures short { self.old.fault ≡ None → result ≡ Err Memory →
+            RunsShort self.old.conversation self.old.limit (receiver_state self.old) piece.now
+            (receiver_state self.new) }
+        ensures takes { OnOk result
+            (TakesAll self.old.conversation self.old.limit (receiver_state self.old) piece.now
+            (receiver_state self.new)) }
+        ensures no_fault { OnOk result
+            (HasFoundNoFault self.new.conversation self.new.limit (receiver_state self.new)) }
+        ensures stays { IfSome self.old.fault (λ fault. (result ≡ Err fault) × (self.new ≡ self.old)) }
+        ensures answer { result ≡ answer_by self.new.fault }
+        ensures bytes { OnOk result (AreBytes self.new.partial) }
+        ensures conversation { self.new.conversation ≡ self.old.conversation }
+        ensures limit { self.new.limit ≡ self.old.limit }
+    {
+        reader_laws();
+        if let Some(fault) = self.fault {
+            return Err(fault);
+        }
+        match read_piece(
+            &mut self.packets,
+            self.alloc,
+            &self.conversation,
+            &mut self.progress,
+            piece,
+        ) {
+            Ok(()) => Ok(()),
+            Err(refusal) => {
+                let fault = fault_of(refusal);
+                self.fault = Some(fault);
+                Err(fault)
+            }
+        }
+    }
+
+    /// How many bytes are held of the packet that isn't whole: those that came of it, but for the
+    /// headers of its chunks, of which only one that doesn't stand whole is held. They are fewer
+    /// than the limit; where the limit has room for full chunks and at most three bytes more, up to
+    /// three more than those chunks hold. After a fault none are held. It takes no memory.
+    ///
+    /// Follows the MySQL Client/Server Protocol, "MySQL Packets".
+    pub fn kept(&self) -> usize
+        ensures kept { result ≡ bytes_kept (length self.now.partial) }
+        ensures most { result ≤ most_kept self.now.limit }
+        ensures stopped { IfSome self.now.fault (λ _. result ≡ 0) }
+    {
+        self.packets.kept()
+    }
+
+    /// How many payloads were read. It takes no memory.
+    ///
+    /// Follows the MySQL Client/Server Protocol, "MySQL Packets".
+    pub fn payloads(&self) -> u64
+        ensures { result ≡ self.now.count }
+    {
+        self.progress.count
+    }
+
+    /// The sets that were read and not taken yet, in their order, place by place.
+    pub fn sets(&self) -> &[Vec<Content>]
+        ensures { sets_of result.now ≡ self.now.sets }
+    {
+        &self.progress.sets
+    }
+
+    /// Takes the sets that were read and not taken yet, in their order, place by place; also after a fault, and after
+    /// [`StreamFault::Memory`]. It takes no memory.
+    ///
+    /// What is handed out isn't held any more, and nothing else changes: the next sets, and those
+    /// of `finish`, follow on it, and all of them in a row are those of the audit of what was fed.
+    /// So a receiver from which sets are taken as they come holds of a stream of any length at most
+    /// one packet within the limit ([`Receiver::kept`]), the long data that waits for an execution,
+    /// and the types in force.
+    ///
+    /// Follows the MySQL Client/Server Protocol, "Command Phase".
+    pub fn take_sets(&mut self) -> Vec<Vec<Content>>
+        ensures hands_out { HandsOut self.old.conversation self.old.limit (receiver_state self.old)
+            (sets_of result.items) (receiver_state self.new) }
+        ensures sets { sets_of result.items ≡ self.old.sets }
+        ensures left { self.new ≡ record self.old { sets = [] } }
+    {
+        let none = Vec::new(self.alloc);
+        mem::replace(&mut self.progress.sets, none)
+    }
+
+    /// The audit of what was fed, but for the sets that were taken before
+    /// ([`Receiver::take_sets`]). It takes no memory.
+    ///
+    /// After [`StreamFault::Memory`] its sets, behind those that were taken, are those of the
+    /// stream's first payloads, as many as its end counts: at least those that stood whole before
+    /// the `feed` that answered it.
+    pub fn finish(self) -> Audit
+        ensures { ReceiverDecides self.conversation self.limit (receiver_state self) [] (audit_of result) }
+    {
+        reader_laws();
+        let end = end_now(
+            &self.conversation,
+            &self.progress,
+            self.packets.is_begun(),
+            self.fault,
+        );
+        let Receiver {
+            alloc: _,
+            conversation: _,
+            packets: _,
+            progress,
+            fault: _,
+        } = self;
+        let Progress {
+            statement: _,
+            sets,
+            count: _,
+        } = progress;
+        Audit { sets, end }
+    }
+}

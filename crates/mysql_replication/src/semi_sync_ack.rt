@@ -1,0 +1,161 @@
+//! The acknowledgement of an event by a replica.
+
+ghost use Rattle.std.specs.Prelude.{◌≡◌, [], IfOk, None, IsOkUnless, false};
+ghost use Rattle.std.specs.Cow.{cow_slice_items, cow_str_bytes};
+ghost use Rattle.std.specs.Str.{encode_utf8_all};
+ghost use Rattle.bstr.specs.Utf8.{lossy_chars};
+ghost use Rattle.mysql_fields.specs.Laws.{unsized};
+ghost use Rattle.mysql_fields.specs.Wire.{TellsPart};
+ghost use Rattle.mysql_replication.specs.PacketLaws.{semi_sync_ack_at-back};
+ghost use Rattle.mysql_replication.specs.Packets.{IsSemiSyncAck, SemiSyncAck, semi_sync_ack, semi_sync_ack_at};
+ghost use Rattle.mysql_replication.specs.Packets.{semi_sync_ack_fields_at};
+ghost use Rattle.mysql_replication.specs.Views.{semi_sync_ack_view};
+ghost use Rattle.mysql_fields.specs.declared.error.WireError.TheVariants as wire;
+
+use crate::fields::{LastText, lossy};
+use crate::headers::SemiSyncAckPacketPacketHeader;
+use mysql_buf::ParseBuf;
+use mysql_fields::{
+    LeU64, MyDeserialize, MySerialize, ParseExt, RawInt, Readable, ReadsBack, WireError, in_order,
+};
+use std::alloc::{AllocError, Global};
+use std::borrow::{CowSlice, CowStr};
+
+/// A replica's acknowledgement of an event that asked for one: the event's position in the binary
+/// log, and the file's name.
+///
+/// MySQL: Internals Manual, "Semi-Sync ACK packet".
+#[derive(Drop)]
+pub struct SemiSyncAckPacket<'a> {
+    position: u64,
+    filename: CowSlice<'a, u8>,
+}
+
+impl<'a> SemiSyncAckPacket<'a> {
+    /// An acknowledgement of the event at this position of this file.
+    pub fn new(position: u64, filename: CowSlice<'a, u8>) -> SemiSyncAckPacket<'a>
+        ensures { semi_sync_ack_view result ≡
+            record { position = position; filename = cow_slice_items filename.entry } }
+    {
+        SemiSyncAckPacket { position, filename }
+    }
+
+    /// The same with this position.
+    pub fn with_position(mut self, position: u64) -> SemiSyncAckPacket<'a>
+        ensures { semi_sync_ack_view result ≡ record (semi_sync_ack_view self.entry) { position = position } }
+    {
+        self.position = position;
+        self
+    }
+
+    /// The same with this file's name.
+    pub fn with_filename(mut self, filename: CowSlice<'a, u8>) -> SemiSyncAckPacket<'a>
+        ensures { semi_sync_ack_view result ≡
+            record (semi_sync_ack_view self.entry) { filename = cow_slice_items filename.entry } }
+    {
+        self.filename = filename;
+        self
+    }
+
+    /// The event's position.
+    pub fn position(&self) -> u64
+        ensures { result ≡ (semi_sync_ack_view self.now).position }
+    {
+        self.position
+    }
+
+    /// The bytes of the file's name.
+    pub fn filename_raw(&self) -> &[u8]
+        ensures { result.now ≡ (semi_sync_ack_view self.now).filename }
+    {
+        self.filename.as_slice()
+    }
+
+    /// The file's name as text, where bytes that aren't UTF-8 are replaced. Refused for want of memory.
+    pub fn filename(&self, alloc: Global) -> Result<CowStr<'_>, WireError>
+        ensures memory { IsOkUnless result wire.Memory }
+        ensures value { IfOk result (λ text. cow_str_bytes text ≡
+            encode_utf8_all (lossy_chars (semi_sync_ack_view self.now).filename)) }
+    {
+        lossy(alloc, self.filename_raw())
+    }
+}
+
+#[tactic(auto, unfolding(crate::specs::Packets::semi_sync_ack))]
+impl<'a> MySerialize for SemiSyncAckPacket<'a> {
+    ghost written = { λ p. semi_sync_ack (semi_sync_ack_view p) };
+
+    fn serialize(&self, buf: &mut Vec<u8>) -> Result<(), AllocError> {
+        let position: RawInt<LeU64> = RawInt::new(self.position);
+        let filename = LastText(self.filename_raw());
+        in_order!(SemiSyncAckPacketPacketHeader::new(), position, filename).serialize(buf)
+    }
+}
+
+impl<'a> Readable for SemiSyncAckPacket<'a> {
+    type Ctx = ();
+
+    ghost SIZE = { None };
+
+    ghost AsksForMemory = { false };
+
+    ghost Shown = { SemiSyncAck };
+
+    ghost shown = { semi_sync_ack_view };
+
+    ghost kept = { semi_sync_ack_view };
+
+    ghost read_at = { λ _ bytes. semi_sync_ack_at bytes };
+
+    ghost IsReadBack = { λ _ p rest. IsSemiSyncAck (semi_sync_ack_view p) × (rest ≡ []) };
+
+    ghost sized = { λ _. unsized semi_sync_ack_at };
+
+    fn size() -> Option<usize>
+        ensures { result ≡ None }
+    {
+        None
+    }
+}
+
+impl<'a> ReadsBack for SemiSyncAckPacket<'a> {
+    ghost reads_back = { λ _ p rest h. semi_sync_ack_at-back (semi_sync_ack_view p) rest h.0 h.1 };
+}
+
+#[tactic(auto, unfolding(crate::specs::Packets::semi_sync_ack_fields_at))]
+fn fields_from<'de>(
+    alloc: Global,
+    rest: &mut ParseBuf<'de>,
+) -> Result<SemiSyncAckPacket<'de>, WireError>
+    ensures { TellsPart semi_sync_ack_view rest.new.0.now result (semi_sync_ack_fields_at rest.old.0.now) }
+{
+    let _header: SemiSyncAckPacketPacketHeader = rest.parse(alloc, ())?;
+    let Some(position) = rest.checked_eat_u64_le() else {
+        return Err(WireError::UnexpectedEof);
+    };
+    let filename = CowSlice::Borrowed(rest.eat_all());
+    Ok(SemiSyncAckPacket::new(position, filename))
+}
+
+/// Reads an acknowledgement. Refused by UnexpectedEof where there are fewer than 9 bytes, then by
+/// BadConstant for another first byte.
+///
+/// MySQL: Internals Manual, "Semi-Sync ACK packet".
+#[tactic(auto, unfolding(crate::specs::Packets::semi_sync_ack_at))]
+impl<'de> MyDeserialize<'de> for SemiSyncAckPacket<'de> {
+    fn deserialize(
+        alloc: Global,
+        _ctx: (),
+        buf: &mut ParseBuf<'de>,
+    ) -> Result<SemiSyncAckPacket<'de>, WireError> {
+        if buf.0.len() < 9 {
+            return Err(WireError::UnexpectedEof);
+        }
+        let mut rest = *buf;
+        let answer = fields_from(alloc, &mut rest);
+        if answer.is_ok() {
+            *buf = rest;
+        }
+        answer
+    }
+}

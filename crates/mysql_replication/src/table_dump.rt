@@ -1,0 +1,150 @@
+//! The request for a table.
+
+ghost use Rattle.std.specs.Prelude.{◌≡◌, IfOk, None, IsOkUnless, false};
+ghost use Rattle.std.specs.Cow.{cow_slice_items, cow_str_bytes};
+ghost use Rattle.std.specs.Str.{encode_utf8_all};
+ghost use Rattle.bstr.specs.Utf8.{lossy_chars};
+ghost use Rattle.mysql_buf.specs.Writing.{front};
+ghost use Rattle.mysql_fields.specs.Laws.{unsized};
+ghost use Rattle.mysql_replication.specs.PacketLaws.{table_dump_at-back};
+ghost use Rattle.mysql_replication.specs.Packets.{IsTableDump, TableDump, table_dump, table_dump_at};
+ghost use Rattle.mysql_replication.specs.Views.{table_dump_view};
+ghost use Rattle.mysql_fields.specs.declared.error.WireError.TheVariants as wire;
+
+use crate::fields::{ShortText, copy_of, lossy};
+use crate::headers::ComTableDumpHeader;
+use mysql_buf::{ParseBuf, front_of};
+use mysql_fields::{
+    MyDeserialize, MySerialize, ParseExt, Readable, ReadsBack, WireError, in_order,
+};
+use std::alloc::{AllocError, Global};
+use std::borrow::{CowSlice, CowStr};
+
+/// The request for a table: the names of its database and of the table. Of each at most 255 bytes are written.
+///
+/// MySQL: Client/Server Protocol, "COM_TABLE_DUMP".
+#[derive(Debug, PartialEq, Eq, Hash, Drop)]
+pub struct ComTableDump<'a> {
+    database: CowSlice<'a, u8>,
+    table: CowSlice<'a, u8>,
+}
+
+impl<'a> ComTableDump<'a> {
+    /// The request for this table of this database.
+    pub fn new(database: CowSlice<'a, u8>, table: CowSlice<'a, u8>) -> ComTableDump<'a>
+        ensures { table_dump_view result ≡
+            record {
+              database = cow_slice_items database.entry;
+              table =
+                  cow_slice_items table.entry;
+            } }
+    {
+        ComTableDump { database, table }
+    }
+
+    /// The bytes of the database's name: those that are written, at most 255.
+    pub fn database_raw(&self) -> &[u8]
+        ensures { result.now ≡ front (table_dump_view self.now).database 255 }
+    {
+        front_of(self.database.as_slice(), 255)
+    }
+
+    /// The database's name as text, where bytes that aren't UTF-8 are replaced. Refused for want of memory.
+    pub fn database(&self, alloc: Global) -> Result<CowStr<'_>, WireError>
+        ensures memory { IsOkUnless result wire.Memory }
+        ensures value { IfOk result (λ text. cow_str_bytes text ≡
+            encode_utf8_all (lossy_chars (front (table_dump_view self.now).database 255))) }
+    {
+        lossy(alloc, self.database_raw())
+    }
+
+    /// The bytes of the table's name: those that are written, at most 255.
+    pub fn table_raw(&self) -> &[u8]
+        ensures { result.now ≡ front (table_dump_view self.now).table 255 }
+    {
+        front_of(self.table.as_slice(), 255)
+    }
+
+    /// The table's name as text, where bytes that aren't UTF-8 are replaced. Refused for want of memory.
+    pub fn table(&self, alloc: Global) -> Result<CowStr<'_>, WireError>
+        ensures memory { IsOkUnless result wire.Memory }
+        ensures value { IfOk result (λ text. cow_str_bytes text ≡
+            encode_utf8_all (lossy_chars (front (table_dump_view self.now).table 255))) }
+    {
+        lossy(alloc, self.table_raw())
+    }
+
+    /// A copy, which borrows nothing. Refused for want of memory.
+    pub fn clone(&self, alloc: Global) -> Result<ComTableDump<'static>, AllocError>
+        ensures { IfOk result (λ copy. table_dump_view copy ≡ table_dump_view self.now) }
+    {
+        let database = copy_of(alloc, self.database.as_slice())?;
+        let table = copy_of(alloc, self.table.as_slice())?;
+        Ok(ComTableDump { database, table })
+    }
+}
+
+#[tactic(auto, unfolding(crate::specs::Packets::table_dump))]
+impl<'a> MySerialize for ComTableDump<'a> {
+    ghost written = { λ p. table_dump (table_dump_view p) };
+
+    fn serialize(&self, buf: &mut Vec<u8>) -> Result<(), AllocError> {
+        let database = ShortText(self.database.as_slice());
+        let table = ShortText(self.table.as_slice());
+        in_order!(ComTableDumpHeader::new(), database, table).serialize(buf)
+    }
+}
+
+impl<'a> Readable for ComTableDump<'a> {
+    type Ctx = ();
+
+    ghost SIZE = { None };
+
+    ghost AsksForMemory = { false };
+
+    ghost Shown = { TableDump };
+
+    ghost shown = { table_dump_view };
+
+    ghost kept = { table_dump_view };
+
+    ghost read_at = { λ _ bytes. table_dump_at bytes };
+
+    ghost IsReadBack = { λ _ p _. IsTableDump (table_dump_view p) };
+
+    ghost sized = { λ _. unsized table_dump_at };
+
+    fn size() -> Option<usize>
+        ensures { result ≡ None }
+    {
+        None
+    }
+}
+
+impl<'a> ReadsBack for ComTableDump<'a> {
+    ghost reads_back = { λ _ p. table_dump_at-back (table_dump_view p) };
+}
+
+/// Reads a request. Refused by UnexpectedEof where it is cut off, and by BadConstant for another
+/// first byte, whichever stands first.
+///
+/// MySQL: Client/Server Protocol, "COM_TABLE_DUMP".
+#[tactic(auto, unfolding(crate::specs::Packets::table_dump_at))]
+impl<'de> MyDeserialize<'de> for ComTableDump<'de> {
+    fn deserialize(
+        alloc: Global,
+        _ctx: (),
+        buf: &mut ParseBuf<'de>,
+    ) -> Result<ComTableDump<'de>, WireError> {
+        let mut rest = *buf;
+        let _header: ComTableDumpHeader = rest.parse(alloc, ())?;
+        let Some(database) = rest.checked_eat_u8_str() else {
+            return Err(WireError::UnexpectedEof);
+        };
+        let Some(table) = rest.checked_eat_u8_str() else {
+            return Err(WireError::UnexpectedEof);
+        };
+        *buf = rest;
+        Ok(ComTableDump::new(CowSlice::Borrowed(database), CowSlice::Borrowed(table)))
+    }
+}

@@ -1,3 +1,0 @@
-pub mod Parts
-pub mod Payloads
-pub mod Bytes

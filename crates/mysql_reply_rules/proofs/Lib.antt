@@ -1,0 +1,17 @@
+pub mod Causes
+pub mod Status
+pub mod Payloads
+pub mod Groups
+pub mod Forms
+pub mod Segments
+pub mod Results
+pub mod Rows
+pub mod Replies
+pub mod OwnPackets
+pub mod Own
+pub mod OwnCounts
+pub mod OwnSteps
+pub mod OwnForms
+pub mod FrontParts
+pub mod FrontPayloads
+pub mod FrontBytes

@@ -1,0 +1,72 @@
+-- What lent cells hold: the values that reading gives.
+-- MySQL: Client/Server Protocol, "Text Resultset Row" and "Binary Protocol Value".
+use Rattle.std.specs.Prelude.{◌≡◌, ℕ, ◌-◌, ◌≤◌, Bool, true, List, [], length, drop, Option, Some, None, is_some}
+use Rattle.mysql_buf.specs.Reading.{lenenc_str_at, u8_str_at}
+use Rattle.mysql_cells.specs.Cells.{date_of, time_of}
+use Rattle.mysql_cells.specs.declared.cell_form.CellForm as cells
+use Rattle.mysql_cells.specs.declared.cell_form.CellForm.TheVariants as cells_form
+use Rattle.mysql_cells.specs.declared.value.Value.{Value}
+use Rattle.mysql_cells.specs.declared.value.Value.TheVariants as value
+use Rattle.mysql_row_refs.specs.declared.cell_form.CellForm.{CellForm}
+use Rattle.mysql_row_refs.specs.declared.cell_form.CellForm.TheVariants as form
+use Rattle.mysql_row_refs.specs.declared.place.CellPlace.{CellPlace}
+use Rattle.mysql_row_refs.specs.declared.place.CellPlace.TheVariants as place
+use Rattle.mysql_row_refs.specs.declared.value_ref.ValueRef.{ValueRef}
+use Rattle.mysql_row_refs.specs.declared.value_ref.ValueRef.TheVariants as lent
+
+-- the value of which the bytes are lent
+abbrev pub value_of : ValueRef → Value
+value_of lent.NULL = value.NULL
+value_of (lent.Bytes bytes) = value.Bytes bytes.now
+value_of (lent.Int z) = value.Int z
+value_of (lent.UInt n) = value.UInt n
+value_of (lent.Float bits) = value.Float bits
+value_of (lent.Double bits) = value.Double bits
+value_of (lent.Date year month day hour minute second micros) = value.Date year month day hour minute second micros
+value_of (lent.Time negative days hours minutes seconds micros) = value.Time negative days hours minutes seconds micros
+
+-- the bytes that were read, none where nothing was
+abbrev pub bytes_read : Option (List ℕ × List ℕ) → List ℕ
+bytes_read None = []
+bytes_read (Some x) = x.0
+
+-- the value of a cell of a payload at a place
+abbrev pub held : List ℕ → CellPlace → Value
+held payload place.Null = value.NULL
+held payload (place.Bytes at) = value.Bytes (bytes_read (lenenc_str_at (drop at payload)))
+held payload (place.Int z) = value.Int z
+held payload (place.UInt n) = value.UInt n
+held payload (place.Float bits) = value.Float bits
+held payload (place.Double bits) = value.Double bits
+held payload (place.Date at) = date_of (bytes_read (u8_str_at (drop at payload)))
+held payload (place.Time at) = time_of (bytes_read (u8_str_at (drop at payload)))
+
+-- whether the bytes of a cell stand whole in a payload, behind their length
+abbrev pub is_inside : List ℕ → CellPlace → Bool
+is_inside payload place.Null = true
+is_inside payload (place.Bytes at) = is_some (lenenc_str_at (drop at payload))
+is_inside payload (place.Int z) = true
+is_inside payload (place.UInt n) = true
+is_inside payload (place.Float bits) = true
+is_inside payload (place.Double bits) = true
+is_inside payload (place.Date at) = is_some (u8_str_at (drop at payload))
+is_inside payload (place.Time at) = is_some (u8_str_at (drop at payload))
+
+-- the last bytes of a payload
+pub record IsTail (payload rest : List ℕ) : Type 0 where
+  pub len : length rest ≤ length payload
+  pub same : rest ≡ drop (length payload - length rest) payload
+
+-- the form of a type's cells
+abbrev pub form_view : CellForm → cells.CellForm
+form_view form.Nothing = cells_form.Nothing
+form_view form.Whole1 = cells_form.Whole1
+form_view form.Whole2 = cells_form.Whole2
+form_view form.Whole4 = cells_form.Whole4
+form_view form.Whole8 = cells_form.Whole8
+form_view form.FloatBits = cells_form.FloatBits
+form_view form.DoubleBits = cells_form.DoubleBits
+form_view form.Counted = cells_form.Counted
+form_view form.DateAndTime = cells_form.DateAndTime
+form_view form.Duration = cells_form.Duration
+form_view form.Without = cells_form.Without

@@ -1,0 +1,67 @@
+//! The forms of cells, by their column's type.
+
+ghost use Rattle.std.specs.Prelude.{◌≡◌};
+ghost use Rattle.mysql_cells.specs.Cells.{form};
+ghost use Rattle.mysql_row_refs.specs.Lent.{form_view};
+
+use mysql_const::ColumnType;
+
+/// The form of a type's cells.
+#[derive(Clone, Copy, Debug, PartialEq, Eq)]
+pub enum CellForm {
+    /// No byte.
+    Nothing,
+    Whole1,
+    Whole2,
+    Whole4,
+    Whole8,
+    FloatBits,
+    DoubleBits,
+    /// Length-encoded bytes.
+    Counted,
+    DateAndTime,
+    Duration,
+    /// The type has no cells.
+    Without,
+}
+
+/// The form of a type's cells.
+#[inline(always)]
+pub fn form_of_type(column_type: ColumnType) -> CellForm
+    ensures { form_view result ≡ form column_type }
+{
+    match column_type {
+        ColumnType::MYSQL_TYPE_NULL => CellForm::Nothing,
+        ColumnType::MYSQL_TYPE_TINY => CellForm::Whole1,
+        ColumnType::MYSQL_TYPE_SHORT | ColumnType::MYSQL_TYPE_YEAR => CellForm::Whole2,
+        ColumnType::MYSQL_TYPE_LONG | ColumnType::MYSQL_TYPE_INT24 => CellForm::Whole4,
+        ColumnType::MYSQL_TYPE_LONGLONG => CellForm::Whole8,
+        ColumnType::MYSQL_TYPE_FLOAT => CellForm::FloatBits,
+        ColumnType::MYSQL_TYPE_DOUBLE => CellForm::DoubleBits,
+        ColumnType::MYSQL_TYPE_DECIMAL
+        | ColumnType::MYSQL_TYPE_NEWDECIMAL
+        | ColumnType::MYSQL_TYPE_VARCHAR
+        | ColumnType::MYSQL_TYPE_VAR_STRING
+        | ColumnType::MYSQL_TYPE_STRING
+        | ColumnType::MYSQL_TYPE_TINY_BLOB
+        | ColumnType::MYSQL_TYPE_MEDIUM_BLOB
+        | ColumnType::MYSQL_TYPE_LONG_BLOB
+        | ColumnType::MYSQL_TYPE_BLOB
+        | ColumnType::MYSQL_TYPE_ENUM
+        | ColumnType::MYSQL_TYPE_SET
+        | ColumnType::MYSQL_TYPE_BIT
+        | ColumnType::MYSQL_TYPE_JSON
+        | ColumnType::MYSQL_TYPE_GEOMETRY
+        | ColumnType::MYSQL_TYPE_VECTOR => CellForm::Counted,
+        ColumnType::MYSQL_TYPE_DATE
+        | ColumnType::MYSQL_TYPE_DATETIME
+        | ColumnType::MYSQL_TYPE_TIMESTAMP => CellForm::DateAndTime,
+        ColumnType::MYSQL_TYPE_TIME => CellForm::Duration,
+        ColumnType::MYSQL_TYPE_NEWDATE
+        | ColumnType::MYSQL_TYPE_TIMESTAMP2
+        | ColumnType::MYSQL_TYPE_DATETIME2
+        | ColumnType::MYSQL_TYPE_TIME2
+        | ColumnType::MYSQL_TYPE_TYPED_ARRAY
+        | ColumnType::MYSQL_TYPE_UNKNOWN => CellForm::Without,
+    }
+}

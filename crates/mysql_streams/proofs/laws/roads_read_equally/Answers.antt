@@ -1,5 +1,0 @@
-use Rattle.mysql_streams.proofs.OneMeaning.{read_equally}
-use Rattle.mysql_streams.proofs.laws.roads_read_equally.Goals as goal
-
-pub returns : goal.returns
-returns c = read_equally c.tokens_of_a_text.ensures.one

@@ -1,5 +1,0 @@
-use Rattle.mysql_streams.proofs.JoinedStreams.{joined}
-use Rattle.mysql_streams.proofs.laws.sent_streams_join.Goals as goal
-
-pub returns : goal.returns
-returns c = joined c.tokens_of_a_text.ensures.one c.whole_streams_join.ensures

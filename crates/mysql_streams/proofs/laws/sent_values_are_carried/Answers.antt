@@ -1,5 +1,0 @@
-use Rattle.mysql_streams.proofs.Carried.{carried}
-use Rattle.mysql_streams.proofs.laws.sent_values_are_carried.Goals as goal
-
-pub returns : goal.returns
-returns c = carried c.queries_read.ensures c.executions_read.ensures c.requests_read.ensures

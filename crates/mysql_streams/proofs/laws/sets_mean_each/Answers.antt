@@ -1,5 +1,0 @@
-use Rattle.mysql_streams.proofs.Contents.{sets_mean_each}
-use Rattle.mysql_streams.proofs.laws.sets_mean_each.Goals as goal
-
-pub returns : goal.returns
-returns c = sets_mean_each

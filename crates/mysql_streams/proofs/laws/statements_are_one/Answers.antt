@@ -1,5 +1,0 @@
-use Rattle.mysql_streams.proofs.Statements.{one_statement}
-use Rattle.mysql_streams.proofs.laws.statements_are_one.Goals as goal
-
-pub returns : goal.returns
-returns c = one_statement c.tokens_of_a_text.ensures.one
