@@ -25,7 +25,7 @@ pub use chunk::{ChunkDecoder, ChunkInfo};
 pub use feed::{Packets, feed_all};
 pub use header::PartialHeader;
 pub use reader::PacketReader;
-pub use writing::packet_to_chunks;
+pub use writing::{frame_in_place, packet_header, packet_to_chunks};
 
 /// Why a codec refuses.
 #[derive(Debug, Drop, Error)]
