@@ -6,7 +6,7 @@ ghost use Rattle.mysql_columns.specs.Views.{column_view};
 ghost use Rattle.mysql_ok_packets.specs.OkPackets.{all_states_at};
 ghost use Rattle.mysql_ok_packets.specs.Views.{ok_packet_view};
 ghost use Rattle.mysql_ok_packets.specs.Written.{or_empty};
-ghost use Rattle.mysql_packets.specs.Views.{prepare_ok_view, server_error_view};
+ghost use Rattle.mysql_server_packets.specs.Views.{prepare_ok_view, server_error_view};
 ghost use Rattle.mysql_replies.specs.Grammar.{ErrorResult};
 ghost use Rattle.mysql_replies.specs.Views.{outcome_view};
 ghost use Rattle.mysql_c_handles.specs.Codes.{code_number};
@@ -20,8 +20,8 @@ use mysql_cells::Value;
 use mysql_columns::Column;
 use mysql_fields::{ParseExt, WireError};
 use mysql_ok_packets::OkPacket;
-use mysql_packets::{ServerError, StmtPacket};
 use mysql_replies::{ReplyEnd, ReplyResult};
+use mysql_server_packets::{ServerError, StmtPacket};
 use mysql_session_states::SessionStateInfo;
 use std::alloc::Global;
 

@@ -5,12 +5,12 @@ ghost use Rattle.std.specs.Cow.{cow_slice_items, cow_str_bytes};
 ghost use Rattle.mysql_fields.specs.Laws.{unsized};
 ghost use Rattle.mysql_fields.specs.Wire.{TellsPart};
 ghost use Rattle.mysql_fields.specs.declared.error.WireError.TheVariants as wire;
-ghost use Rattle.mysql_packets.specs.PacketLaws.{server_error_at-back, sql_state_at-back, sql_state_at-sized};
-ghost use Rattle.mysql_packets.specs.Packets.{IsServerError, ServerError as ServerErrorFields, server_error};
-ghost use Rattle.mysql_packets.specs.Packets.{server_error_at, sql_state, sql_state_at, sql_state_fields_at};
-ghost use Rattle.mysql_packets.specs.Packets.{state_part, state_part_at};
-ghost use Rattle.mysql_packets.specs.Texts.{lossy, server_error_text};
-ghost use Rattle.mysql_packets.specs.Views.{server_error_view, sql_state_view};
+ghost use Rattle.mysql_server_packets.specs.PacketLaws.{server_error_at-back, sql_state_at-back, sql_state_at-sized};
+ghost use Rattle.mysql_server_packets.specs.Packets.{IsServerError, ServerError as ServerErrorFields, server_error};
+ghost use Rattle.mysql_server_packets.specs.Packets.{server_error_at, sql_state, sql_state_at, sql_state_fields_at};
+ghost use Rattle.mysql_server_packets.specs.Packets.{state_part, state_part_at};
+ghost use Rattle.mysql_server_packets.specs.Texts.{lossy, server_error_text};
+ghost use Rattle.mysql_server_packets.specs.Views.{server_error_view, sql_state_view};
 
 use crate::headers::SqlStateMarker;
 use crate::texts::{copy_of, lossy};

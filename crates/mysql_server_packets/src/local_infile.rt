@@ -4,10 +4,10 @@ ghost use Rattle.std.specs.Prelude.{◌≡◌, [], IfOk, IsOkUnless, List, None,
 ghost use Rattle.std.specs.Cow.{cow_slice_items, cow_str_bytes};
 ghost use Rattle.mysql_fields.specs.Laws.{unsized};
 ghost use Rattle.mysql_fields.specs.declared.error.WireError.TheVariants as wire;
-ghost use Rattle.mysql_packets.specs.PacketLaws.{local_infile_at-back};
-ghost use Rattle.mysql_packets.specs.Packets.{local_infile, local_infile_at};
-ghost use Rattle.mysql_packets.specs.Texts.{lossy};
-ghost use Rattle.mysql_packets.specs.Views.{local_infile_view};
+ghost use Rattle.mysql_server_packets.specs.PacketLaws.{local_infile_at-back};
+ghost use Rattle.mysql_server_packets.specs.Packets.{local_infile, local_infile_at};
+ghost use Rattle.mysql_server_packets.specs.Texts.{lossy};
+ghost use Rattle.mysql_server_packets.specs.Views.{local_infile_view};
 
 use crate::headers::LocalInfileHeader;
 use crate::texts::{copy_of, lossy};
