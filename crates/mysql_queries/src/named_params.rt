@@ -124,7 +124,10 @@ impl<'a> ParsedNamedParams<'a> {
         self.params.as_slice()
     }
 
-    /// A copy of the parsed query, which borrows nothing. Refused for want of memory.
+    /// A copy of the parsed query, which borrows nothing.
+    ///
+    /// # Errors
+    /// - `AllocError` for want of memory.
     pub fn clone(&self, alloc: Global) -> Result<ParsedNamedParams<'static>, AllocError>
         ensures { IfOk result (λ copy. copy ≡ self.now) }
     {

@@ -30,7 +30,10 @@ pub enum Params {
 pub struct MissingNamedParameterError(pub ByteString);
 
 impl MissingNamedParameterError {
-    /// A copy. Refused for want of memory.
+    /// A copy.
+    ///
+    /// # Errors
+    /// - `AllocError` for want of memory.
     pub fn clone(&self, alloc: Global) -> Result<MissingNamedParameterError, AllocError>
         ensures { IfOk result (λ copy. copy ≡ self.now) }
     {
@@ -61,7 +64,10 @@ pub enum ParamsError {
 }
 
 impl ParamsError {
-    /// A copy. Refused for want of memory.
+    /// A copy.
+    ///
+    /// # Errors
+    /// - `AllocError` for want of memory.
     pub fn clone(&self, alloc: Global) -> Result<ParamsError, AllocError>
         ensures { IfOk result (λ copy. copy ≡ self.now) }
     {
@@ -244,7 +250,10 @@ fn copies_of(
 }
 
 impl Params {
-    /// A copy of the set, which gives each query what the set gives it. Refused for want of memory.
+    /// A copy of the set, which gives each query what the set gives it.
+    ///
+    /// # Errors
+    /// - `AllocError` for want of memory.
     pub fn clone(&self, alloc: Global) -> Result<Params, AllocError>
         ensures { IfOk result (λ copy. (names : List (List ℕ)) → values_over names copy ≡ values_over names self.now) }
     {
