@@ -67,7 +67,8 @@ impl<'a> ParsedNamedParams<'a> {
     /// Parses a query.
     ///
     /// # Errors
-    /// `Mixed` where both names and question marks occur, `Memory`.
+    /// - `Mixed` where both names and question marks occur.
+    /// - `Memory`.
     pub fn parse(alloc: Global, query: &'a [u8]) -> Result<ParsedNamedParams<'a>, NamedParamsError>
         ensures query { IfOk result (λ parsed. IsParsed query.entry.now parsed.query) }
         ensures names { IfOk result (λ parsed. HasNames query.entry.now parsed.names) }
@@ -82,7 +83,8 @@ impl<'a> ParsedNamedParams<'a> {
     /// Parses a query whose placeholders were found before.
     ///
     /// # Errors
-    /// `Mixed` where both names and question marks occur, `Memory`.
+    /// - `Mixed` where both names and question marks occur.
+    /// - `Memory`.
     pub fn parse_at(
         alloc: Global,
         query: &'a [u8],

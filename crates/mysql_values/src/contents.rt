@@ -26,10 +26,10 @@ pub trait ContentExt {
     // the content that this is
     ghost content: { Self → ContentOf };
 
-    /// The value that the content is sent as: `NULL`, a number as `Int` where it fits, else as
-    /// `UInt`, bytes as `Bytes`. They are copied.
+    /// The value that the content is sent as; bytes are copied.
     ///
-    /// A number is from -2^63 to 2^64-1, as each that was read is.
+    /// It is `NULL`, a number as `Int` where it fits, else as `UInt`, bytes as `Bytes`. A number is
+    /// from -2^63 to 2^64-1, as each that was read is.
     ///
     /// # Errors
     /// - `AllocError` for want of memory.
