@@ -31,12 +31,17 @@ fn put_chunk<B: BufMut>(number: u8, bytes: &[u8], dst: &mut B)
     dst.put_slice(bytes).unwrap();
 }
 
-/// Appends the framing of `payload` to `dst`, its first chunk numbered `id`, and answers the number
-/// after its last chunk: `id` and the count of chunks, modulo 256. A payload of n bytes takes
-/// n / [`MAX_PAYLOAD_LEN`] + 1 chunks, so one that fills its chunks ends with an empty chunk.
+/// Appends the framing of `payload` to `dst`, and answers the number after its last chunk.
 ///
-/// The error is a growth of `dst` that was refused; `dst` then holds what it held.
-/// (MySQL: Client/Server Protocol, "Protocol Basics: MySQL Packets", "Sending More Than 16Mb" and "Sequence ID".)
+/// The first chunk is numbered `id`; the answer is `id` and the count of chunks, modulo 256. A
+/// payload of n bytes takes n / [`MAX_PAYLOAD_LEN`] + 1 chunks, so one that fills its chunks ends
+/// with an empty chunk.
+///
+/// # Errors
+/// - `AllocError` where a growth of `dst` was refused; `dst` then holds what it held.
+///
+/// (MySQL: Client/Server Protocol, "Protocol Basics: MySQL Packets", "Sending More Than 16Mb" and
+/// "Sequence ID".)
 pub fn packet_to_chunks<B: BufMut>(id: u8, payload: &[u8], dst: &mut B) -> Result<u8, AllocError>
     ensures ok { OnOk result (B.written dst.new ≡ B.written dst.old ++ framing payload.now id) }
     ensures next { IfOk result (λ next. next ≡ number_after payload.now id) }
