@@ -37,6 +37,8 @@ fn put_chunk<B: BufMut>(number: u8, bytes: &[u8], dst: &mut B)
 /// payload of n bytes takes n / [`MAX_PAYLOAD_LEN`] + 1 chunks, so one that fills its chunks ends
 /// with an empty chunk.
 ///
+/// Promise: exactly the framing is appended, or nothing (`framing`).
+///
 /// # Errors
 /// - `AllocError` where a growth of `dst` was refused; `dst` then holds what it held.
 ///
