@@ -80,9 +80,15 @@ fn or_eof<T>(first: Option<T>) -> Result<T, WireError>
 /// read. Of a date or a time the fields that its length leaves out are 0, and bytes behind its last
 /// field are skipped.
 ///
+/// Promise: exactly what stands first is read by the type and its sign, in spellings too that no
+/// writer chooses; a refusal leaves all bytes (`cell_at`).
+///
 /// # Errors
-/// `UnsupportedType` for a type without cells, `UnexpectedEof` where the bytes end before the cell
-/// does, then `Memory`. All bytes are then left.
+/// - `UnsupportedType` for a type without cells.
+/// - `UnexpectedEof` where the bytes end before the cell does.
+/// - `Memory`.
+///
+/// All bytes are left after an error.
 ///
 /// Follows "Binary Protocol Value" of the client/server protocol documentation.
 #[tactic(auto, unfolding(crate::specs::Cells::cell_at))]
@@ -102,9 +108,14 @@ pub fn read_cell(
 
 /// Reads the cell of the text protocol that stands first: NULL or bytes.
 ///
+/// Promise: exactly what stands first is read; a refusal leaves all bytes (`text_cell_at`).
+///
 /// # Errors
-/// `UnexpectedEof` where the bytes end before the cell does, `BadLength` where the first one is ff,
-/// then `Memory`. All bytes are then left.
+/// - `UnexpectedEof` where the bytes end before the cell does.
+/// - `BadLength` where the first one is ff.
+/// - `Memory`.
+///
+/// All bytes are left after an error.
 ///
 /// Follows "Text Resultset Row" of the client/server protocol documentation.
 #[tactic(auto, unfolding(crate::specs::Cells::text_cell_at))]
@@ -155,6 +166,8 @@ impl MySerialize for Value {
 
 impl Value {
     /// How many bytes `serialize` writes.
+    ///
+    /// Promise: that is the length of the cell that is written (`bin_len`).
     pub fn bin_len(&self) -> u64
         ensures { result ≡ bin_len self.now }
     {

@@ -66,8 +66,12 @@ impl<'a> Model for ParsedNamedParams<'a> {
 impl<'a> ParsedNamedParams<'a> {
     /// Parses a query.
     ///
+    /// Promise: the query has question marks for its names, which are listed in order; it is
+    /// refused exactly where both kinds occur (`IsParsed`).
+    ///
     /// # Errors
-    /// `Mixed` where both names and question marks occur, `Memory`.
+    /// - `Mixed` where both names and question marks occur.
+    /// - `Memory`.
     pub fn parse(alloc: Global, query: &'a [u8]) -> Result<ParsedNamedParams<'a>, NamedParamsError>
         ensures query { IfOk result (λ parsed. IsParsed query.entry.now parsed.query) }
         ensures names { IfOk result (λ parsed. HasNames query.entry.now parsed.names) }
@@ -81,8 +85,12 @@ impl<'a> ParsedNamedParams<'a> {
 
     /// Parses a query whose placeholders were found before.
     ///
+    /// Promise: what [`parse`](Self::parse) promises, over places that are the query's
+    /// (`IsParsed`).
+    ///
     /// # Errors
-    /// `Mixed` where both names and question marks occur, `Memory`.
+    /// - `Mixed` where both names and question marks occur.
+    /// - `Memory`.
     pub fn parse_at(
         alloc: Global,
         query: &'a [u8],
@@ -124,7 +132,10 @@ impl<'a> ParsedNamedParams<'a> {
         self.params.as_slice()
     }
 
-    /// A copy of the parsed query, which borrows nothing. Refused for want of memory.
+    /// A copy of the parsed query, which borrows nothing.
+    ///
+    /// # Errors
+    /// - `AllocError` for want of memory.
     pub fn clone(&self, alloc: Global) -> Result<ParsedNamedParams<'static>, AllocError>
         ensures { IfOk result (λ copy. copy ≡ self.now) }
     {
