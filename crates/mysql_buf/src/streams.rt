@@ -19,6 +19,9 @@ pub trait ReadMysqlExt: Read {
     /// by, `UnexpectedEof` where the bytes end early, or `InvalidData` where the first byte is
     /// `fb` or `ff`, which begins no number.
     /// (MySQL: Client/Server Protocol, "Protocol::LengthEncodedInteger".)
+    ///
+    /// Promise: the answer is what stands first, and a number that begins with fb or ff is refused
+    /// (`begun_lenenc_int_at`).
     final fn read_lenenc_int(&mut self) -> io::Result<u64>
     where
         Self: Sized,
@@ -38,6 +41,9 @@ pub trait ReadMysqlExt: Read {
     }
 
     /// Reads a length-encoded number and that many bytes, which take room only as they come.
+    ///
+    /// Promise: the answer is what stands first, and a text that begins with fb or ff is refused
+    /// (`begun_lenenc_str_at`).
     ///
     /// # Errors
     /// - Those of [`read_lenenc_int`](Self::read_lenenc_int).

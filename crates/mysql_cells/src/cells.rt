@@ -70,6 +70,9 @@ fn there<T>(first: Option<T>) -> Result<T, WireError>
 /// read. Of a date or a time the fields that its length leaves out are 0, and bytes behind its last
 /// field are skipped.
 ///
+/// Promise: exactly what stands first is read by the type and its sign, in spellings too that no
+/// writer chooses; a refusal leaves all bytes (`cell_at`).
+///
 /// # Errors
 /// - `UnsupportedType` for a type without cells.
 /// - `UnexpectedEof` where the bytes end before the cell does.
@@ -94,6 +97,8 @@ pub fn read_cell(
 }
 
 /// Reads the cell of the text protocol that stands first: NULL or bytes.
+///
+/// Promise: exactly what stands first is read; a refusal leaves all bytes (`text_cell_at`).
 ///
 /// # Errors
 /// - `UnexpectedEof` where the bytes end before the cell does.
@@ -151,6 +156,8 @@ impl MySerialize for Value {
 
 impl Value {
     /// How many bytes `serialize` writes.
+    ///
+    /// Promise: that is the length of the cell that is written (`bin_len`).
     pub fn bin_len(&self) -> u64
         ensures { result ≡ bin_len self.now }
     {

@@ -66,6 +66,9 @@ impl<'a> Model for ParsedNamedParams<'a> {
 impl<'a> ParsedNamedParams<'a> {
     /// Parses a query.
     ///
+    /// Promise: the query has question marks for its names, which are listed in order; it is
+    /// refused exactly where both kinds occur (`IsParsed`).
+    ///
     /// # Errors
     /// - `Mixed` where both names and question marks occur.
     /// - `Memory`.
@@ -81,6 +84,9 @@ impl<'a> ParsedNamedParams<'a> {
     }
 
     /// Parses a query whose placeholders were found before.
+    ///
+    /// Promise: what [`parse`](Self::parse) promises, over places that are the query's
+    /// (`IsParsed`).
     ///
     /// # Errors
     /// - `Mixed` where both names and question marks occur.
