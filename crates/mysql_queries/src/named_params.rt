@@ -149,7 +149,7 @@ impl<'a> ParsedNamedParams<'a> {
 }
 
 /// Copies of the names, which borrow nothing.
-fn copied_names(
+pub(crate) fn copied_names(
     alloc: Global,
     names: &[CowSlice<'_, u8>],
 ) -> Result<Vec<CowSlice<'static, u8>>, AllocError>
@@ -182,7 +182,11 @@ pub fn names_among<'a>(
 }
 
 /// The query with a question mark for each placeholder.
-fn with_marks(alloc: Global, query: &[u8], places: &[Place]) -> Result<Vec<u8>, AllocError>
+pub(crate) fn with_marks(
+    alloc: Global,
+    query: &[u8],
+    places: &[Place],
+) -> Result<Vec<u8>, AllocError>
     requires { HasPlaces query.now places.now }
     ensures { IfOk result (λ parsed. parsed.items ≡ join_with_byte question (slices_between query.now 0 places.now)) }
 {
