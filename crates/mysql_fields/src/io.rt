@@ -120,8 +120,12 @@ pub trait ReadsBack: MySerialize + Readable {
 /// Promise: reading answers exactly what the type's function gives of the bytes, the value and the
 /// rest or the refusal, and a refusal leaves all bytes (`Answers`).
 pub trait MyDeserialize<'de>: Readable {
-    /// Reads the value that stands first. A refused call leaves the buffer as it was; that memory
-    /// was refused is answered only by a type that asks for some.
+    /// Reads the value that stands first.
+    ///
+    /// # Errors
+    /// - Those of the type. `Memory` is answered only by a type that asks for some.
+    ///
+    /// The buffer is as it was after an error.
     fn deserialize(
         alloc: Global,
         ctx: Self::Ctx,

@@ -100,14 +100,17 @@ fn literal_len(text: &[u8], buf: &mut Vec<u8>) -> Result<Option<(Literal, usize)
     }
 }
 
-/// Reads the literal at the front of a text, and gives what follows it. What the buffer held goes,
-/// and a literal's bytes are put into it.
+/// Reads the literal at the front of a text, and gives what follows it.
 ///
-/// All that stands there of the literal's form is read: all digits, `0x` with all hexadecimal
-/// digits, a body in single quotes to its closing quote. None where that is no literal.
+/// What the buffer held goes, and a literal's bytes are put into it. All that stands there of the
+/// literal's form is read: all digits, `0x` with all hexadecimal digits, a body in single quotes to
+/// its closing quote. None where that is no literal.
+///
+/// Promise: the longest run of a literal's form is taken and its content answered, or that this run
+/// is no literal (`IsLiteralRun`, `IsNoLiteral`).
 ///
 /// # Errors
-/// [`AllocError`], only where the buffer has no room for as many bytes as the text.
+/// - `AllocError`, only where the buffer has no room for as many bytes as the text.
 pub fn read_literal<'a>(
     text: &'a [u8],
     buf: &mut Vec<u8>,

@@ -13,11 +13,11 @@ use std::alloc::{AllocError, Global};
 use std::borrow::CowSlice;
 use std::marker::Model;
 
-/// A query's text with its placeholders, the names among them, and what they say of the whole:
-/// whether both kinds occur, and which of them is the first that doesn't stand alone.
+/// A query's text with its placeholders and what they say of the whole.
 ///
-/// It is found once, and serves each call that sends, binds or reads parameter sets of the query.
-/// Contracts see the text and the placeholders.
+/// That is the names among them, whether both kinds occur, and which is the first that doesn't
+/// stand alone. It is found once, and serves each call that sends, binds or reads parameter sets of
+/// the query. Contracts see the text and the placeholders.
 #[derive(Drop)]
 pub struct ParsedQuery<'q> {
     text: CowSlice<'q, u8>,
@@ -40,7 +40,13 @@ impl<'q> Model for ParsedQuery<'q> {
 }
 
 impl<'q> ParsedQuery<'q> {
-    /// Finds the placeholders of a query and what they say of it. Refused for want of memory alone.
+    /// Finds the placeholders of a query and what they say of it.
+    ///
+    /// Promise: the placeholders are exactly those of the text, which is kept as it is
+    /// (`HasPlaces`).
+    ///
+    /// # Errors
+    /// - `AllocError` for want of memory.
     ///
     /// (MySQL Reference Manual, "PREPARE Statement" (parameter markers).)
     pub fn new(alloc: Global, text: &'q [u8]) -> Result<ParsedQuery<'q>, AllocError>
@@ -99,8 +105,14 @@ impl<'q> ParsedQuery<'q> {
         self.not_alone
     }
 
-    /// The text with a question mark for each placeholder, as a statement is prepared: it is
-    /// borrowed where nothing has to change. Refused for want of memory alone.
+    /// The text with a question mark for each placeholder, as a statement is prepared.
+    ///
+    /// It is borrowed where nothing has to change.
+    ///
+    /// Promise: the text is the query with a question mark for each name (`IsParsed`).
+    ///
+    /// # Errors
+    /// - `AllocError` for want of memory.
     ///
     /// (MySQL Reference Manual, "PREPARE Statement" (parameter markers).)
     pub fn with_marks(&self, alloc: Global) -> Result<CowSlice<'q, u8>, AllocError>
@@ -114,7 +126,10 @@ impl<'q> ParsedQuery<'q> {
         Ok(CowSlice::Owned(with_marks(alloc, self.text.as_slice(), &self.places)?))
     }
 
-    /// A copy, which borrows nothing. Refused for want of memory alone.
+    /// A copy, which borrows nothing.
+    ///
+    /// # Errors
+    /// - `AllocError` for want of memory.
     pub fn clone(&self, alloc: Global) -> Result<ParsedQuery<'static>, AllocError>
         ensures { IfOk result (λ copy. copy ≡ self.now) }
     {

@@ -40,8 +40,11 @@ fn read_content<'a>(
 /// and each of them stands alone. None where the text is not the query's pieces with literals
 /// between them.
 ///
+/// Promise: the contents are those of the text over the query, by its pieces and by its tokens, and
+/// None says that no contents satisfy it (`Slices`, `Lexes`).
+///
 /// # Errors
-/// [`AllocError`] alone.
+/// - `AllocError` for want of memory.
 pub fn read_text(
     alloc: Global,
     query: &[u8],

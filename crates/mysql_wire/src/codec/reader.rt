@@ -408,7 +408,8 @@ impl PacketReader {
 
     /// Takes the payload that was handed out, without a copy; then none is.
     ///
-    /// Where memory was refused, all is as it was.
+    /// # Errors
+    /// - `AllocError` for want of memory. All is then as it was.
     pub fn take_payload(&mut self) -> Result<Vec<u8>, AllocError>
         ensures ok { IfOk result (λ payload. payload.items ≡ self.old.payload) }
         ensures taken { OnOk result (self.new ≡ record self.old { payload = [] }) }
