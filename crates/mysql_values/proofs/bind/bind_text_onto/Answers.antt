@@ -1,6 +1,5 @@
-use Rattle.std.proofs.Common.{◌≡◌, ◌++◌, ◌-◌, Ok, Some, length, map, drop, arith, take_all, length-drop, sym, ap, ◌∙◌, inl, inr, refl}
+use Rattle.std.proofs.Common.{◌≡◌, ◌++◌, ◌-◌, Ok, Some, length, map, drop, arith, take_all, length-drop, sym, ap, ◌∙◌, inr}
 use Rattle.std.proofs.lemmas.List.{length-map}
-use Rattle.std.proofs.lemmas.Result.{err_from_is_err_and}
 use Rattle.mysql_cells.specs.Values.{literal_of}
 use Rattle.mysql_values.specs.Params.{values_over}
 use Rattle.mysql_values.proofs.BindCauses.{bind_ok, float_is_cause}
