@@ -25,9 +25,11 @@ use mysql_server_packets::{ServerError, StmtPacket};
 use mysql_session_states::SessionStateInfo;
 use std::alloc::Global;
 
-/// A result: its kind (0 OK, 1 rows, 2 a prepared statement, 3 an error, 4 a request for a file),
-/// and what that kind has. The text is what an OK packet tells, an error's message or a file's
-/// name; `ended` is false of rows alone, where the packet that ends them didn't come.
+/// A result: its kind, and what that kind has.
+///
+/// The kinds are 0 OK, 1 rows, 2 a prepared statement, 3 an error, 4 a request for a file. The text
+/// is what an OK packet tells, an error's message or a file's name; `ended` is false of rows alone,
+/// where the packet that ends them didn't come.
 #[repr(C)]
 #[derive(Clone, Copy)]
 pub struct ShownResult {
@@ -49,8 +51,10 @@ pub struct ShownResult {
     pub ended: bool,
 }
 
-/// A value: its kind (0 NULL, 1 a number with a sign, 2 one without, 3 bytes, 4 a float by its
-/// bits, 5 a double by its bits, 6 a date, 7 a duration), and what that kind has.
+/// A value: its kind, and what that kind has.
+///
+/// The kinds are 0 NULL, 1 a number with a sign, 2 one without, 3 bytes, 4 a float by its bits, 5 a
+/// double by its bits, 6 a date, 7 a duration.
 #[repr(C)]
 #[derive(Clone, Copy)]
 pub struct ShownValue {

@@ -133,7 +133,7 @@ fn take_column(object: &mut Object, column: Column) -> Code
     }
 }
 
-/// The same to the writer that a handle stands for.
+/// Gives one more column to the writer that a handle stands for.
 fn give_column(alloc: Global, handle: &mut Handle, column: Column) -> u32
     ensures { OfWriter handle.old.object result handle.new.object
         (TakesColumn (column_view column) result handle.new.object) }
@@ -160,9 +160,10 @@ fn end(object: &Object, spot: &mut ShownSpot) -> Code
     }
 }
 
-/// Makes the handle stand for a writer of the reply to a command of this kind: 0 is a query, 1 an
-/// execution, 2 a prepare. The reply's first chunk has the number `first`, and a payload has at
-/// most `limit` bytes.
+/// Makes the handle stand for a writer of the reply to a command of this kind.
+///
+/// The kinds are 0 a query, 1 an execution, 2 a prepare. The reply's first chunk has the number
+/// `first`, and a payload has at most `limit` bytes.
 pub fn writer_new(
     alloc: Global,
     handle: &mut Handle,

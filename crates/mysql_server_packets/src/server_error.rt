@@ -47,7 +47,10 @@ impl SqlState {
         self.state
     }
 
-    /// Its bytes as text, where those that aren't UTF-8 are replaced. Refused for want of memory.
+    /// Its bytes as text, where those that aren't UTF-8 are replaced.
+    ///
+    /// # Errors
+    /// - `Memory`.
     pub fn as_str(&self, alloc: Global) -> Result<CowStr<'_>, WireError>
         ensures memory { IsOkUnless result wire.Memory }
         ensures value { IfOk result (λ text. cow_str_bytes text ≡ lossy (sql_state_view self.now)) }
@@ -174,7 +177,10 @@ impl<'a> ServerError<'a> {
         self.message.as_slice()
     }
 
-    /// Its text, where bytes that aren't UTF-8 are replaced. Refused for want of memory.
+    /// Its text, where bytes that aren't UTF-8 are replaced.
+    ///
+    /// # Errors
+    /// - `Memory`.
     pub fn message_str(&self, alloc: Global) -> Result<CowStr<'_>, WireError>
         ensures memory { IsOkUnless result wire.Memory }
         ensures value { IfOk result (λ text. cow_str_bytes text ≡ lossy (server_error_view self.now).error_message) }
@@ -182,7 +188,10 @@ impl<'a> ServerError<'a> {
         lossy(alloc, self.message_ref())
     }
 
-    /// The same error, which borrows nothing. Refused for want of memory.
+    /// The error in bytes of its own: it borrows nothing.
+    ///
+    /// # Errors
+    /// - `AllocError` for want of memory.
     pub fn into_owned(self, alloc: Global) -> Result<ServerError<'static>, AllocError>
         ensures { IfOk result (λ owned. server_error_view owned ≡ server_error_view self.entry) }
     {
@@ -193,7 +202,10 @@ impl<'a> ServerError<'a> {
         })
     }
 
-    /// A copy, which borrows nothing. Refused for want of memory.
+    /// A copy, which borrows nothing.
+    ///
+    /// # Errors
+    /// - `AllocError` for want of memory.
     pub fn clone(&self, alloc: Global) -> Result<ServerError<'static>, AllocError>
         ensures { IfOk result (λ copy. server_error_view copy ≡ server_error_view self.now) }
     {
