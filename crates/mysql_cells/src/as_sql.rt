@@ -17,7 +17,7 @@ use thiserror::Error;
 #[derive(Clone, Copy, Debug, PartialEq, Eq, Error)]
 pub enum AsSqlError {
     /// The value is a float.
-    #[error("a float has no text here")]
+    #[error("a float has no text here: convert it to a text")]
     Float,
     #[error("out of memory")]
     Memory,
@@ -109,6 +109,9 @@ impl Value {
     /// `no_backslash_escape` it is for one in the SQL mode NO_BACKSLASH_ESCAPES: single quotes are
     /// doubled, and no other byte is escaped. By the wrong one of both, or in a character set with
     /// a quote or a backslash among the bytes of a character, a value may end its literal.
+    ///
+    /// Promise: exactly the stated text of the value is written, with backslash escapes a literal
+    /// of its content (`sql_of`, `SqlIsLiteral`).
     ///
     /// # Errors
     /// - `Float` for a float.

@@ -49,10 +49,10 @@ use thiserror::Error;
 #[derive(Debug, PartialEq, Eq, Hash, Drop, Error)]
 pub enum BindError {
     /// The query has both kinds of placeholder.
-    #[error("the query has both named and positional parameters")]
+    #[error("the query has both named and positional parameters: use one kind")]
     Mixed,
     /// The first placeholder that does not stand alone, counted from 0.
-    #[error("placeholder {0} does not stand alone")]
+    #[error("placeholder {0} does not stand alone: put blanks around it")]
     NotAlone(usize),
     /// The set gives the query no values. This is never `Memory`.
     #[error(transparent)]
@@ -61,7 +61,7 @@ pub enum BindError {
     #[error("the values are not as many as the placeholders")]
     WrongCount,
     /// The first placeholder whose value is a float, counted from 0.
-    #[error("the value of placeholder {0} is a float")]
+    #[error("the value of placeholder {0} is a float: give it as a text")]
     Float(usize),
     #[error("out of memory")]
     Memory,
@@ -222,6 +222,9 @@ pub fn bind_text_over<'a>(
 /// `places` are those that [`places`] lists, so that many sets need them found once. Safe for the
 /// servers that [`bind_text`] names.
 ///
+/// Promise: what [`bind_text`] promises, over places that are the query's (`IsBound`,
+/// `IsBindCause`).
+///
 /// # Errors
 /// - Those of [`bind_text`], in its order; nothing is appended then.
 pub fn bind_text_at(
@@ -259,6 +262,10 @@ pub fn bind_text_at(
 /// the quote is read as SQL: send by execution there.
 ///
 /// An all-zero time is written without its sign.
+///
+/// Promise: the text has the query's tokens with one literal in each place, and is read as the
+/// set's meaning; else it is refused exactly for its causes, the first one (`IsBound`, `Lexes`,
+/// `Slices`, `IsBindCause`).
 ///
 /// # Errors
 /// - `Mixed`.

@@ -45,10 +45,10 @@ impl MissingNamedParameterError {
 #[derive(Clone, Copy, Debug, PartialEq, Eq, Hash, Error)]
 pub enum ParamsConfusionError {
     /// Names for a query that has none.
-    #[error("named parameters for a query without names")]
+    #[error("named parameters for a query without names: give the values in order")]
     NamedParamsForPositionalQuery,
     /// A list of values for a query with names.
-    #[error("positional parameters for a query with names")]
+    #[error("positional parameters for a query with names: name each value")]
     PositionalParamsForNamedQuery,
 }
 
@@ -104,7 +104,7 @@ pub enum SetError {
     #[error("the named parameter {name} is given twice", name = .0.as_slice().escape_ascii())]
     Redefined(ByteString),
     /// The least place whose value is too long.
-    #[error("the value at place {0} is too long")]
+    #[error("the value at place {0} is too long: a time has at most 4294967295 days")]
     TooLong(usize),
     #[error("out of memory")]
     Memory,
@@ -271,6 +271,9 @@ impl Params {
     /// A set by name looks up each name of the query, a name that occurs twice twice; names that
     /// the query lacks are left aside.
     ///
+    /// Promise: the values are those that the set gives the query, or its first error
+    /// (`values_over`).
+    ///
     /// # Errors
     /// - `Missing` with the first name that has no entry.
     /// - `Confusion` for names over a query without names, and for a list of values over a query
@@ -353,6 +356,9 @@ impl Params {
     /// The set by place: a set by name becomes the list of these names' values.
     ///
     /// Any other set stays as it is.
+    ///
+    /// Promise: the set gives by place what it gave these names, or the first name without a value
+    /// is named (`IsPositional`).
     ///
     /// # Errors
     /// - `Missing` with the first name that has no entry.
