@@ -1,4 +1,7 @@
-//! More data, and the server's public key.
+//! What a server sends further while a client logs in: data of the plugin, or its public key.
+//!
+//!     let more: AuthMoreData = ParseBuf(payload).parse(alloc, ())?;
+//!     let data = more.data();
 
 ghost use Rattle.std.specs.Prelude.{◌≡◌, IfOk, List, None, [], ℕ, IsOkUnless, false};
 ghost use Rattle.std.proofs.Common.{lit<};

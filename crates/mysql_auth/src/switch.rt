@@ -1,4 +1,7 @@
-//! Requests for another plugin.
+//! Requests of a server to go on with another plugin.
+//!
+//!     let request: AuthSwitchRequest = ParseBuf(payload).parse(alloc, ())?;
+//!     let plugin = request.auth_plugin();
 
 ghost use Rattle.std.specs.Prelude.{◌≡◌, IfOk, None, Some, ℕ, false};
 ghost use Rattle.std.specs.Cow.{cow_slice_items};

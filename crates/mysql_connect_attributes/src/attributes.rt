@@ -1,4 +1,7 @@
-//! The attributes of a connection.
+//! The attributes of a connection: texts by keys, such as the client's name and version.
+//!
+//!     let attributes = ConnectAttributes::from_texts(alloc, texts)?;
+//!     attributes.serialize(&mut payload)?;
 
 ghost use Rattle.std.specs.Prelude.{◌≡◌, IfOk, IfSome, List, None, [], length, map, IsOkUnless};
 ghost use Rattle.std.specs.Cow.{cow_slice_items};

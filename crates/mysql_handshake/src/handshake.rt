@@ -1,4 +1,8 @@
-//! The initial handshake packet.
+//! The initial handshake packet: what a server says of itself when a connection is opened.
+//!
+//!     let greeting: HandshakePacket = ParseBuf(payload).parse(alloc, ())?;
+//!     let version = greeting.server_version_parsed();
+//!     let plugin = greeting.auth_plugin();
 
 ghost use Rattle.std.specs.Prelude.{[], ◌≡◌, ◌≤◌, IfOk, None, Ok, Some, length, IsOkUnless, false};
 ghost use Rattle.std.specs.Cow.{cow_slice_items, cow_str_bytes};

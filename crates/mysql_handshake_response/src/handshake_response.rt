@@ -1,4 +1,7 @@
-//! A client's answer to the handshake.
+//! A client's answer to the handshake: who logs in, by which plugin, to which database.
+//!
+//!     let answer: HandshakeResponse = ParseBuf(payload).parse(alloc, ())?;
+//!     let user = answer.user();
 
 ghost use Rattle.std.specs.Prelude.{◌≡◌, IfOk, None, map, option_map, IsOkUnless};
 ghost use Rattle.std.specs.Cow.{cow_slice_items};

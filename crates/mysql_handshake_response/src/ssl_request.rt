@@ -1,4 +1,7 @@
-//! The request for a secure connection.
+//! The request for a secure connection, which comes before the answer that logs in.
+//!
+//!     let request = SslRequest::new(capabilities, max_packet_size, character_set);
+//!     request.serialize(&mut payload)?;
 
 ghost use Rattle.std.specs.Prelude.{◌≡◌, Some, false};
 ghost use Rattle.mysql_fields.specs.Wire.{TellsPart};

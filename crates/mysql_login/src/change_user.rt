@@ -1,4 +1,8 @@
-//! The command that logs another user in.
+//! The command that logs another user in on an open connection.
+//!
+//!     let more = ComChangeUserMoreData::new(45).with_auth_plugin(Some(plugin));
+//!     let command = ComChangeUser::new().with_user(Some(name)).with_more_data(Some(more));
+//!     command.serialize(&mut payload)?;
 
 ghost use Rattle.std.specs.Prelude.{◌≡◌, [], IfOk, None, map, option_map};
 ghost use Rattle.std.specs.Cow.{cow_slice_items};

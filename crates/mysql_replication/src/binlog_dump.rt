@@ -1,4 +1,7 @@
-//! The request for the binary log from a place.
+//! The request for the binary log from a place: a file, and a position in it.
+//!
+//!     let request = ComBinlogDump::new(server_id).with_pos(4).with_filename(name);
+//!     request.serialize(&mut payload)?;
 
 ghost use Rattle.std.specs.Prelude.{◌≡◌, [], IfOk, None, IsOkUnless, false};
 ghost use Rattle.std.specs.Cow.{cow_slice_items, cow_str_bytes};

@@ -1,4 +1,7 @@
 //! The request for the binary log without the transactions that are known.
+//!
+//!     let request = ComBinlogDumpGtid::new(server_id).with_sid(alloc, sid)?;
+//!     request.serialize(&mut payload)?;
 
 ghost use Rattle.std.specs.Prelude.{◌≡◌, ◌^◌, ◌-◌, ◌++◌, ◌∷◌, [], Bool, IfOk, None, map, IsOkUnless};
 ghost use Rattle.std.specs.Cow.{cow_slice_items, cow_str_bytes};

@@ -1,4 +1,7 @@
-//! What a replica says of itself.
+//! What a replica says of itself before it asks for the binary log.
+//!
+//!     let packet = ComRegisterSlave::new(server_id).with_hostname(host).with_port(3306);
+//!     packet.serialize(&mut payload)?;
 
 ghost use Rattle.std.specs.Prelude.{◌≡◌, [], IfOk, None, IsOkUnless, false};
 ghost use Rattle.std.specs.Cow.{cow_slice_items, cow_str_bytes};

@@ -1,4 +1,6 @@
-//! The acknowledgement of an event by a replica.
+//! The acknowledgement of an event by a replica: a position in the binary log, and the file.
+//!
+//!     SemiSyncAckPacket::new(position, filename).serialize(&mut payload)?;
 
 ghost use Rattle.std.specs.Prelude.{◌≡◌, [], IfOk, None, IsOkUnless, false};
 ghost use Rattle.std.specs.Cow.{cow_slice_items, cow_str_bytes};

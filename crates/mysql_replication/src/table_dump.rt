@@ -1,4 +1,6 @@
-//! The request for a table.
+//! The request for a table, as replicas of old made it.
+//!
+//!     ComTableDump::new(database, table).serialize(&mut payload)?;
 
 ghost use Rattle.std.specs.Prelude.{◌≡◌, IfOk, None, IsOkUnless, false};
 ghost use Rattle.std.specs.Cow.{cow_slice_items, cow_str_bytes};

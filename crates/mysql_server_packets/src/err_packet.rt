@@ -1,4 +1,9 @@
-//! Error packets.
+//! Error packets: an error, or a progress report where these were agreed on.
+//!
+//!     let packet: ErrPacket = ParseBuf(payload).parse(alloc, capabilities)?;
+//!     if packet.is_error() {
+//!         let error = packet.server_error();
+//!     }
 
 ghost use Rattle.std.specs.Prelude.{◌≡◌, IfOk, None, Some, false, not, true, ℕ};
 ghost use Rattle.mysql_fields.specs.Laws.{unsized};

@@ -1,4 +1,7 @@
-//! Requests for files.
+//! Requests for files: the server asks a client for a file of its own.
+//!
+//!     let request: LocalInfilePacket = ParseBuf(payload).parse(alloc, ())?;
+//!     let name = request.file_name_ref();
 
 ghost use Rattle.std.specs.Prelude.{◌≡◌, [], IfOk, IsOkUnless, List, None, false, ℕ};
 ghost use Rattle.std.specs.Cow.{cow_slice_items, cow_str_bytes};

@@ -1,4 +1,6 @@
-//! Progress reports.
+//! Progress reports: how far a long command has come, as MariaDB tells it.
+//!
+//!     let report = ProgressReport::new(1, 2, 50000, CowSlice::Borrowed(b"copying"));
 
 ghost use Rattle.std.specs.Prelude.{◌≡◌, IfOk, IsOkUnless, None, Some, false};
 ghost use Rattle.std.specs.Cow.{cow_slice_items, cow_str_bytes};

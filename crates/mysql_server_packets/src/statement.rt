@@ -1,4 +1,7 @@
-//! Statement packets.
+//! Statement packets: the first packet of the answer to a prepare.
+//!
+//!     let packet: StmtPacket = ParseBuf(payload).parse(alloc, ())?;
+//!     let id = packet.statement_id();
 
 ghost use Rattle.std.specs.Prelude.{◌≡◌, Some, false};
 ghost use Rattle.mysql_fields.specs.Wire.{TellsPart};
