@@ -2,7 +2,7 @@
 
 ghost use Rattle.std.specs.Prelude.{◌≡◌};
 ghost use Rattle.mysql_cells.specs.Cells.{form};
-ghost use Rattle.mysql_row_refs.specs.Lent.{form_view};
+ghost use Rattle.mysql_row_refs.specs.Places.{form_view};
 
 use mysql_const::ColumnType;
 

@@ -4,7 +4,7 @@ ghost use Rattle.std.specs.Prelude.{◌≡◌, ◌+◌, ◌≤◌, ℕ, List, tr
 ghost use Rattle.std.specs.Int.{w8, w16, w32, w64};
 ghost use Rattle.mysql_cells.specs.Cells.{date_of, part, time_of, whole_value};
 ghost use Rattle.mysql_cells.specs.declared.value.Value.TheVariants.{Int};
-ghost use Rattle.mysql_row_refs.specs.Lent.{held, is_inside, value_of};
+ghost use Rattle.mysql_row_refs.specs.Places.{held, is_inside, value_of};
 
 use crate::place::CellPlace;
 use crate::value_ref::ValueRef;

@@ -8,7 +8,7 @@ ghost use Rattle.mysql_fields.specs.declared.error.WireError.TheVariants as wire
 ghost use Rattle.mysql_cells.specs.Cells.{column_cell_at, has_no_sign, text_cell_at, value_at};
 ghost use Rattle.mysql_columns.specs.Views.{column_view};
 ghost use Rattle.mysql_row_refs.specs.declared.cell_form.CellForm.TheVariants as cell_form;
-ghost use Rattle.mysql_row_refs.specs.Lent.{IsTail, bytes_read, form_view, held, is_inside};
+ghost use Rattle.mysql_row_refs.specs.Places.{IsTail, bytes_read, form_view, held, is_inside};
 
 use crate::cell_form::{CellForm, form_of_type};
 use crate::cell_values::{whole1, whole2, whole4, whole8};

@@ -7,7 +7,7 @@ use mysql_const::MAX_PAYLOAD_LEN;
 
 /// Whether a payload begins with a byte.
 #[inline(always)]
-fn starts_with(payload: &[u8], byte: u8) -> bool
+pub fn starts_with(payload: &[u8], byte: u8) -> bool
     ensures { result ≡ begins_with byte payload.now }
 {
     match payload {
@@ -17,8 +17,12 @@ fn starts_with(payload: &[u8], byte: u8) -> bool
 }
 
 /// The length from which on a payload that begins with fe is a row.
+///
+/// With `CLIENT_DEPRECATE_EOF`, as `deprecates_eof` tells, that is the longest payload, else 9.
+///
+/// MySQL: Client/Server Protocol, "EOF_Packet" and "OK_Packet".
 #[inline(always)]
-fn limit_of_terminators(deprecates_eof: bool) -> usize
+pub fn limit_of_terminators(deprecates_eof: bool) -> usize
     ensures { result ≡ terminator_limit deprecates_eof }
 {
     if deprecates_eof { MAX_PAYLOAD_LEN } else { 9 }

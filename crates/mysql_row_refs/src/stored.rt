@@ -10,7 +10,7 @@ use std::rc::RcSlice;
 /// third. Memory is asked for where these grow, and never for a row or a cell.
 ///
 ///     let mut stored = StoredRows::new(alloc, columns);
-///     stored.push(&lender.row(payload)?)?;
+///     stored.push(&reader.row(payload)?)?;
 ///     let id: Option<Result<u64, _>> = stored.row(0)?.get_opt(0);
 ///
 /// A row takes the bytes of its payload, 16 bytes a cell, and 8 more.

@@ -1,12 +1,12 @@
 //! What is done with rows.
 
-ghost use Rattle.std.specs.Prelude.{◌≡◌, ◌==◌, ◌<◌, IfOk, IfSome, IsSome, List, None, Option, Some, length, map, true};
-ghost use Rattle.std.specs.Option.{option_and_then, option_copied, option_map};
+ghost use Rattle.std.specs.Prelude.{◌≡◌, ◌==◌, ◌<◌, IfOk, IsSome, None, Option, Some, length, map, true};
+ghost use Rattle.std.specs.Option.{option_copied};
 ghost use Rattle.std.specs.Rc.{rc_slice_items};
 ghost use Rattle.mysql_rows.specs.Rows.{cell_at, column_named, is_whole, whole_row, with_cell, without_cell};
 ghost use Rattle.mysql_rows.specs.CellsWritten.{PutsRow};
 ghost use Rattle.mysql_rows.specs.Written.{binary_cause, binary_row, text_cause, text_row, values_of};
-ghost use Rattle.mysql_rows.specs.Views.{answer_view, column_views, converted_or_value, row_view, shared_columns};
+ghost use Rattle.mysql_rows.specs.Views.{column_views, row_view, shared_columns};
 
 use crate::column_index::ColumnIndex;
 use crate::refusal::RowRefusal;
@@ -14,7 +14,6 @@ use crate::row::Row;
 use crate::writing::{write_binary, write_text};
 use mysql_cells::Value;
 use mysql_columns::Column;
-use mysql_convert::{FromValue, FromValueError};
 use std::alloc::{AllocError, Global};
 use std::mem;
 use std::ops::Index;
@@ -92,10 +91,11 @@ impl Row {
         }
     }
 
-    // The same by what names the column.
+    /// The value of the cell that a number or a name names; None where there is no such column, or
+    /// its value was taken.
     #[inline(always)]
-    fn value_at<I: ColumnIndex>(&self, index: &I) -> Option<&Value>
-        ensures { option_copied result ≡ cell_at (row_view self.now) (I.place index.now (row_view self.now).columns) }
+    pub fn value_at<I: ColumnIndex>(&self, index: I) -> Option<&Value>
+        ensures { option_copied result ≡ cell_at (row_view self.now) (I.place index (row_view self.now).columns) }
     {
         match index.idx(self.columns.as_slice()) {
             Some(number) => self.as_ref(number),
@@ -103,96 +103,18 @@ impl Row {
         }
     }
 
-    // Takes a value out of its cell.
-    fn take_value<I: ColumnIndex>(&mut self, index: &I) -> Option<Value>
-        ensures value { result ≡ cell_at (row_view self.old) (I.place index.now (row_view self.old).columns) }
+    /// Takes the value out of the cell that a number or a name names; None where there is no such
+    /// column, or its value was taken before.
+    pub fn take_value<I: ColumnIndex>(&mut self, index: I) -> Option<Value>
+        ensures value { result ≡ cell_at (row_view self.old) (I.place index (row_view self.old).columns) }
         ensures taken { row_view self.new ≡
-            without_cell (row_view self.old) (I.place index.now (row_view self.old).columns) }
+            without_cell (row_view self.old) (I.place index (row_view self.old).columns) }
     {
         let number = index.idx(self.columns.as_slice())?;
         if number < self.cells.len() {
             mem::replace(&mut self.cells[number], None)
         } else {
             None
-        }
-    }
-
-    /// A copy of the value in a cell, converted to `T`; None where there is no such column, or its
-    /// value was taken. Where the value doesn't convert the error holds it. Refused for want of
-    /// memory alone.
-    #[inline(always)]
-    pub fn get_opt<T: FromValue, I: ColumnIndex>(
-        &self,
-        alloc: Global,
-        index: I,
-    ) -> Result<Option<Result<T, FromValueError>>, AllocError>
-        ensures { IfOk result (λ answer. option_map (answer_view T.shown) answer ≡
-            option_map (converted_or_value T.converted)
-            (cell_at (row_view self.now) (I.place index (row_view self.now).columns))) }
-    {
-        match self.value_at(&index) {
-            Some(value) => Ok(Some(T::from_value_ref_opt(alloc, value)?)),
-            None => Ok(None),
-        }
-    }
-
-    /// A copy of the value in a cell, converted to `T`, where it converts, as
-    /// [`get_opt`](Self::get_opt) tells; None where there is no such column, or its value was
-    /// taken. Refused for want of memory alone.
-    #[inline(always)]
-    pub fn get<T: FromValue, I: ColumnIndex>(
-        &self,
-        alloc: Global,
-        index: I,
-    ) -> Result<Option<T>, AllocError>
-        requires { IfSome (cell_at (row_view self.now) (I.place index (row_view self.now).columns))
-            (λ value. IsSome (T.converted value)) }
-        ensures { IfOk result (λ answer. option_map T.shown answer ≡
-            option_and_then T.converted
-            (cell_at (row_view self.now) (I.place index (row_view self.now).columns))) }
-    {
-        match self.value_at(&index) {
-            Some(value) => match T::from_value_ref_opt(alloc, value)? {
-                Ok(x) => Ok(Some(x)),
-                Err(_) => unreachable!(),
-            },
-            None => Ok(None),
-        }
-    }
-
-    /// Takes the value out of a cell and converts it to `T`; None where there is no such column, or
-    /// its value was taken. Where the value doesn't convert it is taken all the same, and the error
-    /// holds it.
-    pub fn take_opt<T: FromValue, I: ColumnIndex>(
-        &mut self,
-        index: I,
-    ) -> Option<Result<T, FromValueError>>
-        ensures value { option_map (answer_view T.shown) result ≡
-            option_map (converted_or_value T.converted)
-            (cell_at (row_view self.old) (I.place index (row_view self.old).columns)) }
-        ensures taken { row_view self.new ≡
-            without_cell (row_view self.old) (I.place index (row_view self.old).columns) }
-    {
-        match self.take_value(&index) {
-            Some(value) => Some(T::from_value_opt(value)),
-            None => None,
-        }
-    }
-
-    /// Takes the value out of a cell and converts it to `T`, where it converts; None where there is
-    /// no such column, or its value was taken.
-    pub fn take<T: FromValue, I: ColumnIndex>(&mut self, index: I) -> Option<T>
-        requires { IfSome (cell_at (row_view self.old) (I.place index (row_view self.old).columns))
-            (λ value. IsSome (T.converted value)) }
-        ensures value { option_map T.shown result ≡
-            option_and_then T.converted
-            (cell_at (row_view self.old) (I.place index (row_view self.old).columns)) }
-        ensures taken { row_view self.new ≡
-            without_cell (row_view self.old) (I.place index (row_view self.old).columns) }
-    {
-        match self.take_value(&index) {
-            Some(value) => Some(T::from_value(value)),
-            None => None,
         }
     }
 
@@ -293,7 +215,7 @@ impl Index<&str> for Row {
         (column_named name.now (row_view row).columns) ≡ Some value };
 
     fn index(&self, name: &str) -> &Value {
-        match self.value_at(&name) {
+        match self.value_at(name) {
             Some(value) => value,
             None => unreachable!(),
         }

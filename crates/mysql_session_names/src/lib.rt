@@ -8,10 +8,11 @@ use mysql_session::{
     MissingNamedParameterError, OkPacket, PacketCodecError, PacketReader, Params,
     ParamsConfusionError, ParamsError, ParseIr, ProgressReport, Query, Receiver, ReceiverError,
     RecodeError, Recoder, Refusal, Reply, ReplyEnd, ReplyFault, ReplyKind, ReplyReader,
-    ReplyRefusal, ReplyResult, ReplyWriter, Road, Row, RowError, RowFormat, RowLender, SendToError,
-    ServerError, SetError, SqlState, StatusFlags, StmtPacket, StoredRows, StreamFault, ToValue,
-    ToValueError, Value, ValueRef, from_value, from_value_opt, packet_to_chunks, read_reply,
-    receive, recode, send, send_contents, send_values, write_reply,
+    ReplyRefusal, ReplyResult, ReplyWriter, Road, Row, RowError, RowExt, RowFormat, RowLender,
+    RowReader, RowRef, RowRefExt, SendToError, ServerError, SetError, SqlState, StatusFlags,
+    StmtPacket, StoredRows, StreamFault, ToValue, ToValueError, Value, ValueRef, from_value,
+    from_value_opt, packet_to_chunks, read_reply, receive, recode, send, send_contents,
+    send_values, write_reply,
 };
 
 mod laws {

@@ -1,4 +1,4 @@
-//! Rows that are lent, beside the same rows read with copies.
+//! Rows that borrow their payloads, beside the same rows read with copies.
 
 use crate::support::Asserting;
 use mysql_buf::ParseBuf;
@@ -6,8 +6,8 @@ use mysql_const::{ColumnFlags, ColumnType};
 use mysql_convert::FromValueError;
 use mysql_field_lists::ServerSide;
 use mysql_fields::{Binary, ParseExt, Text, WireError};
-use mysql_packets::Column;
-use mysql_row_refs::{LentRow, RowError, RowFormat, RowLender, ValueRef};
+use mysql_packets::{Column, RowExt, RowRefExt};
+use mysql_row_refs::{RowError, RowFormat, RowReader, RowRef, ValueRef};
 use mysql_rows::{Row, RowDeserializer};
 use std::alloc::{AllocError, Global};
 use std::rc::RcSlice;
@@ -32,7 +32,7 @@ pub const NO_FLAG: ColumnFlags = ColumnFlags(0);
 
 const UNSIGNED: ColumnFlags = ColumnFlags::UNSIGNED_FLAG;
 
-/// The row that a payload is, read with copies. Bytes behind it are refused as where rows are lent.
+/// The row that a payload is, read with copies. Bytes behind it are refused as by a `RowReader`.
 fn read(
     alloc: Global,
     columns: RcSlice<Column>,
@@ -80,16 +80,16 @@ fn read_binary(
     Ok(row.into_inner())
 }
 
-/// Asserts that a lent row has the cells of a row that was read.
+/// Asserts that a row by reference has the cells of a row that was read.
 fn assert_cells(
     assert: &impl Assert,
     alloc: Global,
-    lent: LentRow,
+    row_ref: RowRef,
     row: &Row,
 ) -> Result<(), AllocError> {
-    assert_equal(assert, lent.len(), row.len());
+    assert_equal(assert, row_ref.len(), row.len());
     for index in 0..row.len() {
-        match (lent.as_ref(index), row.as_ref(index)) {
+        match (row_ref.as_ref(index), row.as_ref(index)) {
             (Some(found), Some(wanted)) => {
                 let copy = found.to_value(alloc)?;
                 assert.holds(copy == *wanted);
@@ -100,18 +100,18 @@ fn assert_cells(
     Ok(())
 }
 
-/// Asserts that a payload lent and the same payload read are the same row, or that both are refused alike.
-fn assert_lent(
+/// Asserts that a payload borrowed and the same payload copied are the same row, or that both are refused alike.
+fn assert_read_alike(
     assert: &impl Assert,
     alloc: Global,
     columns: RcSlice<Column>,
-    lender: &mut RowLender,
+    reader: &mut RowReader,
     format: RowFormat,
     payload: &[u8],
 ) -> Result<(), AllocError> {
-    match (lender.row(payload), read(alloc, columns, format, payload)) {
+    match (reader.row(payload), read(alloc, columns, format, payload)) {
         (_, Err(RowError::Unreadable(WireError::Memory))) => Err(AllocError),
-        (Ok(lent), Ok(row)) => assert_cells(assert, alloc, lent, &row),
+        (Ok(row_ref), Ok(row)) => assert_cells(assert, alloc, row_ref, &row),
         (Err(found), Err(wanted)) => {
             assert.holds(found == wanted);
             Ok(())
@@ -123,8 +123,8 @@ fn assert_lent(
     }
 }
 
-/// Asserts it of each payload, lent one after another by one lender.
-fn assert_all_lent(
+/// Asserts it of each payload, one after another by one reader.
+fn assert_all_read_alike(
     assert: &impl Assert,
     alloc: Global,
     kinds: &[(&[u8], ColumnType, ColumnFlags)],
@@ -132,13 +132,13 @@ fn assert_all_lent(
     payloads: &[&[u8]],
 ) -> Result<(), AllocError> {
     let columns = columns_of(alloc, kinds)?;
-    let mut lender = RowLender::new(alloc, columns.clone()?, format)?;
+    let mut reader = RowReader::new(alloc, columns.clone()?, format)?;
     for payload in payloads {
-        assert_lent(
+        assert_read_alike(
             assert,
             alloc,
             columns.clone()?,
-            &mut lender,
+            &mut reader,
             format,
             *payload,
         )?;
@@ -168,8 +168,8 @@ const TEXT_ROWS: [&[u8]; 8] = [
 fn text_rows(rt: HostRuntime) {
     let assert = Asserting(&rt);
     let alloc = rt.alloc();
-    let first = assert_all_lent(&assert, alloc, &TEXTS, RowFormat::Text, &TEXT_ROWS);
-    let second = assert_all_lent(&assert, alloc, &TEXTS, RowFormat::Text, &TEXT_ROWS);
+    let first = assert_all_read_alike(&assert, alloc, &TEXTS, RowFormat::Text, &TEXT_ROWS);
+    let second = assert_all_read_alike(&assert, alloc, &TEXTS, RowFormat::Text, &TEXT_ROWS);
     once_more(&assert, first, second);
 }
 
@@ -206,12 +206,12 @@ const BINARY_ROWS: [&[u8]; 7] = [
 fn binary_rows(rt: HostRuntime) {
     let assert = Asserting(&rt);
     let alloc = rt.alloc();
-    let first = assert_all_lent(&assert, alloc, &WIDTHS, RowFormat::Binary, &BINARY_ROWS);
-    let second = assert_all_lent(&assert, alloc, &WIDTHS, RowFormat::Binary, &BINARY_ROWS);
+    let first = assert_all_read_alike(&assert, alloc, &WIDTHS, RowFormat::Binary, &BINARY_ROWS);
+    let second = assert_all_read_alike(&assert, alloc, &WIDTHS, RowFormat::Binary, &BINARY_ROWS);
     once_more(&assert, first, second);
 }
 
-/// Asserts that a conversion of a lent cell answers as that of the cell that was read.
+/// Asserts that a conversion of a cell where it lies answers as that of the cell that was copied.
 fn assert_converted<T: PartialEq + Drop>(
     assert: &impl Assert,
     found: Option<Result<T, ValueRef>>,
@@ -232,21 +232,25 @@ fn assert_conversions(
     payload: &[u8],
 ) -> Result<(), AllocError> {
     let columns = columns_of(alloc, &TEXTS)?;
-    let mut lender = RowLender::new(alloc, columns.clone()?, RowFormat::Text)?;
+    let mut reader = RowReader::new(alloc, columns.clone()?, RowFormat::Text)?;
     match (
-        lender.row(payload),
+        reader.row(payload),
         read(alloc, columns, RowFormat::Text, payload),
     ) {
-        (Ok(lent), Ok(row)) => {
+        (Ok(row_ref), Ok(row)) => {
             for index in 0..4 {
-                assert_converted::<i8>(assert, lent.get_opt(index), row.get_opt(alloc, index)?);
-                assert_converted::<u64>(assert, lent.get_opt(index), row.get_opt(alloc, index)?);
+                assert_converted::<i8>(assert, row_ref.get_opt(index), row.get_opt(alloc, index)?);
+                assert_converted::<u64>(assert, row_ref.get_opt(index), row.get_opt(alloc, index)?);
                 assert_converted::<Option<i64>>(
                     assert,
-                    lent.get_opt(index),
+                    row_ref.get_opt(index),
                     row.get_opt(alloc, index)?,
                 );
-                assert_converted::<bool>(assert, lent.get_opt(index), row.get_opt(alloc, index)?);
+                assert_converted::<bool>(
+                    assert,
+                    row_ref.get_opt(index),
+                    row.get_opt(alloc, index)?,
+                );
             }
             Ok(())
         }
@@ -276,16 +280,16 @@ fn conversions(rt: HostRuntime) {
     }
 }
 
-/// The bytes that a conversion lent.
-fn lent_bytes<'p>(found: Option<Result<&'p [u8], ValueRef>>) -> &'p [u8] {
+/// The bytes that a conversion gave.
+fn bytes_found<'p>(found: Option<Result<&'p [u8], ValueRef>>) -> &'p [u8] {
     match found {
         Some(Ok(bytes)) => bytes,
         _ => b"none",
     }
 }
 
-/// The text that a conversion lent.
-pub fn lent_text<'p>(found: Option<Result<&'p str, ValueRef>>) -> &'p [u8] {
+/// The text that a conversion gave.
+pub fn text_found<'p>(found: Option<Result<&'p str, ValueRef>>) -> &'p [u8] {
     match found {
         Some(Ok(text)) => text.as_bytes(),
         _ => b"none",
@@ -295,20 +299,20 @@ pub fn lent_text<'p>(found: Option<Result<&'p str, ValueRef>>) -> &'p [u8] {
 /// What stands in the first column of a name, and behind it.
 fn named(assert: &impl Assert, alloc: Global) -> Result<(), AllocError> {
     let columns = columns_of(alloc, &TEXTS)?;
-    let mut lender = RowLender::new(alloc, columns, RowFormat::Text)?;
-    match lender.row(b"\x02hi\x01\xff\x017") {
-        Ok(lent) => {
-            assert.holds(lent_text(lent.get_opt("a")) == b"hi".as_slice());
-            assert.holds(lent_bytes(lent.get_opt("b")) == b"\xff".as_slice());
-            assert.holds(lent_text(lent.get_opt("b")) == b"none".as_slice());
-            assert.holds(lent_bytes(lent.get_opt("c")) == b"none".as_slice());
+    let mut reader = RowReader::new(alloc, columns, RowFormat::Text)?;
+    match reader.row(b"\x02hi\x01\xff\x017") {
+        Ok(row_ref) => {
+            assert.holds(text_found(row_ref.get_opt("a")) == b"hi".as_slice());
+            assert.holds(bytes_found(row_ref.get_opt("b")) == b"\xff".as_slice());
+            assert.holds(text_found(row_ref.get_opt("b")) == b"none".as_slice());
+            assert.holds(bytes_found(row_ref.get_opt("c")) == b"none".as_slice());
         }
         Err(_) => assert.holds(false),
     }
     Ok(())
 }
 
-/// Bytes are lent, and by its name the first column of that name.
+/// Bytes are borrowed, and by its name the first column of that name.
 #[test]
 fn texts_by_name(rt: HostRuntime) {
     let assert = Asserting(&rt);

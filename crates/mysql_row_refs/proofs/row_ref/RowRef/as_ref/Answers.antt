@@ -1,7 +1,7 @@
 use Rattle.std.proofs.Common.{◌∙◌, ap, sym, Some}
-use Rattle.mysql_row_refs.specs.Lent.{is_inside}
-use Rattle.mysql_row_refs.proofs.LentCells.{found_cell, found_inside, no_cell}
-use Rattle.mysql_row_refs.proofs.row.LentRow.as_ref.Goals as goal
+use Rattle.mysql_row_refs.specs.Places.{is_inside}
+use Rattle.mysql_row_refs.proofs.PlacedCells.{found_cell, found_inside, no_cell}
+use Rattle.mysql_row_refs.proofs.row_ref.RowRef.as_ref.Goals as goal
 
 pub value_at-requires : goal.value_at-requires
 value_at-requires c =

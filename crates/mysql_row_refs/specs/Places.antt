@@ -1,4 +1,4 @@
--- What lent cells hold: the values that reading gives.
+-- What cells at places of a payload hold: the values that reading gives.
 -- MySQL: Client/Server Protocol, "Text Resultset Row" and "Binary Protocol Value".
 use Rattle.std.specs.Prelude.{◌≡◌, ℕ, ◌-◌, ◌≤◌, Bool, true, List, [], length, drop, Option, Some, None, is_some}
 use Rattle.mysql_buf.specs.Reading.{lenenc_str_at, u8_str_at}
@@ -12,18 +12,18 @@ use Rattle.mysql_row_refs.specs.declared.cell_form.CellForm.TheVariants as form
 use Rattle.mysql_row_refs.specs.declared.place.CellPlace.{CellPlace}
 use Rattle.mysql_row_refs.specs.declared.place.CellPlace.TheVariants as place
 use Rattle.mysql_row_refs.specs.declared.value_ref.ValueRef.{ValueRef}
-use Rattle.mysql_row_refs.specs.declared.value_ref.ValueRef.TheVariants as lent
+use Rattle.mysql_row_refs.specs.declared.value_ref.ValueRef.TheVariants as borrowed
 
--- the value of which the bytes are lent
+-- the value of which the bytes are borrowed
 abbrev pub value_of : ValueRef → Value
-value_of lent.NULL = value.NULL
-value_of (lent.Bytes bytes) = value.Bytes bytes.now
-value_of (lent.Int z) = value.Int z
-value_of (lent.UInt n) = value.UInt n
-value_of (lent.Float bits) = value.Float bits
-value_of (lent.Double bits) = value.Double bits
-value_of (lent.Date year month day hour minute second micros) = value.Date year month day hour minute second micros
-value_of (lent.Time negative days hours minutes seconds micros) = value.Time negative days hours minutes seconds micros
+value_of borrowed.NULL = value.NULL
+value_of (borrowed.Bytes bytes) = value.Bytes bytes.now
+value_of (borrowed.Int z) = value.Int z
+value_of (borrowed.UInt n) = value.UInt n
+value_of (borrowed.Float bits) = value.Float bits
+value_of (borrowed.Double bits) = value.Double bits
+value_of (borrowed.Date year month day hour minute second micros) = value.Date year month day hour minute second micros
+value_of (borrowed.Time negative days hours minutes seconds micros) = value.Time negative days hours minutes seconds micros
 
 -- the bytes that were read, none where nothing was
 abbrev pub bytes_read : Option (List ℕ × List ℕ) → List ℕ

@@ -1,11 +1,11 @@
--- The cells of a lent row.
+-- The cells of a row that borrows its payload.
 use Rattle.std.proofs.Common.{◌≡◌, ℕ, suc, zero, ◌<◌, Bool, true, false, List, [], ◌∷◌, length, get_or, map, Option, Some, None, refl, sym, ap, ◌∙◌, arith}
 use Rattle.std.proofs.lemmas.Option.{get_or_from_slice_get, slice_get-map}
 use Rattle.std.proofs.lemmas.List.Folds.{list_all_at}
 use Rattle.std.specs.List.{list_all, slice_get}
 use Rattle.std.specs.Option.{option_flatten, option_map}
 use Rattle.mysql_cells.specs.declared.value.Value.{Value}
-use Rattle.mysql_row_refs.specs.Lent.{held}
+use Rattle.mysql_row_refs.specs.Places.{held}
 use Rattle.mysql_row_refs.specs.declared.place.CellPlace.{CellPlace}
 
 -- the value in a cell of a row of which nothing was taken

@@ -2,10 +2,10 @@
 
 ghost use Rattle.std.specs.Prelude.{◌≡◌, Bool};
 ghost use Rattle.mysql_convert.specs.Booleans.{boolean_of};
-ghost use Rattle.mysql_row_refs.specs.Lent.{value_of};
+ghost use Rattle.mysql_row_refs.specs.Places.{value_of};
 
 use crate::from_value_ref::FromValueRef;
-use crate::value_ref::ValueRef;
+use mysql_row_refs::ValueRef;
 
 /// The boolean that a value holds.
 fn boolean_in(value: ValueRef) -> Option<bool>

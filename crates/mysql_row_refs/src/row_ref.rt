@@ -1,19 +1,19 @@
-//! Rows that are lent.
+//! Rows that borrow their payloads.
 
 ghost use Rattle.std.specs.Prelude.{◌≡◌, length, true};
 ghost use Rattle.std.specs.List.{list_all};
 ghost use Rattle.std.specs.Rc.{rc_slice_items};
-ghost use Rattle.mysql_row_refs.specs.Lent.{is_inside};
+ghost use Rattle.mysql_row_refs.specs.Places.{is_inside};
 
 use crate::place::CellPlace;
 use mysql_columns::Column;
 use std::rc::RcSlice;
 
-/// A row of a result set whose bytes are lent by its payload: a cell for each column.
+/// A row of a result set that borrows its payload: a cell for each column.
 ///
 /// MySQL: Client/Server Protocol, "Text Resultset Row" and "Binary Protocol Resultset Row".
 #[derive(Clone, Copy)]
-pub struct LentRow<'r, 'p> {
+pub struct RowRef<'r, 'p> {
     pub(crate) payload: &'p [u8],
     pub(crate) columns: &'r RcSlice<Column>,
     pub(crate) places: &'r [CellPlace],

@@ -1,12 +1,12 @@
-//! Conversions of lent bytes and texts.
+//! Conversions of bytes and texts.
 
 ghost use Rattle.std.specs.Prelude.{◌≡◌, List, ℕ};
 ghost use Rattle.std.specs.Option.{option_copied};
 ghost use Rattle.mysql_convert.specs.Texts.{array_of, bytes_of, text_of};
-ghost use Rattle.mysql_row_refs.specs.Lent.{value_of};
+ghost use Rattle.mysql_row_refs.specs.Places.{value_of};
 
 use crate::from_value_ref::FromValueRef;
-use crate::value_ref::ValueRef;
+use mysql_row_refs::ValueRef;
 use std::str::from_utf8;
 
 /// The bytes that a value holds.

@@ -1,14 +1,14 @@
-//! Whole numbers that lent values hold.
+//! Whole numbers that values hold.
 
 ghost use Rattle.std.specs.Prelude.{◌≡◌, ◌^◌, ◌≤◌, IfNone, IfSome, Option, Some, None, pos, unsigned_abs, ℕ, ℤ};
 ghost use Rattle.std.specs.Option.{option_and_then};
 ghost use Rattle.mysql_queries.specs.Literals.{is_digit as is_digit_byte};
 ghost use Rattle.mysql_convert.specs.Numbers.{digits_number as number_of_digits, integer_of, signed, signed_in};
 ghost use Rattle.mysql_convert.specs.Numbers.{text_number as number_of_text, unsigned_in};
-ghost use Rattle.mysql_row_refs.specs.Lent.{value_of};
+ghost use Rattle.mysql_row_refs.specs.Places.{value_of};
 
 use crate::from_value_ref::FromValueRef;
-use crate::value_ref::ValueRef;
+use mysql_row_refs::ValueRef;
 
 /// A whole number by its sign and its magnitude.
 #[derive(Clone, Copy)]

@@ -1,34 +1,34 @@
-//! How rows are lent.
+//! How rows are read.
 
 ghost use Rattle.std.specs.Prelude.{◌≡◌, IfErr, IfOk, OnOk};
 ghost use Rattle.std.specs.Borrow.{sem};
 ghost use Rattle.mysql_rows.specs.Views.{shared_columns};
-ghost use Rattle.mysql_row_refs.specs.LentRows.{GoesOnLending, HoldsRow, LendsTheSame, lent_view, row_held, row_of};
-ghost use Rattle.mysql_row_refs.specs.LentRows.{seen};
+ghost use Rattle.mysql_row_refs.specs.RowRefs.{GoesOnReading, HoldsRow, ReadsTheSame, row_ref_view, row_held, row_of};
+ghost use Rattle.mysql_row_refs.specs.RowRefs.{seen};
 
 use crate::errors::RowError;
 use crate::format::RowFormat;
-use crate::lender::RowLender;
-use crate::row::LentRow;
+use crate::reader::RowReader;
+use crate::row_ref::RowRef;
 use crate::rows::{binary_row_places, text_places};
 use mysql_buf::ParseBuf;
 use mysql_columns::Column;
 use std::alloc::{AllocError, Global};
 use std::rc::RcSlice;
 
-impl RowLender {
-    /// A lender of the rows of a result set with these columns, in this format. Refused for want of
+impl RowReader {
+    /// A reader of the rows of a result set with these columns, in this format. Refused for want of
     /// memory alone; none is asked for afterwards.
     pub fn new(
         alloc: Global,
         columns: RcSlice<Column>,
         format: RowFormat,
-    ) -> Result<RowLender, AllocError>
-        ensures columns { IfOk result (λ lender. shared_columns lender.columns ≡ shared_columns columns) }
-        ensures format { IfOk result (λ lender. lender.format ≡ format) }
+    ) -> Result<RowReader, AllocError>
+        ensures columns { IfOk result (λ reader. shared_columns reader.columns ≡ shared_columns columns) }
+        ensures format { IfOk result (λ reader. reader.format ≡ format) }
     {
         let places = Vec::with_capacity(alloc, columns.len())?;
-        Ok(RowLender {
+        Ok(RowReader {
             columns,
             format,
             places,
@@ -43,13 +43,14 @@ impl RowLender {
         &self.columns
     }
 
-    /// Reads the places of the cells of the row that a payload is; [`lent`](RowLender::lent) then
-    /// lends that row, of this payload. No memory is asked for. [`row`](RowLender::row) does both:
-    /// these two are for a reader that looks for the payload in a loop, and lends the row behind
+    /// Reads the places of the cells of the row that a payload is. No memory is asked for.
+    ///
+    /// [`row_ref`](RowReader::row_ref) then gives that row, of this payload. [`row`](RowReader::row)
+    /// does both: these two are for who looks for the payload in a loop, and borrows the row behind
     /// it.
     ///
     /// # Errors
-    /// Those of [`row`](RowLender::row), in the same order.
+    /// Those of [`row`](RowReader::row), in the same order.
     ///
     /// MySQL: Client/Server Protocol, "Text Resultset Row" and "Binary Protocol Resultset Row".
     #[inline]
@@ -79,22 +80,31 @@ impl RowLender {
         }
     }
 
-    /// The row whose places were read last, lent by its payload.
+    /// The row whose places were read last, which borrows its payload.
     ///
     /// MySQL: Client/Server Protocol, "Text Resultset Row" and "Binary Protocol Resultset Row".
     #[inline(always)]
-    pub fn lent<'r, 'p>(&'r self, payload: &'p [u8]) -> LentRow<'r, 'p>
+    pub fn row_ref<'r, 'p>(&'r self, payload: &'p [u8]) -> RowRef<'r, 'p>
         requires { HoldsRow self.now payload.now }
-        ensures { lent_view result ≡ row_held self.now payload.now }
+        ensures { row_ref_view result ≡ row_held self.now payload.now }
     {
-        LentRow {
+        RowRef {
             payload,
             columns: &self.columns,
             places: self.places.as_slice(),
         }
     }
 
-    /// The row that a payload is, lent by it. No memory is asked for.
+    /// The former name of [`row_ref`](RowReader::row_ref).
+    #[inline(always)]
+    pub fn lent<'r, 'p>(&'r self, payload: &'p [u8]) -> RowRef<'r, 'p>
+        requires { HoldsRow self.now payload.now }
+        ensures { row_ref_view result ≡ row_held self.now payload.now }
+    {
+        self.row_ref(payload)
+    }
+
+    /// The row that a payload is, which borrows it. No memory is asked for.
     ///
     /// # Errors
     /// `Unreadable` with the first refusal that reading meets: `UnexpectedEof` where the payload
@@ -103,14 +113,14 @@ impl RowLender {
     /// binary cells. Then `BytesLeft` where bytes stand behind the last cell.
     ///
     /// MySQL: Client/Server Protocol, "Text Resultset Row" and "Binary Protocol Resultset Row".
-    pub fn row<'r, 'p>(&'r mut self, payload: &'p [u8]) -> Result<LentRow<'r, 'p>, RowError>
-        ensures* after { sem 𝓛 (GoesOnLending self.entry) }
-        ensures row { seen lent_view result ≡ row_of self.old.format (shared_columns self.old.columns) payload.now }
-        ensures columns { IfOk result (λ row. (lent_view row).columns ≡ shared_columns self.old.columns) }
+    pub fn row<'r, 'p>(&'r mut self, payload: &'p [u8]) -> Result<RowRef<'r, 'p>, RowError>
+        ensures* after { sem 𝓛 (GoesOnReading self.entry) }
+        ensures row { seen row_ref_view result ≡ row_of self.old.format (shared_columns self.old.columns) payload.now }
+        ensures columns { IfOk result (λ row. (row_ref_view row).columns ≡ shared_columns self.old.columns) }
     {
         match self.read(payload) {
             Err(e) => Err(e),
-            Ok(()) => Ok(self.lent(payload)),
+            Ok(()) => Ok(self.row_ref(payload)),
         }
     }
 }

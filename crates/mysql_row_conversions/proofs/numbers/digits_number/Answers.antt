@@ -1,6 +1,6 @@
 use Rattle.std.proofs.Common.{rules, ◌^◌, arith}
-use Rattle.mysql_row_refs.proofs.Digits.{ended, large}
-use Rattle.mysql_row_refs.proofs.numbers.digits_number.Goals as goal
+use Rattle.mysql_row_conversions.proofs.Digits.{ended, large}
+use Rattle.mysql_row_conversions.proofs.numbers.digits_number.Goals as goal
 
 pub returns-in_default-clause-none : goal.returns-in_default-clause-none
 returns-in_default-clause-none c = large c.loop-byte.n (2 ^ 64) c.args.digits.now c.loop-byte.byte-index c.loop-byte-test.true (search rules) c.loop-byte.invariant (omega (arith, c.in_default.ensures))

@@ -1,4 +1,4 @@
--- Rows that are lent, and what lends them.
+-- Rows that borrow their payloads, and their reader.
 -- MySQL: Client/Server Protocol, "Text Resultset Row" and "Binary Protocol Resultset Row".
 use Rattle.std.specs.Prelude.{◌≡◌, ◌==◌, ℕ, List, length, map, true, Result, Ok, Err, if◌then◌else◌}
 use Rattle.std.specs.Borrow.{Fml, MutBor}
@@ -10,15 +10,14 @@ use Rattle.mysql_columns.specs.Columns.{ColumnDefinition}
 use Rattle.mysql_fields.specs.Wire.{Reading}
 use Rattle.mysql_rows.specs.Rows.{Row, as_row, binary_resultset_row_at, text_row_at, whole_row}
 use Rattle.mysql_rows.specs.Views.{shared_columns}
-use Rattle.mysql_row_refs.specs.Lent.{held, is_inside, value_of}
-use Rattle.mysql_row_refs.specs.contracts.lender.RowLender.{the_row}
+use Rattle.mysql_row_refs.specs.Places.{held, is_inside}
+use Rattle.mysql_row_refs.specs.contracts.reader.RowReader.{the_row}
 use Rattle.mysql_row_refs.specs.declared.errors.RowError.{RowError}
 use Rattle.mysql_row_refs.specs.declared.errors.RowError.TheVariants.{BytesLeft, Unreadable}
 use Rattle.mysql_row_refs.specs.declared.format.RowFormat.{RowFormat}
 use Rattle.mysql_row_refs.specs.declared.format.RowFormat.TheVariants.{Binary, Text}
-use Rattle.mysql_row_refs.specs.declared.lender.RowLender.{RowLender}
-use Rattle.mysql_row_refs.specs.declared.row.LentRow.{LentRow}
-use Rattle.mysql_row_refs.specs.declared.value_ref.ValueRef.{ValueRef}
+use Rattle.mysql_row_refs.specs.declared.reader.RowReader.{RowReader}
+use Rattle.mysql_row_refs.specs.declared.row_ref.RowRef.{RowRef}
 
 -- the values of a row in this format
 abbrev pub row_at : RowFormat → List ColumnDefinition → List ℕ → Reading (List Value)
@@ -35,33 +34,28 @@ abbrev pub seen : {X Y : Type 0} → (X → Y) → Result X RowError → Result 
 seen view (Ok x) = Ok (view x)
 seen view (Err e) = Err e
 
--- the row that is lent: nothing was taken of it
-abbrev pub lent_view : LentRow → Row
-lent_view row = whole_row (shared_columns row.columns.now) (map (held row.payload.now) row.places.now)
+-- the row: nothing was taken of it
+abbrev pub row_ref_view : RowRef → Row
+row_ref_view row = whole_row (shared_columns row.columns.now) (map (held row.payload.now) row.places.now)
 
--- the row whose cells lie at a lender's places in a payload
-abbrev pub row_held : RowLender → List ℕ → Row
-row_held lender payload = whole_row (shared_columns lender.columns) (map (held payload) lender.places.items)
+-- the row whose cells lie at a reader's places in a payload
+abbrev pub row_held : RowReader → List ℕ → Row
+row_held reader payload = whole_row (shared_columns reader.columns) (map (held payload) reader.places.items)
 
--- a lender's places lie in a payload, one for each column
-pub record HoldsRow (lender : RowLender) (payload : List ℕ) : Type 0 where
-  pub inside : list_all (is_inside payload) lender.places.items ≡ true
-  pub as_long : length lender.places.items ≡ length (rc_slice_items lender.columns)
-
--- what a conversion answered: what it gave, or the value that doesn't convert
-abbrev pub lent_answer : {X Shown : Type 0} → (X → Shown) → Result X ValueRef → Result Shown Value
-lent_answer shown (Ok x) = Ok (shown x)
-lent_answer shown (Err value) = Err (value_of value)
+-- a reader's places lie in a payload, one for each column
+pub record HoldsRow (reader : RowReader) (payload : List ℕ) : Type 0 where
+  pub inside : list_all (is_inside payload) reader.places.items ≡ true
+  pub as_long : length reader.places.items ≡ length (rc_slice_items reader.columns)
 
 -- the row that a payload is in this format, or why it is none
 abbrev pub row_of : RowFormat → List ColumnDefinition → List ℕ → Result Row RowError
 row_of format columns payload = with_none_left (as_row columns (row_at format columns payload))
 
--- a lender of rows of the same columns in the same format
-abbrev pub LendsTheSame : RowLender → RowLender → Type 0
-LendsTheSame lender other = (shared_columns other.columns ≡ shared_columns lender.columns) ×
-    (other.format ≡ lender.format)
+-- readers of rows of the same columns in the same format
+abbrev pub ReadsTheSame : RowReader → RowReader → Type 0
+ReadsTheSame reader other = (shared_columns other.columns ≡ shared_columns reader.columns) ×
+    (other.format ≡ reader.format)
 
--- once the row is gone, the lender lends the same
-abbrev pub GoesOnLending : MutBor RowLender → Fml
-GoesOnLending lender = Rests the_row lender (λ after. LendsTheSame lender.now after)
+-- once the row is gone, the reader goes on as before
+abbrev pub GoesOnReading : MutBor RowReader → Fml
+GoesOnReading reader = Rests the_row reader (λ after. ReadsTheSame reader.now after)

@@ -1,12 +1,12 @@
-//! The trait of types that lent values convert to.
+//! The trait of types that values convert to where they lie.
 
 ghost use Rattle.std.specs.Prelude.{◌≡◌, List, Option, Some, ℕ};
 ghost use Rattle.std.specs.Option.{option_map};
 ghost use Rattle.mysql_cells.specs.declared.value.Value.{Value as ValueOf};
 ghost use Rattle.mysql_convert.specs.Conversions.{converted_if_some};
-ghost use Rattle.mysql_row_refs.specs.Lent.{value_of};
+ghost use Rattle.mysql_row_refs.specs.Places.{value_of};
 
-use crate::value_ref::ValueRef;
+use mysql_row_refs::ValueRef;
 
 /// A type that a [`ValueRef`] converts to, with no bytes copied but an array's, by the rules of
 /// [`FromValue`](mysql_convert::FromValue): `converted` of a type is what it is there.

@@ -1,7 +1,7 @@
 //! The ranges of integer types.
 
 ghost use Rattle.mysql_convert.specs.Numbers.{signed_in, unsigned_in};
-ghost use Rattle.mysql_row_refs.specs.Ranges.{signed_small, unsigned_small};
+ghost use Rattle.mysql_row_conversions.specs.Ranges.{signed_small, unsigned_small};
 ghost use Rattle.std.proofs.Common.{lit≤};
 
 use crate::numbers::{Integer, Number};
