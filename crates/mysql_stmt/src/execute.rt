@@ -56,6 +56,9 @@ impl ComStmtExecuteRequestBuilder {
     /// The values are at most 65535. An execution without values has 10 bytes, and counts as one of
     /// 11 here.
     ///
+    /// Promise: that is so exactly where the whole execution, as it is counted, has more bytes
+    /// (`whole_size`).
+    ///
     /// MySQL: Client/Server Protocol, "COM_STMT_EXECUTE".
     pub fn exceeds(values: &[&Value], most: usize) -> bool
         requires { length values.now ≤ 65535 }
