@@ -2,8 +2,7 @@
 
 ghost use Rattle.std.specs.Prelude.{◌≡◌, [], IfOk, None, IsOkUnless, false};
 ghost use Rattle.std.specs.Cow.{cow_slice_items, cow_str_bytes};
-ghost use Rattle.std.specs.Str.{encode_utf8_all};
-ghost use Rattle.bstr.specs.Utf8.{lossy_chars};
+ghost use Rattle.mysql_fields.specs.Texts.{lossy_text};
 ghost use Rattle.mysql_buf.specs.Writing.{front};
 ghost use Rattle.mysql_fields.specs.Laws.{unsized};
 ghost use Rattle.mysql_fields.specs.Wire.{TellsPart};
@@ -13,12 +12,11 @@ ghost use Rattle.mysql_replication.specs.Packets.{register_slave_fields_at, repl
 ghost use Rattle.mysql_replication.specs.Views.{names_view, numbers_view, register_slave_view};
 ghost use Rattle.mysql_fields.specs.declared.error.WireError.TheVariants as wire;
 
-use crate::fields::{ShortText, copy_of, lossy};
 use crate::headers::ComRegisterSlaveHeader;
 use mysql_buf::{ParseBuf, front_of};
 use mysql_fields::{
-    LeU16, LeU32, MyDeserialize, MySerialize, ParseExt, RawInt, Readable, ReadsBack, WireError,
-    in_order,
+    LeU16, LeU32, MyDeserialize, MySerialize, ParseExt, RawBytes, RawInt, Readable, ReadsBack,
+    U8Bytes, WireError, copy_bytes, in_order, lossy_text,
 };
 use std::alloc::{AllocError, Global};
 use std::borrow::{CowSlice, CowStr};
@@ -136,9 +134,9 @@ impl<'a> ComRegisterSlave<'a> {
     pub fn hostname(&self, alloc: Global) -> Result<CowStr<'_>, WireError>
         ensures memory { IsOkUnless result wire.Memory }
         ensures value { IfOk result (λ text. cow_str_bytes text ≡
-            encode_utf8_all (lossy_chars (front (register_slave_view self.now).hostname 255))) }
+            lossy_text (front (register_slave_view self.now).hostname 255)) }
     {
-        lossy(alloc, self.hostname_raw())
+        lossy_text(alloc, self.hostname_raw())
     }
 
     /// The bytes of the user's name: those that are written, at most 255.
@@ -155,9 +153,9 @@ impl<'a> ComRegisterSlave<'a> {
     pub fn user(&self, alloc: Global) -> Result<CowStr<'_>, WireError>
         ensures memory { IsOkUnless result wire.Memory }
         ensures value { IfOk result (λ text. cow_str_bytes text ≡
-            encode_utf8_all (lossy_chars (front (register_slave_view self.now).user 255))) }
+            lossy_text (front (register_slave_view self.now).user 255)) }
     {
-        lossy(alloc, self.user_raw())
+        lossy_text(alloc, self.user_raw())
     }
 
     /// The bytes of the password: those that are written, at most 255.
@@ -174,9 +172,9 @@ impl<'a> ComRegisterSlave<'a> {
     pub fn password(&self, alloc: Global) -> Result<CowStr<'_>, WireError>
         ensures memory { IsOkUnless result wire.Memory }
         ensures value { IfOk result (λ text. cow_str_bytes text ≡
-            encode_utf8_all (lossy_chars (front (register_slave_view self.now).password 255))) }
+            lossy_text (front (register_slave_view self.now).password 255)) }
     {
-        lossy(alloc, self.password_raw())
+        lossy_text(alloc, self.password_raw())
     }
 
     /// The port.
@@ -207,9 +205,9 @@ impl<'a> ComRegisterSlave<'a> {
     pub fn clone(&self, alloc: Global) -> Result<ComRegisterSlave<'static>, AllocError>
         ensures { IfOk result (λ copy. register_slave_view copy ≡ register_slave_view self.now) }
     {
-        let hostname = copy_of(alloc, self.hostname.as_slice())?;
-        let user = copy_of(alloc, self.user.as_slice())?;
-        let password = copy_of(alloc, self.password.as_slice())?;
+        let hostname = copy_bytes(alloc, self.hostname.as_slice())?;
+        let user = copy_bytes(alloc, self.user.as_slice())?;
+        let password = copy_bytes(alloc, self.password.as_slice())?;
         Ok(ComRegisterSlave {
             server_id: self.server_id,
             hostname,
@@ -229,9 +227,9 @@ impl<'a> MySerialize for ComRegisterSlave<'a> {
     fn serialize(&self, buf: &mut Vec<u8>) -> Result<(), AllocError> {
         let header = ComRegisterSlaveHeader::new();
         let server_id: RawInt<LeU32> = RawInt::new(self.server_id);
-        let hostname = ShortText(self.hostname.as_slice());
-        let user = ShortText(self.user.as_slice());
-        let password = ShortText(self.password.as_slice());
+        let hostname: RawBytes<U8Bytes> = RawBytes::from(self.hostname.as_slice());
+        let user: RawBytes<U8Bytes> = RawBytes::from(self.user.as_slice());
+        let password: RawBytes<U8Bytes> = RawBytes::from(self.password.as_slice());
         let port: RawInt<LeU16> = RawInt::new(self.port);
         let replication_rank: RawInt<LeU32> = RawInt::new(self.replication_rank);
         let master_id: RawInt<LeU32> = RawInt::new(self.master_id);
