@@ -1,4 +1,7 @@
-//! More data, and the server's public key.
+//! What a server sends further while a client logs in: data of the plugin, or its public key.
+//!
+//!     let more: AuthMoreData = ParseBuf(payload).parse(alloc, ())?;
+//!     let data = more.data();
 
 ghost use Rattle.std.specs.Prelude.{◌≡◌, IfOk, List, None, [], ℕ, IsOkUnless, false};
 ghost use Rattle.std.proofs.Common.{lit<};
@@ -111,6 +114,9 @@ impl<'a> ReadsBack for AuthMoreData<'a> {
 /// Refused by `UnexpectedEof` where there is no byte, then by `BadConstant`.
 #[tactic(auto, unfolding(crate::specs::Packets::headed_at))]
 impl<'de> MyDeserialize<'de> for AuthMoreData<'de> {
+    // Protocol::AuthMoreData:
+    //   int<1>       header 01
+    //   string<EOF>  authentication method data
     fn deserialize(
         alloc: Global,
         _ctx: (),
@@ -208,6 +214,9 @@ impl<'a> ReadsBack for PublicKeyResponse<'a> {
 /// Refused by `UnexpectedEof` where there is no byte, then by `BadConstant`.
 #[tactic(auto, unfolding(crate::specs::Packets::headed_at))]
 impl<'de> MyDeserialize<'de> for PublicKeyResponse<'de> {
+    // Protocol::AuthMoreData with a key:
+    //   int<1>       header 01
+    //   string<EOF>  the server's public key
     fn deserialize(
         alloc: Global,
         _ctx: (),

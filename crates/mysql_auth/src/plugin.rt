@@ -1,4 +1,7 @@
-//! Authentication plugins.
+//! Authentication plugins, by the names that the packets of logging in carry.
+//!
+//!     let plugin = AuthPlugin::from_bytes(b"caching_sha2_password");
+//!     let name = plugin.as_bytes();
 
 ghost use Rattle.std.specs.Prelude.{◌≡◌, ◌++◌, ◌∷◌, [], IfOk, MatchOption, None, Ok, Some, ℕ, false};
 ghost use Rattle.mysql_auth.specs.Plugins.{Keeps, Plugin, plugin_name, plugin_named, plugin_at, with_data};

@@ -1,4 +1,11 @@
-//! A builder of bulk execute requests.
+//! Builds bulk executions: rows go in one by one, and requests of as many as fit come out.
+//!
+//!     let mut builder = ComStmtBulkExecuteRequestBuilder::new(alloc, stmt_id, max_allowed_packet);
+//!     if let Some(row) = builder.add_row(row)? {
+//!         let request = builder.build()?; // of the rows before, which leave no room for this one
+//!         builder.add_row(row)?;
+//!     }
+//!     let last = builder.build()?;
 
 ghost use Rattle.std.specs.Prelude.{◌≡◌, ◌+◌, ◌*◌, ◌<◌, ◌≤◌, if◌then◌else◌, length, map, nat_eq, option_copied, ◌&&◌};
 ghost use Rattle.std.specs.Prelude.{MatchOption};

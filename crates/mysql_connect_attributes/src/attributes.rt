@@ -1,4 +1,7 @@
-//! The attributes of a connection.
+//! The attributes of a connection: texts by keys, such as the client's name and version.
+//!
+//!     let attributes = ConnectAttributes::from_texts(alloc, texts)?;
+//!     attributes.serialize(&mut payload)?;
 
 ghost use Rattle.std.specs.Prelude.{◌≡◌, IfOk, IfSome, List, None, [], length, map, IsOkUnless};
 ghost use Rattle.std.specs.Cow.{cow_slice_items};
@@ -275,6 +278,11 @@ impl<'a> Readable for ConnectAttributes<'a> {
 
 #[tactic(auto, unfolding(crate::specs::Attributes::attributes_at))]
 impl<'de> MyDeserialize<'de> for ConnectAttributes<'de> {
+    // Connection attributes of Protocol::HandshakeResponse41:
+    //   int<lenenc>  length of all keys and values
+    //   for each, to the end of these bytes:
+    //     string<lenenc>  key
+    //     string<lenenc>  value
     fn deserialize(
         alloc: Global,
         _ctx: (),

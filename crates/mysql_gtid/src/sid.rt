@@ -1,4 +1,7 @@
-//! Sets of global transaction identifiers of one source.
+//! Sets of global transaction identifiers of one source: its UUID, a tag, and intervals.
+//!
+//!     let sid = Sid::parse(alloc, "3e11fa47-71ca-11e1-9e33-c80aa9429562:1-5:7")?;
+//!     let intervals = sid.intervals();
 
 ghost use Rattle.std.specs.Prelude.{◌≡◌, ◌++◌, ◌∷◌, [], IfOk, IfErr, MatchOption, None, Some};
 ghost use Rattle.std.specs.List.{flat_map};

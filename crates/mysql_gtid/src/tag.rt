@@ -1,4 +1,6 @@
-//! Tags of global transaction identifiers.
+//! Tags of global transaction identifiers: at most 32 letters, digits and underscores.
+//!
+//!     let tag = Tag::try_from("nightly")?;
 
 ghost use Rattle.std.specs.Prelude.{◌≡◌, IfOk, IfErr, MatchResult, Some, None, nat_eq, not, refl};
 ghost use Rattle.std.specs.Hash as fed;

@@ -1,4 +1,7 @@
-//! A client's answer to the handshake.
+//! A client's answer to the handshake: who logs in, by which plugin, to which database.
+//!
+//!     let answer: HandshakeResponse = ParseBuf(payload).parse(alloc, ())?;
+//!     let user = answer.user();
 
 ghost use Rattle.std.specs.Prelude.{◌≡◌, IfOk, None, map, option_map, IsOkUnless};
 ghost use Rattle.std.specs.Cow.{cow_slice_items};
@@ -455,6 +458,22 @@ impl<'a> Readable for HandshakeResponse<'a> {
 }
 
 impl<'de> MyDeserialize<'de> for HandshakeResponse<'de> {
+    // Protocol::HandshakeResponse41:
+    //   int<4>       client_flag
+    //   int<4>       max_packet_size
+    //   int<1>       character_set
+    //   string[19]   filler
+    //   int<4>       MariaDB's own capabilities
+    //   string<NUL>  username
+    //   auth_response, by the capabilities:
+    //     string<lenenc>  with CLIENT_PLUGIN_AUTH_LENENC_CLIENT_DATA
+    //     int<1> length and so many bytes, with CLIENT_SECURE_CONNECTION
+    //     string<NUL>     else
+    //   string<NUL>  database, with CLIENT_CONNECT_WITH_DB
+    //   string<NUL>  client_plugin_name, with CLIENT_PLUGIN_AUTH; it may end with the packet
+    //   attributes, with CLIENT_CONNECT_ATTRS:
+    //     int<lenenc>  length of all keys and values
+    //     string<lenenc> key and string<lenenc> value, one after another
     fn deserialize(
         alloc: Global,
         _ctx: (),

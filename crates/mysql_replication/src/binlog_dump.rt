@@ -1,4 +1,7 @@
-//! The request for the binary log from a place.
+//! The request for the binary log from a place: a file, and a position in it.
+//!
+//!     let request = ComBinlogDump::new(server_id).with_pos(4).with_filename(name);
+//!     request.serialize(&mut payload)?;
 
 ghost use Rattle.std.specs.Prelude.{◌≡◌, [], IfOk, None, IsOkUnless, false};
 ghost use Rattle.std.specs.Cow.{cow_slice_items, cow_str_bytes};
@@ -202,6 +205,12 @@ fn fields_from<'de>(
 /// MySQL: Client/Server Protocol, "COM_BINLOG_DUMP".
 #[tactic(auto, unfolding(crate::specs::Packets::binlog_dump_at))]
 impl<'de> MyDeserialize<'de> for ComBinlogDump<'de> {
+    // COM_BINLOG_DUMP:
+    //   int<1>       command 12
+    //   int<4>       binlog-pos
+    //   int<2>       flags
+    //   int<4>       server-id
+    //   string<EOF>  binlog-filename
     fn deserialize(
         alloc: Global,
         _ctx: (),

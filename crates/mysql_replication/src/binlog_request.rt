@@ -1,4 +1,7 @@
 //! A request for the binary log, whichever packet carries it.
+//!
+//!     let request = BinlogRequest::new(alloc, server_id).with_use_gtid(true).with_sids(sids);
+//!     let packet = request.as_cmd();
 
 ghost use Rattle.std.specs.Prelude.{◌≡◌, [], false, IfOk, map, IsOkUnless};
 ghost use Rattle.std.specs.Cow.{cow_slice_items, cow_str_bytes};

@@ -1,4 +1,6 @@
-//! The request for a table.
+//! The request for a table, as replicas of old made it.
+//!
+//!     ComTableDump::new(database, table).serialize(&mut payload)?;
 
 ghost use Rattle.std.specs.Prelude.{◌≡◌, IfOk, None, IsOkUnless, false};
 ghost use Rattle.std.specs.Cow.{cow_slice_items, cow_str_bytes};
@@ -139,6 +141,12 @@ impl<'a> ReadsBack for ComTableDump<'a> {
 /// MySQL: Client/Server Protocol, "COM_TABLE_DUMP".
 #[tactic(auto, unfolding(crate::specs::Packets::table_dump_at))]
 impl<'de> MyDeserialize<'de> for ComTableDump<'de> {
+    // COM_TABLE_DUMP:
+    //   int<1>       command 13
+    //   int<1>       database length
+    //   string<var>  database
+    //   int<1>       table length
+    //   string<var>  table
     fn deserialize(
         alloc: Global,
         _ctx: (),

@@ -1,4 +1,7 @@
-//! Requests for files.
+//! Requests for files: the server asks a client for a file of its own.
+//!
+//!     let request: LocalInfilePacket = ParseBuf(payload).parse(alloc, ())?;
+//!     let name = request.file_name_ref();
 
 ghost use Rattle.std.specs.Prelude.{◌≡◌, [], IfOk, IsOkUnless, List, None, false, ℕ};
 ghost use Rattle.std.specs.Cow.{cow_slice_items, cow_str_bytes};
@@ -124,6 +127,9 @@ impl<'a> ReadsBack for LocalInfilePacket<'a> {
 /// MySQL: Client/Server Protocol, "LOCAL INFILE Request".
 #[tactic(auto, unfolding(crate::specs::Packets::local_infile_at))]
 impl<'de> MyDeserialize<'de> for LocalInfilePacket<'de> {
+    // LOCAL INFILE Request:
+    //   int<1>       header fb
+    //   string<EOF>  filename
     fn deserialize(
         alloc: Global,
         _ctx: (),

@@ -1,4 +1,7 @@
-//! Statement packets.
+//! Statement packets: the first packet of the answer to a prepare.
+//!
+//!     let packet: StmtPacket = ParseBuf(payload).parse(alloc, ())?;
+//!     let id = packet.statement_id();
 
 ghost use Rattle.std.specs.Prelude.{◌≡◌, Some, false};
 ghost use Rattle.mysql_fields.specs.Wire.{TellsPart};
@@ -165,6 +168,13 @@ impl ReadsBack for StmtPacket {
 /// MySQL: Client/Server Protocol, "COM_STMT_PREPARE Response".
 #[tactic(auto, using(crate::proofs::Rules::sizes))]
 impl<'de> MyDeserialize<'de> for StmtPacket {
+    // COM_STMT_PREPARE_OK:
+    //   int<1>  status 00
+    //   int<4>  statement_id
+    //   int<2>  num_columns
+    //   int<2>  num_params
+    //   int<1>  reserved_1
+    //   int<2>  warning_count
     fn deserialize(
         alloc: Global,
         _ctx: (),

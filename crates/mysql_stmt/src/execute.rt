@@ -1,4 +1,9 @@
-//! Executions of prepared statements.
+//! Executions of prepared statements: the values in the binary format, and those that go as long
+//! data.
+//!
+//!     let builder = ComStmtExecuteRequestBuilder::new(stmt_id);
+//!     let (request, apart) = builder.build(alloc, &values)?;
+//!     request.serialize(&mut payload)?;
 
 ghost use Rattle.std.specs.Prelude.{◌≡◌, ◌++◌, ◌∷◌, ◌<◌, ◌≤◌, IfOk, None, OnOk, Some, SomeIff, flat_map, if◌then◌else◌};
 ghost use Rattle.std.specs.Prelude.{is_none, length, map, nat_lt, take};

@@ -1,4 +1,7 @@
-//! Long data: a parameter's bytes in pieces.
+//! Long data: a piece of a parameter's bytes, sent before the execution that takes it.
+//!
+//!     let piece = ComStmtSendLongData::new(stmt_id, 0, CowSlice::Borrowed(bytes));
+//!     piece.serialize(&mut payload)?;
 
 ghost use Rattle.std.specs.Prelude.{◌≡◌, IfOk};
 ghost use Rattle.std.specs.Cow.{cow_slice_items};
