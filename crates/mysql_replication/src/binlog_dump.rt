@@ -183,13 +183,9 @@ fn fields_from<'de>(
     ensures { TellsPart binlog_dump_view rest.new.0.now result (binlog_dump_fields_at rest.old.0.now) }
 {
     let _header: ComBinlogDumpHeader = rest.parse(alloc, ())?;
-    let Some(pos) = rest.checked_eat_u32_le() else {
-        return Err(WireError::UnexpectedEof);
-    };
+    let pos = rest.checked_eat_u32_le().ok_or(WireError::UnexpectedEof)?;
     let flags: Const<BinlogDumpFlags, LeU16> = rest.parse(alloc, ())?;
-    let Some(server_id) = rest.checked_eat_u32_le() else {
-        return Err(WireError::UnexpectedEof);
-    };
+    let server_id = rest.checked_eat_u32_le().ok_or(WireError::UnexpectedEof)?;
     let filename = CowSlice::Borrowed(rest.eat_all());
     Ok(ComBinlogDump {
         pos,

@@ -313,9 +313,7 @@ fn front_from(alloc: Global, rest: &mut ParseBuf) -> Result<(BinlogDumpFlags, u3
 {
     let _header: ComBinlogDumpGtidHeader = rest.parse(alloc, ())?;
     let flags: Const<BinlogDumpFlags, LeU16> = rest.parse(alloc, ())?;
-    let Some(server_id) = rest.checked_eat_u32_le() else {
-        return Err(WireError::UnexpectedEof);
-    };
+    let server_id = rest.checked_eat_u32_le().ok_or(WireError::UnexpectedEof)?;
     Ok((flags.0, server_id))
 }
 
@@ -331,15 +329,9 @@ struct Start<'a> {
 fn start_from<'de>(rest: &mut ParseBuf<'de>) -> Result<Start<'de>, WireError>
     ensures { TellsPart start_view rest.new.0.now result (binlog_dump_gtid_start_at rest.old.0.now) }
 {
-    let Some(filename) = rest.checked_eat_u32_str() else {
-        return Err(WireError::UnexpectedEof);
-    };
-    let Some(pos) = rest.checked_eat_u64_le() else {
-        return Err(WireError::UnexpectedEof);
-    };
-    let Some(block) = rest.checked_eat_u32_str() else {
-        return Err(WireError::UnexpectedEof);
-    };
+    let filename = rest.checked_eat_u32_str().ok_or(WireError::UnexpectedEof)?;
+    let pos = rest.checked_eat_u64_le().ok_or(WireError::UnexpectedEof)?;
+    let block = rest.checked_eat_u32_str().ok_or(WireError::UnexpectedEof)?;
     Ok(Start {
         filename,
         pos,

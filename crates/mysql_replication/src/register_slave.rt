@@ -292,15 +292,9 @@ struct Names<'a> {
 fn names_from<'de>(rest: &mut ParseBuf<'de>) -> Result<Names<'de>, WireError>
     ensures { TellsPart names_view rest.new.0.now result (replica_names_at rest.old.0.now) }
 {
-    let Some(hostname) = rest.checked_eat_u8_str() else {
-        return Err(WireError::UnexpectedEof);
-    };
-    let Some(user) = rest.checked_eat_u8_str() else {
-        return Err(WireError::UnexpectedEof);
-    };
-    let Some(password) = rest.checked_eat_u8_str() else {
-        return Err(WireError::UnexpectedEof);
-    };
+    let hostname = rest.checked_eat_u8_str().ok_or(WireError::UnexpectedEof)?;
+    let user = rest.checked_eat_u8_str().ok_or(WireError::UnexpectedEof)?;
+    let password = rest.checked_eat_u8_str().ok_or(WireError::UnexpectedEof)?;
     Ok(Names {
         hostname,
         user,
@@ -320,15 +314,9 @@ struct Numbers {
 fn numbers_from(rest: &mut ParseBuf) -> Result<Numbers, WireError>
     ensures { TellsPart numbers_view rest.new.0.now result (replica_numbers_at rest.old.0.now) }
 {
-    let Some(port) = rest.checked_eat_u16_le() else {
-        return Err(WireError::UnexpectedEof);
-    };
-    let Some(replication_rank) = rest.checked_eat_u32_le() else {
-        return Err(WireError::UnexpectedEof);
-    };
-    let Some(master_id) = rest.checked_eat_u32_le() else {
-        return Err(WireError::UnexpectedEof);
-    };
+    let port = rest.checked_eat_u16_le().ok_or(WireError::UnexpectedEof)?;
+    let replication_rank = rest.checked_eat_u32_le().ok_or(WireError::UnexpectedEof)?;
+    let master_id = rest.checked_eat_u32_le().ok_or(WireError::UnexpectedEof)?;
     Ok(Numbers {
         port,
         replication_rank,
@@ -345,9 +333,7 @@ fn fields_from<'de>(
     ensures { TellsPart register_slave_view rest.new.0.now result (register_slave_fields_at rest.old.0.now) }
 {
     let _header: ComRegisterSlaveHeader = rest.parse(alloc, ())?;
-    let Some(server_id) = rest.checked_eat_u32_le() else {
-        return Err(WireError::UnexpectedEof);
-    };
+    let server_id = rest.checked_eat_u32_le().ok_or(WireError::UnexpectedEof)?;
     let names = names_from(rest)?;
     let numbers = numbers_from(rest)?;
     Ok(ComRegisterSlave {

@@ -135,9 +135,7 @@ fn fields_from<'de>(
     ensures { TellsPart semi_sync_ack_view rest.new.0.now result (semi_sync_ack_fields_at rest.old.0.now) }
 {
     let _header: SemiSyncAckPacketPacketHeader = rest.parse(alloc, ())?;
-    let Some(position) = rest.checked_eat_u64_le() else {
-        return Err(WireError::UnexpectedEof);
-    };
+    let position = rest.checked_eat_u64_le().ok_or(WireError::UnexpectedEof)?;
     let filename = CowSlice::Borrowed(rest.eat_all());
     Ok(SemiSyncAckPacket::new(position, filename))
 }

@@ -154,12 +154,8 @@ impl<'de> MyDeserialize<'de> for ComTableDump<'de> {
     ) -> Result<ComTableDump<'de>, WireError> {
         let mut rest = *buf;
         let _header: ComTableDumpHeader = rest.parse(alloc, ())?;
-        let Some(database) = rest.checked_eat_u8_str() else {
-            return Err(WireError::UnexpectedEof);
-        };
-        let Some(table) = rest.checked_eat_u8_str() else {
-            return Err(WireError::UnexpectedEof);
-        };
+        let database = rest.checked_eat_u8_str().ok_or(WireError::UnexpectedEof)?;
+        let table = rest.checked_eat_u8_str().ok_or(WireError::UnexpectedEof)?;
         *buf = rest;
         Ok(ComTableDump::new(CowSlice::Borrowed(database), CowSlice::Borrowed(table)))
     }
