@@ -24,6 +24,10 @@ mod laws {
     use mysql_convert::laws::texts_hold_durations;
 }
 
+mod numbers {
+    use mysql_convert::numbers::{Integer, Number, text_integer};
+}
+
 // The faces below: one item each, since each has a list of its own.
 mod values_face {
     use mysql_convert::mysql_values::AsSqlError;

@@ -10,7 +10,10 @@ use mysql_values::{
 };
 
 mod bind {
-    use mysql_values::bind::{BindError, bind_text, bind_text_at, bind_text_over, names_among};
+    use mysql_values::bind::{
+        BindError, ParsedQuery, bind_text, bind_text_at, bind_text_onto, bind_text_over,
+        names_among,
+    };
 }
 
 mod laws {
@@ -24,6 +27,7 @@ mod laws {
 mod params {
     use mysql_values::params::{
         MissingNamedParameterError, Params, ParamsConfusionError, ParamsError, SetError,
+        list_values_over_names,
     };
 }
 

@@ -30,6 +30,9 @@ const PARSEC_PLUGIN_NAME: &[u8] = b"parsec";
 
 /// An authentication plugin.
 /// (MySQL: Client/Server Protocol, "Authentication Methods"; MariaDB: "Pluggable Authentication".)
+///
+/// Promise: a plugin has the name that it was made of, without a zero at its end (`plugin_named`,
+/// `plugin_name`).
 #[derive(Debug, PartialEq, Eq, Hash, Drop)]
 pub enum AuthPlugin<'a> {
     /// Old password authentication.

@@ -45,6 +45,10 @@ const SCRAMBLE_2_MAX_LEN: usize = 247;
 /// begins with.
 /// (MySQL: Client/Server Protocol, "Protocol::HandshakeV10"; MariaDB: "Connecting", 'Initial
 /// handshake packet'.)
+///
+/// Promise: its bytes are a function of its fields, and any bytes are read exactly as its layout
+/// says, with the first refusal from the left; each direction stands by itself (`handshake`,
+/// `handshake_at`).
 #[derive(Debug, PartialEq, Eq, Drop)]
 pub struct HandshakePacket<'a> {
     protocol_version: u8,
@@ -219,6 +223,9 @@ impl<'a> HandshakePacket<'a> {
 
     /// The version that the text begins with: three numbers of at most two, two and three digits,
     /// with dots between. A MariaDB server from 10 on may begin with 5.5.5.
+    ///
+    /// Promise: the version is the one that the server's text is by the definition, and None where
+    /// it is none (`IsVersion`).
     pub fn server_version_parsed(&self) -> Option<(u16, u16, u16)>
         ensures { IsTheOne (IsVersion (handshake_view self.now).server_version) result }
     {
@@ -327,6 +334,8 @@ impl<'a> HandshakePacket<'a> {
 
     /// The nonce: both scrambles, cut or padded with zeros to 20 bytes.
     ///
+    /// Promise: the nonce is the two scrambles as the definition joins them (`nonce_of`).
+    ///
     /// # Errors
     /// - `AllocError` for want of memory.
     pub fn nonce(&self, alloc: Global) -> Result<Vec<u8>, AllocError>
@@ -372,7 +381,7 @@ impl<'a> HandshakePacket<'a> {
         self.lent().into_owned(alloc)
     }
 
-    // The same packet, whose texts are lent.
+    // The packet with its texts borrowed from this one.
     fn lent(&self) -> HandshakePacket<'_>
         ensures { handshake_view result ≡ handshake_view self.now }
     {
@@ -493,7 +502,7 @@ impl<'a> Readable for HandshakePacket<'a> {
     }
 }
 
-// The first eight bytes.
+// Takes the first eight bytes.
 #[tactic(auto, unfolding(mysql_buf::specs::Reading::first))]
 fn eight_bytes(buf: &mut ParseBuf) -> Result<[u8; 8], WireError>
     ensures { Tells (λ bytes. bytes) buf.old.0.now buf.new.0.now result (bytes_at 8 buf.old.0.now) }

@@ -47,6 +47,8 @@ pub fn has_more_results(status: StatusFlags) -> bool
 }
 
 /// Each bit of the status has a name. A packet with another bit is refused where it is read.
+///
+/// Promise: that is so exactly where reading takes the status (`is_named_status`).
 pub fn has_named_status(status: StatusFlags) -> bool
     ensures { result ≡ is_named_status status.0 }
 {

@@ -35,6 +35,9 @@ use std::borrow::{CowSlice, CowStr};
 /// It has their sets, and a position of a file, of whose name at most 2^32 - 1 bytes are written.
 /// `BINLOG_THROUGH_GTID` is set exactly where there are sets.
 ///
+/// Promise: its bytes are a function of its fields, and any bytes are read exactly as its layout
+/// says, with the first refusal from the left (`binlog_dump_gtid`, `binlog_dump_gtid_at`).
+///
 /// MySQL: Client/Server Protocol, "COM_BINLOG_DUMP_GTID".
 #[derive(Debug, PartialEq, Eq, Hash, Drop)]
 pub struct ComBinlogDumpGtid<'a> {

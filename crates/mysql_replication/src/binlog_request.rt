@@ -167,6 +167,8 @@ impl<'a> BinlogRequest<'a> {
     ///
     /// By transactions it carries all of it, else the low 32 bits of the position, the name, and of
     /// the flags `BINLOG_DUMP_NON_BLOCK` alone.
+    ///
+    /// Promise: the packet is exactly the one that the fields say (`packet_of`).
     pub fn as_cmd(&self) -> Either<ComBinlogDump<'_>, ComBinlogDumpGtid<'_>>
         ensures { either_shown binlog_dump_view binlog_dump_gtid_view result ≡ packet_of (request_view self.now) }
     {

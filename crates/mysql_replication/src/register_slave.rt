@@ -26,6 +26,9 @@ use std::borrow::{CowSlice, CowStr};
 
 /// What a replica says of itself before it asks for the binary log. Of each name at most 255 bytes are written.
 ///
+/// Promise: its bytes are a function of its fields, and any bytes are read exactly as its layout
+/// says, with the first refusal from the left (`register_slave`, `register_slave_at`).
+///
 /// MySQL: Client/Server Protocol, "COM_REGISTER_SLAVE".
 #[derive(Debug, PartialEq, Eq, Hash, Drop)]
 pub struct ComRegisterSlave<'a> {

@@ -29,6 +29,9 @@ use std::borrow::CowSlice;
 
 /// The type of a change of a session's state, and the bytes that tell it.
 ///
+/// Promise: its bytes are a function of its type and data, and any bytes are read exactly as its
+/// layout says (`state`, `state_at`).
+///
 /// MySQL: Client/Server Protocol, "OK_Packet", 'Session State Information'.
 #[derive(Debug, PartialEq, Eq, Drop)]
 pub struct SessionStateInfo<'a> {

@@ -16,6 +16,9 @@ use std::borrow::CowSlice;
 /// A piece of a parameter of a prepared statement, sent before the statement is executed. Pieces
 /// for one place are joined.
 ///
+/// Promise: its bytes are a function of its fields, and are appended whole or not at all
+/// (`long_data`).
+///
 /// MySQL: Client/Server Protocol, "COM_STMT_SEND_LONG_DATA".
 #[derive(Debug, PartialEq, Eq, Drop)]
 pub struct ComStmtSendLongData<'a> {
