@@ -102,7 +102,8 @@ impl<'a> ProgressReport<'a> {
     /// - `Memory`.
     pub fn stage_info_str(&self, alloc: Global) -> Result<CowStr<'_>, WireError>
         ensures memory { IsOkUnless result wire.Memory }
-        ensures value { IfOk result (λ text. cow_str_bytes text ≡ lossy_text (progress_report_view self.now).progress_info) }
+        ensures value { IfOk result (λ text. cow_str_bytes text ≡
+            lossy_text (progress_report_view self.now).progress_info) }
     {
         lossy_text(alloc, self.stage_info_ref())
     }

@@ -192,7 +192,8 @@ impl<'a> ServerError<'a> {
     /// - `Memory`.
     pub fn message_str(&self, alloc: Global) -> Result<CowStr<'_>, WireError>
         ensures memory { IsOkUnless result wire.Memory }
-        ensures value { IfOk result (λ text. cow_str_bytes text ≡ lossy_text (server_error_view self.now).error_message) }
+        ensures value { IfOk result (λ text. cow_str_bytes text ≡
+            lossy_text (server_error_view self.now).error_message) }
     {
         lossy_text(alloc, self.message_ref())
     }

@@ -18,6 +18,9 @@ use std::alloc::{AllocError, Global};
 /// A request that has the number of its command and a statement's id.
 ///
 /// Its names are [`ComStmtClose`] and [`ComStmtReset`].
+///
+/// Promise: its bytes are a function of its fields, and any bytes are read exactly as its layout
+/// says; what was written is read back, whatever follows (`alone`, `alone_at`).
 #[derive(Clone, Copy, Debug, PartialEq, Eq)]
 pub struct StatementAlone<const NUMBER: u8> {
     /// The statement's id.
@@ -104,6 +107,9 @@ fn read_fields<const NUMBER: u8>(
 /// MySQL: Client/Server Protocol, "COM_STMT_CLOSE", "COM_STMT_RESET".
 #[tactic(auto, unfolding(crate::specs::Commands::alone_at))]
 impl<'de, const NUMBER: u8> MyDeserialize<'de> for StatementAlone<NUMBER> {
+    // COM_STMT_CLOSE or COM_STMT_RESET:
+    //   int<1>  command 19 or 1a
+    //   int<4>  statement_id
     fn deserialize(
         alloc: Global,
         _ctx: (),
