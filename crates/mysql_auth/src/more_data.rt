@@ -6,8 +6,7 @@
 ghost use Rattle.std.specs.Prelude.{◌≡◌, IfOk, List, None, [], ℕ, IsOkUnless, false};
 ghost use Rattle.std.proofs.Common.{lit<};
 ghost use Rattle.std.specs.Cow.{cow_slice_items, cow_str_bytes};
-ghost use Rattle.std.specs.Str.{encode_utf8_all};
-ghost use Rattle.bstr.specs.Utf8.{lossy_chars};
+ghost use Rattle.mysql_fields.specs.Texts.{lossy_text};
 ghost use Rattle.mysql_auth.specs.PacketLaws.{headed_at-back};
 ghost use Rattle.mysql_auth.specs.Packets.{headed, headed_at};
 ghost use Rattle.mysql_auth.specs.Views.{key_view, more_data_view};
@@ -15,17 +14,19 @@ ghost use Rattle.mysql_fields.specs.Laws.{unsized};
 ghost use Rattle.mysql_fields.specs.declared.error.WireError.TheVariants as wire;
 
 use crate::headers::{AuthMoreDataHeader, PublicKeyResponseHeader};
-use bstr::ByteSlice;
 use mysql_buf::ParseBuf;
 use mysql_fields::{
     EofBytes, MyDeserialize, MySerialize, ParseExt, RawBytes, Readable, ReadsBack, WireError,
-    in_order,
+    copy_bytes, in_order, lossy_text, own_bytes,
 };
 use std::alloc::{AllocError, Global};
 use std::borrow::{CowSlice, CowStr};
 
 /// What a server sends to a plugin beside its first data.
 /// (MySQL: Client/Server Protocol, "Protocol::AuthMoreData".)
+///
+/// Promise: its bytes are a function of its data; any bytes are read exactly as its layout says,
+/// and what was written is read back where nothing follows (`headed`, `headed_at`).
 #[derive(Debug, PartialEq, Eq, Drop)]
 pub struct AuthMoreData<'a> {
     data: CowSlice<'a, u8>,
@@ -54,7 +55,7 @@ impl<'a> AuthMoreData<'a> {
         ensures { IfOk result (λ owned. more_data_view owned ≡ more_data_view self.entry) }
     {
         Ok(AuthMoreData {
-            data: CowSlice::Owned(self.data.into_owned(alloc)?),
+            data: own_bytes(alloc, self.data)?,
         })
     }
 
@@ -66,7 +67,7 @@ impl<'a> AuthMoreData<'a> {
         ensures { IfOk result (λ copy. more_data_view copy ≡ more_data_view self.now) }
     {
         Ok(AuthMoreData {
-            data: CowSlice::Owned(Vec::from_slice(alloc, self.data.as_slice())?),
+            data: copy_bytes(alloc, self.data.as_slice())?,
         })
     }
 }
@@ -134,6 +135,9 @@ impl<'de> MyDeserialize<'de> for AuthMoreData<'de> {
 
 /// The server's public key, by which a password is hidden.
 /// (MySQL: Client/Server Protocol, "Caching SHA-2 Authentication".)
+///
+/// Promise: its bytes are a function of its key; any bytes are read exactly as its layout says, and
+/// what was written is read back where nothing follows (`headed`, `headed_at`).
 #[derive(Debug, PartialEq, Eq, Drop)]
 pub struct PublicKeyResponse<'a> {
     rsa_key: CowSlice<'a, u8>,
@@ -153,9 +157,9 @@ impl<'a> PublicKeyResponse<'a> {
     /// - `Memory`.
     pub fn rsa_key(&self, alloc: Global) -> Result<CowStr<'_>, WireError>
         ensures memory { IsOkUnless result wire.Memory }
-        ensures value { IfOk result (λ text. cow_str_bytes text ≡ encode_utf8_all (lossy_chars (key_view self.now))) }
+        ensures value { IfOk result (λ text. cow_str_bytes text ≡ lossy_text (key_view self.now)) }
     {
-        Ok(self.rsa_key.as_slice().to_str_lossy(alloc)?)
+        lossy_text(alloc, self.rsa_key.as_slice())
     }
 
     /// A copy of the packet, which borrows nothing.
@@ -166,7 +170,7 @@ impl<'a> PublicKeyResponse<'a> {
         ensures { IfOk result (λ copy. key_view copy ≡ key_view self.now) }
     {
         Ok(PublicKeyResponse {
-            rsa_key: CowSlice::Owned(Vec::from_slice(alloc, self.rsa_key.as_slice())?),
+            rsa_key: copy_bytes(alloc, self.rsa_key.as_slice())?,
         })
     }
 }

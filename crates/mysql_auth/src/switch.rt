@@ -19,7 +19,7 @@ use crate::zero::without_zero;
 use mysql_buf::ParseBuf;
 use mysql_fields::{
     EofBytes, MyDeserialize, MySerialize, NullBytes, ParseExt, RawBytes, Readable, WireError,
-    in_order,
+    copy_bytes, in_order, own_bytes,
 };
 use std::alloc::{AllocError, Global};
 use std::borrow::CowSlice;
@@ -91,6 +91,9 @@ impl<'de> MyDeserialize<'de> for OldAuthSwitchRequest {
 
 /// A server's request to go on with another plugin.
 /// (MySQL: Client/Server Protocol, "Protocol::AuthSwitchRequest".)
+///
+/// Promise: its bytes are a function of its fields, and any bytes are read exactly as its layout
+/// says, with the first refusal from the left (`switch`, `switch_at`).
 #[derive(Debug, PartialEq, Eq, Drop)]
 pub struct AuthSwitchRequest<'a> {
     auth_plugin: CowSlice<'a, u8>,
@@ -138,8 +141,8 @@ impl<'a> AuthSwitchRequest<'a> {
         ensures { IfOk result (λ owned. switch_view owned ≡ switch_view self.entry) }
     {
         Ok(AuthSwitchRequest {
-            auth_plugin: CowSlice::Owned(self.auth_plugin.into_owned(alloc)?),
-            plugin_data: CowSlice::Owned(self.plugin_data.into_owned(alloc)?),
+            auth_plugin: own_bytes(alloc, self.auth_plugin)?,
+            plugin_data: own_bytes(alloc, self.plugin_data)?,
         })
     }
 
@@ -151,8 +154,8 @@ impl<'a> AuthSwitchRequest<'a> {
         ensures { IfOk result (λ copy. switch_view copy ≡ switch_view self.now) }
     {
         Ok(AuthSwitchRequest {
-            auth_plugin: CowSlice::Owned(Vec::from_slice(alloc, self.auth_plugin.as_slice())?),
-            plugin_data: CowSlice::Owned(Vec::from_slice(alloc, self.plugin_data.as_slice())?),
+            auth_plugin: copy_bytes(alloc, self.auth_plugin.as_slice())?,
+            plugin_data: copy_bytes(alloc, self.plugin_data.as_slice())?,
         })
     }
 }

@@ -67,6 +67,9 @@ impl<'a> Sid<'a> {
     /// The intervals are `n` or `n-m`, and colons stand between all parts. A tag stands where what
     /// follows the UUID begins with no digit; numbers may begin with a plus.
     ///
+    /// Promise: exactly the set is answered that the grammar of such texts gives, or its leftmost
+    /// fault (`sid_of`).
+    ///
     /// # Errors
     /// What stands leftmost is refused:
     /// - `NoColon`.

@@ -124,6 +124,9 @@ impl<'a> Tag<'a> {
 
     /// A tag of a text, which is moved and not copied.
     ///
+    /// Promise: exactly the tags are taken, and each other text is refused by the first cause
+    /// (`tag_fault`).
+    ///
     /// # Errors
     /// - `Empty`.
     /// - `TooLong` with the number of bytes.

@@ -7,8 +7,7 @@
 ghost use Rattle.std.specs.Prelude.{[], ◌≡◌, ◌≤◌, IfOk, None, Ok, Some, length, IsOkUnless, false};
 ghost use Rattle.std.specs.Cow.{cow_slice_items, cow_str_bytes};
 ghost use Rattle.std.specs.Option.{option_map};
-ghost use Rattle.std.specs.Str.{encode_utf8_all};
-ghost use Rattle.bstr.specs.Utf8.{lossy_chars};
+ghost use Rattle.mysql_fields.specs.Texts.{lossy_text};
 ghost use Rattle.mysql_auth.specs.Plugins.{plugin_named, without_zero};
 ghost use Rattle.mysql_auth.specs.Views.{plugin_view};
 ghost use Rattle.mysql_buf.specs.Writing.{front};
@@ -28,14 +27,13 @@ ghost use Rattle.mysql_fields.specs.declared.error.WireError.TheVariants as wire
 
 use crate::versions::{mariadb_version, version_of};
 use bitflags::Flags;
-use bstr::ByteSlice;
 use mysql_auth::{AuthPlugin, without_zero};
 use mysql_buf::{ParseBuf, front_of};
 use mysql_const::{CapabilityFlags, MariadbCapabilities, StatusFlags};
 use mysql_field_constants::{Const, Either, RawFlags, Skip};
 use mysql_fields::{
     BareBytes, EofBytes, LeU16, LeU32, LeU32LowerHalf, LeU32UpperHalf, MyDeserialize, MySerialize,
-    NullBytes, ParseExt, RawBytes, RawInt, Readable, WireError, in_order,
+    NullBytes, ParseExt, RawBytes, RawInt, Readable, WireError, in_order, lossy_text, own_bytes,
 };
 use std::alloc::{AllocError, Global};
 use std::borrow::{CowSlice, CowStr};
@@ -47,6 +45,10 @@ const SCRAMBLE_2_MAX_LEN: usize = 247;
 /// begins with.
 /// (MySQL: Client/Server Protocol, "Protocol::HandshakeV10"; MariaDB: "Connecting", 'Initial
 /// handshake packet'.)
+///
+/// Promise: its bytes are a function of its fields, and any bytes are read exactly as its layout
+/// says, with the first refusal from the left; each direction stands by itself (`handshake`,
+/// `handshake_at`).
 #[derive(Debug, PartialEq, Eq, Drop)]
 pub struct HandshakePacket<'a> {
     protocol_version: u8,
@@ -119,7 +121,7 @@ fn owned_text(
 {
     match text {
         None => Ok(None),
-        Some(text) => Ok(Some(CowSlice::Owned(text.into_owned(alloc)?))),
+        Some(text) => Ok(Some(own_bytes(alloc, text)?)),
     }
 }
 
@@ -214,13 +216,16 @@ impl<'a> HandshakePacket<'a> {
     pub fn server_version_str(&self, alloc: Global) -> Result<CowStr<'_>, WireError>
         ensures memory { IsOkUnless result wire.Memory }
         ensures value { IfOk result (λ text. cow_str_bytes text ≡
-            encode_utf8_all (lossy_chars (handshake_view self.now).server_version)) }
+            lossy_text (handshake_view self.now).server_version) }
     {
-        Ok(self.server_version_ref().to_str_lossy(alloc)?)
+        lossy_text(alloc, self.server_version_ref())
     }
 
     /// The version that the text begins with: three numbers of at most two, two and three digits,
     /// with dots between. A MariaDB server from 10 on may begin with 5.5.5.
+    ///
+    /// Promise: the version is the one that the server's text is by the definition, and None where
+    /// it is none (`IsVersion`).
     pub fn server_version_parsed(&self) -> Option<(u16, u16, u16)>
         ensures { IsTheOne (IsVersion (handshake_view self.now).server_version) result }
     {
@@ -306,12 +311,12 @@ impl<'a> HandshakePacket<'a> {
     pub fn auth_plugin_name_str(&self, alloc: Global) -> Result<Option<CowStr<'_>>, WireError>
         ensures memory { IsOkUnless result wire.Memory }
         ensures value { IfOk result (λ text. option_map cow_str_bytes text ≡
-            option_map (λ name. encode_utf8_all (lossy_chars name))
+            option_map lossy_text
             (handshake_view self.now).auth_plugin_name) }
     {
         match &self.auth_plugin_name {
             None => Ok(None),
-            Some(name) => Ok(Some(name.as_slice().to_str_lossy(alloc)?)),
+            Some(name) => Ok(Some(lossy_text(alloc, name.as_slice())?)),
         }
     }
 
@@ -328,6 +333,8 @@ impl<'a> HandshakePacket<'a> {
     }
 
     /// The nonce: both scrambles, cut or padded with zeros to 20 bytes.
+    ///
+    /// Promise: the nonce is the two scrambles as the definition joins them (`nonce_of`).
     ///
     /// # Errors
     /// - `AllocError` for want of memory.
@@ -351,7 +358,7 @@ impl<'a> HandshakePacket<'a> {
     {
         Ok(HandshakePacket {
             protocol_version: self.protocol_version,
-            server_version: CowSlice::Owned(self.server_version.into_owned(alloc)?),
+            server_version: own_bytes(alloc, self.server_version)?,
             connection_id: self.connection_id,
             scramble_1: self.scramble_1,
             capabilities: self.capabilities,
@@ -374,7 +381,7 @@ impl<'a> HandshakePacket<'a> {
         self.lent().into_owned(alloc)
     }
 
-    // The same packet, whose texts are lent.
+    // The packet with its texts borrowed from this one.
     fn lent(&self) -> HandshakePacket<'_>
         ensures { handshake_view result ≡ handshake_view self.now }
     {
@@ -495,7 +502,7 @@ impl<'a> Readable for HandshakePacket<'a> {
     }
 }
 
-// The first eight bytes.
+// Takes the first eight bytes.
 #[tactic(auto, unfolding(mysql_buf::specs::Reading::first))]
 fn eight_bytes(buf: &mut ParseBuf) -> Result<[u8; 8], WireError>
     ensures { Tells (λ bytes. bytes) buf.old.0.now buf.new.0.now result (bytes_at 8 buf.old.0.now) }
