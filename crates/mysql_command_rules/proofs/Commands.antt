@@ -13,9 +13,9 @@ use Rattle.mysql_buf.specs.NumberLaws.{little-reads_back}
 use Rattle.mysql_receive.specs.declared.fault.StreamFault.TheVariants.{NotPrepared, WrongId, BadPlace}
 use Rattle.mysql_receive.specs.Fields.{must}
 use Rattle.mysql_receive.specs.Query.{IsQuery, Statement, place_count}
-use Rattle.mysql_receive.specs.Layout.{Piece, command_by, id_at, piece_at}
+use Rattle.mysql_receive.specs.Layout.{PlaceData, command_by, id_at, place_data_at}
 use Rattle.mysql_receive.specs.InForce.{StatementState, nothing_yet, state_after}
-use Rattle.mysql_receive.specs.Reading.{Set, CommandReadsAs, PayloadReadsAs, prepared_piece, long_data_at, statement_alone_at}
+use Rattle.mysql_receive.specs.Reading.{Set, CommandReadsAs, PayloadReadsAs, prepared_data, long_data_at, statement_alone_at}
 use Rattle.mysql_command_rules.specs.Manual as manual
 use Rattle.mysql_command_rules.specs.Manual.{with_marks, IsPrepared, IsCommand, freshly_prepared, with_types, with_data, without_data, more_data}
 use Rattle.mysql_command_rules.proofs.Binds.{bind_ok, must_ok, number_behind}
@@ -35,7 +35,7 @@ record HasPiece (c : Statement) (s : StatementState) (body : List ℕ) : Type 0 
   fits : place < 2 ^ 16
   joined : body ≡ little_bytes 4 c.id ++ (little_bytes 2 place ++ bytes)
 
-piece_taken : (c : Statement) (s : StatementState) (body : List ℕ) (piece : Piece) → AreBytes body → s.prepared ≡ true → piece_at c body ≡ Ok piece → HasPiece c s body
+piece_taken : (c : Statement) (s : StatementState) (body : List ℕ) (piece : PlaceData) → AreBytes body → s.prepared ≡ true → place_data_at c body ≡ Ok piece → HasPiece c s body
 piece_taken c s body piece are prepared e =
     let a = bind_ok (id_at c body) _ piece e in
     let b = number_behind BadPlace BadPlace 2 (λ n. nat_lt n (place_count c.query)) a.0 (λ place. Ok (record { place = place.0; bytes = place.1 })) piece a.2 in
@@ -51,20 +51,20 @@ piece_taken c s body piece are prepared e =
     }
 
 long_data_taken : (c : Statement) (s : StatementState) (body : List ℕ) (sets : List Set) → AreBytes body → long_data_at c s body ≡ Ok sets → HasPiece c s body × (sets ≡ [])
-unfolding long_data_at prepared_piece
+unfolding long_data_at prepared_data
 long_data_taken c s body sets are e =
-    let a = bind_ok (prepared_piece c s body) _ sets e in
+    let a = bind_ok (prepared_data c s body) _ sets e in
     let b = bind_ok (must NotPrepared s.prepared) _ a.0 a.1 in
     (piece_taken c s body a.0 are (must_ok NotPrepared s.prepared b.0 b.1) b.2, cc)
 
 piece_given : (c : Statement) (place : ℕ) (bytes : List ℕ) → c.id < 2 ^ 32 → place < place_count c.query → place < 2 ^ 16 →
-    piece_at c (little_bytes 4 c.id ++ (little_bytes 2 place ++ bytes)) ≡ Ok (record { place = place; bytes = bytes })
+    place_data_at c (little_bytes 4 c.id ++ (little_bytes 2 place ++ bytes)) ≡ Ok (record { place = place; bytes = bytes })
 piece_given c place bytes lt known fits =
     rw (id_given c (little_bytes 2 place ++ bytes) lt, little-reads_back 2 place bytes fits, lt-ltb place (place_count c.query) known) refl
 
 long_data_given : (c : Statement) (s : StatementState) (place : ℕ) (bytes : List ℕ) → IsPrepared c s → place < place_count c.query → place < 2 ^ 16 →
     long_data_at c s (little_bytes 4 c.id ++ (little_bytes 2 place ++ bytes)) ≡ Ok []
-unfolding long_data_at prepared_piece
+unfolding long_data_at prepared_data
 long_data_given c s place bytes is known fits =
     let prepared = is.prepared in
     rw (prepared, piece_given c place bytes is.id known fits) refl
@@ -134,7 +134,7 @@ module _ (laws : QueryLaws) (c : Statement) (s : StatementState) (is : IsQuery c
       let (piece, none) = long_data_taken c s body sets are h in
       subst (λ (xs : List Set). Laid c s (command_number COM_STMT_SEND_LONG_DATA ∷ body) xs) (sym none)
       (subst (λ (l : List ℕ). Laid c s (command_number COM_STMT_SEND_LONG_DATA ∷ l) []) (sym piece.joined)
-      (with_data s (more_data s.pieces piece.place piece.bytes), manual.long_data piece.place piece.bytes piece.prepared piece.known piece.fits))
+      (with_data s (more_data s.long_data piece.place piece.bytes), manual.long_data piece.place piece.bytes piece.prepared piece.known piece.fits))
 
   execute_laid : (body : List ℕ) (sets : List Set) → AreBytes body → CommandReadsAs c s (command_by (Some COM_STMT_EXECUTE)) body sets → Laid c s (command_number COM_STMT_EXECUTE ∷ body) sets
   execute_laid body sets are h =

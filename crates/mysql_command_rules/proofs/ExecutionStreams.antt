@@ -36,7 +36,7 @@ module _ (law : WrittenCellsAreHeld) (statement : Statement) (small : statement.
   -- a set as an execution reads on
   one_reads : (apart : Bool) (s : StatementState) (values : List Value) → IsReady s → MayBeSent values → ReadsOn s (sent_as apart statement.id values)
   one_reads false s values ready may = record {
-    reads = (execution_reads law statement s false statement.id values (map held values) ready.prepared (nothing_apart s.pieces ready.none 0 values) small refl (sym may.count) may.fit may.each, tt);
+    reads = (execution_reads law statement s false statement.id values (map held values) ready.prepared (nothing_apart s.long_data ready.none 0 values) small refl (sym may.count) may.fit may.each, tt);
     ready = execution_leaves statement s statement.id values false ready.prepared;
   }
   one_reads true s values ready may =
@@ -82,7 +82,7 @@ module _ (law : WrittenCellsAreHeld) (statement : Statement) (small : statement.
     whole =
         let t : StatementState = state_after statement nothing_yet (prepare_command statement.query.parsed ∷ []) in
         let fresh : FreshlyPrepared t = prepare_leaves statement nothing_yet statement.query.parsed refl in
-        let later : ReadsOn t (flat_map (as_execution statement) sets) = all_read t sets (record { prepared = fresh.prepared; none = fresh.pieces }) may in
+        let later : ReadsOn t (flat_map (as_execution statement) sets) = all_read t sets (record { prepared = fresh.prepared; none = fresh.long_data }) may in
         record { reads = (prepare_reads statement nothing_yet statement.query.parsed refl few, later.reads); ready = later.ready }
 
     -- and each payload as the sets that stand whole with it

@@ -10,7 +10,7 @@ use Rattle.std.proofs.lemmas.Slice.Eq.{bytes_eq-Decides}
 use Rattle.mysql_const.specs.Commands.{command_number}
 use Rattle.mysql_const.specs.declared.command.Command.TheVariants.{COM_QUERY, COM_STMT_PREPARE, COM_STMT_SEND_LONG_DATA, COM_STMT_EXECUTE, COM_STMT_BULK_EXECUTE, COM_STMT_RESET, COM_STMT_CLOSE}
 use Rattle.mysql_receive.specs.declared.fault.StreamFault.{StreamFault}
-use Rattle.mysql_receive.specs.Layout.{Types, Piece, ExecuteHead, BulkHead, piece_at, execute_head, bulk_head}
+use Rattle.mysql_receive.specs.Layout.{Types, PlaceData, ExecuteHead, BulkHead, place_data_at, execute_head, bulk_head}
 use Rattle.mysql_receive.specs.InForce.{StatementState, nothing_yet, state_after, joined, execute_types, bulk_types, is_waiting}
 use Rattle.mysql_receive.specs.Query.{Statement, place_count}
 use Rattle.mysql_command_rules.specs.Manual.{freshly_prepared, with_types, with_data, without_data, more_data, NoneWaits}
@@ -26,15 +26,15 @@ own_or (Some ts) kept = refl
 
 -- without a payload all stays
 pub behind_none : (c : Statement) (s : StatementState) → state_after c s [] ≡ s
-behind_none c s = λ i. record { prepared = s.prepared; types = s.types; pieces = λ place. still (s.pieces place) i }
+behind_none c s = λ i. record { prepared = s.prepared; types = s.types; long_data = λ place. still (s.long_data place) i }
 
 pub behind_query : (c : Statement) (s : StatementState) (body : List ℕ) → state_after c s ((command_number COM_QUERY ∷ body) ∷ []) ≡ s
-behind_query c s body = λ i. record { prepared = s.prepared; types = s.types; pieces = λ place. still (s.pieces place) i }
+behind_query c s body = λ i. record { prepared = s.prepared; types = s.types; long_data = λ place. still (s.long_data place) i }
 
 pub behind_prepare : (c : Statement) (s : StatementState) (body : List ℕ) → body ≡ c.query.parsed → state_after c s ((command_number COM_STMT_PREPARE ∷ body) ∷ []) ≡ freshly_prepared
 behind_prepare c s body is =
     let same : bytes_eq body c.query.parsed ≡ true = (bytes_eq-Decides body c.query.parsed).1 is in
-    λ i. record { prepared = ap (λ b. unwrap_or (last_or None (cons_option (if b then Some true else None) [])) s.prepared) same i; types = None; pieces = λ place. None }
+    λ i. record { prepared = ap (λ b. unwrap_or (last_or None (cons_option (if b then Some true else None) [])) s.prepared) same i; types = None; long_data = λ place. None }
 
 pub behind_reset : (c : Statement) (s : StatementState) (body : List ℕ) → state_after c s ((command_number COM_STMT_RESET ∷ body) ∷ []) ≡ without_data s
 behind_reset c s body = refl
@@ -48,33 +48,33 @@ pub behind_execute : (c : Statement) (s : StatementState) (body : List ℕ) (hea
 behind_execute c s body head types is count =
     let own : execute_types c body ≡ head.own = ap (λ (r : Result ExecuteHead StreamFault). option_and_then (λ head. head.own) (result_ok r)) is in
     let all = own_or (execute_types c body) s.types ∙ ap (λ (o : Option Types). option_or o s.types) own ∙ count in
-    λ i. record { prepared = s.prepared; types = all i; pieces = λ place. None }
+    λ i. record { prepared = s.prepared; types = all i; long_data = λ place. None }
 
 pub behind_bulk : (c : Statement) (s : StatementState) (body : List ℕ) (head : BulkHead) (types : Option Types) → bulk_head c body ≡ Ok head → option_or head.own s.types ≡ types →
     state_after c s ((command_number COM_STMT_BULK_EXECUTE ∷ body) ∷ []) ≡ with_types s types
 behind_bulk c s body head types is count =
     let own : bulk_types c body ≡ head.own = ap (λ (r : Result BulkHead StreamFault). option_and_then (λ head. head.own) (result_ok r)) is in
     let all = own_or (bulk_types c body) s.types ∙ ap (λ (o : Option Types). option_or o s.types) own ∙ count in
-    λ i. record { prepared = s.prepared; types = all i; pieces = λ place. still (s.pieces place) i }
+    λ i. record { prepared = s.prepared; types = all i; long_data = λ place. still (s.long_data place) i }
 
 -- data behind what waits
 data_behind : (waiting : Option (List ℕ)) (bytes : List ℕ) → joined (option_to_list waiting ++ bytes ∷ []) ≡ Some (unwrap_or waiting [] ++ bytes)
 data_behind None bytes = ap (λ l. Some l) (append-nil bytes)
 data_behind (Some x) bytes = ap (λ l. Some (x ++ l)) (append-nil bytes)
 
-one_piece : (s : StatementState) (piece : Piece) (place : ℕ) (r : Result Piece StreamFault) → r ≡ Ok piece
-    → joined (option_to_list (s.pieces place) ++ cons_option (option_and_then (λ piece. if piece.place == place then Some piece.bytes else None) (result_ok r)) []) ≡ more_data s.pieces piece.place piece.bytes place
-one_piece s piece place r e =
-    ap (λ (q : Result Piece StreamFault). joined (option_to_list (s.pieces place) ++ cons_option (option_and_then (λ piece. if piece.place == place then Some piece.bytes else None) (result_ok q)) [])) e
+one_place : (s : StatementState) (piece : PlaceData) (place : ℕ) (r : Result PlaceData StreamFault) → r ≡ Ok piece
+    → joined (option_to_list (s.long_data place) ++ cons_option (option_and_then (λ piece. if piece.place == place then Some piece.bytes else None) (result_ok r)) []) ≡ more_data s.long_data piece.place piece.bytes place
+one_place s piece place r e =
+    ap (λ (q : Result PlaceData StreamFault). joined (option_to_list (s.long_data place) ++ cons_option (option_and_then (λ piece. if piece.place == place then Some piece.bytes else None) (result_ok q)) [])) e
     ∙ by_test (piece.place == place)
   where
-    by_test : (b : Bool) → joined (option_to_list (s.pieces place) ++ cons_option (cond b (Some piece.bytes) None) []) ≡ cond b (Some (unwrap_or (s.pieces place) [] ++ piece.bytes)) (s.pieces place)
-    by_test true = data_behind (s.pieces place) piece.bytes
-    by_test false = still (s.pieces place)
+    by_test : (b : Bool) → joined (option_to_list (s.long_data place) ++ cons_option (cond b (Some piece.bytes) None) []) ≡ cond b (Some (unwrap_or (s.long_data place) [] ++ piece.bytes)) (s.long_data place)
+    by_test true = data_behind (s.long_data place) piece.bytes
+    by_test false = still (s.long_data place)
 
-pub behind_data : (c : Statement) (s : StatementState) (body : List ℕ) (piece : Piece) → piece_at c body ≡ Ok piece →
-    state_after c s ((command_number COM_STMT_SEND_LONG_DATA ∷ body) ∷ []) ≡ with_data s (more_data s.pieces piece.place piece.bytes)
-behind_data c s body piece e = λ i. record { prepared = s.prepared; types = s.types; pieces = λ place. one_piece s piece place (piece_at c body) e i }
+pub behind_data : (c : Statement) (s : StatementState) (body : List ℕ) (piece : PlaceData) → place_data_at c body ≡ Ok piece →
+    state_after c s ((command_number COM_STMT_SEND_LONG_DATA ∷ body) ∷ []) ≡ with_data s (more_data s.long_data piece.place piece.bytes)
+behind_data c s body piece e = λ i. record { prepared = s.prepared; types = s.types; long_data = λ place. one_place s piece place (place_data_at c body) e i }
 
 -- ---- whether data waits
 
@@ -97,7 +97,7 @@ waits_none f a (suc n) e (suc i) below =
     ap (λ (k : ℕ). f k) (omega arith) ∙ waits_none f (a + 1) n (or_parts (is_some (f a)) (list_any (λ place. is_some (f place)) (range_with_len (a + 1) n)) e).1 i (omega (arith, below))
 
 pub is_not_waiting : (c : Statement) (s : StatementState) → NoneWaits c s → is_waiting c s ≡ false
-is_not_waiting c s each = any_waits s.pieces 0 (place_count c.query) (λ i below. ap (λ (k : ℕ). s.pieces k) (omega arith) ∙ each i below)
+is_not_waiting c s each = any_waits s.long_data 0 (place_count c.query) (λ i below. ap (λ (k : ℕ). s.long_data k) (omega arith) ∙ each i below)
 
 pub none_waits : (c : Statement) (s : StatementState) → is_waiting c s ≡ false → NoneWaits c s
-none_waits c s e place below = ap (λ (k : ℕ). s.pieces k) (omega arith) ∙ waits_none s.pieces 0 (place_count c.query) e place below
+none_waits c s e place below = ap (λ (k : ℕ). s.long_data k) (omega arith) ∙ waits_none s.long_data 0 (place_count c.query) e place below

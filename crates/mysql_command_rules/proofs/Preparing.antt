@@ -10,7 +10,7 @@ use Rattle.mysql_command_rules.specs.Commands.{prepare_command}
 pub record FreshlyPrepared (s : StatementState) : Type 0 where
   pub prepared : s.prepared ≡ true
   pub types : s.types ≡ None
-  pub pieces : (place : ℕ) → s.pieces place ≡ None
+  pub long_data : (place : ℕ) → s.long_data place ≡ None
 
 pub prepare_reads : (c : Statement) (s : StatementState) (parsed : List ℕ) → c.query.parsed ≡ parsed → place_count c.query ≤ 65535 → PayloadReadsAs c s (prepare_command parsed) []
 prepare_reads c s parsed is few = (sym is, few, refl)
@@ -19,5 +19,5 @@ pub prepare_leaves : (c : Statement) (s : StatementState) (parsed : List ℕ) �
 prepare_leaves c s parsed is = record {
   prepared = rw ((bytes_eq-Decides parsed c.query.parsed).1 (sym is)) refl;
   types = refl;
-  pieces = λ place. refl;
+  long_data = λ place. refl;
 }

@@ -58,12 +58,12 @@ reads_from statement alone (values ∷ sets) readable s =
     ((alone, (_, as_held statement.query values readable.0, refl)), reads_from statement alone sets readable.1 (state_after statement s (whole_command Text statement values ∷ [])))
 
 -- behind queries no piece waits
-none_waits : LookingBackGoesOn → (statement : Statement) (sets : List (List Value)) (s : StatementState) → ((place : ℕ) → s.pieces place ≡ None)
-    → (place : ℕ) → (state_after statement s (payloads_of (flat_map (as_text statement) sets))).pieces place ≡ None
+none_waits : LookingBackGoesOn → (statement : Statement) (sets : List (List Value)) (s : StatementState) → ((place : ℕ) → s.long_data place ≡ None)
+    → (place : ℕ) → (state_after statement s (payloads_of (flat_map (as_text statement) sets))).long_data place ≡ None
 none_waits goes_on statement [] s none place = rw (none place) refl
 none_waits goes_on statement (values ∷ sets) s none place =
-    let here : (place : ℕ) → (state_after statement s (whole_command Text statement values ∷ [])).pieces place ≡ None = λ place. rw (none place) refl in
-    ap (λ (t : StatementState). t.pieces place) (goes_on statement s (whole_command Text statement values ∷ []) (payloads_of (flat_map (as_text statement) sets)))
+    let here : (place : ℕ) → (state_after statement s (whole_command Text statement values ∷ [])).long_data place ≡ None = λ place. rw (none place) refl in
+    ap (λ (t : StatementState). t.long_data place) (goes_on statement s (whole_command Text statement values ∷ []) (payloads_of (flat_map (as_text statement) sets)))
     ∙ none_waits goes_on statement sets (state_after statement s (whole_command Text statement values ∷ [])) here place
 
 -- what is sent of sets without a cause reads as these sets

@@ -18,7 +18,7 @@ ReadFrom c s (first ∷ later) = PayloadReadsAs c s first.payload (map (map held
 
 -- before any payload what held before is in force
 pub state_after_nil : (c : Statement) (s : StatementState) → state_after c s [] ≡ s
-state_after_nil c s = λ i. record { prepared = s.prepared; types = s.types; pieces = λ place. one (s.pieces place) i }
+state_after_nil c s = λ i. record { prepared = s.prepared; types = s.types; long_data = λ place. one (s.long_data place) i }
   where
     one : (o : Option (List ℕ)) → joined (option_to_list o ++ []) ≡ o
     one None = refl
@@ -56,9 +56,9 @@ read_from_append goes_on c s (x ∷ xs) ys first second = (
 )
 
 -- where no place has pieces, none wait
-pub not_waiting : (c : Statement) (s : StatementState) → ((place : ℕ) → s.pieces place ≡ None) → is_waiting c s ≡ false
+pub not_waiting : (c : Statement) (s : StatementState) → ((place : ℕ) → s.long_data place ≡ None) → is_waiting c s ≡ false
 not_waiting c s none = any_false (range_with_len 0 (place_count c.query))
   where
-    any_false : (places : List ℕ) → list_any (λ place. is_some (s.pieces place)) places ≡ false
+    any_false : (places : List ℕ) → list_any (λ place. is_some (s.long_data place)) places ≡ false
     any_false [] = refl
     any_false (place ∷ places) = rw (none place) (any_false places)

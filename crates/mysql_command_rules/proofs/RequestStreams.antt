@@ -107,7 +107,7 @@ module _ (room id columns : ℕ) (rows : List Row) where
       (arity : (k : ℕ) → k < length rows → length (get_or rows k []) ≡ columns) (all : (k : ℕ) → k < length rows → AllByRecursion IsHeld (get_or rows k [])) where
     -- payloads that read from here on, and leave no pieces
     abbrev ReadsOn : StatementState → List SentPayload → Type 0
-    ReadsOn s sent = ReadFrom c s sent × ((k : ℕ) → (state_after c s (payloads_of sent)).pieces k ≡ None)
+    ReadsOn s sent = ReadFrom c s sent × ((k : ℕ) → (state_after c s (payloads_of sent)).long_data k ≡ None)
 
     -- the requests of parts by which no row is left over read, and leave no pieces
     requests_go : (start before : ℕ) (cut : List Part) (s : StatementState) → IsInForce columns rows s start before → AllByRecursion (λ part. 0 < part.count) cut → start + sum_by (λ part. part.count) cut ≡ length rows →
@@ -119,7 +119,7 @@ module _ (room id columns : ℕ) (rows : List Row) where
         let here = request_goes law c id columns rows small same places some arity all part.typing room s start part.count before in_force any.0 (omega (arith, more, ends)) fits.0 serve.0 in
         let next = requests_go (start + part.count) (covered part.typing (start + part.count) before) cut (state_after c s (payload ∷ [])) here.1 any.1 (omega (arith, more, ends)) fits.1 serve.1 in (
           (here.0, next.0),
-          λ k. ap (λ (t : StatementState). t.pieces k) (goes_on c s (payload ∷ []) (payloads_of (requests_from (start + part.count) cut))) ∙ next.1 k,
+          λ k. ap (λ (t : StatementState). t.long_data k) (goes_on c s (payload ∷ []) (payloads_of (requests_from (start + part.count) cut))) ∙ next.1 k,
         )
 
 -- what is sent of sets without a cause reads as these sets
@@ -143,12 +143,12 @@ requests_read goes_on law lengths serves query tokens id limit values sent has s
     let serve : AllByRecursion (TypesServe values) (in_force cut) = serves (limit - 4) columns values cut (λ k inside. (rows k inside).0) mixed fits in
     let fresh : FreshlyPrepared (state_after statement nothing_yet (prepare_command parsed ∷ [])) = prepare_leaves statement nothing_yet parsed refl in
     let goes = requests_go (limit - 4) id columns values goes_on law statement small refl refl (some_places columns prepare_none.1) (λ k inside. (rows k inside).0) (λ k inside. (rows k inside).1)
-    0 0 cut (state_after statement nothing_yet (prepare_command parsed ∷ [])) (record { prepared = fresh.prepared; none = fresh.pieces; types = λ later. absurd (omega (arith, later)) }) tight.is_cut.0 (omega (arith, tight.is_cut.1)) fits serve in
+    0 0 cut (state_after statement nothing_yet (prepare_command parsed ∷ [])) (record { prepared = fresh.prepared; none = fresh.long_data; types = λ later. absurd (omega (arith, later)) }) tight.is_cut.0 (omega (arith, tight.is_cut.1)) fits serve in
     let all_sent : List SentPayload = prepare_of statement ∷ as_requests statement values cut in
     let reads : ReadsHeld statement limit all_sent = record {
       within = within_limit limit (payloads_of all_sent) (prepare.short, short_requests (limit - 4) id columns values (requests_have_their_size lengths) 0 cut fits);
       each = read_each goes_on statement nothing_yet all_sent (prepare_reads statement nothing_yet parsed refl prepare.few, goes.0);
       ends = not_waiting statement (state_after statement nothing_yet (payloads_of all_sent))
-          (λ k. ap (λ (t : StatementState). t.pieces k) (goes_on statement nothing_yet (prepare_command parsed ∷ []) (payloads_of (as_requests statement values cut))) ∙ goes.1 k);
+          (λ k. ap (λ (t : StatementState). t.long_data k) (goes_on statement nothing_yet (prepare_command parsed ∷ []) (payloads_of (as_requests statement values cut))) ∙ goes.1 k);
     } in
     reads_contents Bulk statement (limit - 4) values sent are_sent (whole_command Bulk statement) columns (limit - 4) sets_none.0 statement limit (subst (λ l. ReadsHeld statement limit l) (sym are_sent.2) reads)

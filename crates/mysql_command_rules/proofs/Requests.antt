@@ -108,7 +108,7 @@ types_of columns rows first = types_by (λ column. first_in_column column (take 
 -- the statement is prepared, no piece waits, and behind the first request the types are those of some first rows
 pub record IsInForce (columns : ℕ) (rows : List Row) (s : StatementState) (start before : ℕ) : Type 0 where
   pub prepared : s.prepared ≡ true
-  pub none : (k : ℕ) → s.pieces k ≡ None
+  pub none : (k : ℕ) → s.long_data k ≡ None
   pub types : 0 < start → s.types ≡ Some (types_of columns rows before)
 
 -- ---- rows of a part

@@ -35,7 +35,7 @@ behind_is goes_on c s (first ∷ later) = goes_on c s (first.payload ∷ []) (pa
 -- the statement is prepared, and nothing waits for its places
 pub record IsReady (s : StatementState) : Type 0 where
   pub prepared : s.prepared ≡ true
-  pub none : (place : ℕ) → s.pieces place ≡ None
+  pub none : (place : ℕ) → s.long_data place ≡ None
 
 -- behind an execution nothing waits, and the statement is prepared if it was
 pub execution_leaves : (c : Statement) (s : StatementState) (id : ℕ) (values : List Value) (apart : Bool) → s.prepared ≡ true → IsReady (state_after c s (execute_command id values apart ∷ []))

@@ -25,21 +25,21 @@ use Rattle.mysql_receive.proofs.Looking.{state_after_append}
 module _ (wire : ReaderLaws) (c : Statement) (limit : ℕ) where
   -- the next bytes go on where all payloads read and the rest is no fault
   on_open : (old new : ReceiverState) (piece z : List ℕ) (a : Audit) (fed : Fed c limit old piece new) → length fed.reads ≡ length fed.split.payloads → new.partial ≡ fed.split.rest_bytes
-      → new.statement ≡ state_after c old.statement fed.split.payloads → ReceiverDecidesBy c limit new None z a → ReceiverDecidesBy c limit old None (piece ++ z) a
+      → new.state ≡ state_after c old.state fed.split.payloads → ReceiverDecidesBy c limit new None z a → ReceiverDecidesBy c limit old None (piece ++ z) a
   on_open old new piece z a fed all left statement d =
       let next : Split = d.0 in
       let more : IsSplit limit EachFromZero (fed.split.rest_bytes ++ z) next = subst (λ (l : List ℕ). IsSplit limit EachFromZero (l ++ z) next) left d.2 in
       let joined = split_append wire limit (old.partial ++ piece) z fed.split next fed.is_split more in
       let b : Audit = record { sets = d.1; ending = a.ending } in
       let count : new.count ≡ old.count + length fed.split.payloads = fed.count ∙ ap (λ (n : ℕ). old.count + n) all in
-      let on : Audits c (state_after c old.statement fed.split.payloads) (old.count + length fed.split.payloads) next.payloads next.rest b =
-      subst (λ (n : ℕ). Audits c (state_after c old.statement fed.split.payloads) n next.payloads next.rest b) count
+      let on : Audits c (state_after c old.state fed.split.payloads) (old.count + length fed.split.payloads) next.payloads next.rest b =
+      subst (λ (n : ℕ). Audits c (state_after c old.state fed.split.payloads) n next.payloads next.rest b) count
       (subst (λ (st : StatementState). Audits c st new.count next.payloads next.rest b) statement d.4) in (
         with_payloads fed.split.payloads next,
         flat_map (λ sets. sets) fed.reads ++ d.1,
         subst (λ (l : List ℕ). IsSplit limit EachFromZero l (with_payloads fed.split.payloads next)) (append_assoc old.partial piece z) joined,
         d.3 ∙ ap (λ (l : List Set). l ++ d.1) fed.sets ∙ append_assoc old.sets (flat_map (λ sets. sets) fed.reads) d.1,
-        audits_append c old.statement old.count fed.split.payloads next.payloads next.rest fed.reads b fed.each all on,
+        audits_append c old.state old.count fed.split.payloads next.payloads next.rest fed.reads b fed.each all on,
       )
 
   -- a fault of the rest stays
@@ -56,7 +56,7 @@ module _ (wire : ReaderLaws) (c : Statement) (limit : ℕ) where
           reads = fed.reads;
           each = fed.each;
           sets = refl;
-          ending = inr (all, d.1 ∙ ap (λ (n : ℕ). ends.Fault n f) fed.count ∙ sym (by (state_after c old.statement fed.split.payloads) (old.count + length fed.reads)));
+          ending = inr (all, d.1 ∙ ap (λ (n : ℕ). ends.Fault n f) fed.count ∙ sym (by (state_after c old.state fed.split.payloads) (old.count + length fed.reads)));
         },
       )
 
@@ -70,20 +70,20 @@ module _ (wire : ReaderLaws) (c : Statement) (limit : ℕ) where
 
   -- and so does a fault of a payload
   on_fault : (old new : ReceiverState) (piece z : List ℕ) (a : Audit) (fed : Fed c limit old piece new) (f : StreamFault) → AreBytes (old.partial ++ piece) → AreBytes z → length fed.reads < length fed.split.payloads
-      → Faulty c old.statement old.count (take (length fed.reads) fed.split.payloads) (get_or fed.split.payloads (length fed.reads) []) f
+      → Faulty c old.state old.count (take (length fed.reads) fed.split.payloads) (get_or fed.split.payloads (length fed.reads) []) f
       → ReceiverDecidesBy c limit new (Some f) z a → ReceiverDecidesBy c limit old None (piece ++ z) a
   on_fault old new piece z a fed f bytes more lt faulty d =
       let s = longer old.partial piece z fed.split fed.is_split bytes more in
-      let h = audits_faulty c old.statement old.count fed.split.payloads s.0.payloads s.0.rest fed.reads f fed.each lt faulty in (
+      let h = audits_faulty c old.state old.count fed.split.payloads s.0.payloads s.0.rest fed.reads f fed.each lt faulty in (
         with_payloads fed.split.payloads s.0,
         flat_map (λ sets. sets) fed.reads,
         s.1,
         d.0 ∙ fed.sets,
-        subst (λ (e : End). Audits c old.statement old.count (fed.split.payloads ++ s.0.payloads) s.0.rest (record { sets = flat_map (λ sets. sets) fed.reads; ending = e })) (sym (d.1 ∙ ap (λ (n : ℕ). ends.Fault n f) fed.count)) h,
+        subst (λ (e : End). Audits c old.state old.count (fed.split.payloads ++ s.0.payloads) s.0.rest (record { sets = flat_map (λ sets. sets) fed.reads; ending = e })) (sym (d.1 ∙ ap (λ (n : ℕ). ends.Fault n f) fed.count)) h,
       )
 
   by_rest : (old new : ReceiverState) (piece z : List ℕ) (a : Audit) (fed : Fed c limit old piece new) → length fed.reads ≡ length fed.split.payloads → new.fault ≡ fault_of_rest fed.split.rest
-      → (new.fault ≡ None → (new.partial ≡ fed.split.rest_bytes) × (new.statement ≡ state_after c old.statement fed.split.payloads))
+      → (new.fault ≡ None → (new.partial ≡ fed.split.rest_bytes) × (new.state ≡ state_after c old.state fed.split.payloads))
       → (kind : Rest) → fed.split.rest ≡ kind → ReceiverDecidesBy c limit new (fault_of_rest kind) z a → ReceiverDecidesBy c limit old None (piece ++ z) a
   by_rest old new piece z a fed all is rests EmptyRest e d = let r = rests (is ∙ ap fault_of_rest e) in on_open old new piece z a fed all r.0 r.1 d
   by_rest old new piece z a fed all is rests OpenRest e d = let r = rests (is ∙ ap fault_of_rest e) in on_open old new piece z a fed all r.0 r.1 d
@@ -106,10 +106,10 @@ module _ (wire : ReaderLaws) (c : Statement) (limit : ℕ) where
       subst (λ (l : List ℕ). IsSplit limit EachFromZero l (with_payloads s.payloads t)) (append_assoc old.partial front back)
       (split_append wire limit (old.partial ++ front) back s t p (subst (λ (l : List ℕ). IsSplit limit EachFromZero (l ++ back) t) left q))
 
-  both_read : (old mid : ReceiverState) (front : List ℕ) (f : TakesAll c limit old front mid) (ys : List (List ℕ)) (more : List (List Set)) → Read c mid.statement mid.count ys more → Read c old.statement old.count (f.split.payloads ++ ys) (f.reads ++ more)
+  both_read : (old mid : ReceiverState) (front : List ℕ) (f : TakesAll c limit old front mid) (ys : List (List ℕ)) (more : List (List Set)) → Read c mid.state mid.count ys more → Read c old.state old.count (f.split.payloads ++ ys) (f.reads ++ more)
   both_read old mid front f ys more r =
-      read_append c old.statement old.count f.split.payloads ys f.reads more f.each f.all
-      (subst (λ (n : ℕ). Read c (state_after c old.statement f.split.payloads) n ys more) f.count (subst (λ (s : StatementState). Read c s mid.count ys more) f.statement r))
+      read_append c old.state old.count f.split.payloads ys f.reads more f.each f.all
+      (subst (λ (n : ℕ). Read c (state_after c old.state f.split.payloads) n ys more) f.count (subst (λ (s : StatementState). Read c s mid.count ys more) f.state r))
 
   both_sets : (old mid : ReceiverState) (front : List ℕ) (f : TakesAll c limit old front mid) (more : List (List Set)) → mid.sets ++ flat_map (λ sets. sets) more ≡ old.sets ++ flat_map (λ sets. sets) (f.reads ++ more)
   both_sets old mid front f more =
@@ -127,7 +127,7 @@ module _ (wire : ReaderLaws) (c : Statement) (limit : ℕ) where
     each = both_read old mid front f b.split.payloads b.reads b.each;
     all = omega (arith, f.all, b.all, length-append f.reads b.reads, length-append f.split.payloads b.split.payloads);
     sets = b.sets ∙ both_sets old mid front f b.reads;
-    statement = b.statement ∙ ap (λ (s : StatementState). state_after c s b.split.payloads) f.statement ∙ sym (state_after_append c old.statement f.split.payloads b.split.payloads);
+    state = b.state ∙ ap (λ (s : StatementState). state_after c s b.split.payloads) f.state ∙ sym (state_after_append c old.state f.split.payloads b.split.payloads);
   }
 
   -- memory runs out over the second
@@ -150,7 +150,7 @@ module _ (wire : ReaderLaws) (c : Statement) (limit : ℕ) where
         split = with_payloads r.split.payloads s.0;
         is_split = s.1;
         reads = r.reads;
-        each = read_longer c old.statement old.count r.split.payloads s.0.payloads r.reads r.each;
+        each = read_longer c old.state old.count r.split.payloads s.0.payloads r.reads r.each;
         sets = r.sets;
         count = r.count;
         fault = r.fault;
@@ -167,7 +167,7 @@ module _ (wire : ReaderLaws) (c : Statement) (limit : ℕ) where
       let one = wire.one_split limit EachFromZero (state.partial ++ []) (subst AreBytes (sym (append-nil state.partial)) are) in
       let same : by.0 ≡ split = one.2 by.0 by.2 ∙ sym (one.2 split is_split) in
       let b : Audit = record { sets = by.1; ending = a.ending } in
-      no_fault_alone c state.statement state.count rest b no_fault (subst (λ (p : Split). Audits c state.statement state.count p.payloads p.rest b) same by.4)
+      no_fault_alone c state.state state.count rest b no_fault (subst (λ (p : Split). Audits c state.state state.count p.payloads p.rest b) same by.4)
 
   pub none_taken : (old new : ReceiverState) (piece : List ℕ) → new.fault ≡ None → AreBytes (old.partial ++ piece) → (taken : TakesAll c limit old piece new) → ¬ IsFault taken.split.rest → HasFoundNoFault c limit new
   none_taken old new piece none are taken no_fault =

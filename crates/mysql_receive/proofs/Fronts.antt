@@ -12,10 +12,10 @@ use Rattle.mysql_receive.specs.Fields.{must, number_or}
 use Rattle.mysql_wire.specs.Wire.{◌>>=◌}
 use Rattle.mysql_receive.specs.Query.{Statement, place_count}
 use Rattle.mysql_receive.proofs.Readable.{readable as is_readable}
-use Rattle.mysql_receive.specs.Layout.{Command, command_of, Types, Piece, piece_at, id_at, execute_head, bulk_head}
+use Rattle.mysql_receive.specs.Layout.{Command, command_of, Types, PlaceData, place_data_at, id_at, execute_head, bulk_head}
 use Rattle.mysql_receive.specs.Layout as layout
 use Rattle.mysql_receive.specs.InForce.{StatementState, state_after, nothing_yet, last_said, said_by, speaks_of_prepared, speaks_of_types, speaks_of_place, is_end, since, waiting_for, joined, is_waiting}
-use Rattle.mysql_receive.specs.Reading.{Set, ReadsAs, CommandReadsAs, PayloadReadsAs, execute_at, bulk_rows, prepared_piece, long_data_at, statement_alone_at, types_in_force, set_at}
+use Rattle.mysql_receive.specs.Reading.{Set, ReadsAs, CommandReadsAs, PayloadReadsAs, execute_at, bulk_rows, prepared_data, long_data_at, statement_alone_at, types_in_force, set_at}
 use Rattle.mysql_values.specs.Laws.{TextIsDecided, OneReading, OnePlaces, SlicedIsLexed}
 use Rattle.mysql_wire.specs.Laws.{FrontsSplit}
 use Rattle.mysql_wire.specs.GoingOn.{ReaderLaws}
@@ -78,7 +78,7 @@ fronts cut decided once lexed one_places c limit payloads reads front back a rea
 record Extends (s t : StatementState) : Type 0 where
   prepared : s.prepared ≡ true → t.prepared ≡ true
   types : (ts : Types) → s.types ≡ Some ts → t.types ≡ Some ts
-  pieces : t.pieces ≡ s.pieces
+  pieces : t.long_data ≡ s.long_data
 
 last_of : {A : Type 0} (l : List A) (d e : A) → (unwrap_or (last_or None l) d ≡ unwrap_or (last_or None l) e) ⊎ (l ≡ [])
 last_of [] d e = inr refl
@@ -101,7 +101,7 @@ extends_after c s t payloads h =
     record {
       prepared = said_over (λ (a b : Bool). a ≡ true → b ≡ true) (λ x e. e) (said_by (speaks_of_prepared c)) s.prepared t.prepared payloads h.prepared;
       types = said_over (λ (a b : Option Types). (ts : Types) → a ≡ Some ts → b ≡ Some ts) (λ x ts e. e) (said_by (speaks_of_types c)) s.types t.types payloads h.types;
-      pieces = ap (λ (f : ℕ → Option (List ℕ)). λ place. waiting_for c (f place) payloads place) h.pieces;
+      long_data = ap (λ (f : ℕ → Option (List ℕ)). λ place. waiting_for c (f place) payloads place) h.long_data;
     }
 
 types_over : (c : Statement) (s t : StatementState) (own : Option Types) (types : Types) → Extends s t → types_in_force c s own ≡ Ok types → types_in_force c t own ≡ Ok types
@@ -112,19 +112,19 @@ types_over c s t own types h e = elim (place_count c.query == 0) as (λ b. cond 
     by_own None (Some ts) k x = ap (λ (o : Option Types). ok_or o NoTypes) (h.types ts k ∙ sym k) ∙ x
     by_own None None k x = let y : ok_or {T = Types} {E = StreamFault} None NoTypes ≡ Ok types = ap (λ (o : Option Types). ok_or o NoTypes) (sym k) ∙ x in absurd cc
 
-set_over : (s t : StatementState) (head : layout.ExecuteHead) (types : Types) (set : Set) → t.pieces ≡ s.pieces → set_at s.pieces head.nulls 0 types head.cells ≡ Ok set → set_at t.pieces head.nulls 0 types head.cells ≡ Ok set
+set_over : (s t : StatementState) (head : layout.ExecuteHead) (types : Types) (set : Set) → t.long_data ≡ s.long_data → set_at s.long_data head.nulls 0 types head.cells ≡ Ok set → set_at t.long_data head.nulls 0 types head.cells ≡ Ok set
 set_over s t head types set h e = ap (λ (f : ℕ → Option (List ℕ)). set_at f head.nulls 0 types head.cells) h ∙ e
 
 execute_over : (c : Statement) (s t : StatementState) (body : List ℕ) (set : Set) → Extends s t → execute_at c s body ≡ Ok set → execute_at c t body ≡ Ok set
 unfolding execute_at
 execute_over c s t body set h e =
-    let a = bind_ok (must NotPrepared s.prepared) (λ _. execute_head c body >>= λ head. types_in_force c s head.own >>= λ types. set_at s.pieces head.nulls 0 types head.cells) set e in
-    let b = bind_ok (execute_head c body) (λ head. types_in_force c s head.own >>= λ types. set_at s.pieces head.nulls 0 types head.cells) set a.2 in
-    let d = bind_ok (types_in_force c s b.0.own) (λ types. set_at s.pieces b.0.nulls 0 types b.0.cells) set b.2 in
-    bind_from (must NotPrepared t.prepared) (λ _. execute_head c body >>= λ head. types_in_force c t head.own >>= λ types. set_at t.pieces head.nulls 0 types head.cells) 0 set (must_from NotPrepared t.prepared (h.prepared (must_ok NotPrepared s.prepared a.0 a.1)))
-    (bind_from (execute_head c body) (λ head. types_in_force c t head.own >>= λ types. set_at t.pieces head.nulls 0 types head.cells) b.0 set b.1
-    (bind_from (types_in_force c t b.0.own) (λ types. set_at t.pieces b.0.nulls 0 types b.0.cells) d.0 set (types_over c s t b.0.own d.0 h d.1)
-    (set_over s t b.0 d.0 set h.pieces d.2)))
+    let a = bind_ok (must NotPrepared s.prepared) (λ _. execute_head c body >>= λ head. types_in_force c s head.own >>= λ types. set_at s.long_data head.nulls 0 types head.cells) set e in
+    let b = bind_ok (execute_head c body) (λ head. types_in_force c s head.own >>= λ types. set_at s.long_data head.nulls 0 types head.cells) set a.2 in
+    let d = bind_ok (types_in_force c s b.0.own) (λ types. set_at s.long_data b.0.nulls 0 types b.0.cells) set b.2 in
+    bind_from (must NotPrepared t.prepared) (λ _. execute_head c body >>= λ head. types_in_force c t head.own >>= λ types. set_at t.long_data head.nulls 0 types head.cells) 0 set (must_from NotPrepared t.prepared (h.prepared (must_ok NotPrepared s.prepared a.0 a.1)))
+    (bind_from (execute_head c body) (λ head. types_in_force c t head.own >>= λ types. set_at t.long_data head.nulls 0 types head.cells) b.0 set b.1
+    (bind_from (types_in_force c t b.0.own) (λ types. set_at t.long_data b.0.nulls 0 types b.0.cells) d.0 set (types_over c s t b.0.own d.0 h d.1)
+    (set_over s t b.0 d.0 set h.long_data d.2)))
 
 bulk_over : (c : Statement) (s t : StatementState) (body : List ℕ) (x : Types × List ℕ) → Extends s t → bulk_rows c s body ≡ Ok x → bulk_rows c t body ≡ Ok x
 unfolding bulk_rows
@@ -137,7 +137,7 @@ bulk_over c s t body x h e =
     let d = bind_ok (must BadBulk (nat_lt 0 (place_count c.query))) (λ _. bulk_head c body >>= λ head. after_head s head) x b.2 in
     let g = bind_ok (bulk_head c body) (λ head. after_head s head) x d.2 in
     let k = bind_ok (types_in_force c s g.0.own) (λ types. must NoRows (nat_lt 0 (length g.0.rows)) >>= λ _. Ok (types, g.0.rows)) x g.2 in
-    let waits : is_waiting c t ≡ is_waiting c s = ap (λ (f : ℕ → Option (List ℕ)). list_any (λ place. is_some (f place)) (range_with_len 0 (place_count c.query))) h.pieces in
+    let waits : is_waiting c t ≡ is_waiting c s = ap (λ (f : ℕ → Option (List ℕ)). list_any (λ place. is_some (f place)) (range_with_len 0 (place_count c.query))) h.long_data in
     bind_from (must NotPrepared t.prepared) (λ _. after_prepared t) 0 x (must_from NotPrepared t.prepared (h.prepared (must_ok NotPrepared s.prepared a.0 a.1)))
     (bind_from (must PiecesBeforeBulk (not (is_waiting c t))) (λ _. after_alone t) b.0 x (ap (λ (p : Bool). must PiecesBeforeBulk (not p)) waits ∙ b.1)
     (bind_from (must BadBulk (nat_lt 0 (place_count c.query))) (λ _. bulk_head c body >>= λ head. after_head t head) d.0 x d.1
@@ -145,12 +145,12 @@ bulk_over c s t body x h e =
     (bind_from (types_in_force c t g.0.own) (λ types. must NoRows (nat_lt 0 (length g.0.rows)) >>= λ _. Ok (types, g.0.rows)) k.0 x (types_over c s t g.0.own k.0 h k.1) k.2))))
 
 long_data_over : (c : Statement) (s t : StatementState) (body : List ℕ) (sets : List Set) → Extends s t → long_data_at c s body ≡ Ok sets → long_data_at c t body ≡ Ok sets
-unfolding long_data_at prepared_piece
+unfolding long_data_at prepared_data
 long_data_over c s t body sets h e =
-    let a = bind_ok (must NotPrepared s.prepared >>= λ _. piece_at c body) (λ piece. Ok []) sets e in
-    let b = bind_ok (must NotPrepared s.prepared) (λ _. piece_at c body) a.0 a.1 in
-    bind_from (must NotPrepared t.prepared >>= λ _. piece_at c body) (λ piece. Ok []) a.0 sets
-    (bind_from (must NotPrepared t.prepared) (λ _. piece_at c body) 0 a.0 (must_from NotPrepared t.prepared (h.prepared (must_ok NotPrepared s.prepared b.0 b.1))) b.2) a.2
+    let a = bind_ok (must NotPrepared s.prepared >>= λ _. place_data_at c body) (λ piece. Ok []) sets e in
+    let b = bind_ok (must NotPrepared s.prepared) (λ _. place_data_at c body) a.0 a.1 in
+    bind_from (must NotPrepared t.prepared >>= λ _. place_data_at c body) (λ piece. Ok []) a.0 sets
+    (bind_from (must NotPrepared t.prepared) (λ _. place_data_at c body) 0 a.0 (must_from NotPrepared t.prepared (h.prepared (must_ok NotPrepared s.prepared b.0 b.1))) b.2) a.2
 
 alone_over : (c : Statement) (s t : StatementState) (body : List ℕ) (sets : List Set) → Extends s t → statement_alone_at c s body ≡ Ok sets → statement_alone_at c t body ≡ Ok sets
 unfolding statement_alone_at
@@ -194,32 +194,32 @@ none_said : (says : List ℕ → Option (List ℕ)) → ((x : List ℕ) → says
 none_said says h [] = refl
 none_said says h (x ∷ xs) = ap (λ o. cons_option o (filter_map says xs)) (h x) ∙ none_said says h xs
 
-abbrev good : Piece → Result Piece StreamFault
+abbrev good : PlaceData → Result PlaceData StreamFault
 good x = Ok x
 
-ok_is : (x y : Piece) → good x ≡ good y → x ≡ y
+ok_is : (x y : PlaceData) → good x ≡ good y → x ≡ y
 ok_is x y h = cc
 
 -- a piece is for a place of the query
-piece_place : (c : Statement) (body : List ℕ) (p : Piece) → piece_at c body ≡ Ok p → p.place < place_count c.query
+piece_place : (c : Statement) (body : List ℕ) (p : PlaceData) → place_data_at c body ≡ Ok p → p.place < place_count c.query
 piece_place c body p e =
     let a = bind_ok (id_at c body) (λ rest. number_or BadPlace 2 rest >>= λ place. must BadPlace (nat_lt place.0 (place_count c.query)) >>= λ _. Ok (record { place = place.0; bytes = place.1 })) p e in
     let b = bind_ok (number_or BadPlace 2 a.0) (λ place. must BadPlace (nat_lt place.0 (place_count c.query)) >>= λ _. Ok (record { place = place.0; bytes = place.1 })) p a.2 in
     let d = bind_ok (must BadPlace (nat_lt b.0.0 (place_count c.query))) (λ _. Ok (record { place = b.0.0; bytes = b.0.1 })) p b.2 in
     let lt : b.0.0 < place_count c.query = ltb-true b.0.0 (place_count c.query) (must_ok BadPlace (nat_lt b.0.0 (place_count c.query)) d.0 d.1) in
-    let same : b.0.0 ≡ p.place = ap (λ (q : Piece). q.place) (ok_is (record { place = b.0.0; bytes = b.0.1 }) p d.2) in
+    let same : b.0.0 ≡ p.place = ap (λ (q : PlaceData). q.place) (ok_is (record { place = b.0.0; bytes = b.0.1 }) p d.2) in
     omega (arith, lt, same)
 
 no_place_past : (c : Statement) (k : ℕ) → place_count c.query ≤ k → (payload : List ℕ) → said_by (speaks_of_place c k) payload ≡ None
 no_place_past c k past [] = refl
 no_place_past c k past (b ∷ body) = by_command (command_of b) body
   where
-    by_piece : (body : List ℕ) (r : Result Piece StreamFault) → piece_at c body ≡ r → option_and_then (λ piece. if piece.place == k then Some piece.bytes else None) (result_ok r) ≡ None
+    by_piece : (body : List ℕ) (r : Result PlaceData StreamFault) → place_data_at c body ≡ r → option_and_then (λ piece. if piece.place == k then Some piece.bytes else None) (result_ok r) ≡ None
     by_piece body (Err f) e = refl
     by_piece body (Ok p) e = ap (λ x. cond x (Some p.bytes) None) (ne_eqb p.place k (λ h. omega (arith, past, h, piece_place c body p e)))
 
     by_command : (command : Command) (body : List ℕ) → speaks_of_place c k command body ≡ None
-    by_command layout.LongData body = by_piece body (piece_at c body) refl
+    by_command layout.LongData body = by_piece body (place_data_at c body) refl
     by_command layout.Text body = refl
     by_command layout.Prepare body = refl
     by_command layout.Execute body = refl
@@ -232,11 +232,11 @@ is_none : (o : Option (List ℕ)) → is_some o ≡ false → o ≡ None
 is_none None e = refl
 is_none (Some x) e = absurd cc
 
-nothing_waits : (c : Statement) (payloads : List (List ℕ)) → is_waiting c (state_after c nothing_yet payloads) ≡ false → (k : ℕ) → (state_after c nothing_yet payloads).pieces k ≡ None
+nothing_waits : (c : Statement) (payloads : List (List ℕ)) → is_waiting c (state_after c nothing_yet payloads) ≡ false → (k : ℕ) → (state_after c nothing_yet payloads).long_data k ≡ None
 nothing_waits c payloads none k = by_place (cases_lt k (place_count c.query))
   where
-    by_place : ((k < place_count c.query) ⊎ (place_count c.query ≤ k)) → (state_after c nothing_yet payloads).pieces k ≡ None
-    by_place (inl lt) = is_none ((state_after c nothing_yet payloads).pieces k) (ap (λ n. is_some ((state_after c nothing_yet payloads).pieces n)) (omega arith) ∙ any_range (λ place. is_some ((state_after c nothing_yet payloads).pieces place)) 0 (place_count c.query) k none lt)
+    by_place : ((k < place_count c.query) ⊎ (place_count c.query ≤ k)) → (state_after c nothing_yet payloads).long_data k ≡ None
+    by_place (inl lt) = is_none ((state_after c nothing_yet payloads).long_data k) (ap (λ n. is_some ((state_after c nothing_yet payloads).long_data n)) (omega arith) ∙ any_range (λ place. is_some ((state_after c nothing_yet payloads).long_data place)) 0 (place_count c.query) k none lt)
     by_place (inr past) =
         ap (λ l. joined (option_to_list (cond (list_any is_end payloads) None None) ++ l)) (none_said (said_by (speaks_of_place c k)) (no_place_past c k past) (since is_end payloads))
         ∙ elim (list_any is_end payloads) as (λ b. joined (option_to_list {X = List ℕ} (cond b None None) ++ []) ≡ None) [ true ↦ refl | false ↦ refl ]
@@ -275,11 +275,11 @@ joins wire c limit xs ys front back a b is_front is_back audits_front audits_bac
     let extends : Extends nothing_yet s = record {
       prepared = λ e. absurd cc;
       types = λ ts e. absurd cc;
-      pieces = λ i place. nothing_waits c ps wa.1 place i;
+      long_data = λ i place. nothing_waits c ps wa.1 place i;
     } in
     let reads : Read c s (0 + length ps) qs k.2.reads = read_over c nothing_yet s 0 (0 + length ps) qs k.2.reads extends (omega arith) k.2.each in
     let waits : is_waiting c (state_after c s qs) ≡ false =
-    ap (λ (f : ℕ → Option (List ℕ)). list_any (λ place. is_some (f place)) (range_with_len 0 (place_count c.query))) (extends_after c nothing_yet s qs extends).pieces ∙ wb.1 in
+    ap (λ (f : ℕ → Option (List ℕ)). list_any (λ place. is_some (f place)) (range_with_len 0 (place_count c.query))) (extends_after c nothing_yet s qs extends).long_data ∙ wb.1 in
     let last : ends.Whole ≡ end_by_rest c (state_after c s qs) ((0 + length ps) + length k.2.reads) k.0.rest =
     sym (ap (λ (x : Bool). cond x ends.WaitingPieces ends.Whole) waits) ∙ ap (λ (r : Rest). end_by_rest c (state_after c s qs) ((0 + length ps) + length k.2.reads) r) (sym wb.2) in
     let on : Audits c s (0 + length ps) qs k.0.rest (record { sets = b.sets; ending = ends.Whole }) = record { reads = k.2.reads; each = reads; sets = k.2.sets; ending = inr (wb.0, last) } in

@@ -99,12 +99,12 @@ pub state_after_append : (c : Statement) (s : StatementState) (xs ys : List (Lis
 state_after_append c s xs ys = λ i. record {
   prepared = last_said-append (said_by (speaks_of_prepared c)) s.prepared xs ys i;
   types = last_said-append (said_by (speaks_of_types c)) s.types xs ys i;
-  pieces = λ place. waiting_for-append c (s.pieces place) xs ys place i;
+  long_data = λ place. waiting_for-append c (s.long_data place) xs ys place i;
 }
 
 -- before any payload what held before is in force
 pub state_after_nil : (c : Statement) (s : StatementState) → state_after c s [] ≡ s
-state_after_nil c s = λ i. record { prepared = s.prepared; types = s.types; pieces = λ place. one (s.pieces place) i }
+state_after_nil c s = λ i. record { prepared = s.prepared; types = s.types; long_data = λ place. one (s.long_data place) i }
   where
     one : (o : Option (List ℕ)) → joined (option_to_list o ++ []) ≡ o
     one None = refl

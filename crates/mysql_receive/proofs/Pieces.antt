@@ -6,8 +6,8 @@ use Rattle.std.specs.Option.{option_map, option_and_then, option_to_list}
 use Rattle.std.proofs.lemmas.Bool.{cases_eq, eq-eqb, ne_eqb}
 use Rattle.std.proofs.lemmas.Option.{slice_get-get_or}
 use Rattle.mysql_receive.specs.InForce.{joined}
-use Rattle.mysql_receive.specs.Steps.{with_piece}
-use Rattle.mysql_receive.specs.Views.{piece_kept}
+use Rattle.mysql_receive.specs.Steps.{with_more}
+use Rattle.mysql_receive.specs.Views.{data_waiting}
 
 get_same : {A : Type 0} (xs : List A) (i : ℕ) (x : A) → i < length xs → slice_get (set xs i x) i ≡ Some x
 get_same [] i x lt = absurd (omega arith)
@@ -21,32 +21,32 @@ get_other (y ∷ ys) zero (suc k) x n = refl
 get_other (y ∷ ys) (suc i) zero x n = refl
 get_other (y ∷ ys) (suc i) (suc k) x n = get_other ys i k x (λ e. n (ap suc e))
 
-get_pushed : (xs : List (Option (Vec ℕ))) (k : ℕ) → piece_kept (xs ++ None ∷ []) k ≡ piece_kept xs k
+get_pushed : (xs : List (Option (Vec ℕ))) (k : ℕ) → data_waiting (xs ++ None ∷ []) k ≡ data_waiting xs k
 get_pushed [] zero = refl
 get_pushed [] (suc k) = refl
 get_pushed (x ∷ xs) zero = refl
 get_pushed (x ∷ xs) (suc k) = get_pushed xs k
 
 -- a place where nothing waits changes nothing
-pub pushed_none : (xs : List (Option (Vec ℕ))) → piece_kept (xs ++ None ∷ []) ≡ piece_kept xs
+pub pushed_none : (xs : List (Option (Vec ℕ))) → data_waiting (xs ++ None ∷ []) ≡ data_waiting xs
 pushed_none xs = λ i k. get_pushed xs k i
 
-pub none_kept : piece_kept [] ≡ (λ place. None)
+pub none_kept : data_waiting [] ≡ (λ place. None)
 none_kept = refl
 
 -- more data for one place
 pub kept_set : (xs : List (Option (Vec ℕ))) (place : ℕ) (v : Vec ℕ) (bytes : List ℕ) (old : Option (Vec ℕ)) → place < length xs → get_or xs place None ≡ old
-    → Some v.items ≡ joined (option_to_list (option_map (λ piece. piece.items) old) ++ bytes ∷ []) → piece_kept (set xs place (Some v)) ≡ with_piece (piece_kept xs) place bytes
+    → Some v.items ≡ joined (option_to_list (option_map (λ piece. piece.items) old) ++ bytes ∷ []) → data_waiting (set xs place (Some v)) ≡ with_more (data_waiting xs) place bytes
 kept_set xs place v bytes old lt here is = λ i k. at k (cases_eq place k) i
   where
-    at : (k : ℕ) → ((place ≡ k) ⊎ (place ≡ k → ⊥)) → piece_kept (set xs place (Some v)) k ≡ with_piece (piece_kept xs) place bytes k
+    at : (k : ℕ) → ((place ≡ k) ⊎ (place ≡ k → ⊥)) → data_waiting (set xs place (Some v)) k ≡ with_more (data_waiting xs) place bytes k
     at k (inr other) =
         ap (λ (o : Option (Option (Vec ℕ))). option_and_then (λ piece. option_map (λ bytes. bytes.items) piece) o) (get_other xs place k (Some v) other)
-        ∙ sym (ap (λ b. cond b (joined (option_to_list (piece_kept xs k) ++ bytes ∷ [])) (piece_kept xs k)) (ne_eqb place k other))
+        ∙ sym (ap (λ b. cond b (joined (option_to_list (data_waiting xs k) ++ bytes ∷ [])) (data_waiting xs k)) (ne_eqb place k other))
     at k (inl same) =
-        ap (λ (n : ℕ). piece_kept (set xs place (Some v)) n) (sym same)
+        ap (λ (n : ℕ). data_waiting (set xs place (Some v)) n) (sym same)
         ∙ ap (λ (o : Option (Option (Vec ℕ))). option_and_then (λ piece. option_map (λ bytes. bytes.items) piece) o) (get_same xs place (Some v) lt)
         ∙ is
         ∙ ap (λ (o : Option (List ℕ)). joined (option_to_list o ++ bytes ∷ [])) (sym (ap (λ (o : Option (Option (Vec ℕ))). option_and_then (λ piece. option_map (λ bytes. bytes.items) piece) o) (slice_get-get_or xs place None lt) ∙ ap (λ (o : Option (Vec ℕ)). option_map (λ bytes. bytes.items) o) here))
-        ∙ ap (λ (n : ℕ). joined (option_to_list (piece_kept xs n) ++ bytes ∷ [])) same
-        ∙ sym (ap (λ b. cond b (joined (option_to_list (piece_kept xs k) ++ bytes ∷ [])) (piece_kept xs k)) (eq-eqb place k same))
+        ∙ ap (λ (n : ℕ). joined (option_to_list (data_waiting xs n) ++ bytes ∷ [])) same
+        ∙ sym (ap (λ b. cond b (joined (option_to_list (data_waiting xs k) ++ bytes ∷ [])) (data_waiting xs k)) (eq-eqb place k same))

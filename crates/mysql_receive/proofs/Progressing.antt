@@ -34,20 +34,20 @@ use Rattle.mysql_receive.proofs.Splits.{some_split, bytes_behind, each_stays}
 pub reads_first : (c : Statement) (s : StatementState) (n : ℕ) (payload : List ℕ) (sets : List Set) → n < 2 ^ 64 - 1 → PayloadReadsAs c s payload sets → ReadsAs c s n [] payload sets
 reads_first c s n payload sets few h = (omega arith, subst (λ (st : StatementState). PayloadReadsAs c st payload sets) (sym (state_after_nil c s)) h)
 
-pub fails_first : (c : Statement) (old new : Progress) (payload : List ℕ) (r : Refusal) → old.count < 2 ^ 64 - 1 → PayloadJudged c (state_of old.statement) payload (Err r) → OneBy c old payload new (Err r)
+pub fails_first : (c : Statement) (old new : Progress) (payload : List ℕ) (r : Refusal) → old.count < 2 ^ 64 - 1 → PayloadJudged c (state_of old.state) payload (Err r) → OneBy c old payload new (Err r)
 fails_first c old new payload refusal.Memory few h = tt
-fails_first c old new payload (refusal.Fault f) few h = inr (omega arith, subst (λ (st : StatementState). PayloadFaulty c st payload f) (sym (state_after_nil c (state_of old.statement))) h)
+fails_first c old new payload (refusal.Fault f) few h = inr (omega arith, subst (λ (st : StatementState). PayloadFaulty c st payload f) (sym (state_after_nil c (state_of old.state))) h)
 
 -- so many payloads of the bytes were handed out, and they were read
 pub record Behind (c : Statement) (limit : ℕ) (old : Progress) (bytes : List ℕ) (codec : Codec) (src packet : List ℕ) (now : Progress) : Type 0 where
   pub payloads : List (List ℕ)
   pub taken : HasRead limit EachFromZero bytes payloads codec src packet
   pub reads : List (List Set)
-  pub each : Read c (state_of old.statement) old.count payloads reads
+  pub each : Read c (state_of old.state) old.count payloads reads
   pub all : length reads ≡ length payloads
   pub sets : sets_of now.sets.items ≡ sets_of old.sets.items ++ flat_map (λ sets. sets) reads
   pub count : now.count ≡ old.count + length reads
-  pub statement : state_of now.statement ≡ state_after c (state_of old.statement) payloads
+  pub state : state_of now.state ≡ state_after c (state_of old.state) payloads
 
 module _ (wire : ReaderLaws) (c : Statement) (limit : ℕ) (old : Progress) (bytes : List ℕ) where
   pub behind_none : (codec : Codec) (src packet : List ℕ) → HasRead limit EachFromZero bytes [] codec src packet → Behind c limit old bytes codec src packet old
@@ -60,16 +60,16 @@ module _ (wire : ReaderLaws) (c : Statement) (limit : ℕ) (old : Progress) (byt
         all = refl;
         sets = sym (append-nil (sets_of old.sets.items));
         count = omega arith;
-        statement = sym (state_after_nil c (state_of old.statement));
+        state = sym (state_after_nil c (state_of old.state));
       }
 
   -- the next payload reads
   next_read : (codec : Codec) (src packet payload : List ℕ) (mid new : Progress) (b : Behind c limit old bytes codec src packet mid) (one : ReadOne c mid payload new)
-      → Read c (state_after c (state_of old.statement) b.payloads) (old.count + length b.payloads) (payload ∷ []) (one.sets ∷ [])
+      → Read c (state_after c (state_of old.state) b.payloads) (old.count + length b.payloads) (payload ∷ []) (one.sets ∷ [])
   next_read codec src packet payload mid new b one =
-      one_read c (state_after c (state_of old.statement) b.payloads) (old.count + length b.payloads) payload one.sets
-      (subst (λ (k : ℕ). ReadsAs c (state_after c (state_of old.statement) b.payloads) k [] payload one.sets) (omega (arith, b.count, b.all))
-      (subst (λ (st : StatementState). ReadsAs c st mid.count [] payload one.sets) b.statement one.reads))
+      one_read c (state_after c (state_of old.state) b.payloads) (old.count + length b.payloads) payload one.sets
+      (subst (λ (k : ℕ). ReadsAs c (state_after c (state_of old.state) b.payloads) k [] payload one.sets) (omega (arith, b.count, b.all))
+      (subst (λ (st : StatementState). ReadsAs c st mid.count [] payload one.sets) b.state one.reads))
 
   pub behind_more : (codec : Codec) (src packet : List ℕ) (next : Codec) (after payload : List ℕ) (mid new : Progress) → Behind c limit old bytes codec src packet mid → HandsOut codec src packet next after payload → ReadOne c mid payload new
       → Behind c limit old bytes (record next { number = 0 }) after [] new
@@ -78,13 +78,13 @@ module _ (wire : ReaderLaws) (c : Statement) (limit : ℕ) (old : Progress) (byt
         payloads = b.payloads ++ payload ∷ [];
         taken = (wire.takes limit bytes b.payloads codec next src packet after payload h).1 b.taken;
         reads = b.reads ++ one.sets ∷ [];
-        each = read_append c (state_of old.statement) old.count b.payloads (payload ∷ []) b.reads (one.sets ∷ []) b.each b.all (next_read codec src packet payload mid new b one);
+        each = read_append c (state_of old.state) old.count b.payloads (payload ∷ []) b.reads (one.sets ∷ []) b.each b.all (next_read codec src packet payload mid new b one);
         all = omega (arith, b.all, length-append b.reads (one.sets ∷ []), length-append b.payloads (payload ∷ []));
         sets = one.more ∙ ap (λ (l : List Set). l ++ one.sets) b.sets ∙ append_assoc (sets_of old.sets.items) (flat_map (λ sets. sets) b.reads) one.sets
             ∙ ap (λ (l : List Set). sets_of old.sets.items ++ l) (ap (λ (l : List Set). flat_map (λ sets. sets) b.reads ++ l) (sym (append-nil one.sets)) ∙ sym (flat_map-append (λ sets. sets) b.reads (one.sets ∷ [])));
         count = omega (arith, one.count, b.count, length-append b.reads (one.sets ∷ []));
-        statement = one.statement ∙ ap (λ (st : StatementState). state_after c st (payload ∷ [])) b.statement
-            ∙ sym (state_after_append c (state_of old.statement) b.payloads (payload ∷ []));
+        state = one.state ∙ ap (λ (st : StatementState). state_after c st (payload ∷ [])) b.state
+            ∙ sym (state_after_append c (state_of old.state) b.payloads (payload ∷ []));
       }
 
   -- the same of a reader whose number was set to 0
@@ -128,7 +128,7 @@ module _ (wire : ReaderLaws) (c : Statement) (limit : ℕ) (old : Progress) (byt
         each = b.each;
         sets = b.sets;
         count = b.count;
-        stops = inr (inr (b.all, no_fault_of w.rest w.no_fault, λ _. (sym left, b.statement)));
+        stops = inr (inr (b.all, no_fault_of w.rest w.no_fault, λ _. (sym left, b.state)));
       }
 
   pub waits_open : (r new : Incoming) (piece rest : List ℕ) (now : Progress) → AreBytes bytes → r.number ≡ 0 → Behind c limit old bytes (codec_by r) (r.bytes ++ piece) [] now → ReadsOn r piece false new rest →
@@ -156,7 +156,7 @@ module _ (wire : ReaderLaws) (c : Statement) (limit : ℕ) (old : Progress) (byt
         split = s.0;
         is_split = s.1;
         reads = b.reads;
-        each = subst (λ (l : List (List ℕ)). Read c (state_of old.statement) old.count l b.reads) (sym f.1) (read_longer c (state_of old.statement) old.count b.payloads f.0 b.reads b.each);
+        each = subst (λ (l : List (List ℕ)). Read c (state_of old.state) old.count l b.reads) (sym f.1) (read_longer c (state_of old.state) old.count b.payloads f.0 b.reads b.each);
         sets = sets ∙ b.sets;
         count = count ∙ b.count;
         stops = inr (inl refl);
@@ -201,12 +201,12 @@ module _ (wire : ReaderLaws) (c : Statement) (limit : ℕ) (old : Progress) (byt
       let taken = (wire.takes limit bytes b.payloads codec next src packet after payload h).1 b.taken in
       let found = wire.come_first limit EachFromZero (b.payloads ++ payload ∷ []) bytes (held (record next { number = 0 }) after []) s.0 taken.within taken.joined s.1 in
       let is : s.0.payloads ≡ b.payloads ++ (payload ∷ found.0) = found.1 ∙ append_assoc b.payloads (payload ∷ []) found.0 in
-      let moved : Faulty c (state_after c (state_of old.statement) b.payloads) (old.count + length b.payloads) [] payload f =
-      subst (λ (k : ℕ). Faulty c (state_after c (state_of old.statement) b.payloads) k [] payload f) (omega (arith, b.count, b.all))
-      (subst (λ (st : StatementState). Faulty c st mid.count [] payload f) b.statement one) in
-      let here_it_is : Faulty c (state_of old.statement) old.count b.payloads payload f =
-      subst (λ (l : List (List ℕ)). Faulty c (state_of old.statement) old.count l payload f) (append-nil b.payloads)
-      (faulty_from c (state_of old.statement) old.count b.payloads [] payload f moved) in
+      let moved : Faulty c (state_after c (state_of old.state) b.payloads) (old.count + length b.payloads) [] payload f =
+      subst (λ (k : ℕ). Faulty c (state_after c (state_of old.state) b.payloads) k [] payload f) (omega (arith, b.count, b.all))
+      (subst (λ (st : StatementState). Faulty c st mid.count [] payload f) b.state one) in
+      let here_it_is : Faulty c (state_of old.state) old.count b.payloads payload f =
+      subst (λ (l : List (List ℕ)). Faulty c (state_of old.state) old.count l payload f) (append-nil b.payloads)
+      (faulty_from c (state_of old.state) old.count b.payloads [] payload f moved) in
       let front : take (length b.reads) s.0.payloads ≡ b.payloads = ap (λ (n : ℕ). take n s.0.payloads) b.all ∙ ap (λ (l : List (List ℕ)). take (length b.payloads) l) is ∙ take-append_seam b.payloads (payload ∷ found.0) in
       let at : get_or s.0.payloads (length b.reads) [] ≡ payload =
       ap (λ (l : List (List ℕ)). get_or l (length b.reads) []) is ∙ ap (λ (n : ℕ). get_or (b.payloads ++ (payload ∷ found.0)) n []) (b.all ∙ omega arith) ∙ get_or-append-add b.payloads (payload ∷ found.0) 0 [] in
@@ -214,14 +214,14 @@ module _ (wire : ReaderLaws) (c : Statement) (limit : ℕ) (old : Progress) (byt
         split = s.0;
         is_split = s.1;
         reads = b.reads;
-        each = subst (λ (l : List (List ℕ)). Read c (state_of old.statement) old.count l b.reads) (sym is) (read_longer c (state_of old.statement) old.count b.payloads (payload ∷ found.0) b.reads b.each);
+        each = subst (λ (l : List (List ℕ)). Read c (state_of old.state) old.count l b.reads) (sym is) (read_longer c (state_of old.state) old.count b.payloads (payload ∷ found.0) b.reads b.each);
         sets = sets ∙ b.sets;
         count = count ∙ b.count;
         stops = inl (
           f,
           omega (arith, ap length is, b.all, length-append b.payloads (payload ∷ found.0)),
-          subst (λ (p : List ℕ). Faulty c (state_of old.statement) old.count (take (length b.reads) s.0.payloads) p f) (sym at)
-              (subst (λ (l : List (List ℕ)). Faulty c (state_of old.statement) old.count l payload f) (sym front) here_it_is),
+          subst (λ (p : List ℕ). Faulty c (state_of old.state) old.count (take (length b.reads) s.0.payloads) p f) (sym at)
+              (subst (λ (l : List (List ℕ)). Faulty c (state_of old.state) old.count l payload f) (sym front) here_it_is),
           refl,
         );
       }

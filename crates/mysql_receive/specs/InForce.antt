@@ -6,7 +6,7 @@ use Rattle.std.specs.Prelude.{unwrap_or, is_some, bytes_eq}
 use Rattle.std.specs.List.{list_any, filter_map, flat_map, last_or, range_with_len}
 use Rattle.std.specs.Option.{option_and_then, option_map, option_to_list}
 use Rattle.std.specs.Result.{result_ok}
-use Rattle.mysql_receive.specs.Layout.{Command, command_of, Types, piece_at, execute_head, bulk_head}
+use Rattle.mysql_receive.specs.Layout.{Command, command_of, Types, place_data_at, execute_head, bulk_head}
 use Rattle.mysql_receive.specs.Layout as layout
 use Rattle.mysql_receive.specs.Query.{Statement, place_count}
 
@@ -14,11 +14,11 @@ use Rattle.mysql_receive.specs.Query.{Statement, place_count}
 pub record StatementState : Type 0 where
   pub prepared : Bool
   pub types : Option Types
-  pub pieces : ℕ → Option (List ℕ)
+  pub long_data : ℕ → Option (List ℕ)
 
 -- at the start nothing is
 abbrev pub nothing_yet : StatementState
-nothing_yet = record { prepared = false; types = None; pieces = λ place. None }
+nothing_yet = record { prepared = false; types = None; long_data = λ place. None }
 
 -- the payload's command and body, where it has any byte
 abbrev pub said_by : {A : Type 0} → (Command → List ℕ → Option A) → List ℕ → Option A
@@ -32,42 +32,42 @@ last_said says before payloads = unwrap_or (last_or None (filter_map says payloa
 -- the prepare of the statement's query says that it is prepared, a close that it isn't, and no
 -- other payload speaks of it
 abbrev pub speaks_of_prepared : Statement → Command → List ℕ → Option Bool
-speaks_of_prepared c layout.Prepare body = if bytes_eq body c.query.parsed then Some true else None
-speaks_of_prepared c layout.Close body = Some false
-speaks_of_prepared c _ body = None
+speaks_of_prepared statement layout.Prepare body = if bytes_eq body statement.query.parsed then Some true else None
+speaks_of_prepared statement layout.Close body = Some false
+speaks_of_prepared statement _ body = None
 
 -- the types that an execute carries, and those that a bulk does
 abbrev pub execute_types : Statement → List ℕ → Option Types
-execute_types c body = option_and_then (λ head. head.own) (result_ok (execute_head c body))
+execute_types statement body = option_and_then (λ head. head.own) (result_ok (execute_head statement body))
 
 abbrev pub bulk_types : Statement → List ℕ → Option Types
-bulk_types c body = option_and_then (λ head. head.own) (result_ok (bulk_head c body))
+bulk_types statement body = option_and_then (λ head. head.own) (result_ok (bulk_head statement body))
 
 -- a prepare and a close say that there are no types; a typed execute or bulk says its own
 abbrev pub speaks_of_types : Statement → Command → List ℕ → Option (Option Types)
-speaks_of_types c layout.Prepare body = Some None
-speaks_of_types c layout.Execute body = option_map (λ types. Some types) (execute_types c body)
-speaks_of_types c layout.Bulk body = option_map (λ types. Some types) (bulk_types c body)
-speaks_of_types c layout.Close body = Some None
-speaks_of_types c _ body = None
+speaks_of_types statement layout.Prepare body = Some None
+speaks_of_types statement layout.Execute body = option_map (λ types. Some types) (execute_types statement body)
+speaks_of_types statement layout.Bulk body = option_map (λ types. Some types) (bulk_types statement body)
+speaks_of_types statement layout.Close body = Some None
+speaks_of_types statement _ body = None
 
 -- a prepare, an execute, a reset and a close end the pieces that wait
-abbrev pub ends_pieces : Command → List ℕ → Option Bool
-ends_pieces layout.Prepare body = Some true
-ends_pieces layout.Execute body = Some true
-ends_pieces layout.Reset body = Some true
-ends_pieces layout.Close body = Some true
-ends_pieces _ body = None
+abbrev pub ends_data : Command → List ℕ → Option Bool
+ends_data layout.Prepare body = Some true
+ends_data layout.Execute body = Some true
+ends_data layout.Reset body = Some true
+ends_data layout.Close body = Some true
+ends_data _ body = None
 
 abbrev pub is_end : List ℕ → Bool
-is_end payload = is_some (said_by ends_pieces payload)
+is_end payload = is_some (said_by ends_data payload)
 
 -- the data of a piece for this place
 abbrev pub speaks_of_place : Statement → ℕ → Command → List ℕ → Option (List ℕ)
-speaks_of_place c place layout.LongData body =
+speaks_of_place statement place layout.LongData body =
     option_and_then (λ piece. if piece.place == place then Some piece.bytes else None)
-    (result_ok (piece_at c body))
-speaks_of_place c place _ body = None
+    (result_ok (place_data_at statement body))
+speaks_of_place statement place _ body = None
 
 -- the elements after the last that passes the test, all of them where none does
 abbrev pub since : {A : Type 0} → (A → Bool) → List A → List A
@@ -81,19 +81,19 @@ joined (x ∷ xs) = Some (flat_map (λ part. part) (x ∷ xs))
 
 -- what waits for a place: what waited before, unless an end came, and the data since the last end, in a row
 abbrev pub waiting_for : Statement → Option (List ℕ) → List (List ℕ) → ℕ → Option (List ℕ)
-waiting_for c before payloads place =
+waiting_for statement before payloads place =
     joined (option_to_list (if list_any is_end payloads then None else before) ++
-    filter_map (said_by (speaks_of_place c place)) (since is_end payloads))
+    filter_map (said_by (speaks_of_place statement place)) (since is_end payloads))
 
 -- what is in force after these payloads
 abbrev pub state_after : Statement → StatementState → List (List ℕ) → StatementState
-state_after c s payloads =
+state_after statement state payloads =
     record {
-      prepared = last_said (said_by (speaks_of_prepared c)) s.prepared payloads;
-      types = last_said (said_by (speaks_of_types c)) s.types payloads;
-      pieces = λ place. waiting_for c (s.pieces place) payloads place;
+      prepared = last_said (said_by (speaks_of_prepared statement)) state.prepared payloads;
+      types = last_said (said_by (speaks_of_types statement)) state.types payloads;
+      long_data = λ place. waiting_for statement (state.long_data place) payloads place;
     }
 
 -- whether pieces wait for any place
 abbrev pub is_waiting : Statement → StatementState → Bool
-is_waiting c s = list_any (λ place. is_some (s.pieces place)) (range_with_len 0 (place_count c.query))
+is_waiting statement state = list_any (λ place. is_some (state.long_data place)) (range_with_len 0 (place_count statement.query))

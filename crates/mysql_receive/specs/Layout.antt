@@ -53,9 +53,9 @@ Types = List ParamType
 
 -- the statement's id in four bytes
 abbrev pub id_at : Statement → List ℕ → Result (List ℕ) StreamFault
-id_at c bytes = do
+id_at statement bytes = do
   id ← number_or WrongId 4 bytes
-  must WrongId (id.0 == c.id)
+  must WrongId (id.0 == statement.id)
   Ok id.1
 
 -- a pair of a type and a flag
@@ -76,16 +76,16 @@ types_at short (suc n) bytes = do
   Ok (first.0 ∷ others.0, others.1)
 
 -- a piece of a place's bytes
-pub record Piece : Type 0 where
+pub record PlaceData : Type 0 where
   pub place : ℕ
   pub bytes : List ℕ
 
 -- the body of a long data command: the id, a place, bytes to the end
-abbrev pub piece_at : Statement → List ℕ → Result Piece StreamFault
-piece_at c body = do
-  rest ← id_at c body
+abbrev pub place_data_at : Statement → List ℕ → Result PlaceData StreamFault
+place_data_at statement body = do
+  rest ← id_at statement body
   place ← number_or BadPlace 2 rest
-  must BadPlace (nat_lt place.0 (place_count c.query))
+  must BadPlace (nat_lt place.0 (place_count statement.query))
   Ok (record { place = place.0; bytes = place.1 })
 
 -- what stands before an execute's cells: the null bitmap, and the types where it carries them
@@ -107,14 +107,14 @@ binding_at n bytes = do
 
 -- the id, no cursor, a count of 1, and with places the binding
 unfoldable pub execute_head : Statement → List ℕ → Result ExecuteHead StreamFault
-execute_head c body = do
-  rest ← id_at c body
+execute_head statement body = do
+  rest ← id_at statement body
   cursor ← number_or BadExecute 1 rest
   must BadExecute (cursor.0 == 0)
   count ← number_or BadExecute 4 cursor.1
   must BadExecute (count.0 == 1)
-  if place_count c.query == 0 then Ok (record { nulls = []; own = None; cells = count.1 })
-      else binding_at (place_count c.query) count.1
+  if place_count statement.query == 0 then Ok (record { nulls = []; own = None; cells = count.1 })
+      else binding_at (place_count statement.query) count.1
 
 -- what stands before a bulk's rows: the types where it carries them
 pub record BulkHead : Type 0 where
@@ -123,11 +123,11 @@ pub record BulkHead : Type 0 where
 
 -- the id, the flags, and behind the flag 128 the types
 unfoldable pub bulk_head : Statement → List ℕ → Result BulkHead StreamFault
-bulk_head c body = do
-  rest ← id_at c body
+bulk_head statement body = do
+  rest ← id_at statement body
   flags ← number_or BadBulk 2 rest
   must BadBulk (flags.0 == 0 || flags.0 == 64 || flags.0 == 128 || flags.0 == 192)
   if nat_lt flags.0 128 then Ok (record { own = None; rows = flags.1 })
       else do
-        types ← types_at BadBulk (place_count c.query) flags.1
+        types ← types_at BadBulk (place_count statement.query) flags.1
         Ok (record { own = Some types.0; rows = types.1 })

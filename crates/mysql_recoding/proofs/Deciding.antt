@@ -27,7 +27,7 @@ pub some_decision : HasOneSplit → ThereIsOneAudit → (c : Statement) (limit :
 some_decision one_split one_audit c limit state z query partial bytes none =
     let found = one_split limit EachFromZero (state.partial ++ z) (bytes_append state.partial z partial bytes) in
     let split : Split = found.0 in
-    let judged = one_audit c state.statement state.count split.payloads split.rest query in
+    let judged = one_audit c state.state state.count split.payloads split.rest query in
     let audit : Audit = record { sets = state.sets ++ judged.0.sets; ending = judged.0.ending } in
     record {
       audit = audit;

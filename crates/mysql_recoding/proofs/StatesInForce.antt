@@ -12,7 +12,7 @@ use Rattle.mysql_receive.specs.declared.fault.StreamFault.TheVariants.{BadBulk, 
 use Rattle.mysql_receive.specs.declared.param_type.ParamType.{ParamType}
 use Rattle.mysql_receive.specs.Fields.{bytes_or, number_or, must}
 use Rattle.mysql_receive.specs.Query.{Statement, place_count}
-use Rattle.mysql_receive.specs.Layout.{BulkHead, Command, ExecuteHead, Piece, Types, binding_at, bulk_head, command_of, execute_head, id_at, is_type, piece_at, type_at, types_at}
+use Rattle.mysql_receive.specs.Layout.{BulkHead, Command, ExecuteHead, PlaceData, Types, binding_at, bulk_head, command_of, execute_head, id_at, is_type, place_data_at, type_at, types_at}
 use Rattle.mysql_receive.specs.Layout as layout
 use Rattle.mysql_receive.specs.InForce.{StatementState, is_end, joined, nothing_yet, said_by, since, speaks_of_place, speaks_of_types, state_after, waiting_for}
 use Rattle.mysql_recoding.proofs.ByteLists.{bytes_flat_map, bytes_tail}
@@ -166,23 +166,23 @@ types_said c layout.Close body word h e = subst (OwnCount (place_count c.query))
 types_said c layout.Other body word h e = absurd cc
 
 -- the data of a piece are bytes
-piece_bytes : (c : Statement) (body : List ℕ) (piece : Piece) → AreBytes body → piece_at c body ≡ Ok piece → AreBytes piece.bytes
+piece_bytes : (c : Statement) (body : List ℕ) (piece : PlaceData) → AreBytes body → place_data_at c body ≡ Ok piece → AreBytes piece.bytes
 piece_bytes c body piece h e =
     let a = bind_ok (id_at c body) (λ rest. number_or BadPlace 2 rest >>= λ place. must BadPlace (nat_lt place.0 (place_count c.query)) >>= λ _. Ok (record { place = place.0; bytes = place.1 })) piece e in
     let b = bind_ok (number_or BadPlace 2 a.0) (λ place. must BadPlace (nat_lt place.0 (place_count c.query)) >>= λ _. Ok (record { place = place.0; bytes = place.1 })) piece a.2 in
     let d = bind_ok (must BadPlace (nat_lt b.0.0 (place_count c.query))) (λ _. Ok (record { place = b.0.0; bytes = b.0.1 })) piece b.2 in
-    subst (λ (x : Piece). AreBytes x.bytes) (ok_same {F = StreamFault} (record { place = b.0.0; bytes = b.0.1 }) piece d.2) (number_rest BadPlace 2 a.0 b.0 (id_rest c body a.0 h a.1) b.1)
+    subst (λ (x : PlaceData). AreBytes x.bytes) (ok_same {F = StreamFault} (record { place = b.0.0; bytes = b.0.1 }) piece d.2) (number_rest BadPlace 2 a.0 b.0 (id_rest c body a.0 h a.1) b.1)
 
 piece_said : (c : Statement) (place : ℕ) (k : Command) (body data_bytes : List ℕ) → AreBytes body → speaks_of_place c place k body ≡ Some data_bytes → AreBytes data_bytes
 piece_said c place layout.Text body data_bytes h e = absurd cc
 piece_said c place layout.Prepare body data_bytes h e = absurd cc
-piece_said c place layout.LongData body data_bytes h e = by (piece_at c body) refl e
+piece_said c place layout.LongData body data_bytes h e = by (place_data_at c body) refl e
   where
-    of_place : (t : Bool) (piece : Piece) → AreBytes piece.bytes → (if t then Some piece.bytes else None) ≡ Some data_bytes → AreBytes data_bytes
+    of_place : (t : Bool) (piece : PlaceData) → AreBytes piece.bytes → (if t then Some piece.bytes else None) ≡ Some data_bytes → AreBytes data_bytes
     of_place true piece k f = subst AreBytes (some_same piece.bytes data_bytes f) k
     of_place false piece k f = absurd cc
 
-    by : (r : Result Piece StreamFault) → piece_at c body ≡ r → option_and_then (λ piece. if piece.place == place then Some piece.bytes else None) (result_ok r) ≡ Some data_bytes → AreBytes data_bytes
+    by : (r : Result PlaceData StreamFault) → place_data_at c body ≡ r → option_and_then (λ piece. if piece.place == place then Some piece.bytes else None) (result_ok r) ≡ Some data_bytes → AreBytes data_bytes
     by (Ok piece) is f = of_place (piece.place == place) piece (piece_bytes c body piece h is) f
     by (Err fault) is f = absurd cc
 piece_said c place layout.Execute body data_bytes h e = absurd cc
@@ -240,10 +240,10 @@ joined_bytes (x ∷ xs) data_bytes h e = subst AreBytes (some_same (flat_map (λ
 -- the types in force are as many as the placeholders, and the pieces that wait are bytes
 pub record IsInForce (c : Statement) (s : StatementState) : Type 0 where
   pub types : OwnCount (place_count c.query) s.types
-  pub pieces : (place : ℕ) (data_bytes : List ℕ) → s.pieces place ≡ Some data_bytes → AreBytes data_bytes
+  pub long_data : (place : ℕ) (data_bytes : List ℕ) → s.long_data place ≡ Some data_bytes → AreBytes data_bytes
 
 pub nothing_in_force : (c : Statement) → IsInForce c nothing_yet
-nothing_in_force c = record { types = none_own (place_count c.query); pieces = λ place data_bytes e. absurd cc }
+nothing_in_force c = record { types = none_own (place_count c.query); long_data = λ place data_bytes e. absurd cc }
 
 waiting_bytes : (c : Statement) (before : Option (List ℕ)) (payloads : List (List ℕ)) (place : ℕ) (data_bytes : List ℕ) → ((other : List ℕ) → before ≡ Some other → AreBytes other)
     → AllByRecursion AreBytes payloads → waiting_for c before payloads place ≡ Some data_bytes → AreBytes data_bytes
@@ -262,5 +262,5 @@ waiting_bytes c before payloads place data_bytes held h e =
 pub stays_in_force : (c : Statement) (s : StatementState) (payloads : List (List ℕ)) → AllByRecursion AreBytes payloads → IsInForce c s → IsInForce c (state_after c s payloads)
 stays_in_force c s payloads h is = record {
   types = said_from (OwnCount (place_count c.query)) (said_by (speaks_of_types c)) s.types None payloads (payload_types c) h is.types;
-  pieces = λ place data_bytes e. waiting_bytes c (s.pieces place) payloads place data_bytes (is.pieces place) h e;
+  long_data = λ place data_bytes e. waiting_bytes c (s.long_data place) payloads place data_bytes (is.long_data place) h e;
 }

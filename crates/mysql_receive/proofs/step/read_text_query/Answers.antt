@@ -1,10 +1,10 @@
 use Rattle.std.proofs.Common.{refl, sym, inr}
 use Rattle.mysql_receive.proofs.Readable.{each_alone}
-use Rattle.mysql_receive.proofs.step.text.Goals as goal
+use Rattle.mysql_receive.proofs.step.read_text_query.Goals as goal
 
 pub read_text-requires-clause-alone : goal.read_text-requires-clause-alone
 read_text-requires-clause-alone c =
-    let all = each_alone c.args.conversation.now.places.items (sym c.if-not-all_alone.ensures) in
+    let all = each_alone c.args.statement.now.places.items (sym c.if-not-all_alone.ensures) in
     rw c.deref-2.ensures.value all
 
 pub returns-in-None : goal.returns-in-None
