@@ -7,7 +7,7 @@ use Rattle.mysql_values.specs.declared.params.Params.{Params}
 use Rattle.mysql_values.specs.Params.{IsMeaning}
 use Rattle.mysql_values.specs.Tokens.{HasTokens}
 use Rattle.mysql_receive.specs.declared.audit.End.TheVariants.{Whole}
-use Rattle.mysql_receive.specs.Audit.{AuditOf, IsAbout, Read}
+use Rattle.mysql_receive.specs.Audit.{AuditOf, IsAbout, Reads}
 use Rattle.mysql_receive.specs.InForce.{is_waiting, nothing_yet, state_after}
 use Rattle.mysql_receive.specs.Query.{Statement, statement_of}
 use Rattle.mysql_receive.specs.Reading.{Set}
@@ -27,7 +27,7 @@ pub record ReadsEach (statement : Statement) (limit : ℕ) (sent : List SentPayl
   pub within : AllByRecursion (λ payload. length payload ≤ limit) (payloads_of sent)
   pub reads : List (List Set)
   pub contents : AllZip (λ payload sets. HaveContents payload.sets sets) sent reads
-  pub each : length sent < 2 ^ 64 → Read statement nothing_yet 0 (payloads_of sent) reads
+  pub each : length sent < 2 ^ 64 → Reads statement nothing_yet 0 (payloads_of sent) reads
   pub ends : is_waiting statement (state_after statement nothing_yet (payloads_of sent)) ≡ false
 
 -- What is sent of sets without a cause that can be read back reads as these sets, by each road.

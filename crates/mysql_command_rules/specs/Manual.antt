@@ -1,7 +1,6 @@
 -- Commands in the manual's words: which payloads are a command, which parameter sets it carries and
--- what it leaves in force. `mysql_receive` reads any payload from left to right and looks back for
--- what is in force; here whole payloads are put together from their parts, and each command says
--- what it changes. That both say the same is the law. MySQL: Client/Server Protocol, "COM_QUERY",
+-- what it leaves in force. `mysql_receive` reads any payload from left to right; here whole payloads
+-- are put together from their parts. That both say the same is the law. MySQL: Client/Server Protocol, "COM_QUERY",
 -- "COM_STMT_PREPARE", "COM_STMT_EXECUTE", "COM_STMT_SEND_LONG_DATA", "COM_STMT_RESET",
 -- "COM_STMT_CLOSE" and "Null-Bitmap"; MariaDB: "COM_STMT_BULK_EXECUTE".
 use Rattle.std.specs.Prelude.{◌≡◌, ℕ, ◌+◌, ◌/◌, ◌<◌, ◌≤◌, ◌^◌, Bool, true, false, List, [], ◌∷◌, ◌++◌, length, map}
@@ -21,9 +20,10 @@ use Rattle.mysql_values.specs.Tokens.{question}
 use Rattle.mysql_wire.specs.Stream.{framings}
 use Rattle.mysql_wire.specs.Stream.Numbering.{EachFromZero}
 use Rattle.mysql_receive.specs.declared.param_type.ParamType.{ParamType}
-use Rattle.mysql_receive.specs.Query.{Query, Statement, all_alone, place_count}
+use Rattle.mysql_receive.specs.Query.{Query, Statement, all_alone, max_places, place_count}
 use Rattle.mysql_receive.specs.Layout.{Types, is_type}
-use Rattle.mysql_receive.specs.InForce.{StatementState, nothing_yet}
+use Rattle.mysql_receive.specs.InForce.{StatementState, nothing_yet, freshly_prepared, more_data, with_data, with_types}
+use Rattle.mysql_receive.specs.InForce.{without_data}
 use Rattle.mysql_receive.specs.Reading.{Set}
 use Rattle.mysql_command_rules.specs.Cells.{IsContent}
 
@@ -134,26 +134,6 @@ pub record IsPrepared (statement : Statement) (state : StatementState) : Type 0 
 abbrev pub NoneWaits : Statement → StatementState → Type 0
 NoneWaits statement state = (place : ℕ) → place < place_count statement.query → state.long_data place ≡ None
 
--- behind a prepare: no types, and no data that waits
-abbrev pub freshly_prepared : StatementState
-freshly_prepared = record { prepared = true; types = None; long_data = λ place. None }
-
--- with these types, and with this data
-abbrev pub with_types : StatementState → Option Types → StatementState
-with_types state types = record { prepared = state.prepared; types = types; long_data = state.long_data }
-
-abbrev pub with_data : StatementState → (ℕ → Option (List ℕ)) → StatementState
-with_data state pieces = record { prepared = state.prepared; types = state.types; long_data = pieces }
-
--- without any data that waits
-abbrev pub without_data : StatementState → StatementState
-without_data state = with_data state (λ place. None)
-
--- data for a place goes behind what waits for it
-abbrev pub more_data : (ℕ → Option (List ℕ)) → ℕ → List ℕ → ℕ → Option (List ℕ)
-more_data pieces place bytes other =
-    if place == other then Some (unwrap_or (pieces other) [] ++ bytes) else pieces other
-
 -- COMMANDS
 
 -- A command by what is in force before it, the sets that it carries, and what is in force behind
@@ -162,8 +142,8 @@ pub data IsCommand (statement : Statement) (state : StatementState) : List ℕ �
   -- COM_QUERY: the text
   query : (text : List ℕ) {set : Set} → IsFilled statement.query text set →
       IsCommand statement state (command_number COM_QUERY ∷ text) (set ∷ []) state
-  -- COM_STMT_PREPARE: the query with a question mark for each placeholder, of which there are at most 65535
-  prepare : place_count statement.query ≤ 65535 →
+  -- COM_STMT_PREPARE: the query with a question mark for each placeholder, of which there are no more than can be counted
+  prepare : place_count statement.query ≤ max_places →
       IsCommand statement state (command_number COM_STMT_PREPARE ∷ with_marks statement.query) [] freshly_prepared
   -- COM_STMT_SEND_LONG_DATA: a placeholder's number in two bytes, and data for it
   long_data : (place : ℕ) (bytes : List ℕ) → IsPrepared statement state → place < place_count statement.query → place < 2 ^ 16 →

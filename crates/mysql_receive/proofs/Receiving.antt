@@ -22,19 +22,21 @@ use Rattle.mysql_receive.specs.declared.audit.End.TheVariants as ends
 use Rattle.mysql_receive.specs.declared.receiver.Receiver.TheInside.{Inside}
 use Rattle.mysql_receive.specs.Query.{Statement}
 use Rattle.mysql_receive.specs.InForce.{StatementState, is_waiting, state_after, nothing_yet}
-use Rattle.mysql_receive.specs.Audit.{Audit, Audited, OutOfMemory, IsNoFault, end_by_rest}
-use Rattle.mysql_receive.specs.GoingOn.{ReceiverState, fresh_receiver, ReceiverDecidesBy, ReceiverDecides, ReceiverGoesOn, HasFoundNoFault, Fed, Stops, TakesAll, RunsShort, fault_of_rest}
+use Rattle.mysql_receive.specs.GoingOn as going
+use Rattle.mysql_receive.specs.Audit as audits
+use Rattle.mysql_receive.specs.Audit.{Audit, Reads, nothing, Audited, OutOfMemory, IsNoFault, end_by_rest}
+use Rattle.mysql_receive.specs.GoingOn.{ReceiverState, fresh_receiver, ReceiverDecidesBy, ReceiverDecides, ReceiverGoesOn, HasFoundNoFault, Fed, WhyStopped, TakesAll, RunsShort, fault_of_rest}
 use Rattle.mysql_receive.specs.Taking.{Feeds}
 use Rattle.mysql_receive.specs.Views.{statement_view, data_waiting, state_of, sets_of}
 use Rattle.mysql_receive.specs.Receiving.{IsMemory, answer_by}
 use Rattle.mysql_receive.specs.Parts.{IsOpen, state_of_parts, end_by}
 use Rattle.mysql_receive.specs.Received.{Received, data_in, receiver_state}
-use Rattle.mysql_receive.specs.Inside.{pieces_of, received_of, IsKept}
-use Rattle.mysql_receive.proofs.Looking.{state_after_nil}
+use Rattle.mysql_receive.specs.Inside.{long_data_of, received_of, IsKept}
+use Rattle.mysql_receive.proofs.Auditing.{all_reads, reads_length}
 use Rattle.mysql_receive.proofs.Splits.{bytes_append}
 use Rattle.mysql_receive.proofs.Feeding.{goes_on, takes_append, short_append, none_found, none_taken, start_decides}
 
-kept_data : (xs : List (Option (Vec ℕ))) (k : ℕ) → data_in (pieces_of xs) k ≡ data_waiting xs k
+kept_data : (xs : List (Option (Vec ℕ))) (k : ℕ) → data_in (long_data_of xs) k ≡ data_waiting xs k
 kept_data [] zero = refl
 kept_data [] (suc k) = refl
 kept_data (x ∷ xs) zero = refl
@@ -69,9 +71,9 @@ start_open wire r limit e = subst IsOpen (sym e) (record {
   is_rest = (wire.rests limit 0).0;
 })
 
-pub holds_start : (pieces : Vec (Option (Vec ℕ))) (sets : Vec (Vec Content)) (partial : List ℕ) → pieces.items ≡ [] → sets.items ≡ [] → partial ≡ []
-    → state_of_parts (record { state = record { prepared = false; types = None; long_data = pieces }; sets = sets; count = 0 }) partial None ≡ fresh_receiver
-holds_start pieces sets partial p s h = λ i. record {
+pub holds_start : (waiting : Vec (Option (Vec ℕ))) (sets : Vec (Vec Content)) (partial : List ℕ) → waiting.items ≡ [] → sets.items ≡ [] → partial ≡ []
+    → state_of_parts (record { state = record { prepared = false; types = None; long_data = waiting }; sets = sets; count = 0 }) partial None ≡ fresh_receiver
+holds_start waiting sets partial p s h = λ i. record {
   count = 0;
   state = record { prepared = false; types = None; long_data = data_waiting (p i) };
   partial = h i;
@@ -130,23 +132,25 @@ module _ (r new : Inside) (v : Received) (piece : List ℕ) (o : Option StreamFa
 
 -- a piece without a fault
 takes_by : (c : Statement) (limit : ℕ) (old : ReceiverState) (piece : List ℕ) (new : ReceiverState) → new.fault ≡ None → Fed c limit old piece new → TakesAll c limit old piece new
-takes_by c limit old piece new none fed = by fed.stops
+takes_by c limit old piece new none fed = by fed.each.left fed.each.cut fed.stopped
   where
-    by : Stops c old fed.split (length fed.reads) new → TakesAll c limit old piece new
-    by (inl k) = absurd (let f = sym none ∙ k.3 in cc)
-    by (inr (inl k)) = absurd (let f = sym none ∙ k in cc)
-    by (inr (inr k)) = record {
-      split = fed.split;
-      is_split = fed.is_split;
-      no_fault = sym k.1 ∙ none;
-      partial = (k.2 none).0;
-      count = fed.count ∙ ap (λ (n : ℕ). old.count + n) k.0;
-      reads = fed.reads;
-      each = fed.each;
-      all = k.0;
-      sets = fed.sets;
-      state = (k.2 none).1;
-    }
+    by : (left : List (List ℕ)) → fed.split.payloads ≡ fed.each.front ++ left → WhyStopped c (state_after c old.state fed.each.front) fed.split new left → TakesAll c limit old piece new
+    by left cut (going.fault f h is) = absurd (let g = sym none ∙ is in cc)
+    by left cut (going.memory is) = absurd (let g = sym none ∙ is in cc)
+    by left cut (going.all_read is rests) =
+        let all : fed.split.payloads ≡ fed.each.front = cut ∙ append-nil fed.each.front in
+        let long : length fed.reads ≡ length fed.split.payloads = reads_length c old.state old.count fed.each.front fed.reads fed.each.each ∙ ap length (sym all) in
+        record {
+          split = fed.split;
+          is_split = fed.is_split;
+          no_fault = sym is ∙ none;
+          partial = (rests none).0;
+          count = fed.count ∙ ap (λ (n : ℕ). old.count + n) long;
+          reads = fed.reads;
+          each = subst (λ (l : List (List ℕ)). Reads c old.state old.count l fed.reads) (sym all) fed.each.each;
+          sets = fed.sets;
+          state = (rests none).1 ∙ ap (λ (l : List (List ℕ)). state_after c old.state l) (sym all);
+        }
 
 pub fed_takes : (r new : Inside) (v : Received) (piece : List ℕ) → received_of r ≡ v → new.fault ≡ None → r.fault ≡ None
     → Fed (statement_view r.statement) r.packets.limit (state_of_parts r.progress r.packets.bytes None) piece (state_of_parts new.progress new.packets.bytes None)
@@ -194,15 +198,14 @@ decides_now wire c r kept begun b ending is None e =
     let n : ℕ = r.progress.count in
     let split : Split = record { payloads = []; rest_bytes = r.packets.bytes; rest = k.rest } in
     let is_split : IsSplit r.packets.limit EachFromZero (r.packets.bytes ++ []) split = record { joined = append-nil r.packets.bytes; within = tt; ends = k.is_rest } in
-    let last : ending ≡ end_by_rest c (state_after c s []) (n + 0) k.rest =
+    let last : ending ≡ end_by_rest c s (n + 0) k.rest =
     is ∙ ap (λ (o : Option StreamFault). end_by c (state_of_parts r.progress [] r.fault) begun o) e
-    ∙ ends_now wire c s (n + 0) r.packets.limit k.rest begun r.packets.bytes k.no_fault k.is_rest (told_begun (length r.packets.bytes == 0) begun b)
-    ∙ ap (λ (x : StatementState). end_by_rest c x (n + 0) k.rest) (sym (state_after_nil c s)) in (
+    ∙ ends_now wire c s (n + 0) r.packets.limit k.rest begun r.packets.bytes k.no_fault k.is_rest (told_begun (length r.packets.bytes == 0) begun b) in (
       split,
       [],
       is_split,
       sym (append-nil (sets_of r.progress.sets.items)),
-      record { reads = []; each = record { within = omega arith; each = λ i lt. absurd (omega arith) }; sets = refl; ending = inr (refl, last) },
+      record { reads = []; each = all_reads c s n [] [] nothing; sets = refl; ending = audits.all_read last },
     )
 
 pub finished : ReaderLaws → (r : Inside) (v : Received) (begun : Bool) (ending : End) → received_of r ≡ v → IsKept r → begun ≡ not (length r.packets.bytes == 0) → ending ≡ end_by (statement_view r.statement) (state_of_parts r.progress [] r.fault) begun r.fault
@@ -254,10 +257,9 @@ takes_nothing wire c limit = record {
   partial = refl;
   count = refl;
   reads = [];
-  each = record { within = omega arith; each = λ i lt. absurd (omega arith) };
-  all = refl;
+  each = nothing;
   sets = refl;
-  state = sym (state_after_nil c nothing_yet);
+  state = refl;
 }
 
 pub so_far_nothing : ReaderLaws → (c : Statement) (limit : ℕ) → SoFar c limit [] fresh_receiver

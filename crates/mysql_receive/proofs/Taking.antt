@@ -57,7 +57,6 @@ module _ (c : Statement) (limit : ℕ) (taken : List Set) where
       count = h.count;
       reads = h.reads;
       each = h.each;
-      all = h.all;
       sets = sets_more h.reads h.sets;
       state = h.state;
     }

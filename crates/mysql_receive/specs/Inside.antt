@@ -9,8 +9,8 @@ use Rattle.mysql_receive.specs.Views.{statement_view, types_kept, sets_of}
 use Rattle.mysql_receive.specs.Parts.{IsOpen}
 use Rattle.mysql_receive.specs.Received.{Received}
 
-abbrev pub pieces_of : List (Option (Vec ℕ)) → List (Option (List ℕ))
-pieces_of pieces = map (λ piece. option_map (λ bytes. bytes.items) piece) pieces
+abbrev pub long_data_of : List (Option (Vec ℕ)) → List (Option (List ℕ))
+long_data_of waiting = map (λ found. option_map (λ bytes. bytes.items) found) waiting
 
 abbrev pub received_of : Inside → Received
 received_of r =
@@ -20,7 +20,7 @@ received_of r =
       count = r.progress.count;
       prepared = r.progress.state.prepared;
       types = types_kept r.progress.state.types;
-      long_data = pieces_of r.progress.state.long_data.items;
+      long_data = long_data_of r.progress.state.long_data.items;
       partial = r.packets.bytes;
       sets = sets_of r.progress.sets.items;
       fault = r.fault;

@@ -6,7 +6,8 @@ use Rattle.std.specs.List.{All, AllByRecursion, flat_map, concat}
 use Rattle.mysql_receive.specs.declared.fault.StreamFault.{StreamFault}
 use Rattle.mysql_receive.specs.Query.{IsQuery, Statement}
 use Rattle.mysql_receive.specs.Layout.{Types}
-use Rattle.mysql_receive.specs.InForce.{StatementState, nothing_yet, state_after, last_said}
+use Rattle.mysql_receive.specs.InForce.{StatementState, nothing_yet, state_after}
+use Rattle.mysql_receive.specs.LookingBack.{last_said, looking_back}
 use Rattle.mysql_receive.specs.Reading.{Set, ReadsAs, Faulty, content_at}
 use Rattle.mysql_values.specs.AsSql.{FitsFields}
 use Rattle.mysql_values.specs.Cells.{cell, is_unsigned, type_number}
@@ -17,40 +18,44 @@ use Rattle.mysql_wire.specs.Bytes.{AreBytes}
 use Rattle.mysql_wire.specs.Stream.{IsSplit, Rest, Split, StandWhole, framings}
 use Rattle.mysql_wire.specs.Stream.Numbering.{EachFromZero}
 use Rattle.mysql_receive.specs.declared.audit.End.TheVariants.{Whole}
-use Rattle.mysql_receive.specs.Audit.{Audit, Read, Audits, Audited, AuditOf, IsAbout, IsNoFault, OutOfMemoryIn}
+use Rattle.mysql_receive.specs.Audit.{Audit, Reads, Audits, Audited, AuditOf, IsAbout, IsNoFault, OutOfMemoryIn}
 use Rattle.mysql_receive.specs.GoingOn.{ReceiverState, fresh_receiver, ReceiverDecides, ReceiverGoesOn, Fed, TakesAll}
 use Rattle.mysql_receive.specs.GoingOn.{RunsShort}
 use Rattle.mysql_receive.specs.Receiving.{IsMemory}
 use Rattle.mysql_receive.specs.Taking.{Run, with_sets}
 use Rattle.mysql_receive.specs.declared.fault.StreamFault.TheVariants.{Memory}
 
--- what is in force behind two lists of payloads is what is in force behind the second, from the first on
+-- What is in force behind two lists of payloads is what is in force behind the second, from the first on.
 abbrev pub LookingBackGoesOn : Type 0
 LookingBackGoesOn = (statement : Statement) (state : StatementState) (xs ys : List (List ℕ)) →
     state_after statement state (xs ++ ys) ≡ state_after statement (state_after statement state xs) ys
 
--- a payload that says something, with none behind it that says anything, decides
-abbrev pub LastWordCounts : Type 0
-LastWordCounts =
-    (says : List ℕ → Option (Option Types)) (before word : Option Types)
-    (earlier later : List (List ℕ)) (payload : List ℕ)
-    → says payload ≡ Some word → All (λ other. says other ≡ None) later →
-    last_said says before (earlier ++ payload ∷ later) ≡ word
+-- What is in force can be found by looking back: a payload that says something, with none behind it
+-- that says anything, decides.
+pub record LastWordCounts : Type 0 where
+  pub word : (says : List ℕ → Option (Option Types)) (before word : Option Types)
+      (earlier later : List (List ℕ)) (payload : List ℕ)
+      → says payload ≡ Some word → All (λ other. says other ≡ None) later →
+      last_said says before (earlier ++ payload ∷ later) ≡ word
+  pub back : (statement : Statement) (state : StatementState) (payloads : List (List ℕ)) →
+      state_after statement state payloads ≡ looking_back statement state payloads
 
 -- A payload reads as one list of sets and has no fault, or has one fault and reads as nothing.
-pub record IsJudged (statement : Statement) (state : StatementState) (first : ℕ) (earlier : List (List ℕ))
+pub record IsJudged (statement : Statement) (state : StatementState) (number : ℕ)
     (payload : List ℕ) : Type 0 where
-  pub judged : ((sets : List Set) × ReadsAs statement state first earlier payload sets) ⊎
-      ((f : StreamFault) × Faulty statement state first earlier payload f)
-  pub not_both : (sets : List Set) (f : StreamFault) → ReadsAs statement state first earlier payload sets →
-      Faulty statement state first earlier payload f → ⊥
-  pub sets_one : (xs ys : List Set) → ReadsAs statement state first earlier payload xs →
-      ReadsAs statement state first earlier payload ys → xs ≡ ys
-  pub fault_one : (f g : StreamFault) → Faulty statement state first earlier payload f → Faulty statement state first earlier payload g → f ≡ g
+  pub judged : ((sets : List Set) × ReadsAs statement state number payload sets) ⊎
+      ((f : StreamFault) × Faulty statement state number payload f)
+  pub not_both : (sets : List Set) (f : StreamFault) → ReadsAs statement state number payload sets →
+      Faulty statement state number payload f → ⊥
+  pub sets_one : (xs ys : List Set) → ReadsAs statement state number payload xs →
+      ReadsAs statement state number payload ys → xs ≡ ys
+  pub fault_one : (f g : StreamFault) → Faulty statement state number payload f →
+      Faulty statement state number payload g → f ≡ g
 
 abbrev pub EachPayloadIsJudged : Type 0
-EachPayloadIsJudged = (statement : Statement) (state : StatementState) (first : ℕ) (earlier : List (List ℕ))
-    (payload : List ℕ) → IsQuery statement.query → IsJudged statement state first earlier payload
+EachPayloadIsJudged =
+    (statement : Statement) (state : StatementState) (number : ℕ) (payload : List ℕ) →
+    IsQuery statement.query → IsJudged statement state number payload
 
 -- Of any payloads and rest, whatever is in force before them, there is an audit, and no other.
 abbrev pub ThereIsOneAudit : Type 0
@@ -63,7 +68,8 @@ abbrev pub AuditGoesOn : Type 0
 AuditGoesOn =
     (statement : Statement) (state : StatementState) (first : ℕ) (xs ys : List (List ℕ)) (rest : Rest)
     (reads : List (List Set)) (a : Audit)
-    → Read statement state first xs reads → length reads ≡ length xs → Audits statement (state_after statement state xs) (first + length xs) ys rest a
+    → Reads statement state first xs reads →
+    Audits statement (state_after statement state xs) (first + length xs) ys rest a
     → Audits statement state first (xs ++ ys) rest (record { sets = flat_map (λ sets. sets) reads ++ a.sets; ending = a.ending })
 
 -- Of any bytes there is an audit, and no other.
@@ -104,13 +110,22 @@ PiecesGoOn =
 
 -- What was read of pieces one after another was read of one piece. Where memory ran out over a
 -- piece, it ran out over the pieces before, this one and those behind it.
+pub record ArePiecesTaken (statement : Statement) (limit : ℕ) (old mid new : ReceiverState)
+    (front back : List ℕ) : Type 0 where
+  -- all of both was read
+  pub both_whole : TakesAll statement limit old front mid → TakesAll statement limit mid back new →
+      TakesAll statement limit old (front ++ back) new
+  -- memory ran out over the second
+  pub second_short : TakesAll statement limit old front mid → RunsShort statement limit mid back new →
+      RunsShort statement limit old (front ++ back) new
+  -- memory ran out over the first
+  pub first_short : AreBytes (old.partial ++ front) → AreBytes back →
+      RunsShort statement limit old front new → RunsShort statement limit old (front ++ back) new
+
 abbrev pub PiecesAreTaken : Type 0
 PiecesAreTaken =
-    (statement : Statement) (limit : ℕ) (old mid new : ReceiverState) (front back : List ℕ)
-    → (TakesAll statement limit old front mid → TakesAll statement limit mid back new → TakesAll statement limit old (front ++ back) new)
-    × (TakesAll statement limit old front mid → RunsShort statement limit mid back new → RunsShort statement limit old (front ++ back) new)
-    × (AreBytes (old.partial ++ front) → AreBytes back → RunsShort statement limit old front new →
-    RunsShort statement limit old (front ++ back) new)
+    (statement : Statement) (limit : ℕ) (old mid new : ReceiverState) (front back : List ℕ) →
+    ArePiecesTaken statement limit old mid new front back
 
 -- Over any feeds and takes between them, all sets that were taken, and behind them those of the
 -- end, are the audit of all bytes that were fed; where memory ran out, they are those of the
@@ -130,7 +145,7 @@ FrontsReadOn =
     (statement : Statement) (limit : ℕ) (payloads : List (List ℕ)) (reads : List (List Set))
     (front back : List ℕ) (a : Audit) → IsQuery statement.query
     → AllByRecursion (λ payload. length payload ≤ limit) payloads → framings payloads EachFromZero ≡ front ++ back
-    → Read statement nothing_yet 0 payloads reads → length reads ≡ length payloads → Audited statement limit front a
+    → Reads statement nothing_yet 0 payloads reads → Audited statement limit front a
     → (k : ℕ) × StandWhole EachFromZero payloads front k ×
     (a.sets ≡ flat_map (λ sets. sets) (take k reads)) × IsNoFault a.ending
 

@@ -58,8 +58,8 @@ state_of_parts p partial fault =
       fault = fault;
     }
 
--- the end as things stand: the fault, else by the pieces that wait and by whether a packet was begun
+-- the end as things stand: the fault, else by whether long data waits and whether a packet was begun
 abbrev pub end_by : Statement → ReceiverState → Bool → Option StreamFault → End
-end_by statement h begun (Some f) = ends.Fault h.count f
-end_by statement h begun None = if is_waiting statement h.state then ends.WaitingPieces else if begun then
+end_by statement held begun (Some f) = ends.Fault held.count f
+end_by statement held begun None = if is_waiting statement held.state then ends.WaitingPieces else if begun then
     ends.UnfinishedPacket else ends.Whole

@@ -24,10 +24,10 @@ use Rattle.mysql_wire.specs.WireError.TheVariants.{UnsupportedType}
 use Rattle.mysql_receive.specs.declared.param_type.ParamType.{ParamType}
 use Rattle.mysql_receive.specs.Fields.{◌>>◌, must, number_or}
 use Rattle.mysql_wire.specs.Wire.{◌>>=◌}
-use Rattle.mysql_receive.specs.Query.{Statement, all_alone, place_count}
+use Rattle.mysql_receive.specs.Query.{Statement, all_alone, max_places, place_count}
 use Rattle.mysql_receive.specs.Layout.{Command, command_of, Types, PlaceData, place_data_at, id_at, execute_head, bulk_head}
 use Rattle.mysql_receive.specs.Layout as layout
-use Rattle.mysql_receive.specs.InForce.{StatementState, state_after, is_waiting}
+use Rattle.mysql_receive.specs.InForce.{StatementState, is_waiting}
 
 -- one parameter set of the query: what each place holds
 abbrev pub Set : Type 0
@@ -54,8 +54,8 @@ content_at short t bytes = do
 abbrev pub types_in_force : Statement → StatementState → Option Types → Result Types StreamFault
 types_in_force statement state own = if place_count statement.query == 0 then Ok [] else ok_or (option_or own state.types) NoTypes
 
--- what a place of an execute holds: its pieces; else nothing, where its bit is set; else the
--- content of the cell that stands first
+-- what a place of an execute holds: the long data that waits for it; else NULL, where its bit is
+-- set; else the content of the cell that stands first
 abbrev pub parameter_at : Option (List ℕ) → Bool → ParamType → List ℕ → Result (Content × List ℕ) StreamFault
 parameter_at (Some data_bytes) null t bytes = Ok (content.Bytes data_bytes, bytes)
 parameter_at None true t bytes = Ok (content.Null, bytes)
@@ -63,11 +63,11 @@ parameter_at None false t bytes = content_at BadExecute t bytes
 
 -- what the places from this one on hold, place by place, and no byte after them
 unfoldable pub set_at : (ℕ → Option (List ℕ)) → List ℕ → ℕ → Types → List ℕ → Result Set StreamFault
-set_at pieces nulls place [] [] = Ok []
-set_at pieces nulls place [] (b ∷ bytes) = Err BadExecute
-set_at pieces nulls place (t ∷ types) bytes = do
-  first ← parameter_at (pieces place) (is_null_at 0 nulls place) t bytes
-  others ← set_at pieces nulls (place + 1) types first.1
+set_at waiting nulls place [] [] = Ok []
+set_at waiting nulls place [] (b ∷ bytes) = Err BadExecute
+set_at waiting nulls place (t ∷ types) bytes = do
+  first ← parameter_at (waiting place) (is_null_at 0 nulls place) t bytes
+  others ← set_at waiting nulls (place + 1) types first.1
   Ok (first.0 ∷ others)
 
 -- an execute, as one set
@@ -137,7 +137,7 @@ BulkFaulty statement state body f =
     (bulk_rows statement state body ≡ Err f)
     ⊎ ((types : Types) × (bytes : List ℕ) × (bulk_rows statement state body ≡ Ok (types, bytes)) × FaultyRow types bytes f)
 
--- the piece of a long data command
+-- the data that a long data command sends
 unfoldable pub prepared_data : Statement → StatementState → List ℕ → Result PlaceData StreamFault
 prepared_data statement state body = do
   must NotPrepared state.prepared
@@ -146,7 +146,7 @@ prepared_data statement state body = do
 -- long data, as no set
 unfoldable pub long_data_at : Statement → StatementState → List ℕ → Result (List Set) StreamFault
 long_data_at statement state body = do
-  piece ← prepared_data statement state body
+  sent ← prepared_data statement state body
   Ok []
 
 -- a reset and a close: the id and nothing behind it, as no set
@@ -158,7 +158,8 @@ statement_alone_at statement state body = do
   Ok []
 
 -- A text reads as these contents over a query: it is the query's pieces with a literal of each
--- content between, and its tokens are those of the query and of the literals.
+-- content between, and its tokens are those of the query and of the literals. Where each place
+-- stands alone, the two are one.
 abbrev pub TextReadsAs : List ℕ → List ℕ → Set → Type 0
 TextReadsAs query text contents = Slices query text contents × Lexes query text contents
 
@@ -166,7 +167,7 @@ TextReadsAs query text contents = Slices query text contents × Lexes query text
 abbrev pub CommandReadsAs : Statement → StatementState → Command → List ℕ → List Set → Type 0
 CommandReadsAs statement state layout.Text body sets = IsTrue (all_alone statement.query) ×
     ((contents : Set) × TextReadsAs statement.query.text body contents × (sets ≡ contents ∷ []))
-CommandReadsAs statement state layout.Prepare body sets = (body ≡ statement.query.parsed) × (place_count statement.query ≤ 65535) × (sets ≡ [])
+CommandReadsAs statement state layout.Prepare body sets = (body ≡ statement.query.parsed) × (place_count statement.query ≤ max_places) × (sets ≡ [])
 CommandReadsAs statement state layout.LongData body sets = long_data_at statement state body ≡ Ok sets
 CommandReadsAs statement state layout.Execute body sets = (set : Set) × (execute_at statement state body ≡ Ok set) × (sets ≡ set ∷ [])
 CommandReadsAs statement state layout.Bulk body sets = BulkReadsAs statement state body sets
@@ -178,10 +179,11 @@ CommandReadsAs statement state layout.Other body sets = ⊥
 abbrev pub CommandFaulty : Statement → StatementState → Command → List ℕ → StreamFault → Type 0
 CommandFaulty statement state layout.Text body f =
     (IsFalse (all_alone statement.query) × (f ≡ NotAlone))
-    ⊎ (IsTrue (all_alone statement.query) × ((contents : Set) → Slices statement.query.text body contents → ⊥) × (f ≡ TextMismatch))
+    ⊎ (IsTrue (all_alone statement.query) ×
+    ((contents : Set) → TextReadsAs statement.query.text body contents → ⊥) × (f ≡ TextMismatch))
 CommandFaulty statement state layout.Prepare body f =
     ((body ≢ statement.query.parsed) × (f ≡ PrepareMismatch))
-    ⊎ ((body ≡ statement.query.parsed) × (65535 < place_count statement.query) × (f ≡ TooManyPlaces))
+    ⊎ ((body ≡ statement.query.parsed) × (max_places < place_count statement.query) × (f ≡ TooManyPlaces))
 CommandFaulty statement state layout.LongData body f = long_data_at statement state body ≡ Err f
 CommandFaulty statement state layout.Execute body f = execute_at statement state body ≡ Err f
 CommandFaulty statement state layout.Bulk body f = BulkFaulty statement state body f
@@ -199,13 +201,13 @@ abbrev pub PayloadFaulty : Statement → StatementState → List ℕ → StreamF
 PayloadFaulty statement state [] f = f ≡ EmptyCommand
 PayloadFaulty statement state (b ∷ body) f = CommandFaulty statement state (command_of b) body f
 
--- The payload after these earlier ones reads as these sets, or has this fault. Numbering goes on from first; the
--- payload that would have the number 2 ^ 64 - 1 is too large whatever it holds.
-abbrev pub ReadsAs : Statement → StatementState → ℕ → List (List ℕ) → List ℕ → List Set → Type 0
-ReadsAs statement state first earlier payload sets = (first + length earlier < 2 ^ 64 - 1) ×
-    PayloadReadsAs statement (state_after statement state earlier) payload sets
+-- The payload of this number reads as these sets, or has this fault. The payload that would have
+-- the number 2 ^ 64 - 1 is too large whatever it holds.
+abbrev pub ReadsAs : Statement → StatementState → ℕ → List ℕ → List Set → Type 0
+ReadsAs statement state number payload sets =
+    (number < 2 ^ 64 - 1) × PayloadReadsAs statement state payload sets
 
-abbrev pub Faulty : Statement → StatementState → ℕ → List (List ℕ) → List ℕ → StreamFault → Type 0
-Faulty statement state first earlier payload f =
-    ((2 ^ 64 - 1 ≤ first + length earlier) × (f ≡ TooLarge))
-    ⊎ ((first + length earlier < 2 ^ 64 - 1) × PayloadFaulty statement (state_after statement state earlier) payload f)
+abbrev pub Faulty : Statement → StatementState → ℕ → List ℕ → StreamFault → Type 0
+Faulty statement state number payload f =
+    ((2 ^ 64 - 1 ≤ number) × (f ≡ TooLarge))
+    ⊎ ((number < 2 ^ 64 - 1) × PayloadFaulty statement state payload f)

@@ -23,7 +23,7 @@ pub record Received : Type 0 where
 
 -- the data that waits for a place
 abbrev pub data_in : List (Option (List ℕ)) → ℕ → Option (List ℕ)
-data_in pieces place = option_and_then (λ piece. piece) (slice_get pieces place)
+data_in waiting place = option_and_then (λ found. found) (slice_get waiting place)
 
 -- in place of the bytes that were fed
 abbrev pub receiver_state : Received → ReceiverState

@@ -52,7 +52,7 @@ abbrev pub bulk_head_of : Option Types → CodeBulkHead → BulkHead
 bulk_head_of kept h = record { own = types_carried kept h.own; rows = h.rows.now }
 
 abbrev pub place_data_of : CodePlaceData → PlaceData
-place_data_of p = record { place = p.place; bytes = p.bytes.now }
+place_data_of sent = record { place = sent.place; bytes = sent.bytes.now }
 
 abbrev pub statement_view : CodeStatement → Statement
 statement_view statement = record {
@@ -62,7 +62,8 @@ statement_view statement = record {
 }
 
 abbrev pub data_waiting : List (Option (Vec ℕ)) → ℕ → Option (List ℕ)
-data_waiting pieces place = option_and_then (λ piece. option_map (λ bytes. bytes.items) piece) (slice_get pieces place)
+data_waiting waiting place =
+    option_and_then (λ found. option_map (λ bytes. bytes.items) found) (slice_get waiting place)
 
 abbrev pub state_of : CodeState → StatementState
 state_of state = record { prepared = state.prepared; types = types_kept state.types; long_data = data_waiting state.long_data.items }

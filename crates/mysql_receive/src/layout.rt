@@ -4,18 +4,31 @@ ghost use Rattle.std.specs.Prelude.{◌≡◌, ℕ, ◌+◌, ◌/◌, ◌<◌, �
 ghost use Rattle.std.specs.Prelude.{length};
 ghost use Rattle.std.specs.Option.{option_map};
 ghost use Rattle.mysql_receive.specs.Layout.{type_at, types_at, id_at, place_data_at, binding_at, execute_head, bulk_head};
+ghost use Rattle.mysql_receive.specs.Layout.{are_bulk_flags as are_flags};
 ghost use Rattle.mysql_receive.specs.Query.{place_count};
 ghost use Rattle.mysql_receive.specs.declared.fault.StreamFault.{StreamFault};
 ghost use Rattle.mysql_receive.specs.Views.{Gives, statement_view, execute_head_of, bulk_head_of, place_data_of};
 ghost use Rattle.mysql_receive.specs.Views.{types_carried, types_kept, some_types};
 
 use crate::fault::StreamFault;
-use crate::fields::{read_bytes, is_type_number, read_u8, read_u16, read_u32};
+use crate::fields::{is_type_number, read_bytes, read_u8, read_u16, read_u32};
 use crate::param_type::{OwnTypes, ParamType};
 use crate::refusal::Refusal;
 use crate::statement::Statement;
 use mysql_wire::ParseBuf;
 use std::alloc::Global;
+
+/// The flag of a type whose numbers have no sign.
+const UNSIGNED: u8 = 0x80;
+
+/// The flags of an execute that opens no cursor.
+const NO_CURSOR: u8 = 0;
+
+/// The flag of a bulk that asks for a result for each row.
+const SEND_UNIT_RESULTS: u16 = 0x40;
+
+/// The flag of a bulk that carries types.
+const SEND_TYPES_TO_SERVER: u16 = 0x80;
 
 /// What stands before an execute's cells.
 #[derive(Drop)]
@@ -32,14 +45,14 @@ pub struct BulkHead<'a> {
     pub rows: &'a [u8],
 }
 
-/// A piece of a place's bytes.
+/// Long data for a place.
 #[derive(Drop)]
 pub struct PlaceData<'a> {
     pub place: u16,
     pub bytes: &'a [u8],
 }
 
-/// A pair of a type and a flag.
+/// Reads a type and its flag.
 pub fn read_type(short: StreamFault, bytes: &[u8]) -> Result<(ParamType, &[u8]), Refusal>
     ensures { Gives (λ x. (x.0, x.1.now)) result (type_at short bytes.now) }
 {
@@ -48,7 +61,7 @@ pub fn read_type(short: StreamFault, bytes: &[u8]) -> Result<(ParamType, &[u8]),
         return Err(Refusal::Fault(StreamFault::BadType));
     }
     let (flags, rest) = read_u8(short, rest)?;
-    let unsigned = flags == 128;
+    let unsigned = flags == UNSIGNED;
     if unsigned || flags == 0 {
         Ok((ParamType { number, unsigned }, rest))
     } else {
@@ -56,7 +69,7 @@ pub fn read_type(short: StreamFault, bytes: &[u8]) -> Result<(ParamType, &[u8]),
     }
 }
 
-/// Pairs of a type and a flag.
+/// Reads so many types, one after another.
 pub fn read_types(
     alloc: Global,
     short: StreamFault,
@@ -75,7 +88,7 @@ pub fn read_types(
     Ok((types, rest))
 }
 
-/// What follows the pair of a type in force, where the bytes begin with it.
+/// What follows a type in force, where the bytes begin with it.
 #[inline(always)]
 fn skip_kept_type(kept: ParamType, bytes: &[u8]) -> Option<&[u8]>
     ensures { IfSome result (λ rest. (short : StreamFault) → type_at short bytes.now ≡ Ok (kept, rest.now)) }
@@ -83,7 +96,7 @@ fn skip_kept_type(kept: ParamType, bytes: &[u8]) -> Option<&[u8]>
     let mut buf = ParseBuf(bytes);
     let number = buf.checked_eat_u8()?;
     let flags = buf.checked_eat_u8()?;
-    let unsigned = flags == 128;
+    let unsigned = flags == UNSIGNED;
     let kind = ParamType { number, unsigned };
     if kind == kept && (unsigned || flags == 0) && is_type_number(number) {
         Some(buf.0)
@@ -92,7 +105,7 @@ fn skip_kept_type(kept: ParamType, bytes: &[u8]) -> Option<&[u8]>
     }
 }
 
-/// What follows the pairs of the types in force, where the bytes begin with them.
+/// What follows the types in force, where the bytes begin with them.
 fn skip_kept_types<'a>(kept: &[ParamType], bytes: &'a [u8]) -> Option<&'a [u8]>
     ensures { IfSome result (λ rest. (short : StreamFault) →
         types_at short (length kept.now) bytes.now ≡ Ok (kept.now, rest.now)) }
@@ -104,7 +117,7 @@ fn skip_kept_types<'a>(kept: &[ParamType], bytes: &'a [u8]) -> Option<&'a [u8]>
     Some(rest)
 }
 
-/// Pairs of a type and a flag, of which no list is made where they are those in force.
+/// Reads the types of a command; no list is made of them where they are those in force.
 fn read_own_types<'a>(
     alloc: Global,
     short: StreamFault,
@@ -126,7 +139,7 @@ fn read_own_types<'a>(
     Ok((OwnTypes::Anew(anew), rest))
 }
 
-/// The statement's id.
+/// Reads the statement's id, and answers the bytes behind it.
 pub fn check_id<'a>(statement: &Statement, bytes: &'a [u8]) -> Result<&'a [u8], Refusal>
     ensures { Gives (λ x. x.now) result (id_at (statement_view statement.now) bytes.now) }
 {
@@ -138,7 +151,13 @@ pub fn check_id<'a>(statement: &Statement, bytes: &'a [u8]) -> Result<&'a [u8], 
     }
 }
 
-/// The body of a long data command.
+/// Reads the body of a long data command:
+///
+/// ```text
+/// int<4>      statement_id
+/// int<2>      param_id: the place
+/// string<EOF> data
+/// ```
 pub fn read_long_data<'a>(statement: &Statement, body: &'a [u8]) -> Result<PlaceData<'a>, Refusal>
     ensures { Gives place_data_of result (place_data_at (statement_view statement.now) body.now) }
 {
@@ -183,7 +202,16 @@ fn read_binding<'a>(
     Ok(ExecuteHead { nulls, own, cells })
 }
 
-/// What stands before an execute's cells.
+/// Reads what stands before an execute's cells:
+///
+/// ```text
+/// int<4>       statement_id
+/// int<1>       flags: CURSOR_TYPE_NO_CURSOR
+/// int<4>       iteration_count: 1
+/// binary<var>  null_bitmap, where there are parameters, and what follows
+/// int<1>       new_params_bind_flag
+/// binary<var>  parameter_type and a flag byte, for each parameter, behind a flag of 1
+/// ```
 #[tactic(auto, unfolding(crate::specs::Layout::execute_head))]
 pub fn read_execute_head<'a>(
     alloc: Global,
@@ -196,7 +224,7 @@ pub fn read_execute_head<'a>(
 {
     let rest = check_id(statement, body)?;
     let (cursor, rest) = read_u8(StreamFault::BadExecute, rest)?;
-    if cursor != 0 {
+    if cursor != NO_CURSOR {
         return Err(Refusal::Fault(StreamFault::BadExecute));
     }
     let (count, rest) = read_u32(StreamFault::BadExecute, rest)?;
@@ -214,7 +242,23 @@ pub fn read_execute_head<'a>(
     read_binding(alloc, places, kept, rest)
 }
 
-/// What stands before a bulk's rows.
+/// Whether a bulk has these flags: none, either or both of the two.
+fn are_bulk_flags(flags: u16) -> bool
+    ensures { result ≡ are_flags flags }
+{
+    flags == 0
+        || flags == SEND_UNIT_RESULTS
+        || flags == SEND_TYPES_TO_SERVER
+        || flags == SEND_UNIT_RESULTS + SEND_TYPES_TO_SERVER
+}
+
+/// Reads what stands before a bulk's rows:
+///
+/// ```text
+/// int<4>       statement_id
+/// int<2>       bulk_flags: SEND_UNIT_RESULTS, SEND_TYPES_TO_SERVER
+/// binary<var>  parameter type and a flag byte, for each parameter, where types are sent
+/// ```
 #[tactic(auto, unfolding(crate::specs::Layout::bulk_head))]
 pub fn read_bulk_head<'a>(
     alloc: Global,
@@ -226,10 +270,10 @@ pub fn read_bulk_head<'a>(
 {
     let rest = check_id(statement, body)?;
     let (flags, rest) = read_u16(StreamFault::BadBulk, rest)?;
-    if !matches!(flags, 0 | 64 | 128 | 192) {
+    if !are_bulk_flags(flags) {
         return Err(Refusal::Fault(StreamFault::BadBulk));
     }
-    if flags < 128 {
+    if flags & SEND_TYPES_TO_SERVER != SEND_TYPES_TO_SERVER {
         return Ok(BulkHead {
             own: OwnTypes::Without,
             rows: rest,

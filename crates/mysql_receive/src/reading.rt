@@ -11,9 +11,9 @@ ghost use Rattle.mysql_receive.specs.Reading.{row_at, RowsAt, FaultyRow, BulkRea
 ghost use Rattle.mysql_receive.specs.Views.{Gives, Finds, sets_of, types_carried, types_kept, data_waiting};
 ghost use Rattle.mysql_receive.specs.Views.{statement_view, state_of};
 
-use crate::cells::cell_content;
+use crate::cells::read_content;
 use crate::fault::StreamFault;
-use crate::fields::number1;
+use crate::fields::read_u8;
 use crate::layout::{BulkHead, ExecuteHead, read_bulk_head, read_execute_head};
 use crate::param_type::{OwnTypes, ParamType};
 use crate::refusal::Refusal;

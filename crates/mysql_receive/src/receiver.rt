@@ -20,7 +20,7 @@ use crate::audit::{Audit, End};
 use crate::fault::StreamFault;
 use crate::incoming::read_piece;
 use crate::progress::Progress;
-use crate::reading::waits;
+use crate::reading::has_waiting_data;
 use crate::refusal::Refusal;
 use crate::statement::{Statement, StatementState};
 use mysql_values::laws::tokens_of_a_text;

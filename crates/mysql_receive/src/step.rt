@@ -2,11 +2,12 @@
 
 ghost use Rattle.std.specs.Prelude.{◌≡◌, ℕ, ◌+◌, ◌<◌, ◌^◌, List, [], ◌∷◌, Option, Some, None, Ok, IfOk, OnOk, OnErr};
 ghost use Rattle.std.specs.Prelude.{length, vec_len};
+ghost use Rattle.std.specs.Option.{option_or};
 ghost use Rattle.mysql_receive.specs.Query.{IsQuery, all_alone as is_all_alone};
 ghost use Rattle.mysql_receive.specs.Layout.{Prepare, Text, Execute, Bulk, LongData, Reset, Close, command_of};
-ghost use Rattle.mysql_receive.specs.InForce.{StatementState as InForce, state_after, execute_types, bulk_types};
-ghost use Rattle.mysql_receive.specs.Steps.{prepared_anew, after_execute, after_bulk, after_long_data, after_reset, closed};
-ghost use Rattle.mysql_receive.specs.Steps.{with_more};
+ghost use Rattle.mysql_receive.specs.InForce.{StatementState as InForce, after, after_command, freshly_prepared};
+ghost use Rattle.mysql_receive.specs.InForce.{nothing_yet, more_data, with_data, with_types, without_data};
+ghost use Rattle.mysql_receive.specs.InForce.{bulk_types, execute_types};
 ghost use Rattle.mysql_receive.specs.Reading.{prepared_data, statement_alone_at};
 ghost use Rattle.mysql_receive.specs.Views.{Gives, place_data_of, Judged, PayloadJudged, types_carried, types_kept};
 ghost use Rattle.mysql_receive.specs.Views.{statement_view, state_of, data_waiting};
@@ -23,19 +24,20 @@ use mysql_values::read_text;
 use std::alloc::{AllocError, Global};
 
 impl StatementState {
-    /// Behind a prepare.
+    /// What is in force behind a prepare.
     pub fn prepare(&mut self)
-        ensures { state_of self.new ≡ prepared_anew }
+        ensures { state_of self.new ≡ freshly_prepared }
     {
         self.prepared = true;
         self.types = None;
         self.long_data.clear();
     }
 
-    /// Behind an execute that carries these types, those in force, or none.
+    /// What is in force behind an execute that carries these types, those in force, or none.
     pub fn execute(&mut self, own: OwnTypes)
         ensures { state_of self.new ≡
-            after_execute (state_of self.old) (types_carried (types_kept self.old.types) own) }
+            without_data (with_types (state_of self.old)
+            (option_or (types_carried (types_kept self.old.types) own) (types_kept self.old.types))) }
     {
         if let OwnTypes::Anew(types) = own {
             self.types = Some(types);
@@ -43,24 +45,26 @@ impl StatementState {
         self.long_data.clear();
     }
 
-    /// Behind a reset.
+    /// What is in force behind a reset.
     pub fn reset(&mut self)
-        ensures { state_of self.new ≡ after_reset (state_of self.old) }
+        ensures { state_of self.new ≡ without_data (state_of self.old) }
     {
         self.long_data.clear();
     }
 
-    /// Behind a close.
+    /// What is in force behind a close.
     pub fn close(&mut self)
-        ensures { state_of self.new ≡ closed }
+        ensures { state_of self.new ≡ nothing_yet }
     {
         self.prepare();
         self.prepared = false;
     }
 
-    /// Behind a bulk that carries these types, those in force, or none.
-    pub fn bulk(&mut self, own: OwnTypes)
-        ensures { state_of self.new ≡ after_bulk (state_of self.old) (types_carried (types_kept self.old.types) own) }
+    /// What is in force behind a bulk that carries these types, those in force, or none.
+    pub fn execute_bulk(&mut self, own: OwnTypes)
+        ensures { state_of self.new ≡
+            with_types (state_of self.old)
+            (option_or (types_carried (types_kept self.old.types) own) (types_kept self.old.types)) }
     {
         if let OwnTypes::Anew(types) = own {
             self.types = Some(types);
@@ -103,11 +107,16 @@ fn check_prepare(statement: &Statement, body: &[u8]) -> Result<Carried, Refusal>
 }
 
 impl StatementState {
-    /// Behind data for a place.
-    pub fn add_long_data(&mut self, alloc: Global, place: usize, bytes: &[u8]) -> Result<(), AllocError>
+    /// What is in force behind data for a place.
+    pub fn add_long_data(
+        &mut self,
+        alloc: Global,
+        place: usize,
+        bytes: &[u8],
+    ) -> Result<(), AllocError>
         requires { place < 2 ^ 32 }
         ensures ok { OnOk result (state_of self.new ≡
-            after_long_data (state_of self.old) (record { place = place; bytes = bytes.now })) }
+            with_data (state_of self.old) (more_data (state_of self.old).long_data place bytes.now)) }
         ensures err { OnErr result (state_of self.new ≡ state_of self.old) }
     {
         extend_to(&mut self.long_data, place)?;
@@ -135,7 +144,8 @@ fn append_data(
     bytes: &[u8],
 ) -> Result<(), AllocError>
     requires { place < length long_data.old.items }
-    ensures ok { OnOk result (data_waiting long_data.new.items ≡ with_more (data_waiting long_data.old.items) place bytes.now) }
+    ensures ok { OnOk result (data_waiting long_data.new.items ≡
+        more_data (data_waiting long_data.old.items) place bytes.now) }
     ensures err { OnErr result (data_waiting long_data.new.items ≡ data_waiting long_data.old.items) }
 {
     let waiting = &mut long_data[place];
@@ -156,8 +166,7 @@ fn on_prepare(
 ) -> Result<Carried, Refusal>
     ensures judged { Judged (statement_view statement.now) (state_of state.old) Prepare body.now result }
     ensures ok { OnOk result (state_of state.new ≡
-        state_after (statement_view statement.now) (state_of state.old) ((22 ∷ body.now) ∷
-        [])) }
+        after_command (statement_view statement.now) (state_of state.old) Prepare body.now) }
     ensures err { OnErr result (state_of state.new ≡ state_of state.old) }
 {
     let sets = check_prepare(statement, body)?;
@@ -174,8 +183,7 @@ fn on_execute(
 ) -> Result<Carried, Refusal>
     ensures judged { Judged (statement_view statement.now) (state_of state.old) Execute body.now result }
     ensures ok { OnOk result (state_of state.new ≡
-        after_execute (state_of state.old)
-        (execute_types (statement_view statement.now) body.now)) }
+        after_command (statement_view statement.now) (state_of state.old) Execute body.now) }
     ensures err { OnErr result (state_of state.new ≡ state_of state.old) }
 {
     let (set, own) = read_execute(alloc, statement, state, body)?;
@@ -192,11 +200,11 @@ fn on_bulk(
 ) -> Result<Carried, Refusal>
     ensures judged { Judged (statement_view statement.now) (state_of state.old) Bulk body.now result }
     ensures ok { OnOk result (state_of state.new ≡
-        after_bulk (state_of state.old) (bulk_types (statement_view statement.now) body.now)) }
+        after_command (statement_view statement.now) (state_of state.old) Bulk body.now) }
     ensures err { OnErr result (state_of state.new ≡ state_of state.old) }
 {
     let (sets, own) = read_bulk(alloc, statement, state, body)?;
-    state.bulk(own);
+    state.execute_bulk(own);
     Ok(Carried::Many(sets))
 }
 
@@ -226,8 +234,7 @@ fn on_long_data(
 ) -> Result<Carried, Refusal>
     ensures judged { Judged (statement_view statement.now) (state_of state.old) LongData body.now result }
     ensures ok { OnOk result (state_of state.new ≡
-        state_after (statement_view statement.now) (state_of state.old) ((24 ∷ body.now) ∷
-        [])) }
+        after_command (statement_view statement.now) (state_of state.old) LongData body.now) }
     ensures err { OnErr result (state_of state.new ≡ state_of state.old) }
 {
     let PlaceData { place, bytes } = read_prepared_data(statement, state, body)?;
@@ -237,11 +244,7 @@ fn on_long_data(
 
 /// Reads the body of a reset or a close.
 #[tactic(auto, unfolding(crate::specs::Reading::statement_alone_at))]
-fn check_id_alone(
-    statement: &Statement,
-    state: &StatementState,
-    body: &[u8],
-) -> Result<(), Refusal>
+fn check_id_alone(statement: &Statement, state: &StatementState, body: &[u8]) -> Result<(), Refusal>
     ensures { Gives (λ _. []) result
         (statement_alone_at (statement_view statement.now) (state_of state.now) body.now) }
 {
@@ -263,8 +266,7 @@ fn on_reset(
 ) -> Result<Carried, Refusal>
     ensures judged { Judged (statement_view statement.now) (state_of state.old) Reset body.now result }
     ensures ok { OnOk result (state_of state.new ≡
-        state_after (statement_view statement.now) (state_of state.old) ((26 ∷ body.now) ∷
-        [])) }
+        after_command (statement_view statement.now) (state_of state.old) Reset body.now) }
     ensures err { OnErr result (state_of state.new ≡ state_of state.old) }
 {
     check_id_alone(statement, state, body)?;
@@ -280,8 +282,7 @@ fn on_close(
 ) -> Result<Carried, Refusal>
     ensures judged { Judged (statement_view statement.now) (state_of state.old) Close body.now result }
     ensures ok { OnOk result (state_of state.new ≡
-        state_after (statement_view statement.now) (state_of state.old) ((25 ∷ body.now) ∷
-        [])) }
+        after_command (statement_view statement.now) (state_of state.old) Close body.now) }
     ensures err { OnErr result (state_of state.new ≡ state_of state.old) }
 {
     check_id_alone(statement, state, body)?;
@@ -316,8 +317,7 @@ fn on_command(
     ensures judged { Judged (statement_view statement.now) (state_of state.old)
         (command_of command) body.now result }
     ensures ok { OnOk result (state_of state.new ≡
-        state_after (statement_view statement.now) (state_of state.old)
-        ((command ∷ body.now) ∷ [])) }
+        after_command (statement_view statement.now) (state_of state.old) (command_of command) body.now) }
     ensures err { OnErr result (state_of state.new ≡ state_of state.old) }
 {
     match command {
@@ -342,7 +342,7 @@ pub fn step(
     requires { IsQuery (statement_view statement.now).query }
     ensures judged { PayloadJudged (statement_view statement.now) (state_of state.old) payload.now result }
     ensures ok { OnOk result (state_of state.new ≡
-        state_after (statement_view statement.now) (state_of state.old) (payload.now ∷ [])) }
+        after (statement_view statement.now) (state_of state.old) payload.now) }
     ensures err { OnErr result (state_of state.new ≡ state_of state.old) }
 {
     match payload {

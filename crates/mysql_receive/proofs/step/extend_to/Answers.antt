@@ -1,6 +1,6 @@
 use Rattle.std.proofs.Common.{ap, ◌∙◌}
 use Rattle.mysql_receive.specs.Views.{data_waiting}
-use Rattle.mysql_receive.proofs.Pieces.{pushed_none}
+use Rattle.mysql_receive.proofs.LongData.{pushed_none}
 use Rattle.mysql_receive.proofs.step.extend_to.Goals as goal
 
 pub loop-long_data-preserved : goal.loop-long_data-preserved

@@ -8,4 +8,5 @@ read_text-requires-clause-alone c =
     rw c.deref-2.ensures.value all
 
 pub returns-in-None : goal.returns-in-None
-returns-in-None c = let none = rw (c.in-None.is, c.deref.ensures.value) at c.in_ok-set.ensures.none in λ s. inr (sym c.if-not-all_alone.ensures, none, refl)
+returns-in-None c = let none = rw (c.in-None.is, c.deref.ensures.value) at c.in_ok-set.ensures.none in
+    λ s. inr (sym c.if-not-all_alone.ensures, (λ contents reads. none contents reads.0), refl)

@@ -1,7 +1,7 @@
 use Rattle.std.proofs.Common.{refl, arith}
 use Rattle.std.proofs.lemmas.Result.{err_from_is_err_and}
-use Rattle.mysql_receive.specs.Views.{state_of, sets_carried, statement_view}
-use Rattle.mysql_receive.proofs.Progressing.{reads_first, fails_first}
+use Rattle.mysql_receive.specs.Views.{sets_carried, statement_view}
+use Rattle.mysql_receive.proofs.Progressing.{fails_first}
 use Rattle.mysql_receive.proofs.progress.Progress.read_one.Goals as goal
 
 pub returns-in_err-more-clause-by : goal.returns-in_err-more-clause-by
@@ -13,7 +13,7 @@ pub returns-clause-by : goal.returns-clause-by
 returns-clause-by c =
     record {
       sets = sets_carried c.in_ok-more.more;
-      reads = reads_first (statement_view c.args.statement.now) (state_of c.args.self.now.state) c.args.self.now.count c.args.payload.now (sets_carried c.in_ok-more.more) (omega (arith, c.if-self.false)) c.in_ok-more.ensures.judged;
+      reads = (omega (arith, c.if-self.false), c.in_ok-more.ensures.judged);
       more = c.in_ok-append_to.ensures.ok;
       count = refl;
       state = c.in_ok-more.ensures.ok;
