@@ -2,8 +2,7 @@
 
 ghost use Rattle.std.specs.Prelude.{◌≡◌, [], IfOk, IsOkUnless, None, true};
 ghost use Rattle.std.specs.Cow.{cow_str_bytes};
-ghost use Rattle.std.specs.Str.{encode_utf8_all};
-ghost use Rattle.bstr.specs.Utf8.{lossy_chars};
+ghost use Rattle.mysql_fields.specs.Texts.{lossy_text};
 ghost use Rattle.mysql_fields.specs.Laws.{unsized};
 ghost use Rattle.mysql_fields.specs.Wire.{TellsPart};
 ghost use Rattle.mysql_fields.specs.declared.error.WireError.TheVariants as wire;
@@ -14,19 +13,21 @@ ghost use Rattle.mysql_columns.specs.Columns.{names_in};
 ghost use Rattle.mysql_columns.specs.Views.{column_view, fields_view, names_view};
 
 use crate::headers::{ColumnDefinitionCatalog, FixedLengthFieldsLen};
-use crate::texts::{LenencText, lossy, text_of};
 use bitflags::Flags;
 use mysql_buf::ParseBuf;
 use mysql_const::{ColumnFlags, ColumnType};
 use mysql_field_constants::{Const, Skip};
 use mysql_fields::{
-    LeU16, LeU32, MyDeserialize, MySerialize, ParseExt, RawInt, Readable, ReadsBack, WireError,
-    in_order,
+    LeU16, LeU32, LenEnc, MyDeserialize, MySerialize, ParseExt, RawBytes, RawInt, Readable,
+    ReadsBack, WireError, in_order, lossy_text, read_lenenc_text,
 };
 use std::alloc::{AllocError, Global};
 use std::borrow::CowStr;
 
 /// A column of a result set, or a parameter or a column of a prepared statement.
+///
+/// Promise: `serialize` appends exactly the column's bytes; reading answers exactly what the layout
+/// gives of any bytes, or its refusal, which leaves all bytes (`column`, `column_at`).
 ///
 /// MySQL: Client/Server Protocol, "Column Definition".
 #[derive(Debug, PartialEq, Eq, Drop)]
@@ -73,7 +74,10 @@ impl Column {
         }
     }
 
-    /// The same with this name of its schema, which is copied. Refused for want of memory.
+    /// The column with this name of its schema, which is copied.
+    ///
+    /// # Errors
+    /// - `AllocError` for want of memory.
     pub fn with_schema(mut self, schema: &[u8]) -> Result<Column, AllocError>
         ensures { IfOk result (λ column. column_view column ≡ record (column_view self) { schema = schema.now }) }
     {
@@ -82,7 +86,10 @@ impl Column {
         Ok(self)
     }
 
-    /// The same with this name of its table in the query, which is copied. Refused for want of memory.
+    /// The column with this name of its table in the query, which is copied.
+    ///
+    /// # Errors
+    /// - `AllocError` for want of memory.
     pub fn with_table(mut self, table: &[u8]) -> Result<Column, AllocError>
         ensures { IfOk result (λ column. column_view column ≡ record (column_view self) { table = table.now }) }
     {
@@ -91,7 +98,10 @@ impl Column {
         Ok(self)
     }
 
-    /// The same with this name of its table in the schema, which is copied. Refused for want of memory.
+    /// The column with this name of its table in the schema, which is copied.
+    ///
+    /// # Errors
+    /// - `AllocError` for want of memory.
     pub fn with_org_table(mut self, org_table: &[u8]) -> Result<Column, AllocError>
         ensures { IfOk result (λ column. column_view column ≡ record (column_view self) { org_table = org_table.now }) }
     {
@@ -100,7 +110,10 @@ impl Column {
         Ok(self)
     }
 
-    /// The same with this name in the query, which is copied. Refused for want of memory.
+    /// The column with this name in the query, which is copied.
+    ///
+    /// # Errors
+    /// - `AllocError` for want of memory.
     pub fn with_name(mut self, name: &[u8]) -> Result<Column, AllocError>
         ensures { IfOk result (λ column. column_view column ≡ record (column_view self) { name = name.now }) }
     {
@@ -109,7 +122,10 @@ impl Column {
         Ok(self)
     }
 
-    /// The same with this name in the table, which is copied. Refused for want of memory.
+    /// The column with this name in the table, which is copied.
+    ///
+    /// # Errors
+    /// - `AllocError` for want of memory.
     pub fn with_org_name(mut self, org_name: &[u8]) -> Result<Column, AllocError>
         ensures { IfOk result (λ column. column_view column ≡ record (column_view self) { org_name = org_name.now }) }
     {
@@ -118,7 +134,7 @@ impl Column {
         Ok(self)
     }
 
-    /// The same with these flags.
+    /// The column with these flags.
     pub fn with_flags(mut self, flags: ColumnFlags) -> Column
         ensures { column_view result ≡ record (column_view self) { flags = flags } }
     {
@@ -126,7 +142,7 @@ impl Column {
         self
     }
 
-    /// The same with this length.
+    /// The column with this length.
     pub fn with_column_length(mut self, column_length: u32) -> Column
         ensures { column_view result ≡ record (column_view self) { column_length = column_length } }
     {
@@ -134,7 +150,7 @@ impl Column {
         self
     }
 
-    /// The same with this number of its character set's collation.
+    /// The column with this number of its character set's collation.
     pub fn with_character_set(mut self, character_set: u16) -> Column
         ensures { column_view result ≡ record (column_view self) { character_set = character_set } }
     {
@@ -142,7 +158,7 @@ impl Column {
         self
     }
 
-    /// The same with so many digits behind the decimal point.
+    /// The column with so many digits behind the decimal point.
     pub fn with_decimals(mut self, decimals: u8) -> Column
         ensures { column_view result ≡ record (column_view self) { decimals = decimals } }
     {
@@ -158,13 +174,15 @@ impl Column {
     }
 
     /// The name of the column's schema, as text, where bytes that aren't UTF-8 are replaced.
-    /// Refused for want of memory.
+    ///
+    /// # Errors
+    /// - `Memory`.
     pub fn schema_str(&self, alloc: Global) -> Result<CowStr<'_>, WireError>
         ensures memory { IsOkUnless result wire.Memory }
         ensures value { IfOk result (λ text. cow_str_bytes text ≡
-            encode_utf8_all (lossy_chars (column_view self.now).schema)) }
+            lossy_text (column_view self.now).schema) }
     {
-        lossy(alloc, self.schema_ref())
+        lossy_text(alloc, self.schema_ref())
     }
 
     /// The name of its table in the query, as bytes.
@@ -175,13 +193,15 @@ impl Column {
     }
 
     /// The name of its table in the query, as text, where bytes that aren't UTF-8 are replaced.
-    /// Refused for want of memory.
+    ///
+    /// # Errors
+    /// - `Memory`.
     pub fn table_str(&self, alloc: Global) -> Result<CowStr<'_>, WireError>
         ensures memory { IsOkUnless result wire.Memory }
         ensures value { IfOk result (λ text. cow_str_bytes text ≡
-            encode_utf8_all (lossy_chars (column_view self.now).table)) }
+            lossy_text (column_view self.now).table) }
     {
-        lossy(alloc, self.table_ref())
+        lossy_text(alloc, self.table_ref())
     }
 
     /// The name of its table in the schema, as bytes.
@@ -192,13 +212,15 @@ impl Column {
     }
 
     /// The name of its table in the schema, as text, where bytes that aren't UTF-8 are replaced.
-    /// Refused for want of memory.
+    ///
+    /// # Errors
+    /// - `Memory`.
     pub fn org_table_str(&self, alloc: Global) -> Result<CowStr<'_>, WireError>
         ensures memory { IsOkUnless result wire.Memory }
         ensures value { IfOk result (λ text. cow_str_bytes text ≡
-            encode_utf8_all (lossy_chars (column_view self.now).org_table)) }
+            lossy_text (column_view self.now).org_table) }
     {
-        lossy(alloc, self.org_table_ref())
+        lossy_text(alloc, self.org_table_ref())
     }
 
     /// Its name in the query, as bytes.
@@ -208,13 +230,16 @@ impl Column {
         self.name.as_slice()
     }
 
-    /// Its name in the query, as text, where bytes that aren't UTF-8 are replaced. Refused for want of memory.
+    /// Its name in the query, as text, where bytes that aren't UTF-8 are replaced.
+    ///
+    /// # Errors
+    /// - `Memory`.
     pub fn name_str(&self, alloc: Global) -> Result<CowStr<'_>, WireError>
         ensures memory { IsOkUnless result wire.Memory }
         ensures value { IfOk result (λ text. cow_str_bytes text ≡
-            encode_utf8_all (lossy_chars (column_view self.now).name)) }
+            lossy_text (column_view self.now).name) }
     {
-        lossy(alloc, self.name_ref())
+        lossy_text(alloc, self.name_ref())
     }
 
     /// Its name in the table, as bytes.
@@ -224,13 +249,16 @@ impl Column {
         self.org_name.as_slice()
     }
 
-    /// Its name in the table, as text, where bytes that aren't UTF-8 are replaced. Refused for want of memory.
+    /// Its name in the table, as text, where bytes that aren't UTF-8 are replaced.
+    ///
+    /// # Errors
+    /// - `Memory`.
     pub fn org_name_str(&self, alloc: Global) -> Result<CowStr<'_>, WireError>
         ensures memory { IsOkUnless result wire.Memory }
         ensures value { IfOk result (λ text. cow_str_bytes text ≡
-            encode_utf8_all (lossy_chars (column_view self.now).org_name)) }
+            lossy_text (column_view self.now).org_name) }
     {
-        lossy(alloc, self.org_name_ref())
+        lossy_text(alloc, self.org_name_ref())
     }
 
     /// The number of its character set's collation.
@@ -268,7 +296,10 @@ impl Column {
         self.decimals
     }
 
-    /// A copy. Refused for want of memory.
+    /// A copy.
+    ///
+    /// # Errors
+    /// - `AllocError` for want of memory.
     pub fn clone(&self, alloc: Global) -> Result<Column, AllocError>
         ensures { IfOk result (λ copy. column_view copy ≡ column_view self.now) }
     {
@@ -317,11 +348,11 @@ impl<'a> MySerialize for Names<'a> {
     ghost written = { λ n. column_names (names_view n) };
 
     fn serialize(&self, buf: &mut Vec<u8>) -> Result<(), AllocError> {
-        let schema = LenencText(self.schema);
-        let table = LenencText(self.table);
-        let org_table = LenencText(self.org_table);
-        let name = LenencText(self.name);
-        let org_name = LenencText(self.org_name);
+        let schema: RawBytes<LenEnc> = RawBytes::from(self.schema);
+        let table: RawBytes<LenEnc> = RawBytes::from(self.table);
+        let org_table: RawBytes<LenEnc> = RawBytes::from(self.org_table);
+        let name: RawBytes<LenEnc> = RawBytes::from(self.name);
+        let org_name: RawBytes<LenEnc> = RawBytes::from(self.org_name);
         in_order!(schema, table, org_table, name, org_name).serialize(buf)
     }
 }
@@ -330,11 +361,11 @@ impl<'a> MySerialize for Names<'a> {
 fn names_of<'a>(buf: &mut ParseBuf<'a>) -> Result<Names<'a>, WireError>
     ensures { TellsPart names_view buf.new.0.now result (column_names_at buf.old.0.now) }
 {
-    let schema = text_of(buf)?;
-    let table = text_of(buf)?;
-    let org_table = text_of(buf)?;
-    let name = text_of(buf)?;
-    let org_name = text_of(buf)?;
+    let schema = read_lenenc_text(buf)?;
+    let table = read_lenenc_text(buf)?;
+    let org_table = read_lenenc_text(buf)?;
+    let name = read_lenenc_text(buf)?;
+    let org_name = read_lenenc_text(buf)?;
     Ok(Names {
         schema,
         table,

@@ -20,6 +20,9 @@ use thiserror::Error;
 pub struct InvalidOkPacketHeader;
 
 /// An OK or EOF packet that was read as one of the kind `T`.
+///
+/// Promise: of any bytes and for every kind, those of other crates too, the answer is the header's
+/// byte and then the kind's body; no memory is asked for (`packet_at`).
 #[derive(Drop)]
 #[derive_where(Debug, PartialEq, Eq)]
 pub struct OkPacketDeserializer<'de, T>(OkPacket<'de>, PhantomData<T>);
@@ -32,7 +35,10 @@ impl<'de, T> OkPacketDeserializer<'de, T> {
         self.0
     }
 
-    /// A copy of the packet, which borrows nothing. Refused for want of memory.
+    /// A copy of the packet, which borrows nothing.
+    ///
+    /// # Errors
+    /// - `AllocError` for want of memory.
     pub fn clone(&self, alloc: Global) -> Result<OkPacketDeserializer<'static, T>, AllocError>
         ensures { IfOk result (λ copy. ok_packet_view copy.0 ≡ ok_packet_view self.now.0) }
     {

@@ -16,7 +16,7 @@ use thiserror::Error;
 
 /// A query has both names and question marks as placeholders.
 #[derive(Clone, Copy, Debug, PartialEq, Eq, Hash, Error)]
-#[error("the query has both named and positional parameters")]
+#[error("the query has both named and positional parameters: use one kind")]
 pub struct MixedParamsError;
 
 /// Why a query is not parsed.
@@ -66,8 +66,12 @@ impl<'a> Model for ParsedNamedParams<'a> {
 impl<'a> ParsedNamedParams<'a> {
     /// Parses a query.
     ///
+    /// Promise: the query has question marks for its names, which are listed in order; it is
+    /// refused exactly where both kinds occur (`IsParsed`).
+    ///
     /// # Errors
-    /// `Mixed` where both names and question marks occur, `Memory`.
+    /// - `Mixed` where both names and question marks occur.
+    /// - `Memory`.
     pub fn parse(alloc: Global, query: &'a [u8]) -> Result<ParsedNamedParams<'a>, NamedParamsError>
         ensures query { IfOk result (λ parsed. IsParsed query.entry.now parsed.query) }
         ensures names { IfOk result (λ parsed. HasNames query.entry.now parsed.names) }
@@ -81,8 +85,12 @@ impl<'a> ParsedNamedParams<'a> {
 
     /// Parses a query whose placeholders were found before.
     ///
+    /// Promise: what [`parse`](Self::parse) promises, over places that are the query's
+    /// (`IsParsed`).
+    ///
     /// # Errors
-    /// `Mixed` where both names and question marks occur, `Memory`.
+    /// - `Mixed` where both names and question marks occur.
+    /// - `Memory`.
     pub fn parse_at(
         alloc: Global,
         query: &'a [u8],
@@ -124,7 +132,10 @@ impl<'a> ParsedNamedParams<'a> {
         self.params.as_slice()
     }
 
-    /// A copy of the parsed query, which borrows nothing. Refused for want of memory.
+    /// A copy of the parsed query, which borrows nothing.
+    ///
+    /// # Errors
+    /// - `AllocError` for want of memory.
     pub fn clone(&self, alloc: Global) -> Result<ParsedNamedParams<'static>, AllocError>
         ensures { IfOk result (λ copy. copy ≡ self.now) }
     {
@@ -138,7 +149,7 @@ impl<'a> ParsedNamedParams<'a> {
 }
 
 /// Copies of the names, which borrow nothing.
-fn copied_names(
+pub(crate) fn copied_names(
     alloc: Global,
     names: &[CowSlice<'_, u8>],
 ) -> Result<Vec<CowSlice<'static, u8>>, AllocError>
@@ -171,7 +182,11 @@ pub fn names_among<'a>(
 }
 
 /// The query with a question mark for each placeholder.
-fn with_marks(alloc: Global, query: &[u8], places: &[Place]) -> Result<Vec<u8>, AllocError>
+pub(crate) fn with_marks(
+    alloc: Global,
+    query: &[u8],
+    places: &[Place],
+) -> Result<Vec<u8>, AllocError>
     requires { HasPlaces query.now places.now }
     ensures { IfOk result (λ parsed. parsed.items ≡ join_with_byte question (slices_between query.now 0 places.now)) }
 {

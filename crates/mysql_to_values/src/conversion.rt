@@ -24,8 +24,12 @@ pub trait ToValue {
 
     /// The value that this converts to.
     ///
+    /// Promise: the value is the one that the type's definition says, of callers' impls too;
+    /// `TooLong` is answered exactly where there is none.
+    ///
     /// # Errors
-    /// `TooLong` for a duration of more than 2^32-1 days, `Memory`.
+    /// - `TooLong` for a duration of more than 2^32-1 days.
+    /// - `Memory`.
     fn to_value(&self, alloc: Global) -> Result<Value, ToValueError>
         ensures ok { IfOk result (λ value. as_value self.now ≡ Some value) }
         ensures err { IfErr result (λ e. (e ≡ to_value_error.Memory) ⊎

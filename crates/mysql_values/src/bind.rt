@@ -49,10 +49,10 @@ use thiserror::Error;
 #[derive(Debug, PartialEq, Eq, Hash, Drop, Error)]
 pub enum BindError {
     /// The query has both kinds of placeholder.
-    #[error("the query has both named and positional parameters")]
+    #[error("the query has both named and positional parameters: use one kind")]
     Mixed,
     /// The first placeholder that does not stand alone, counted from 0.
-    #[error("placeholder {0} does not stand alone")]
+    #[error("placeholder {0} does not stand alone: put blanks around it")]
     NotAlone(usize),
     /// The set gives the query no values. This is never `Memory`.
     #[error(transparent)]
@@ -61,7 +61,7 @@ pub enum BindError {
     #[error("the values are not as many as the placeholders")]
     WrongCount,
     /// The first placeholder whose value is a float, counted from 0.
-    #[error("the value of placeholder {0} is a float")]
+    #[error("the value of placeholder {0} is a float: give it as a text")]
     Float(usize),
     #[error("out of memory")]
     Memory,
@@ -217,11 +217,16 @@ pub fn bind_text_over<'a>(
     }
 }
 
-/// [`bind_text`] over the placeholders of the query, as [`places`] lists them, so that many sets
-/// need them found once. Safe for the servers that [`bind_text`] names.
+/// Appends the text of a query whose placeholders were found before, as [`bind_text`] does.
+///
+/// `places` are those that [`places`] lists, so that many sets need them found once. Safe for the
+/// servers that [`bind_text`] names.
+///
+/// Promise: what [`bind_text`] promises, over places that are the query's (`IsBound`,
+/// `IsBindCause`).
 ///
 /// # Errors
-/// Those of [`bind_text`], in its order; nothing is appended then.
+/// - Those of [`bind_text`], in its order; nothing is appended then.
 pub fn bind_text_at(
     alloc: Global,
     query: &[u8],
@@ -244,22 +249,33 @@ pub fn bind_text_at(
     bind_text_over(query, places, &names, params, &mut values, out)
 }
 
-/// Appends the text of a query with the literals of a set's values in the places of its placeholders.
+/// Appends the text of a query with the literals of a set's values in the places of its
+/// placeholders.
 ///
 /// A placeholder is a question mark, or a colon and a name of `a` to `z`, `0` to `9` and `_` that
 /// begins with no digit; the set gives values by these names, without the colon. Names end at the
-/// first other byte: `:aB` is the placeholder `a` before a `B`. `:Name` is none: over `SELECT
-/// :Name` a set that names values is refused by `Params`.
+/// first other byte: `:aB` is the placeholder `a` before a `B`. `:Name` is none: over
+/// `SELECT :Name` a set that names values is refused by `Params`.
 ///
 /// **Safe for** a server that takes backslash escapes (NO_BACKSLASH_ESCAPES isn't in its SQL mode)
-/// over a connection in UTF-8. For
-/// any other a value may end its literal, and what stands behind the quote is read as SQL: send by execution there.
+/// over a connection in UTF-8. For any other a value may end its literal, and what stands behind
+/// the quote is read as SQL: send by execution there.
 ///
 /// An all-zero time is written without its sign.
 ///
+/// Promise: the text has the query's tokens with one literal in each place, and is read as the
+/// set's meaning; else it is refused exactly for its causes, the first one (`IsBound`, `Lexes`,
+/// `Slices`, `IsBindCause`).
+///
 /// # Errors
-/// `Mixed`, `NotAlone` with the first such placeholder, `Params`, `WrongCount`, `Float` with the
-/// first such placeholder, `Memory`; nothing is appended then.
+/// - `Mixed`.
+/// - `NotAlone` with the first such placeholder.
+/// - `Params`.
+/// - `WrongCount`.
+/// - `Float` with the first such placeholder.
+/// - `Memory`.
+///
+/// Nothing is appended after an error.
 pub fn bind_text(
     alloc: Global,
     query: &[u8],
