@@ -6,7 +6,7 @@ use Rattle.std.proofs.lemmas.List.{map_push}
 use Rattle.mysql_receive.specs.Reading.{RowsAt}
 use Rattle.mysql_receive.specs.Views.{sets_of}
 use Rattle.mysql_receive.proofs.Rows.{row_left, rows_more, row_refused}
-use Rattle.mysql_receive.proofs.reading.rows.Goals as goal
+use Rattle.mysql_receive.proofs.reading.read_rows.Goals as goal
 
 pub returns-in_err-set : goal.returns-in_err-set
 returns-in_err-set c =

@@ -1,7 +1,7 @@
 use Rattle.std.proofs.Common.{◌≡◌, ◌≤◌, drop, length, vec_capacity, vec_len}
 use Rattle.mysql_receive.specs.Reading.{columns_at}
 use Rattle.mysql_receive.proofs.Loops.{with_front}
-use Rattle.mysql_receive.proofs.reading.columns.Given as goal
+use Rattle.mysql_receive.proofs.reading.read_columns.Given as goal
 
 abbrev pub invariant-loop-kind : goal.invariant-loop-kind
 invariant-loop-kind l =

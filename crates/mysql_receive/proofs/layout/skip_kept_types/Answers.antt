@@ -3,7 +3,7 @@ use Rattle.std.proofs.lemmas.List.{take_more, take_all}
 use Rattle.mysql_receive.specs.declared.param_type.ParamType.{ParamType}
 use Rattle.mysql_receive.specs.Layout.{Types, types_at}
 use Rattle.mysql_receive.proofs.Loops.{types_go_on, types_done}
-use Rattle.mysql_receive.proofs.layout.behind_kept.Goals as goal
+use Rattle.mysql_receive.proofs.layout.skip_kept_types.Goals as goal
 
 abbrev zero_type : ParamType
 zero_type = record { number = 0; unsigned = false }

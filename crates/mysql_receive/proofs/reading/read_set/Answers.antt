@@ -2,12 +2,12 @@ use Rattle.std.proofs.Common.{◌≡◌, ◌++◌, ◌∷◌, [], get_or, false,
 use Rattle.std.proofs.lemmas.Result.{err_from_is_err_and}
 use Rattle.mysql_receive.specs.declared.param_type.ParamType.{ParamType}
 use Rattle.mysql_receive.specs.Reading.{set_at}
-use Rattle.mysql_receive.specs.Views.{piece_kept}
+use Rattle.mysql_receive.specs.Views.{data_waiting}
 use Rattle.mysql_receive.proofs.Loops.{set_goes_on, set_ends, set_done, set_left, at_place, behind_nothing}
 use Rattle.mysql_receive.proofs.Nulls.{say_all, say_others, says_of}
 use Rattle.mysql_field_lists.specs.NullBitmap.{nulls_of}
 use Rattle.mysql_field_lists.specs.NullBits.{bits_left}
-use Rattle.mysql_receive.proofs.reading.whole_set.Goals as goal
+use Rattle.mysql_receive.proofs.reading.read_set.Goals as goal
 
 abbrev zero_type : ParamType
 zero_type = record { number = 0; unsigned = false }
@@ -15,9 +15,9 @@ zero_type = record { number = 0; unsigned = false }
 pub returns-in_err-next : goal.returns-in_err-next
 returns-in_err-next c =
     let p = err_from_is_err_and c.from_residual-in_err-next.result c.from_residual-in_err-next.ensures.1 in
-    let pieces = piece_kept c.args.statement.now.pieces.items in
+    let waiting = data_waiting c.args.state.now.long_data.items in
     let types = c.args.types.now in
-    rw (p.1, p.2) (set_ends pieces c.args.nulls.now types (set_at pieces c.args.nulls.now 0 types c.args.cells.now) c.in_err-next.field-0.0 c.loop-place.set.items c.loop-place.place (get_or types c.loop-place.place zero_type) c.next_bit-is_null.result c.loop-place.rest.now
+    rw (p.1, p.2) (set_ends waiting c.args.nulls.now types (set_at waiting c.args.nulls.now 0 types c.args.cells.now) c.in_err-next.field-0.0 c.loop-place.set.items c.loop-place.place (get_or types c.loop-place.place zero_type) c.next_bit-is_null.result c.loop-place.rest.now
     (at_place types c.loop-place.place zero_type c.loop-place-test.true)
     (says_of c.args.nulls.now (bits_left c.loop-place.bits) c.loop-place.place (length types) c.next_bit-is_null.result c.loop-place-test.true c.loop-place.invariant.1 c.next_bit-is_null.ensures.bit)
     c.in_err-next.ensures c.loop-place.invariant.0)
@@ -26,7 +26,7 @@ pub loop-place-init : goal.loop-place-init
 loop-place-init c =
     let count = c.bit_count.result in
     let bits : bits_left c.iter-bits.result ≡ nulls_of 0 c.args.nulls.now count = c.iter-bits.ensures ∙ ap (λ bytes. nulls_of 0 bytes.now count) c.from_bytes-bitmap.ensures in (
-      rw c.in_ok-set.ensures.items (behind_nothing (set_at (piece_kept c.args.statement.now.pieces.items) c.args.nulls.now 0 c.args.types.now c.args.cells.now)),
+      rw c.in_ok-set.ensures.items (behind_nothing (set_at (data_waiting c.args.state.now.long_data.items) c.args.nulls.now 0 c.args.types.now c.args.cells.now)),
       rw bits (say_all c.args.nulls.now count (length c.args.types.now) c.bit_count.ensures.all),
       c.in_ok-set.ensures.capacity,
       c.in_ok-set.ensures.len,
@@ -34,10 +34,10 @@ loop-place-init c =
 
 pub loop-place-preserved : goal.loop-place-preserved
 loop-place-preserved c =
-    let pieces = piece_kept c.args.statement.now.pieces.items in
+    let waiting = data_waiting c.args.state.now.long_data.items in
     let types = c.args.types.now in
     let e : c.push_reserved.new.self.items ≡ c.loop-place.set.items ++ c.in_ok-next.next ∷ [] = c.push_reserved.ensures.items in (
-      rw e (set_goes_on pieces c.args.nulls.now types (set_at pieces c.args.nulls.now 0 types c.args.cells.now) c.loop-place.set.items c.loop-place.place (get_or types c.loop-place.place zero_type) c.next_bit-is_null.result c.loop-place.rest.now c.in_ok-next.next c.in_ok-next.after.now
+      rw e (set_goes_on waiting c.args.nulls.now types (set_at waiting c.args.nulls.now 0 types c.args.cells.now) c.loop-place.set.items c.loop-place.place (get_or types c.loop-place.place zero_type) c.next_bit-is_null.result c.loop-place.rest.now c.in_ok-next.next c.in_ok-next.after.now
           (at_place types c.loop-place.place zero_type c.loop-place-test.true)
           (says_of c.args.nulls.now (bits_left c.loop-place.bits) c.loop-place.place (length types) c.next_bit-is_null.result c.loop-place-test.true c.loop-place.invariant.1 c.next_bit-is_null.ensures.bit)
           c.in_ok-next.ensures c.loop-place.invariant.0),
@@ -48,12 +48,12 @@ loop-place-preserved c =
 
 pub returns-then-not-is_empty : goal.returns-then-not-is_empty
 returns-then-not-is_empty c =
-    let pieces = piece_kept c.args.statement.now.pieces.items in
+    let waiting = data_waiting c.args.state.now.long_data.items in
     let types = c.args.types.now in
-    set_left pieces c.args.nulls.now types (set_at pieces c.args.nulls.now 0 types c.args.cells.now) c.loop-place.set.items c.loop-place.place c.loop-place.rest.now c.loop-place-test.false c.if-not-is_empty.ensures c.loop-place.invariant.0
+    set_left waiting c.args.nulls.now types (set_at waiting c.args.nulls.now 0 types c.args.cells.now) c.loop-place.set.items c.loop-place.place c.loop-place.rest.now c.loop-place-test.false c.if-not-is_empty.ensures c.loop-place.invariant.0
 
 pub returns : goal.returns
 returns c =
-    let pieces = piece_kept c.args.statement.now.pieces.items in
+    let waiting = data_waiting c.args.state.now.long_data.items in
     let types = c.args.types.now in
-    set_done pieces c.args.nulls.now types (set_at pieces c.args.nulls.now 0 types c.args.cells.now) c.loop-place.set.items c.loop-place.place c.loop-place.rest.now c.loop-place-test.false c.if-not-is_empty.ensures c.loop-place.invariant.0
+    set_done waiting c.args.nulls.now types (set_at waiting c.args.nulls.now 0 types c.args.cells.now) c.loop-place.set.items c.loop-place.place c.loop-place.rest.now c.loop-place-test.false c.if-not-is_empty.ensures c.loop-place.invariant.0

@@ -2,7 +2,7 @@ use Rattle.std.proofs.Common.{◌≡◌, ◌++◌, ◌∷◌, []}
 use Rattle.std.proofs.lemmas.Result.{err_from_is_err_and}
 use Rattle.mysql_receive.specs.Layout.{types_at}
 use Rattle.mysql_receive.proofs.Loops.{types_go_on, types_end, types_done}
-use Rattle.mysql_receive.proofs.layout.types.Goals as goal
+use Rattle.mysql_receive.proofs.layout.read_types.Goals as goal
 
 pub returns-in_err-next : goal.returns-in_err-next
 returns-in_err-next c =
