@@ -1,3 +1,5 @@
+//! What a stream of commands says.
+
 use crate::fault::StreamFault;
 use mysql_values::Content;
 use std::fmt;
