@@ -67,8 +67,8 @@ fn all_alone(places: &[Place]) -> bool
 
 /// The statement of a query, with this id.
 fn make_statement(alloc: Global, query: &[u8], stmt_id: u32) -> Result<Statement, ReceiverError>
-    ensures query { IfOk result (λ c. IsQuery (statement_view c).query) }
-    ensures about { IfOk result (λ c. IsAbout (statement_view c) query.now stmt_id) }
+    ensures query { IfOk result (λ statement. IsQuery (statement_view statement).query) }
+    ensures about { IfOk result (λ statement. IsAbout (statement_view statement) query.now stmt_id) }
     ensures one_kind { OnOk result (HasMixed query.now false) }
     ensures mixed { IfErr result (λ e. (e ≡ receiver_error.Memory) ⊎
         ((e ≡ receiver_error.Mixed) × HasMixed query.now true)) }
@@ -91,8 +91,8 @@ fn copied_statement(
 ) -> Result<Statement, AllocError>
     requires parsed { IsParsed query.now parsed.now }
     requires places { HasPlaces query.now places.now }
-    ensures query { IfOk result (λ c. IsQuery (statement_view c).query) }
-    ensures about { IfOk result (λ c. IsAbout (statement_view c) query.now stmt_id) }
+    ensures query { IfOk result (λ statement. IsQuery (statement_view statement).query) }
+    ensures about { IfOk result (λ statement. IsAbout (statement_view statement) query.now stmt_id) }
 {
     tokens_of_a_text();
     let places = Vec::from_slice(alloc, places)?;
