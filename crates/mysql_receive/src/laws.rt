@@ -8,8 +8,9 @@ ghost use Rattle.mysql_receive.specs.Laws.{ThereIsOneAudit, WholeStreamsJoin, Wr
 use mysql_values::laws::{cells_read_back, one_reading, texts_are_decided, tokens_of_a_text};
 use mysql_wire::laws::{fronts_split, reader_laws};
 
-/// What is in force behind two lists of payloads is what is in force behind the second, from the
-/// first on.
+/// Looking back over joined payloads is looking back over the second ones from the first.
+///
+/// What is in force behind the first list is what looking back over the second begins with.
 pub fn looking_back_goes_on()
     ensures { LookingBackGoesOn }
 {}
@@ -70,9 +71,9 @@ pub fn start_decides_the_audit()
     ensures { StartDecidesTheAudit }
 {}
 
-/// What is held after a piece decides what was decided before it.
+/// What is held after a piece decides what was decided before it, over the piece too.
 ///
-/// That is over the piece and the bytes still to come, or memory ran out over the piece.
+/// That is over the piece and the bytes still to come; or memory ran out over the piece.
 pub fn feeding_goes_on()
     ensures { FeedingGoesOn }
 {
@@ -91,9 +92,9 @@ pub fn pieces_are_taken()
     reader_laws();
 }
 
-/// All sets that were taken of a receiver, and behind them those of its end, are the audit.
+/// The sets that were taken of a receiver and those of its end are, joined, the audit.
 ///
-/// That is the audit of what it was fed, or of its first payloads where memory ran out.
+/// It is the audit of all that the receiver was fed, or of its first payloads where memory ran out.
 pub fn taken_sets_are_the_audit()
     ensures { TakenSetsAreTheAudit }
 {

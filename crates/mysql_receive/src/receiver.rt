@@ -1,9 +1,4 @@
 //! Reading a stream of commands back as it comes, piece by piece.
-//!
-//!     let mut receiver = Receiver::new(alloc, b"SELECT :a", stmt_id, limit)?;
-//!     receiver.feed(&piece)?;
-//!     let sets = receiver.take_sets();
-//!     let Audit { sets, end } = receiver.finish();
 
 ghost use Rattle.std.specs.Prelude.{◌≡◌, ◌≢◌, ◌≤◌, ◌⊎◌, [], true, false, None, Err, IfErr, IfOk, IfSome, OnOk, length};
 ghost use Rattle.std.specs.List.{list_all};
@@ -107,6 +102,13 @@ fn copied_statement(
 
 /// Reads a stream of commands about one query that is handed over in pieces.
 ///
+///     let mut receiver = Receiver::new(alloc, b"SELECT :a", 1, 1 << 24)?;
+///     while let Some(piece) = next_piece()? {
+///         receiver.feed(piece)?;
+///         for set in receiver.take_sets() { .. }
+///     }
+///     let audit = receiver.finish();
+///
 /// Contracts see what it holds in place of the bytes that it was fed: the payloads read, what is in
 /// force behind them, the bytes of the packet that isn't whole, the sets so far, and the fault.
 #[derive(Drop)]
@@ -164,9 +166,7 @@ fn end_now(
 impl Receiver {
     /// A receiver of a stream of commands about this query, whose statement was given this id.
     ///
-    /// The limit is the `max_allowed_packet` of the side that the packets go to, and at least 4.
-    /// Calls that write count 4 bytes for a packet's header in it: a payload has at most `limit -
-    /// 4` bytes. Calls that read count the payload alone: it has at most `limit` bytes.
+    /// `limit` is the most bytes of a payload: the `max_allowed_packet` of this side, at least 4.
     ///
     /// # Errors
     /// - `Mixed` where both names and question marks occur in the query.
@@ -189,10 +189,10 @@ impl Receiver {
         Ok(Receiver::of_statement(alloc, statement, limit))
     }
 
-    /// [`Receiver::new`] over what was found of the query before, which is copied.
+    /// [`Receiver::new`] over what was found of the query before.
     ///
     /// That is its placeholders, as `mysql_values::places` lists them, and its text with a question
-    /// mark for each, as `ParsedNamedParams` makes it.
+    /// mark for each, as `ParsedNamedParams` makes it. They are copied.
     ///
     /// # Errors
     /// - `AllocError` for want of memory.
@@ -243,17 +243,19 @@ impl Receiver {
 
     /// Takes the next piece of the stream, of any length.
     ///
-    /// Promise: what is held decides, over all bytes to come, what was decided before over the piece
-    /// and them; after a fault it answers that fault and changes nothing (`HasFoundNoFault`,
+    /// What is held after it decides, over all bytes to come, what was decided before it over the
+    /// piece and them. No more is held of the bytes than the packet that isn't whole. A fault that
+    /// needs no more bytes is answered at once: after `Ok` what came ends without one.
+    ///
+    /// Promise: what is held decides, over all bytes to come, what was decided before over the
+    /// piece and them; after a fault it answers that fault and changes nothing (`HasFoundNoFault`,
     /// `TakesAll`, `RunsShort`).
     ///
-    /// No more is held of the bytes than the packet that isn't whole. A fault that needs no more
-    /// bytes is answered at once: after `Ok` what came ends without one. Where memory ran out, what
-    /// was read of the payloads before stays.
-    ///
     /// # Errors
-    /// - The first fault of the stream.
-    /// - [`StreamFault::Memory`] where a growth was refused.
+    /// - The first fault of the stream, [`StreamFault::Memory`] where a growth was refused.
+    ///
+    /// From then on each call answers that fault and changes nothing. Where memory ran out, what
+    /// was read of the payloads before stays.
     ///
     /// Follows the MySQL Client/Server Protocol, "MySQL Packets" and "Command Phase".
     pub fn feed(&mut self, piece: &[u8]) -> Result<(), StreamFault>
@@ -294,15 +296,15 @@ impl Receiver {
         }
     }
 
-    /// How many bytes are held of the packet that isn't whole.
+    /// How many bytes are held of the packet that isn't whole. It takes no memory.
     ///
-    /// Promise: how many bytes are held of the packet that isn't whole, at most `most_kept limit`; 0
-    /// after a fault (`bytes_kept`, `most_kept`).
+    /// They are those that came of it, but for the headers of its chunks, of which only one that
+    /// doesn't stand whole is held. They are fewer than the limit; where the limit has room for
+    /// full chunks and at most three bytes more, up to three more than those chunks hold. After a
+    /// fault none are held.
     ///
-    /// These are the bytes that came of it, but for the headers of its chunks, of which only one that
-    /// doesn't stand whole is held. They are fewer than the limit; where the limit has room for full
-    /// chunks and at most three bytes more, up to three more than those chunks hold. It takes no
-    /// memory.
+    /// Promise: the count is stated in closed form, and is at most `most_kept limit`; it is 0 after
+    /// a fault (`bytes_kept`, `most_kept`).
     ///
     /// Follows the MySQL Client/Server Protocol, "MySQL Packets".
     pub fn kept(&self) -> usize
@@ -329,17 +331,17 @@ impl Receiver {
         &self.progress.sets
     }
 
-    /// Takes the sets that were read and not taken yet, in their order, place by place.
+    /// Takes the sets that were read and not taken yet, in their order. It takes no memory.
     ///
-    /// Promise: the sets that stand and weren't taken are handed out in order, and nothing else
-    /// changes; no memory is asked for (`HandsOut`).
-    ///
-    /// They can be taken also after a fault, and after [`StreamFault::Memory`].
+    /// They are handed out place by place, also after a fault, and after [`StreamFault::Memory`].
     /// What is handed out isn't held any more, and nothing else changes: the next sets, and those
     /// of `finish`, follow on it, and all of them in a row are those of the audit of what was fed.
     /// So a receiver from which sets are taken as they come holds of a stream of any length at most
     /// one packet within the limit ([`Receiver::kept`]), the long data that waits for an execution,
     /// and the types in force.
+    ///
+    /// Promise: the sets that stand and weren't taken are handed out in order, and nothing else
+    /// changes (`HandsOut`).
     ///
     /// Follows the MySQL Client/Server Protocol, "Command Phase".
     pub fn take_sets(&mut self) -> Vec<Vec<Content>>
@@ -352,13 +354,13 @@ impl Receiver {
         mem::replace(&mut self.progress.sets, none)
     }
 
-    /// The audit of what was fed, but for the sets that were taken before.
+    /// The audit of what was fed, but for the sets that were taken before. It takes no memory.
     ///
-    /// Promise: the audit that is decided over no more bytes, and no memory is asked for (`AuditOf`).
+    /// [`Receiver::take_sets`] takes them. After [`StreamFault::Memory`] its sets, behind those
+    /// that were taken, are those of the stream's first payloads, as many as its end counts: at
+    /// least those that stood whole before the `feed` that answered it.
     ///
-    /// After [`StreamFault::Memory`] its sets, behind those that were taken, are those of the
-    /// stream's first payloads, as many as its end counts: at least those that stood whole before
-    /// the `feed` that answered it.
+    /// Promise: the answer is the audit that is decided over no more bytes (`AuditOf`).
     pub fn finish(self) -> Audit
         ensures { ReceiverDecides self.statement self.limit (receiver_state self) [] (audit_of result) }
     {

@@ -14,20 +14,16 @@ use mysql_buf::laws::are_bytes;
 use mysql_wire::laws::reader_laws;
 use std::alloc::Global;
 
-/// The audit of the stream of commands whose bytes are those of the pieces.
+/// The audit of the stream of commands that these pieces are, however they are cut.
 ///
-/// Promise: of any bytes in any pieces the answer is exactly the audit: the sets of all payloads
-/// before the first faulty one, and the end (`AuditOf`); out of memory at least those that stood
-/// whole in the pieces before (`OutOfMemoryIn`).
-///
-/// The pieces come one after another, however they are cut.
 /// The statement was given the id `stmt_id`. Where memory runs out over a piece, the audit's end is
 /// a fault by that name, and its sets are those of the first payloads, as many as the end counts:
 /// at least those that stand whole in the pieces before.
 ///
-/// The limit is the `max_allowed_packet` of the side that the packets go to, and at least 4. Calls
-/// that write count 4 bytes for a packet's header in it: a payload has at most `limit - 4` bytes.
-/// Calls that read count the payload alone: it has at most `limit` bytes.
+/// `limit` is the most bytes of a payload: the `max_allowed_packet` of this side, at least 4.
+///
+/// Promise: of any bytes in any pieces the answer is exactly the audit: the sets of all payloads
+/// before the first faulty one, and the end (`AuditOf`, `OutOfMemoryIn`).
 ///
 /// # Errors
 /// - `Mixed` where both names and question marks occur in the query.
