@@ -2,11 +2,10 @@
 
 ghost use Rattle.mysql_cells.specs.AsSql.{FitsFields};
 ghost use Rattle.mysql_cells.specs.CellLaws.{CellLength, CellsReadBack, ReadBackMeansTheSame};
-ghost use Rattle.mysql_buf.specs.Bytes.{AreBytes};
 ghost use Rattle.std.specs.List.{AllByRecursion};
-ghost use Rattle.std.specs.Prelude.{◌<◌, ◌^◌, length};
 
 use crate::value::Value;
+use mysql_buf::laws::are_bytes;
 
 /// A cell has the length that `Value::bin_len` counts.
 pub fn cells_have_lengths()
@@ -21,15 +20,6 @@ pub fn cells_read_back()
     ensures same { CellsReadBack }
     ensures content { ReadBackMeansTheSame }
 {}
-
-/// A slice holds bytes, fewer than 2^64.
-fn are_bytes(bytes: &[u8])
-    ensures bytes { AreBytes bytes.now }
-    ensures length { length bytes.now < 2 ^ 64 }
-{
-    let _first = bytes.first();
-    let _length = bytes.len();
-}
 
 /// Each number of a value fits its field.
 pub fn fields_fit(value: &Value)

@@ -1,4 +1,9 @@
-//! Executions of prepared statements.
+//! Executions of prepared statements: the values in the binary format, and those that go as long
+//! data.
+//!
+//!     let builder = ComStmtExecuteRequestBuilder::new(stmt_id);
+//!     let (request, apart) = builder.build(alloc, &values)?;
+//!     request.serialize(&mut payload)?;
 
 ghost use Rattle.std.specs.Prelude.{◌≡◌, ◌++◌, ◌∷◌, ◌<◌, ◌≤◌, IfOk, None, OnOk, Some, SomeIff, flat_map, if◌then◌else◌};
 ghost use Rattle.std.specs.Prelude.{is_none, length, map, nat_lt, take};
@@ -50,6 +55,9 @@ impl ComStmtExecuteRequestBuilder {
     ///
     /// The values are at most 65535. An execution without values has 10 bytes, and counts as one of
     /// 11 here.
+    ///
+    /// Promise: that is so exactly where the whole execution, as it is counted, has more bytes
+    /// (`whole_size`).
     ///
     /// MySQL: Client/Server Protocol, "COM_STMT_EXECUTE".
     pub fn exceeds(values: &[&Value], most: usize) -> bool
