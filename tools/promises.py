@@ -71,6 +71,15 @@ def modules(module):
         yield from modules(inner)
 
 
+def public_items(home):
+    """Each public item of a crate, and each call, field and variant in it, with its name."""
+    for module in modules(crate(home)):
+        within = [(item.name, item.parts) for item in module.items.values()] + module.impls
+        yield from module.items.items()
+        for owner, parts in within:
+            yield from ((f'{owner}::{part.name}', part) for part in parts)
+
+
 def calls_of(home):
     """Each item and each call of a crate, by its name, that has a promise; and each law."""
     for module in modules(crate(home)):

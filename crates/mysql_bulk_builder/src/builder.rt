@@ -245,9 +245,9 @@ impl<'a> ComStmtBulkExecuteRequestBuilder<'a> {
     /// or where `usize::MAX` rows are held: build their request first, and then add it again. The
     /// first row taken sets how many values each row has, over builds too.
     ///
-    /// Promise: the row is taken exactly where it has the arity and there is room, given back where
-    /// rows are held and there is none, and else refused; a refused call changes nothing (`Adds`,
-    /// `GivesBack`).
+    /// Promise: the row is taken exactly where it has the arity, fewer than `usize::MAX` rows are
+    /// held and there is room, given back where rows are held and there is none, and else refused;
+    /// a refused call changes nothing (`Adds`, `GivesBack`).
     ///
     /// # Errors
     /// `MixedArity`; `RowTooLarge` with the row where no rows are held and it fits no request;

@@ -1,7 +1,8 @@
 -- The text of a value in a query, and what it means. MySQL Reference Manual, "Literal Values":
 -- "String Literals", "Numeric Literals", "Date and Time Literals", "Hexadecimal Literals", "NULL
 -- Values"; of the SQL mode NO_BACKSLASH_ESCAPES: "Server SQL Modes".
-use Rattle.std.specs.Prelude.{ℕ, pos, ◌+◌, ◌*◌, ◌-◌, ◌==◌, ◌&&◌, ◌||◌, Bool, true, false, not, if◌then◌else◌, List, [], ◌∷◌}
+use Rattle.std.specs.Prelude.{ℕ, pos, ◌+◌, ◌*◌, ◌-◌, ◌==◌, ◌&&◌, ◌||◌, Bool, true, false, not, if◌then◌else◌, List, []}
+use Rattle.std.specs.Prelude.{◌∷◌}
 use Rattle.std.specs.Prelude.{◌++◌, length, replicate, flat_map, codes, is_none, Option, Some, None}
 use Rattle.std.specs.Fmt.{decimal, signed_decimal, sign_text}
 use Rattle.std.specs.List.{position_from}

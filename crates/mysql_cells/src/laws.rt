@@ -22,6 +22,8 @@ pub fn cells_read_back()
 {}
 
 /// Each number of a value fits its field.
+///
+/// It only reads: compiled with optimizations, nothing is left of it.
 pub fn fields_fit(value: &Value)
     ensures { FitsFields value.now }
 {
@@ -52,6 +54,8 @@ pub fn fields_fit(value: &Value)
 }
 
 /// Each number of each value fits its field.
+///
+/// It only reads: compiled with optimizations, nothing is left of its loop.
 pub fn all_fields_fit(values: &[Value])
     ensures { AllByRecursion (λ value. FitsFields value) values.now }
 {

@@ -383,7 +383,7 @@ impl<'a> HandshakePacket<'a> {
         self.lent().into_owned(alloc)
     }
 
-    // The same packet, whose texts are lent.
+    // The packet with its texts borrowed from this one.
     fn lent(&self) -> HandshakePacket<'_>
         ensures { handshake_view result ≡ handshake_view self.now }
     {
@@ -504,7 +504,7 @@ impl<'a> Readable for HandshakePacket<'a> {
     }
 }
 
-// The first eight bytes.
+// Takes the first eight bytes.
 #[tactic(auto, unfolding(mysql_buf::specs::Reading::first))]
 fn eight_bytes(buf: &mut ParseBuf) -> Result<[u8; 8], WireError>
     ensures { Tells (λ bytes. bytes) buf.old.0.now buf.new.0.now result (bytes_at 8 buf.old.0.now) }

@@ -19,7 +19,8 @@ value_of (borrowed.UInt n) = value.UInt n
 value_of (borrowed.Float bits) = value.Float bits
 value_of (borrowed.Double bits) = value.Double bits
 value_of (borrowed.Date year month day hour minute second micros) = value.Date year month day hour minute second micros
-value_of (borrowed.Time negative days hours minutes seconds micros) = value.Time negative days hours minutes seconds micros
+value_of (borrowed.Time negative days hours minutes seconds micros) =
+    value.Time negative days hours minutes seconds micros
 
 -- the bytes that were read, none where nothing was
 abbrev pub bytes_read : Option (List ℕ × List ℕ) → List ℕ

@@ -8,8 +8,10 @@
 ghost use Rattle.std.specs.Prelude.{◌≡◌, IfOk, None, Some, false, not, true, ℕ};
 ghost use Rattle.mysql_fields.specs.Laws.{unsized};
 ghost use Rattle.mysql_fields.specs.Wire.{Tells, TellsPart};
-ghost use Rattle.mysql_server_packets.specs.Packets.{Error, ErrPacket as ErrPacketFields, Progress, err_body_at, err_packet};
-ghost use Rattle.mysql_server_packets.specs.Packets.{err_packet_at, error_at, error_code_at, holds_error, is_progress_code};
+ghost use Rattle.mysql_server_packets.specs.Packets.{Error, ErrPacket as ErrPacketFields, Progress, err_body_at};
+ghost use Rattle.mysql_server_packets.specs.Packets.{err_packet};
+ghost use Rattle.mysql_server_packets.specs.Packets.{err_packet_at, error_at, error_code_at, holds_error};
+ghost use Rattle.mysql_server_packets.specs.Packets.{is_progress_code};
 ghost use Rattle.mysql_server_packets.specs.Packets.{protocol_41};
 ghost use Rattle.mysql_server_packets.specs.Texts.{err_packet_text};
 ghost use Rattle.mysql_server_packets.specs.Views.{err_packet_view, progress_report_view, server_error_view};

@@ -8,8 +8,10 @@ ghost use Rattle.mysql_fields.specs.Laws.{unsized};
 ghost use Rattle.mysql_fields.specs.Wire.{TellsPart};
 ghost use Rattle.mysql_fields.specs.declared.error.WireError.TheVariants as wire;
 ghost use Rattle.mysql_server_packets.specs.PacketLaws.{progress_body_at-back};
-ghost use Rattle.mysql_server_packets.specs.Packets.{IsProgressReport, ProgressReport as ProgressReportFields, numbers_in};
-ghost use Rattle.mysql_server_packets.specs.Packets.{progress_body, progress_body_at, stage_progress, stage_progress_at};
+ghost use Rattle.mysql_server_packets.specs.Packets.{IsProgressReport, ProgressReport as ProgressReportFields};
+ghost use Rattle.mysql_server_packets.specs.Packets.{numbers_in};
+ghost use Rattle.mysql_server_packets.specs.Packets.{progress_body, progress_body_at, stage_progress};
+ghost use Rattle.mysql_server_packets.specs.Packets.{stage_progress_at};
 ghost use Rattle.mysql_server_packets.specs.Texts.{lossy, progress_report_text, share_text};
 ghost use Rattle.mysql_server_packets.specs.Views.{progress_report_view, stage_progress_view};
 

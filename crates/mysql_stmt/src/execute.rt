@@ -348,7 +348,7 @@ fn put_text(text: &[u8], buf: &mut Vec<u8>) -> Result<(), AllocError>
     Ok(())
 }
 
-// The same of one whose length has two bytes behind its mark.
+// Appends a byte string whose length has two bytes behind its mark.
 #[inline(always)]
 fn put_marked_text(text: &[u8], buf: &mut Vec<u8>) -> Result<(), AllocError>
     requires least { 250 < length text.now }
@@ -364,7 +364,7 @@ fn put_marked_text(text: &[u8], buf: &mut Vec<u8>) -> Result<(), AllocError>
     Ok(())
 }
 
-// The same of one that isn't short, by a call that copies it.
+// Appends a byte string that isn't short, by a call that copies it.
 #[inline(never)]
 fn put_long_text(text: &[u8], buf: &mut Vec<u8>) -> Result<(), AllocError>
     ensures { Appends result buf.old.items buf.new.items (lenenc_str text.now) }
@@ -412,7 +412,7 @@ fn put_cell(value: &Value, apart: bool, buf: &mut Vec<u8>) -> Result<(), AllocEr
     }
 }
 
-// The cells of values.
+// Appends the cells of values.
 #[inline(always)]
 fn put_cells<V: HasValue>(values: &[V], apart: bool, buf: &mut Vec<u8>) -> Result<(), AllocError>
     ensures { Appends result buf.old.items buf.new.items
