@@ -90,14 +90,16 @@ IsParameter None false t cell held = IsContent t cell held
 
 -- new_params_bind_flag, and the types that count: behind a 1 the payload's own, behind a 0 those in force
 pub data AreBound (statement : Statement) (state : StatementState) : List ℕ → Types → Type 0 where
-  anew : (types : Types) → AreTypes (place_count statement.query) types → AreBound statement state (1 ∷ type_bytes types) types
+  anew : (types : Types) → AreTypes (place_count statement.query) types →
+      AreBound statement state (1 ∷ type_bytes types) types
   kept : (types : Types) → state.types ≡ Some types → AreBound statement state (0 ∷ []) types
 
 -- The parameters of an execute, and the types in force behind it: no byte where the query has no
 -- placeholder; else the null bitmap, the types, and a cell for each place.
 pub data AreParameters (statement : Statement) (state : StatementState) : List ℕ → Set → Option Types → Type 0 where
   without : place_count statement.query ≡ 0 → AreParameters statement state [] [] state.types
-  with_places : (bitmap bound : List ℕ) (cells : List (List ℕ)) {types : Types} {set : Set} → 0 < place_count statement.query →
+  with_places : (bitmap bound : List ℕ) (cells : List (List ℕ)) {types : Types} {set : Set} →
+      0 < place_count statement.query →
       length bitmap ≡ (place_count statement.query + 7) / 8 → AreBound statement state bound types →
       SideBySide (λ place. IsParameter (state.long_data place) (is_null_at 0 bitmap place)) types cells set →
       AreParameters statement state (bitmap ++ (bound ++ concat cells)) set (Some types)
@@ -142,12 +144,15 @@ pub data IsCommand (statement : Statement) (state : StatementState) : List ℕ �
   -- COM_QUERY: the text
   query : (text : List ℕ) {set : Set} → IsFilled statement.query text set →
       IsCommand statement state (command_number COM_QUERY ∷ text) (set ∷ []) state
-  -- COM_STMT_PREPARE: the query with a question mark for each placeholder, of which there are no more than can be counted
+  -- COM_STMT_PREPARE: the query with a question mark for each placeholder, of which there are no
+  -- more than can be counted
   prepare : place_count statement.query ≤ max_places →
       IsCommand statement state (command_number COM_STMT_PREPARE ∷ with_marks statement.query) [] freshly_prepared
   -- COM_STMT_SEND_LONG_DATA: a placeholder's number in two bytes, and data for it
-  long_data : (place : ℕ) (bytes : List ℕ) → IsPrepared statement state → place < place_count statement.query → place < 2 ^ 16 →
-      IsCommand statement state (command_number COM_STMT_SEND_LONG_DATA ∷ little_bytes 4 statement.id ++ little_bytes 2 place ++ bytes) []
+  long_data : (place : ℕ) (bytes : List ℕ) → IsPrepared statement state →
+      place < place_count statement.query → place < 2 ^ 16 →
+      IsCommand statement state (command_number COM_STMT_SEND_LONG_DATA ∷
+      little_bytes 4 statement.id ++ little_bytes 2 place ++ bytes) []
       (with_data state (more_data state.long_data place bytes))
   -- COM_STMT_EXECUTE: no cursor, an iteration count of 1, and the parameters, which use up the data
   execute : (parameters : List ℕ) {set : Set} {types : Option Types} → IsPrepared statement state →
@@ -156,14 +161,20 @@ pub data IsCommand (statement : Statement) (state : StatementState) : List ℕ �
       little_bytes 4 1 ++ parameters) (set ∷ [])
       (without_data (with_types state types))
   -- COM_STMT_BULK_EXECUTE: flags and types, and rows, at least one; no data waits
-  bulk : (bound : List ℕ) (rows : List (List ℕ)) {types : Types} {sets : List Set} → IsPrepared statement state → NoneWaits statement state →
-      0 < place_count statement.query → 0 < length rows → AreBulkBound statement state bound types → AllZip (IsRow types) rows sets →
+  bulk : (bound : List ℕ) (rows : List (List ℕ)) {types : Types} {sets : List Set} →
+      IsPrepared statement state → NoneWaits statement state →
+      0 < place_count statement.query → 0 < length rows → AreBulkBound statement state bound types →
+      AllZip (IsRow types) rows sets →
       IsCommand statement state (command_number COM_STMT_BULK_EXECUTE ∷ little_bytes 4 statement.id ++ bound ++
       concat rows) sets (with_types state (Some types))
   -- COM_STMT_RESET: the data is dropped
-  reset : IsPrepared statement state → IsCommand statement state (command_number COM_STMT_RESET ∷ little_bytes 4 statement.id) [] (without_data state)
+  reset : IsPrepared statement state →
+      IsCommand statement state (command_number COM_STMT_RESET ∷ little_bytes 4 statement.id) []
+      (without_data state)
   -- COM_STMT_CLOSE: the statement is prepared no longer
-  close : IsPrepared statement state → IsCommand statement state (command_number COM_STMT_CLOSE ∷ little_bytes 4 statement.id) [] nothing_yet
+  close : IsPrepared statement state →
+      IsCommand statement state (command_number COM_STMT_CLOSE ∷ little_bytes 4 statement.id) []
+      nothing_yet
 
 -- Commands one after another, the sets that they carry, and what is in force behind the last.
 pub data AreCommands (statement : Statement) : StatementState → List (List ℕ) → List Set → StatementState → Type 0 where

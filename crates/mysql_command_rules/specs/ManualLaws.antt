@@ -46,7 +46,8 @@ OnlyFilledQueriesRead =
 -- The framings of commands one after another audit as whole, with the sets that these carry.
 abbrev pub EachFramedStreamIsWhole : Type 0
 EachFramedStreamIsWhole = (statement : Statement) (limit : ℕ) (bytes : List ℕ) (sets : List Set) →
-    IsQuery statement.query → IsFramed statement limit bytes sets → Audited statement limit bytes (record { sets = sets; ending = Whole })
+    IsQuery statement.query → IsFramed statement limit bytes sets →
+    Audited statement limit bytes (record { sets = sets; ending = Whole })
 
 -- No other bytes audit as whole.
 abbrev pub OnlyFramedStreamsAreWhole : Type 0

@@ -60,8 +60,10 @@ EachPayloadIsJudged =
 -- Of any payloads and rest, whatever is in force before them, there is an audit, and no other.
 abbrev pub ThereIsOneAudit : Type 0
 ThereIsOneAudit =
-    (statement : Statement) (state : StatementState) (first : ℕ) (payloads : List (List ℕ)) (rest : Rest) → IsQuery statement.query
-    → (a : Audit) × Audits statement state first payloads rest a × ((b : Audit) → Audits statement state first payloads rest b → b ≡ a)
+    (statement : Statement) (state : StatementState) (first : ℕ) (payloads : List (List ℕ))
+    (rest : Rest) → IsQuery statement.query
+    → (a : Audit) × Audits statement state first payloads rest a ×
+    ((b : Audit) → Audits statement state first payloads rest b → b ≡ a)
 
 -- Behind payloads that all read, the audit goes on by what they leave in force.
 abbrev pub AuditGoesOn : Type 0
@@ -70,7 +72,8 @@ AuditGoesOn =
     (reads : List (List Set)) (a : Audit)
     → Reads statement state first xs reads →
     Audits statement (state_after statement state xs) (first + length xs) ys rest a
-    → Audits statement state first (xs ++ ys) rest (record { sets = flat_map (λ sets. sets) reads ++ a.sets; ending = a.ending })
+    → Audits statement state first (xs ++ ys) rest
+    (record { sets = flat_map (λ sets. sets) reads ++ a.sets; ending = a.ending })
 
 -- Of any bytes there is an audit, and no other.
 abbrev pub StreamHasOneAudit : Type 0
@@ -155,7 +158,8 @@ abbrev pub WholeStreamsJoin : Type 0
 WholeStreamsJoin =
     (statement : Statement) (limit : ℕ) (xs ys : List ℕ) (front back : Split) (a b : Audit) →
     IsSplit limit EachFromZero xs front → IsSplit limit EachFromZero ys back
-    → Audits statement nothing_yet 0 front.payloads front.rest a → Audits statement nothing_yet 0 back.payloads back.rest b
+    → Audits statement nothing_yet 0 front.payloads front.rest a →
+    Audits statement nothing_yet 0 back.payloads back.rest b
     → length front.payloads + length back.payloads < 2 ^ 64 → a.ending ≡ Whole → b.ending ≡ Whole
     → Audited statement limit (xs ++ ys) (record { sets = a.sets ++ b.sets; ending = Whole })
 

@@ -25,7 +25,8 @@ use Rattle.mysql_receive.specs.declared.param_type.ParamType.{ParamType}
 use Rattle.mysql_receive.specs.Fields.{◌>>◌, must, number_or}
 use Rattle.mysql_wire.specs.Wire.{◌>>=◌}
 use Rattle.mysql_receive.specs.Query.{Statement, all_alone, max_places, place_count}
-use Rattle.mysql_receive.specs.Layout.{Command, command_of, Types, PlaceData, place_data_at, id_at, execute_head, bulk_head}
+use Rattle.mysql_receive.specs.Layout.{Command, command_of, Types, PlaceData, place_data_at, id_at, execute_head}
+use Rattle.mysql_receive.specs.Layout.{bulk_head}
 use Rattle.mysql_receive.specs.Layout as layout
 use Rattle.mysql_receive.specs.InForce.{StatementState, is_waiting}
 
@@ -52,7 +53,8 @@ content_at short t bytes = do
 
 -- the types that count: a payload's own, else those in force. Without places there are none
 abbrev pub types_in_force : Statement → StatementState → Option Types → Result Types StreamFault
-types_in_force statement state own = if place_count statement.query == 0 then Ok [] else ok_or (option_or own state.types) NoTypes
+types_in_force statement state own =
+    if place_count statement.query == 0 then Ok [] else ok_or (option_or own state.types) NoTypes
 
 -- what a place of an execute holds: the long data that waits for it; else NULL, where its bit is
 -- set; else the content of the cell that stands first
@@ -135,7 +137,8 @@ pub record BulkReadsAs (statement : Statement) (state : StatementState) (body : 
 abbrev pub BulkFaulty : Statement → StatementState → List ℕ → StreamFault → Type 0
 BulkFaulty statement state body f =
     (bulk_rows statement state body ≡ Err f)
-    ⊎ ((types : Types) × (bytes : List ℕ) × (bulk_rows statement state body ≡ Ok (types, bytes)) × FaultyRow types bytes f)
+    ⊎ ((types : Types) × (bytes : List ℕ) × (bulk_rows statement state body ≡ Ok (types, bytes)) ×
+    FaultyRow types bytes f)
 
 -- the data that a long data command sends
 unfoldable pub prepared_data : Statement → StatementState → List ℕ → Result PlaceData StreamFault
@@ -167,9 +170,11 @@ TextReadsAs query text contents = Slices query text contents × Lexes query text
 abbrev pub CommandReadsAs : Statement → StatementState → Command → List ℕ → List Set → Type 0
 CommandReadsAs statement state layout.Text body sets = IsTrue (all_alone statement.query) ×
     ((contents : Set) × TextReadsAs statement.query.text body contents × (sets ≡ contents ∷ []))
-CommandReadsAs statement state layout.Prepare body sets = (body ≡ statement.query.parsed) × (place_count statement.query ≤ max_places) × (sets ≡ [])
+CommandReadsAs statement state layout.Prepare body sets = (body ≡ statement.query.parsed) ×
+    (place_count statement.query ≤ max_places) × (sets ≡ [])
 CommandReadsAs statement state layout.LongData body sets = long_data_at statement state body ≡ Ok sets
-CommandReadsAs statement state layout.Execute body sets = (set : Set) × (execute_at statement state body ≡ Ok set) × (sets ≡ set ∷ [])
+CommandReadsAs statement state layout.Execute body sets = (set : Set) ×
+    (execute_at statement state body ≡ Ok set) × (sets ≡ set ∷ [])
 CommandReadsAs statement state layout.Bulk body sets = BulkReadsAs statement state body sets
 CommandReadsAs statement state layout.Reset body sets = statement_alone_at statement state body ≡ Ok sets
 CommandReadsAs statement state layout.Close body sets = statement_alone_at statement state body ≡ Ok sets

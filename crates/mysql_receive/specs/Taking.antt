@@ -26,7 +26,8 @@ abbrev pub TakesSets : ReceiverState → List Set → ReceiverState → Type 0
 TakesSets old taken new = (taken ≡ old.sets) × (new ≡ record old { sets = [] })
 
 -- what feeding a piece says of what is held before it and after it
-pub record Feeds (statement : Statement) (limit : ℕ) (old : ReceiverState) (piece : List ℕ) (new : ReceiverState) : Type 0 where
+pub record Feeds (statement : Statement) (limit : ℕ) (old : ReceiverState) (piece : List ℕ)
+    (new : ReceiverState) : Type 0 where
   pub goes_on : (new.fault ≡ Some Memory → ⊥) → ReceiverGoesOn statement limit old piece new
   pub short : old.fault ≡ None → new.fault ≡ Some Memory → RunsShort statement limit old piece new
   pub takes : new.fault ≡ None → TakesAll statement limit old piece new

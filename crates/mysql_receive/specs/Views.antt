@@ -66,7 +66,12 @@ data_waiting waiting place =
     option_and_then (λ found. option_map (λ bytes. bytes.items) found) (slice_get waiting place)
 
 abbrev pub state_of : CodeState → StatementState
-state_of state = record { prepared = state.prepared; types = types_kept state.types; long_data = data_waiting state.long_data.items }
+state_of state = record {
+  prepared = state.prepared;
+  types = types_kept state.types;
+  long_data =
+      data_waiting state.long_data.items;
+}
 
 -- what a function returned, seen by a view, is what reading gives, unless memory ran out
 abbrev pub Fails : {Y : Type 0} → ReadError → Result Y StreamFault → Type 0
@@ -90,4 +95,6 @@ Judged statement state command body result =
     Finds sets_carried result (CommandReadsAs statement state command body) (CommandFaulty statement state command body)
 
 abbrev pub PayloadJudged : Statement → StatementState → List ℕ → Result Carried ReadError → Type 0
-PayloadJudged statement state payload result = Finds sets_carried result (PayloadReadsAs statement state payload) (PayloadFaulty statement state payload)
+PayloadJudged statement state payload result =
+    Finds sets_carried result (PayloadReadsAs statement state payload)
+    (PayloadFaulty statement state payload)
