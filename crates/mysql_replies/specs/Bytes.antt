@@ -11,7 +11,7 @@ use Rattle.mysql_wire.specs.Stream.Rest.{TooLarge}
 use Rattle.mysql_replies.specs.declared.context.Context.{Context}
 use Rattle.mysql_replies.specs.declared.fault.ReplyFault.TheVariants.{Memory}
 use Rattle.mysql_replies.specs.Grammar.{Payload}
-use Rattle.mysql_replies.specs.Reply.{Answer, FaultAt, Unfinished, IsReply, Standing, GoingOn, Answered, Continues}
+use Rattle.mysql_replies.specs.Reply.{Answer, FaultAt, Unfinished, IsReply, ReplySoFar, GoingOn, Answered, Continues}
 
 -- How many more payloads can be numbered after so many: numbers are below 2^64 - 1.
 abbrev pub numbers_left : ℕ → ℕ
@@ -59,7 +59,7 @@ pub record IsShortReplyOf (c : Context) (first_id limit : ℕ) (pieces : List (L
 
 -- From what stands, the payloads still to come and the rest after them decide this answer, as far as they can
 -- be numbered.
-abbrev pub NumberedPayloadsDecide : Standing → List Payload → Rest → Answer → Type 0
+abbrev pub NumberedPayloadsDecide : ReplySoFar → List Payload → Rest → Answer → Type 0
 NumberedPayloadsDecide (GoingOn s) payloads rest answer =
     Continues s (numbered s.count payloads) (after_numbered s.count payloads rest) answer
 NumberedPayloadsDecide (Answered known) payloads rest answer = answer ≡ known

@@ -15,7 +15,7 @@ use Rattle.mysql_rows.specs.Views.{row_view, shared_columns}
 pub record RowsSoFar : Type 0 where
   pub columns : List ColumnDefinition
   pub rows : List rows.Row
-  pub lender : Option RowReader
+  pub reader : Option RowReader
 
 abbrev pub rows_of : List Row → List rows.Row
 rows_of these = map row_view these
@@ -26,7 +26,7 @@ HasShare columns (Some share) these = shared_columns share ≡ shared_columns co
 HasShare columns None these = these ≡ []
 
 -- What lends rows lends them under the same columns, in this format.
-abbrev pub HasLender : RcSlice Column Global → RowFormat → Option RowReader → Type 0
-HasLender columns format lender =
-    IfSome lender (λ it. (shared_columns it.columns ≡ shared_columns columns) ×
+abbrev pub HasReader : RcSlice Column Global → RowFormat → Option RowReader → Type 0
+HasReader columns format reader =
+    IfSome reader (λ it. (shared_columns it.columns ≡ shared_columns columns) ×
     (it.format ≡ format))

@@ -16,7 +16,7 @@ use Rattle.mysql_replies.specs.declared.awaited.Listed.{Listed}
 use Rattle.mysql_replies.specs.declared.awaited.Listed.TheVariants as listed
 use Rattle.mysql_replies.specs.declared.awaited.Stepped.{Stepped}
 use Rattle.mysql_replies.specs.declared.awaited.Stepped.TheVariants.{Moved, Failed}
-use Rattle.mysql_replies.specs.Grammar.{Payload, Outcome, RowsResult, PreparedResult, Part, Stands, Stretch, Ending}
+use Rattle.mysql_replies.specs.Grammar.{Payload, Outcome, RowsResult, PreparedResult, Parsed, Complete, ResultGroup, Ending}
 use Rattle.mysql_replies.specs.Grammar.{Ended, Wrong, Results, rows, prepared_columns}
 use Rattle.mysql_replies.specs.Reply.{Awaited, Columns, Rows, Parameters, PreparedColumns, Nothing, rest_of}
 use Rattle.mysql_replies.specs.OpenRows.{RowsSoFar}
@@ -30,13 +30,13 @@ pub data Move : Type 0 where
   Over : List Outcome → Move
 
 -- What q makes of the payloads to come: these results, and then what is made of them where that is awaited.
-abbrev pub GoesOnTo : Context → (List Payload → Part Stretch) → List Outcome → Awaited → Type 0
+abbrev pub GoesOnTo : Context → (List Payload → Parsed ResultGroup) → List Outcome → Awaited → Type 0
 GoesOnTo c q results awaited =
     (z : List Payload) (others : List Outcome) (ending : Ending) →
     Results c (rest_of c awaited z) others ending → Results c (q z) (results ++ others) ending
 
 -- The payload leads there, where q is what it and the payloads after it are read as.
-abbrev pub Leads : Context → (List Payload → Part Stretch) → Payload → Move → Type 0
+abbrev pub Leads : Context → (List Payload → Parsed ResultGroup) → Payload → Move → Type 0
 Leads c q payload (Moves results awaited) = GoesOnTo c q results awaited
 Leads c q payload (Fails results fault) = (z : List Payload) → Results c (q z) results (Wrong fault (payload ∷ z))
 Leads c q payload (Over results) = (z : List Payload) → Results c (q z) results (Ended (payload ∷ z))
@@ -60,12 +60,12 @@ group_awaited (OfParameters statement) n these = Parameters statement n these
 group_awaited (OfPrepared statement parameters) n these = PreparedColumns statement parameters n these
 
 -- What follows a group of these columns.
-abbrev pub after_group : Context → Group → List ColumnDefinition → List Payload → Part Stretch
+abbrev pub after_group : Context → Group → List ColumnDefinition → List Payload → Parsed ResultGroup
 after_group c OfResultSet columns payloads = rows c columns [] payloads
 after_group c (OfParameters statement) columns payloads =
     prepared_columns c statement columns statement.num_columns [] payloads
 after_group c (OfPrepared statement parameters) columns payloads =
-    Stands (record { results = PreparedResult statement parameters columns ∷ []; more = false })
+    Complete (record { results = PreparedResult statement parameters columns ∷ []; more = false })
     payloads
 
 -- A payload in a row's place is read as a row: it begins no error and is no terminator.
@@ -110,7 +110,7 @@ pub record LosesNone (c : Context) (before after : Awaited) : Type 0 where
 
 -- The step moves on from there: these results stand, and that is awaited of what q makes of the payloads to come. Where
 -- memory ran out nothing is listed of what is awaited.
-abbrev pub IsMove : Context → (List Payload → Part Stretch) → Stepped → Type 0
+abbrev pub IsMove : Context → (List Payload → Parsed ResultGroup) → Stepped → Type 0
 IsMove c q (Moved listed awaited) = GoesOnTo c q (listed_views listed) (awaited_view awaited) ×
     IsSettled c (awaited_view awaited)
 IsMove c q (Failed awaited fault) = (fault ≡ Memory) × (listed_of (awaited_view awaited) ≡ []) ×

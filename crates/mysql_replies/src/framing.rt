@@ -1,7 +1,7 @@
 //! Laws of framing, brought together for the proofs of the reader. They do nothing when they run.
 
 ghost use Rattle.mysql_wire.specs.Bytes.{AreBytes};
-ghost use Rattle.mysql_replies.specs.Standings.{FramingLaws};
+ghost use Rattle.mysql_replies.specs.States.{FramingLaws};
 
 use mysql_wire::laws;
 

@@ -1,11 +1,11 @@
 //! Laws of the grammar of replies and of what a reader holds. Each function is its law alone.
 
 ghost use Rattle.mysql_replies.specs.Beginnings.{EachAnswerHasWhatStands};
-ghost use Rattle.mysql_replies.specs.Reply.{EachHasAnswer, AnswersAgree, EachStandingDecides, StandingsAgree};
-ghost use Rattle.mysql_replies.specs.Reply.{FreshStandingDecides, StandingGoesOn};
+ghost use Rattle.mysql_replies.specs.Reply.{EachHasAnswer, AnswersAgree, EachReplyDecides, RepliesAgree};
+ghost use Rattle.mysql_replies.specs.Reply.{FreshReplyDecides, ReplyGoesOn};
 ghost use Rattle.mysql_replies.specs.Bytes.{AnyBytesHaveAnswer, CuttingsAgree};
 ghost use Rattle.mysql_replies.specs.Holding.{EachReaderDecides, ReadersAgree, FreshReaderDecides};
-ghost use Rattle.mysql_replies.specs.Lending.{LentRowsAreHandedOut};
+ghost use Rattle.mysql_replies.specs.Borrowing.{BorrowedRowsAreHandedOut};
 ghost use Rattle.mysql_replies.specs.Taking.{TakenResultsAreTheReply};
 ghost use Rattle.mysql_replies.specs.Manual.{EachSuchListIsWhole, OnlySuchListsAreWhole, EachFramingIsWhole};
 ghost use Rattle.mysql_replies.specs.Manual.{OnlyFramingsAreWhole};
@@ -21,14 +21,14 @@ pub fn each_reply_has_one_answer()
 /// Whatever stands decides one answer over each list of payloads still to come, and a fresh reader the
 /// reply's.
 pub fn each_standing_decides()
-    ensures some { EachStandingDecides }
-    ensures only { StandingsAgree }
-    ensures fresh { FreshStandingDecides }
+    ensures some { EachReplyDecides }
+    ensures only { RepliesAgree }
+    ensures fresh { FreshReplyDecides }
 {}
 
 /// What stands after some payloads decides what was decided before over these and those still to come.
 pub fn a_standing_goes_on()
-    ensures { StandingGoesOn }
+    ensures { ReplyGoesOn }
 {}
 
 /// Any bytes have an answer, and it doesn't depend on how they were cut into pieces.
@@ -59,7 +59,7 @@ pub fn taken_results_are_the_reply()
 /// takes and rows that were lent so, these rows, the results that were handed out and those at the
 /// end are, joined, the reply.
 pub fn lent_rows_are_handed_out()
-    ensures { LentRowsAreHandedOut }
+    ensures { BorrowedRowsAreHandedOut }
 {}
 
 /// A list of payloads has an answer that ends whole exactly where the manual has it as a whole

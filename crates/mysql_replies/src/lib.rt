@@ -6,7 +6,7 @@ pub mod context;
 pub mod fault;
 mod framing;
 pub mod laws;
-mod lending;
+mod borrowing;
 mod lines;
 mod open_rows;
 mod opening;

@@ -8,7 +8,7 @@ ghost use Rattle.mysql_rows.specs.Rows.{Row as RowOf};
 ghost use Rattle.mysql_rows.specs.Views.{row_view, shared_columns};
 ghost use Rattle.mysql_replies.specs.Grammar.{RowsResult};
 ghost use Rattle.mysql_replies.specs.OpenRows.{rows_of};
-ghost use Rattle.mysql_replies.specs.LentSteps.{HasRead, IsLender, Lends, or_bad_row};
+ghost use Rattle.mysql_replies.specs.RowSteps.{HasRead, IsLender, RowAt, or_bad_row};
 ghost use Rattle.mysql_replies.specs.Views.{Refuses, outcome_view};
 
 use crate::fault::ReplyFault;
@@ -31,7 +31,7 @@ pub struct OpenRows {
     share: Option<RcSlice<Column>>,
     rows: Vec<Row>,
     // There once a row was lent.
-    lender: Option<RowReader>,
+    reader: Option<RowReader>,
     // The format in which it lends.
     format: RowFormat,
 }
@@ -42,29 +42,29 @@ impl Model for OpenRows {
     ghost Value = { RowsSoFar };
 
     ghost use Rattle.mysql_rows.specs.Views.{shared_columns};
-    ghost use Rattle.mysql_replies.specs.OpenRows.{rows_of, HasLender, HasShare};
+    ghost use Rattle.mysql_replies.specs.OpenRows.{rows_of, HasReader, HasShare};
 
     ghost view = { λ these. record {
       columns = shared_columns these.columns;
       rows =
           rows_of these.rows.items;
-      lender = these.lender;
+      reader = these.reader;
     } };
 
     ghost invariant = { λ these. HasShare these.columns these.share these.rows.items ×
-        HasLender these.columns these.format these.lender };
+        HasReader these.columns these.format these.reader };
 }
 
 impl OpenRows {
     /// No row under these columns.
     pub fn new(alloc: Global, columns: RcSlice<Column>) -> OpenRows
-        ensures { result ≡ record { columns = shared_columns columns; rows = []; lender = None } }
+        ensures { result ≡ record { columns = shared_columns columns; rows = []; reader = None } }
     {
         OpenRows {
             columns,
             share: None,
             rows: Vec::new(alloc),
-            lender: None,
+            reader: None,
             format: RowFormat::Text,
         }
     }
@@ -105,11 +105,11 @@ impl OpenRows {
     // Makes what lends rows in this format.
     #[inline(never)]
     fn make_lender(&mut self, alloc: Global, format: RowFormat) -> Result<(), AllocError>
-        ensures rows { self.new ≡ record self.old { lender = self.new.lender } }
-        ensures lender { OnOk result (IsLender self.new.lender format self.old.columns) }
+        ensures rows { self.new ≡ record self.old { reader = self.new.reader } }
+        ensures reader { OnOk result (IsLender self.new.reader format self.old.columns) }
     {
-        let lender = RowReader::new(alloc, self.columns.clone()?, format)?;
-        self.lender = Some(lender);
+        let reader = RowReader::new(alloc, self.columns.clone()?, format)?;
+        self.reader = Some(reader);
         self.format = format;
         Ok(())
     }
@@ -117,10 +117,10 @@ impl OpenRows {
     // Makes it where there is none.
     #[inline(always)]
     fn ready_lender(&mut self, alloc: Global, format: RowFormat) -> Result<(), AllocError>
-        ensures rows { self.new ≡ record self.old { lender = self.new.lender } }
-        ensures lender { OnOk result (IsLender self.new.lender format self.old.columns) }
+        ensures rows { self.new ≡ record self.old { reader = self.new.reader } }
+        ensures reader { OnOk result (IsLender self.new.reader format self.old.columns) }
     {
-        if self.lender.is_some() && self.format == format {
+        if self.reader.is_some() && self.format == format {
             return Ok(());
         }
         self.make_lender(alloc, format)
@@ -135,17 +135,17 @@ impl OpenRows {
         format: RowFormat,
         payload: &[u8],
     ) -> Result<(), ReplyFault>
-        ensures rows { self.new ≡ record self.old { lender = self.new.lender } }
-        ensures ok { OnOk result (HasRead self.new.lender format self.old.columns payload.now) }
+        ensures rows { self.new ≡ record self.old { reader = self.new.reader } }
+        ensures ok { OnOk result (HasRead self.new.reader format self.old.columns payload.now) }
         ensures err { IfErr result (λ fault. Refuses fault (or_bad_row (row_of format self.old.columns payload.now))) }
     {
         if self.ready_lender(alloc, format).is_err() {
             return Err(ReplyFault::Memory);
         }
-        let Some(lender) = &mut self.lender else {
+        let Some(reader) = &mut self.reader else {
             unreachable!()
         };
-        match lender.read(payload) {
+        match reader.read(payload) {
             Ok(()) => Ok(()),
             Err(_) => Err(ReplyFault::BadRow),
         }
@@ -154,13 +154,13 @@ impl OpenRows {
     /// The row whose cells were read last, lent by its payload.
     #[inline(always)]
     pub fn lent<'r, 'p>(&'r self, payload: &'p [u8]) -> RowRef<'r, 'p>
-        requires { (row : RowOf) × Lends self.now.lender payload.now row }
-        ensures { Lends self.now.lender payload.now (row_ref_view result) }
+        requires { (row : RowOf) × RowAt self.now.reader payload.now row }
+        ensures { RowAt self.now.reader payload.now (row_ref_view result) }
     {
-        let Some(lender) = &self.lender else {
+        let Some(reader) = &self.reader else {
             unreachable!()
         };
-        lender.lent(payload)
+        reader.lent(payload)
     }
 
     /// Hands out the rows, as a part of the result set; the rows behind them are listed anew. Takes no memory.
@@ -188,7 +188,7 @@ impl OpenRows {
             columns,
             share: _,
             rows,
-            lender: _,
+            reader: _,
             format: _,
         } = self;
         ReplyResult::Rows {

@@ -9,11 +9,11 @@ ghost use Rattle.mysql_replies.specs.declared.fault.ReplyFault.TheVariants.{Memo
 ghost use Rattle.mysql_replies.specs.Bytes.{IsReplyOf, IsShortReplyOf};
 ghost use Rattle.mysql_replies.specs.Holding.{fresh_reader, fault_of, ReaderDecides, ReaderGoesOn, HasFoundNoFault};
 ghost use Rattle.mysql_replies.specs.Holding.{TakesAll, StandsShort};
-ghost use Rattle.mysql_replies.specs.Standings.{reader_state, fault_named, IsReading, IsPaused, UnlessMemory, OnMemory};
+ghost use Rattle.mysql_replies.specs.States.{reader_state, fault_named, IsReading, IsPaused, UnlessMemory, OnMemory};
 ghost use Rattle.mysql_replies.specs.Taking.{ListsResults, ListsRows, results_in, without_results, reports_in};
 ghost use Rattle.mysql_replies.specs.Taking.{without_reports};
 ghost use Rattle.mysql_replies.specs.Views.{answer_view, awaited_view, outcome_views, report_views, row_views};
-ghost use Rattle.mysql_replies.specs.Standings as states;
+ghost use Rattle.mysql_replies.specs.States as states;
 
 use crate::context::{Context, ReplyKind};
 use crate::fault::ReplyFault;
@@ -199,7 +199,7 @@ impl Model for ReplyReader {
 
     ghost use Rattle.std.specs.Prelude.{[]};
     ghost use Rattle.mysql_wire.specs.Incoming.{codec_by};
-    ghost use Rattle.mysql_replies.specs.Standings.{reader_state, IsReceiving};
+    ghost use Rattle.mysql_replies.specs.States.{reader_state, IsReceiving};
 
     ghost view = { λ reader. reader_state reader.parts.state reader.parts.packets };
 
@@ -240,13 +240,13 @@ impl ReplyReader {
     /// what was read of the payloads before stays: each of them has its place in a reply that goes
     /// on behind them.
     pub fn feed(&mut self, piece: &[u8]) -> Result<(), ReplyFault>
-        ensures stays { IfSome (fault_of self.old.standing) (λ fault. (result ≡ Err fault) × (self.new ≡ self.old)) }
-        ensures going { OnOk result (fault_of self.new.standing ≡ None) }
+        ensures stays { IfSome (fault_of self.old.so_far) (λ fault. (result ≡ Err fault) × (self.new ≡ self.old)) }
+        ensures going { OnOk result (fault_of self.new.so_far ≡ None) }
         ensures no_fault { OnOk result (HasFoundNoFault self.new) }
-        ensures fault { IfErr result (λ fault. fault_of self.new.standing ≡ Some fault) }
+        ensures fault { IfErr result (λ fault. fault_of self.new.so_far ≡ Some fault) }
         ensures takes { OnOk result (TakesAll self.old (self.old.bytes ++ piece.now) self.new) }
         ensures goes_on { result ≢ Err Memory → ReaderGoesOn self.old piece.now self.new }
-        ensures short { fault_of self.old.standing ≡ None → result ≡ Err Memory →
+        ensures short { fault_of self.old.so_far ≡ None → result ≡ Err Memory →
             StandsShort self.old (self.old.bytes ++ piece.now) self.new }
     {
         framing_laws();
@@ -265,8 +265,8 @@ impl ReplyReader {
     ///
     /// MySQL: Client/Server Protocol, "COM_QUERY Response" and "Text Resultset".
     pub fn take_results(&mut self) -> Vec<ReplyResult>
-        ensures taken { outcome_views result.items ≡ results_in self.old.standing }
-        ensures left { self.new ≡ record self.old { standing = without_results self.old.standing } }
+        ensures taken { outcome_views result.items ≡ results_in self.old.so_far }
+        ensures left { self.new ≡ record self.old { so_far = without_results self.old.so_far } }
     {
         self.parts.state.take_results(self.alloc)
     }
@@ -275,29 +275,29 @@ impl ReplyReader {
     ///
     /// MariaDB: 'Progress report' of "ERR_Packet".
     pub fn take_progress(&mut self) -> Vec<ProgressReport<'static>>
-        ensures taken { report_views result.items ≡ reports_in self.old.standing }
-        ensures left { self.new ≡ record self.old { standing = without_reports self.old.standing } }
+        ensures taken { report_views result.items ≡ reports_in self.old.so_far }
+        ensures left { self.new ≡ record self.old { so_far = without_reports self.old.so_far } }
     {
         self.parts.state.take_progress(self.alloc)
     }
 
     /// The results that stand whole and were not handed out.
     pub fn results(&self) -> &[ReplyResult]
-        ensures { ListsResults self.now.standing (outcome_views result.now) }
+        ensures { ListsResults self.now.so_far (outcome_views result.now) }
     {
         self.parts.state.results.as_slice()
     }
 
     /// The rows so far of a result set that goes on, but for those that were handed out.
     pub fn rows(&self) -> &[Row]
-        ensures { ListsRows self.now.standing (row_views result.now) }
+        ensures { ListsRows self.now.so_far (row_views result.now) }
     {
         self.parts.state.rows()
     }
 
     /// The progress reports that were not handed out.
     pub fn progress(&self) -> &[ProgressReport<'static>]
-        ensures { report_views result.now ≡ reports_in self.now.standing }
+        ensures { report_views result.now ≡ reports_in self.now.so_far }
     {
         self.parts.state.progress.as_slice()
     }
@@ -309,7 +309,7 @@ impl ReplyReader {
     /// MySQL: Client/Server Protocol, "MySQL Packets".
     pub fn kept(&self) -> usize
         ensures bytes { result ≡ bytes_kept (length self.now.bytes) }
-        ensures within { fault_of self.now.standing ≡ None → result ≤ self.now.limit + 3 }
+        ensures within { fault_of self.now.so_far ≡ None → result ≤ self.now.limit + 3 }
     {
         self.parts.packets.kept()
     }

@@ -13,13 +13,13 @@ ghost use Rattle.mysql_replies.specs.Reply as reply;
 ghost use Rattle.mysql_replies.specs.OpenRows.{rows_of};
 ghost use Rattle.mysql_row_refs.specs.RowRefs.{row_ref_view};
 ghost use Rattle.mysql_rows.specs.Rows.{Row as RowOf};
-ghost use Rattle.mysql_replies.specs.Lending.{rows_listed};
-ghost use Rattle.mysql_replies.specs.LentSteps.{IsNoRow, LendStep, LendsAwaited, format_of, passed_as};
+ghost use Rattle.mysql_replies.specs.Borrowing.{rows_listed};
+ghost use Rattle.mysql_replies.specs.RowSteps.{IsNoRow, StateBorrowsNext, LendsAwaited, format_of, passed_as};
 ghost use Rattle.mysql_replies.specs.Taking.{part_of, results_in, without_results, rows_awaited};
 ghost use Rattle.mysql_replies.specs.Views.{Gives, awaited_view, outcome_views, end_view, answer_view};
 ghost use Rattle.mysql_replies.specs.Steps.{IsSettled, IsAwaiting, listed_views, listed_of, reads_as_row};
-ghost use Rattle.mysql_replies.specs.Standings.{standing_of, UnlessMemory, OnMemory, IsReading, IsShortOf, StateGoesOn};
-ghost use Rattle.mysql_replies.specs.Standings.{NumberedStateGoesOn, HasRoom, HasSpare, end_at, answer_of};
+ghost use Rattle.mysql_replies.specs.States.{reply_so_far, UnlessMemory, OnMemory, IsReading, IsShortOf, StateGoesOn};
+ghost use Rattle.mysql_replies.specs.States.{NumberedStateGoesOn, HasRoom, HasSpare, end_at, answer_of};
 
 use crate::awaited::{Awaited, Listed, Stepped};
 use crate::context::{Context, ReplyKind};
@@ -129,7 +129,7 @@ fn passed(taken: Result<(), ReplyFault>) -> Result<bool, ReplyFault>
 impl ReplyState {
     /// What stands before any payload has come.
     pub fn new(alloc: Global, context: Context) -> ReplyState
-        ensures fresh { standing_of result ≡ fresh context }
+        ensures fresh { reply_so_far result ≡ fresh context }
         ensures first { result.awaited ≡ Awaited.First }
         ensures going { result.fault ≡ None }
         ensures reading { IsReading result }
@@ -307,8 +307,8 @@ impl ReplyState {
         ensures reading { IsReading self.new }
         ensures ok { OnOk result ((self.new.fault ≡ None) × (self.new.count ≡ self.old.count + 1)) }
         ensures fault { IfErr result (λ fault. self.new.fault ≡ Some fault) }
-        ensures step { LendStep self.old payload.now result self.new }
-        ensures keeps_none { rows_listed (standing_of self.new) ≡ rows_listed (standing_of self.old) }
+        ensures step { StateBorrowsNext self.old payload.now result self.new }
+        ensures keeps_none { rows_listed (reply_so_far self.new) ≡ rows_listed (reply_so_far self.old) }
     {
         if is_report_like(self.context, payload) {
             return passed(self.take_report(alloc, payload));
@@ -328,8 +328,8 @@ impl ReplyState {
         ensures reading { IsReading self.new }
         ensures ok { OnOk result ((self.new.fault ≡ None) × (self.new.count ≡ self.old.count + 1)) }
         ensures fault { IfErr result (λ fault. self.new.fault ≡ Some fault) }
-        ensures step { LendStep self.old payload.now result self.new }
-        ensures keeps_none { rows_listed (standing_of self.new) ≡ rows_listed (standing_of self.old) }
+        ensures step { StateBorrowsNext self.old payload.now result self.new }
+        ensures keeps_none { rows_listed (reply_so_far self.new) ≡ rows_listed (reply_so_far self.old) }
     {
         let format = format_of(self.context.kind);
         match &mut self.awaited {
@@ -353,8 +353,8 @@ impl ReplyState {
         ensures reading { IsReading self.new }
         ensures ok { OnOk result ((self.new.fault ≡ None) × (self.new.count ≡ self.old.count + 1)) }
         ensures fault { IfErr result (λ fault. self.new.fault ≡ Some fault) }
-        ensures step { LendStep self.old payload.now result self.new }
-        ensures keeps_none { rows_listed (standing_of self.new) ≡ rows_listed (standing_of self.old) }
+        ensures step { StateBorrowsNext self.old payload.now result self.new }
+        ensures keeps_none { rows_listed (reply_so_far self.new) ≡ rows_listed (reply_so_far self.old) }
     {
         if self.count == u64::MAX {
             return Err(self.fail(ReplyFault::TooLarge));
@@ -455,8 +455,8 @@ impl ReplyState {
     pub fn take_results(&mut self, alloc: Global) -> Vec<ReplyResult>
         requires reading { IsReading self.old }
         ensures reading { IsReading self.new }
-        ensures taken { outcome_views result.items ≡ results_in (standing_of self.old) }
-        ensures left { standing_of self.new ≡ without_results (standing_of self.old) }
+        ensures taken { outcome_views result.items ≡ results_in (reply_so_far self.old) }
+        ensures left { reply_so_far self.new ≡ without_results (reply_so_far self.old) }
         ensures fault { self.new.fault ≡ self.old.fault }
         ensures context { self.new.context ≡ self.old.context }
         ensures over { awaited_view self.new.awaited ≡ reply.Nothing → self.new.fault ≡ None →

@@ -28,10 +28,10 @@ use std::rc::RcSlice;
 // Writes rows under the columns that rows began with.
 fn put_rows(writer: &mut ReplyWriter, rows: &[Row], out: &mut Vec<u8>) -> Result<(), ReplyRefusal>
     ensures ok { OnOk result (Wrote writer.old
-        (map (RowStep (columns_of writer.old.standing.rows)) (row_views rows.now)) writer.new
+        (map (RowStep (columns_of writer.old.so_far.rows)) (row_views rows.now)) writer.new
         out.old.items out.new.items) }
     ensures err { IfErr result
-        (Refuses writer.old (map (RowStep (columns_of writer.old.standing.rows))
+        (Refuses writer.old (map (RowStep (columns_of writer.old.so_far.rows))
         (row_views rows.now))) }
     ensures kept { take (length out.old.items) out.new.items ≡ out.old.items }
 {
@@ -157,9 +157,9 @@ fn put_reply(
     ensures ok { OnOk result (Wrote writer.old
         (reply_steps (outcome_views results.now) (report_views progress.now)) writer.new
         out.old.items out.new.items) }
-    ensures whole { OnOk result (end_cause writer.new.standing ≡ None) }
+    ensures whole { OnOk result (end_cause writer.new.so_far ≡ None) }
     ensures err { IfErr result
-        (IsCause (whole_cause writer.old.standing
+        (IsCause (whole_cause writer.old.so_far
         (reply_steps (outcome_views results.now) (report_views progress.now)))) }
     ensures kept { take (length out.old.items) out.new.items ≡ out.old.items }
 {

@@ -64,7 +64,7 @@ impl Model for ReplyWriter {
     ghost use Rattle.mysql_reply_writer.specs.Views.{payloads_in, rows_view};
 
     ghost view = { λ w. record {
-      standing = record {
+      so_far = record {
         context = w.context;
         limit = w.packets.limit;
         payloads = w.packets.payloads;
@@ -103,7 +103,7 @@ impl ReplyWriter {
 
     // The last result doesn't stand.
     fn check_over(&self) -> Result<(), ReplyRefusal>
-        ensures { cause_in result ≡ over_cause self.now.standing }
+        ensures { cause_in result ≡ over_cause self.now.so_far }
     {
         if self.over {
             return Err(ReplyRefusal::AfterEnd(self.results));
@@ -113,7 +113,7 @@ impl ReplyWriter {
 
     // A result may begin.
     fn check_place(&self) -> Result<(), ReplyRefusal>
-        ensures { cause_in result ≡ place_cause self.now.standing }
+        ensures { cause_in result ≡ place_cause self.now.so_far }
     {
         self.check_over()?;
         if self.rows.is_some() {
@@ -124,7 +124,7 @@ impl ReplyWriter {
 
     // Rows go on.
     fn check_rows(&self) -> Result<(), ReplyRefusal>
-        ensures { cause_in result ≡ rows_cause self.now.standing }
+        ensures { cause_in result ≡ rows_cause self.now.so_far }
     {
         self.check_over()?;
         if self.rows.is_none() {
@@ -135,7 +135,7 @@ impl ReplyWriter {
 
     // The command is a prepare.
     fn is_prepare(&self) -> bool
-        ensures { result ≡ is_prepare self.now.standing.context.kind }
+        ensures { result ≡ is_prepare self.now.so_far.context.kind }
     {
         match self.context.kind {
             ReplyKind::Prepare => true,
@@ -145,7 +145,7 @@ impl ReplyWriter {
 
     // The command has such results.
     fn check_kind(&self, wrong: bool) -> Result<(), ReplyRefusal>
-        ensures { cause_in result ≡ kind_cause self.now.standing wrong }
+        ensures { cause_in result ≡ kind_cause self.now.so_far wrong }
     {
         if wrong {
             return Err(ReplyRefusal::WrongKind(self.results));
@@ -155,7 +155,7 @@ impl ReplyWriter {
 
     // Each bit of the status has a name.
     fn check_status(&self, ok: &OkPacket<'_>) -> Result<(), ReplyRefusal>
-        ensures { cause_in result ≡ status_cause self.now.standing (ok_packet_view ok.now) }
+        ensures { cause_in result ≡ status_cause self.now.so_far (ok_packet_view ok.now) }
     {
         if !has_named_status(ok.status_flags()) {
             return Err(ReplyRefusal::Status(self.results));
@@ -165,7 +165,7 @@ impl ReplyWriter {
 
     // A result has at most 65535 columns.
     fn check_count(&self, columns: &[Column]) -> Result<(), ReplyRefusal>
-        ensures { cause_in result ≡ count_cause self.now.standing (column_views columns.now) }
+        ensures { cause_in result ≡ count_cause self.now.so_far (column_views columns.now) }
     {
         if columns.len() > 65535 {
             return Err(ReplyRefusal::TooManyColumns(self.results));
@@ -175,7 +175,7 @@ impl ReplyWriter {
 
     // An OK packet may be written.
     fn check_ok(&self, more: bool, ok: &OkPacket<'_>) -> Result<(), ReplyRefusal>
-        ensures { cause_in result ≡ first_cause (step_checks self.now.standing (OkStep more (ok_packet_view ok.now))) }
+        ensures { cause_in result ≡ first_cause (step_checks self.now.so_far (OkStep more (ok_packet_view ok.now))) }
     {
         let _more = more;
         self.check_place()?;
@@ -186,7 +186,7 @@ impl ReplyWriter {
     // Columns may begin rows.
     fn check_columns(&self, columns: &[Column]) -> Result<(), ReplyRefusal>
         ensures { cause_in result ≡
-            first_cause (step_checks self.now.standing (ColumnsStep (column_views columns.now))) }
+            first_cause (step_checks self.now.so_far (ColumnsStep (column_views columns.now))) }
     {
         self.check_place()?;
         self.check_kind(self.is_prepare())?;
@@ -198,7 +198,7 @@ impl ReplyWriter {
 
     // What ends rows may be written.
     fn check_end(&self, more: bool, ok: &OkPacket<'_>) -> Result<(), ReplyRefusal>
-        ensures { cause_in result ≡ first_cause (step_checks self.now.standing (EndStep more (ok_packet_view ok.now))) }
+        ensures { cause_in result ≡ first_cause (step_checks self.now.so_far (EndStep more (ok_packet_view ok.now))) }
     {
         let _more = more;
         self.check_rows()?;
@@ -207,7 +207,7 @@ impl ReplyWriter {
 
     // The number of an error.
     fn error_number(&self) -> usize
-        ensures { result ≡ error_number self.now.standing }
+        ensures { result ≡ error_number self.now.so_far }
     {
         // There are at least as many payloads.
         let _payloads = self.packets.payloads;
@@ -220,7 +220,7 @@ impl ReplyWriter {
     // An error may be written.
     fn check_error(&self, error: &ServerError<'_>) -> Result<(), ReplyRefusal>
         ensures { cause_in result ≡
-            first_cause (step_checks self.now.standing (ErrorStep (server_error_view error.now))) }
+            first_cause (step_checks self.now.so_far (ErrorStep (server_error_view error.now))) }
     {
         self.check_over()?;
         if error.error_code() == 0xffff && tells_progress(self.context.capabilities) {
@@ -232,7 +232,7 @@ impl ReplyWriter {
     // A request for a file may be written.
     fn check_file(&self, file: &LocalInfilePacket<'_>) -> Result<(), ReplyRefusal>
         ensures { cause_in result ≡
-            first_cause (step_checks self.now.standing (FileStep (local_infile_view file.now))) }
+            first_cause (step_checks self.now.so_far (FileStep (local_infile_view file.now))) }
     {
         let _file = file;
         self.check_place()?;
@@ -247,7 +247,7 @@ impl ReplyWriter {
         columns: &[Column],
     ) -> Result<(), ReplyRefusal>
         ensures { cause_in result ≡
-            first_cause (step_checks self.now.standing
+            first_cause (step_checks self.now.so_far
             (PreparedStep (prepare_ok_view statement.now) (column_views parameters.now)
             (column_views columns.now))) }
     {
@@ -434,10 +434,10 @@ impl ReplyWriter {
     /// MySQL: Client/Server Protocol, "Text Resultset Row" and "Binary Protocol Resultset Row".
     pub fn row(&mut self, row: &Row, out: &mut Vec<u8>) -> Result<(), ReplyRefusal>
         ensures ok { OnOk result (Wrote self.old
-            (RowStep (columns_of self.old.standing.rows) (row_view row.now) ∷
+            (RowStep (columns_of self.old.so_far.rows) (row_view row.now) ∷
             []) self.new out.old.items out.new.items) }
         ensures err { IfErr result
-            (Refuses self.old (RowStep (columns_of self.old.standing.rows) (row_view row.now) ∷ [])) }
+            (Refuses self.old (RowStep (columns_of self.old.so_far.rows) (row_view row.now) ∷ [])) }
         ensures kept { OnErr result (out.new.items ≡ out.old.items) }
         ensures stays { OnErr result (self.new ≡ self.old) }
     {
@@ -500,7 +500,7 @@ impl ReplyWriter {
 
     /// Whether the last result stands: nothing more is written.
     pub fn is_over(&self) -> bool
-        ensures { result ≡ self.now.standing.over }
+        ensures { result ≡ self.now.so_far.over }
     {
         self.over
     }
@@ -511,7 +511,7 @@ impl ReplyWriter {
     /// `NoResults` where nothing but progress reports was written; `NotEnded` with the number of a
     /// result whose rows go on, or that was said to follow.
     pub fn finish(&self) -> Result<(), ReplyRefusal>
-        ensures { cause_in result ≡ end_cause self.now.standing }
+        ensures { cause_in result ≡ end_cause self.now.so_far }
     {
         if self.over {
             return Ok(());

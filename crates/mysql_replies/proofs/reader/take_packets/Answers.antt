@@ -1,7 +1,7 @@
 use Rattle.std.proofs.Common.{arith, ◌++◌, [], refl, ap, subst}
 use Rattle.mysql_wire.specs.Incoming.{Incoming, codec_by}
 use Rattle.mysql_replies.specs.Holding.{ReaderGoesOn}
-use Rattle.mysql_replies.specs.Standings.{reader_state, UnlessMemory}
+use Rattle.mysql_replies.specs.States.{reader_state, UnlessMemory}
 use Rattle.mysql_replies.proofs.Receiving.{taking_starts, piece_bytes, waits_taken}
 use Rattle.mysql_replies.proofs.reader.take_packets.Goals as goal
 

@@ -5,7 +5,7 @@ use Rattle.mysql_wire.specs.Incoming.{codec_by}
 use Rattle.mysql_replies.specs.declared.fault.ReplyFault.TheVariants as faults
 use Rattle.mysql_replies.specs.declared.state.ReplyState.{ReplyState}
 use Rattle.mysql_replies.specs.Holding.{ReaderGoesOn}
-use Rattle.mysql_replies.specs.Standings.{reader_state_of, reader_state, NumberedStateGoesOn, UnlessMemory, fault_named}
+use Rattle.mysql_replies.specs.States.{reader_state_of, reader_state, NumberedStateGoesOn, UnlessMemory, fault_named}
 use Rattle.mysql_replies.specs.Views.{awaited_view}
 use Rattle.mysql_replies.proofs.Receiving.{taking_starts, paused_empty, not_empty, elsewhere, piece_bytes, piece_goes_on, piece_runs_short, goes_on_over, taken_goes_on, taken_short, taking_next, taken_ok, taken_unless, refused_goes_on, failed_short, over_taken, waits_taken}
 use Rattle.mysql_replies.proofs.reader.take_payloads.Goals as goal
@@ -73,14 +73,14 @@ returns-then-is_over-clause-goes_on c =
     let src = now.bytes ++ c.packets.rest.now in
     let t = c.packets.invariant.taking in
     let over = c.is_over.ensures.over c.if-is_over.true in
-    let begun = t.nothing_begun (ap awaited_view over) in
+    let cut_off = t.nothing_begun (ap awaited_view over) in
     let kept = c.packets.invariant.over (ap awaited_view over) in
     let some : src ≡ [] → ⊥ = λ none. not_empty c.packets.rest.now c.is_empty.result c.is_empty.ensures c.if-is_empty.false (ap (λ l. l ++ c.packets.rest.now) (sym kept) ∙ none) in
     let after = c.fail.new.self in
     subst (λ f. UnlessMemory {X = Unit {0}} (Err f) (ReaderGoesOn (reader_state start old) piece (reader_state after now))) (sym c.fail.ensures.same)
     (piece_goes_on laws start (codec_by old) old.bytes fed [] piece (reader_state after now) (Err faults.AfterEnd) c.requires.going refl
     (elsewhere (reader_state_of start (codec_by old) fed []) after (reader_state_of after (codec_by now) src []) (reader_state after now) (Err faults.AfterEnd) refl (ap (λ (s : ReplyState). s.fault) c.fail.ensures.state) refl refl
-    (goes_on_over laws start s after (codec_by old) (codec_by now) fed [] src [] t.payloads t.received c.requires.going t.going c.fail.ensures.state (ap awaited_view over) begun.0 begun.1 begun.2 t.bytes some)))
+    (goes_on_over laws start s after (codec_by old) (codec_by now) fed [] src [] t.payloads t.received c.requires.going t.going c.fail.ensures.state (ap awaited_view over) cut_off.0 cut_off.1 cut_off.2 t.bytes some)))
 
 pub returns-then-is_err-2-clause-goes_on : goal.returns-then-is_err-2-clause-goes_on
 returns-then-is_err-2-clause-goes_on c =

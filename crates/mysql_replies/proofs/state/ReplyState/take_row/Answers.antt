@@ -6,7 +6,7 @@ use Rattle.mysql_replies.specs.declared.state.ReplyState.{ReplyState}
 use Rattle.mysql_replies.specs.Views.{awaited_view, outcome_views}
 use Rattle.mysql_replies.specs.Steps.{IsStep, Leads, Moves}
 use Rattle.mysql_replies.specs.Reply.{rest_of}
-use Rattle.mysql_replies.specs.Standings.{UnlessMemory, StateGoesOn}
+use Rattle.mysql_replies.specs.States.{UnlessMemory, StateGoesOn}
 use Rattle.mysql_replies.proofs.Taking.{step_failed, step_moved}
 use Rattle.mysql_replies.proofs.state.ReplyState.take_row.Goals as goal
 

@@ -7,9 +7,9 @@ ghost use Rattle.mysql_row_refs.specs.RowRefs.{row_ref_view};
 ghost use Rattle.mysql_rows.specs.Rows.{Row};
 ghost use Rattle.mysql_wire.specs.Incoming.{codec_by};
 ghost use Rattle.mysql_replies.specs.Holding.{ReaderGoesOn, StandsShort, TakesAll};
-ghost use Rattle.mysql_replies.specs.Lending.{LendsNext, rows_listed};
-ghost use Rattle.mysql_replies.specs.LentSteps.{LendsAwaited, LendsBehind, payload_at};
-ghost use Rattle.mysql_replies.specs.Standings.{IsPaused, IsReading, OnMemory, UnlessMemory, reader_state, standing_of};
+ghost use Rattle.mysql_replies.specs.Borrowing.{BorrowsNext, rows_listed};
+ghost use Rattle.mysql_replies.specs.RowSteps.{LendsAwaited, ReaderBorrows, payload_at};
+ghost use Rattle.mysql_replies.specs.States.{IsPaused, IsReading, OnMemory, UnlessMemory, reader_state, reply_so_far};
 
 use crate::fault::ReplyFault;
 use crate::framing::{bytes_are_bytes, framing_laws};
@@ -40,14 +40,14 @@ fn take_to_row<'p>(
     ensures paused { OnOk result ((state.new.fault ≡ None) ×
         IsPaused state.new (codec_by packets.new) packets.new.bytes []) }
     ensures fault { IfErr result (λ fault. state.new.fault ≡ Some fault) }
-    ensures keeps_none { rows_listed (standing_of state.new) ≡ rows_listed (standing_of state.old) }
+    ensures keeps_none { rows_listed (reply_so_far state.new) ≡ rows_listed (reply_so_far state.old) }
     ensures lends { IfOk result (λ found. MatchOption found
         ((rest.new.now ≡ [])
         × TakesAll (reader_state state.old packets.old)
         ((reader_state state.old packets.old).bytes ++
         rest.old.now) (reader_state state.new packets.new)
         × ReaderGoesOn (reader_state state.old packets.old) rest.old.now (reader_state state.new packets.new))
-        (λ place. LendsBehind (reader_state state.old packets.old) rest.old.now place state.new
+        (λ place. ReaderBorrows (reader_state state.old packets.old) rest.old.now place state.new
         packets.new rest.new.now)) }
     ensures uses { IfOk result
         (λ found. MatchOption found (rest.new.now ≡
@@ -105,7 +105,7 @@ impl ReaderParts {
         ensures paused { OnOk result ((self.new.state.fault ≡ None) ×
             IsPaused self.new.state (codec_by self.new.packets) self.new.packets.bytes []) }
         ensures fault { IfErr result (λ fault. self.new.state.fault ≡ Some fault) }
-        ensures keeps_none { rows_listed (standing_of self.new.state) ≡ rows_listed (standing_of self.old.state) }
+        ensures keeps_none { rows_listed (reply_so_far self.new.state) ≡ rows_listed (reply_so_far self.old.state) }
         ensures lends { IfOk result (λ found. MatchOption found
             ((rest.new.now ≡ [])
             × TakesAll (reader_state self.old.state self.old.packets)
@@ -113,7 +113,7 @@ impl ReaderParts {
             rest.old.now) (reader_state self.new.state self.new.packets)
             × ReaderGoesOn (reader_state self.old.state self.old.packets) rest.old.now
             (reader_state self.new.state self.new.packets))
-            (λ place. LendsBehind (reader_state self.old.state self.old.packets) rest.old.now place
+            (λ place. ReaderBorrows (reader_state self.old.state self.old.packets) rest.old.now place
             self.new.state self.new.packets rest.new.now)) }
         ensures uses { IfOk result
             (λ found. MatchOption found (rest.new.now ≡
@@ -173,7 +173,7 @@ impl ReplyReader {
         rest: &mut &'p [u8],
     ) -> Result<Option<RowRef<'r, 'r>>, ReplyFault>
         ensures* after { sem 𝓛 (Rests the_row self.entry
-            (λ after. LendsNext self.old rest.old.now result after rest.new.now)) }
+            (λ after. BorrowsNext self.old rest.old.now result after rest.new.now)) }
         ensures uses { IfOk result
             (λ found. MatchOption found (rest.new.now ≡
             []) (λ _. length rest.new.now < length rest.old.now)) }

@@ -4,8 +4,8 @@ use Rattle.mysql_columns.specs.Columns.{ColumnDefinition}
 use Rattle.mysql_rows.specs.Rows.{Row}
 use Rattle.mysql_wire.specs.Bytes.{AreBytes}
 use Rattle.mysql_replies.specs.Grammar.{Outcome, RowsResult}
-use Rattle.mysql_replies.specs.Lending.{LentRowsAreHandedOut}
-use Rattle.mysql_replies.specs.Reply.{Progressing, Standing, GoingOn, Rows}
+use Rattle.mysql_replies.specs.Borrowing.{BorrowedRowsAreHandedOut}
+use Rattle.mysql_replies.specs.Reply.{OpenReply, ReplySoFar, GoingOn, Rows}
 use Rattle.mysql_replies.specs.Taking.{Runs, feeds, part_of, results_in, takes_results, without_results}
 
 front_bytes : (front back : List ℕ) → AreBytes (front ++ back) → AreBytes front
@@ -21,17 +21,17 @@ no_rows : (columns : List ColumnDefinition) (rows : List Row) → part_of (Rows 
 no_rows columns [] none = refl
 no_rows columns (row ∷ rows) none = absurd cc
 
-pub lent_out : LentRowsAreHandedOut
-lent_out c first_id limit pieces taken reports old new piece rest row run are lent none =
+pub borrowed_out : BorrowedRowsAreHandedOut
+borrowed_out c first_id limit pieces taken reports old new piece rest row run are lent none =
     let s = lent.s in
     let listed = no_front s.results (part_of s.awaited) (ap results_in (sym lent.going) ∙ none) in
     let empty : lent.rows ≡ [] = no_rows lent.columns lent.rows (ap part_of (sym lent.awaits) ∙ listed.1) in
-    let kept : Progressing = record s { awaited = Rows lent.columns (lent.rows ++ row ∷ []) } in
+    let kept : OpenReply = record s { awaited = Rows lent.columns (lent.rows ++ row ∷ []) } in
     let alone : results_in (GoingOn kept) ≡ RowsResult lent.columns (row ∷ []) None ∷ [] =
     ap (λ (k : List Outcome). k ++ part_of (Rows lent.columns (lent.rows ++ row ∷ []))) listed.0 ∙ ap (λ (these : List Row). part_of (Rows lent.columns (these ++ row ∷ []))) empty in
-    let left : without_results (GoingOn kept) ≡ new.standing =
+    let left : without_results (GoingOn kept) ≡ new.so_far =
     sym (lent.going ∙ (λ i. GoingOn (record s { results = listed.0 i; awaited = (lent.awaits ∙ ap (Rows lent.columns) empty) i }))) in
     let used : AreBytes lent.used = front_bytes lent.used rest (subst AreBytes lent.cut are) in
-    let fed = feeds lent.used (Ok tt) (record new { standing = GoingOn kept }) run used lent.feeds in
-    subst (λ (x : Standing). Runs c first_id limit (pieces ++ lent.used ∷ []) (taken ++ RowsResult lent.columns (row ∷ []) None ∷ []) reports (record new { standing = x })) left
-    (subst (λ (l : List Outcome). Runs c first_id limit (pieces ++ lent.used ∷ []) (taken ++ l) reports (record new { standing = without_results (GoingOn kept) })) alone (takes_results fed))
+    let fed = feeds lent.used (Ok tt) (record new { so_far = GoingOn kept }) run used lent.feeds in
+    subst (λ (x : ReplySoFar). Runs c first_id limit (pieces ++ lent.used ∷ []) (taken ++ RowsResult lent.columns (row ∷ []) None ∷ []) reports (record new { so_far = x })) left
+    (subst (λ (l : List Outcome). Runs c first_id limit (pieces ++ lent.used ∷ []) (taken ++ l) reports (record new { so_far = without_results (GoingOn kept) })) alone (takes_results fed))

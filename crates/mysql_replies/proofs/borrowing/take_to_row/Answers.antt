@@ -2,15 +2,15 @@ use Rattle.std.proofs.Common.{rules, arith, ◌≡◌, ◌<◌, ◌≤◌, ◌++
 use Rattle.std.proofs.lemmas.List.{nil_from_length}
 use Rattle.mysql_wire.specs.Incoming.{codec_by}
 use Rattle.mysql_replies.specs.declared.fault.ReplyFault.TheVariants as faults
-use Rattle.mysql_replies.specs.declared.lending.Place.TheVariants as places
+use Rattle.mysql_replies.specs.declared.borrowing.Place.TheVariants as places
 use Rattle.mysql_replies.specs.declared.state.ReplyState.{ReplyState}
 use Rattle.mysql_replies.specs.Holding.{ReaderGoesOn}
-use Rattle.mysql_replies.specs.LentSteps.{LendStep, LendsOne}
-use Rattle.mysql_replies.specs.Standings.{reader_state_of, reader_state, NumberedStateGoesOn, UnlessMemory, fault_named}
+use Rattle.mysql_replies.specs.RowSteps.{StateBorrowsNext, StateBorrows}
+use Rattle.mysql_replies.specs.States.{reader_state_of, reader_state, NumberedStateGoesOn, UnlessMemory, fault_named}
 use Rattle.mysql_replies.specs.Views.{awaited_view}
-use Rattle.mysql_replies.proofs.LentSteps.{lend_failed, lend_short, lent_behind, paused_behind}
+use Rattle.mysql_replies.proofs.RowSteps.{borrow_failed, borrow_short, borrowed_behind, paused_behind}
 use Rattle.mysql_replies.proofs.Receiving.{taking_starts, paused_empty, not_empty, elsewhere, piece_bytes, piece_goes_on, piece_runs_short, goes_on_over, taking_next, refused_goes_on, failed_short, over_taken, waits_taken}
-use Rattle.mysql_replies.proofs.lending.take_to_row.Goals as goal
+use Rattle.mysql_replies.proofs.borrowing.take_to_row.Goals as goal
 
 pub packets-init : goal.packets-init
 packets-init c =
@@ -55,14 +55,14 @@ returns-then-is_over-clause-goes_on c =
     let src = now.bytes ++ c.packets.rest.now in
     let t = c.packets.invariant.taking in
     let over = c.is_over.ensures.over c.if-is_over.true in
-    let begun = t.nothing_begun (ap awaited_view over) in
+    let cut_off = t.nothing_begun (ap awaited_view over) in
     let kept = c.packets.invariant.over (ap awaited_view over) in
     let some : src ≡ [] → ⊥ = λ none. not_empty c.packets.rest.now c.is_empty.result c.is_empty.ensures c.if-is_empty.false (ap (λ l. l ++ c.packets.rest.now) (sym kept) ∙ none) in
     let after = c.fail.new.self in
     subst (λ f. UnlessMemory {X = Unit {0}} (Err f) (ReaderGoesOn (reader_state start old) piece (reader_state after now))) (sym c.fail.ensures.same)
     (piece_goes_on laws start (codec_by old) old.bytes fed [] piece (reader_state after now) (Err faults.AfterEnd) c.requires.going refl
     (elsewhere (reader_state_of start (codec_by old) fed []) after (reader_state_of after (codec_by now) src []) (reader_state after now) (Err faults.AfterEnd) refl (ap (λ (s : ReplyState). s.fault) c.fail.ensures.state) refl refl
-    (goes_on_over laws start s after (codec_by old) (codec_by now) fed [] src [] t.payloads t.received c.requires.going t.going c.fail.ensures.state (ap awaited_view over) begun.0 begun.1 begun.2 t.bytes some)))
+    (goes_on_over laws start s after (codec_by old) (codec_by now) fed [] src [] t.payloads t.received c.requires.going t.going c.fail.ensures.state (ap awaited_view over) cut_off.0 cut_off.1 cut_off.2 t.bytes some)))
 
 pub returns-in-Ok-true-clause-paused : goal.returns-in-Ok-true-clause-paused
 returns-in-Ok-true-clause-paused c =
@@ -76,9 +76,9 @@ returns-in-Ok-true-clause-lends c =
     let next = c.lend.new.self in
     let payload = c.in-Some.payload.now in
     let ok = c.in-Ok-true.ensures.ok in
-    let step : LendsOne s payload next = rw c.in-Ok-true.field-0-test at c.in-Ok-true.ensures.step in
+    let step : StateBorrows s payload next = rw c.in-Ok-true.field-0-test at c.in-Ok-true.ensures.step in
     let fits : length c.read_in_place.new.piece.now ≤ length c.args.rest.now.now = omega (arith, c.in-Some.ensures.between.2, c.packets.invariant.shorter) in
-    lent_behind c.framing_laws.ensures c.args.state.now s next c.args.packets.now c.packets.packets c.read_in_place.new.self c.args.rest.now.now c.packets.rest.now c.read_in_place.new.piece.now payload (places.InPiece c.in-Some.payload)
+    borrowed_behind c.framing_laws.ensures c.args.state.now s next c.args.packets.now c.packets.packets c.read_in_place.new.self c.args.rest.now.now c.packets.rest.now c.read_in_place.new.piece.now payload (places.InPiece c.in-Some.payload)
     c.packets.invariant.taking c.requires.going c.in-Some.ensures.found c.in-Some.ensures.between.0 fits ok.0 ok.1 step refl
 
 pub packets-preserved-in-Ok-false : goal.packets-preserved-in-Ok-false
@@ -104,12 +104,12 @@ packets-preserved-in-Ok-false c =
 
 pub returns-in-Err-clause-goes_on : goal.returns-in-Err-clause-goes_on
 returns-in-Err-clause-goes_on c =
-    lend_failed c.framing_laws.ensures c.args.state.now c.packets.state c.lend.new.self c.args.packets.now c.packets.packets c.read_in_place.new.self c.args.rest.now.now c.packets.rest.now c.read_in_place.new.piece.now c.in-Some.payload.now c.in-Err.fault
+    borrow_failed c.framing_laws.ensures c.args.state.now c.packets.state c.lend.new.self c.args.packets.now c.packets.packets c.read_in_place.new.self c.args.rest.now.now c.packets.rest.now c.read_in_place.new.piece.now c.in-Some.payload.now c.in-Err.fault
     c.packets.invariant.taking c.requires.going c.in-Some.ensures.found c.in-Err.ensures.fault c.in-Err.ensures.step
 
 pub returns-in-Err-clause-short : goal.returns-in-Err-clause-short
 returns-in-Err-clause-short c =
-    lend_short c.framing_laws.ensures c.args.state.now c.packets.state c.lend.new.self c.args.packets.now c.packets.packets c.read_in_place.new.self c.args.rest.now.now c.packets.rest.now c.in-Some.payload.now c.in-Err.fault
+    borrow_short c.framing_laws.ensures c.args.state.now c.packets.state c.lend.new.self c.args.packets.now c.packets.packets c.read_in_place.new.self c.args.rest.now.now c.packets.rest.now c.in-Some.payload.now c.in-Err.fault
     c.packets.invariant.taking c.requires.going (c.is_over.ensures.awaiting c.if-is_over.false) c.in-Err.ensures.step
 
 pub returns-in-Ok-true-lend-clause-paused : goal.returns-in-Ok-true-lend-clause-paused
@@ -133,9 +133,9 @@ returns-in-Ok-true-lend-clause-lends c =
     let fewer : length c.advance.new.piece.now < length c.packets.rest.now = rw left.1 at less in
     let fits : length c.advance.new.piece.now ≤ length c.args.rest.now.now = omega (arith, fewer, c.packets.invariant.shorter) in
     let ok = c.in-Ok-true-lend.ensures.ok in
-    let step : LendsOne s c.payload.result.now next = rw c.in-Ok-true-lend.field-0-test at c.in-Ok-true-lend.ensures.step in
-    lent_behind c.framing_laws.ensures c.args.state.now s next c.args.packets.now c.packets.packets new c.args.rest.now.now c.packets.rest.now c.advance.new.piece.now new.payload places.InBuffer
-    c.packets.invariant.taking c.requires.going h none fits ok.0 ok.1 (subst (λ p. LendsOne s p next) c.payload.ensures step) refl
+    let step : StateBorrows s c.payload.result.now next = rw c.in-Ok-true-lend.field-0-test at c.in-Ok-true-lend.ensures.step in
+    borrowed_behind c.framing_laws.ensures c.args.state.now s next c.args.packets.now c.packets.packets new c.args.rest.now.now c.packets.rest.now c.advance.new.piece.now new.payload places.InBuffer
+    c.packets.invariant.taking c.requires.going h none fits ok.0 ok.1 (subst (λ p. StateBorrows s p next) c.payload.ensures step) refl
 
 pub packets-preserved : goal.packets-preserved
 packets-preserved c =
@@ -169,12 +169,12 @@ returns-in-Err-lend-clause-goes_on c =
     let next = c.lend-in-Ok-true-advance.new.self in
     let left : (c.read_in_place.new.self ≡ c.packets.packets) × (c.read_in_place.new.piece ≡ c.packets.rest) = search rules in
     let h = rw (left.0, left.1) at (rw c.in-Ok-true-advance.field-0-test at c.in-Ok-true-advance.ensures.ok) in
-    lend_failed c.framing_laws.ensures c.args.state.now s next c.args.packets.now c.packets.packets new c.args.rest.now.now c.packets.rest.now c.advance.new.piece.now new.payload c.in-Err-lend.fault
-    c.packets.invariant.taking c.requires.going h c.in-Err-lend.ensures.fault (subst (λ p. LendStep s p (Err c.in-Err-lend.fault) next) c.payload.ensures c.in-Err-lend.ensures.step)
+    borrow_failed c.framing_laws.ensures c.args.state.now s next c.args.packets.now c.packets.packets new c.args.rest.now.now c.packets.rest.now c.advance.new.piece.now new.payload c.in-Err-lend.fault
+    c.packets.invariant.taking c.requires.going h c.in-Err-lend.ensures.fault (subst (λ p. StateBorrowsNext s p (Err c.in-Err-lend.fault) next) c.payload.ensures c.in-Err-lend.ensures.step)
 
 pub returns-in-Err-lend-clause-short : goal.returns-in-Err-lend-clause-short
 returns-in-Err-lend-clause-short c =
-    lend_short c.framing_laws.ensures c.args.state.now c.packets.state c.lend-in-Ok-true-advance.new.self c.args.packets.now c.packets.packets c.advance.new.self c.args.rest.now.now c.packets.rest.now c.payload.result.now c.in-Err-lend.fault
+    borrow_short c.framing_laws.ensures c.args.state.now c.packets.state c.lend-in-Ok-true-advance.new.self c.args.packets.now c.packets.packets c.advance.new.self c.args.rest.now.now c.packets.rest.now c.payload.result.now c.in-Err-lend.fault
     c.packets.invariant.taking c.requires.going (c.is_over.ensures.awaiting c.if-is_over.false) c.in-Err-lend.ensures.step
 
 pub returns-in-Ok-false-advance-clause-lends : goal.returns-in-Ok-false-advance-clause-lends

@@ -18,13 +18,13 @@ use Rattle.mysql_replies.specs.declared.context.ReplyKind.{ReplyKind}
 use Rattle.mysql_replies.specs.declared.context.ReplyKind.TheVariants as kinds
 use Rattle.mysql_replies.specs.declared.fault.ReplyFault.{ReplyFault}
 use Rattle.mysql_replies.specs.declared.fault.ReplyFault.TheVariants.{BadRow, Memory}
-use Rattle.mysql_replies.specs.declared.lending.Place.{Place}
-use Rattle.mysql_replies.specs.declared.lending.Place.TheVariants as places
+use Rattle.mysql_replies.specs.declared.borrowing.Place.{Place}
+use Rattle.mysql_replies.specs.declared.borrowing.Place.TheVariants as places
 use Rattle.mysql_replies.specs.declared.state.ReplyState.{ReplyState}
 use Rattle.mysql_replies.specs.Grammar.{Payload, has_report_form}
 use Rattle.mysql_replies.specs.Holding.{ReaderState, ReaderGoesOn, TakesAll}
 use Rattle.mysql_replies.specs.Reply.{Awaited, Rows}
-use Rattle.mysql_replies.specs.Standings.{IsShortOf, NumberedStateGoesOn, reader_state}
+use Rattle.mysql_replies.specs.States.{IsShortOf, NumberedStateGoesOn, reader_state}
 use Rattle.mysql_replies.specs.Steps.{reads_as_row}
 
 -- The format of rows, by the kind of the command.
@@ -39,24 +39,24 @@ or_bad_row (Err error) = Err BadRow
 
 -- There is a lender, of rows under these columns in this format.
 abbrev pub IsLender : Option RowReader → RowFormat → List ColumnDefinition → Type 0
-IsLender (Some lender) format columns = (shared_columns lender.columns ≡ columns) × (lender.format ≡ format)
+IsLender (Some reader) format columns = (shared_columns reader.columns ≡ columns) × (reader.format ≡ format)
 IsLender None format columns = ⊥
 
 -- The lender holds this row of a payload.
-abbrev pub Lends : Option RowReader → Payload → Row → Type 0
-Lends (Some lender) payload row = HoldsRow lender payload × (row ≡ row_held lender payload)
-Lends None payload row = ⊥
+abbrev pub RowAt : Option RowReader → Payload → Row → Type 0
+RowAt (Some reader) payload row = HoldsRow reader payload × (row ≡ row_held reader payload)
+RowAt None payload row = ⊥
 
 -- The lender holds the row that a payload is.
-pub record HasRead (lender : Option RowReader) (format : RowFormat)
+pub record HasRead (reader : Option RowReader) (format : RowFormat)
     (columns : List ColumnDefinition) (payload : Payload) : Type 0 where
   pub row : Row
-  pub lends : Lends lender payload row
+  pub lends : RowAt reader payload row
   pub read : row_of format columns payload ≡ Ok row
 
 -- Rows are awaited, and their lender holds this row of a payload.
 abbrev pub LendsAwaited : code.Awaited → Payload → Row → Type 0
-LendsAwaited (awaiting.Rows these) payload row = Lends these.lender payload row
+LendsAwaited (awaiting.Rows these) payload row = RowAt these.reader payload row
 LendsAwaited awaited payload row = ⊥
 
 -- The same rows, and this one behind them.
@@ -69,16 +69,16 @@ abbrev pub keeping : ReplyState → Row → ReplyState
 keeping s row = record s { awaited = with_row s.awaited row }
 
 -- The payload is a row that isn't kept: the state in which it was goes on behind the payload.
-pub record LendsOne (old : ReplyState) (payload : Payload) (new : ReplyState) : Type 0 where
+pub record StateBorrows (old : ReplyState) (payload : Payload) (new : ReplyState) : Type 0 where
   pub row : Row
   pub lends : LendsAwaited new.awaited payload row
   pub goes_on : NumberedStateGoesOn old payload (keeping new row)
 
 -- What a payload leads to: a row is lent, the state goes on, or memory ran out.
-abbrev pub LendStep : ReplyState → Payload → Result Bool ReplyFault → ReplyState → Type 0
-LendStep old payload (Ok true) new = LendsOne old payload new
-LendStep old payload (Err Memory) new = IsShortOf old new
-LendStep old payload r new = NumberedStateGoesOn old payload new
+abbrev pub StateBorrowsNext : ReplyState → Payload → Result Bool ReplyFault → ReplyState → Type 0
+StateBorrowsNext old payload (Ok true) new = StateBorrows old payload new
+StateBorrowsNext old payload (Err Memory) new = IsShortOf old new
+StateBorrowsNext old payload r new = NumberedStateGoesOn old payload new
 
 -- The answer of a payload that was taken: nothing is lent.
 abbrev pub passed_as : Result (Unit {0}) ReplyFault → Result Bool ReplyFault
@@ -96,7 +96,7 @@ payload_at (places.InPiece payload) packets = payload.now
 payload_at places.InBuffer packets = packets.payload
 
 -- The row of the payload there is lent behind the bytes that were used of the piece.
-pub record LendsBehind (old : ReaderState) (piece : List ℕ) (place : Place) (state : ReplyState)
+pub record ReaderBorrows (old : ReaderState) (piece : List ℕ) (place : Place) (state : ReplyState)
     (packets : Incoming) (rest : List ℕ) : Type 0 where
   pub row : Row
   pub lends : LendsAwaited state.awaited (payload_at place packets) row
