@@ -1,4 +1,4 @@
--- A row that was lent where nothing else is listed is as one that was handed out.
+-- A row that was borrowed where nothing else is listed is as one that was handed out.
 use Rattle.std.proofs.Common.{◌≡◌, ℕ, zero, suc, List, [], ◌∷◌, ◌++◌, None, Ok, refl, ap, sym, subst, arith, ◌∙◌}
 use Rattle.mysql_columns.specs.Columns.{ColumnDefinition}
 use Rattle.mysql_rows.specs.Rows.{Row}
@@ -22,16 +22,16 @@ no_rows columns [] none = refl
 no_rows columns (row ∷ rows) none = absurd cc
 
 pub borrowed_out : BorrowedRowsAreHandedOut
-borrowed_out c first_id limit pieces taken reports old new piece rest row run are lent none =
-    let s = lent.s in
-    let listed = no_front s.results (part_of s.awaited) (ap results_in (sym lent.going) ∙ none) in
-    let empty : lent.rows ≡ [] = no_rows lent.columns lent.rows (ap part_of (sym lent.awaits) ∙ listed.1) in
-    let kept : OpenReply = record s { awaited = Rows lent.columns (lent.rows ++ row ∷ []) } in
-    let alone : results_in (GoingOn kept) ≡ RowsResult lent.columns (row ∷ []) None ∷ [] =
-    ap (λ (k : List Outcome). k ++ part_of (Rows lent.columns (lent.rows ++ row ∷ []))) listed.0 ∙ ap (λ (these : List Row). part_of (Rows lent.columns (these ++ row ∷ []))) empty in
+borrowed_out c first_id limit pieces taken reports old new piece rest row run are borrowed none =
+    let s = borrowed.s in
+    let listed = no_front s.results (part_of s.awaited) (ap results_in (sym borrowed.going) ∙ none) in
+    let empty : borrowed.rows ≡ [] = no_rows borrowed.columns borrowed.rows (ap part_of (sym borrowed.awaits) ∙ listed.1) in
+    let kept : OpenReply = record s { awaited = Rows borrowed.columns (borrowed.rows ++ row ∷ []) } in
+    let alone : results_in (GoingOn kept) ≡ RowsResult borrowed.columns (row ∷ []) None ∷ [] =
+    ap (λ (k : List Outcome). k ++ part_of (Rows borrowed.columns (borrowed.rows ++ row ∷ []))) listed.0 ∙ ap (λ (these : List Row). part_of (Rows borrowed.columns (these ++ row ∷ []))) empty in
     let left : without_results (GoingOn kept) ≡ new.so_far =
-    sym (lent.going ∙ (λ i. GoingOn (record s { results = listed.0 i; awaited = (lent.awaits ∙ ap (Rows lent.columns) empty) i }))) in
-    let used : AreBytes lent.used = front_bytes lent.used rest (subst AreBytes lent.cut are) in
-    let fed = feeds lent.used (Ok tt) (record new { so_far = GoingOn kept }) run used lent.feeds in
-    subst (λ (x : ReplySoFar). Runs c first_id limit (pieces ++ lent.used ∷ []) (taken ++ RowsResult lent.columns (row ∷ []) None ∷ []) reports (record new { so_far = x })) left
-    (subst (λ (l : List Outcome). Runs c first_id limit (pieces ++ lent.used ∷ []) (taken ++ l) reports (record new { so_far = without_results (GoingOn kept) })) alone (takes_results fed))
+    sym (borrowed.going ∙ (λ i. GoingOn (record s { results = listed.0 i; awaited = (borrowed.awaits ∙ ap (Rows borrowed.columns) empty) i }))) in
+    let used : AreBytes borrowed.used = front_bytes borrowed.used rest (subst AreBytes borrowed.cut are) in
+    let fed = feeds borrowed.used (Ok tt) (record new { so_far = GoingOn kept }) run used borrowed.feeds in
+    subst (λ (x : ReplySoFar). Runs c first_id limit (pieces ++ borrowed.used ∷ []) (taken ++ RowsResult borrowed.columns (row ∷ []) None ∷ []) reports (record new { so_far = x })) left
+    (subst (λ (l : List Outcome). Runs c first_id limit (pieces ++ borrowed.used ∷ []) (taken ++ l) reports (record new { so_far = without_results (GoingOn kept) })) alone (takes_results fed))

@@ -17,11 +17,10 @@ use Rattle.mysql_replies.specs.declared.fault.ReplyFault.TheVariants as faults
 use Rattle.mysql_replies.specs.declared.state.ReplyState.{ReplyState}
 use Rattle.mysql_replies.specs.Grammar.{Payload, Outcome, Parsed, Complete, CutOff, Faulty, ◌>>=◌, ResultGroup, Line, RowLine, TerminatorLine, ErrorLine, Opening, OkOpening, ErrorOpening, FileOpening, CountOpening, StatementOpening, Ending, Results, last, more, cut_off, faulty, PreparedResult, begins_with, terminator_limit, has_report_form, is_report, map_ok, or_fault, terminator, row, unless_report, as_part, next_payload, column, eof, columns, columns_end, column_group, line, after_rows, rows, result_set, prepared, prepared_columns, opening, after_opening, one_result, deprecate_eof}
 use Rattle.mysql_replies.specs.Borrowing.{rows_in, rows_listed}
-use Rattle.mysql_replies.specs.RowSteps.{IsNoRow}
 use Rattle.mysql_replies.specs.OpenRows.{RowsSoFar}
 use Rattle.mysql_replies.specs.Reply.{Answer, Awaited, First, Columns, Rows, Parameters, PreparedColumns, Nothing, rest_of, OpenReply, PayloadsDecide, Continues, end_of}
 use Rattle.mysql_replies.specs.States.{open_reply, faulted, faulted_at, reply_so_far, IsShortOf, OnMemory, StateGoesOn, UnlessMemory}
-use Rattle.mysql_replies.specs.Steps.{IsGroupSettled, IsSettled, listed_of, reads_as_row}
+use Rattle.mysql_replies.specs.Steps.{IsGroupSettled, IsNoRow, IsSettled, listed_of, reads_as_row}
 use Rattle.mysql_replies.specs.Taking.{rows_awaited}
 use Rattle.mysql_replies.specs.Views.{awaited_view, outcome_views}
 use Rattle.mysql_replies.proofs.Finishing.{stops, ending_at}

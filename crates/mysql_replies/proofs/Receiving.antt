@@ -321,8 +321,8 @@ taking_smaller laws codec new src dst src' dst' payload h empty =
 -- After the last result nothing is held.
 pub paused_over : FramingLaws → (s : ReplyState) (codec : Codec) (src dst : List ℕ) → NothingBegun s codec dst → s.awaited ≡ awaiting.Nothing → src ≡ [] → codec.refused ≡ None → CanGoOn codec dst → AreBytes (held codec src dst) → IsPaused s codec src dst
 paused_over laws s codec src dst nothing_begun over none refused can_go_on bytes =
-    let cut_off = nothing_begun (ap awaited_view over) in
-    let nothing : held codec src dst ≡ [] = held_nothing laws codec src dst cut_off.0 cut_off.1 cut_off.2 ∙ none in
+    let begun = nothing_begun (ap awaited_view over) in
+    let nothing : held codec src dst ≡ [] = held_nothing laws codec src dst begun.0 begun.1 begun.2 ∙ none in
     record {
       refused = refused;
       can_go_on = can_go_on;
@@ -466,7 +466,7 @@ fresh_paused laws s codec src dst between byte none empty =
     let nothing : held codec src dst ≡ [] = held_nothing laws codec src dst between byte empty ∙ none in
     record {
       refused = between.1;
-      can_go_on = λ e. subst (λ k. IsOfPacket codec.limit codec.cut_off k) (sym empty) (subst (λ k. IsOfPacket codec.limit k []) (sym between.0) (omega arith, refl));
+      can_go_on = λ e. subst (λ k. IsOfPacket codec.limit codec.begun k) (sym empty) (subst (λ k. IsOfPacket codec.limit k []) (sym between.0) (omega arith, refl));
       rest = Empty;
       no_fault = λ f. f;
       is_rest = subst (λ k. IsRest codec.limit (packet_number codec dst) k Empty) (sym nothing) (empty_rest codec.limit (packet_number codec dst));
@@ -531,9 +531,9 @@ piece_bytes laws codec src src' dst piece fed are others =
 -- After the last result no byte is held.
 pub paused_empty : FramingLaws → (s : ReplyState) (codec : Codec) (src dst : List ℕ) → IsPaused s codec src dst → awaited_view s.awaited ≡ reply.Nothing → src ≡ []
 paused_empty laws s codec src dst p over =
-    let cut_off = p.nothing_begun over in
+    let begun = p.nothing_begun over in
     let split : Split = record { payloads = []; rest_bytes = held codec src dst; rest = p.rest } in
-    sym (held_nothing laws codec src dst cut_off.0 cut_off.1 cut_off.2)
+    sym (held_nothing laws codec src dst begun.0 begun.1 begun.2)
     ∙ no_bytes codec.limit (packet_number codec dst) (held codec src dst) split (record { joined = refl; within = tt; ends = p.is_rest }) refl (p.over over)
 
 -- Where a fault was met, bytes that are held in place of others change nothing.

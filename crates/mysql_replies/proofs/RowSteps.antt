@@ -1,4 +1,4 @@
--- Rows that are lent: what a payload leads to, and what bytes were used.
+-- Rows that are borrowed: what a payload leads to, and what bytes were used.
 use Rattle.std.proofs.Common.{◌≡◌, ℕ, ◌+◌, ◌^◌, ◌<◌, ◌≤◌, List, [], ◌∷◌, ◌++◌, length, Bool, true, false, Option, Some, None, Result, Ok, Err, refl, ap, sym, subst, arith, ◌∙◌, length-append}
 use Rattle.std.specs.Prelude.{if◌then◌else◌, ◌==◌, OnOk, IfErr}
 use Rattle.std.proofs.lemmas.List.{append-nil}
@@ -28,7 +28,7 @@ use Rattle.mysql_replies.specs.declared.state.ReplyState.{ReplyState}
 use Rattle.mysql_replies.specs.Grammar.{Payload, has_report_form, is_binary, row, whole_or_fault}
 use Rattle.mysql_replies.specs.Holding.{HasFoundNoFault, ReaderState, ReaderGoesOn, StandsShort, TakesAll}
 use Rattle.mysql_replies.specs.Borrowing.{BorrowsNext, BorrowsRow, rows_listed}
-use Rattle.mysql_replies.specs.RowSteps.{HasRead, StateBorrowsNext, RowAt, LendsAwaited, ReaderBorrows, StateBorrows, format_of, keeping, or_bad_row, passed_as, payload_at, with_row}
+use Rattle.mysql_replies.specs.RowSteps.{StateBorrowsNext, RowAt, ReaderBorrows, StateBorrows, format_of, keeping, or_bad_row, passed_as, payload_at, reader_of, with_row}
 use Rattle.mysql_replies.specs.OpenRows.{RowsSoFar}
 use Rattle.mysql_replies.specs.Reply.{GoingOn, Rows, rest_of}
 use Rattle.mysql_replies.specs.States.{FramingLaws, IsPaused, IsShortOf, NumberedStateGoesOn, OnMemory, StateGoesOn, UnlessMemory, faulted, open_reply, reader_state, reader_state_of, reply_so_far}
@@ -40,7 +40,7 @@ use Rattle.mysql_replies.proofs.Receiving.{Since, Taking, all_taken, elsewhere, 
 use Rattle.mysql_replies.proofs.Stepping.{row_failed, row_went}
 use Rattle.mysql_replies.proofs.Taking.{step_failed, step_moved, step_short}
 
--- What a lender reads is the row of the grammar.
+-- What a reader of rows reads is the row of the grammar.
 whole_if : (b : Bool) (found : Row) (error : RowError) → (if b then Ok found else Err faults.BadRow) ≡ or_bad_row (if b then Ok found else Err error)
 whole_if true found error = refl
 whole_if false found error = refl
@@ -57,21 +57,21 @@ row_is c columns payload = row_is_by c.kind
     row_is_by kinds.Binary = whole_is (as_row columns (binary_resultset_row_at columns payload))
     row_is_by kinds.Prepare = whole_is (as_row columns (text_row_at columns payload))
 
--- A row is lent, of which the state that had kept it goes on.
-pub row_borrowed : (before : ReplyState) (these now : RowsSoFar) (payload : Payload) → before.fault ≡ None → before.count + 1 < 2 ^ 64 → before.awaited ≡ awaiting.Rows these → now ≡ record these { reader = now.reader } → has_report_form before.context payload ≡ false → reads_as_row before.context payload ≡ true → HasRead now.reader (format_of before.context.kind) these.columns payload → StateBorrows before payload (record before { awaited = awaiting.Rows now; count = before.count + 1 })
+-- A row can be borrowed, of which the state that had kept it goes on.
+pub row_borrowed : (before : ReplyState) (these now : RowsSoFar) (payload : Payload) → before.fault ≡ None → before.count + 1 < 2 ^ 64 → before.awaited ≡ awaiting.Rows these → now ≡ record these { reader = now.reader } → has_report_form before.context payload ≡ false → reads_as_row before.context payload ≡ true → (row : Row) × RowAt now.reader payload row × (row_of (format_of before.context.kind) these.columns payload ≡ Ok row) → StateBorrows before payload (record before { awaited = awaiting.Rows now; count = before.count + 1 })
 row_borrowed before these now payload going room is same form like h =
     let c = before.context in
-    let next : code.Awaited = awaiting.Rows (record now { rows = now.rows ++ h.row ∷ [] }) in
-    let read : row c these.columns payload ≡ Ok h.row = row_is c these.columns payload ∙ ap or_bad_row h.read in
-    let went : Leads c (λ z. rest_of c (Rows these.columns these.rows) (payload ∷ z)) payload (Moves [] (Rows these.columns (now.rows ++ h.row ∷ []))) =
-    row_went c these.columns these.rows (now.rows ++ h.row ∷ []) payload h.row form like read (ap (λ (x : RowsSoFar). x.rows ++ h.row ∷ []) same) in
+    let next : code.Awaited = awaiting.Rows (record now { rows = now.rows ++ h.0 ∷ [] }) in
+    let read : row c these.columns payload ≡ Ok h.0 = row_is c these.columns payload ∙ ap or_bad_row h.2 in
+    let went : Leads c (λ z. rest_of c (Rows these.columns these.rows) (payload ∷ z)) payload (Moves [] (Rows these.columns (now.rows ++ h.0 ∷ []))) =
+    row_went c these.columns these.rows (now.rows ++ h.0 ∷ []) payload h.0 form like read (ap (λ (x : RowsSoFar). x.rows ++ h.0 ∷ []) same) in
     let leads : Leads c (λ z. rest_of c (awaited_view before.awaited) (payload ∷ z)) payload (Moves [] (awaited_view next)) =
     subst (λ a. Leads c (λ z. rest_of c (awaited_view a) (payload ∷ z)) payload (Moves [] (awaited_view next))) (sym is)
-    (subst (λ columns. Leads c (λ z. rest_of c (Rows these.columns these.rows) (payload ∷ z)) payload (Moves [] (Rows columns (now.rows ++ h.row ∷ [])))) (sym (ap (λ (x : RowsSoFar). x.columns) same)) went) in
+    (subst (λ columns. Leads c (λ z. rest_of c (Rows these.columns these.rows) (payload ∷ z)) payload (Moves [] (Rows columns (now.rows ++ h.0 ∷ [])))) (sym (ap (λ (x : RowsSoFar). x.columns) same)) went) in
     let after : ReplyState = record before { awaited = next; count = before.count + 1 } in
     record {
-      row = h.row;
-      lends = h.lends;
+      row = h.0;
+      lies = h.1;
       goes_on = goes_over_numbered before after payload going room (λ e. refl)
           (step_moved before (record before { awaited = next }) next [] payload going refl (sym (append-nil (outcome_views before.results.items))) form leads);
     }
@@ -155,13 +155,13 @@ used_up laws start s next old now new piece rest left payload t began h none fit
     (subst (λ k. IsRest codec.limit (packet_number codec []) k Empty) (sym nothing) (empty_rest codec.limit (packet_number codec []))) in
     record { used = c.0; cut = c.1; takes = all.0; goes_on = all.1; whole = nothing }
 
--- A row's payload was handed out, and the row is lent.
+-- A row's payload was handed out, and the row can be borrowed.
 pub borrowed_behind : FramingLaws → (start s next : ReplyState) (old now new : Incoming) (piece rest left payload : List ℕ) (place : Place) → Taking start (codec_by old) (old.bytes ++ piece) [] s (codec_by now) (now.bytes ++ rest) [] → start.fault ≡ None → HandsOut (codec_by now) (now.bytes ++ rest) [] (codec_by new) (new.bytes ++ left) payload → new.bytes ≡ [] → length left ≤ length piece → next.fault ≡ None → next.count ≡ s.count + 1 → StateBorrows s payload next → payload ≡ payload_at place new → ReaderBorrows (reader_state start old) piece place next new left
 borrowed_behind laws start s next old now new piece rest left payload place t began h none fits going count one is =
     let u = used_up laws start s (keeping next one.row) old now new piece rest left payload t began h none fits going count one.goes_on in
     record {
       row = one.row;
-      lends = subst (λ k. LendsAwaited next.awaited k one.row) is one.lends;
+      lies = subst (λ k. RowAt (reader_of next.awaited) k one.row) is one.lies;
       used = u.used;
       cut = u.cut;
       takes = u.takes;
@@ -227,18 +227,10 @@ feeds_fails start next old new piece fault began wrong goes short = record {
   short = λ none memory. on_is {X = Unit {0}} (Err fault) memory short;
 }
 
--- One row is lent of a payload.
-same_row : (a : code.Awaited) (payload : Payload) (x y : Row) → LendsAwaited a payload x → LendsAwaited a payload y → x ≡ y
-same_row (awaiting.Rows these) payload x y one two = same_row_by these.reader one two
-  where
-    same_row_by : (reader : Option RowReader) → RowAt reader payload x → RowAt reader payload y → x ≡ y
-    same_row_by (Some it) one two = one.1 ∙ sym two.1
-    same_row_by None one two = absurd one
-same_row awaiting.First payload x y one two = absurd one
-same_row (awaiting.Columns left these) payload x y one two = absurd one
-same_row (awaiting.Parameters stmt left these) payload x y one two = absurd one
-same_row (awaiting.PreparedColumns stmt params left these) payload x y one two = absurd one
-same_row awaiting.Nothing payload x y one two = absurd one
+-- One row lies in a payload.
+same_row : (reader : Option RowReader) (payload : Payload) (x y : Row) → RowAt reader payload x → RowAt reader payload y → x ≡ y
+same_row (Some reader) payload x y one two = one.1 ∙ sym two.1
+same_row None payload x y one two = absurd one
 
 borrows_kept : (start next : ReplyState) (old new : Incoming) (piece rest used : List ℕ) (found : Row) (these : RowsSoFar) → next.awaited ≡ awaiting.Rows these → start.fault ≡ None → next.fault ≡ None → piece ≡ used ++ rest → (reader_state next new).bytes ≡ [] → TakesAll (reader_state start old) ((reader_state start old).bytes ++ used) (reader_state (keeping next found) new) → ReaderGoesOn (reader_state start old) used (reader_state (keeping next found) new) → BorrowsRow (reader_state start old) piece found (reader_state next new) rest
 borrows_kept start next old new piece rest used found these is began going cut whole takes goes =
@@ -257,25 +249,25 @@ borrows_kept start next old new piece rest used found these is began going cut w
       whole = whole;
     }
 
-borrows_by : (start next : ReplyState) (old new : Incoming) (piece rest used : List ℕ) (payload : Payload) (found : Row) (a : code.Awaited) → next.awaited ≡ a → LendsAwaited a payload found → start.fault ≡ None → next.fault ≡ None → piece ≡ used ++ rest → (reader_state next new).bytes ≡ [] → TakesAll (reader_state start old) ((reader_state start old).bytes ++ used) (reader_state (keeping next found) new) → ReaderGoesOn (reader_state start old) used (reader_state (keeping next found) new) → BorrowsRow (reader_state start old) piece found (reader_state next new) rest
-borrows_by start next old new piece rest used payload found (awaiting.Rows these) is lends began going cut whole takes goes = borrows_kept start next old new piece rest used found these is began going cut whole takes goes
-borrows_by start next old new piece rest used payload found awaiting.First is lends began going cut whole takes goes = absurd lends
-borrows_by start next old new piece rest used payload found (awaiting.Columns left these) is lends began going cut whole takes goes = absurd lends
-borrows_by start next old new piece rest used payload found (awaiting.Parameters stmt left these) is lends began going cut whole takes goes = absurd lends
-borrows_by start next old new piece rest used payload found (awaiting.PreparedColumns stmt params left these) is lends began going cut whole takes goes = absurd lends
-borrows_by start next old new piece rest used payload found awaiting.Nothing is lends began going cut whole takes goes = absurd lends
+borrows_by : (start next : ReplyState) (old new : Incoming) (piece rest used : List ℕ) (payload : Payload) (found : Row) (a : code.Awaited) → next.awaited ≡ a → RowAt (reader_of a) payload found → start.fault ≡ None → next.fault ≡ None → piece ≡ used ++ rest → (reader_state next new).bytes ≡ [] → TakesAll (reader_state start old) ((reader_state start old).bytes ++ used) (reader_state (keeping next found) new) → ReaderGoesOn (reader_state start old) used (reader_state (keeping next found) new) → BorrowsRow (reader_state start old) piece found (reader_state next new) rest
+borrows_by start next old new piece rest used payload found (awaiting.Rows these) is lies began going cut whole takes goes = borrows_kept start next old new piece rest used found these is began going cut whole takes goes
+borrows_by start next old new piece rest used payload found awaiting.First is lies began going cut whole takes goes = absurd lies
+borrows_by start next old new piece rest used payload found (awaiting.Columns left these) is lies began going cut whole takes goes = absurd lies
+borrows_by start next old new piece rest used payload found (awaiting.Parameters stmt left these) is lies began going cut whole takes goes = absurd lies
+borrows_by start next old new piece rest used payload found (awaiting.PreparedColumns stmt params left these) is lies began going cut whole takes goes = absurd lies
+borrows_by start next old new piece rest used payload found awaiting.Nothing is lies began going cut whole takes goes = absurd lies
 
--- The row that is lent is the next one of the piece.
-pub borrows_row : (start next : ReplyState) (old new : Incoming) (piece rest : List ℕ) (place : Place) (found : Row) → ReaderBorrows (reader_state start old) piece place next new rest → LendsAwaited next.awaited (payload_at place new) found → start.fault ≡ None → next.fault ≡ None → BorrowsRow (reader_state start old) piece found (reader_state next new) rest
-borrows_row start next old new piece rest place found behind lends began going =
-    let is : behind.row ≡ found = same_row next.awaited (payload_at place new) behind.row found behind.lends lends in
-    borrows_by start next old new piece rest behind.used (payload_at place new) found next.awaited refl lends began going behind.cut behind.whole
+-- The row that is borrowed is the next one of the piece.
+pub borrows_row : (start next : ReplyState) (old new : Incoming) (piece rest : List ℕ) (place : Place) (found : Row) → ReaderBorrows (reader_state start old) piece place next new rest → RowAt (reader_of next.awaited) (payload_at place new) found → start.fault ≡ None → next.fault ≡ None → BorrowsRow (reader_state start old) piece found (reader_state next new) rest
+borrows_row start next old new piece rest place found behind lies began going =
+    let is : behind.row ≡ found = same_row (reader_of next.awaited) (payload_at place new) behind.row found behind.lies lies in
+    borrows_by start next old new piece rest behind.used (payload_at place new) found next.awaited refl lies began going behind.cut behind.whole
     (subst (λ k. TakesAll (reader_state start old) ((reader_state start old).bytes ++ behind.used) (reader_state (keeping next k) new)) is behind.takes)
     (subst (λ k. ReaderGoesOn (reader_state start old) behind.used (reader_state (keeping next k) new)) is behind.goes_on)
 
--- What a reader does over a piece: its next row is lent, all of it is read, or a fault is met.
-pub next_borrowed : (start next : ReplyState) (old new : Incoming) (piece rest : List ℕ) (place : Place) (found : RowRef) → ReaderBorrows (reader_state start old) piece place next new rest → LendsAwaited next.awaited (payload_at place new) (row_ref_view found) → start.fault ≡ None → next.fault ≡ None → rows_listed (reply_so_far next) ≡ rows_listed (reply_so_far start) → BorrowsNext (reader_state start old) piece (Ok (Some found)) (reader_state next new) rest
-next_borrowed start next old new piece rest place found behind lends began going none = record { advances = borrows_row start next old new piece rest place (row_ref_view found) behind lends began going; keeps_none = none }
+-- What a reader does over a piece: its next row is borrowed, all of it is read, or a fault is met.
+pub next_borrowed : (start next : ReplyState) (old new : Incoming) (piece rest : List ℕ) (place : Place) (found : RowRef) → ReaderBorrows (reader_state start old) piece place next new rest → RowAt (reader_of next.awaited) (payload_at place new) (row_ref_view found) → start.fault ≡ None → next.fault ≡ None → rows_listed (reply_so_far next) ≡ rows_listed (reply_so_far start) → BorrowsNext (reader_state start old) piece (Ok (Some found)) (reader_state next new) rest
+next_borrowed start next old new piece rest place found behind lies began going none = record { advances = borrows_row start next old new piece rest place (row_ref_view found) behind lies began going; keeps_none = none }
 
 pub next_none : (start next : ReplyState) (old new : Incoming) (piece rest : List ℕ) → rest ≡ [] → start.fault ≡ None → next.fault ≡ None → TakesAll (reader_state start old) ((reader_state start old).bytes ++ piece) (reader_state next new) → ReaderGoesOn (reader_state start old) piece (reader_state next new) → HasFoundNoFault (reader_state next new) → rows_listed (reply_so_far next) ≡ rows_listed (reply_so_far start) → BorrowsNext (reader_state start old) piece (Ok None) (reader_state next new) rest
 next_none start next old new piece rest used began going takes goes found none = record { advances = (feeds_all start next old new piece began going takes goes, found, used); keeps_none = none }

@@ -1,5 +1,5 @@
 -- What a payload that is no progress report leads to, by what stands in its place.
-use Rattle.std.specs.Prelude.{nat_lt, ◌&&◌}
+use Rattle.std.specs.Prelude.{nat_lt, not, ◌&&◌, ◌||◌}
 use Rattle.std.proofs.Common.{◌≡◌, ℕ, zero, suc, ◌<◌, ◌-◌, List, [], ◌∷◌, ◌++◌, length, Bool, true, false, Result, Ok, Err, refl, ap, sym, subst, arith, if◌then◌else◌, ◌∙◌, ◌⊎◌, inl, inr}
 use Rattle.std.proofs.lemmas.List.{append-nil}
 use Rattle.mysql_rows.specs.Rows.{Row}
@@ -13,12 +13,12 @@ use Rattle.mysql_replies.specs.declared.awaited.Awaited as code
 use Rattle.mysql_replies.specs.declared.awaited.Listed.TheVariants as listed
 use Rattle.mysql_replies.specs.declared.awaited.Stepped.{Stepped}
 use Rattle.mysql_replies.specs.declared.awaited.Stepped.TheVariants.{Moved, Failed}
-use Rattle.mysql_replies.specs.Grammar.{Payload, Outcome, Parsed, Complete, Faulty, ◌>>=◌, ResultGroup, Ending, Wrong, Results, last, more, faulty, Line, RowLine, TerminatorLine, ErrorLine, Opening, begins_with, terminator_limit, terminator, or_fault, map_ok, row, has_report_form, as_part, next_payload, column, eof, columns, columns_end, column_group, line, after_rows, rows, result_set, prepared, prepared_columns, opening, after_opening, one_result}
+use Rattle.mysql_replies.specs.Grammar.{Payload, Outcome, Parsed, Complete, Faulty, ◌>>=◌, ResultGroup, Ending, Wrong, Results, last, more, faulty, Line, RowLine, TerminatorLine, ErrorLine, Opening, begins_with, terminator_limit, terminator, or_fault, map_ok, row, has_report_form, as_part, next_payload, column, eof, columns, columns_end, column_group, line, rows_end, after_rows, rows, result_set, prepared, prepared_columns, opening, after_opening, one_result}
 use Rattle.mysql_server_packets.specs.Packets.{error_at}
 use Rattle.mysql_replies.specs.declared.fault.ReplyFault.TheVariants.{BadError}
 use Rattle.mysql_replies.specs.Reply.{Awaited, First, Rows, Nothing, rest_of}
 use Rattle.mysql_replies.specs.Views.{Refuses, awaited_view}
-use Rattle.mysql_replies.specs.Steps.{Moves, Leads, Group, OfResultSet, OfParameters, OfPrepared, group_awaited, after_group, IsGroupSettled, IsSettled, listed_of, listed_views, reads_as_row, IsMove, IsStep}
+use Rattle.mysql_replies.specs.Steps.{IsNoRow, Moves, Leads, Group, OfResultSet, OfParameters, OfPrepared, group_awaited, after_group, IsGroupSettled, IsSettled, listed_of, listed_views, reads_as_row, IsMove, IsStep}
 
 -- A payload not in the form of a progress report is read.
 pub next_is : {A : Type 0} (c : Context) (read : Payload → Result A ReplyFault) (payload : Payload) (z : List Payload) → has_report_form c payload ≡ false → next_payload c read (payload ∷ z) ≡ as_part (read payload) payload z
@@ -187,6 +187,18 @@ row_line : (c : Context) (columns : List ColumnDefinition) (payload : Payload) �
 row_line c columns payload h =
     third_of (map_ok ErrorLine (or_fault BadError (error_at c.capabilities.0 payload))) (map_ok TerminatorLine (terminator c payload)) (map_ok RowLine (row c columns payload))
     (begins_with 255 payload) (begins_with 254 payload && nat_lt (length payload) (terminator_limit c)) h
+
+ended : {A : Type 0} (x y z : A) (form a b : Bool) → form ≡ false → (form || not (if a then false else if b then false else true)) ≡ true → (if a then x else if b then y else z) ≡ (if a then x else y)
+ended x y z true a b none h = let k : true ≡ false = none in cc
+ended x y z false true b none h = refl
+ended x y z false false true none h = refl
+ended x y z false false false none h = let k : false ≡ true = h in cc
+
+-- What is no report and isn't read as a row ends the rows or is nothing.
+pub ends_line : (c : Context) (columns : List ColumnDefinition) (these : List Row) (payload : Payload) → has_report_form c payload ≡ false → IsNoRow c (Rows columns these) payload → line c columns payload ≡ rows_end c payload
+ends_line c columns these payload form h =
+    ended (map_ok ErrorLine (or_fault BadError (error_at c.capabilities.0 payload))) (map_ok TerminatorLine (terminator c payload)) (map_ok RowLine (row c columns payload))
+    (has_report_form c payload) (begins_with 255 payload) (begins_with 254 payload && nat_lt (length payload) (terminator_limit c)) form h
 
 -- A row is added to those before it.
 pub row_went : (c : Context) (columns : List ColumnDefinition) (these those : List Row) (payload : Payload) (found : Row) → has_report_form c payload ≡ false → reads_as_row c payload ≡ true → row c columns payload ≡ Ok found → those ≡ these ++ found ∷ [] → Leads c (λ z. rows c columns these (payload ∷ z)) payload (Moves [] (Rows columns those))

@@ -9,6 +9,8 @@ use Rattle.mysql_wire.specs.Flags.{contains}
 use Rattle.mysql_ok_packets.specs.OkPackets.{OkPacket, ok_packet_at, old_eof_at, result_set_terminator_at}
 use Rattle.mysql_ok_packets.specs.OkPackets.{more_results_exist}
 pub use Rattle.mysql_server_packets.specs.Packets.{progress_obsolete}
+pub use Rattle.mysql_row_refs.specs.Lines.{begins_with}
+use Rattle.mysql_row_refs.specs.Lines.{terminator_limit as limit_of}
 use Rattle.mysql_server_packets.specs.Packets.{PrepareOk, ServerError, error_at, progress_report_at, prepare_ok_at}
 use Rattle.mysql_columns.specs.Columns.{ColumnDefinition, column_at}
 use Rattle.mysql_rows.specs.Rows.{Row, as_row, text_row_at, binary_resultset_row_at}
@@ -36,7 +38,7 @@ pub data Outcome : Type 0 where
 
 -- What a part of the grammar makes of a list of payloads.
 pub data Parsed (A : Type 0) : Type 0 where
-  -- The part stands, and these payloads follow it.
+  -- The part is complete, and these payloads follow it.
   Complete : A → List Payload → Parsed A
   -- The payloads end inside the part; of it these results are listed.
   CutOff : List Outcome → Parsed A
@@ -91,10 +93,10 @@ next_payload c read (payload ∷ rest) =
 abbrev pub column : Payload → Result ColumnDefinition ReplyFault
 column payload = or_fault BadColumn (column_at payload)
 
--- n more columns after these.
+-- n more columns after the earlier ones.
 unfoldable pub columns : Context → ℕ → List ColumnDefinition → List Payload → Parsed (List ColumnDefinition)
-columns c zero these payloads = Complete these payloads
-columns c (suc n) these payloads = next_payload c column payloads >>= λ x. columns c n (these ++ x.0 ∷ []) x.1
+columns c zero earlier payloads = Complete earlier payloads
+columns c (suc n) earlier payloads = next_payload c column payloads >>= λ x. columns c n (earlier ++ x.0 ∷ []) x.1
 
 -- The EOF packet: fe, below nine bytes.
 abbrev pub eof : Payload → Result OkPacket ReplyFault
@@ -107,10 +109,10 @@ columns_end c (first ∷ others) payloads =
     if deprecate_eof c.capabilities.0 then Complete (first ∷ others) payloads
     else (next_payload c eof payloads >>= λ x. Complete (first ∷ others) x.1)
 
--- n more columns after these, and the EOF that is due.
+-- n more columns after the earlier ones, and the EOF that is due.
 unfoldable pub column_group : Context → ℕ → List ColumnDefinition → List Payload → Parsed (List ColumnDefinition)
-column_group c n these payloads = do
-  all ← columns c n these payloads
+column_group c n earlier payloads = do
+  all ← columns c n earlier payloads
   columns_end c all.0 all.1
 
 -- What may stand in a row's place.
@@ -136,13 +138,15 @@ terminator c payload =
     or_fault BadTerminator
     (if deprecate_eof c.capabilities.0 then result_set_terminator_at c.capabilities.0 payload else old_eof_at payload)
 
--- A payload that begins with fe is a terminator below this length.
+-- A payload that begins with fe is a terminator below this length: 16777215 with DEPRECATE_EOF, else 9.
 abbrev pub terminator_limit : Context → ℕ
-terminator_limit c = if deprecate_eof c.capabilities.0 then 16777215 else 9
+terminator_limit c = limit_of (deprecate_eof c.capabilities.0)
 
-abbrev pub begins_with : ℕ → Payload → Bool
-begins_with b [] = false
-begins_with b (first ∷ rest) = first == b
+-- What ends rows: an error, or else a terminator.
+abbrev pub rows_end : Context → Payload → Result Line ReplyFault
+rows_end c payload =
+    if begins_with 255 payload then map_ok ErrorLine (or_fault BadError (error_at c.capabilities.0 payload))
+    else map_ok TerminatorLine (terminator c payload)
 
 -- A payload in a row's place: an error, a terminator or a row.
 abbrev pub line : Context → List ColumnDefinition → Payload → Result Line ReplyFault
@@ -152,12 +156,12 @@ line c columns payload =
     then map_ok TerminatorLine (terminator c payload)
     else map_ok RowLine (row c columns payload)
 
--- One result or two that stand together, and whether another result follows.
+-- One result, or rows and the error that ends them, and whether another result follows.
 pub record ResultGroup : Type 0 where
   pub results : List Outcome
   pub more : Bool
 
--- What a line means after these rows: a row goes on, a terminator or an error ends them.
+-- What a line means after some rows: a row goes on, a terminator or an error ends them.
 abbrev pub after_rows : List ColumnDefinition → List Row → (Row → Parsed ResultGroup) →
     Result Line ReplyFault → Payload → List Payload → Parsed ResultGroup
 after_rows columns rows on (Ok (RowLine found)) payload rest = on found
@@ -168,31 +172,31 @@ after_rows columns rows on (Ok (ErrorLine error)) payload rest =
 after_rows columns rows on (Err fault) payload rest =
     Faulty (RowsResult columns rows None ∷ []) fault (payload ∷ rest)
 
--- The rows after these, to their terminator or an error.
+-- The rows after the earlier ones, to their terminator or an error.
 unfoldable pub rows : Context → List ColumnDefinition → List Row → List Payload → Parsed ResultGroup
-rows c columns these [] = CutOff (RowsResult columns these None ∷ [])
-rows c columns these (payload ∷ rest) =
-    if is_report c payload then rows c columns these rest
-    else after_rows columns these (λ found. rows c columns (these ++ found ∷ []) rest)
+rows c columns earlier [] = CutOff (RowsResult columns earlier None ∷ [])
+rows c columns earlier (payload ∷ rest) =
+    if is_report c payload then rows c columns earlier rest
+    else after_rows columns earlier (λ found. rows c columns (earlier ++ found ∷ []) rest)
     (unless_report c (line c columns) payload) payload rest
 
--- A result set after its count: n more columns after these, the EOF that is due, and the rows.
+-- A result set after its count: n more columns after the earlier ones, the EOF that is due, and the rows.
 unfoldable pub result_set : Context → ℕ → List ColumnDefinition → List Payload → Parsed ResultGroup
-result_set c n these payloads = do
-  columns ← column_group c n these payloads
+result_set c n earlier payloads = do
+  columns ← column_group c n earlier payloads
   rows c columns.0 [] columns.1
 
--- A prepared reply after its parameters: n more columns after these, and the EOF that is due.
+-- A prepared reply after its parameters: n more columns after the earlier ones, and the EOF that is due.
 unfoldable pub prepared_columns : Context → PrepareOk → List ColumnDefinition → ℕ →
     List ColumnDefinition → List Payload → Parsed ResultGroup
-prepared_columns c statement parameters n these payloads = do
-  columns ← column_group c n these payloads
+prepared_columns c statement parameters n earlier payloads = do
+  columns ← column_group c n earlier payloads
   Complete (record { results = PreparedResult statement parameters columns.0 ∷ []; more = false }) columns.1
 
--- A prepared reply after its statement packet: n more parameters after these, and then its columns.
+-- A prepared reply after its statement packet: n more parameters after the earlier ones, and then its columns.
 unfoldable pub prepared : Context → PrepareOk → ℕ → List ColumnDefinition → List Payload → Parsed ResultGroup
-prepared c statement n these payloads = do
-  parameters ← column_group c n these payloads
+prepared c statement n earlier payloads = do
+  parameters ← column_group c n earlier payloads
   prepared_columns c statement parameters.0 statement.num_columns [] parameters.1
 
 -- What the first payload of a result may be.
@@ -237,8 +241,8 @@ after_opening c (StatementOpening statement) rest = prepared c statement stateme
 unfoldable pub one_result : Context → List Payload → Parsed ResultGroup
 one_result c payloads = next_payload c (opening c) payloads >>= λ x. after_opening c x.0 x.1
 
--- How the results of a reply end: the last one stands, and these payloads follow it; the payloads end before
--- that; or the first of these payloads has no place.
+-- How the results of a reply end: the last one is whole, and these payloads follow it; the payloads
+-- end before that; or the first of these payloads has no place.
 pub data Ending : Type 0 where
   Ended : List Payload → Ending
   Open : Ending

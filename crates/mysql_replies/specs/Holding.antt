@@ -13,8 +13,8 @@ use Rattle.mysql_replies.specs.Grammar.{Payload}
 use Rattle.mysql_replies.specs.Reply.{Answer, End, FaultAt, Unfinished, ReplySoFar, GoingOn, Answered, fresh}
 use Rattle.mysql_replies.specs.Bytes.{NumberedPayloadsDecide, IsReplyOf}
 
--- What is held: what stands of the reply, and the bytes of the packet that hasn't come whole, with the number of
--- its first chunk and the limit.
+-- What is held: the reply so far, and the bytes of the packet that hasn't come whole, with the number
+-- of its first chunk and the limit.
 pub record ReaderState : Type 0 where
   pub so_far : ReplySoFar
   pub limit : ℕ
@@ -25,7 +25,7 @@ pub record ReaderState : Type 0 where
 abbrev pub fresh_reader : Context → ℕ → ℕ → ReaderState
 fresh_reader c first_id limit = record { so_far = fresh c; limit = limit; number = first_id; bytes = [] }
 
--- From what stands, these bytes, numbered on from this number, decide this answer.
+-- Behind what was read, these bytes, numbered on from this number, decide this answer.
 pub record BytesDecide (s : ReplySoFar) (limit number : ℕ) (bytes : List ℕ) (answer : Answer) : Type 0 where
   pub split : Split
   pub splits : IsSplit limit (OnFrom number) bytes split

@@ -6,6 +6,7 @@ pub mod OpenRows
 pub mod Views
 pub mod Steps
 pub mod States
+pub mod Pieces
 pub mod Taking
 pub mod Borrowing
 pub mod RowSteps

@@ -1,11 +1,9 @@
 -- Words of the reader's own body, which no public call's clause has: what one more payload leads to
--- where rows are lent. MySQL: Client/Server Protocol, "COM_QUERY Response" and "Text Resultset".
-use Rattle.std.specs.Prelude.{◌≡◌, ℕ, Bool, true, false, not, ◌||◌, List, [], ◌∷◌, ◌++◌, Option, Some, None, Result, Ok}
+-- where rows are borrowed. MySQL: Client/Server Protocol, "COM_QUERY Response" and "Text Resultset".
+use Rattle.std.specs.Prelude.{◌≡◌, ℕ, Bool, true, false, List, [], ◌∷◌, ◌++◌, Option, Some, None, Result, Ok}
 use Rattle.std.specs.Prelude.{Err}
-use Rattle.mysql_columns.specs.Columns.{ColumnDefinition}
 use Rattle.mysql_rows.specs.Rows.{Row}
-use Rattle.mysql_rows.specs.Views.{shared_columns}
-use Rattle.mysql_row_refs.specs.RowRefs.{HoldsRow, row_held, row_of}
+use Rattle.mysql_row_refs.specs.RowRefs.{HoldsRow, row_held}
 use Rattle.mysql_row_refs.specs.declared.errors.RowError.{RowError}
 use Rattle.mysql_row_refs.specs.declared.format.RowFormat.{RowFormat}
 use Rattle.mysql_row_refs.specs.declared.format.RowFormat.TheVariants.{Binary, Text}
@@ -13,7 +11,6 @@ use Rattle.mysql_row_refs.specs.declared.reader.RowReader.{RowReader}
 use Rattle.mysql_wire.specs.Incoming.{Incoming}
 use Rattle.mysql_replies.specs.declared.awaited.Awaited as code
 use Rattle.mysql_replies.specs.declared.awaited.Awaited.TheVariants as awaiting
-use Rattle.mysql_replies.specs.declared.context.Context.{Context}
 use Rattle.mysql_replies.specs.declared.context.ReplyKind.{ReplyKind}
 use Rattle.mysql_replies.specs.declared.context.ReplyKind.TheVariants as kinds
 use Rattle.mysql_replies.specs.declared.fault.ReplyFault.{ReplyFault}
@@ -21,11 +18,9 @@ use Rattle.mysql_replies.specs.declared.fault.ReplyFault.TheVariants.{BadRow, Me
 use Rattle.mysql_replies.specs.declared.borrowing.Place.{Place}
 use Rattle.mysql_replies.specs.declared.borrowing.Place.TheVariants as places
 use Rattle.mysql_replies.specs.declared.state.ReplyState.{ReplyState}
-use Rattle.mysql_replies.specs.Grammar.{Payload, has_report_form}
+use Rattle.mysql_replies.specs.Grammar.{Payload}
 use Rattle.mysql_replies.specs.Holding.{ReaderState, ReaderGoesOn, TakesAll}
-use Rattle.mysql_replies.specs.Reply.{Awaited, Rows}
 use Rattle.mysql_replies.specs.States.{IsShortOf, NumberedStateGoesOn, reader_state}
-use Rattle.mysql_replies.specs.Steps.{reads_as_row}
 
 -- The format of rows, by the kind of the command.
 abbrev pub format_of : ReplyKind → RowFormat
@@ -37,71 +32,62 @@ abbrev pub or_bad_row : Result Row RowError → Result Row ReplyFault
 or_bad_row (Ok row) = Ok row
 or_bad_row (Err error) = Err BadRow
 
--- There is a lender, of rows under these columns in this format.
-abbrev pub IsLender : Option RowReader → RowFormat → List ColumnDefinition → Type 0
-IsLender (Some reader) format columns = (shared_columns reader.columns ≡ columns) × (reader.format ≡ format)
-IsLender None format columns = ⊥
-
--- The lender holds this row of a payload.
+-- A row lies in a payload: the reader has found there the place of each of its cells.
 abbrev pub RowAt : Option RowReader → Payload → Row → Type 0
 RowAt (Some reader) payload row = HoldsRow reader payload × (row ≡ row_held reader payload)
 RowAt None payload row = ⊥
 
--- The lender holds the row that a payload is.
-pub record HasRead (reader : Option RowReader) (format : RowFormat)
-    (columns : List ColumnDefinition) (payload : Payload) : Type 0 where
-  pub row : Row
-  pub lends : RowAt reader payload row
-  pub read : row_of format columns payload ≡ Ok row
-
--- Rows are awaited, and their lender holds this row of a payload.
-abbrev pub LendsAwaited : code.Awaited → Payload → Row → Type 0
-LendsAwaited (awaiting.Rows these) payload row = RowAt these.reader payload row
-LendsAwaited awaited payload row = ⊥
+-- What reads the rows that are awaited.
+abbrev pub reader_of : code.Awaited → Option RowReader
+reader_of (awaiting.Rows open_rows) = open_rows.reader
+reader_of awaited = None
 
 -- The same rows, and this one behind them.
 abbrev pub with_row : code.Awaited → Row → code.Awaited
-with_row (awaiting.Rows these) row = awaiting.Rows (record these { rows = these.rows ++ row ∷ [] })
+with_row (awaiting.Rows open_rows) row = awaiting.Rows (record open_rows { rows = open_rows.rows ++ row ∷ [] })
 with_row awaited row = awaited
 
 -- The state in which this row was kept.
 abbrev pub keeping : ReplyState → Row → ReplyState
 keeping s row = record s { awaited = with_row s.awaited row }
 
--- The payload is a row that isn't kept: the state in which it was goes on behind the payload.
+-- The payload is a row that isn't kept: the state in which it was kept goes on behind the payload.
 pub record StateBorrows (old : ReplyState) (payload : Payload) (new : ReplyState) : Type 0 where
   pub row : Row
-  pub lends : LendsAwaited new.awaited payload row
+  pub lies : RowAt (reader_of new.awaited) payload row
   pub goes_on : NumberedStateGoesOn old payload (keeping new row)
 
--- What a payload leads to: a row is lent, the state goes on, or memory ran out.
+-- What a payload leads to: a row can be borrowed, the state goes on, or memory ran out.
 abbrev pub StateBorrowsNext : ReplyState → Payload → Result Bool ReplyFault → ReplyState → Type 0
 StateBorrowsNext old payload (Ok true) new = StateBorrows old payload new
 StateBorrowsNext old payload (Err Memory) new = IsShortOf old new
 StateBorrowsNext old payload r new = NumberedStateGoesOn old payload new
 
--- The answer of a payload that was taken: nothing is lent.
+-- The answer to a payload that was taken: no row can be borrowed.
 abbrev pub passed_as : Result (Unit {0}) ReplyFault → Result Bool ReplyFault
 passed_as (Ok _) = Ok false
 passed_as (Err fault) = Err fault
-
--- Rows are not awaited, or the payload is none.
-abbrev pub IsNoRow : Context → Awaited → Payload → Type 0
-IsNoRow c (Rows columns rows) payload = (has_report_form c payload || not (reads_as_row c payload)) ≡ true
-IsNoRow c awaited payload = Unit {0}
 
 -- The payload at a place.
 abbrev pub payload_at : Place → Incoming → Payload
 payload_at (places.InPiece payload) packets = payload.now
 payload_at places.InBuffer packets = packets.payload
 
--- The row of the payload there is lent behind the bytes that were used of the piece.
+-- The row of the payload there can be borrowed, behind the bytes that were used of the piece.
 pub record ReaderBorrows (old : ReaderState) (piece : List ℕ) (place : Place) (state : ReplyState)
     (packets : Incoming) (rest : List ℕ) : Type 0 where
   pub row : Row
-  pub lends : LendsAwaited state.awaited (payload_at place packets) row
+  pub lies : RowAt (reader_of state.awaited) (payload_at place packets) row
   pub used : List ℕ
   pub cut : piece ≡ used ++ rest
   pub takes : TakesAll old (old.bytes ++ used) (reader_state (keeping state row) packets)
   pub goes_on : ReaderGoesOn old used (reader_state (keeping state row) packets)
   pub whole : (reader_state state packets).bytes ≡ []
+
+-- Where bytes lead to: to the row of the payload at a place; or all of them were used, and what is
+-- held goes on behind them.
+abbrev pub ReadsToRow : ReaderState → List ℕ → Option Place → ReplyState → Incoming → List ℕ → Type 0
+ReadsToRow old piece None state packets rest = (rest ≡ []) ×
+    TakesAll old (old.bytes ++ piece) (reader_state state packets) ×
+    ReaderGoesOn old piece (reader_state state packets)
+ReadsToRow old piece (Some place) state packets rest = ReaderBorrows old piece place state packets rest

@@ -1,5 +1,5 @@
 -- Words of the reader's own body, which no public call's clause has: what the code holds of a
--- reply, as what stands of it. MySQL: Client/Server Protocol, "COM_QUERY Response" and "MySQL
+-- reply, as the reply so far. MySQL: Client/Server Protocol, "COM_QUERY Response" and "MySQL
 -- Packets".
 use Rattle.std.specs.Prelude.{◌≡◌, ℕ, ◌<◌, ◌+◌, List, [], ◌∷◌, ◌++◌, length, map, Option, Some, None, Result, Err, Vec}
 use Rattle.std.specs.Prelude.{vec_len, vec_capacity}
@@ -52,22 +52,22 @@ abbrev pub faulted : OpenReply → Option ReplyFault → ReplySoFar
 faulted s None = GoingOn s
 faulted s (Some fault) = Answered (faulted_at s fault)
 
--- What stands: a reply that goes on, or the answer with a fault.
+-- The reply so far: it goes on, or has its answer with a fault.
 abbrev pub reply_so_far : ReplyState → ReplySoFar
 reply_so_far s = faulted (open_reply s) s.fault
 
 -- Rows that haven't ended can be listed without growing the list.
 abbrev pub HasRoom : Awaited → Vec ReplyResult Global → Type 0
-HasRoom (awaiting.Rows these) results = vec_len results < vec_capacity results
+HasRoom (awaiting.Rows open_rows) results = vec_len results < vec_capacity results
 HasRoom awaited results = Unit {0}
 
 -- Where there is anything to hand out, a list with room can take its place.
 abbrev pub HasSpare : RowsSoFar → Vec ReplyResult Global → Vec ReplyResult Global → Type 0
-HasSpare these results spare = 0 < length results.items + length these.rows → vec_len spare < vec_capacity spare
+HasSpare open_rows results spare = 0 < length results.items + length open_rows.rows → vec_len spare < vec_capacity spare
 
--- The same where rows are awaited.
+-- Where rows are awaited, there is such a list.
 abbrev pub IsSpared : Awaited → Vec ReplyResult Global → Vec ReplyResult Global → Type 0
-IsSpared (awaiting.Rows these) results spare = HasSpare these results spare
+IsSpared (awaiting.Rows open_rows) results spare = HasSpare open_rows results spare
 IsSpared awaited results spare = Unit {0}
 
 -- What every state keeps.
@@ -93,13 +93,13 @@ abbrev pub StateGoesOn : ReplyState → Payload → ReplyState → Type 0
 StateGoesOn before payload after = (z : List Payload) (rest : Rest) (answer : Answer) →
     PayloadsDecide (reply_so_far after) z rest answer → PayloadsDecide (reply_so_far before) (payload ∷ z) rest answer
 
--- The same, as far as the payloads can be numbered.
+-- The state after a payload decides so as far as the payloads can be numbered.
 abbrev pub NumberedStateGoesOn : ReplyState → Payload → ReplyState → Type 0
 NumberedStateGoesOn before payload after = (z : List Payload) (rest : Rest) (answer : Answer) →
     NumberedPayloadsDecide (reply_so_far after) z rest answer →
     NumberedPayloadsDecide (reply_so_far before) (payload ∷ z) rest answer
 
--- What stands where memory ran out over a payload: all that stood, and that fault.
+-- Where memory ran out over a payload, all that was listed is the answer, with that fault.
 abbrev pub IsShortOf : ReplyState → ReplyState → Type 0
 IsShortOf before after = reply_so_far after ≡ Answered (faulted_at (open_reply before) Memory)
 
@@ -135,7 +135,7 @@ reader_state_of s codec src dst =
 abbrev pub reader_state : ReplyState → Incoming → ReaderState
 reader_state s packets = reader_state_of s (codec_by packets) packets.bytes []
 
--- After the last result nothing was begun.
+-- After the last result nothing of a packet was begun.
 abbrev pub NothingBegun : ReplyState → Codec → List ℕ → Type 0
 NothingBegun s codec dst = awaited_view s.awaited ≡ reply.Nothing → IsBetween codec × (codec.number < 256) × (dst ≡ [])
 

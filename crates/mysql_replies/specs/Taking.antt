@@ -47,7 +47,7 @@ abbrev pub results_in : ReplySoFar → List Outcome
 results_in (GoingOn s) = s.results ++ part_of s.awaited
 results_in (Answered answer) = answer.results
 
--- What stands without them.
+-- The reply so far without them.
 abbrev pub without_results : ReplySoFar → ReplySoFar
 without_results (GoingOn s) = GoingOn (record s { results = []; awaited = behind_part s.awaited })
 without_results (Answered answer) = Answered (record answer { results = [] })
@@ -61,7 +61,7 @@ abbrev pub without_reports : ReplySoFar → ReplySoFar
 without_reports (GoingOn s) = GoingOn (record s { progress = [] })
 without_reports (Answered answer) = Answered (record answer { progress = [] })
 
--- What is listed of what stands: these whole results, and these rows of a result set that goes on.
+-- What is listed of a reply so far: these whole results, and these rows of a result set that goes on.
 abbrev pub Lists : ReplySoFar → List Outcome → List Row → Type 0
 Lists (GoingOn s) results rows = (s.results ≡ results) × (rows_awaited s.awaited ≡ rows)
 Lists (Answered answer) results rows =

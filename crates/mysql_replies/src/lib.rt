@@ -2,14 +2,17 @@
 #![tactic(auto)]
 
 mod awaited;
+mod borrowed_rows;
+mod borrowing;
 pub mod context;
 pub mod fault;
 mod framing;
+mod handed_out;
 pub mod laws;
-mod borrowing;
 mod lines;
 mod open_rows;
 mod opening;
+mod payloads;
 mod reader;
 pub mod results;
 mod row_packets;

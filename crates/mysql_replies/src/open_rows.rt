@@ -1,21 +1,21 @@
 //! The rows so far of a result set that goes on.
 
-ghost use Rattle.std.specs.Prelude.{◌≡◌, ◌==◌, ◌<◌, [], ◌∷◌, ◌++◌, None, IfErr, IfSome, OnErr, OnOk, length};
+ghost use Rattle.std.specs.Prelude.{◌≡◌, ◌==◌, ◌<◌, [], ◌∷◌, ◌++◌, None, Ok, IfErr, IfSome, IsSomeAnd, OnErr, OnOk, length};
 ghost use Rattle.std.specs.Prelude.{option_map};
-ghost use Rattle.mysql_row_refs.specs.RowRefs.{row_ref_view, row_of};
+ghost use Rattle.mysql_row_refs.specs.RowRefs.{row_of};
 ghost use Rattle.mysql_ok_packets.specs.Views.{ok_packet_view};
 ghost use Rattle.mysql_rows.specs.Rows.{Row as RowOf};
 ghost use Rattle.mysql_rows.specs.Views.{row_view, shared_columns};
 ghost use Rattle.mysql_replies.specs.Grammar.{RowsResult};
-ghost use Rattle.mysql_replies.specs.OpenRows.{rows_of};
-ghost use Rattle.mysql_replies.specs.RowSteps.{HasRead, IsLender, RowAt, or_bad_row};
+ghost use Rattle.mysql_replies.specs.OpenRows.{ReadsRows, rows_of};
+ghost use Rattle.mysql_replies.specs.RowSteps.{RowAt, or_bad_row};
 ghost use Rattle.mysql_replies.specs.Views.{Refuses, outcome_view};
 
 use crate::fault::ReplyFault;
 use crate::results::ReplyResult;
 use mysql_columns::Column;
 use mysql_ok_packets::OkPacket;
-use mysql_row_refs::{RowFormat, RowReader, RowRef};
+use mysql_row_refs::{RowFormat, RowReader};
 use mysql_rows::Row;
 use std::alloc::{AllocError, Global};
 use std::marker::Model;
@@ -23,16 +23,16 @@ use std::mem;
 use std::rc::RcSlice;
 
 /// Rows under their columns, and a second share of these: with it the rows are handed out without a
-/// request for memory. Rows that are lent aren't among them.
+/// request for memory. Rows that are borrowed aren't among them.
 #[derive(Drop)]
 pub struct OpenRows {
     columns: RcSlice<Column>,
     // There where there are rows.
     share: Option<RcSlice<Column>>,
     rows: Vec<Row>,
-    // There once a row was lent.
+    // There once a row was read to be borrowed.
     reader: Option<RowReader>,
-    // The format in which it lends.
+    // The format in which it reads.
     format: RowFormat,
 }
 
@@ -44,15 +44,14 @@ impl Model for OpenRows {
     ghost use Rattle.mysql_rows.specs.Views.{shared_columns};
     ghost use Rattle.mysql_replies.specs.OpenRows.{rows_of, HasReader, HasShare};
 
-    ghost view = { λ these. record {
-      columns = shared_columns these.columns;
-      rows =
-          rows_of these.rows.items;
-      reader = these.reader;
+    ghost view = { λ so_far. record {
+      columns = shared_columns so_far.columns;
+      rows = rows_of so_far.rows.items;
+      reader = so_far.reader;
     } };
 
-    ghost invariant = { λ these. HasShare these.columns these.share these.rows.items ×
-        HasReader these.columns these.format these.reader };
+    ghost invariant = { λ so_far. HasShare so_far.columns so_far.share so_far.rows.items ×
+        HasReader so_far.columns so_far.format so_far.reader };
 }
 
 impl OpenRows {
@@ -90,7 +89,7 @@ impl OpenRows {
         self.rows.is_empty()
     }
 
-    /// Adds a row. Where memory ran out nothing changes.
+    /// Adds a row. Where memory ran out, nothing changes.
     pub fn push(&mut self, row: Row) -> Result<(), AllocError>
         ensures ok { OnOk result (self.new ≡ record self.old { rows = self.old.rows ++ row_view row ∷ [] }) }
         ensures err { OnErr result (self.new ≡ self.old) }
@@ -102,11 +101,11 @@ impl OpenRows {
         Ok(())
     }
 
-    // Makes what lends rows in this format.
+    // Makes a reader of rows in this format.
     #[inline(never)]
-    fn make_lender(&mut self, alloc: Global, format: RowFormat) -> Result<(), AllocError>
+    fn make_reader(&mut self, alloc: Global, format: RowFormat) -> Result<(), AllocError>
         ensures rows { self.new ≡ record self.old { reader = self.new.reader } }
-        ensures reader { OnOk result (IsLender self.new.reader format self.old.columns) }
+        ensures reader { OnOk result (IsSomeAnd self.new.reader (ReadsRows self.old.columns format)) }
     {
         let reader = RowReader::new(alloc, self.columns.clone()?, format)?;
         self.reader = Some(reader);
@@ -114,20 +113,21 @@ impl OpenRows {
         Ok(())
     }
 
-    // Makes it where there is none.
+    // Makes a reader of rows in this format, where there is none.
     #[inline(always)]
-    fn ready_lender(&mut self, alloc: Global, format: RowFormat) -> Result<(), AllocError>
+    fn ready_reader(&mut self, alloc: Global, format: RowFormat) -> Result<(), AllocError>
         ensures rows { self.new ≡ record self.old { reader = self.new.reader } }
-        ensures reader { OnOk result (IsLender self.new.reader format self.old.columns) }
+        ensures reader { OnOk result (IsSomeAnd self.new.reader (ReadsRows self.old.columns format)) }
     {
         if self.reader.is_some() && self.format == format {
             return Ok(());
         }
-        self.make_lender(alloc, format)
+        self.make_reader(alloc, format)
     }
 
-    /// Reads the places of the cells of the row that a payload is, in this format; the row can be
-    /// lent then, and isn't added. Memory is asked for at the first row alone.
+    /// Reads the places of the cells of the row that a payload is, in this format.
+    ///
+    /// The row can be borrowed then, and isn't added. Memory is asked for at the first row alone.
     #[inline(always)]
     pub fn read(
         &mut self,
@@ -136,10 +136,11 @@ impl OpenRows {
         payload: &[u8],
     ) -> Result<(), ReplyFault>
         ensures rows { self.new ≡ record self.old { reader = self.new.reader } }
-        ensures ok { OnOk result (HasRead self.new.reader format self.old.columns payload.now) }
+        ensures ok { OnOk result ((row : RowOf) × RowAt self.new.reader payload.now row
+            × (row_of format self.old.columns payload.now ≡ Ok row)) }
         ensures err { IfErr result (λ fault. Refuses fault (or_bad_row (row_of format self.old.columns payload.now))) }
     {
-        if self.ready_lender(alloc, format).is_err() {
+        if self.ready_reader(alloc, format).is_err() {
             return Err(ReplyFault::Memory);
         }
         let Some(reader) = &mut self.reader else {
@@ -151,19 +152,17 @@ impl OpenRows {
         }
     }
 
-    /// The row whose cells were read last, lent by its payload.
+    /// What reads rows to be borrowed, once one was read.
     #[inline(always)]
-    pub fn lent<'r, 'p>(&'r self, payload: &'p [u8]) -> RowRef<'r, 'p>
-        requires { (row : RowOf) × RowAt self.now.reader payload.now row }
-        ensures { RowAt self.now.reader payload.now (row_ref_view result) }
+    pub fn reader(&self) -> &Option<RowReader>
+        ensures { result.now ≡ self.now.reader }
     {
-        let Some(reader) = &self.reader else {
-            unreachable!()
-        };
-        reader.lent(payload)
+        &self.reader
     }
 
-    /// Hands out the rows, as a part of the result set; the rows behind them are listed anew. Takes no memory.
+    /// Hands out the rows, as a part of the result set. Takes no memory.
+    ///
+    /// The rows behind them are listed anew.
     pub fn take(&mut self, alloc: Global) -> ReplyResult
         requires { 0 < length self.old.rows }
         ensures part { outcome_view result ≡ RowsResult self.old.columns self.old.rows None }

@@ -21,7 +21,7 @@ packets-init c =
     let fed = old.bytes ++ piece in
     record {
       taking = taking_starts start (codec_by old) fed [] c.requires.reading c.requires.going c.requires.paused.refused c.requires.paused.can_go_on
-          (piece_bytes laws (codec_by old) old.bytes fed [] piece refl c.requires.paused.bytes c.bytes_are_bytes.ensures) c.requires.paused.nothing_begun;
+          (piece_bytes laws (codec_by old) old.bytes fed [] piece refl c.requires.paused.bytes c.are_bytes.ensures.bytes) c.requires.paused.nothing_begun;
       over = paused_empty laws start (codec_by old) old.bytes [] c.requires.paused;
       keeps_none = refl;
       shorter = omega arith;
@@ -35,8 +35,8 @@ returns-then-is_empty-clause-paused c =
     let taken = over_taken c.framing_laws.ensures c.args.state.now c.packets.state c.args.packets.now c.packets.packets c.args.rest.now.now c.packets.rest.now t c.requires.going over (c.packets.invariant.over (ap awaited_view over)) used in
     (t.going, taken.0)
 
-pub returns-then-is_empty-clause-lends : goal.returns-then-is_empty-clause-lends
-returns-then-is_empty-clause-lends c =
+pub returns-then-is_empty-clause-found : goal.returns-then-is_empty-clause-found
+returns-then-is_empty-clause-found c =
     let t = c.packets.invariant.taking in
     let over = c.is_over.ensures.over c.if-is_over.true in
     let used : c.packets.rest.now ≡ [] = nil_from_length c.packets.rest.now (search rules) in
@@ -55,25 +55,25 @@ returns-then-is_over-clause-goes_on c =
     let src = now.bytes ++ c.packets.rest.now in
     let t = c.packets.invariant.taking in
     let over = c.is_over.ensures.over c.if-is_over.true in
-    let cut_off = t.nothing_begun (ap awaited_view over) in
+    let begun = t.nothing_begun (ap awaited_view over) in
     let kept = c.packets.invariant.over (ap awaited_view over) in
     let some : src ≡ [] → ⊥ = λ none. not_empty c.packets.rest.now c.is_empty.result c.is_empty.ensures c.if-is_empty.false (ap (λ l. l ++ c.packets.rest.now) (sym kept) ∙ none) in
     let after = c.fail.new.self in
     subst (λ f. UnlessMemory {X = Unit {0}} (Err f) (ReaderGoesOn (reader_state start old) piece (reader_state after now))) (sym c.fail.ensures.same)
     (piece_goes_on laws start (codec_by old) old.bytes fed [] piece (reader_state after now) (Err faults.AfterEnd) c.requires.going refl
     (elsewhere (reader_state_of start (codec_by old) fed []) after (reader_state_of after (codec_by now) src []) (reader_state after now) (Err faults.AfterEnd) refl (ap (λ (s : ReplyState). s.fault) c.fail.ensures.state) refl refl
-    (goes_on_over laws start s after (codec_by old) (codec_by now) fed [] src [] t.payloads t.received c.requires.going t.going c.fail.ensures.state (ap awaited_view over) cut_off.0 cut_off.1 cut_off.2 t.bytes some)))
+    (goes_on_over laws start s after (codec_by old) (codec_by now) fed [] src [] t.payloads t.received c.requires.going t.going c.fail.ensures.state (ap awaited_view over) begun.0 begun.1 begun.2 t.bytes some)))
 
 pub returns-in-Ok-true-clause-paused : goal.returns-in-Ok-true-clause-paused
 returns-in-Ok-true-clause-paused c =
     let now = c.packets.packets in
     let new = c.read_in_place.new.self in
-    (c.in-Ok-true.ensures.ok.0, paused_behind c.framing_laws.ensures c.lend.new.self now new (now.bytes ++ c.packets.rest.now) (new.bytes ++ c.read_in_place.new.piece.now) c.in-Some.payload.now c.in-Some.ensures.found c.in-Some.ensures.between.0)
+    (c.in-Ok-true.ensures.ok.0, paused_behind c.framing_laws.ensures c.borrow.new.self now new (now.bytes ++ c.packets.rest.now) (new.bytes ++ c.read_in_place.new.piece.now) c.in-Some.payload.now c.in-Some.ensures.found c.in-Some.ensures.between.0)
 
-pub returns-in-Ok-true-clause-lends : goal.returns-in-Ok-true-clause-lends
-returns-in-Ok-true-clause-lends c =
+pub returns-in-Ok-true-clause-found : goal.returns-in-Ok-true-clause-found
+returns-in-Ok-true-clause-found c =
     let s = c.packets.state in
-    let next = c.lend.new.self in
+    let next = c.borrow.new.self in
     let payload = c.in-Some.payload.now in
     let ok = c.in-Ok-true.ensures.ok in
     let step : StateBorrows s payload next = rw c.in-Ok-true.field-0-test at c.in-Ok-true.ensures.step in
@@ -90,7 +90,7 @@ packets-preserved-in-Ok-false c =
     let now = c.packets.packets in
     let src = now.bytes ++ c.packets.rest.now in
     let new = c.read_in_place.new.self in
-    let next = c.lend.new.self in
+    let next = c.borrow.new.self in
     let payload = c.in-Some.payload.now in
     let ok = c.in-Ok-false.ensures.ok in
     let step : NumberedStateGoesOn s payload next = rw c.in-Ok-false.field-0-test at c.in-Ok-false.ensures.step in
@@ -104,36 +104,36 @@ packets-preserved-in-Ok-false c =
 
 pub returns-in-Err-clause-goes_on : goal.returns-in-Err-clause-goes_on
 returns-in-Err-clause-goes_on c =
-    borrow_failed c.framing_laws.ensures c.args.state.now c.packets.state c.lend.new.self c.args.packets.now c.packets.packets c.read_in_place.new.self c.args.rest.now.now c.packets.rest.now c.read_in_place.new.piece.now c.in-Some.payload.now c.in-Err.fault
+    borrow_failed c.framing_laws.ensures c.args.state.now c.packets.state c.borrow.new.self c.args.packets.now c.packets.packets c.read_in_place.new.self c.args.rest.now.now c.packets.rest.now c.read_in_place.new.piece.now c.in-Some.payload.now c.in-Err.fault
     c.packets.invariant.taking c.requires.going c.in-Some.ensures.found c.in-Err.ensures.fault c.in-Err.ensures.step
 
 pub returns-in-Err-clause-short : goal.returns-in-Err-clause-short
 returns-in-Err-clause-short c =
-    borrow_short c.framing_laws.ensures c.args.state.now c.packets.state c.lend.new.self c.args.packets.now c.packets.packets c.read_in_place.new.self c.args.rest.now.now c.packets.rest.now c.in-Some.payload.now c.in-Err.fault
+    borrow_short c.framing_laws.ensures c.args.state.now c.packets.state c.borrow.new.self c.args.packets.now c.packets.packets c.read_in_place.new.self c.args.rest.now.now c.packets.rest.now c.in-Some.payload.now c.in-Err.fault
     c.packets.invariant.taking c.requires.going (c.is_over.ensures.awaiting c.if-is_over.false) c.in-Err.ensures.step
 
-pub returns-in-Ok-true-lend-clause-paused : goal.returns-in-Ok-true-lend-clause-paused
-returns-in-Ok-true-lend-clause-paused c =
+pub returns-in-Ok-true-borrow-clause-paused : goal.returns-in-Ok-true-borrow-clause-paused
+returns-in-Ok-true-borrow-clause-paused c =
     let now = c.packets.packets in
     let new = c.advance.new.self in
     let left : (c.read_in_place.new.self ≡ c.packets.packets) × (c.read_in_place.new.piece ≡ c.packets.rest) = search rules in
     let h = rw (left.0, left.1) at (rw c.in-Ok-true-advance.field-0-test at c.in-Ok-true-advance.ensures.ok) in
     let none : new.bytes ≡ [] = search rules in
-    (c.in-Ok-true-lend.ensures.ok.0, paused_behind c.framing_laws.ensures c.lend-in-Ok-true-advance.new.self now new (now.bytes ++ c.packets.rest.now) (new.bytes ++ c.advance.new.piece.now) new.payload h none)
+    (c.in-Ok-true-borrow.ensures.ok.0, paused_behind c.framing_laws.ensures c.borrow-in-Ok-true-advance.new.self now new (now.bytes ++ c.packets.rest.now) (new.bytes ++ c.advance.new.piece.now) new.payload h none)
 
-pub returns-in-Ok-true-lend-clause-lends : goal.returns-in-Ok-true-lend-clause-lends
-returns-in-Ok-true-lend-clause-lends c =
+pub returns-in-Ok-true-borrow-clause-found : goal.returns-in-Ok-true-borrow-clause-found
+returns-in-Ok-true-borrow-clause-found c =
     let s = c.packets.state in
     let new = c.advance.new.self in
-    let next = c.lend-in-Ok-true-advance.new.self in
+    let next = c.borrow-in-Ok-true-advance.new.self in
     let left : (c.read_in_place.new.self ≡ c.packets.packets) × (c.read_in_place.new.piece ≡ c.packets.rest) = search rules in
     let h = rw (left.0, left.1) at (rw c.in-Ok-true-advance.field-0-test at c.in-Ok-true-advance.ensures.ok) in
     let none : new.bytes ≡ [] = search rules in
     let less : length c.advance.new.piece.now < length c.read_in_place.new.piece.now = search rules in
     let fewer : length c.advance.new.piece.now < length c.packets.rest.now = rw left.1 at less in
     let fits : length c.advance.new.piece.now ≤ length c.args.rest.now.now = omega (arith, fewer, c.packets.invariant.shorter) in
-    let ok = c.in-Ok-true-lend.ensures.ok in
-    let step : StateBorrows s c.payload.result.now next = rw c.in-Ok-true-lend.field-0-test at c.in-Ok-true-lend.ensures.step in
+    let ok = c.in-Ok-true-borrow.ensures.ok in
+    let step : StateBorrows s c.payload.result.now next = rw c.in-Ok-true-borrow.field-0-test at c.in-Ok-true-borrow.ensures.step in
     borrowed_behind c.framing_laws.ensures c.args.state.now s next c.args.packets.now c.packets.packets new c.args.rest.now.now c.packets.rest.now c.advance.new.piece.now new.payload places.InBuffer
     c.packets.invariant.taking c.requires.going h none fits ok.0 ok.1 (subst (λ p. StateBorrows s p next) c.payload.ensures step) refl
 
@@ -146,39 +146,39 @@ packets-preserved c =
     let now = c.packets.packets in
     let src = now.bytes ++ c.packets.rest.now in
     let new = c.advance.new.self in
-    let next = c.lend-in-Ok-true-advance.new.self in
+    let next = c.borrow-in-Ok-true-advance.new.self in
     let left : (c.read_in_place.new.self ≡ c.packets.packets) × (c.read_in_place.new.piece ≡ c.packets.rest) = search rules in
     let h = rw (left.0, left.1) at (rw c.in-Ok-true-advance.field-0-test at c.in-Ok-true-advance.ensures.ok) in
     let none : new.bytes ≡ [] = search rules in
     let less : length c.advance.new.piece.now < length c.read_in_place.new.piece.now = search rules in
     let fewer : length c.advance.new.piece.now < length c.packets.rest.now = rw left.1 at less in
-    let ok = c.in-Ok-false-lend.ensures.ok in
-    let step : NumberedStateGoesOn s c.payload.result.now next = rw c.in-Ok-false-lend.field-0-test at c.in-Ok-false-lend.ensures.step in
+    let ok = c.in-Ok-false-borrow.ensures.ok in
+    let step : NumberedStateGoesOn s c.payload.result.now next = rw c.in-Ok-false-borrow.field-0-test at c.in-Ok-false-borrow.ensures.step in
     record {
-      taking = taking_next c.framing_laws.ensures start s next (codec_by old) (codec_by now) (codec_by new) fed [] src [] (new.bytes ++ c.advance.new.piece.now) [] new.payload c.packets.invariant.taking h refl c.in-Ok-false-lend.ensures.reading ok.0 ok.1
+      taking = taking_next c.framing_laws.ensures start s next (codec_by old) (codec_by now) (codec_by new) fed [] src [] (new.bytes ++ c.advance.new.piece.now) [] new.payload c.packets.invariant.taking h refl c.in-Ok-false-borrow.ensures.reading ok.0 ok.1
           (subst (λ p. NumberedStateGoesOn s p next) c.payload.ensures step);
       over = λ _. none;
-      keeps_none = c.in-Ok-false-lend.ensures.keeps_none ∙ c.packets.invariant.keeps_none;
+      keeps_none = c.in-Ok-false-borrow.ensures.keeps_none ∙ c.packets.invariant.keeps_none;
       shorter = omega (arith, fewer, c.packets.invariant.shorter);
     }
 
-pub returns-in-Err-lend-clause-goes_on : goal.returns-in-Err-lend-clause-goes_on
-returns-in-Err-lend-clause-goes_on c =
+pub returns-in-Err-borrow-clause-goes_on : goal.returns-in-Err-borrow-clause-goes_on
+returns-in-Err-borrow-clause-goes_on c =
     let s = c.packets.state in
     let new = c.advance.new.self in
-    let next = c.lend-in-Ok-true-advance.new.self in
+    let next = c.borrow-in-Ok-true-advance.new.self in
     let left : (c.read_in_place.new.self ≡ c.packets.packets) × (c.read_in_place.new.piece ≡ c.packets.rest) = search rules in
     let h = rw (left.0, left.1) at (rw c.in-Ok-true-advance.field-0-test at c.in-Ok-true-advance.ensures.ok) in
-    borrow_failed c.framing_laws.ensures c.args.state.now s next c.args.packets.now c.packets.packets new c.args.rest.now.now c.packets.rest.now c.advance.new.piece.now new.payload c.in-Err-lend.fault
-    c.packets.invariant.taking c.requires.going h c.in-Err-lend.ensures.fault (subst (λ p. StateBorrowsNext s p (Err c.in-Err-lend.fault) next) c.payload.ensures c.in-Err-lend.ensures.step)
+    borrow_failed c.framing_laws.ensures c.args.state.now s next c.args.packets.now c.packets.packets new c.args.rest.now.now c.packets.rest.now c.advance.new.piece.now new.payload c.in-Err-borrow.fault
+    c.packets.invariant.taking c.requires.going h c.in-Err-borrow.ensures.fault (subst (λ p. StateBorrowsNext s p (Err c.in-Err-borrow.fault) next) c.payload.ensures c.in-Err-borrow.ensures.step)
 
-pub returns-in-Err-lend-clause-short : goal.returns-in-Err-lend-clause-short
-returns-in-Err-lend-clause-short c =
-    borrow_short c.framing_laws.ensures c.args.state.now c.packets.state c.lend-in-Ok-true-advance.new.self c.args.packets.now c.packets.packets c.advance.new.self c.args.rest.now.now c.packets.rest.now c.payload.result.now c.in-Err-lend.fault
-    c.packets.invariant.taking c.requires.going (c.is_over.ensures.awaiting c.if-is_over.false) c.in-Err-lend.ensures.step
+pub returns-in-Err-borrow-clause-short : goal.returns-in-Err-borrow-clause-short
+returns-in-Err-borrow-clause-short c =
+    borrow_short c.framing_laws.ensures c.args.state.now c.packets.state c.borrow-in-Ok-true-advance.new.self c.args.packets.now c.packets.packets c.advance.new.self c.args.rest.now.now c.packets.rest.now c.payload.result.now c.in-Err-borrow.fault
+    c.packets.invariant.taking c.requires.going (c.is_over.ensures.awaiting c.if-is_over.false) c.in-Err-borrow.ensures.step
 
-pub returns-in-Ok-false-advance-clause-lends : goal.returns-in-Ok-false-advance-clause-lends
-returns-in-Ok-false-advance-clause-lends c =
+pub returns-in-Ok-false-advance-clause-found : goal.returns-in-Ok-false-advance-clause-found
+returns-in-Ok-false-advance-clause-found c =
     let t = c.packets.invariant.taking in
     let new = c.advance.new.self in
     let left : (c.read_in_place.new.self ≡ c.packets.packets) × (c.read_in_place.new.piece ≡ c.packets.rest) = search rules in

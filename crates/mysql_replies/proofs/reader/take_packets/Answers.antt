@@ -1,7 +1,6 @@
 use Rattle.std.proofs.Common.{arith, ◌++◌, [], refl, ap, subst}
 use Rattle.mysql_wire.specs.Incoming.{Incoming, codec_by}
-use Rattle.mysql_replies.specs.Holding.{ReaderGoesOn}
-use Rattle.mysql_replies.specs.States.{reader_state, UnlessMemory}
+use Rattle.mysql_replies.specs.Pieces.{TakesPiece}
 use Rattle.mysql_replies.proofs.Receiving.{taking_starts, piece_bytes, waits_taken}
 use Rattle.mysql_replies.proofs.reader.take_packets.Goals as goal
 
@@ -20,7 +19,7 @@ returns-then-took_within c =
     (ap (λ (x : Incoming). x.payload) c.if-took_within.ensures.used) in
     record { reading = c.requires.reading; paused = (c.requires.going, taken.0); fault = tt; took = taken.1; goes_on = taken.2; short = tt }
 
-pub returns-clause-goes_on : goal.returns-clause-goes_on
-returns-clause-goes_on c =
-    subst (λ (p : Incoming). UnlessMemory c.take_payloads.result (ReaderGoesOn (reader_state c.args.state.now p) c.args.piece.now (reader_state c.take_payloads.new.state c.take_payloads.new.packets)))
-    c.if-took_within.ensures.kept c.take_payloads.ensures.goes_on
+pub returns : goal.returns
+returns c =
+    subst (λ (p : Incoming). TakesPiece c.args.state.now p c.args.piece.now c.take_payloads.result c.take_payloads.new.state c.take_payloads.new.packets)
+    c.if-took_within.ensures.kept c.take_payloads.ensures

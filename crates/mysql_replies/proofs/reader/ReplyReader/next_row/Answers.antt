@@ -8,8 +8,8 @@ use Rattle.mysql_replies.proofs.reader.ReplyReader.next_row.Goals as goal
 
 pub returns-in-Some : goal.returns-in-Some
 returns-in-Some c =
-    let s = c.self.inside.parts.state in
-    let old = c.self.inside.parts.packets in
+    let s = c.self.inside.state in
+    let old = c.self.inside.packets in
     let piece = c.args.rest.now.now in (
       (refl, (λ _. tt), subst (λ held. BorrowsNext held piece (Err c.in-Some.fault) (reader_state s old) piece) c.self.view_is (next_stays s old piece c.in-Some.fault c.in-Some.is)),
       record { after = tt; uses = tt },
@@ -17,33 +17,33 @@ returns-in-Some c =
 
 pub returns-in-Ok-Some : goal.returns-in-Ok-Some
 returns-in-Ok-Some c =
-    let start = c.self.inside.parts.state in
-    let old = c.self.inside.parts.packets in
-    let next = c.advance_to_row.new.self.state in
-    let new = c.advance_to_row.new.self.packets in
+    let start = c.self.inside.state in
+    let old = c.self.inside.packets in
+    let next = c.take_to_row.new.state in
+    let new = c.take_to_row.new.packets in
     let piece = c.args.rest.now.now in
-    let rest = c.advance_to_row.new.rest.now in
-    let behind = rw c.in-Ok-Some.field-0-is at c.in-Ok-Some.ensures.lends in (
+    let rest = c.take_to_row.new.rest.now in
+    let behind = rw c.in-Ok-Some.field-0-is at c.in-Ok-Some.ensures.found in (
       (
         refl,
         (λ _. tt),
-        subst (λ held. BorrowsNext held piece (Ok (Some c.lent.result)) (reader_state next new) rest) c.self.view_is
-            (next_borrowed start next old new piece rest c.in-Ok-Some.place c.lent.result behind c.lent.ensures c.in-None.is c.in-Ok-Some.ensures.paused.0 c.in-Ok-Some.ensures.keeps_none),
+        subst (λ held. BorrowsNext held piece (Ok (Some c.row_ref.result)) (reader_state next new) rest) c.self.view_is
+            (next_borrowed start next old new piece rest c.in-Ok-Some.place c.row_ref.result behind c.row_ref.ensures c.in-None.is c.in-Ok-Some.ensures.paused.0 c.in-Ok-Some.ensures.keeps_none),
       ),
       record { after = tt; uses = rw c.in-Ok-Some.field-0-is at c.in-Ok-Some.ensures.uses },
     )
 
 pub returns-in-Ok-None : goal.returns-in-Ok-None
 returns-in-Ok-None c =
-    let start = c.self.inside.parts.state in
-    let old = c.self.inside.parts.packets in
-    let next = c.advance_to_row.new.self.state in
-    let new = c.advance_to_row.new.self.packets in
+    let start = c.self.inside.state in
+    let old = c.self.inside.packets in
+    let next = c.take_to_row.new.state in
+    let new = c.take_to_row.new.packets in
     let piece = c.args.rest.now.now in
-    let rest = c.advance_to_row.new.rest.now in
-    let all = rw c.in-Ok-None.field-0-is at c.in-Ok-None.ensures.lends in
+    let rest = c.take_to_row.new.rest.now in
+    let all = rw c.in-Ok-None.field-0-is at c.in-Ok-None.ensures.found in
     let paused = c.in-Ok-None.ensures.paused in
-    let found = found_none c.framing_laws.ensures next (codec_by new) new.bytes [] c.advance_to_row.ensures.reading paused.0 paused.1 in (
+    let found = found_none c.framing_laws.ensures next (codec_by new) new.bytes [] c.take_to_row.ensures.reading paused.0 paused.1 in (
       (
         refl,
         (λ _. tt),
@@ -55,10 +55,10 @@ returns-in-Ok-None c =
 
 pub returns-in-Err : goal.returns-in-Err
 returns-in-Err c =
-    let start = c.self.inside.parts.state in
-    let old = c.self.inside.parts.packets in
-    let next = c.advance_to_row.new.self.state in
-    let new = c.advance_to_row.new.self.packets in
+    let start = c.self.inside.state in
+    let old = c.self.inside.packets in
+    let next = c.take_to_row.new.state in
+    let new = c.take_to_row.new.packets in
     let piece = c.args.rest.now.now in (
       (
         refl,

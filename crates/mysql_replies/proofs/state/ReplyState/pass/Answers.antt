@@ -17,7 +17,7 @@ returns-then-is_report_like c =
       ok = subst (λ x. OnOk x ((after.fault ≡ None) × (after.count ≡ before.count + 1))) (sym c.passed.ensures) (passed_ok _ r e.ok);
       fault = subst (λ x. IfErr x (λ fault. after.fault ≡ Some fault)) (sym c.passed.ensures) (passed_fault _ r e.fault);
       step = subst (λ x. StateBorrowsNext before payload x after) (sym c.passed.ensures) (passed_step before after payload r c.requires.going c.requires.room e.ok e.fault e.goes_on e.short);
-      keeps_none = passed_rows before after payload r c.requires.going c.requires.reading.settled c.requires.none e.reading.settled e.goes_on e.short;
+      keeps_none = passed_rows before after payload r c.requires.going c.requires.reading.settled c.requires.no_row e.reading.settled e.goes_on e.short;
     }
 
 pub returns : goal.returns
@@ -32,5 +32,5 @@ returns c =
       ok = subst (λ x. OnOk x ((after.fault ≡ None) × (after.count ≡ before.count + 1))) (sym c.passed-2.ensures) (passed_ok _ r e.ok);
       fault = subst (λ x. IfErr x (λ fault. after.fault ≡ Some fault)) (sym c.passed-2.ensures) (passed_fault _ r e.fault);
       step = subst (λ x. StateBorrowsNext before payload x after) (sym c.passed-2.ensures) (passed_step before after payload r c.requires.going c.requires.room e.ok e.fault e.goes_on e.short);
-      keeps_none = passed_rows before after payload r c.requires.going c.requires.reading.settled c.requires.none e.reading.settled e.goes_on e.short;
+      keeps_none = passed_rows before after payload r c.requires.going c.requires.reading.settled c.requires.no_row e.reading.settled e.goes_on e.short;
     }

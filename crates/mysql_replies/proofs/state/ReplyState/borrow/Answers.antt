@@ -1,7 +1,7 @@
 use Rattle.std.proofs.Common.{Err, sym, subst}
 use Rattle.mysql_replies.specs.RowSteps.{StateBorrowsNext}
 use Rattle.mysql_replies.proofs.Numbers.{too_large}
-use Rattle.mysql_replies.proofs.state.ReplyState.lend.Goals as goal
+use Rattle.mysql_replies.proofs.state.ReplyState.borrow.Goals as goal
 
 pub returns-then-self-clause-step : goal.returns-then-self-clause-step
 returns-then-self-clause-step c =
