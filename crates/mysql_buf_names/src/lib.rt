@@ -23,7 +23,7 @@ mod constants {
 
 mod laws {
     use mysql_buf::laws::{
-        lenenc_reads_back, numbers_read_back, shortest_spellings, signed_numbers_read_back,
-        texts_read_back, varlen_reads_back,
+        are_bytes, lenenc_reads_back, numbers_read_back, shortest_spellings,
+        signed_numbers_read_back, texts_read_back, varlen_reads_back,
     };
 }

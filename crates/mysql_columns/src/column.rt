@@ -2,8 +2,7 @@
 
 ghost use Rattle.std.specs.Prelude.{◌≡◌, [], IfOk, IsOkUnless, None, true};
 ghost use Rattle.std.specs.Cow.{cow_str_bytes};
-ghost use Rattle.std.specs.Str.{encode_utf8_all};
-ghost use Rattle.bstr.specs.Utf8.{lossy_chars};
+ghost use Rattle.mysql_fields.specs.Texts.{lossy_text};
 ghost use Rattle.mysql_fields.specs.Laws.{unsized};
 ghost use Rattle.mysql_fields.specs.Wire.{TellsPart};
 ghost use Rattle.mysql_fields.specs.declared.error.WireError.TheVariants as wire;
@@ -14,19 +13,21 @@ ghost use Rattle.mysql_columns.specs.Columns.{names_in};
 ghost use Rattle.mysql_columns.specs.Views.{column_view, fields_view, names_view};
 
 use crate::headers::{ColumnDefinitionCatalog, FixedLengthFieldsLen};
-use crate::texts::{LenencText, lossy, text_of};
 use bitflags::Flags;
 use mysql_buf::ParseBuf;
 use mysql_const::{ColumnFlags, ColumnType};
 use mysql_field_constants::{Const, Skip};
 use mysql_fields::{
-    LeU16, LeU32, MyDeserialize, MySerialize, ParseExt, RawInt, Readable, ReadsBack, WireError,
-    in_order,
+    LeU16, LeU32, LenEnc, MyDeserialize, MySerialize, ParseExt, RawBytes, RawInt, Readable,
+    ReadsBack, WireError, in_order, lossy_text, read_lenenc_text,
 };
 use std::alloc::{AllocError, Global};
 use std::borrow::CowStr;
 
 /// A column of a result set, or a parameter or a column of a prepared statement.
+///
+/// Promise: `serialize` appends exactly the column's bytes; reading answers exactly what the layout
+/// gives of any bytes, or its refusal, which leaves all bytes (`column`, `column_at`).
 ///
 /// MySQL: Client/Server Protocol, "Column Definition".
 #[derive(Debug, PartialEq, Eq, Drop)]
@@ -179,9 +180,9 @@ impl Column {
     pub fn schema_str(&self, alloc: Global) -> Result<CowStr<'_>, WireError>
         ensures memory { IsOkUnless result wire.Memory }
         ensures value { IfOk result (λ text. cow_str_bytes text ≡
-            encode_utf8_all (lossy_chars (column_view self.now).schema)) }
+            lossy_text (column_view self.now).schema) }
     {
-        lossy(alloc, self.schema_ref())
+        lossy_text(alloc, self.schema_ref())
     }
 
     /// The name of its table in the query, as bytes.
@@ -198,9 +199,9 @@ impl Column {
     pub fn table_str(&self, alloc: Global) -> Result<CowStr<'_>, WireError>
         ensures memory { IsOkUnless result wire.Memory }
         ensures value { IfOk result (λ text. cow_str_bytes text ≡
-            encode_utf8_all (lossy_chars (column_view self.now).table)) }
+            lossy_text (column_view self.now).table) }
     {
-        lossy(alloc, self.table_ref())
+        lossy_text(alloc, self.table_ref())
     }
 
     /// The name of its table in the schema, as bytes.
@@ -217,9 +218,9 @@ impl Column {
     pub fn org_table_str(&self, alloc: Global) -> Result<CowStr<'_>, WireError>
         ensures memory { IsOkUnless result wire.Memory }
         ensures value { IfOk result (λ text. cow_str_bytes text ≡
-            encode_utf8_all (lossy_chars (column_view self.now).org_table)) }
+            lossy_text (column_view self.now).org_table) }
     {
-        lossy(alloc, self.org_table_ref())
+        lossy_text(alloc, self.org_table_ref())
     }
 
     /// Its name in the query, as bytes.
@@ -236,9 +237,9 @@ impl Column {
     pub fn name_str(&self, alloc: Global) -> Result<CowStr<'_>, WireError>
         ensures memory { IsOkUnless result wire.Memory }
         ensures value { IfOk result (λ text. cow_str_bytes text ≡
-            encode_utf8_all (lossy_chars (column_view self.now).name)) }
+            lossy_text (column_view self.now).name) }
     {
-        lossy(alloc, self.name_ref())
+        lossy_text(alloc, self.name_ref())
     }
 
     /// Its name in the table, as bytes.
@@ -255,9 +256,9 @@ impl Column {
     pub fn org_name_str(&self, alloc: Global) -> Result<CowStr<'_>, WireError>
         ensures memory { IsOkUnless result wire.Memory }
         ensures value { IfOk result (λ text. cow_str_bytes text ≡
-            encode_utf8_all (lossy_chars (column_view self.now).org_name)) }
+            lossy_text (column_view self.now).org_name) }
     {
-        lossy(alloc, self.org_name_ref())
+        lossy_text(alloc, self.org_name_ref())
     }
 
     /// The number of its character set's collation.
@@ -347,11 +348,11 @@ impl<'a> MySerialize for Names<'a> {
     ghost written = { λ n. column_names (names_view n) };
 
     fn serialize(&self, buf: &mut Vec<u8>) -> Result<(), AllocError> {
-        let schema = LenencText(self.schema);
-        let table = LenencText(self.table);
-        let org_table = LenencText(self.org_table);
-        let name = LenencText(self.name);
-        let org_name = LenencText(self.org_name);
+        let schema: RawBytes<LenEnc> = RawBytes::from(self.schema);
+        let table: RawBytes<LenEnc> = RawBytes::from(self.table);
+        let org_table: RawBytes<LenEnc> = RawBytes::from(self.org_table);
+        let name: RawBytes<LenEnc> = RawBytes::from(self.name);
+        let org_name: RawBytes<LenEnc> = RawBytes::from(self.org_name);
         in_order!(schema, table, org_table, name, org_name).serialize(buf)
     }
 }
@@ -360,11 +361,11 @@ impl<'a> MySerialize for Names<'a> {
 fn names_of<'a>(buf: &mut ParseBuf<'a>) -> Result<Names<'a>, WireError>
     ensures { TellsPart names_view buf.new.0.now result (column_names_at buf.old.0.now) }
 {
-    let schema = text_of(buf)?;
-    let table = text_of(buf)?;
-    let org_table = text_of(buf)?;
-    let name = text_of(buf)?;
-    let org_name = text_of(buf)?;
+    let schema = read_lenenc_text(buf)?;
+    let table = read_lenenc_text(buf)?;
+    let org_table = read_lenenc_text(buf)?;
+    let name = read_lenenc_text(buf)?;
+    let org_name = read_lenenc_text(buf)?;
     Ok(Names {
         schema,
         table,

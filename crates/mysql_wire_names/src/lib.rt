@@ -47,8 +47,8 @@ mod laws {
 
     mod buffers {
         use mysql_wire::laws::buffers::{
-            lenenc_reads_back, numbers_read_back, shortest_spellings, signed_numbers_read_back,
-            texts_read_back, varlen_reads_back,
+            are_bytes, lenenc_reads_back, numbers_read_back, shortest_spellings,
+            signed_numbers_read_back, texts_read_back, varlen_reads_back,
         };
     }
 }
