@@ -1,11 +1,9 @@
 //! A row of a reply that is borrowed from its payload, in place of kept.
 
 ghost use Rattle.std.specs.Prelude.{◌≡◌, ◌<◌, ◌+◌, ◌^◌, true, false, None, Some, OnOk, IfErr};
-ghost use Rattle.mysql_row_refs.specs.RowRefs.{row_ref_view};
-ghost use Rattle.mysql_rows.specs.Rows.{Row as RowOf};
 ghost use Rattle.mysql_replies.specs.Borrowing.{rows_listed};
 ghost use Rattle.mysql_replies.specs.Grammar.{has_report_form};
-ghost use Rattle.mysql_replies.specs.RowSteps.{RowAt, StateBorrowsNext, format_of, passed_as, reader_of};
+ghost use Rattle.mysql_replies.specs.RowSteps.{StateBorrowsNext, format_of, passed_as};
 ghost use Rattle.mysql_replies.specs.Views.{awaited_view};
 ghost use Rattle.mysql_replies.specs.Steps.{IsAwaiting, IsNoRow, reads_as_row};
 ghost use Rattle.mysql_replies.specs.States.{IsReading, reply_so_far};
@@ -14,9 +12,9 @@ use crate::awaited::Awaited;
 use crate::context::ReplyKind;
 use crate::fault::ReplyFault;
 use crate::lines::is_row;
-use crate::payloads::is_report_like;
+use crate::next_payload::is_report_like;
 use crate::state::ReplyState;
-use mysql_row_refs::{RowFormat, RowRef};
+use mysql_row_refs::RowFormat;
 use std::alloc::Global;
 
 /// The format of rows, by the kind of the command.
@@ -110,20 +108,5 @@ impl ReplyState {
             return self.pass(alloc, payload);
         }
         self.borrow_row(alloc, payload)
-    }
-
-    /// The row that was read last, which borrows its payload.
-    #[inline(always)]
-    pub fn row_ref<'r, 'p>(&'r self, payload: &'p [u8]) -> RowRef<'r, 'p>
-        requires { (row : RowOf) × RowAt (reader_of self.now.awaited) payload.now row }
-        ensures { RowAt (reader_of self.now.awaited) payload.now (row_ref_view result) }
-    {
-        let Awaited::Rows(open_rows) = &self.awaited else {
-            unreachable!()
-        };
-        let Some(reader) = open_rows.reader() else {
-            unreachable!()
-        };
-        reader.row_ref(payload)
     }
 }

@@ -3,20 +3,21 @@
 ghost use Rattle.std.specs.Prelude.{◌≡◌, ◌++◌, ◌<◌, [], Err, IfErr, IfOk, MatchOption, None, Ok, OnOk, Some, length};
 ghost use Rattle.std.specs.Borrow.{sem};
 ghost use Rattle.std.specs.Io.BufRead.{Rests};
+ghost use Rattle.mysql_row_refs.specs.RowRefs.{row_ref_view};
+ghost use Rattle.mysql_rows.specs.Rows.{Row};
 ghost use Rattle.mysql_wire.specs.Incoming.{codec_by};
 ghost use Rattle.mysql_replies.specs.Holding.{ReaderGoesOn, StandsShort};
 ghost use Rattle.mysql_replies.specs.Borrowing.{BorrowsNext, rows_listed};
-ghost use Rattle.mysql_replies.specs.RowSteps.{ReadsToRow};
+ghost use Rattle.mysql_replies.specs.RowSteps.{ReadsToRow, RowAt, payload_at, reader_of};
 ghost use Rattle.mysql_replies.specs.Pieces.{IsWaiting};
 ghost use Rattle.mysql_replies.specs.States.{IsPaused, IsReading, OnMemory, UnlessMemory, reader_state, reply_so_far};
 
+use crate::awaited::Awaited;
 use crate::fault::ReplyFault;
 use crate::framing::framing_laws;
-use crate::reader::{ReplyReader, fault_from};
-use crate::state::ReplyState;
+use crate::reader::{ReaderParts, ReplyReader, fault_from};
 use mysql_buf::laws::are_bytes;
 use mysql_row_refs::RowRef;
-use mysql_wire::PacketReader;
 use std::alloc::Global;
 
 /// Where a payload lies that stands whole.
@@ -26,56 +27,77 @@ pub enum Place<'p> {
     InBuffer,
 }
 
-// Takes each payload up to the next row, and answers where that row's payload lies.
-fn take_to_row<'p>(
-    alloc: Global,
-    state: &mut ReplyState,
-    packets: &mut PacketReader,
-    rest: &mut &'p [u8],
-) -> Result<Option<Place<'p>>, ReplyFault>
-    requires { IsWaiting state.old packets.old }
-    ensures reading { IsReading state.new }
-    ensures paused { OnOk result ((state.new.fault ≡ None) ×
-        IsPaused state.new (codec_by packets.new) packets.new.bytes []) }
-    ensures fault { IfErr result (λ fault. state.new.fault ≡ Some fault) }
-    ensures keeps_none { rows_listed (reply_so_far state.new) ≡ rows_listed (reply_so_far state.old) }
-    ensures found { IfOk result (λ found. ReadsToRow (reader_state state.old packets.old) rest.old.now
-        found state.new packets.new rest.new.now) }
-    ensures uses { IfOk result (λ found. MatchOption found (rest.new.now ≡ [])
-        (λ _. length rest.new.now < length rest.old.now)) }
-    ensures goes_on { IfErr result (λ fault. UnlessMemory {X = Unit {0}} (Err fault)
-        (ReaderGoesOn (reader_state state.old packets.old) rest.old.now
-        (reader_state state.new packets.new))) }
-    ensures short { IfErr result (λ fault. OnMemory {X = Unit {0}} (Err fault)
-        (StandsShort (reader_state state.old packets.old)
-        ((reader_state state.old packets.old).bytes ++ rest.old.now)
-        (reader_state state.new packets.new))) }
-{
-    framing_laws();
-    are_bytes(*rest);
-    'packets: loop {
-        if state.is_over() {
-            if rest.is_empty() {
-                return Ok(None);
+impl ReaderParts {
+    // Takes each payload up to the next row, and answers where that row's payload lies.
+    fn take_to_row<'p>(
+        &mut self,
+        alloc: Global,
+        rest: &mut &'p [u8],
+    ) -> Result<Option<Place<'p>>, ReplyFault>
+        requires { IsWaiting self.old.state self.old.packets }
+        ensures reading { IsReading self.new.state }
+        ensures paused { OnOk result ((self.new.state.fault ≡ None) ×
+            IsPaused self.new.state (codec_by self.new.packets) self.new.packets.bytes []) }
+        ensures fault { IfErr result (λ fault. self.new.state.fault ≡ Some fault) }
+        ensures keeps_none { rows_listed (reply_so_far self.new.state) ≡ rows_listed (reply_so_far self.old.state) }
+        ensures found { IfOk result (λ found. ReadsToRow (reader_state self.old.state self.old.packets) rest.old.now
+            found self.new.state self.new.packets rest.new.now) }
+        ensures uses { IfOk result (λ found. MatchOption found (rest.new.now ≡ [])
+            (λ _. length rest.new.now < length rest.old.now)) }
+        ensures goes_on { IfErr result (λ fault. UnlessMemory {X = Unit {0}} (Err fault)
+            (ReaderGoesOn (reader_state self.old.state self.old.packets) rest.old.now
+            (reader_state self.new.state self.new.packets))) }
+        ensures short { IfErr result (λ fault. OnMemory {X = Unit {0}} (Err fault)
+            (StandsShort (reader_state self.old.state self.old.packets)
+            ((reader_state self.old.state self.old.packets).bytes ++ rest.old.now)
+            (reader_state self.new.state self.new.packets))) }
+    {
+        framing_laws();
+        are_bytes(*rest);
+        'packets: loop {
+            if self.state.is_over() {
+                if rest.is_empty() {
+                    return Ok(None);
+                }
+                return Err(self.state.fail(ReplyFault::AfterEnd));
             }
-            return Err(state.fail(ReplyFault::AfterEnd));
-        }
-        if let Some(payload) = packets.read_in_place(rest) {
-            match state.borrow(alloc, payload) {
-                Ok(true) => return Ok(Some(Place::InPiece(payload))),
-                Ok(false) => continue 'packets,
-                Err(fault) => return Err(fault),
+            if let Some(payload) = self.packets.read_in_place(rest) {
+                match self.state.borrow(alloc, payload) {
+                    Ok(true) => return Ok(Some(Place::InPiece(payload))),
+                    Ok(false) => continue 'packets,
+                    Err(fault) => return Err(fault),
+                }
+            }
+            match self.packets.advance(rest) {
+                Ok(false) => return Ok(None),
+                Ok(true) => match self.state.borrow(alloc, self.packets.payload()) {
+                    Ok(true) => return Ok(Some(Place::InBuffer)),
+                    Ok(false) => {}
+                    Err(fault) => return Err(fault),
+                },
+                Err(error) => return Err(self.state.fail(fault_from(error))),
             }
         }
-        match packets.advance(rest) {
-            Ok(false) => return Ok(None),
-            Ok(true) => match state.borrow(alloc, packets.payload()) {
-                Ok(true) => return Ok(Some(Place::InBuffer)),
-                Ok(false) => {}
-                Err(fault) => return Err(fault),
-            },
-            Err(error) => return Err(state.fail(fault_from(error))),
-        }
+    }
+
+    // The row that was read last, which borrows the payload at this place.
+    #[inline(always)]
+    fn row_ref<'r, 'p: 'r>(&'r self, place: Place<'p>) -> RowRef<'r, 'r>
+        requires { (row : Row) × RowAt (reader_of self.now.state.awaited) (payload_at place self.now.packets) row }
+        ensures { RowAt (reader_of self.now.state.awaited) (payload_at place.entry self.now.packets)
+            (row_ref_view result) }
+    {
+        let payload = match place {
+            Place::InPiece(payload) => payload,
+            Place::InBuffer => self.packets.payload(),
+        };
+        let Awaited::Rows(open_rows) = &self.state.awaited else {
+            unreachable!()
+        };
+        let Some(reader) = open_rows.reader() else {
+            unreachable!()
+        };
+        reader.row_ref(payload)
     }
 }
 
@@ -114,19 +136,15 @@ impl ReplyReader {
             (λ _. length rest.new.now < length rest.old.now)) }
     {
         framing_laws();
-        match self.state.fault {
+        match self.parts.state.fault {
             Some(fault) => return Err(fault),
             None => {}
         }
         let mut left = *rest;
-        match take_to_row(self.alloc, &mut self.state, &mut self.packets, &mut left) {
+        match self.parts.take_to_row(self.alloc, &mut left) {
             Ok(Some(place)) => {
                 *rest = left;
-                let payload = match place {
-                    Place::InPiece(payload) => payload,
-                    Place::InBuffer => self.packets.payload(),
-                };
-                Ok(Some(self.state.row_ref(payload)))
+                Ok(Some(self.parts.row_ref(place)))
             }
             Ok(None) => {
                 *rest = left;

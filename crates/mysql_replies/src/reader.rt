@@ -96,22 +96,28 @@ fn took_within(state: &ReplyState, packets: &mut PacketReader, piece: &[u8]) -> 
     packets.take_within(piece)
 }
 
-// Takes each payload that the piece makes whole. A piece that ends within a packet is taken at once.
-#[inline(always)]
-fn take_packets(
-    alloc: Global,
-    state: &mut ReplyState,
-    packets: &mut PacketReader,
-    piece: &[u8],
-) -> Result<(), ReplyFault>
-    requires { IsWaiting state.old packets.old }
-    ensures { TakesPiece state.old packets.old piece.now result state.new packets.new }
-{
-    framing_laws();
-    if took_within(state, packets, piece) {
-        return Ok(());
+/// What a reader holds: what was read of the reply, and the bytes of the packet that isn't whole.
+///
+/// They are one field, so that a row which borrows from both can be handed out.
+#[derive(Drop)]
+pub struct ReaderParts {
+    pub state: ReplyState,
+    pub packets: PacketReader,
+}
+
+impl ReaderParts {
+    // Takes each payload that the piece makes whole. A piece that ends within a packet is taken at once.
+    #[inline(always)]
+    fn take_packets(&mut self, alloc: Global, piece: &[u8]) -> Result<(), ReplyFault>
+        requires { IsWaiting self.old.state self.old.packets }
+        ensures { TakesPiece self.old.state self.old.packets piece.now result self.new.state self.new.packets }
+    {
+        framing_laws();
+        if took_within(&self.state, &mut self.packets, piece) {
+            return Ok(());
+        }
+        take_payloads(alloc, &mut self.state, &mut self.packets, piece)
     }
-    take_payloads(alloc, state, packets, piece)
 }
 
 /// Reads a server's reply from the bytes of a connection, in whatever pieces they come.
@@ -133,9 +139,7 @@ fn take_packets(
 #[derive(Drop)]
 pub struct ReplyReader {
     pub(crate) alloc: Global,
-    pub(crate) state: ReplyState,
-    // The bytes of the packet that isn't whole.
-    pub(crate) packets: PacketReader,
+    pub(crate) parts: ReaderParts,
 }
 
 impl Model for ReplyReader {
@@ -147,10 +151,10 @@ impl Model for ReplyReader {
     ghost use Rattle.mysql_wire.specs.Incoming.{codec_by};
     ghost use Rattle.mysql_replies.specs.States.{reader_state, IsReceiving};
 
-    ghost view = { λ reader. reader_state reader.state reader.packets };
+    ghost view = { λ reader. reader_state reader.parts.state reader.parts.packets };
 
-    ghost invariant = { λ reader. IsReceiving reader.state (codec_by reader.packets)
-        reader.packets.bytes [] };
+    ghost invariant = { λ reader. IsReceiving reader.parts.state (codec_by reader.parts.packets)
+        reader.parts.packets.bytes [] };
 }
 
 impl ReplyReader {
@@ -172,11 +176,11 @@ impl ReplyReader {
     {
         framing_laws();
         let context = Context { kind, capabilities };
-        ReplyReader {
-            alloc,
+        let parts = ReaderParts {
             state: ReplyState::new(alloc, context),
             packets: PacketReader::new(alloc, first_id, limit),
-        }
+        };
+        ReplyReader { alloc, parts }
     }
 
     /// Reads the next bytes.
@@ -196,11 +200,11 @@ impl ReplyReader {
             StandsShort self.old (self.old.bytes ++ piece.now) self.new }
     {
         framing_laws();
-        match self.state.fault {
+        match self.parts.state.fault {
             Some(fault) => return Err(fault),
             None => {}
         }
-        take_packets(self.alloc, &mut self.state, &mut self.packets, piece)
+        self.parts.take_packets(self.alloc, piece)
     }
 
     /// Hands out the results so far. Takes no memory.
@@ -216,7 +220,7 @@ impl ReplyReader {
         ensures taken { outcome_views result.items ≡ results_in self.old.so_far }
         ensures left { self.new ≡ record self.old { so_far = without_results self.old.so_far } }
     {
-        self.state.take_results(self.alloc)
+        self.parts.state.take_results(self.alloc)
     }
 
     /// Hands out the progress reports so far. Takes no memory.
@@ -226,28 +230,28 @@ impl ReplyReader {
         ensures taken { report_views result.items ≡ reports_in self.old.so_far }
         ensures left { self.new ≡ record self.old { so_far = without_reports self.old.so_far } }
     {
-        self.state.take_progress(self.alloc)
+        self.parts.state.take_progress(self.alloc)
     }
 
     /// The results that stand whole and were not handed out.
     pub fn results(&self) -> &[ReplyResult]
         ensures { ListsResults self.now.so_far (outcome_views result.now) }
     {
-        self.state.results.as_slice()
+        self.parts.state.results.as_slice()
     }
 
     /// The rows so far of a result set that goes on, but for those that were handed out.
     pub fn rows(&self) -> &[Row]
         ensures { ListsRows self.now.so_far (row_views result.now) }
     {
-        self.state.rows()
+        self.parts.state.rows()
     }
 
     /// The progress reports that were not handed out.
     pub fn progress(&self) -> &[ProgressReport<'static>]
         ensures { report_views result.now ≡ reports_in self.now.so_far }
     {
-        self.state.progress.as_slice()
+        self.parts.state.progress.as_slice()
     }
 
     /// How many bytes are held of the packet that isn't whole. Takes no memory.
@@ -261,14 +265,14 @@ impl ReplyReader {
         ensures bytes { result ≡ bytes_kept (length self.now.bytes) }
         ensures within { fault_of self.now.so_far ≡ None → result ≤ self.now.limit + 3 }
     {
-        self.packets.kept()
+        self.parts.packets.kept()
     }
 
     /// What was read, where no more bytes come, but for what was handed out. Takes no memory.
     pub fn finish(self) -> Reply
         ensures { ReaderDecides self [] (answer_view result) }
     {
-        self.state.finish()
+        self.parts.state.finish()
     }
 }
 

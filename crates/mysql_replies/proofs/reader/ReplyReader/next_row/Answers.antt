@@ -8,8 +8,8 @@ use Rattle.mysql_replies.proofs.reader.ReplyReader.next_row.Goals as goal
 
 pub returns-in-Some : goal.returns-in-Some
 returns-in-Some c =
-    let s = c.self.inside.state in
-    let old = c.self.inside.packets in
+    let s = c.self.inside.parts.state in
+    let old = c.self.inside.parts.packets in
     let piece = c.args.rest.now.now in (
       (refl, (λ _. tt), subst (λ held. BorrowsNext held piece (Err c.in-Some.fault) (reader_state s old) piece) c.self.view_is (next_stays s old piece c.in-Some.fault c.in-Some.is)),
       record { after = tt; uses = tt },
@@ -17,10 +17,10 @@ returns-in-Some c =
 
 pub returns-in-Ok-Some : goal.returns-in-Ok-Some
 returns-in-Ok-Some c =
-    let start = c.self.inside.state in
-    let old = c.self.inside.packets in
-    let next = c.take_to_row.new.state in
-    let new = c.take_to_row.new.packets in
+    let start = c.self.inside.parts.state in
+    let old = c.self.inside.parts.packets in
+    let next = c.take_to_row.new.self.state in
+    let new = c.take_to_row.new.self.packets in
     let piece = c.args.rest.now.now in
     let rest = c.take_to_row.new.rest.now in
     let behind = rw c.in-Ok-Some.field-0-is at c.in-Ok-Some.ensures.found in (
@@ -35,10 +35,10 @@ returns-in-Ok-Some c =
 
 pub returns-in-Ok-None : goal.returns-in-Ok-None
 returns-in-Ok-None c =
-    let start = c.self.inside.state in
-    let old = c.self.inside.packets in
-    let next = c.take_to_row.new.state in
-    let new = c.take_to_row.new.packets in
+    let start = c.self.inside.parts.state in
+    let old = c.self.inside.parts.packets in
+    let next = c.take_to_row.new.self.state in
+    let new = c.take_to_row.new.self.packets in
     let piece = c.args.rest.now.now in
     let rest = c.take_to_row.new.rest.now in
     let all = rw c.in-Ok-None.field-0-is at c.in-Ok-None.ensures.found in
@@ -55,10 +55,10 @@ returns-in-Ok-None c =
 
 pub returns-in-Err : goal.returns-in-Err
 returns-in-Err c =
-    let start = c.self.inside.state in
-    let old = c.self.inside.packets in
-    let next = c.take_to_row.new.state in
-    let new = c.take_to_row.new.packets in
+    let start = c.self.inside.parts.state in
+    let old = c.self.inside.parts.packets in
+    let next = c.take_to_row.new.self.state in
+    let new = c.take_to_row.new.self.packets in
     let piece = c.args.rest.now.now in (
       (
         refl,

@@ -5,13 +5,13 @@ use Rattle.mysql_replies.specs.Reply as reply
 use Rattle.mysql_replies.specs.States.{reply_so_far}
 use Rattle.mysql_replies.specs.Views.{awaited_view}
 use Rattle.mysql_replies.proofs.Receiving.{Taking}
-use Rattle.mysql_replies.proofs.borrowing.take_to_row.Given as goal
+use Rattle.mysql_replies.proofs.reader.ReaderParts.take_to_row.Given as goal
 
 abbrev pub invariant-packets : goal.invariant-packets
 invariant-packets l = record {
-  taking : Taking l.fn.state (codec_by l.fn.packets) (l.fn.packets.bytes ++ l.fn.rest.now) [] l.state (codec_by l.packets) (l.packets.bytes ++ l.rest.now) [];
-  over : awaited_view l.state.awaited ≡ reply.Nothing → l.packets.bytes ≡ [];
-  keeps_none : rows_listed (reply_so_far l.state) ≡ rows_listed (reply_so_far l.fn.state);
+  taking : Taking l.fn.self.state (codec_by l.fn.self.packets) (l.fn.self.packets.bytes ++ l.fn.rest.now) [] l.self.state (codec_by l.self.packets) (l.self.packets.bytes ++ l.rest.now) [];
+  over : awaited_view l.self.state.awaited ≡ reply.Nothing → l.self.packets.bytes ≡ [];
+  keeps_none : rows_listed (reply_so_far l.self.state) ≡ rows_listed (reply_so_far l.fn.self.state);
   shorter : length l.rest.now ≤ length l.fn.rest.now;
 }
 
