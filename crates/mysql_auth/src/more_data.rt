@@ -113,6 +113,9 @@ impl<'a> ReadsBack for AuthMoreData<'a> {
 /// Refused by `UnexpectedEof` where there is no byte, then by `BadConstant`.
 #[tactic(auto, unfolding(crate::specs::Packets::headed_at))]
 impl<'de> MyDeserialize<'de> for AuthMoreData<'de> {
+    // Protocol::AuthMoreData:
+    //   int<1>       header 01
+    //   string<EOF>  authentication method data
     fn deserialize(
         alloc: Global,
         _ctx: (),
@@ -210,6 +213,9 @@ impl<'a> ReadsBack for PublicKeyResponse<'a> {
 /// Refused by `UnexpectedEof` where there is no byte, then by `BadConstant`.
 #[tactic(auto, unfolding(crate::specs::Packets::headed_at))]
 impl<'de> MyDeserialize<'de> for PublicKeyResponse<'de> {
+    // Protocol::AuthMoreData with a key:
+    //   int<1>       header 01
+    //   string<EOF>  the server's public key
     fn deserialize(
         alloc: Global,
         _ctx: (),

@@ -74,6 +74,8 @@ impl Readable for OldAuthSwitchRequest {
 
 /// Refused by `UnexpectedEof` where there is no byte, then by `BadConstant`.
 impl<'de> MyDeserialize<'de> for OldAuthSwitchRequest {
+    // Protocol::OldAuthSwitchRequest:
+    //   int<1>  header fe
     fn deserialize(
         alloc: Global,
         _ctx: (),
@@ -197,6 +199,10 @@ impl<'a> Readable for AuthSwitchRequest<'a> {
 /// where no zero ends the plugin's name.
 #[tactic(auto, unfolding(crate::specs::Packets::switch_at))]
 impl<'de> MyDeserialize<'de> for AuthSwitchRequest<'de> {
+    // Protocol::AuthSwitchRequest:
+    //   int<1>        header fe
+    //   string<NUL>   plugin name
+    //   string<EOF>   authentication plugin data
     fn deserialize(
         alloc: Global,
         _ctx: (),

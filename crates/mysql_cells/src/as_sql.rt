@@ -17,7 +17,7 @@ use thiserror::Error;
 #[derive(Clone, Copy, Debug, PartialEq, Eq, Error)]
 pub enum AsSqlError {
     /// The value is a float.
-    #[error("a float has no text here")]
+    #[error("a float has no text here: convert it to a text")]
     Float,
     #[error("out of memory")]
     Memory,

@@ -501,6 +501,20 @@ impl ReadsBack for Column {
 /// MySQL: Client/Server Protocol, "Column Definition".
 #[tactic(auto, unfolding(crate::specs::Columns::column_at))]
 impl<'de> MyDeserialize<'de> for Column {
+    // Protocol::ColumnDefinition41:
+    //   string<lenenc>  catalog, always "def"
+    //   string<lenenc>  schema
+    //   string<lenenc>  table, its name in the query
+    //   string<lenenc>  org_table
+    //   string<lenenc>  name, that of the column in the query
+    //   string<lenenc>  org_name
+    //   int<lenenc>     length of fixed length fields, always 0c
+    //   int<2>          character_set
+    //   int<4>          column_length
+    //   int<1>          type
+    //   int<2>          flags
+    //   int<1>          decimals
+    //   int<2>          reserved
     fn deserialize(alloc: Global, _ctx: (), buf: &mut ParseBuf<'de>) -> Result<Column, WireError> {
         let mut rest = *buf;
         let _catalog: ColumnDefinitionCatalog = rest.parse(alloc, ())?;

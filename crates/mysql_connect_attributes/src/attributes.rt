@@ -274,6 +274,11 @@ impl<'a> Readable for ConnectAttributes<'a> {
 
 #[tactic(auto, unfolding(crate::specs::Attributes::attributes_at))]
 impl<'de> MyDeserialize<'de> for ConnectAttributes<'de> {
+    // Connection attributes of Protocol::HandshakeResponse41:
+    //   int<lenenc>  length of all keys and values
+    //   for each, to the end of these bytes:
+    //     string<lenenc>  key
+    //     string<lenenc>  value
     fn deserialize(
         alloc: Global,
         _ctx: (),

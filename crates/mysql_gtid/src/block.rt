@@ -72,6 +72,9 @@ impl ReadsBack for GnoInterval {
 
 #[tactic(auto, unfolding(crate::specs::Blocks::interval_at))]
 impl<'de> MyDeserialize<'de> for GnoInterval {
+    // An interval of a set:
+    //   int<8>  start
+    //   int<8>  end, the first number behind the interval
     fn deserialize(
         alloc: Global,
         _ctx: (),
@@ -263,6 +266,12 @@ impl<'a> Readable for Sid<'a> {
 ///
 /// MySQL: Client/Server Protocol, "COM_BINLOG_DUMP_GTID".
 impl<'de> MyDeserialize<'de> for Sid<'de> {
+    // A set of one source:
+    //   string[16]  SID, the source's UUID
+    //   int<8>      number of intervals
+    //   for each:
+    //     int<8>  start
+    //     int<8>  end
     fn deserialize(
         alloc: Global,
         _ctx: (),
@@ -456,6 +465,14 @@ fn sids_from<'de>(
 /// MySQL: Client/Server Protocol, "COM_BINLOG_DUMP_GTID"; Source Code Documentation, "Gtid_set::encode".
 #[tactic(auto, unfolding(crate::specs::Blocks::block_at))]
 impl<'de> MyDeserialize<'de> for SidBlock<'de> {
+    // The data of COM_BINLOG_DUMP_GTID:
+    //   int<8>  number of sets, in its low seven bytes; where its highest byte is 01 the sets have tags,
+    //           and their number is in its bytes 1 to 6
+    //   for each set:
+    //     string[16]  SID, the source's UUID
+    //     tag, in a block with tags: its length as a number of variable length, and its bytes
+    //     int<8>      number of intervals
+    //     int<8> start and int<8> end of each
     fn deserialize(
         alloc: Global,
         _ctx: (),

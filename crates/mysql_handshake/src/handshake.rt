@@ -628,6 +628,22 @@ fn handshake_of<'a>(
 /// where a bit of the status has no name, and by `UnexpectedEof` where the second scramble is cut
 /// off.
 impl<'de> MyDeserialize<'de> for HandshakePacket<'de> {
+    // Protocol::HandshakeV10:
+    //   int<1>       protocol version
+    //   string<NUL>  server version
+    //   int<4>       thread id
+    //   string[8]    auth-plugin-data-part-1
+    //   int<1>       filler
+    //   int<2>       capability_flags_1, the lower half
+    //   int<1>       character_set
+    //   int<2>       status_flags
+    //   int<2>       capability_flags_2, the upper half
+    //   int<1>       auth_plugin_data_len
+    //   string[6]    reserved
+    //   int<4>       MariaDB's own capabilities
+    //   $length      auth-plugin-data-part-2, with CLIENT_SECURE_CONNECTION:
+    //                    max(13, auth_plugin_data_len - 8) bytes
+    //   string<NUL>  auth_plugin_name, with CLIENT_PLUGIN_AUTH; its zero may be missing
     fn deserialize(
         alloc: Global,
         _ctx: (),

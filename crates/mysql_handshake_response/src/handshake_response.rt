@@ -455,6 +455,22 @@ impl<'a> Readable for HandshakeResponse<'a> {
 }
 
 impl<'de> MyDeserialize<'de> for HandshakeResponse<'de> {
+    // Protocol::HandshakeResponse41:
+    //   int<4>       client_flag
+    //   int<4>       max_packet_size
+    //   int<1>       character_set
+    //   string[19]   filler
+    //   int<4>       MariaDB's own capabilities
+    //   string<NUL>  username
+    //   auth_response, by the capabilities:
+    //     string<lenenc>  with CLIENT_PLUGIN_AUTH_LENENC_CLIENT_DATA
+    //     int<1> length and so many bytes, with CLIENT_SECURE_CONNECTION
+    //     string<NUL>     else
+    //   string<NUL>  database, with CLIENT_CONNECT_WITH_DB
+    //   string<NUL>  client_plugin_name, with CLIENT_PLUGIN_AUTH; it may end with the packet
+    //   attributes, with CLIENT_CONNECT_ATTRS:
+    //     int<lenenc>  length of all keys and values
+    //     string<lenenc> key and string<lenenc> value, one after another
     fn deserialize(
         alloc: Global,
         _ctx: (),

@@ -157,6 +157,12 @@ impl ReadsBack for SslRequest {
 
 #[tactic(auto, using(crate::proofs::Rules::sizes))]
 impl<'de> MyDeserialize<'de> for SslRequest {
+    // Protocol::SSLRequest:
+    //   int<4>      client_flag
+    //   int<4>      max_packet_size
+    //   int<1>      character_set
+    //   string[19]  filler
+    //   int<4>      MariaDB's own capabilities
     fn deserialize(
         alloc: Global,
         _ctx: (),

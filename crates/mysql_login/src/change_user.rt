@@ -176,6 +176,12 @@ impl<'a> Readable for ComChangeUserMoreData<'a> {
 
 #[tactic(auto, unfolding(crate::specs::ChangedUsers::more_data_at))]
 impl<'de> MyDeserialize<'de> for ComChangeUserMoreData<'de> {
+    // COM_CHANGE_USER, behind the database:
+    //   int<2>       character set
+    //   string<NUL>  authentication plugin name, with CLIENT_PLUGIN_AUTH
+    //   attributes, with CLIENT_CONNECT_ATTRS:
+    //     int<lenenc>  length of all keys and values
+    //     string<lenenc> key and string<lenenc> value, one after another
     fn deserialize(
         alloc: Global,
         capabilities: CapabilityFlags,
@@ -439,6 +445,13 @@ fn database_and_more<'de>(
 
 #[tactic(auto, unfolding(crate::specs::ChangedUsers::change_user_at))]
 impl<'de> MyDeserialize<'de> for ComChangeUser<'de> {
+    // COM_CHANGE_USER:
+    //   int<1>       command 11
+    //   string<NUL>  user
+    //   int<1>       length of auth-response
+    //   string<var>  auth-response
+    //   string<NUL>  database
+    //   ..           more data, where bytes follow
     fn deserialize(
         alloc: Global,
         capabilities: CapabilityFlags,

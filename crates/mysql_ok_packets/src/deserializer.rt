@@ -85,6 +85,9 @@ impl<'de, T: OkPacketKind> Readable for OkPacketDeserializer<'de, T> {
 ///
 /// MySQL: Client/Server Protocol, "OK_Packet" and "EOF_Packet".
 impl<'de, T: OkPacketKind> MyDeserialize<'de> for OkPacketDeserializer<'de, T> {
+    // OK_Packet or EOF_Packet:
+    //   int<1>  header: 00 for OK, fe for what ends rows or a stream
+    //   ..      what the kind has behind it (`parse_body`)
     fn deserialize(
         alloc: Global,
         capabilities: CapabilityFlags,

@@ -204,6 +204,12 @@ fn fields_from<'de>(
 /// MySQL: Client/Server Protocol, "COM_BINLOG_DUMP".
 #[tactic(auto, unfolding(crate::specs::Packets::binlog_dump_at))]
 impl<'de> MyDeserialize<'de> for ComBinlogDump<'de> {
+    // COM_BINLOG_DUMP:
+    //   int<1>       command 12
+    //   int<4>       binlog-pos
+    //   int<2>       flags
+    //   int<4>       server-id
+    //   string<EOF>  binlog-filename
     fn deserialize(
         alloc: Global,
         _ctx: (),

@@ -376,6 +376,15 @@ fn fields_from<'de>(
 /// MySQL: Client/Server Protocol, "COM_BINLOG_DUMP_GTID".
 #[tactic(auto, unfolding(crate::specs::Packets::binlog_dump_gtid_at))]
 impl<'de> MyDeserialize<'de> for ComBinlogDumpGtid<'de> {
+    // COM_BINLOG_DUMP_GTID:
+    //   int<1>       command 1e
+    //   int<2>       flags
+    //   int<4>       server-id
+    //   int<4>       binlog-filename-len
+    //   string<var>  binlog-filename
+    //   int<8>       binlog-pos
+    //   int<4>       data-size
+    //   string<var>  data: a block of sets of identifiers
     fn deserialize(
         alloc: Global,
         _ctx: (),

@@ -367,6 +367,18 @@ fn fields_from<'de>(
 /// MySQL: Client/Server Protocol, "COM_REGISTER_SLAVE".
 #[tactic(auto, unfolding(crate::specs::Packets::register_slave_at))]
 impl<'de> MyDeserialize<'de> for ComRegisterSlave<'de> {
+    // COM_REGISTER_SLAVE:
+    //   int<1>       command 15
+    //   int<4>       server-id
+    //   int<1>       hostname length
+    //   string<var>  hostname
+    //   int<1>       user length
+    //   string<var>  user
+    //   int<1>       password length
+    //   string<var>  password
+    //   int<2>       port
+    //   int<4>       replication rank
+    //   int<4>       master-id
     fn deserialize(
         alloc: Global,
         _ctx: (),

@@ -147,6 +147,10 @@ fn fields_from<'de>(
 /// MySQL: Internals Manual, "Semi-Sync ACK packet".
 #[tactic(auto, unfolding(crate::specs::Packets::semi_sync_ack_at))]
 impl<'de> MyDeserialize<'de> for SemiSyncAckPacket<'de> {
+    // Semi-Sync ACK packet:
+    //   int<1>       magic number ef
+    //   int<8>       binlog position
+    //   string<EOF>  binlog filename
     fn deserialize(
         alloc: Global,
         _ctx: (),

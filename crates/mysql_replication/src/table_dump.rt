@@ -140,6 +140,12 @@ impl<'a> ReadsBack for ComTableDump<'a> {
 /// MySQL: Client/Server Protocol, "COM_TABLE_DUMP".
 #[tactic(auto, unfolding(crate::specs::Packets::table_dump_at))]
 impl<'de> MyDeserialize<'de> for ComTableDump<'de> {
+    // COM_TABLE_DUMP:
+    //   int<1>       command 13
+    //   int<1>       database length
+    //   string<var>  database
+    //   int<1>       table length
+    //   string<var>  table
     fn deserialize(
         alloc: Global,
         _ctx: (),

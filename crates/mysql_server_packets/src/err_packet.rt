@@ -209,6 +209,11 @@ fn body_of<'de>(
 /// MySQL: Client/Server Protocol, "ERR_Packet"; MariaDB: 'Progress report' of "ERR_Packet".
 #[tactic(auto, unfolding(crate::specs::Packets::err_packet_at))]
 impl<'de> MyDeserialize<'de> for ErrPacket<'de> {
+    // ERR_Packet:
+    //   int<1>  header ff
+    //   int<2>  error code
+    //   ..      a progress report, where reports were agreed on and the code is ffff
+    //   ..      an error, else
     fn deserialize(
         alloc: Global,
         capabilities: CapabilityFlags,

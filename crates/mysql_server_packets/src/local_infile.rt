@@ -125,6 +125,9 @@ impl<'a> ReadsBack for LocalInfilePacket<'a> {
 /// MySQL: Client/Server Protocol, "LOCAL INFILE Request".
 #[tactic(auto, unfolding(crate::specs::Packets::local_infile_at))]
 impl<'de> MyDeserialize<'de> for LocalInfilePacket<'de> {
+    // LOCAL INFILE Request:
+    //   int<1>       header fb
+    //   string<EOF>  filename
     fn deserialize(
         alloc: Global,
         _ctx: (),

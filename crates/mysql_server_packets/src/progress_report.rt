@@ -231,6 +231,12 @@ impl<'a> ReadsBack for ProgressReport<'a> {
 /// MariaDB: Client/Server Protocol, "ERR_Packet", 'Progress report'.
 #[tactic(auto, unfolding(crate::specs::Packets::progress_body_at))]
 impl<'de> MyDeserialize<'de> for ProgressReport<'de> {
+    // Progress report of an ERR_Packet, behind the code ffff:
+    //   int<1>          number of strings
+    //   int<1>          stage
+    //   int<1>          max_stage
+    //   int<3>          progress, in thousandths of a percent
+    //   string<lenenc>  stage_info
     fn deserialize(
         alloc: Global,
         _ctx: (),

@@ -165,6 +165,13 @@ impl ReadsBack for StmtPacket {
 /// MySQL: Client/Server Protocol, "COM_STMT_PREPARE Response".
 #[tactic(auto, using(crate::proofs::Rules::sizes))]
 impl<'de> MyDeserialize<'de> for StmtPacket {
+    // COM_STMT_PREPARE_OK:
+    //   int<1>  status 00
+    //   int<4>  statement_id
+    //   int<2>  num_columns
+    //   int<2>  num_params
+    //   int<1>  reserved_1
+    //   int<2>  warning_count
     fn deserialize(
         alloc: Global,
         _ctx: (),

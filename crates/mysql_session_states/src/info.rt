@@ -165,6 +165,9 @@ impl<'a> ReadsBack for SessionStateInfo<'a> {
 /// MySQL: Client/Server Protocol, "OK_Packet", 'Session State Information'.
 #[tactic(auto, unfolding(crate::specs::SessionStates::state_at))]
 impl<'de> MyDeserialize<'de> for SessionStateInfo<'de> {
+    // Session State Information:
+    //   int<1>          type
+    //   string<lenenc>  data
     fn deserialize(
         alloc: Global,
         _ctx: (),

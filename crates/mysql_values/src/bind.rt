@@ -49,10 +49,10 @@ use thiserror::Error;
 #[derive(Debug, PartialEq, Eq, Hash, Drop, Error)]
 pub enum BindError {
     /// The query has both kinds of placeholder.
-    #[error("the query has both named and positional parameters")]
+    #[error("the query has both named and positional parameters: use one kind")]
     Mixed,
     /// The first placeholder that does not stand alone, counted from 0.
-    #[error("placeholder {0} does not stand alone")]
+    #[error("placeholder {0} does not stand alone: put blanks around it")]
     NotAlone(usize),
     /// The set gives the query no values. This is never `Memory`.
     #[error(transparent)]
@@ -61,7 +61,7 @@ pub enum BindError {
     #[error("the values are not as many as the placeholders")]
     WrongCount,
     /// The first placeholder whose value is a float, counted from 0.
-    #[error("the value of placeholder {0} is a float")]
+    #[error("the value of placeholder {0} is a float: give it as a text")]
     Float(usize),
     #[error("out of memory")]
     Memory,

@@ -45,10 +45,10 @@ impl MissingNamedParameterError {
 #[derive(Clone, Copy, Debug, PartialEq, Eq, Hash, Error)]
 pub enum ParamsConfusionError {
     /// Names for a query that has none.
-    #[error("named parameters for a query without names")]
+    #[error("named parameters for a query without names: give the values in order")]
     NamedParamsForPositionalQuery,
     /// A list of values for a query with names.
-    #[error("positional parameters for a query with names")]
+    #[error("positional parameters for a query with names: name each value")]
     PositionalParamsForNamedQuery,
 }
 
@@ -104,7 +104,7 @@ pub enum SetError {
     #[error("the named parameter {name} is given twice", name = .0.as_slice().escape_ascii())]
     Redefined(ByteString),
     /// The least place whose value is too long.
-    #[error("the value at place {0} is too long")]
+    #[error("the value at place {0} is too long: a time has at most 4294967295 days")]
     TooLong(usize),
     #[error("out of memory")]
     Memory,
