@@ -402,6 +402,15 @@ unless_is (Err fault) never p = p
 pub on_is : {X P : Type 0} (r : Result X ReplyFault) → r ≡ Err faults.Memory → OnMemory r P → P
 on_is {P = P} r memory p = subst (λ k. OnMemory k P) memory p
 
+-- A state with a fault keeps what it kept before.
+pub reading_faulty : (s after : ReplyState) (fault : ReplyFault) → after ≡ record s { fault = Some fault } → IsReading s → IsReading after
+reading_faulty s after fault is r = subst IsReading (sym is) (record { settled = r.settled; room = r.room; spared = r.spared; empty = r.empty })
+
+-- A failed answer is none that is Ok.
+pub no_ok : (P : Type 0) (r : Result (Unit {0}) ReplyFault) → is_err r ≡ true → OnOk r P
+no_ok P (Ok x) h = absurd (let k : false ≡ true = h in cc)
+no_ok P (Err fault) h = tt
+
 pub taken_ok : {P : Type 0} (r : Result Unit ReplyFault) → is_err r ≡ false → OnOk r P → P
 taken_ok (Ok x) h p = p
 taken_ok (Err e) h p = absurd (let k : true ≡ false = h in cc)

@@ -120,6 +120,9 @@ impl ReplyReader {
     /// Memory is asked for at the first row of a result set, for a packet that is cut by the
     /// pieces, and for what isn't a row.
     ///
+    /// Promise: the row is the one that `feed` of the used bytes would list; none is kept, and none
+    /// is passed over (`BorrowsNext`).
+    ///
     /// # Errors
     /// Those of [`ReplyReader::feed`], where they are met before a row. The piece is as it was;
     /// from then on the answer is the same, and nothing changes.

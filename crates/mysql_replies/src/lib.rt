@@ -1,4 +1,7 @@
 //! Replies of a server, read from the bytes of a connection however they are cut.
+//!
+//! [`ReplyReader`] reads one as its bytes come, and hands out its results or lets rows be borrowed;
+//! [`read_reply`] reads one whose pieces are all there.
 #![tactic(auto)]
 
 mod awaited;

@@ -189,6 +189,9 @@ impl ReplyReader {
     /// as soon as no further bytes could mend it; from then on it answers that fault and changes
     /// nothing. Where memory ran out it answers `Memory` from then on, and what was read of the
     /// payloads before stays: each of them has its place in a reply that goes on behind them.
+    ///
+    /// Promise: what is held decides, over all bytes to come, what was decided before over the piece
+    /// and them (`HasFoundNoFault`, `RunsShort`).
     pub fn feed(&mut self, piece: &[u8]) -> Result<(), ReplyFault>
         ensures stays { IfSome (fault_of self.old.so_far) (λ fault. (result ≡ Err fault) × (self.new ≡ self.old)) }
         ensures going { OnOk result (fault_of self.new.so_far ≡ None) }
@@ -214,6 +217,9 @@ impl ReplyReader {
     /// the same columns: a result set that was handed out in parts is theirs joined, all but the last
     /// without a terminator. Where a fault was met, or memory ran out, all that is listed is handed
     /// out.
+    ///
+    /// Promise: results that stand whole, and of the result set that goes on its rows so far, are
+    /// handed out, and nothing else changes (`results_in`, `without_results`).
     ///
     /// MySQL: Client/Server Protocol, "COM_QUERY Response" and "Text Resultset".
     pub fn take_results(&mut self) -> Vec<ReplyResult>
@@ -260,6 +266,8 @@ impl ReplyReader {
     /// doesn't stand whole is held. Where no fault was met they are no more than the limit and three
     /// bytes of a header.
     ///
+    /// Promise: where no fault was met they are at most the limit and three (`bytes_kept`).
+    ///
     /// MySQL: Client/Server Protocol, "MySQL Packets".
     pub fn kept(&self) -> usize
         ensures bytes { result ≡ bytes_kept (length self.now.bytes) }
@@ -269,6 +277,8 @@ impl ReplyReader {
     }
 
     /// What was read, where no more bytes come, but for what was handed out. Takes no memory.
+    ///
+    /// Promise: the answer that is decided over no more bytes (`ReaderDecides`).
     pub fn finish(self) -> Reply
         ensures { ReaderDecides self [] (answer_view result) }
     {
@@ -285,6 +295,9 @@ impl ReplyReader {
 /// The limit is the `max_allowed_packet` of the side that the packets go to, and at least 4. Calls
 /// that write count 4 bytes for a packet's header in it: a payload has at most `limit - 4` bytes.
 /// Calls that read count the payload alone: it has at most `limit` bytes.
+///
+/// Promise: of any bytes in any pieces the answer is exactly what the grammar gives: results,
+/// progress reports, and how the reply ends (`IsReplyOf`, `IsShortReplyOf`).
 ///
 /// MySQL: Client/Server Protocol, "COM_QUERY Response", "Text Resultset", "Binary Protocol Resultset" and
 /// "COM_STMT_PREPARE Response".

@@ -283,7 +283,8 @@ pub fn row_step(
 ) -> Result<(), ReplyFault>
     requires no_report { has_report_form context payload.now ≡ false }
     requires row { reads_as_row context payload.now ≡ true }
-    ensures { IsStep context (reply.Rows open_rows.old.columns open_rows.old.rows) payload.now (row_stepped open_rows.new result) }
+    ensures { IsStep context (reply.Rows open_rows.old.columns open_rows.old.rows) payload.now
+        (row_stepped open_rows.new result) }
 {
     match row_packet(alloc, context.kind, open_rows.columns(), payload) {
         Ok(row) => {

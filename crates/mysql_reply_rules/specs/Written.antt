@@ -151,10 +151,6 @@ reply_steps results progress = map ReportStep progress ++ results_steps results
 abbrev pub steps_payloads : Context → List Step → List Payload
 steps_payloads c steps = flat_map (step_payloads c) steps
 
--- The payloads of a result, by whether another one follows it.
-abbrev pub result_payloads : Context → Bool → Outcome → List Payload
-result_payloads c more outcome = steps_payloads c (result_steps more outcome)
-
 -- The payloads of a reply.
 abbrev pub reply_payloads : Context → List Outcome → List ProgressReport → List Payload
 reply_payloads c results progress = steps_payloads c (reply_steps results progress)

@@ -6,8 +6,9 @@ ghost use Rattle.mysql_reply_rules.specs.declared.refusal.ReplyRefusal.TheVarian
 use std::alloc::{AllocError, AllocFailed};
 use thiserror::Error;
 
-/// Why a reply is not written. Results, rows, places and payloads are counted from 0; payloads with
-/// the progress reports.
+/// Why a reply is not written.
+///
+/// Results, rows, places and payloads are counted from 0; payloads with the progress reports.
 ///
 /// MySQL: Client/Server Protocol, "COM_QUERY Response" and "COM_STMT_PREPARE Response".
 #[derive(Clone, Copy, Debug, PartialEq, Eq, Error)]

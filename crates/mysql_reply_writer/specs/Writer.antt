@@ -14,7 +14,7 @@ use Rattle.mysql_reply_rules.specs.Refusals.{OpenRows, Writing, after_steps, not
 use Rattle.mysql_reply_rules.specs.Written.{Step, steps_payloads}
 use Rattle.mysql_reply_writer.specs.Puts.{IsCause, number_behind}
 
--- A writer: where the writing of its reply stands, and the number of the next chunk.
+-- A writer: how far its reply is written, and the number of the next chunk.
 pub record Writer : Type 0 where
   pub so_far : Writing
   pub number : ℕ
@@ -33,7 +33,7 @@ abbrev pub payloads_of : Writer → List Step → List (List ℕ)
 payloads_of writer steps = steps_payloads writer.so_far.context steps
 
 -- Steps against which nothing speaks were written: the framings of their payloads are appended,
--- numbered on, and the writer stands behind them.
+-- numbered on, and the writer goes on behind them.
 pub record Wrote (old : Writer) (steps : List Step) (new : Writer) (before after : List ℕ) : Type 0 where
   pub allowed : steps_cause old.so_far steps ≡ None
   pub so_far : new.so_far ≡ after_steps old.so_far steps

@@ -4,10 +4,10 @@ use Rattle.std.proofs.lemmas.List.{nil_from_length}
 use Rattle.mysql_wire.specs.Incoming.{codec_by}
 use Rattle.mysql_replies.specs.declared.fault.ReplyFault.TheVariants as faults
 use Rattle.mysql_replies.specs.declared.state.ReplyState.{ReplyState}
-use Rattle.mysql_replies.specs.Holding.{ReaderGoesOn}
-use Rattle.mysql_replies.specs.States.{reader_state_of, reader_state, NumberedStateGoesOn, UnlessMemory, fault_named}
+use Rattle.mysql_replies.specs.Holding.{ReaderGoesOn, StandsShort}
+use Rattle.mysql_replies.specs.States.{reader_state_of, reader_state, NumberedStateGoesOn, OnMemory, UnlessMemory, fault_named}
 use Rattle.mysql_replies.specs.Views.{awaited_view}
-use Rattle.mysql_replies.proofs.Receiving.{taking_starts, paused_empty, not_empty, elsewhere, piece_bytes, piece_goes_on, piece_runs_short, goes_on_over, taken_goes_on, taken_short, taking_next, taken_ok, taken_unless, refused_goes_on, failed_short, over_taken, waits_taken}
+use Rattle.mysql_replies.proofs.Receiving.{taking_starts, paused_empty, not_empty, elsewhere, piece_bytes, piece_goes_on, piece_runs_short, goes_on_over, taken_goes_on, taken_short, taking_next, no_ok, reading_faulty, taken_ok, taken_unless, refused_goes_on, failed_short, over_taken, waits_taken}
 use Rattle.mysql_replies.proofs.reader.take_payloads.Goals as goal
 
 pub packets-init : goal.packets-init
@@ -78,16 +78,16 @@ returns-then-is_over c =
     let some : src ≡ [] → ⊥ = λ none. not_empty c.packets.rest.now c.is_empty.result c.is_empty.ensures c.if-is_empty.false (ap (λ l. l ++ c.packets.rest.now) (sym kept) ∙ none) in
     let after = c.fail.new.self in
     record {
-      reading = search rules;
-      paused = search rules;
-      fault = search rules;
-      took = search rules;
+      reading = reading_faulty s after faults.AfterEnd c.fail.ensures.state t.reading;
+      paused = tt;
+      fault = ap (λ (x : ReplyState). x.fault) c.fail.ensures.state ∙ ap Some (sym c.fail.ensures.same);
+      took = tt;
       goes_on =
         subst (λ f. UnlessMemory {X = Unit {0}} (Err f) (ReaderGoesOn (reader_state start old) piece (reader_state after now))) (sym c.fail.ensures.same)
         (piece_goes_on laws start (codec_by old) old.bytes fed [] piece (reader_state after now) (Err faults.AfterEnd) c.requires.going refl
         (elsewhere (reader_state_of start (codec_by old) fed []) after (reader_state_of after (codec_by now) src []) (reader_state after now) (Err faults.AfterEnd) refl (ap (λ (s : ReplyState). s.fault) c.fail.ensures.state) refl refl
         (goes_on_over laws start s after (codec_by old) (codec_by now) fed [] src [] t.payloads t.received c.requires.going t.going c.fail.ensures.state (ap awaited_view over) begun.0 begun.1 begun.2 t.bytes some)));
-      short = search rules;
+      short = subst (λ f. OnMemory {X = Unit {0}} (Err f) (StandsShort (reader_state start old) ((reader_state start old).bytes ++ piece) (reader_state after now))) (sym c.fail.ensures.same) tt;
     }
 
 pub returns-then-is_err-2 : goal.returns-then-is_err-2
@@ -109,9 +109,9 @@ returns-then-is_err-2 c =
     let next = c.take-taken.new.self in
     record {
       reading = c.take-taken.ensures.reading;
-      paused = search rules;
+      paused = no_ok _ c.take-taken.result failed;
       fault = c.take-taken.ensures.fault;
-      took = search rules;
+      took = no_ok _ c.take-taken.result failed;
       goes_on =
         piece_goes_on laws start (codec_by old) old.bytes fed [] piece (reader_state next new) c.take-taken.result c.requires.going refl
         (elsewhere (reader_state_of start (codec_by old) fed []) next (reader_state_of next (codec_by new) (new.bytes ++ c.advance.new.piece.now) []) (reader_state next new) c.take-taken.result failed c.take-taken.ensures.fault refl refl
@@ -150,10 +150,10 @@ returns-in-Err c =
     let is = c.fail-in-Err.ensures.state ∙ ap (λ f. record s { fault = Some f }) (sym c.fail-in-Err.ensures.same) in
     let after = c.fail-in-Err.new.self in
     record {
-      reading = search rules;
-      paused = search rules;
-      fault = search rules;
-      took = search rules;
+      reading = reading_faulty s after c.fail-in-Err.result is t.reading;
+      paused = tt;
+      fault = ap (λ (x : ReplyState). x.fault) is;
+      took = tt;
       goes_on =
         piece_goes_on laws start (codec_by old) old.bytes fed [] piece (reader_state after new) (Err c.fail-in-Err.result) c.requires.going refl
         (refused_goes_on laws start s after (codec_by old) (codec_by now) (codec_by new) fed [] src [] new.bytes [] w.refusal c.fail-in-Err.result t c.requires.going (c.is_over.ensures.awaiting c.if-is_over.false) named is (w.due t.received.read.refused));
@@ -203,9 +203,9 @@ returns-then-is_err c =
     let next = c.take-placed.new.self in
     record {
       reading = c.take-placed.ensures.reading;
-      paused = search rules;
+      paused = no_ok _ c.take-placed.result failed;
       fault = c.take-placed.ensures.fault;
-      took = search rules;
+      took = no_ok _ c.take-placed.result failed;
       goes_on =
         piece_goes_on laws start (codec_by old) old.bytes fed [] piece (reader_state next new) c.take-placed.result c.requires.going refl
         (elsewhere (reader_state_of start (codec_by old) fed []) next (reader_state_of next (codec_by new) (new.bytes ++ c.read_in_place.new.piece.now) []) (reader_state next new) c.take-placed.result failed c.take-placed.ensures.fault refl refl
