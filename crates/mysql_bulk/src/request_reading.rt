@@ -1,4 +1,6 @@
-//! Bulk executions, as they are read.
+//! Reads bulk executions, by their own types or by those that are in force.
+//!
+//!     let request: ComStmtBulkExecuteRequest = ParseBuf(payload).parse(alloc, columns)?;
 
 ghost use Rattle.std.specs.Prelude.{◌≡◌, IfOk, None, length, map};
 ghost use Rattle.mysql_fields.specs.Laws.{unsized};

@@ -1,4 +1,8 @@
-//! Column packets.
+//! Columns of result sets and of prepared statements: a type, names and flags, read and written.
+//!
+//!     let column: Column = ParseBuf(payload).parse(alloc, ())?;
+//!     let name = column.name_str(alloc)?;
+//!     let made = Column::new(alloc, ColumnType::MYSQL_TYPE_LONG).with_name(b"id")?;
 
 ghost use Rattle.std.specs.Prelude.{◌≡◌, [], IfOk, IsOkUnless, None, true};
 ghost use Rattle.std.specs.Cow.{cow_str_bytes};

@@ -288,6 +288,9 @@ impl<'de> MyDeserialize<'de> for Sid<'de> {
 /// Where one of them has a tag the block is tagged, and each set has its tag after its length, 0
 /// where it has none.
 ///
+/// Promise: it is written as exactly its bytes, read as exactly what stands there, and read back
+/// whatever follows where it has less than 2^32 bytes (`block_bytes`, `block_at`).
+///
 /// MySQL: Client/Server Protocol, "COM_BINLOG_DUMP_GTID"; Source Code Documentation, "Gtid_set::encode".
 #[derive(Debug, PartialEq, Eq, Hash, Drop)]
 pub struct SidBlock<'a>(pub CowSlice<'a, Sid<'a>>);

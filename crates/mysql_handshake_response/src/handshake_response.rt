@@ -1,4 +1,7 @@
-//! A client's answer to the handshake.
+//! A client's answer to the handshake: who logs in, by which plugin, to which database.
+//!
+//!     let answer: HandshakeResponse = ParseBuf(payload).parse(alloc, ())?;
+//!     let user = answer.user();
 
 ghost use Rattle.std.specs.Prelude.{◌≡◌, IfOk, None, map, option_map, IsOkUnless};
 ghost use Rattle.std.specs.Cow.{cow_slice_items};
@@ -41,6 +44,10 @@ use std::borrow::CowSlice;
 ///
 /// Reading is refused by `UnexpectedEof` where a part that the capabilities name is cut off, and by
 /// `Memory`. A plugin's name may end with the bytes.
+///
+/// Promise: its bytes are a function of its fields, and any bytes are read exactly as its layout
+/// says, with the first refusal from the left; each direction stands by itself (`response`,
+/// `response_at`).
 #[derive(Debug, PartialEq, Eq, Drop)]
 pub struct HandshakeResponse<'a> {
     request: SslRequest,
@@ -126,6 +133,9 @@ impl<'a> HandshakeResponse<'a> {
     /// a plugin and attributes are set where these are given, and else cleared. The collation is
     /// utf8mb4_general_ci (45) from version 5.5.3 on, else utf8mb3_general_ci (33). There are none
     /// of MariaDB's own capabilities.
+    ///
+    /// Promise: the capabilities are those that are handed in, with those of the parts set or
+    /// cleared (`marked_capabilities`).
     ///
     /// # Errors
     /// - `AllocError` for want of memory.

@@ -1,4 +1,7 @@
-//! The request for a secure connection.
+//! The request for a secure connection, which comes before the answer that logs in.
+//!
+//!     let request = SslRequest::new(capabilities, max_packet_size, character_set);
+//!     request.serialize(&mut payload)?;
 
 ghost use Rattle.std.specs.Prelude.{◌≡◌, Some, false};
 ghost use Rattle.mysql_fields.specs.Wire.{TellsPart};
@@ -20,6 +23,9 @@ use std::alloc::{AllocError, Global};
 /// "Connecting", "SSLRequest Packet".)
 ///
 /// Reading is refused by `UnexpectedEof` below 32 bytes. Bits that name no capability are dropped.
+///
+/// Promise: its bytes are a function of its fields, and any bytes are read exactly as its layout
+/// says, with the first refusal from the left (`ssl_request`, `ssl_request_at`).
 #[derive(Clone, Debug, PartialEq, Eq, Drop)]
 pub struct SslRequest {
     capabilities: CapabilityFlags,

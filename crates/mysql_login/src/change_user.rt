@@ -1,4 +1,8 @@
-//! The command that logs another user in.
+//! The command that logs another user in on an open connection.
+//!
+//!     let more = ComChangeUserMoreData::new(45).with_auth_plugin(Some(plugin));
+//!     let command = ComChangeUser::new().with_user(Some(name)).with_more_data(Some(more));
+//!     command.serialize(&mut payload)?;
 
 ghost use Rattle.std.specs.Prelude.{◌≡◌, [], IfOk, None, map, option_map};
 ghost use Rattle.std.specs.Cow.{cow_slice_items};
@@ -209,6 +213,10 @@ impl<'de> MyDeserialize<'de> for ComChangeUserMoreData<'de> {
 /// Reading is refused by `BadConstant` where another command's number stands first, by `UnexpectedEof`
 /// where a part is cut off, and by `Memory`, in the order of the parts. Where no byte follows the
 /// database there is no more.
+///
+/// Promise: its bytes are a function of its fields, and any bytes are read exactly as its layout
+/// says, with the first refusal from the left; each direction stands by itself (`change_user`,
+/// `change_user_at`).
 #[derive(Debug, PartialEq, Eq, Drop)]
 pub struct ComChangeUser<'a> {
     user: RawBytes<'a, NullBytes>,

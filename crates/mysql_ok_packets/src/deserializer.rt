@@ -1,4 +1,7 @@
-//! Reading OK and EOF packets.
+//! Reads OK and EOF packets by their kind and the client's capabilities.
+//!
+//!     let read: OkPacketDeserializer<ResultSetTerminator> = ParseBuf(payload).parse(alloc, capabilities)?;
+//!     let packet = read.into_inner();
 
 ghost use Rattle.std.specs.Prelude.{◌≡◌, IfOk, None, false};
 ghost use Rattle.mysql_fields.specs.Laws.{unsized};

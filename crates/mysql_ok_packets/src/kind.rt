@@ -1,4 +1,4 @@
-//! The kinds of OK and EOF packets.
+//! The four kinds of OK and EOF packets: what stands behind the header of each, read and written.
 
 ghost use Rattle.std.specs.Prelude.{◌≡◌, List, Ok, [], ℕ};
 ghost use Rattle.mysql_fields.specs.Wire.{Appends, Reading, Tells};

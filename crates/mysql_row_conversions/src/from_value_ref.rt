@@ -8,13 +8,13 @@ ghost use Rattle.mysql_row_refs.specs.Places.{value_of};
 
 use mysql_row_refs::ValueRef;
 
-/// A type that a [`ValueRef`] converts to, with no bytes copied but an array's, by the rules of
-/// [`FromValue`](mysql_convert::FromValue): `converted` of a type is what it is there.
+/// A type that a [`ValueRef`] converts to, with no bytes copied but an array's.
 ///
-/// A whole number of at most 64 bits is read from `Int`, `UInt` and texts of an optional sign and
-/// digits, in its range; a `bool` from 0 and 1 in the same three; a `&str` from `Bytes` that are
-/// UTF-8, a `&[u8]` from `Bytes`, an array from `Bytes` of its length; an `Option` is None of
-/// `NULL`; and a [`ValueRef`] is any value.
+/// It goes by the rules of [`FromValue`](mysql_convert::FromValue): `converted` of a type is what
+/// it is there. A whole number of at most 64 bits is read from `Int`, `UInt` and texts of an
+/// optional sign and digits, in its range; a `bool` from 0 and 1 in the same three; a `&str` from
+/// `Bytes` that are UTF-8, a `&[u8]` from `Bytes`, an array from `Bytes` of its length; an `Option`
+/// is None of `NULL`; and a [`ValueRef`] is any value.
 pub trait FromValueRef<'p>: Sized {
     // what this is, apart from where it lies
     ghost Shown: { Type 0 };

@@ -18,9 +18,16 @@ pub trait RowExt {
     // the row
     ghost row: { Self → RowOf };
 
-    /// A copy of the value in a cell, converted to `T`; None where there is no such column, or its
-    /// value was taken. Where the value doesn't convert the error holds it. Refused for want of
-    /// memory alone.
+    /// A copy of the value in a cell, converted to `T`.
+    ///
+    /// None where there is no such column, or its value was taken. Where the value doesn't convert
+    /// the error holds it.
+    ///
+    /// Promise: None exactly where there is no such column or its value was taken, else what the
+    /// value converts to, or the very value; the row stays as it is.
+    ///
+    /// # Errors
+    /// - `AllocError` for want of memory.
     fn get_opt<T: FromValue, I: ColumnIndex>(
         &self,
         alloc: Global,
@@ -30,9 +37,13 @@ pub trait RowExt {
             option_map (converted_or_value T.converted)
             (cell_at (row self.now) (I.place index (row self.now).columns))) };
 
-    /// A copy of the value in a cell, converted to `T`, where it converts, as
-    /// [`get_opt`](Self::get_opt) tells; None where there is no such column, or its value was
-    /// taken. Refused for want of memory alone.
+    /// A copy of the value in a cell, converted to `T`, where it converts.
+    ///
+    /// It is what [`get_opt`](Self::get_opt) answers. None where there is no such column, or its
+    /// value was taken.
+    ///
+    /// # Errors
+    /// - `AllocError` for want of memory.
     fn get<T: FromValue, I: ColumnIndex>(
         &self,
         alloc: Global,
@@ -44,9 +55,13 @@ pub trait RowExt {
             option_and_then T.converted
             (cell_at (row self.now) (I.place index (row self.now).columns))) };
 
-    /// Takes the value out of a cell and converts it to `T`; None where there is no such column, or
-    /// its value was taken. Where the value doesn't convert it is taken all the same, and the error
-    /// holds it.
+    /// Takes the value out of a cell and converts it to `T`.
+    ///
+    /// None where there is no such column, or its value was taken. Where the value doesn't convert
+    /// it is taken all the same, and the error holds it.
+    ///
+    /// Promise: the answer is that of [`get_opt`](Self::get_opt), and the cell is empty then, also
+    /// where the value doesn't convert.
     fn take_opt<T: FromValue, I: ColumnIndex>(
         &mut self,
         index: I,
@@ -57,8 +72,9 @@ pub trait RowExt {
         ensures taken { row self.new ≡
             without_cell (row self.old) (I.place index (row self.old).columns) };
 
-    /// Takes the value out of a cell and converts it to `T`, where it converts; None where there is
-    /// no such column, or its value was taken.
+    /// Takes the value out of a cell and converts it to `T`, where it converts.
+    ///
+    /// None where there is no such column, or its value was taken.
     fn take<T: FromValue, I: ColumnIndex>(&mut self, index: I) -> Option<T>
         requires { IfSome (cell_at (row self.old) (I.place index (row self.old).columns))
             (λ value. IsSome (T.converted value)) }

@@ -22,8 +22,12 @@ pub trait RowRefExt<'p>: Sized {
         ensures { option_map value_of result ≡
             cell_at (row self.now) (I.place index (row self.now).columns) };
 
-    /// The value in the cell that a number or a name names, converted to `T` where it lies; None
-    /// where there is no such column. Where the value doesn't convert the error is the value.
+    /// The value in the cell that a number or a name names, converted to `T` where it lies.
+    ///
+    /// None where there is no such column. Where the value doesn't convert the error is the value.
+    ///
+    /// Promise: None exactly where there is no such column, else what the value converts to, or the
+    /// very value; no memory is asked for.
     #[inline(always)]
     final fn get_opt<T: FromValueRef<'p>, I: ColumnIndex>(
         &self,

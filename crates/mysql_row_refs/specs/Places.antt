@@ -3,12 +3,8 @@
 use Rattle.std.specs.Prelude.{◌≡◌, ℕ, ◌-◌, ◌≤◌, Bool, true, List, [], length, drop, Option, Some, None, is_some}
 use Rattle.mysql_buf.specs.Reading.{lenenc_str_at, u8_str_at}
 use Rattle.mysql_cells.specs.Cells.{date_of, time_of}
-use Rattle.mysql_cells.specs.declared.cell_form.CellForm as cells
-use Rattle.mysql_cells.specs.declared.cell_form.CellForm.TheVariants as cells_form
 use Rattle.mysql_cells.specs.declared.value.Value.{Value}
 use Rattle.mysql_cells.specs.declared.value.Value.TheVariants as value
-use Rattle.mysql_row_refs.specs.declared.cell_form.CellForm.{CellForm}
-use Rattle.mysql_row_refs.specs.declared.cell_form.CellForm.TheVariants as form
 use Rattle.mysql_row_refs.specs.declared.place.CellPlace.{CellPlace}
 use Rattle.mysql_row_refs.specs.declared.place.CellPlace.TheVariants as place
 use Rattle.mysql_row_refs.specs.declared.value_ref.ValueRef.{ValueRef}
@@ -23,7 +19,8 @@ value_of (borrowed.UInt n) = value.UInt n
 value_of (borrowed.Float bits) = value.Float bits
 value_of (borrowed.Double bits) = value.Double bits
 value_of (borrowed.Date year month day hour minute second micros) = value.Date year month day hour minute second micros
-value_of (borrowed.Time negative days hours minutes seconds micros) = value.Time negative days hours minutes seconds micros
+value_of (borrowed.Time negative days hours minutes seconds micros) =
+    value.Time negative days hours minutes seconds micros
 
 -- the bytes that were read, none where nothing was
 abbrev pub bytes_read : Option (List ℕ × List ℕ) → List ℕ
@@ -56,17 +53,3 @@ is_inside payload (place.Time at) = is_some (u8_str_at (drop at payload))
 pub record IsTail (payload rest : List ℕ) : Type 0 where
   pub len : length rest ≤ length payload
   pub same : rest ≡ drop (length payload - length rest) payload
-
--- the form of a type's cells
-abbrev pub form_view : CellForm → cells.CellForm
-form_view form.Nothing = cells_form.Nothing
-form_view form.Whole1 = cells_form.Whole1
-form_view form.Whole2 = cells_form.Whole2
-form_view form.Whole4 = cells_form.Whole4
-form_view form.Whole8 = cells_form.Whole8
-form_view form.FloatBits = cells_form.FloatBits
-form_view form.DoubleBits = cells_form.DoubleBits
-form_view form.Counted = cells_form.Counted
-form_view form.DateAndTime = cells_form.DateAndTime
-form_view form.Duration = cells_form.Duration
-form_view form.Without = cells_form.Without

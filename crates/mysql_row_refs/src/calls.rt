@@ -49,15 +49,19 @@ impl<'r, 'p> RowRef<'r, 'p> {
         self.columns.as_slice()
     }
 
-    /// The same columns, shared, as a [`StoredRows`](crate::StoredRows) takes them. Refused for want of memory alone.
+    /// The columns, shared, as a [`StoredRows`](crate::StoredRows) takes them.
+    ///
+    /// # Errors
+    /// - `AllocError` for want of memory.
     pub fn columns(&self) -> Result<RcSlice<Column>, AllocError>
         ensures { IfOk result (λ columns. shared_columns columns ≡ (row_ref_view self.now).columns) }
     {
         self.columns.clone()
     }
 
-    /// The value of the cell of this number, which borrows its bytes of the payload; None where
-    /// there is no such cell.
+    /// The value of the cell of this number; it borrows its bytes of the payload.
+    ///
+    /// None where there is no such cell.
     #[inline(always)]
     pub fn as_ref(&self, index: usize) -> Option<ValueRef<'p>>
         ensures { option_map value_of result ≡ cell_at (row_ref_view self.now) (Some index) }
@@ -68,7 +72,8 @@ impl<'r, 'p> RowRef<'r, 'p> {
         }
     }
 
-    /// The value of the cell that a number or a name names, which borrows its bytes of the payload;
+    /// The value of the cell that a number or a name names; it borrows its bytes of the payload.
+    ///
     /// None where there is no such column.
     #[inline(always)]
     pub fn get<I: ColumnIndex>(&self, index: I) -> Option<ValueRef<'p>>

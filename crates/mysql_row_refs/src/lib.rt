@@ -3,7 +3,6 @@
 #![tactic(auto)]
 
 mod calls;
-mod cell_form;
 mod cell_values;
 mod cells;
 pub mod errors;

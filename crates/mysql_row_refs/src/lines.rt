@@ -28,12 +28,14 @@ pub fn limit_of_terminators(deprecates_eof: bool) -> usize
     if deprecates_eof { MAX_PAYLOAD_LEN } else { 9 }
 }
 
-/// Whether a payload in a row's place is a row: it is no error, which begins with ff, and no
-/// terminator, which begins with fe. With `CLIENT_DEPRECATE_EOF`, as `deprecates_eof` tells, that
-/// is an OK packet, which is shorter than the longest payload, and else an EOF packet of less than
-/// 9 bytes.
+/// Whether a payload in a row's place is a row.
 ///
-/// MySQL: Client/Server Protocol, "Text Resultset" and "Binary Protocol Resultset", "EOF_Packet" and "OK_Packet".
+/// Then it is no error, which begins with ff, and no terminator, which begins with fe. With
+/// `CLIENT_DEPRECATE_EOF`, as `deprecates_eof` tells, that is an OK packet, which is shorter than
+/// the longest payload, and else an EOF packet of less than 9 bytes.
+///
+/// MySQL: Client/Server Protocol, "Text Resultset" and "Binary Protocol Resultset", "EOF_Packet"
+/// and "OK_Packet".
 #[inline(always)]
 pub fn is_row(payload: &[u8], deprecates_eof: bool) -> bool
     ensures { result ≡ is_row_by_first deprecates_eof payload.now }

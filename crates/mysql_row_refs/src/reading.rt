@@ -17,8 +17,10 @@ use std::alloc::{AllocError, Global};
 use std::rc::RcSlice;
 
 impl RowReader {
-    /// A reader of the rows of a result set with these columns, in this format. Refused for want of
-    /// memory alone; none is asked for afterwards.
+    /// A reader of the rows of a result set with these columns, in this format.
+    ///
+    /// # Errors
+    /// - `AllocError` for want of memory. None is asked for afterwards.
     pub fn new(
         alloc: Global,
         columns: RcSlice<Column>,
@@ -45,12 +47,12 @@ impl RowReader {
 
     /// Reads the places of the cells of the row that a payload is. No memory is asked for.
     ///
-    /// [`row_ref`](RowReader::row_ref) then gives that row, of this payload. [`row`](RowReader::row)
-    /// does both: these two are for who looks for the payload in a loop, and borrows the row behind
-    /// it.
+    /// [`row_ref`](RowReader::row_ref) then gives that row, of this payload.
+    /// [`row`](RowReader::row) does both: these two are for who looks for the payload in a loop,
+    /// and borrows the row behind it.
     ///
     /// # Errors
-    /// Those of [`row`](RowReader::row), in the same order.
+    /// - Those of [`row`](RowReader::row), in the same order.
     ///
     /// MySQL: Client/Server Protocol, "Text Resultset Row" and "Binary Protocol Resultset Row".
     #[inline]
@@ -106,11 +108,15 @@ impl RowReader {
 
     /// The row that a payload is, which borrows it. No memory is asked for.
     ///
+    /// Promise: exactly the row is answered that reading gives of the whole payload, or reading's
+    /// first refusal, or `BytesLeft`; no byte is copied (`row_of`).
+    ///
     /// # Errors
-    /// `Unreadable` with the first refusal that reading meets: `UnexpectedEof` where the payload
-    /// ends before its row does, `BadConstant` where another byte than 00 begins a binary row,
-    /// `BadLength` where ff begins a text cell, `UnsupportedType` for a column's type without
-    /// binary cells. Then `BytesLeft` where bytes stand behind the last cell.
+    /// - `Unreadable` with the first refusal that reading meets: `UnexpectedEof` where the payload
+    ///   ends before its row does, `BadConstant` where another byte than 00 begins a binary row,
+    ///   `BadLength` where ff begins a text cell, `UnsupportedType` for a column's type without
+    ///   binary cells.
+    /// - `BytesLeft` where bytes stand behind the last cell.
     ///
     /// MySQL: Client/Server Protocol, "Text Resultset Row" and "Binary Protocol Resultset Row".
     pub fn row<'r, 'p>(&'r mut self, payload: &'p [u8]) -> Result<RowRef<'r, 'p>, RowError>

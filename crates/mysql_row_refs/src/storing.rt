@@ -101,8 +101,10 @@ impl StoredRows {
         }
     }
 
-    /// Keeps a row, behind the others, under these columns: it has to have as many. Refused for
-    /// want of memory alone, and then nothing changes.
+    /// Keeps a row, behind the others, under these columns: it has to have as many.
+    ///
+    /// # Errors
+    /// - `AllocError` for want of memory. Nothing changes then.
     ///
     /// MySQL: Client/Server Protocol, "Text Resultset Row" and "Binary Protocol Resultset Row".
     pub fn push(&mut self, row: &RowRef) -> Result<(), AllocError>

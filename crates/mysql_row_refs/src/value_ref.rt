@@ -33,7 +33,10 @@ pub enum ValueRef<'p> {
 }
 
 impl ValueRef<'_> {
-    /// The value, with a copy of its bytes. Refused for want of memory alone.
+    /// The value, with a copy of its bytes.
+    ///
+    /// # Errors
+    /// - `AllocError` for want of memory.
     pub fn to_value(&self, alloc: Global) -> Result<Value, AllocError>
         ensures { IfOk result (λ value. value ≡ value_of self.now) }
     {

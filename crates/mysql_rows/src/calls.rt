@@ -19,7 +19,10 @@ use std::mem;
 use std::ops::Index;
 use std::rc::RcSlice;
 
-/// The row of these values, as many as there are columns. Refused for want of memory alone.
+/// The row of these values, as many as there are columns.
+///
+/// # Errors
+/// - `AllocError` for want of memory.
 pub fn new_row(
     alloc: Global,
     values: Vec<Value>,
@@ -73,7 +76,10 @@ impl Row {
         self.columns.as_slice()
     }
 
-    /// The same columns, shared. Refused for want of memory alone.
+    /// The columns, shared with the row.
+    ///
+    /// # Errors
+    /// - `AllocError` for want of memory.
     pub fn columns(&self) -> Result<RcSlice<Column>, AllocError>
         ensures { IfOk result (λ columns. shared_columns columns ≡ (row_view self.now).columns) }
     {
@@ -91,8 +97,9 @@ impl Row {
         }
     }
 
-    /// The value of the cell that a number or a name names; None where there is no such column, or
-    /// its value was taken.
+    /// The value of the cell that a number or a name names.
+    ///
+    /// None where there is no such column, or its value was taken.
     #[inline(always)]
     pub fn value_at<I: ColumnIndex>(&self, index: I) -> Option<&Value>
         ensures { option_copied result ≡ cell_at (row_view self.now) (I.place index (row_view self.now).columns) }
@@ -103,8 +110,9 @@ impl Row {
         }
     }
 
-    /// Takes the value out of the cell that a number or a name names; None where there is no such
-    /// column, or its value was taken before.
+    /// Takes the value out of the cell that a number or a name names.
+    ///
+    /// None where there is no such column, or its value was taken before.
     pub fn take_value<I: ColumnIndex>(&mut self, index: I) -> Option<Value>
         ensures value { result ≡ cell_at (row_view self.old) (I.place index (row_view self.old).columns) }
         ensures taken { row_view self.new ≡
@@ -134,10 +142,17 @@ impl Row {
         self.cells
     }
 
-    /// Appends the text row of the cells' values, as [`write_text_row`](crate::write_text_row) does.
+    /// Appends the text row of the cells' values, as [`write_text_row`](crate::write_text_row)
+    /// does.
+    ///
+    /// Promise: exactly the row is appended, or it is refused by the least place whose cell has no
+    /// form there or was taken, and the buffer is as it was (`text_row`).
     ///
     /// # Errors
-    /// `NoForm` with the least place whose value was taken or is a float, then `Memory`. `out` is then as it was.
+    /// - `NoForm` with the least place whose value was taken or is a float.
+    /// - `Memory`.
+    ///
+    /// `out` is as it was after an error.
     ///
     /// MySQL: Client/Server Protocol, "Text Resultset Row".
     pub fn write_text(&self, out: &mut Vec<u8>) -> Result<(), RowRefusal>
@@ -147,14 +162,22 @@ impl Row {
         write_text(self.cells.as_slice(), out)
     }
 
-    /// Appends the binary row of the cells' values by these columns, as many as there are cells,
-    /// and not by the row's own; as [`write_binary_row`](crate::write_binary_row) does.
+    /// Appends the binary row of the cells' values by these columns, as many as there are cells.
+    ///
+    /// The row's own columns don't count; [`write_binary_row`](crate::write_binary_row) does the
+    /// same with values.
+    ///
+    /// Promise: exactly the row is appended, or it is refused by the least place whose cell has no
+    /// form there or was taken, and the buffer is as it was (`binary_row`).
     ///
     /// # Errors
-    /// `NoForm` with the least place whose value was taken or has no cell by its column, then
-    /// `Memory`. `out` is then as it was.
+    /// - `NoForm` with the least place whose value was taken or has no cell by its column.
+    /// - `Memory`.
     ///
-    /// MySQL: Client/Server Protocol, "Binary Protocol Resultset Row", "Null-Bitmap" and "Binary Protocol Value".
+    /// `out` is as it was after an error.
+    ///
+    /// MySQL: Client/Server Protocol, "Binary Protocol Resultset Row", "Null-Bitmap" and "Binary
+    /// Protocol Value".
     pub fn write_binary(&self, columns: &[Column], out: &mut Vec<u8>) -> Result<(), RowRefusal>
         requires { length columns.now ≡ length (row_view self.now).cells }
         ensures { PutsRow (binary_cause (column_views columns.now) (row_view self.now).cells)
@@ -164,7 +187,10 @@ impl Row {
         write_binary(columns, self.cells.as_slice(), out)
     }
 
-    /// The same row again: copies of its cells, under the columns that it shares. Refused for want of memory alone.
+    /// A copy of the row's cells, under the columns that it shares.
+    ///
+    /// # Errors
+    /// - `AllocError` for want of memory.
     pub fn clone(&self, alloc: Global) -> Result<Row, AllocError>
         ensures { IfOk result (λ copy. row_view copy ≡ row_view self.now) }
     {
@@ -173,7 +199,10 @@ impl Row {
         Ok(new_row_raw(cells, columns))
     }
 
-    /// The values of a row of which nothing was taken. Refused for want of memory alone.
+    /// The values of a row of which nothing was taken.
+    ///
+    /// # Errors
+    /// - `AllocError` for want of memory.
     pub fn unwrap(self, alloc: Global) -> Result<Vec<Value>, AllocError>
         requires { is_whole (row_view self) ≡ true }
         ensures { IfOk result (λ values. map Some values.items ≡ (row_view self).cells) }

@@ -1,4 +1,7 @@
-//! Errors that a server reports.
+//! Errors that a server reports: a code, an SQL state and a message.
+//!
+//!     let state = Some(SqlState::new(*b"42S02"));
+//!     let error = ServerError::new(1146, state, CowSlice::Borrowed(b"no such table"));
 
 ghost use Rattle.std.specs.Prelude.{◌≡◌, [], IfOk, IsOkUnless, List, None, Some, false, length, option_map, ℕ};
 ghost use Rattle.std.specs.Cow.{cow_slice_items, cow_str_bytes};

@@ -1,4 +1,9 @@
-//! Changes of a session's state.
+//! Changes of a session's state, by the type that a state names.
+//!
+//!     match state.decode(alloc)? {
+//!         SessionStateChange::Schema(schema) => ..,
+//!         _ => ..,
+//!     }
 
 ghost use Rattle.std.specs.Prelude.{◌≡◌, IfOk, None, map};
 ghost use Rattle.std.specs.List.{flat_map};

@@ -1,6 +1,5 @@
-//! What a user of `mysql_packets` alone can name: each item that the face passes on, by each of its paths.
+//! What a user of `mysql_packets` can name: each item that the face passes on, by each of its paths.
 //! Written by `tools/faces` from the sources. A name that the face doesn't pass on is refused here.
-#![tactic(auto)]
 
 use mysql_packets::{
     BitmapBytes, BulkExecuteRequestBuilderError, BulkExecuteRequestError, BulkRequests, Catalog,

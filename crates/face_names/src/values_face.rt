@@ -1,6 +1,5 @@
-//! What a user of `mysql_values` alone can name: each item that the face passes on, by each of its paths.
+//! What a user of `mysql_values` can name: each item that the face passes on, by each of its paths.
 //! Written by `tools/faces` from the sources. A name that the face doesn't pass on is refused here.
-#![tactic(auto)]
 
 use mysql_values::{
     AsSqlError, BinValue, BindError, ByteString, ClientSide, Content, ContentExt, Literal,
@@ -11,7 +10,10 @@ use mysql_values::{
 };
 
 mod bind {
-    use mysql_values::bind::{BindError, bind_text, bind_text_at, bind_text_over, names_among};
+    use mysql_values::bind::{
+        BindError, ParsedQuery, bind_text, bind_text_at, bind_text_onto, bind_text_over,
+        names_among,
+    };
 }
 
 mod laws {
@@ -25,6 +27,7 @@ mod laws {
 mod params {
     use mysql_values::params::{
         MissingNamedParameterError, Params, ParamsConfusionError, ParamsError, SetError,
+        list_values_over_names,
     };
 }
 

@@ -1,6 +1,5 @@
-//! What a user of `mysql_session` alone can name: each item that the face passes on, by each of its paths.
+//! What a user of `mysql_session` can name: each item that the face passes on, by each of its paths.
 //! Written by `tools/faces` from the sources. A name that the face doesn't pass on is refused here.
-#![tactic(auto)]
 
 use mysql_session::{
     Audit, BindError, ByteString, CapabilityFlags, Column, ColumnIndex, Content, End, Flags,

@@ -1,6 +1,5 @@
-//! What a user of `mysql_convert` alone can name: each item that the face passes on, by each of its paths.
+//! What a user of `mysql_convert` can name: each item that the face passes on, by each of its paths.
 //! Written by `tools/faces` from the sources. A name that the face doesn't pass on is refused here.
-#![tactic(auto)]
 
 use mysql_convert::{
     FromValue, FromValueError, Intermediate, IntoParams, OptionIr2, ParseIr, ParseIrOpt, SetError,
@@ -23,6 +22,10 @@ mod intermediates {
 
 mod laws {
     use mysql_convert::laws::texts_hold_durations;
+}
+
+mod numbers {
+    use mysql_convert::numbers::{Integer, Number, text_integer};
 }
 
 // The faces below: one item each, since each has a list of its own.
