@@ -28,7 +28,8 @@ rows_listed (Answered answer) = flat_map rows_in answer.results
 
 -- A row was read behind the bytes that were used, and isn't kept: fed these bytes, the reader would
 -- hold what it holds now, and this row as the last one of those so far.
-pub record BorrowsRow (old : ReaderState) (piece : List ℕ) (row : Row) (new : ReaderState) (rest : List ℕ) : Type 0 where
+pub record BorrowsRow (old : ReaderState) (piece : List ℕ) (row : Row) (new : ReaderState)
+    (rest : List ℕ) : Type 0 where
   pub used : List ℕ
   pub cut : piece ≡ used ++ rest
   pub s : OpenReply
@@ -63,4 +64,5 @@ BorrowedRowsAreHandedOut = (c : Context) (first_id limit : ℕ) (pieces : List (
     (piece rest : List ℕ) (row : Row) →
     Runs c first_id limit pieces taken reports old → AreBytes piece →
     (borrowed : BorrowsRow old piece row new rest) → results_in new.so_far ≡ [] →
-    Runs c first_id limit (pieces ++ borrowed.used ∷ []) (taken ++ RowsResult borrowed.columns (row ∷ []) None ∷ []) reports new
+    Runs c first_id limit (pieces ++ borrowed.used ∷ []) (taken ++
+    RowsResult borrowed.columns (row ∷ []) None ∷ []) reports new

@@ -166,7 +166,11 @@ abbrev pub after_rows : List ColumnDefinition → List Row → (Row → Parsed R
     Result Line ReplyFault → Payload → List Payload → Parsed ResultGroup
 after_rows columns rows on (Ok (RowLine found)) payload rest = on found
 after_rows columns rows on (Ok (TerminatorLine ok)) payload rest =
-    Complete (record { results = RowsResult columns rows (Some ok) ∷ []; more = more_results_exist ok.status_flags }) rest
+    Complete (record {
+      results = RowsResult columns rows (Some ok) ∷ [];
+      more =
+          more_results_exist ok.status_flags;
+    }) rest
 after_rows columns rows on (Ok (ErrorLine error)) payload rest =
     Complete (record { results = RowsResult columns rows None ∷ ErrorResult error ∷ []; more = false }) rest
 after_rows columns rows on (Err fault) payload rest =

@@ -12,7 +12,8 @@ use Rattle.mysql_replies.specs.declared.fault.ReplyFault.TheVariants.{AfterEnd}
 use Rattle.mysql_wire.specs.Stream.{Rest}
 use Rattle.mysql_wire.specs.Stream.Rest.{Empty, TooLarge, OutOfSync}
 use Rattle.mysql_replies.specs.declared.context.Context.{Context}
-use Rattle.mysql_replies.specs.Grammar.{Payload, Outcome, Parsed, Complete, ResultGroup, Ending, Ended, Open, Wrong, Results}
+use Rattle.mysql_replies.specs.Grammar.{Payload, Outcome, Parsed, Complete, ResultGroup, Ending, Ended, Open, Wrong}
+use Rattle.mysql_replies.specs.Grammar.{Results}
 use Rattle.mysql_replies.specs.Grammar.{has_report_form, rows, result_set, prepared, prepared_columns, one_result}
 
 -- How a reply ends: whole, unfinished, or at the payload of this number.

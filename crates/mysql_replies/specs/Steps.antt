@@ -17,7 +17,8 @@ use Rattle.mysql_replies.specs.declared.awaited.Listed.{Listed}
 use Rattle.mysql_replies.specs.declared.awaited.Listed.TheVariants as listed
 use Rattle.mysql_replies.specs.declared.awaited.Stepped.{Stepped}
 use Rattle.mysql_replies.specs.declared.awaited.Stepped.TheVariants.{Moved, Failed}
-use Rattle.mysql_replies.specs.Grammar.{Payload, Outcome, RowsResult, PreparedResult, Parsed, Complete, ResultGroup, Ending}
+use Rattle.mysql_replies.specs.Grammar.{Payload, Outcome, RowsResult, PreparedResult, Parsed, Complete, ResultGroup}
+use Rattle.mysql_replies.specs.Grammar.{Ending}
 use Rattle.mysql_replies.specs.Grammar.{Ended, Wrong, Results, rows, prepared_columns}
 use Rattle.mysql_replies.specs.Reply.{Awaited, Columns, Rows, Parameters, PreparedColumns, Nothing, rest_of}
 use Rattle.mysql_replies.specs.OpenRows.{RowsSoFar}

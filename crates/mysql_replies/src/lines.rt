@@ -64,14 +64,34 @@ pub fn deprecates_eof(capabilities: CapabilityFlags) -> bool
     capabilities.contains(CapabilityFlags::CLIENT_DEPRECATE_EOF)
 }
 
+// The OK packet that ends rows, which borrows from the payload.
+#[tactic(auto, unfolding(mysql_ok_packets::specs::OkPackets::result_set_terminator_at))]
+fn ok_terminator_of<'a>(
+    alloc: Global,
+    capabilities: CapabilityFlags,
+    buf: &mut ParseBuf<'a>,
+) -> Result<OkPacket<'a>, WireError>
+    ensures { TellsPart ok_packet_view buf.new.0.now result
+        (result_set_terminator_at capabilities.0 buf.old.0.now) }
+{
+    let read: OkPacketDeserializer<ResultSetTerminator> = buf.parse(alloc, capabilities)?;
+    Ok(read.into_inner())
+}
+
+// The EOF packet that ends rows, which borrows from the payload.
+#[tactic(auto, unfolding(mysql_ok_packets::specs::OkPackets::old_eof_at))]
+fn eof_terminator_of<'a>(
+    alloc: Global,
+    capabilities: CapabilityFlags,
+    buf: &mut ParseBuf<'a>,
+) -> Result<OkPacket<'a>, WireError>
+    ensures { TellsPart ok_packet_view buf.new.0.now result (old_eof_at buf.old.0.now) }
+{
+    let read: OkPacketDeserializer<OldEofPacket> = buf.parse(alloc, capabilities)?;
+    Ok(read.into_inner())
+}
+
 // A terminator, which borrows from the payload.
-#[tactic(
-    auto,
-    unfolding(
-        mysql_ok_packets::specs::OkPackets::old_eof_at,
-        mysql_ok_packets::specs::OkPackets::result_set_terminator_at
-    )
-)]
 fn terminator_of<'a>(
     alloc: Global,
     capabilities: CapabilityFlags,
@@ -82,11 +102,9 @@ fn terminator_of<'a>(
         else old_eof_at buf.old.0.now) }
 {
     if deprecates_eof(capabilities) {
-        let read: OkPacketDeserializer<ResultSetTerminator> = buf.parse(alloc, capabilities)?;
-        Ok(read.into_inner())
+        ok_terminator_of(alloc, capabilities, buf)
     } else {
-        let read: OkPacketDeserializer<OldEofPacket> = buf.parse(alloc, capabilities)?;
-        Ok(read.into_inner())
+        eof_terminator_of(alloc, capabilities, buf)
     }
 }
 
@@ -115,11 +133,7 @@ pub fn is_row(context: Context, payload: &[u8]) -> bool
 }
 
 /// Reads what ends rows: an error, or else a terminator.
-pub fn read_rows_end(
-    alloc: Global,
-    context: Context,
-    payload: &[u8],
-) -> Result<RowsEnd, ReplyFault>
+pub fn read_rows_end(alloc: Global, context: Context, payload: &[u8]) -> Result<RowsEnd, ReplyFault>
     ensures { Gives rows_end_view result (rows_end context payload.now) }
 {
     if starts_with(payload, 255) {

@@ -1,6 +1,7 @@
 //! The rows so far of a result set that goes on.
 
-ghost use Rattle.std.specs.Prelude.{◌≡◌, ◌==◌, ◌<◌, [], ◌∷◌, ◌++◌, None, Ok, IfErr, IfSome, IsSomeAnd, OnErr, OnOk, length};
+ghost use Rattle.std.specs.Prelude.{◌≡◌, ◌==◌, ◌<◌, [], ◌∷◌, ◌++◌, None, Ok, IfErr, IfSome, IsSomeAnd, OnErr, OnOk};
+ghost use Rattle.std.specs.Prelude.{length};
 ghost use Rattle.std.specs.Prelude.{option_map};
 ghost use Rattle.mysql_row_refs.specs.RowRefs.{row_of};
 ghost use Rattle.mysql_ok_packets.specs.Views.{ok_packet_view};

@@ -26,7 +26,8 @@ ghost use Rattle.mysql_replies.specs.Grammar.{has_report_form, one_result, rows}
 ghost use Rattle.mysql_replies.specs.Reply as reply;
 ghost use Rattle.mysql_replies.specs.Views.{awaited_view, column_views};
 ghost use Rattle.mysql_replies.specs.Steps.{IsStep, IsMove, IsSettled, IsGroupSettled, IsAwaiting, Leads, Moves};
-ghost use Rattle.mysql_replies.specs.Steps.{IsNoRow, OfParameters, reads_as_row, row_stepped, group_view, group_awaited};
+ghost use Rattle.mysql_replies.specs.Steps.{IsNoRow, OfParameters, reads_as_row, row_stepped, group_view};
+ghost use Rattle.mysql_replies.specs.Steps.{group_awaited};
 ghost use Rattle.mysql_replies.specs.Steps.{after_group};
 
 use crate::awaited::{Awaited, ColumnGroup, Listed, Stepped};
@@ -106,7 +107,12 @@ fn after_parameters(
 }
 
 /// What follows a whole group.
-fn after_columns(alloc: Global, context: Context, group: ColumnGroup, columns: Vec<Column>) -> Stepped
+fn after_columns(
+    alloc: Global,
+    context: Context,
+    group: ColumnGroup,
+    columns: Vec<Column>,
+) -> Stepped
     ensures { IsMove context (λ z. after_group context (group_view group) (column_views columns.items) z) result }
 {
     match group {
@@ -308,9 +314,20 @@ pub fn step(alloc: Global, context: Context, awaited: Awaited, payload: &[u8]) -
     match awaited {
         Awaited::First => first_step(alloc, context, payload),
         Awaited::Columns { left, columns } => {
-            group_step(alloc, context, ColumnGroup::ResultSet, left, columns, payload)
+            group_step(
+                alloc,
+                context,
+                ColumnGroup::ResultSet,
+                left,
+                columns,
+                payload,
+            )
         }
-        Awaited::Parameters { stmt, left, parameters } => {
+        Awaited::Parameters {
+            stmt,
+            left,
+            parameters,
+        } => {
             group_step(
                 alloc,
                 context,

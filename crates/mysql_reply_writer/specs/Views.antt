@@ -17,7 +17,9 @@ abbrev pub place_view : Packets → Place
 place_view packets = record { number = packets.number; payloads = packets.payloads }
 
 abbrev pub rows_view : Option OpenRows → Option refusals.OpenRows
-rows_view rows = option_map (λ open_rows. record { columns = shared_columns open_rows.columns; count = open_rows.count }) rows
+rows_view rows = option_map
+    (λ open_rows. record { columns = shared_columns open_rows.columns; count = open_rows.count })
+    rows
 
 -- How many payloads rows that go on have at least.
 abbrev pub payloads_in : Option OpenRows → ℕ

@@ -4,7 +4,8 @@ ghost use Rattle.std.specs.Prelude.{◌≡◌, ◌++◌, IfErr, None, OnErr, OnO
 ghost use Rattle.std.specs.Option.{option_map};
 ghost use Rattle.mysql_ok_packets.specs.Views.{ok_packet_view};
 ghost use Rattle.mysql_server_packets.specs.Packets.{Error, Progress, protocol_41, progress_obsolete};
-ghost use Rattle.mysql_server_packets.specs.Views.{err_packet_view, progress_report_view, server_error_view, sql_state_view};
+ghost use Rattle.mysql_server_packets.specs.Views.{err_packet_view, progress_report_view, server_error_view};
+ghost use Rattle.mysql_server_packets.specs.Views.{sql_state_view};
 ghost use Rattle.mysql_replies.specs.Grammar.{deprecate_eof, is_binary as is_binary_kind};
 ghost use Rattle.mysql_replies.specs.Views.{column_views};
 ghost use Rattle.mysql_ok_packets.specs.Written.{eof_bytes, ok_packet_bytes};
@@ -75,14 +76,38 @@ pub(crate) fn make_ok(
     ok.serialize_as::<CommonOkPacket>(capabilities, status, payload)
 }
 
+// The OK packet that ends rows.
+#[tactic(auto, unfolding(mysql_ok_packets::specs::Written::ok_packet_bytes))]
+fn make_ok_terminator(
+    payload: &mut Vec<u8>,
+    capabilities: CapabilityFlags,
+    more: bool,
+    ok: &OkPacket<'_>,
+) -> Result<(), AllocError>
+    ensures { OnOk result (payload.new.items ≡
+        ok_packet_bytes 254 capabilities.0 (saying more (ok_packet_view ok.now))) }
+{
+    payload.clear();
+    let status = with_more(more, ok.status_flags());
+    ok.serialize_as::<ResultSetTerminator>(capabilities, status, payload)
+}
+
+// The EOF packet that ends rows.
+#[tactic(auto, unfolding(mysql_ok_packets::specs::Written::eof_bytes))]
+fn make_eof_terminator(
+    payload: &mut Vec<u8>,
+    capabilities: CapabilityFlags,
+    more: bool,
+    ok: &OkPacket<'_>,
+) -> Result<(), AllocError>
+    ensures { OnOk result (payload.new.items ≡ eof_bytes (saying more (ok_packet_view ok.now))) }
+{
+    payload.clear();
+    let status = with_more(more, ok.status_flags());
+    ok.serialize_as::<OldEofPacket>(capabilities, status, payload)
+}
+
 /// Makes what ends rows.
-#[tactic(
-    auto,
-    unfolding(
-        mysql_ok_packets::specs::Written::ok_packet_bytes,
-        mysql_ok_packets::specs::Written::eof_bytes
-    )
-)]
 pub(crate) fn make_terminator(
     payload: &mut Vec<u8>,
     capabilities: CapabilityFlags,
@@ -92,12 +117,10 @@ pub(crate) fn make_terminator(
     ensures { OnOk result (payload.new.items ≡
         terminator_payload capabilities.0 (saying more (ok_packet_view ok.now))) }
 {
-    payload.clear();
-    let status = with_more(more, ok.status_flags());
     if deprecates_eof(capabilities) {
-        ok.serialize_as::<ResultSetTerminator>(capabilities, status, payload)
+        make_ok_terminator(payload, capabilities, more, ok)
     } else {
-        ok.serialize_as::<OldEofPacket>(capabilities, status, payload)
+        make_eof_terminator(payload, capabilities, more, ok)
     }
 }
 

@@ -83,10 +83,10 @@ returns-then-is_over c =
       fault = ap (λ (x : ReplyState). x.fault) c.fail.ensures.state ∙ ap Some (sym c.fail.ensures.same);
       took = tt;
       goes_on =
-        subst (λ f. UnlessMemory {X = Unit {0}} (Err f) (ReaderGoesOn (reader_state start old) piece (reader_state after now))) (sym c.fail.ensures.same)
-        (piece_goes_on laws start (codec_by old) old.bytes fed [] piece (reader_state after now) (Err faults.AfterEnd) c.requires.going refl
-        (elsewhere (reader_state_of start (codec_by old) fed []) after (reader_state_of after (codec_by now) src []) (reader_state after now) (Err faults.AfterEnd) refl (ap (λ (s : ReplyState). s.fault) c.fail.ensures.state) refl refl
-        (goes_on_over laws start s after (codec_by old) (codec_by now) fed [] src [] t.payloads t.received c.requires.going t.going c.fail.ensures.state (ap awaited_view over) begun.0 begun.1 begun.2 t.bytes some)));
+          subst (λ f. UnlessMemory {X = Unit {0}} (Err f) (ReaderGoesOn (reader_state start old) piece (reader_state after now))) (sym c.fail.ensures.same)
+          (piece_goes_on laws start (codec_by old) old.bytes fed [] piece (reader_state after now) (Err faults.AfterEnd) c.requires.going refl
+          (elsewhere (reader_state_of start (codec_by old) fed []) after (reader_state_of after (codec_by now) src []) (reader_state after now) (Err faults.AfterEnd) refl (ap (λ (s : ReplyState). s.fault) c.fail.ensures.state) refl refl
+          (goes_on_over laws start s after (codec_by old) (codec_by now) fed [] src [] t.payloads t.received c.requires.going t.going c.fail.ensures.state (ap awaited_view over) begun.0 begun.1 begun.2 t.bytes some)));
       short = subst (λ f. OnMemory {X = Unit {0}} (Err f) (StandsShort (reader_state start old) ((reader_state start old).bytes ++ piece) (reader_state after now))) (sym c.fail.ensures.same) tt;
     }
 
@@ -113,12 +113,12 @@ returns-then-is_err-2 c =
       fault = c.take-taken.ensures.fault;
       took = no_ok _ c.take-taken.result failed;
       goes_on =
-        piece_goes_on laws start (codec_by old) old.bytes fed [] piece (reader_state next new) c.take-taken.result c.requires.going refl
-        (elsewhere (reader_state_of start (codec_by old) fed []) next (reader_state_of next (codec_by new) (new.bytes ++ c.advance.new.piece.now) []) (reader_state next new) c.take-taken.result failed c.take-taken.ensures.fault refl refl
-        (taken_goes_on laws start s next (codec_by old) (codec_by now) (codec_by new) fed [] src [] (new.bytes ++ c.advance.new.piece.now) [] new.payload c.take-taken.result failed t c.requires.going h refl c.take-taken.ensures.fault goes));
+          piece_goes_on laws start (codec_by old) old.bytes fed [] piece (reader_state next new) c.take-taken.result c.requires.going refl
+          (elsewhere (reader_state_of start (codec_by old) fed []) next (reader_state_of next (codec_by new) (new.bytes ++ c.advance.new.piece.now) []) (reader_state next new) c.take-taken.result failed c.take-taken.ensures.fault refl refl
+          (taken_goes_on laws start s next (codec_by old) (codec_by now) (codec_by new) fed [] src [] (new.bytes ++ c.advance.new.piece.now) [] new.payload c.take-taken.result failed t c.requires.going h refl c.take-taken.ensures.fault goes));
       short =
-        piece_runs_short laws start (codec_by old) old.bytes [] piece c.take-taken.result (reader_state c.take-taken.new.self new)
-        (taken_short start s c.take-taken.new.self (codec_by old) (codec_by now) (codec_by new) fed [] src [] new.bytes [] c.take-taken.result t c.requires.going (c.is_over.ensures.awaiting c.if-is_over.false) c.take-taken.ensures.short);
+          piece_runs_short laws start (codec_by old) old.bytes [] piece c.take-taken.result (reader_state c.take-taken.new.self new)
+          (taken_short start s c.take-taken.new.self (codec_by old) (codec_by now) (codec_by new) fed [] src [] new.bytes [] c.take-taken.result t c.requires.going (c.is_over.ensures.awaiting c.if-is_over.false) c.take-taken.ensures.short);
     }
 
 pub returns-in-Ok-false : goal.returns-in-Ok-false
@@ -155,11 +155,11 @@ returns-in-Err c =
       fault = ap (λ (x : ReplyState). x.fault) is;
       took = tt;
       goes_on =
-        piece_goes_on laws start (codec_by old) old.bytes fed [] piece (reader_state after new) (Err c.fail-in-Err.result) c.requires.going refl
-        (refused_goes_on laws start s after (codec_by old) (codec_by now) (codec_by new) fed [] src [] new.bytes [] w.refusal c.fail-in-Err.result t c.requires.going (c.is_over.ensures.awaiting c.if-is_over.false) named is (w.due t.received.read.refused));
+          piece_goes_on laws start (codec_by old) old.bytes fed [] piece (reader_state after new) (Err c.fail-in-Err.result) c.requires.going refl
+          (refused_goes_on laws start s after (codec_by old) (codec_by now) (codec_by new) fed [] src [] new.bytes [] w.refusal c.fail-in-Err.result t c.requires.going (c.is_over.ensures.awaiting c.if-is_over.false) named is (w.due t.received.read.refused));
       short =
-        piece_runs_short laws start (codec_by old) old.bytes [] piece (Err c.fail-in-Err.result) (reader_state after new)
-        (failed_short start s after (codec_by old) (codec_by now) (codec_by new) fed [] src [] new.bytes [] c.fail-in-Err.result t c.requires.going (c.is_over.ensures.awaiting c.if-is_over.false) is);
+          piece_runs_short laws start (codec_by old) old.bytes [] piece (Err c.fail-in-Err.result) (reader_state after new)
+          (failed_short start s after (codec_by old) (codec_by now) (codec_by new) fed [] src [] new.bytes [] c.fail-in-Err.result t c.requires.going (c.is_over.ensures.awaiting c.if-is_over.false) is);
     }
 
 pub packets-preserved-in-Some : goal.packets-preserved-in-Some
@@ -207,10 +207,10 @@ returns-then-is_err c =
       fault = c.take-placed.ensures.fault;
       took = no_ok _ c.take-placed.result failed;
       goes_on =
-        piece_goes_on laws start (codec_by old) old.bytes fed [] piece (reader_state next new) c.take-placed.result c.requires.going refl
-        (elsewhere (reader_state_of start (codec_by old) fed []) next (reader_state_of next (codec_by new) (new.bytes ++ c.read_in_place.new.piece.now) []) (reader_state next new) c.take-placed.result failed c.take-placed.ensures.fault refl refl
-        (taken_goes_on laws start s next (codec_by old) (codec_by now) (codec_by new) fed [] src [] (new.bytes ++ c.read_in_place.new.piece.now) [] c.in-Some.payload.now c.take-placed.result failed t c.requires.going h refl c.take-placed.ensures.fault goes));
+          piece_goes_on laws start (codec_by old) old.bytes fed [] piece (reader_state next new) c.take-placed.result c.requires.going refl
+          (elsewhere (reader_state_of start (codec_by old) fed []) next (reader_state_of next (codec_by new) (new.bytes ++ c.read_in_place.new.piece.now) []) (reader_state next new) c.take-placed.result failed c.take-placed.ensures.fault refl refl
+          (taken_goes_on laws start s next (codec_by old) (codec_by now) (codec_by new) fed [] src [] (new.bytes ++ c.read_in_place.new.piece.now) [] c.in-Some.payload.now c.take-placed.result failed t c.requires.going h refl c.take-placed.ensures.fault goes));
       short =
-        piece_runs_short laws start (codec_by old) old.bytes [] piece c.take-placed.result (reader_state c.take-placed.new.self new)
-        (taken_short start s c.take-placed.new.self (codec_by old) (codec_by now) (codec_by new) fed [] src [] new.bytes [] c.take-placed.result t c.requires.going (c.is_over.ensures.awaiting c.if-is_over.false) c.take-placed.ensures.short);
+          piece_runs_short laws start (codec_by old) old.bytes [] piece c.take-placed.result (reader_state c.take-placed.new.self new)
+          (taken_short start s c.take-placed.new.self (codec_by old) (codec_by now) (codec_by new) fed [] src [] new.bytes [] c.take-placed.result t c.requires.going (c.is_over.ensures.awaiting c.if-is_over.false) c.take-placed.ensures.short);
     }
