@@ -23,8 +23,10 @@ use std::marker::Model;
 use std::mem;
 use std::rc::RcSlice;
 
-/// Rows under their columns, and a second share of these: with it the rows are handed out without a
-/// request for memory. Rows that are borrowed aren't among them.
+/// The rows so far of a result set that goes on, under their columns.
+///
+/// With a second share of the columns the rows are handed out without a request for memory. Rows
+/// that are borrowed aren't among them.
 #[derive(Drop)]
 pub struct OpenRows {
     columns: RcSlice<Column>,

@@ -2,7 +2,7 @@ use Rattle.std.proofs.Common.{◌≡◌, ◌==◌, false, length, rules}
 use Rattle.mysql_replies.specs.declared.context.Context.{Context}
 use Rattle.mysql_replies.specs.Views.{outcome_views, report_views}
 use Rattle.mysql_reply_writer.proofs.Replied.{replied}
-use Rattle.mysql_reply_writer.proofs.WholeReplies.{reply_allowed, reply_read, reply_refused, reply_written}
+use Rattle.mysql_reply_writer.proofs.WholeReplies.{reply_allowed, reply_read, reply_written}
 use Rattle.mysql_reply_writer.proofs.reply.write_reply.Goals as goal
 
 pub returns-in-Ok-clause-delivered : goal.returns-in-Ok-clause-delivered
@@ -18,8 +18,3 @@ returns-in-Ok-clause-delivered c =
     (reply_allowed context c.args.first_id c.args.limit results progress some c.new-writer.result c.new-writer.ensures c.put_reply.new.writer old new c.in-Ok.ensures.ok c.in-Ok.ensures.whole)
     (reply_written context c.args.first_id c.args.limit results progress some c.new-writer.result c.new-writer.ensures c.put_reply.new.writer old new c.in-Ok.ensures.ok c.in-Ok.ensures.whole)
     (reply_read context c.args.first_id c.args.limit results progress some c.new-writer.result c.new-writer.ensures c.put_reply.new.writer old new c.in-Ok.ensures.ok c.in-Ok.ensures.whole c.written_replies_are_whole.ensures.framed)
-
-pub returns-in-Err-clause-refused : goal.returns-in-Err-clause-refused
-returns-in-Err-clause-refused c =
-    let some : (length c.args.results.now == 0) ≡ false = search rules in
-    reply_refused (record { kind = c.args.kind; capabilities = c.args.capabilities }) c.args.first_id c.args.limit c.args.results.now (report_views c.args.progress.now) some c.new-writer.result c.new-writer.ensures c.in-Err.refusal c.in-Err.ensures.err
