@@ -6,23 +6,18 @@ ghost use Rattle.mysql_command_rules.specs.Laws.{SentStreamsJoin, SentValuesAreC
 ghost use Rattle.mysql_command_rules.specs.declared.road.Road.TheVariants as roads;
 
 use mysql_bulk_builder::laws::{tight_typed_has_fewest, types_in_force_serve};
-use mysql_receive::laws::{
-    fronts_read_on, looking_back_goes_on, whole_streams_join, written_cells_are_held,
-};
+use mysql_receive::laws::{fronts_read_on, whole_streams_join, written_cells_are_held};
 use mysql_values::laws::{cells_have_lengths, tokens_of_a_text};
 
 /// Text queries read as the sets whose values they carry.
 pub fn queries_read()
     ensures { SentPayloadsRead roads.Text }
-{
-    looking_back_goes_on();
-}
+{}
 
 /// A prepare and executions, with long data before those that need it, read as the sets whose values they carry.
 pub fn executions_read()
     ensures { SentPayloadsRead roads.Execute }
 {
-    looking_back_goes_on();
     written_cells_are_held();
 }
 
@@ -44,7 +39,6 @@ pub fn sent_payloads_fit()
 pub fn requests_read()
     ensures { SentPayloadsRead roads.Bulk }
 {
-    looking_back_goes_on();
     written_cells_are_held();
     cells_have_lengths();
     types_in_force_serve();
@@ -66,8 +60,10 @@ pub fn sent_values_are_carried()
     requests_read();
 }
 
-/// Sets that were sent are read back, each front of their stream reads as the sets that stand whole
-/// in it, and by bulk no requests could be fewer.
+/// Sets that were sent are read back.
+///
+/// Each front of their stream reads as the sets that stand whole in it, and by bulk no requests
+/// could be fewer.
 pub fn sent_sets_are_delivered()
     ensures { SentSetsAreDelivered }
 {
@@ -85,8 +81,9 @@ pub fn sets_mean_each()
     ensures { SetsMeanEach }
 {}
 
-/// Sets that are appended behind others, each by whichever road, read as all of them one after
-/// another: parameter sets or lists of objects behind either.
+/// Sets that are appended behind others read as all of them one after another.
+///
+/// That holds of each by whichever road, and of parameter sets or lists of objects behind either.
 pub fn sent_streams_join()
     ensures { SentStreamsJoin }
 {
@@ -94,9 +91,10 @@ pub fn sent_streams_join()
     whole_streams_join();
 }
 
-/// Sets that give a query the same read as the same contents, by whichever road they are sent: the
-/// same parameter sets, the same lists of objects, or lists of objects and the parameter sets that
-/// are made of them.
+/// Sets that give a query the same read as the same contents, by whichever road.
+///
+/// They may be the same parameter sets, the same lists of objects, or lists of objects and the
+/// parameter sets that are made of them.
 pub fn roads_read_equally()
     ensures { RoadsReadEqually }
 {

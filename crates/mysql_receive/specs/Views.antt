@@ -5,8 +5,8 @@ use Rattle.std.specs.Prelude.{◌≡◌, ℕ, List, [], ◌∷◌, map, Option, 
 use Rattle.std.specs.Option.{option_map, option_and_then}
 use Rattle.mysql_values.specs.Content.{Content}
 use Rattle.mysql_receive.specs.declared.fault.StreamFault.{StreamFault}
-use Rattle.mysql_receive.specs.declared.refusal.Refusal.{Refusal}
-use Rattle.mysql_receive.specs.declared.refusal.Refusal.TheVariants as refusal
+use Rattle.mysql_receive.specs.declared.read_error.ReadError.{ReadError}
+use Rattle.mysql_receive.specs.declared.read_error.ReadError.TheVariants as read_error
 use Rattle.mysql_receive.specs.declared.carried.Carried.{Carried}
 use Rattle.mysql_receive.specs.declared.carried.Carried.TheVariants as carried
 use Rattle.mysql_receive.specs.declared.param_type.ParamType.{ParamType}
@@ -16,9 +16,9 @@ use Rattle.mysql_receive.specs.declared.statement.Statement.{Statement as CodeSt
 use Rattle.mysql_receive.specs.declared.statement.StatementState.{StatementState as CodeState}
 use Rattle.mysql_receive.specs.declared.layout.ExecuteHead.{ExecuteHead as CodeExecuteHead}
 use Rattle.mysql_receive.specs.declared.layout.BulkHead.{BulkHead as CodeBulkHead}
-use Rattle.mysql_receive.specs.declared.layout.Piece.{Piece as CodePiece}
+use Rattle.mysql_receive.specs.declared.layout.PlaceData.{PlaceData as CodePlaceData}
 use Rattle.mysql_wire.specs.Wire.{◌>>=◌}
-use Rattle.mysql_receive.specs.Layout.{Command, Types, ExecuteHead, BulkHead, Piece}
+use Rattle.mysql_receive.specs.Layout.{Command, Types, ExecuteHead, BulkHead, PlaceData}
 use Rattle.mysql_receive.specs.Query.{Statement}
 use Rattle.mysql_receive.specs.InForce.{StatementState}
 use Rattle.mysql_receive.specs.Reading.{Set, CommandReadsAs, CommandFaulty, PayloadReadsAs, PayloadFaulty}
@@ -51,42 +51,50 @@ execute_head_of kept h = record { nulls = h.nulls.now; own = types_carried kept 
 abbrev pub bulk_head_of : Option Types → CodeBulkHead → BulkHead
 bulk_head_of kept h = record { own = types_carried kept h.own; rows = h.rows.now }
 
-abbrev pub piece_of : CodePiece → Piece
-piece_of p = record { place = p.place; bytes = p.bytes.now }
+abbrev pub place_data_of : CodePlaceData → PlaceData
+place_data_of sent = record { place = sent.place; bytes = sent.bytes.now }
 
 abbrev pub statement_view : CodeStatement → Statement
-statement_view c = record {
+statement_view statement = record {
   query =
-      record { text = c.query.items; parsed = c.parsed.items; places = c.places.items };
-  id = c.id;
+      record { text = statement.query.items; parsed = statement.parsed.items; places = statement.places.items };
+  id = statement.id;
 }
 
-abbrev pub piece_kept : List (Option (Vec ℕ)) → ℕ → Option (List ℕ)
-piece_kept pieces place = option_and_then (λ piece. option_map (λ bytes. bytes.items) piece) (slice_get pieces place)
+abbrev pub data_waiting : List (Option (Vec ℕ)) → ℕ → Option (List ℕ)
+data_waiting waiting place =
+    option_and_then (λ found. option_map (λ bytes. bytes.items) found) (slice_get waiting place)
 
 abbrev pub state_of : CodeState → StatementState
-state_of s = record { prepared = s.prepared; types = types_kept s.types; pieces = piece_kept s.pieces.items }
+state_of state = record {
+  prepared = state.prepared;
+  types = types_kept state.types;
+  long_data =
+      data_waiting state.long_data.items;
+}
 
 -- what a function returned, seen by a view, is what reading gives, unless memory ran out
-abbrev pub Fails : {Y : Type 0} → Refusal → Result Y StreamFault → Type 0
-Fails refusal.Memory read = Unit {0}
-Fails (refusal.Fault f) read = read ≡ Err f
+abbrev pub Fails : {Y : Type 0} → ReadError → Result Y StreamFault → Type 0
+Fails read_error.Memory read = Unit {0}
+Fails (read_error.Fault f) read = read ≡ Err f
 
-abbrev pub Gives : {X Y : Type 0} → (X → Y) → Result X Refusal → Result Y StreamFault → Type 0
+abbrev pub Gives : {X Y : Type 0} → (X → Y) → Result X ReadError → Result Y StreamFault → Type 0
 Gives view (Ok x) read = read ≡ Ok (view x)
 Gives view (Err e) read = Fails e read
 
 -- what a function found: a value, seen by a view, of which the one is said, or a fault of which the
 -- other is, unless memory ran out
-abbrev pub Finds : {X Y : Type 0} → (X → Y) → Result X Refusal → (Y → Type 0) → (StreamFault → Type 0) → Type 0
+abbrev pub Finds : {X Y : Type 0} → (X → Y) → Result X ReadError → (Y → Type 0) → (StreamFault → Type 0) → Type 0
 Finds view (Ok x) Reads IsFaulty = Reads (view x)
-Finds view (Err refusal.Memory) Reads IsFaulty = Unit {0}
-Finds view (Err (refusal.Fault f)) Reads IsFaulty = IsFaulty f
+Finds view (Err read_error.Memory) Reads IsFaulty = Unit {0}
+Finds view (Err (read_error.Fault f)) Reads IsFaulty = IsFaulty f
 
 -- what a command was found to be: the sets that it reads as, or its fault
-abbrev pub Judged : Statement → StatementState → Command → List ℕ → Result Carried Refusal → Type 0
-Judged c s command body result =
-    Finds sets_carried result (CommandReadsAs c s command body) (CommandFaulty c s command body)
+abbrev pub Judged : Statement → StatementState → Command → List ℕ → Result Carried ReadError → Type 0
+Judged statement state command body result =
+    Finds sets_carried result (CommandReadsAs statement state command body) (CommandFaulty statement state command body)
 
-abbrev pub PayloadJudged : Statement → StatementState → List ℕ → Result Carried Refusal → Type 0
-PayloadJudged c s payload result = Finds sets_carried result (PayloadReadsAs c s payload) (PayloadFaulty c s payload)
+abbrev pub PayloadJudged : Statement → StatementState → List ℕ → Result Carried ReadError → Type 0
+PayloadJudged statement state payload result =
+    Finds sets_carried result (PayloadReadsAs statement state payload)
+    (PayloadFaulty statement state payload)

@@ -1,6 +1,7 @@
-//! Reading a stream of commands back.
+//! Reading a stream of commands back as it comes, piece by piece.
 
 ghost use Rattle.std.specs.Prelude.{◌≡◌, ◌≢◌, ◌≤◌, ◌⊎◌, [], true, false, None, Err, IfErr, IfOk, IfSome, OnOk, length};
+ghost use Rattle.std.specs.List.{list_all};
 ghost use Rattle.mysql_wire.specs.Bytes.{AreBytes};
 ghost use Rattle.mysql_wire.specs.Incoming.{bytes_kept};
 ghost use Rattle.mysql_values.specs.Queries.{HasMixed, HasPlaces, IsParsed};
@@ -20,13 +21,14 @@ use crate::audit::{Audit, End};
 use crate::fault::StreamFault;
 use crate::incoming::read_piece;
 use crate::progress::Progress;
-use crate::reading::waits;
-use crate::refusal::Refusal;
+use crate::read_error::ReadError;
+use crate::reading::has_waiting_data;
 use crate::statement::{Statement, StatementState};
+use mysql_queries::ParsedQuery;
 use mysql_values::laws::tokens_of_a_text;
-use mysql_values::{Content, NamedParamsError, ParsedNamedParams, Place, places};
+use mysql_values::{Content, Place};
+use mysql_wire::PacketReader;
 use mysql_wire::laws::reader_laws;
-use mysql_wire::{PacketReader, WireError};
 use std::alloc::{AllocError, Global};
 use std::marker::Model;
 use std::mem;
@@ -51,54 +53,30 @@ impl From<AllocError> for ReceiverError {
     }
 }
 
-// What is read of a query is refused for want of memory alone.
-impl From<WireError> for ReceiverError {
-    ghost from_gives = { λ _ e. e ≡ receiver_error.Memory };
-
-    fn from(_e: WireError) -> ReceiverError {
-        ReceiverError::Memory
-    }
-}
-
-/// The parsed text of a query with these placeholders.
-fn parsed<'a>(
-    alloc: Global,
-    query: &'a [u8],
-    places: &[Place],
-) -> Result<ParsedNamedParams<'a>, ReceiverError>
-    requires { HasPlaces query.now places.now }
-    ensures query { IfOk result (λ parsed. IsParsed query.entry.now parsed.query) }
-    ensures one_kind { OnOk result (HasMixed query.entry.now false) }
-    ensures mixed { IfErr result (λ e. (e ≡ receiver_error.Memory) ⊎
-        ((e ≡ receiver_error.Mixed) × HasMixed query.entry.now true)) }
+/// Whether each place stands alone.
+fn all_alone(places: &[Place]) -> bool
+    ensures { result ≡ list_all (λ place. place.alone) places.now }
 {
-    match ParsedNamedParams::parse_at(alloc, query, places) {
-        Ok(parsed) => Ok(parsed),
-        Err(NamedParamsError::Mixed(_)) => Err(ReceiverError::Mixed),
-        Err(NamedParamsError::Memory) => Err(ReceiverError::Memory),
-    }
+    places.iter().all(|place| place.alone)
 }
 
 /// The statement of a query, with this id.
-fn conversation(alloc: Global, query: &[u8], stmt_id: u32) -> Result<Statement, ReceiverError>
-    ensures query { IfOk result (λ c. IsQuery (statement_view c).query) }
-    ensures about { IfOk result (λ c. IsAbout (statement_view c) query.now stmt_id) }
+fn make_statement(alloc: Global, query: &[u8], stmt_id: u32) -> Result<Statement, ReceiverError>
+    ensures query { IfOk result (λ statement. IsQuery (statement_view statement).query) }
+    ensures about { IfOk result (λ statement. IsAbout (statement_view statement) query.now stmt_id) }
     ensures one_kind { OnOk result (HasMixed query.now false) }
     ensures mixed { IfErr result (λ e. (e ≡ receiver_error.Memory) ⊎
         ((e ≡ receiver_error.Mixed) × HasMixed query.now true)) }
 {
-    tokens_of_a_text();
-    let places = places(alloc, query)?;
-    let parsed = parsed(alloc, query, &places)?;
-    Ok(Statement {
-        query: Vec::from_slice(alloc, query)?,
-        parsed: Vec::from_slice(alloc, parsed.query())?,
-        places,
-        id: stmt_id,
-    })
+    let found = ParsedQuery::new(alloc, query)?;
+    if found.is_mixed() {
+        return Err(ReceiverError::Mixed);
+    }
+    let parsed = found.with_marks(alloc)?;
+    Ok(copied_statement(alloc, query, parsed.as_slice(), found.places(), stmt_id)?)
 }
 
-/// The statement of a query with this parsed text and these placeholders, of which it holds copies, with this id.
+/// The statement of a query with this parsed text and these placeholders, which are copied.
 fn copied_statement(
     alloc: Global,
     query: &[u8],
@@ -108,26 +86,35 @@ fn copied_statement(
 ) -> Result<Statement, AllocError>
     requires parsed { IsParsed query.now parsed.now }
     requires places { HasPlaces query.now places.now }
-    ensures query { IfOk result (λ c. IsQuery (statement_view c).query) }
-    ensures about { IfOk result (λ c. IsAbout (statement_view c) query.now stmt_id) }
+    ensures query { IfOk result (λ statement. IsQuery (statement_view statement).query) }
+    ensures about { IfOk result (λ statement. IsAbout (statement_view statement) query.now stmt_id) }
 {
     tokens_of_a_text();
+    let places = Vec::from_slice(alloc, places)?;
     Ok(Statement {
         query: Vec::from_slice(alloc, query)?,
         parsed: Vec::from_slice(alloc, parsed)?,
-        places: Vec::from_slice(alloc, places)?,
+        alone: all_alone(&places),
+        places,
         id: stmt_id,
     })
 }
 
 /// Reads a stream of commands about one query that is handed over in pieces.
 ///
+///     let mut receiver = Receiver::new(alloc, b"SELECT :a", 1, 1 << 24)?;
+///     while let Some(piece) = next_piece()? {
+///         receiver.feed(piece)?;
+///         for set in receiver.take_sets() { .. }
+///     }
+///     let audit = receiver.finish();
+///
 /// Contracts see what it holds in place of the bytes that it was fed: the payloads read, what is in
 /// force behind them, the bytes of the packet that isn't whole, the sets so far, and the fault.
 #[derive(Drop)]
 pub struct Receiver {
     alloc: Global,
-    conversation: Statement,
+    statement: Statement,
     packets: PacketReader,
     progress: Progress,
     fault: Option<StreamFault>,
@@ -145,29 +132,29 @@ impl Model for Receiver {
     ghost invariant = { IsKept };
 }
 
-/// The fault that a refusal is.
-fn fault_of(refusal: Refusal) -> StreamFault
-    ensures { result ≡ fault_from refusal }
+/// The fault that an error is.
+fn fault_of(error: ReadError) -> StreamFault
+    ensures { result ≡ fault_from error }
 {
-    match refusal {
-        Refusal::Memory => StreamFault::Memory,
-        Refusal::Fault(fault) => fault,
+    match error {
+        ReadError::Memory => StreamFault::Memory,
+        ReadError::Fault(fault) => fault,
     }
 }
 
 /// How a stream ends as things stand.
 fn end_now(
-    conversation: &Statement,
+    statement: &Statement,
     progress: &Progress,
     begun: bool,
     fault: Option<StreamFault>,
 ) -> End
-    ensures { result ≡ end_by (statement_view conversation.now) (state_of_parts progress.now [] fault) begun fault }
+    ensures { result ≡ end_by (statement_view statement.now) (state_of_parts progress.now [] fault) begun fault }
 {
     if let Some(fault) = fault {
         return End::Fault(progress.count, fault);
     }
-    if waits(conversation, &progress.statement) {
+    if has_waiting_data(statement, &progress.state) {
         return End::WaitingPieces;
     }
     if begun {
@@ -179,12 +166,11 @@ fn end_now(
 impl Receiver {
     /// A receiver of a stream of commands about this query, whose statement was given this id.
     ///
-    /// The limit is the `max_allowed_packet` of the side that the packets go to, and at least 4.
-    /// Calls that write count 4 bytes for a packet's header in it: a payload has at most `limit -
-    /// 4` bytes. Calls that read count the payload alone: it has at most `limit` bytes.
+    /// `limit` is the most bytes of a payload: the `max_allowed_packet` of this side, at least 4.
     ///
     /// # Errors
-    /// `Mixed` where both names and question marks occur in the query, `Memory`.
+    /// - `Mixed` where both names and question marks occur in the query.
+    /// - `Memory`.
     pub fn new(
         alloc: Global,
         query: &[u8],
@@ -193,19 +179,23 @@ impl Receiver {
     ) -> Result<Receiver, ReceiverError>
         requires { 4 ≤ limit }
         ensures fresh { IfOk result (λ r. receiver_state r ≡ fresh_receiver) }
-        ensures about { IfOk result (λ r. IsAbout r.conversation query.now stmt_id) }
+        ensures about { IfOk result (λ r. IsAbout r.statement query.now stmt_id) }
         ensures limit { IfOk result (λ r. r.limit ≡ limit) }
         ensures one_kind { OnOk result (HasMixed query.now false) }
         ensures mixed { IfErr result (λ e. (e ≡ receiver_error.Memory) ⊎
             ((e ≡ receiver_error.Mixed) × HasMixed query.now true)) }
     {
-        let conversation = conversation(alloc, query, stmt_id)?;
-        Ok(Receiver::over(alloc, conversation, limit))
+        let statement = make_statement(alloc, query, stmt_id)?;
+        Ok(Receiver::of_statement(alloc, statement, limit))
     }
 
-    /// [`Receiver::new`] over what was found of the query before: its placeholders, as
-    /// `mysql_values::places` lists them, and its text with a question mark for each, as
-    /// `ParsedNamedParams` makes it. They are copied. Refused for want of memory alone.
+    /// [`Receiver::new`] over what was found of the query before.
+    ///
+    /// That is its placeholders, as `mysql_values::places` lists them, and its text with a question
+    /// mark for each, as `ParsedNamedParams` makes it. They are copied.
+    ///
+    /// # Errors
+    /// - `AllocError` for want of memory.
     pub fn of_places(
         alloc: Global,
         query: &[u8],
@@ -219,30 +209,30 @@ impl Receiver {
         requires places { HasPlaces query.now places.now }
         requires one_kind { HasMixed query.now false }
         ensures fresh { IfOk result (λ r. receiver_state r ≡ fresh_receiver) }
-        ensures about { IfOk result (λ r. IsAbout r.conversation query.now stmt_id) }
+        ensures about { IfOk result (λ r. IsAbout r.statement query.now stmt_id) }
         ensures limit { IfOk result (λ r. r.limit ≡ limit) }
     {
-        let conversation = copied_statement(alloc, query, parsed, places, stmt_id)?;
-        Ok(Receiver::over(alloc, conversation, limit))
+        let statement = copied_statement(alloc, query, parsed, places, stmt_id)?;
+        Ok(Receiver::of_statement(alloc, statement, limit))
     }
 
     /// A receiver that was fed nothing.
-    fn over(alloc: Global, conversation: Statement, limit: usize) -> Receiver
-        requires { IsQuery (statement_view conversation).query }
+    fn of_statement(alloc: Global, statement: Statement, limit: usize) -> Receiver
+        requires { IsQuery (statement_view statement).query }
         ensures fresh { receiver_state result ≡ fresh_receiver }
-        ensures conversation { result.conversation ≡ statement_view conversation }
+        ensures statement { result.statement ≡ statement_view statement }
         ensures limit { result.limit ≡ limit }
     {
         reader_laws();
         Receiver {
             alloc,
-            conversation,
+            statement,
             packets: PacketReader::new(alloc, 0, limit),
             progress: Progress {
-                statement: StatementState {
+                state: StatementState {
                     prepared: false,
                     types: None,
-                    pieces: Vec::new(alloc),
+                    long_data: Vec::new(alloc),
                 },
                 sets: Vec::new(alloc),
                 count: 0,
@@ -257,28 +247,33 @@ impl Receiver {
     /// piece and them. No more is held of the bytes than the packet that isn't whole. A fault that
     /// needs no more bytes is answered at once: after `Ok` what came ends without one.
     ///
+    /// Promise: what is held decides, over all bytes to come, what was decided before over the
+    /// piece and them; after a fault it answers that fault and changes nothing (`HasFoundNoFault`,
+    /// `TakesAll`, `RunsShort`).
+    ///
     /// # Errors
-    /// The first fault of the stream, [`StreamFault::Memory`] where a growth was refused. From then
-    /// on each call answers that fault and changes nothing. Where memory ran out, what was read of
-    /// the payloads before stays.
+    /// - The first fault of the stream, [`StreamFault::Memory`] where a growth was refused.
+    ///
+    /// From then on each call answers that fault and changes nothing. Where memory ran out, what
+    /// was read of the payloads before stays.
     ///
     /// Follows the MySQL Client/Server Protocol, "MySQL Packets" and "Command Phase".
     pub fn feed(&mut self, piece: &[u8]) -> Result<(), StreamFault>
         ensures goes_on { result ≢ Err Memory →
-            ReceiverGoesOn self.old.conversation self.old.limit (receiver_state self.old) piece.now
+            ReceiverGoesOn self.old.statement self.old.limit (receiver_state self.old) piece.now
             (receiver_state self.new) }
         ensures short { self.old.fault ≡ None → result ≡ Err Memory →
-            RunsShort self.old.conversation self.old.limit (receiver_state self.old) piece.now
+            RunsShort self.old.statement self.old.limit (receiver_state self.old) piece.now
             (receiver_state self.new) }
         ensures takes { OnOk result
-            (TakesAll self.old.conversation self.old.limit (receiver_state self.old) piece.now
+            (TakesAll self.old.statement self.old.limit (receiver_state self.old) piece.now
             (receiver_state self.new)) }
         ensures no_fault { OnOk result
-            (HasFoundNoFault self.new.conversation self.new.limit (receiver_state self.new)) }
+            (HasFoundNoFault self.new.statement self.new.limit (receiver_state self.new)) }
         ensures stays { IfSome self.old.fault (λ fault. (result ≡ Err fault) × (self.new ≡ self.old)) }
         ensures answer { result ≡ answer_by self.new.fault }
         ensures bytes { OnOk result (AreBytes self.new.partial) }
-        ensures conversation { self.new.conversation ≡ self.old.conversation }
+        ensures statement { self.new.statement ≡ self.old.statement }
         ensures limit { self.new.limit ≡ self.old.limit }
     {
         reader_laws();
@@ -288,23 +283,28 @@ impl Receiver {
         match read_piece(
             &mut self.packets,
             self.alloc,
-            &self.conversation,
+            &self.statement,
             &mut self.progress,
             piece,
         ) {
             Ok(()) => Ok(()),
-            Err(refusal) => {
-                let fault = fault_of(refusal);
+            Err(error) => {
+                let fault = fault_of(error);
                 self.fault = Some(fault);
                 Err(fault)
             }
         }
     }
 
-    /// How many bytes are held of the packet that isn't whole: those that came of it, but for the
-    /// headers of its chunks, of which only one that doesn't stand whole is held. They are fewer
-    /// than the limit; where the limit has room for full chunks and at most three bytes more, up to
-    /// three more than those chunks hold. After a fault none are held. It takes no memory.
+    /// How many bytes are held of the packet that isn't whole. It takes no memory.
+    ///
+    /// They are those that came of it, but for the headers of its chunks, of which only one that
+    /// doesn't stand whole is held. They are fewer than the limit; where the limit has room for
+    /// full chunks and at most three bytes more, up to three more than those chunks hold. After a
+    /// fault none are held.
+    ///
+    /// Promise: the count is stated in closed form, and is at most `most_kept limit`; it is 0 after
+    /// a fault (`bytes_kept`, `most_kept`).
     ///
     /// Follows the MySQL Client/Server Protocol, "MySQL Packets".
     pub fn kept(&self) -> usize
@@ -331,18 +331,21 @@ impl Receiver {
         &self.progress.sets
     }
 
-    /// Takes the sets that were read and not taken yet, in their order, place by place; also after a fault, and after
-    /// [`StreamFault::Memory`]. It takes no memory.
+    /// Takes the sets that were read and not taken yet, in their order. It takes no memory.
     ///
+    /// They are handed out place by place, also after a fault, and after [`StreamFault::Memory`].
     /// What is handed out isn't held any more, and nothing else changes: the next sets, and those
     /// of `finish`, follow on it, and all of them in a row are those of the audit of what was fed.
     /// So a receiver from which sets are taken as they come holds of a stream of any length at most
     /// one packet within the limit ([`Receiver::kept`]), the long data that waits for an execution,
     /// and the types in force.
     ///
+    /// Promise: the sets that stand and weren't taken are handed out in order, and nothing else
+    /// changes (`HandsOut`).
+    ///
     /// Follows the MySQL Client/Server Protocol, "Command Phase".
     pub fn take_sets(&mut self) -> Vec<Vec<Content>>
-        ensures hands_out { HandsOut self.old.conversation self.old.limit (receiver_state self.old)
+        ensures hands_out { HandsOut self.old.statement self.old.limit (receiver_state self.old)
             (sets_of result.items) (receiver_state self.new) }
         ensures sets { sets_of result.items ≡ self.old.sets }
         ensures left { self.new ≡ record self.old { sets = [] } }
@@ -351,31 +354,32 @@ impl Receiver {
         mem::replace(&mut self.progress.sets, none)
     }
 
-    /// The audit of what was fed, but for the sets that were taken before
-    /// ([`Receiver::take_sets`]). It takes no memory.
+    /// The audit of what was fed, but for the sets that were taken before. It takes no memory.
     ///
-    /// After [`StreamFault::Memory`] its sets, behind those that were taken, are those of the
-    /// stream's first payloads, as many as its end counts: at least those that stood whole before
-    /// the `feed` that answered it.
+    /// [`Receiver::take_sets`] takes them. After [`StreamFault::Memory`] its sets, behind those
+    /// that were taken, are those of the stream's first payloads, as many as its end counts: at
+    /// least those that stood whole before the `feed` that answered it.
+    ///
+    /// Promise: the answer is the audit that is decided over no more bytes (`AuditOf`).
     pub fn finish(self) -> Audit
-        ensures { ReceiverDecides self.conversation self.limit (receiver_state self) [] (audit_of result) }
+        ensures { ReceiverDecides self.statement self.limit (receiver_state self) [] (audit_of result) }
     {
         reader_laws();
         let end = end_now(
-            &self.conversation,
+            &self.statement,
             &self.progress,
             self.packets.is_begun(),
             self.fault,
         );
         let Receiver {
             alloc: _,
-            conversation: _,
+            statement: _,
             packets: _,
             progress,
             fault: _,
         } = self;
         let Progress {
-            statement: _,
+            state: _,
             sets,
             count: _,
         } = progress;

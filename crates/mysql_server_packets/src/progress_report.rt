@@ -12,15 +12,15 @@ ghost use Rattle.mysql_server_packets.specs.Packets.{IsProgressReport, ProgressR
 ghost use Rattle.mysql_server_packets.specs.Packets.{numbers_in};
 ghost use Rattle.mysql_server_packets.specs.Packets.{progress_body, progress_body_at, stage_progress};
 ghost use Rattle.mysql_server_packets.specs.Packets.{stage_progress_at};
-ghost use Rattle.mysql_server_packets.specs.Texts.{lossy, progress_report_text, share_text};
+ghost use Rattle.mysql_fields.specs.Texts.{lossy_text};
+ghost use Rattle.mysql_server_packets.specs.Texts.{progress_report_text, share_text};
 ghost use Rattle.mysql_server_packets.specs.Views.{progress_report_view, stage_progress_view};
 
-use crate::texts::{copy_of, lossy};
 use bstr::BStr;
 use mysql_buf::ParseBuf;
 use mysql_fields::{
     LeU24, LenEnc, MyDeserialize, MySerialize, ParseExt, RawBytes, RawInt, Readable, ReadsBack,
-    WireError, in_order,
+    WireError, copy_bytes, in_order, lossy_text, own_bytes, read_lenenc_text,
 };
 use std::alloc::{AllocError, Global};
 use std::borrow::{CowSlice, CowStr};
@@ -102,9 +102,10 @@ impl<'a> ProgressReport<'a> {
     /// - `Memory`.
     pub fn stage_info_str(&self, alloc: Global) -> Result<CowStr<'_>, WireError>
         ensures memory { IsOkUnless result wire.Memory }
-        ensures value { IfOk result (λ text. cow_str_bytes text ≡ lossy (progress_report_view self.now).progress_info) }
+        ensures value { IfOk result (λ text. cow_str_bytes text ≡
+            lossy_text (progress_report_view self.now).progress_info) }
     {
-        lossy(alloc, self.stage_info_ref())
+        lossy_text(alloc, self.stage_info_ref())
     }
 
     /// The report in bytes of its own: it borrows nothing.
@@ -118,7 +119,7 @@ impl<'a> ProgressReport<'a> {
             stage: self.stage,
             max_stage: self.max_stage,
             progress: self.progress,
-            stage_info: CowSlice::Owned(self.stage_info.into_owned(alloc)?),
+            stage_info: own_bytes(alloc, self.stage_info)?,
         })
     }
 
@@ -133,7 +134,7 @@ impl<'a> ProgressReport<'a> {
             stage: self.stage,
             max_stage: self.max_stage,
             progress: self.progress,
-            stage_info: copy_of(alloc, self.stage_info.as_slice())?,
+            stage_info: copy_bytes(alloc, self.stage_info.as_slice())?,
         })
     }
 
@@ -174,18 +175,10 @@ impl MySerialize for StageProgress {
 fn stage_progress(block: &mut ParseBuf) -> Result<StageProgress, WireError>
     ensures { TellsPart stage_progress_view block.new.0.now result (stage_progress_at block.old.0.now) }
 {
-    let Some(_) = block.checked_eat_u8() else {
-        return Err(WireError::UnexpectedEof);
-    };
-    let Some(stage) = block.checked_eat_u8() else {
-        return Err(WireError::UnexpectedEof);
-    };
-    let Some(max_stage) = block.checked_eat_u8() else {
-        return Err(WireError::UnexpectedEof);
-    };
-    let Some(progress) = block.checked_eat_u24_le() else {
-        return Err(WireError::UnexpectedEof);
-    };
+    let _ = block.checked_eat_u8().ok_or(WireError::UnexpectedEof)?;
+    let stage = block.checked_eat_u8().ok_or(WireError::UnexpectedEof)?;
+    let max_stage = block.checked_eat_u8().ok_or(WireError::UnexpectedEof)?;
+    let progress = block.checked_eat_u24_le().ok_or(WireError::UnexpectedEof)?;
     Ok(StageProgress {
         stage,
         max_stage,
@@ -253,9 +246,7 @@ impl<'de> MyDeserialize<'de> for ProgressReport<'de> {
         let mut rest = *buf;
         let mut block = rest.parse::<ParseBuf>(alloc, 6)?;
         let numbers = stage_progress(&mut block)?;
-        let Some(info) = rest.checked_eat_lenenc_str() else {
-            return Err(WireError::UnexpectedEof);
-        };
+        let info = read_lenenc_text(&mut rest)?;
         *buf = rest;
         Ok(ProgressReport {
             stage: numbers.stage,
