@@ -42,7 +42,7 @@ abbrev pub reader_of : code.Awaited → Option RowReader
 reader_of (awaiting.Rows open_rows) = open_rows.reader
 reader_of awaited = None
 
--- The same rows, and this one behind them.
+-- The rows that are awaited, and this one behind them.
 abbrev pub with_row : code.Awaited → Row → code.Awaited
 with_row (awaiting.Rows open_rows) row = awaiting.Rows (record open_rows { rows = open_rows.rows ++ row ∷ [] })
 with_row awaited row = awaited

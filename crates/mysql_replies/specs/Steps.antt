@@ -1,7 +1,7 @@
 -- Words of the reader's own body, which no public call's clause has: what one more payload leads to.
 -- MySQL: Client/Server Protocol, "COM_QUERY Response" and "Text Resultset".
 use Rattle.std.specs.Prelude.{◌≡◌, ℕ, zero, suc, Bool, List, [], ◌∷◌, ◌++◌, true, false, not, ◌||◌}
-use Rattle.std.specs.Prelude.{if◌then◌else◌, None, Result, Ok, Err}
+use Rattle.std.specs.Prelude.{None, Result, Ok, Err}
 use Rattle.mysql_columns.specs.Columns.{ColumnDefinition}
 use Rattle.mysql_server_packets.specs.Packets.{PrepareOk}
 use Rattle.mysql_server_packets.specs.Views.{prepare_ok_view}

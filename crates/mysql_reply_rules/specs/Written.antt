@@ -25,7 +25,7 @@ abbrev pub with_more : Bool → ℕ → ℕ
 with_more true status = bit_or status 8
 with_more false status = bit_and status 0xfff7
 
--- The same of a packet.
+-- An OK packet whose status says whether another result follows.
 abbrev pub saying : Bool → OkPacket → OkPacket
 saying more ok = with_status (with_more more ok.status_flags) ok
 
