@@ -1,4 +1,4 @@
-use Rattle.std.proofs.Common.{arith, rules, ◌++◌, [], refl}
+use Rattle.std.proofs.Common.{arith, rules, ◌++◌, []}
 use Rattle.mysql_wire.specs.Incoming.{codec_by}
 use Rattle.mysql_receive.specs.Views.{statement_view}
 use Rattle.mysql_receive.proofs.Splits.{bytes_append}
