@@ -146,7 +146,7 @@ impl ReplyState {
     }
 
     /// Reads a payload in the form of a row: where rows are awaited it is added to them in place.
-    fn take_row(&mut self, alloc: Global, payload: &[u8]) -> Result<(), ReplyFault>
+    pub fn take_row(&mut self, alloc: Global, payload: &[u8]) -> Result<(), ReplyFault>
         requires reading { IsReading self.old }
         requires going { self.old.fault ≡ None }
         requires awaiting { IsAwaiting (awaited_view self.old.awaited) }
