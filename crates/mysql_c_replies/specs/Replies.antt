@@ -56,17 +56,17 @@ reply_code (Some fault) = code.Reply fault
 -- A reader was fed, and the number is that of the fault that it has met.
 abbrev pub IsReplyFedBy : List ℕ → ℕ → Object → ReplyInParts → Type 0
 IsReplyFedBy piece number new old =
-    IsReply new (λ r. Feeds old.reader r.reader piece (answer_of (fault_of r.reader.standing))
-    × (fault_of r.reader.standing ≡ None → HasFoundNoFault r.reader)
-    × (number ≡ code_number (reply_code (fault_of r.reader.standing)))
+    IsReply new (λ r. Feeds old.reader r.reader piece (answer_of (fault_of r.reader.so_far))
+    × (fault_of r.reader.so_far ≡ None → HasFoundNoFault r.reader)
+    × (number ≡ code_number (reply_code (fault_of r.reader.so_far)))
     × (r.taken ≡ old.taken))
 
 -- The results so far are taken in place of those that were taken before. The reader goes on without
 -- them, and without the progress reports that came.
 abbrev pub OutcomesAreTaken : ℕ → Object → ReplyInParts → Type 0
 OutcomesAreTaken number new old =
-    (number ≡ 0) × IsReply new (λ r. (outcome_views r.taken.items ≡ results_in old.reader.standing)
-    × (r.reader ≡ record old.reader { standing = without_reports (without_results old.reader.standing) }))
+    (number ≡ 0) × IsReply new (λ r. (outcome_views r.taken.items ≡ results_in old.reader.so_far)
+    × (r.reader ≡ record old.reader { so_far = without_reports (without_results old.reader.so_far) }))
 
 -- A reader becomes what was read and not taken, and that stays; its end is shown.
 abbrev pub RepliesEnd : Object → ℕ → Object → ShownEnd → Type 0

@@ -27,7 +27,7 @@ abbrev pub step_given : WrittenReply → Given → Step
 step_given old (given.Ok ok more) = OkStep more (ok_packet_view ok)
 step_given old (given.Error error) = ErrorStep (server_error_view error)
 step_given old given.Columns = ColumnsStep (columns_given old)
-step_given old (given.Row row) = RowStep (columns_of old.writer.standing.rows) (row_view row)
+step_given old (given.Row row) = RowStep (columns_of old.writer.so_far.rows) (row_view row)
 step_given old (given.End ok more) = EndStep more (ok_packet_view ok)
 step_given old (given.Prepared statement params) =
     PreparedStep (prepare_ok_view statement) (take params (columns_given old)) (drop params (columns_given old))

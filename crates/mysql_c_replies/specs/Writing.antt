@@ -62,7 +62,7 @@ statement_said statement warnings =
 abbrev pub WritesRowOf : List Value → Object → Object → ℕ → ShownSpot → Object → Object → Type 0
 WritesRowOf values old before number spot new after =
     ((row : Row) × (row.cells ≡ map Some values) ×
-    WritesFrom (λ reply. RowStep (columns_of reply.writer.standing.rows) row) old before number
+    WritesFrom (λ reply. RowStep (columns_of reply.writer.so_far.rows) row) old before number
     spot new after)
     ⊎ BothStay code.Memory old before number new after
 
@@ -108,6 +108,6 @@ HasNoSuchType old number new = (number ≡ code_number code.NoSuchKind) × (new 
 -- whether the reply stands whole, by the cause that speaks against it
 abbrev pub EndsWriting : Object → ℕ → ShownSpot → Type 0
 EndsWriting (object.Writer reply) number spot =
-    MatchOption (end_cause reply.writer.standing) (number ≡
+    MatchOption (end_cause reply.writer.so_far) (number ≡
     0) (λ cause. (number ≡ refusal_number cause) × (spot ≡ spot_of cause))
 EndsWriting held number spot = number ≡ code_number (misuse held)

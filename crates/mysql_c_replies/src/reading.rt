@@ -29,9 +29,9 @@ pub(crate) fn kind_of(number: u32) -> Option<ReplyKind>
 
 /// The answer of a feed.
 fn fed(reader: &mut ReplyReader, piece: &[u8]) -> Code
-    ensures feeds { Feeds reader.old reader.new piece.now (answer_of (fault_of reader.new.standing)) }
-    ensures no_fault { fault_of reader.new.standing ≡ None → HasFoundNoFault reader.new }
-    ensures answer { result ≡ reply_code (fault_of reader.new.standing) }
+    ensures feeds { Feeds reader.old reader.new piece.now (answer_of (fault_of reader.new.so_far)) }
+    ensures no_fault { fault_of reader.new.so_far ≡ None → HasFoundNoFault reader.new }
+    ensures answer { result ≡ reply_code (fault_of reader.new.so_far) }
 {
     match reader.feed(piece) {
         Ok(()) => Code::Done,

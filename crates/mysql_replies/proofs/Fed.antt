@@ -17,7 +17,7 @@ use Rattle.mysql_replies.specs.declared.context.Context.{Context}
 use Rattle.mysql_replies.specs.declared.fault.ReplyFault.{ReplyFault}
 use Rattle.mysql_replies.specs.declared.fault.ReplyFault.TheVariants as faults
 use Rattle.mysql_replies.specs.Grammar.{Payload}
-use Rattle.mysql_replies.specs.Reply.{Answer, FaultAt, Standing, GoingOn, Answered, IsReply}
+use Rattle.mysql_replies.specs.Reply.{Answer, FaultAt, ReplySoFar, GoingOn, Answered, IsReply}
 use Rattle.mysql_replies.specs.Bytes.{numbered, after_numbered, NumberedPayloadsDecide, IsReplyOf, StopsAfter, IsShortReplyOf, AnyBytesHaveAnswer, CuttingsAgree}
 use Rattle.mysql_replies.specs.Holding.{ReaderState, fresh_reader, ReaderDecides, ReaderDecidesFrom, ReaderGoesOn, TakesAll, RunsShort, fault_of, EachReaderDecides, ReadersAgree, FreshReaderDecides}
 use Rattle.mysql_replies.specs.Taking.{Feeds}
@@ -49,7 +49,7 @@ Decided c first_id limit fed h = (more : List ℕ) (answer : Answer) → AreByte
 abbrev pub IsFed : Option ReplyFault → Context → ℕ → ℕ → List (List ℕ) → ReaderState → Type 0
 IsFed None c first_id limit pieces h =
     TakesAll (fresh_reader c first_id limit) (flat_map (λ piece. piece) pieces) h × Decided c first_id limit (flat_map (λ piece. piece) pieces) h
-IsFed (Some faults.Memory) c first_id limit pieces h = (answer : Answer) × (h.standing ≡ Answered answer) × IsShortReplyOf c first_id limit pieces answer
+IsFed (Some faults.Memory) c first_id limit pieces h = (answer : Answer) × (h.so_far ≡ Answered answer) × IsShortReplyOf c first_id limit pieces answer
 IsFed (Some fault) c first_id limit pieces h = Decided c first_id limit (flat_map (λ piece. piece) pieces) h
 
 pub fed_nothing : (c : Context) (first_id limit : ℕ) → IsFed None c first_id limit [] (fresh_reader c first_id limit)
@@ -99,7 +99,7 @@ takes_on start mid new front back t u =
       number = u.number ∙ number;
       limit = u.limit ∙ t.limit;
       count = omega (arith, t.count, u.count, length-append ps qs);
-      goes_on = λ z rest answer k. subst (λ ps'. NumberedPayloadsDecide start.standing ps' rest answer) (sym (append_assoc ps qs z)) (t.goes_on (qs ++ z) rest answer (u.goes_on z rest answer k));
+      goes_on = λ z rest answer k. subst (λ ps'. NumberedPayloadsDecide start.so_far ps' rest answer) (sym (append_assoc ps qs z)) (t.goes_on (qs ++ z) rest answer (u.goes_on z rest answer k));
     }
 
 next_decided : (c : Context) (first_id limit : ℕ) (pieces : List (List ℕ)) (piece : List ℕ) (old new : ReaderState) → AreBytes piece → Decided c first_id limit (flat_map (λ p. p) pieces) old → ReaderGoesOn old piece new → Decided c first_id limit (flat_map (λ p. p) (pieces ++ piece ∷ [])) new
@@ -155,7 +155,7 @@ short_grows c first_id limit pieces piece answer s = record {
   stops = s.stops;
 }
 
-step_going : (c : Context) (first_id limit : ℕ) (pieces : List (List ℕ)) (piece : List ℕ) (old new : ReaderState) (r : Result Unit ReplyFault) → AreBytes piece → fault_of old.standing ≡ None → Feeds old new piece r → IsFed None c first_id limit pieces old → IsFed (fault_of new.standing) c first_id limit (pieces ++ piece ∷ []) new
+step_going : (c : Context) (first_id limit : ℕ) (pieces : List (List ℕ)) (piece : List ℕ) (old new : ReaderState) (r : Result Unit ReplyFault) → AreBytes piece → fault_of old.so_far ≡ None → Feeds old new piece r → IsFed None c first_id limit pieces old → IsFed (fault_of new.so_far) c first_id limit (pieces ++ piece ∷ []) new
 step_going c first_id limit pieces piece old new (Ok x) bytes none f h =
     let taken = subst (λ k. TakesAll (fresh_reader c first_id limit) k new) (sym (joined_more pieces piece)) (takes_on (fresh_reader c first_id limit) old new (flat_map (λ p. p) pieces) piece h.0 f.takes) in
     subst (λ k. IsFed k c first_id limit (pieces ++ piece ∷ []) new) (sym f.going) (taken, next_decided c first_id limit pieces piece old new bytes h.1 (f.goes_on (λ e. cc)))
@@ -165,21 +165,21 @@ step_going c first_id limit pieces piece old new (Err faults.Memory) bytes none 
 step_going c first_id limit pieces piece old new (Err fault) bytes none f h =
     subst (λ k. IsFed k c first_id limit (pieces ++ piece ∷ []) new) (sym f.fault) (next_decided c first_id limit pieces piece old new bytes h.1 (f.goes_on (λ e. cc)))
 
-step_by : (c : Context) (first_id limit : ℕ) (pieces : List (List ℕ)) (piece : List ℕ) (old new : ReaderState) (r : Result Unit ReplyFault) (met : Option ReplyFault) → AreBytes piece → fault_of old.standing ≡ met → Feeds old new piece r → IsFed met c first_id limit pieces old → IsFed (fault_of new.standing) c first_id limit (pieces ++ piece ∷ []) new
+step_by : (c : Context) (first_id limit : ℕ) (pieces : List (List ℕ)) (piece : List ℕ) (old new : ReaderState) (r : Result Unit ReplyFault) (met : Option ReplyFault) → AreBytes piece → fault_of old.so_far ≡ met → Feeds old new piece r → IsFed met c first_id limit pieces old → IsFed (fault_of new.so_far) c first_id limit (pieces ++ piece ∷ []) new
 step_by c first_id limit pieces piece old new r None bytes is f h = step_going c first_id limit pieces piece old new r bytes is f h
 step_by c first_id limit pieces piece old new r (Some faults.Memory) bytes is f h =
     let s = subst (λ k. IfSome k (λ fault. (r ≡ Err fault) × (new ≡ old))) is f.stays in
-    let met : fault_of new.standing ≡ Some faults.Memory = ap (λ (k : ReaderState). fault_of k.standing) s.1 ∙ is in
-    subst (λ k. IsFed k c first_id limit (pieces ++ piece ∷ []) new) (sym met) (h.0, ap (λ (k : ReaderState). k.standing) s.1 ∙ h.1, short_grows c first_id limit pieces piece h.0 h.2)
+    let met : fault_of new.so_far ≡ Some faults.Memory = ap (λ (k : ReaderState). fault_of k.so_far) s.1 ∙ is in
+    subst (λ k. IsFed k c first_id limit (pieces ++ piece ∷ []) new) (sym met) (h.0, ap (λ (k : ReaderState). k.so_far) s.1 ∙ h.1, short_grows c first_id limit pieces piece h.0 h.2)
 step_by c first_id limit pieces piece old new r (Some fault) bytes is f h =
     let s = subst (λ k. IfSome k (λ fault. (r ≡ Err fault) × (new ≡ old))) is f.stays in
-    let met : fault_of new.standing ≡ Some fault = ap (λ (k : ReaderState). fault_of k.standing) s.1 ∙ is in
+    let met : fault_of new.so_far ≡ Some fault = ap (λ (k : ReaderState). fault_of k.so_far) s.1 ∙ is in
     let goes = f.goes_on (λ e. let k = sym s.0 ∙ e in cc) in
     subst (λ k. IsFed k c first_id limit (pieces ++ piece ∷ []) new) (sym met) (next_decided c first_id limit pieces piece old new bytes h goes)
 
 -- One more piece was fed.
-pub fed_next : (c : Context) (first_id limit : ℕ) (pieces : List (List ℕ)) (piece : List ℕ) (old new : ReaderState) (r : Result Unit ReplyFault) → AreBytes piece → Feeds old new piece r → IsFed (fault_of old.standing) c first_id limit pieces old → IsFed (fault_of new.standing) c first_id limit (pieces ++ piece ∷ []) new
-fed_next c first_id limit pieces piece old new r bytes f h = step_by c first_id limit pieces piece old new r (fault_of old.standing) bytes refl f h
+pub fed_next : (c : Context) (first_id limit : ℕ) (pieces : List (List ℕ)) (piece : List ℕ) (old new : ReaderState) (r : Result Unit ReplyFault) → AreBytes piece → Feeds old new piece r → IsFed (fault_of old.so_far) c first_id limit pieces old → IsFed (fault_of new.so_far) c first_id limit (pieces ++ piece ∷ []) new
+fed_next c first_id limit pieces piece old new r bytes f h = step_by c first_id limit pieces piece old new r (fault_of old.so_far) bytes refl f h
 
 -- A fresh reader decides the reply's answer.
 pub fresh_reader_decides : FreshReaderDecides
@@ -201,12 +201,12 @@ fed_by c first_id limit pieces h answer (Some faults.Memory) f d =
     inr (subst (IsShortReplyOf c first_id limit pieces) (sym same) f.2)
 fed_by c first_id limit pieces h answer (Some fault) f d = inl (decided_at_end c first_id limit (flat_map (λ piece. piece) pieces) h answer f d)
 
-pub fed_answer : (c : Context) (first_id limit : ℕ) (pieces : List (Bor (List ℕ))) (h : ReaderState) (answer : Answer) → IsFed (fault_of h.standing) c first_id limit (map (λ piece. piece.now) pieces) h → ReaderDecides h [] answer
+pub fed_answer : (c : Context) (first_id limit : ℕ) (pieces : List (Bor (List ℕ))) (h : ReaderState) (answer : Answer) → IsFed (fault_of h.so_far) c first_id limit (map (λ piece. piece.now) pieces) h → ReaderDecides h [] answer
     → IsReplyOf c first_id limit (flat_map (λ piece. piece.now) pieces) answer ⊎ IsShortReplyOf c first_id limit (map (λ piece. piece.now) pieces) answer
 fed_answer c first_id limit pieces h answer f d =
     subst (λ bytes. IsReplyOf c first_id limit bytes answer ⊎ IsShortReplyOf c first_id limit (map (λ piece. piece.now) pieces) answer)
     (flat_map-map (λ (piece : List ℕ). piece) (λ (piece : Bor (List ℕ)). piece.now) pieces)
-    (fed_by c first_id limit (map (λ piece. piece.now) pieces) h answer (fault_of h.standing) f d)
+    (fed_by c first_id limit (map (λ piece. piece.now) pieces) h answer (fault_of h.so_far) f d)
 
 -- Some pieces and the next one.
 pub pieces_more : (pieces : List (Bor (List ℕ))) (i : ℕ) (d : Bor (List ℕ)) → i < length pieces → map (λ (p : Bor (List ℕ)). p.now) (take (i + 1) pieces) ≡ map (λ (p : Bor (List ℕ)). p.now) (take i pieces) ++ (get_or pieces i d).now ∷ []
@@ -230,7 +230,7 @@ pub cuttings : HasOneSplit → CuttingsAgree
 cuttings law c first_id limit pieces others a b are same x y =
     one_answer law c first_id limit (flat_map (λ piece. piece) pieces) a b are x (subst (λ bytes. IsReplyOf c first_id limit bytes b) (sym same) y)
 
-standing_decides : HasOneSplit → (standing : Standing) (held : ReaderState) (more : List ℕ) → AreBytes (held.bytes ++ more) → (answer : Answer) × ReaderDecidesFrom standing held more answer
+standing_decides : HasOneSplit → (so_far : ReplySoFar) (held : ReaderState) (more : List ℕ) → AreBytes (held.bytes ++ more) → (answer : Answer) × ReaderDecidesFrom so_far held more answer
 standing_decides law (Answered known) held more are = (known, refl)
 standing_decides law (GoingOn s) held more are =
     let one = law held.limit (OnFrom held.number) (held.bytes ++ more) are in
@@ -238,9 +238,9 @@ standing_decides law (GoingOn s) held more are =
     (decided.0, record { split = one.0; splits = one.1; decides = decided.1 })
 
 pub each_reader_decides : HasOneSplit → EachReaderDecides
-each_reader_decides law held more are = standing_decides law held.standing held more are
+each_reader_decides law held more are = standing_decides law held.so_far held more are
 
-standing_agrees : HasOneSplit → (standing : Standing) (held : ReaderState) (more : List ℕ) (a b : Answer) → AreBytes (held.bytes ++ more) → ReaderDecidesFrom standing held more a → ReaderDecidesFrom standing held more b → a ≡ b
+standing_agrees : HasOneSplit → (so_far : ReplySoFar) (held : ReaderState) (more : List ℕ) (a b : Answer) → AreBytes (held.bytes ++ more) → ReaderDecidesFrom so_far held more a → ReaderDecidesFrom so_far held more b → a ≡ b
 standing_agrees law (Answered known) held more a b are x y = x ∙ sym y
 standing_agrees law (GoingOn s) held more a b are x y =
     let one = law held.limit (OnFrom held.number) (held.bytes ++ more) are in
@@ -249,4 +249,4 @@ standing_agrees law (GoingOn s) held more a b are x y =
     (subst (λ k. NumberedPayloadsDecide (GoingOn s) k.payloads k.rest a) same x.decides) y.decides
 
 pub readers_agree : HasOneSplit → ReadersAgree
-readers_agree law held more a b are x y = standing_agrees law held.standing held more a b are x y
+readers_agree law held more a b are x y = standing_agrees law held.so_far held more a b are x y

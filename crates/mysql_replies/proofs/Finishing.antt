@@ -9,11 +9,11 @@ use Rattle.mysql_replies.specs.declared.context.Context.{Context}
 use Rattle.mysql_replies.specs.declared.awaited.Awaited as code
 use Rattle.mysql_replies.specs.declared.awaited.Awaited.TheVariants as awaiting
 use Rattle.mysql_replies.specs.declared.state.ReplyState.{ReplyState}
-use Rattle.mysql_replies.specs.Grammar.{Begun, Ending, Ended, Open, Results, last, begun, next_payload, columns, columns_end, column_group, rows, one_result}
+use Rattle.mysql_replies.specs.Grammar.{CutOff, Ending, Ended, Open, Results, last, cut_off, next_payload, columns, columns_end, column_group, rows, one_result}
 use Rattle.mysql_replies.specs.Reply.{Answer, before_end, end_of, Awaited, Nothing, rest_of, Continues}
 use Rattle.mysql_replies.specs.Views.{outcome_views, awaited_view, column_views}
 use Rattle.mysql_replies.specs.Steps.{Group, OfResultSet, OfParameters, OfPrepared, group_awaited, IsGroupSettled, IsSettled, listed_of}
-use Rattle.mysql_replies.specs.Standings.{progressing_of}
+use Rattle.mysql_replies.specs.States.{open_reply}
 use Rattle.mysql_replies.proofs.Stepping.{group_from}
 
 -- How the results end where no more payloads come.
@@ -25,20 +25,20 @@ record AtEnd (c : Context) (a : code.Awaited) : Type 0 where
   reading : Results c (rest_of c (awaited_view a) []) (listed_of (awaited_view a)) (ending_at (awaited_view a))
   none : before_end [] (ending_at (awaited_view a)) ≡ []
 
-columns_begun : (c : Context) (n : ℕ) (these : List ColumnDefinition) → IsGroupSettled c n these → column_group c n these [] ≡ Begun []
+columns_begun : (c : Context) (n : ℕ) (these : List ColumnDefinition) → IsGroupSettled c n these → column_group c n these [] ≡ CutOff []
 unfolding column_group columns columns_end next_payload
 columns_begun c zero [] settled = absurd settled
 columns_begun c zero (first ∷ others) settled = rw settled refl
 columns_begun c (suc n) these settled = refl
 
 group_begun : (c : Context) (g : Group) (n : ℕ) (these : List ColumnDefinition) → IsGroupSettled c n these → Results c (rest_of c (group_awaited g n these) []) [] Open
-group_begun c g n these settled = subst (λ p. Results c p [] Open) (sym (group_from c g n these [] (Begun []) (columns_begun c n these settled))) (begun [])
+group_begun c g n these settled = subst (λ p. Results c p [] Open) (sym (group_from c g n these [] (CutOff []) (columns_begun c n these settled))) (cut_off [])
 
 at_end : (c : Context) (a : code.Awaited) → IsSettled c (awaited_view a) → AtEnd c a
 unfolding one_result rows next_payload
-at_end c awaiting.First settled = record { reading = begun []; none = refl }
+at_end c awaiting.First settled = record { reading = cut_off []; none = refl }
 at_end c (awaiting.Columns left these) settled = record { reading = group_begun c OfResultSet left (column_views these.items) settled; none = refl }
-at_end c (awaiting.Rows these) settled = record { reading = begun _; none = refl }
+at_end c (awaiting.Rows these) settled = record { reading = cut_off _; none = refl }
 at_end c (awaiting.Parameters stmt left these) settled = record { reading = group_begun c (OfParameters (prepare_ok_view stmt)) left (column_views these.items) settled; none = refl }
 at_end c (awaiting.PreparedColumns stmt params left these) settled = record {
   reading = group_begun c (OfPrepared (prepare_ok_view stmt) (column_views params.items)) left (column_views these.items) settled;
@@ -47,7 +47,7 @@ at_end c (awaiting.PreparedColumns stmt params left these) settled = record {
 at_end c awaiting.Nothing settled = record { reading = last [] []; none = refl }
 
 -- What no more payloads decide.
-pub stops : (s : ReplyState) (rest : Rest) (answer : Answer) → IsSettled s.context (awaited_view s.awaited) → answer.results ≡ outcome_views s.results.items ++ listed_of (awaited_view s.awaited) → answer.progress ≡ map progress_report_view s.progress.items → answer.end ≡ end_of s.count rest (ending_at (awaited_view s.awaited)) → Continues (progressing_of s) [] rest answer
+pub stops : (s : ReplyState) (rest : Rest) (answer : Answer) → IsSettled s.context (awaited_view s.awaited) → answer.results ≡ outcome_views s.results.items ++ listed_of (awaited_view s.awaited) → answer.progress ≡ map progress_report_view s.progress.items → answer.end ≡ end_of s.count rest (ending_at (awaited_view s.awaited)) → Continues (open_reply s) [] rest answer
 stops s rest answer settled results progress end =
     let e = at_end s.context s.awaited settled in
     let n : s.count ≡ s.count + 0 = omega arith in

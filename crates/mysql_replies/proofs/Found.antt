@@ -8,7 +8,7 @@ use Rattle.mysql_replies.specs.declared.state.ReplyState.{ReplyState}
 use Rattle.mysql_replies.specs.Reply as reply
 use Rattle.mysql_replies.specs.Holding.{HasFoundNoFault, fault_of_end}
 use Rattle.mysql_replies.specs.Views.{awaited_view}
-use Rattle.mysql_replies.specs.Standings.{progressing_of, reader_state, reader_state_of, answer_of, end_at, end_of_state, IsReading, IsPaused, FramingLaws}
+use Rattle.mysql_replies.specs.States.{open_reply, reader_state, reader_state_of, answer_of, end_at, end_of_state, IsReading, IsPaused, FramingLaws}
 use Rattle.mysql_replies.proofs.Receiving.{bytes_append, finish_going}
 use Rattle.mysql_replies.proofs.Fed.{readers_agree}
 
@@ -22,7 +22,7 @@ found_none laws s codec src dst reading going paused answer decides =
     let same : answer ≡ answer_of s =
     readers_agree laws.one (reader_state_of s codec src dst) [] answer (answer_of s) (bytes_append (held codec src dst) [] paused.bytes (λ i. omega arith)) decides
     (finish_going s codec src dst (answer_of s) reading going paused refl) in
-    ap (λ a. fault_of_end a.end) same ∙ ap (λ f. fault_of_end (end_of_state (progressing_of s) f)) going ∙ no_fault_at (awaited_view s.awaited)
+    ap (λ a. fault_of_end a.end) same ∙ ap (λ f. fault_of_end (end_of_state (open_reply s) f)) going ∙ no_fault_at (awaited_view s.awaited)
 
 -- A feed without a fault.
 pub feed_found_none : FramingLaws → (s : ReplyState) (packets : Incoming) (r : Result Unit ReplyFault) → IsReading s → OnOk r ((s.fault ≡ None) × IsPaused s (codec_by packets) packets.bytes []) → OnOk r (HasFoundNoFault (reader_state s packets))

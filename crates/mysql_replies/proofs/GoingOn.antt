@@ -4,9 +4,9 @@ use Rattle.std.proofs.lemmas.List.{append-nil, append_assoc}
 use Rattle.mysql_replies.specs.declared.fault.ReplyFault.{ReplyFault}
 use Rattle.mysql_replies.specs.declared.fault.ReplyFault.TheVariants.{AfterEnd}
 use Rattle.mysql_replies.specs.declared.context.Context.{Context}
-use Rattle.mysql_replies.specs.Grammar.{Payload, Outcome, Part, Stretch, Ending, Ended, Open, Wrong, Results, last, more, begun, unexpected, one_result}
+use Rattle.mysql_replies.specs.Grammar.{Payload, Outcome, Parsed, ResultGroup, Ending, Ended, Open, Wrong, Results, last, more, cut_off, faulty, one_result}
 use Rattle.mysql_wire.specs.Stream.{Rest}
-use Rattle.mysql_replies.specs.Reply.{FaultAt, Answer, IsReply, report_of, reports, before_end, end_of, Awaited, First, Columns, Rows, Parameters, PreparedColumns, Nothing, rest_of, Progressing, Standing, GoingOn, Answered, Continues, PayloadsDecide, fresh, EachHasAnswer, AnswersAgree, EachStandingDecides, StandingsAgree, FreshStandingDecides, StandingGoesOn}
+use Rattle.mysql_replies.specs.Reply.{FaultAt, Answer, IsReply, report_of, reports, before_end, end_of, Awaited, First, Columns, Rows, Parameters, PreparedColumns, Nothing, rest_of, OpenReply, ReplySoFar, GoingOn, Answered, Continues, PayloadsDecide, fresh, EachHasAnswer, AnswersAgree, EachReplyDecides, RepliesAgree, FreshReplyDecides, ReplyGoesOn}
 use Rattle.mysql_replies.proofs.Taken.{Takes, Takes-fewer, Takes-rows, Takes-result_set, Takes-prepared, Takes-prepared_columns, Takes-one_result}
 use Rattle.mysql_replies.proofs.Determined.{reads, reads_once}
 use Rattle.mysql_replies.specs.Steps.{Move, Moves, Fails, Over, Leads}
@@ -23,10 +23,10 @@ LeftWithin-more payloads rest Open h within = tt
 LeftWithin-more payloads rest (Ended left) h within = omega arith
 LeftWithin-more payloads rest (Wrong fault left) h within = omega arith
 
-left_within : (c : Context) (p : Part Stretch) (results : List Outcome) (ending : Ending) (payloads : List Payload) → Results c p results ending → Takes 0 payloads p → LeftWithin payloads ending
+left_within : (c : Context) (p : Parsed ResultGroup) (results : List Outcome) (ending : Ending) (payloads : List Payload) → Results c p results ending → Takes 0 payloads p → LeftWithin payloads ending
 left_within c p results ending payloads (last these rest) t = omega arith
-left_within c p results ending payloads (begun these) t = tt
-left_within c p results ending payloads (unexpected these fault rest) t = t
+left_within c p results ending payloads (cut_off these) t = tt
+left_within c p results ending payloads (faulty these fault rest) t = t
 left_within c p results ending payloads (more these rest {others = o} {ending = e} r) t =
     LeftWithin-more payloads rest e (omega arith) (left_within c (one_result c rest) o e rest r (Takes-fewer 1 0 rest (one_result c rest) (omega arith) (Takes-one_result c rest)))
 
@@ -52,13 +52,13 @@ before_end-cons payload z (Ended left) within = take_front payload z left within
 before_end-cons payload z (Wrong fault left) within = take_front payload z left within
 
 -- What stands after a payload.
-unfoldable pub after_move : Progressing → Payload → Move → Standing
+unfoldable pub after_move : OpenReply → Payload → Move → ReplySoFar
 after_move s payload (Moves results awaited) =
     GoingOn (record { context = s.context; results = s.results ++ results; progress = s.progress ++ report_of s.context payload; count = s.count + 1; awaited = awaited })
 after_move s payload (Fails results fault) = Answered (record { results = s.results ++ results; progress = s.progress; end = FaultAt s.count fault })
 after_move s payload (Over results) = Answered (record { results = s.results ++ results; progress = s.progress; end = FaultAt s.count AfterEnd })
 
-abbrev pub StateGoesOn : Progressing → List Payload → Standing → Type 0
+abbrev pub StateGoesOn : OpenReply → List Payload → ReplySoFar → Type 0
 StateGoesOn s came after = (z : List Payload) (rest : Rest) (answer : Answer) → PayloadsDecide after z rest answer → Continues s (came ++ z) rest answer
 
 end_wrong : (count : ℕ) (rest : Rest) (fault : ReplyFault) (payload : Payload) (z : List Payload) → end_of (count + length (payload ∷ z)) rest (Wrong fault (payload ∷ z)) ≡ FaultAt count fault
@@ -69,10 +69,10 @@ pub end_ended : (count : ℕ) (rest : Rest) (payload : Payload) (z : List Payloa
 end_ended count rest payload z =
     let e : (count + length (payload ∷ z)) - length (payload ∷ z) ≡ count = omega arith in ap (λ n. FaultAt n AfterEnd) e
 
-no_more_reports : (s : Progressing) (payload : Payload) (z : List Payload) → s.progress ≡ s.progress ++ reports s.context (take (length (payload ∷ z) - length (payload ∷ z)) (payload ∷ z))
+no_more_reports : (s : OpenReply) (payload : Payload) (z : List Payload) → s.progress ≡ s.progress ++ reports s.context (take (length (payload ∷ z) - length (payload ∷ z)) (payload ∷ z))
 no_more_reports s payload z = rw take_none (sym (append-nil s.progress))
 
-pub go_over : (s : Progressing) (payload : Payload) (m : Move) → Leads s.context (λ z. rest_of s.context s.awaited (payload ∷ z)) payload m → StateGoesOn s (payload ∷ []) (after_move s payload m)
+pub go_over : (s : OpenReply) (payload : Payload) (m : Move) → Leads s.context (λ z. rest_of s.context s.awaited (payload ∷ z)) payload m → StateGoesOn s (payload ∷ []) (after_move s payload m)
 unfolding after_move
 go_over s payload (Moves results awaited) leads z rest answer h = record {
   others = results ++ h.others;
@@ -101,11 +101,11 @@ go_over s payload (Over results) leads z rest answer h = record {
   end = ap (λ a. a.end) h ∙ sym (end_ended s.count rest payload z);
 }
 
-go_one : (s : Progressing) (payload : Payload) → (after : Standing) × StateGoesOn s (payload ∷ []) after
+go_one : (s : OpenReply) (payload : Payload) → (after : ReplySoFar) × StateGoesOn s (payload ∷ []) after
 go_one s payload = let m = steps s.context s.awaited payload in (after_move s payload m.0, go_over s payload m.0 m.1)
 
 -- What stands goes on over any payloads.
-pub goes_on : StandingGoesOn
+pub goes_on : ReplyGoesOn
 goes_on before [] = (before, λ z rest answer h. h)
 goes_on (Answered known) (payload ∷ came) = (Answered known, λ z rest answer h. h)
 goes_on (GoingOn s) (payload ∷ came) =
@@ -113,7 +113,7 @@ goes_on (GoingOn s) (payload ∷ came) =
     let others = goes_on one.0 came in
     (others.0, λ z rest answer h. one.1 (came ++ z) rest answer (others.1 z rest answer h))
 
-pub each_decides : EachStandingDecides
+pub each_decides : EachReplyDecides
 each_decides (Answered known) payloads rest = (known, refl)
 each_decides (GoingOn s) payloads rest =
     let read = reads s.context (rest_of s.context s.awaited payloads) in (
@@ -121,7 +121,7 @@ each_decides (GoingOn s) payloads rest =
       record { others = read.0; ending = read.1; reading = read.2; results = refl; progress = refl; end = refl },
     )
 
-decisions_agree_going : (s : Progressing) (payloads : List Payload) (rest : Rest) (a b : Answer) → Continues s payloads rest a → Continues s payloads rest b → a ≡ b
+decisions_agree_going : (s : OpenReply) (payloads : List Payload) (rest : Rest) (a b : Answer) → Continues s payloads rest a → Continues s payloads rest b → a ≡ b
 decisions_agree_going s payloads rest a b x y =
     let same = reads_once s.context (rest_of s.context s.awaited payloads) x.others y.others x.ending y.ending x.reading y.reading in
     let results : a.results ≡ b.results = x.results ∙ ap (λ o. s.results ++ o) same.results ∙ sym y.results in
@@ -129,11 +129,11 @@ decisions_agree_going s payloads rest a b x y =
     let end : a.end ≡ b.end = x.end ∙ ap (λ e. end_of (s.count + length payloads) rest e) same.ending ∙ sym y.end in
     λ i. record { results = results i; progress = progress i; end = end i }
 
-pub decisions_agree : StandingsAgree
+pub decisions_agree : RepliesAgree
 decisions_agree (Answered known) payloads rest a b x y = x ∙ sym y
 decisions_agree (GoingOn s) payloads rest a b x y = decisions_agree_going s payloads rest a b x y
 
-pub fresh_decides : FreshStandingDecides
+pub fresh_decides : FreshReplyDecides
 fresh_decides c payloads rest answer h = record {
   ending = h.ending;
   results = subst (λ o. Results c (one_result c payloads) o h.ending) (sym h.results) h.reading;

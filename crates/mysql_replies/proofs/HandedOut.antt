@@ -13,7 +13,7 @@ use Rattle.mysql_replies.specs.declared.context.Context.{Context}
 use Rattle.mysql_replies.specs.declared.fault.ReplyFault.{ReplyFault}
 use Rattle.mysql_replies.specs.declared.fault.ReplyFault.TheVariants as faults
 use Rattle.mysql_replies.specs.Grammar.{Payload, Outcome}
-use Rattle.mysql_replies.specs.Reply.{Answer, FaultAt, reports, before_end, Progressing, Standing, GoingOn, Answered, fresh}
+use Rattle.mysql_replies.specs.Reply.{Answer, FaultAt, reports, before_end, OpenReply, ReplySoFar, GoingOn, Answered, fresh}
 use Rattle.mysql_replies.specs.Bytes.{numbered, after_numbered, NumberedPayloadsDecide, IsReplyOf, StopsAfter, IsShortReplyOf}
 use Rattle.mysql_replies.specs.Holding.{ReaderState, fresh_reader, ReaderDecides, ReaderDecidesFrom, ReaderGoesOn, TakesAll, RunsShort, fault_of, count_of}
 use Rattle.mysql_replies.specs.Taking.{joined, part_of, results_in, without_results, reports_in, without_reports, joined_answer, Feeds, Runs, begins, feeds, takes_results, takes_reports, TakenResultsAreTheReply}
@@ -37,15 +37,15 @@ joins_on taken more reported others later middle whole x y = record {
 }
 
 -- Over the payloads to come, an answer is decided that is joined of what was handed out and the later one.
-abbrev DecidesJoined : Standing → List Payload → Rest → List Outcome → List ProgressReport → Answer → Type 0
+abbrev DecidesJoined : ReplySoFar → List Payload → Rest → List Outcome → List ProgressReport → Answer → Type 0
 DecidesJoined s payloads rest taken reported later = (whole : Answer) × NumberedPayloadsDecide s payloads rest whole × Joins taken reported later whole
 
 -- The same over the bytes to come.
-abbrev ReaderDecidesJoined : Standing → ReaderState → List ℕ → List Outcome → List ProgressReport → Answer → Type 0
+abbrev ReaderDecidesJoined : ReplySoFar → ReaderState → List ℕ → List Outcome → List ProgressReport → Answer → Type 0
 ReaderDecidesJoined s held more taken reported later = (whole : Answer) × ReaderDecidesFrom s held more whole × Joins taken reported later whole
 
 -- What is decided behind results that are handed out, and before.
-results_going : (s : Progressing) (payloads : List Payload) (rest : Rest) (later : Answer) → NumberedPayloadsDecide (without_results (GoingOn s)) payloads rest later → DecidesJoined (GoingOn s) payloads rest (results_in (GoingOn s)) [] later
+results_going : (s : OpenReply) (payloads : List Payload) (rest : Rest) (later : Answer) → NumberedPayloadsDecide (without_results (GoingOn s)) payloads rest later → DecidesJoined (GoingOn s) payloads rest (results_in (GoingOn s)) [] later
 results_going s payloads rest later h =
     let b = behind s.context s.awaited (numbered s.count payloads) h.others h.ending h.reading in
     let whole : Answer = record { results = s.results ++ b.0; progress = s.progress ++ reports s.context (before_end (numbered s.count payloads) h.ending); end = later.end } in (
@@ -59,7 +59,7 @@ results_going s payloads rest later h =
       },
     )
 
-reports_going : (s : Progressing) (payloads : List Payload) (rest : Rest) (later : Answer) → NumberedPayloadsDecide (without_reports (GoingOn s)) payloads rest later → DecidesJoined (GoingOn s) payloads rest [] (reports_in (GoingOn s)) later
+reports_going : (s : OpenReply) (payloads : List Payload) (rest : Rest) (later : Answer) → NumberedPayloadsDecide (without_reports (GoingOn s)) payloads rest later → DecidesJoined (GoingOn s) payloads rest [] (reports_in (GoingOn s)) later
 reports_going s payloads rest later h = (
   record { results = later.results; progress = s.progress ++ later.progress; end = later.end },
   record { others = h.others; ending = h.ending; reading = h.reading; results = h.results; progress = ap (λ (k : List ProgressReport). s.progress ++ k) h.progress; end = h.end },
@@ -81,17 +81,17 @@ reports_answered known later h = record {
 }
 
 -- What stood hands over these results and reports, and this stands then.
-record HandsOver (old new : Standing) (more : List Outcome) (others : List ProgressReport) : Type 0 where
+record HandsOver (old new : ReplySoFar) (more : List Outcome) (others : List ProgressReport) : Type 0 where
   fault : fault_of new ≡ fault_of old
   count : count_of new ≡ count_of old
   decides : (payloads : List Payload) (rest : Rest) (later : Answer) → NumberedPayloadsDecide new payloads rest later → DecidesJoined old payloads rest more others later
-  bytes : (held : ReaderState) (bytes : List ℕ) (later : Answer) → ReaderDecides (record held { standing = new }) bytes later → ReaderDecidesJoined old held bytes more others later
+  bytes : (held : ReaderState) (bytes : List ℕ) (later : Answer) → ReaderDecides (record held { so_far = new }) bytes later → ReaderDecidesJoined old held bytes more others later
   answered : (known : Answer) → old ≡ Answered known → (later : Answer) × (new ≡ Answered later) × Joins more others later known
 
 known_is : (known other : Answer) → Answered known ≡ Answered other → known ≡ other
 known_is known other e = cc
 
-hands_results : (s : Standing) → HandsOver s (without_results s) (results_in s) []
+hands_results : (s : ReplySoFar) → HandsOver s (without_results s) (results_in s) []
 hands_results (GoingOn s) = record {
   fault = refl;
   count = refl;
@@ -107,7 +107,7 @@ hands_results (Answered answer) = record {
   answered = λ known e. (record answer { results = [] }, refl, subst (λ (k : Answer). Joins answer.results [] (record answer { results = [] }) k) (known_is answer known e) (results_answered answer (record answer { results = [] }) refl));
 }
 
-hands_reports : (s : Standing) → HandsOver s (without_reports s) [] (reports_in s)
+hands_reports : (s : ReplySoFar) → HandsOver s (without_reports s) [] (reports_in s)
 hands_reports (GoingOn s) = record {
   fault = refl;
   count = refl;
@@ -131,8 +131,8 @@ record TakenJoined (c : Context) (first_id limit : ℕ) (bytes : List ℕ) (take
   left : held.bytes ≡ split.rest_bytes
   number : held.number ≡ first_number (after_all split.payloads (OnFrom first_id))
   limit_same : held.limit ≡ limit
-  count : count_of held.standing ≡ length split.payloads
-  goes_on : (payloads : List Payload) (rest : Rest) (later : Answer) → NumberedPayloadsDecide held.standing payloads rest later → DecidesJoined (fresh c) (split.payloads ++ payloads) rest taken reported later
+  count : count_of held.so_far ≡ length split.payloads
+  goes_on : (payloads : List Payload) (rest : Rest) (later : Answer) → NumberedPayloadsDecide held.so_far payloads rest later → DecidesJoined (fresh c) (split.payloads ++ payloads) rest taken reported later
 
 -- What is held decides what a fresh reader decides over the bytes fed and others.
 abbrev DecidedJoined : Context → ℕ → ℕ → List ℕ → List Outcome → List ProgressReport → ReaderState → Type 0
@@ -144,17 +144,17 @@ abbrev HasRun : Option ReplyFault → Context → ℕ → ℕ → List (List ℕ
 HasRun None c first_id limit pieces taken reported held =
     TakenJoined c first_id limit (flat_map (λ piece. piece) pieces) taken reported held × DecidedJoined c first_id limit (flat_map (λ piece. piece) pieces) taken reported held
 HasRun (Some faults.Memory) c first_id limit pieces taken reported held =
-    (later : Answer) × (held.standing ≡ Answered later) × (whole : Answer) × IsShortReplyOf c first_id limit pieces whole × Joins taken reported later whole
+    (later : Answer) × (held.so_far ≡ Answered later) × (whole : Answer) × IsShortReplyOf c first_id limit pieces whole × Joins taken reported later whole
 HasRun (Some fault) c first_id limit pieces taken reported held = DecidedJoined c first_id limit (flat_map (λ piece. piece) pieces) taken reported held
 
 -- After a take.
-decided_over : (c : Context) (first_id limit : ℕ) (fed : List ℕ) (taken more : List Outcome) (reported others : List ProgressReport) (held : ReaderState) (new : Standing) → HandsOver held.standing new more others → DecidedJoined c first_id limit fed taken reported held → DecidedJoined c first_id limit fed (taken ++ more) (reported ++ others) (record held { standing = new })
+decided_over : (c : Context) (first_id limit : ℕ) (fed : List ℕ) (taken more : List Outcome) (reported others : List ProgressReport) (held : ReaderState) (new : ReplySoFar) → HandsOver held.so_far new more others → DecidedJoined c first_id limit fed taken reported held → DecidedJoined c first_id limit fed (taken ++ more) (reported ++ others) (record held { so_far = new })
 decided_over c first_id limit fed taken more reported others held new hands decided bytes later are h =
     let one = hands.bytes held bytes later h in
     let two = decided bytes one.0 are one.1 in
     (two.0, two.1, joins_on taken more reported others later one.0 two.0 two.2 one.2)
 
-taken_over : (c : Context) (first_id limit : ℕ) (fed : List ℕ) (taken more : List Outcome) (reported others : List ProgressReport) (held : ReaderState) (new : Standing) → HandsOver held.standing new more others → TakenJoined c first_id limit fed taken reported held → TakenJoined c first_id limit fed (taken ++ more) (reported ++ others) (record held { standing = new })
+taken_over : (c : Context) (first_id limit : ℕ) (fed : List ℕ) (taken more : List Outcome) (reported others : List ProgressReport) (held : ReaderState) (new : ReplySoFar) → HandsOver held.so_far new more others → TakenJoined c first_id limit fed taken reported held → TakenJoined c first_id limit fed (taken ++ more) (reported ++ others) (record held { so_far = new })
 taken_over c first_id limit fed taken more reported others held new hands t = record {
   split = t.split;
   splits = t.splits;
@@ -169,7 +169,7 @@ taken_over c first_id limit fed taken more reported others held new hands t = re
       (two.0, two.1, joins_on taken more reported others later one.0 two.0 two.2 one.2);
 }
 
-run_over : (met : Option ReplyFault) (c : Context) (first_id limit : ℕ) (pieces : List (List ℕ)) (taken more : List Outcome) (reported others : List ProgressReport) (held : ReaderState) (new : Standing) → HandsOver held.standing new more others → HasRun met c first_id limit pieces taken reported held → HasRun met c first_id limit pieces (taken ++ more) (reported ++ others) (record held { standing = new })
+run_over : (met : Option ReplyFault) (c : Context) (first_id limit : ℕ) (pieces : List (List ℕ)) (taken more : List Outcome) (reported others : List ProgressReport) (held : ReaderState) (new : ReplySoFar) → HandsOver held.so_far new more others → HasRun met c first_id limit pieces taken reported held → HasRun met c first_id limit pieces (taken ++ more) (reported ++ others) (record held { so_far = new })
 run_over None c first_id limit pieces taken more reported others held new hands h =
     (taken_over c first_id limit (flat_map (λ piece. piece) pieces) taken more reported others held new hands h.0, decided_over c first_id limit (flat_map (λ piece. piece) pieces) taken more reported others held new hands h.1)
 run_over (Some faults.Memory) c first_id limit pieces taken more reported others held new hands h =
@@ -243,7 +243,7 @@ stopped_next c first_id limit pieces piece taken reported old later t r =
       at_least = omega (arith, length-append ps r.read);
       stops = stops;
     } in
-    let number : length (ps ++ r.read) ≡ count_of old.standing + length r.read = omega (arith, t.count, length-append ps r.read) in
+    let number : length (ps ++ r.read) ≡ count_of old.so_far + length r.read = omega (arith, t.count, length-append ps r.read) in
     let joins : Joins taken reported later whole = record {
       results = d.2.results ∙ ap (λ (k : List Outcome). joined (taken ++ k)) (sym r.results);
       progress = d.2.progress ∙ ap (λ (k : List ProgressReport). reported ++ k) (sym r.progress);
@@ -251,7 +251,7 @@ stopped_next c first_id limit pieces piece taken reported old later t r =
     } in
     (whole, short, joins)
 
-run_going : (c : Context) (first_id limit : ℕ) (pieces : List (List ℕ)) (piece : List ℕ) (taken : List Outcome) (reported : List ProgressReport) (old new : ReaderState) (r : Result Unit ReplyFault) → AreBytes piece → fault_of old.standing ≡ None → Feeds old new piece r → HasRun None c first_id limit pieces taken reported old → HasRun (fault_of new.standing) c first_id limit (pieces ++ piece ∷ []) taken reported new
+run_going : (c : Context) (first_id limit : ℕ) (pieces : List (List ℕ)) (piece : List ℕ) (taken : List Outcome) (reported : List ProgressReport) (old new : ReaderState) (r : Result Unit ReplyFault) → AreBytes piece → fault_of old.so_far ≡ None → Feeds old new piece r → HasRun None c first_id limit pieces taken reported old → HasRun (fault_of new.so_far) c first_id limit (pieces ++ piece ∷ []) taken reported new
 run_going c first_id limit pieces piece taken reported old new (Ok x) bytes none f h =
     let next = subst (λ k. TakenJoined c first_id limit k taken reported new) (sym (joined_more pieces piece)) (taken_next c first_id limit (flat_map (λ p. p) pieces) piece taken reported old new h.0 f.takes) in
     subst (λ k. HasRun k c first_id limit (pieces ++ piece ∷ []) taken reported new) (sym f.going) (next, decided_next c first_id limit pieces piece taken reported old new bytes h.1 (f.goes_on (λ e. cc)))
@@ -262,15 +262,15 @@ run_going c first_id limit pieces piece taken reported old new (Err faults.Memor
 run_going c first_id limit pieces piece taken reported old new (Err fault) bytes none f h =
     subst (λ k. HasRun k c first_id limit (pieces ++ piece ∷ []) taken reported new) (sym f.fault) (decided_next c first_id limit pieces piece taken reported old new bytes h.1 (f.goes_on (λ e. cc)))
 
-run_next : (c : Context) (first_id limit : ℕ) (pieces : List (List ℕ)) (piece : List ℕ) (taken : List Outcome) (reported : List ProgressReport) (old new : ReaderState) (r : Result Unit ReplyFault) (met : Option ReplyFault) → AreBytes piece → fault_of old.standing ≡ met → Feeds old new piece r → HasRun met c first_id limit pieces taken reported old → HasRun (fault_of new.standing) c first_id limit (pieces ++ piece ∷ []) taken reported new
+run_next : (c : Context) (first_id limit : ℕ) (pieces : List (List ℕ)) (piece : List ℕ) (taken : List Outcome) (reported : List ProgressReport) (old new : ReaderState) (r : Result Unit ReplyFault) (met : Option ReplyFault) → AreBytes piece → fault_of old.so_far ≡ met → Feeds old new piece r → HasRun met c first_id limit pieces taken reported old → HasRun (fault_of new.so_far) c first_id limit (pieces ++ piece ∷ []) taken reported new
 run_next c first_id limit pieces piece taken reported old new r None bytes is f h = run_going c first_id limit pieces piece taken reported old new r bytes is f h
 run_next c first_id limit pieces piece taken reported old new r (Some faults.Memory) bytes is f h =
     let s = subst (λ k. IfSome k (λ fault. (r ≡ Err fault) × (new ≡ old))) is f.stays in
-    let met : fault_of new.standing ≡ Some faults.Memory = ap (λ (k : ReaderState). fault_of k.standing) s.1 ∙ is in
-    subst (λ k. HasRun k c first_id limit (pieces ++ piece ∷ []) taken reported new) (sym met) (h.0, ap (λ (k : ReaderState). k.standing) s.1 ∙ h.1, h.2, short_grows c first_id limit pieces piece h.2 h.3, h.4)
+    let met : fault_of new.so_far ≡ Some faults.Memory = ap (λ (k : ReaderState). fault_of k.so_far) s.1 ∙ is in
+    subst (λ k. HasRun k c first_id limit (pieces ++ piece ∷ []) taken reported new) (sym met) (h.0, ap (λ (k : ReaderState). k.so_far) s.1 ∙ h.1, h.2, short_grows c first_id limit pieces piece h.2 h.3, h.4)
 run_next c first_id limit pieces piece taken reported old new r (Some fault) bytes is f h =
     let s = subst (λ k. IfSome k (λ fault. (r ≡ Err fault) × (new ≡ old))) is f.stays in
-    let met : fault_of new.standing ≡ Some fault = ap (λ (k : ReaderState). fault_of k.standing) s.1 ∙ is in
+    let met : fault_of new.so_far ≡ Some fault = ap (λ (k : ReaderState). fault_of k.so_far) s.1 ∙ is in
     let goes = f.goes_on (λ e. let k = sym s.0 ∙ e in cc) in
     subst (λ k. HasRun k c first_id limit (pieces ++ piece ∷ []) taken reported new) (sym met) (decided_next c first_id limit pieces piece taken reported old new bytes h goes)
 
@@ -289,20 +289,20 @@ runs_begin c first_id limit = (
   λ more later are h. (later, h, record { results = refl; progress = refl; end = refl }),
 )
 
-has_run : (c : Context) (first_id limit : ℕ) (pieces : List (List ℕ)) (taken : List Outcome) (reported : List ProgressReport) (held : ReaderState) → Runs c first_id limit pieces taken reported held → HasRun (fault_of held.standing) c first_id limit pieces taken reported held
+has_run : (c : Context) (first_id limit : ℕ) (pieces : List (List ℕ)) (taken : List Outcome) (reported : List ProgressReport) (held : ReaderState) → Runs c first_id limit pieces taken reported held → HasRun (fault_of held.so_far) c first_id limit pieces taken reported held
 has_run c first_id limit pieces taken reported held begins = runs_begin c first_id limit
 has_run c first_id limit pieces taken reported held (feeds {pieces = before} {old = old} piece r new runs are f) =
-    run_next c first_id limit before piece taken reported old new r (fault_of old.standing) are refl f (has_run c first_id limit before taken reported old runs)
+    run_next c first_id limit before piece taken reported old new r (fault_of old.so_far) are refl f (has_run c first_id limit before taken reported old runs)
 has_run c first_id limit pieces taken reported held (takes_results {taken = before} {old = old} runs) =
-    let hands = hands_results old.standing in
-    subst (λ k. HasRun k c first_id limit pieces (before ++ results_in old.standing) reported (record old { standing = without_results old.standing })) (sym hands.fault)
-    (subst (λ k. HasRun (fault_of old.standing) c first_id limit pieces (before ++ results_in old.standing) k (record old { standing = without_results old.standing })) (append-nil reported)
-    (run_over (fault_of old.standing) c first_id limit pieces before (results_in old.standing) reported [] old (without_results old.standing) hands (has_run c first_id limit pieces before reported old runs)))
+    let hands = hands_results old.so_far in
+    subst (λ k. HasRun k c first_id limit pieces (before ++ results_in old.so_far) reported (record old { so_far = without_results old.so_far })) (sym hands.fault)
+    (subst (λ k. HasRun (fault_of old.so_far) c first_id limit pieces (before ++ results_in old.so_far) k (record old { so_far = without_results old.so_far })) (append-nil reported)
+    (run_over (fault_of old.so_far) c first_id limit pieces before (results_in old.so_far) reported [] old (without_results old.so_far) hands (has_run c first_id limit pieces before reported old runs)))
 has_run c first_id limit pieces taken reported held (takes_reports {reports = before} {old = old} runs) =
-    let hands = hands_reports old.standing in
-    subst (λ k. HasRun k c first_id limit pieces taken (before ++ reports_in old.standing) (record old { standing = without_reports old.standing })) (sym hands.fault)
-    (subst (λ k. HasRun (fault_of old.standing) c first_id limit pieces k (before ++ reports_in old.standing) (record old { standing = without_reports old.standing })) (append-nil taken)
-    (run_over (fault_of old.standing) c first_id limit pieces taken [] before (reports_in old.standing) old (without_reports old.standing) hands (has_run c first_id limit pieces taken before old runs)))
+    let hands = hands_reports old.so_far in
+    subst (λ k. HasRun k c first_id limit pieces taken (before ++ reports_in old.so_far) (record old { so_far = without_reports old.so_far })) (sym hands.fault)
+    (subst (λ k. HasRun (fault_of old.so_far) c first_id limit pieces k (before ++ reports_in old.so_far) (record old { so_far = without_reports old.so_far })) (append-nil taken)
+    (run_over (fault_of old.so_far) c first_id limit pieces taken [] before (reports_in old.so_far) old (without_reports old.so_far) hands (has_run c first_id limit pieces taken before old runs)))
 
 -- The answer that is joined.
 whole_is : (taken : List Outcome) (reported : List ProgressReport) (later whole : Answer) → joined whole.results ≡ whole.results → Joins taken reported later whole → whole ≡ joined_answer taken reported later
@@ -332,4 +332,4 @@ run_ends (Some fault) c first_id limit pieces taken reported held later h d = in
 
 pub taken_are_the_reply : TakenResultsAreTheReply
 taken_are_the_reply c first_id limit pieces taken reported held later runs d =
-    run_ends (fault_of held.standing) c first_id limit pieces taken reported held later (has_run c first_id limit pieces taken reported held runs) d
+    run_ends (fault_of held.so_far) c first_id limit pieces taken reported held later (has_run c first_id limit pieces taken reported held runs) d

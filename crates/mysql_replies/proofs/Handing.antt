@@ -7,15 +7,15 @@ use Rattle.mysql_server_packets.specs.Views.{progress_report_view}
 use Rattle.mysql_replies.specs.declared.fault.ReplyFault.{ReplyFault}
 use Rattle.mysql_replies.specs.declared.state.ReplyState.{ReplyState}
 use Rattle.mysql_replies.specs.Grammar.{Outcome, RowsResult}
-use Rattle.mysql_replies.specs.Reply.{Awaited, First, Columns, Rows, Parameters, PreparedColumns, Nothing, Progressing}
+use Rattle.mysql_replies.specs.Reply.{Awaited, First, Columns, Rows, Parameters, PreparedColumns, Nothing, OpenReply}
 use Rattle.mysql_replies.specs.Steps.{listed_of}
 use Rattle.mysql_wire.specs.Codec.{Codec}
-use Rattle.mysql_replies.specs.Standings.{progressing_of, faulted, standing_of, IsReading, IsPaused, IsReceiving}
+use Rattle.mysql_replies.specs.States.{open_reply, faulted, reply_so_far, IsReading, IsPaused, IsReceiving}
 use Rattle.mysql_replies.specs.Taking.{rows_awaited, reports_in, without_reports, Lists}
 use Rattle.mysql_replies.specs.Views.{outcome_views, report_views, awaited_view}
 
 -- What is lent is what is listed.
-lists_by : (s : Progressing) (f : Option ReplyFault) → Lists (faulted s f) s.results (rows_awaited s.awaited)
+lists_by : (s : OpenReply) (f : Option ReplyFault) → Lists (faulted s f) s.results (rows_awaited s.awaited)
 lists_by s None = (refl, refl)
 lists_by s (Some fault) = listed s.results s.awaited where
   listed : (results : List Outcome) (a : Awaited) → ((results ++ listed_of a ≡ results) × (rows_awaited a ≡ [])) ⊎ ((columns : List ColumnDefinition) × (results ++ listed_of a ≡ results ++ RowsResult columns (rows_awaited a) None ∷ []))
@@ -26,23 +26,23 @@ lists_by s (Some fault) = listed s.results s.awaited where
   listed results (PreparedColumns statement parameters n these) = inl (append-nil results, refl)
   listed results Nothing = inl (append-nil results, refl)
 
-pub state_lists : (s : ReplyState) → Lists (standing_of s) (outcome_views s.results.items) (rows_awaited (awaited_view s.awaited))
-state_lists s = lists_by (progressing_of s) s.fault
+pub state_lists : (s : ReplyState) → Lists (reply_so_far s) (outcome_views s.results.items) (rows_awaited (awaited_view s.awaited))
+state_lists s = lists_by (open_reply s) s.fault
 
-reports_by : (s : Progressing) (f : Option ReplyFault) → s.progress ≡ reports_in (faulted s f)
+reports_by : (s : OpenReply) (f : Option ReplyFault) → s.progress ≡ reports_in (faulted s f)
 reports_by s None = refl
 reports_by s (Some fault) = refl
 
-pub state_reports : (s : ReplyState) → report_views s.progress.items ≡ reports_in (standing_of s)
-state_reports s = reports_by (progressing_of s) s.fault
+pub state_reports : (s : ReplyState) → report_views s.progress.items ≡ reports_in (reply_so_far s)
+state_reports s = reports_by (open_reply s) s.fault
 
-without_by : (s : Progressing) (f : Option ReplyFault) → faulted (record s { progress = [] }) f ≡ without_reports (faulted s f)
+without_by : (s : OpenReply) (f : Option ReplyFault) → faulted (record s { progress = [] }) f ≡ without_reports (faulted s f)
 without_by s None = refl
 without_by s (Some fault) = refl
 
-pub state_without_reports : (old new : ReplyState) → new ≡ record old { progress = new.progress } → new.progress.items ≡ [] → standing_of new ≡ without_reports (standing_of old)
+pub state_without_reports : (old new : ReplyState) → new ≡ record old { progress = new.progress } → new.progress.items ≡ [] → reply_so_far new ≡ without_reports (reply_so_far old)
 state_without_reports old new is none =
-    ap standing_of is ∙ ap (λ items. faulted (record (progressing_of old) { progress = map progress_report_view items }) old.fault) none ∙ without_by (progressing_of old) old.fault
+    ap reply_so_far is ∙ ap (λ items. faulted (record (open_reply old) { progress = map progress_report_view items }) old.fault) none ∙ without_by (open_reply old) old.fault
 
 paused_over : (s next : ReplyState) (codec : Codec) (src dst : List ℕ) → (awaited_view next.awaited ≡ Nothing → awaited_view s.awaited ≡ Nothing) → IsPaused s codec src dst → IsPaused next codec src dst
 paused_over s next codec src dst over p = record {

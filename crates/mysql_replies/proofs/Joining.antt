@@ -5,7 +5,7 @@ use Rattle.mysql_rows.specs.Rows.{Row}
 use Rattle.mysql_columns.specs.Columns.{ColumnDefinition}
 use Rattle.mysql_replies.specs.declared.context.Context.{Context}
 use Rattle.mysql_replies.specs.declared.fault.ReplyFault.{ReplyFault}
-use Rattle.mysql_replies.specs.Grammar.{Payload, Outcome, OkResult, RowsResult, PreparedResult, ErrorResult, FileResult, Part, Stands, Begun, Unexpected, Stretch, Line, RowLine, TerminatorLine, ErrorLine, is_report, unless_report, line, after_rows, rows, Ending, Results, last, more, begun, unexpected}
+use Rattle.mysql_replies.specs.Grammar.{Payload, Outcome, OkResult, RowsResult, PreparedResult, ErrorResult, FileResult, Parsed, Complete, CutOff, Faulty, ResultGroup, Line, RowLine, TerminatorLine, ErrorLine, is_report, unless_report, line, after_rows, rows, Ending, Results, last, more, cut_off, faulty}
 use Rattle.mysql_replies.specs.Reply.{Awaited, First, Columns, Rows, Parameters, PreparedColumns, Nothing, rest_of}
 use Rattle.mysql_replies.specs.Taking.{rows_before, joined, part_of, behind_part}
 
@@ -41,16 +41,16 @@ before_append columns these (RowsResult others those terminator ∷ listed) late
 before_append columns these (outcome ∷ listed) later some = refl
 
 -- The same part with these rows before its results.
-abbrev IsBefore : List ColumnDefinition → List Row → Part Stretch → Part Stretch → Type 0
-IsBefore columns these (Stands s rest) q = (q ≡ Stands (record { results = rows_before columns these s.results; more = s.more }) rest) × ListsSome s.results
-IsBefore columns these (Begun listed) q = q ≡ Begun (rows_before columns these listed)
-IsBefore columns these (Unexpected listed fault rest) q = q ≡ Unexpected (rows_before columns these listed) fault rest
+abbrev IsBefore : List ColumnDefinition → List Row → Parsed ResultGroup → Parsed ResultGroup → Type 0
+IsBefore columns these (Complete s rest) q = (q ≡ Complete (record { results = rows_before columns these s.results; more = s.more }) rest) × ListsSome s.results
+IsBefore columns these (CutOff listed) q = q ≡ CutOff (rows_before columns these listed)
+IsBefore columns these (Faulty listed fault rest) q = q ≡ Faulty (rows_before columns these listed) fault rest
 
-IsBefore-if : (columns : List ColumnDefinition) (these : List Row) (b : Bool) (p q r s : Part Stretch) → IsBefore columns these p q → IsBefore columns these r s → IsBefore columns these (if b then p else r) (if b then q else s)
+IsBefore-if : (columns : List ColumnDefinition) (these : List Row) (b : Bool) (p q r s : Parsed ResultGroup) → IsBefore columns these p q → IsBefore columns these r s → IsBefore columns these (if b then p else r) (if b then q else s)
 IsBefore-if columns these true p q r s x y = x
 IsBefore-if columns these false p q r s x y = y
 
-IsBefore-line : (columns : List ColumnDefinition) (these those : List Row) (on behind : Row → Part Stretch) (r : Result Line ReplyFault) (payload : Payload) (rest : List Payload) → ((found : Row) → IsBefore columns these (on found) (behind found)) → IsBefore columns these (after_rows columns those on r payload rest) (after_rows columns (these ++ those) behind r payload rest)
+IsBefore-line : (columns : List ColumnDefinition) (these those : List Row) (on behind : Row → Parsed ResultGroup) (r : Result Line ReplyFault) (payload : Payload) (rest : List Payload) → ((found : Row) → IsBefore columns these (on found) (behind found)) → IsBefore columns these (after_rows columns those on r payload rest) (after_rows columns (these ++ those) behind r payload rest)
 IsBefore-line columns these those on behind (Ok (RowLine found)) payload rest each = each found
 IsBefore-line columns these those on behind (Ok (TerminatorLine ok)) payload rest each = (refl, tt)
 IsBefore-line columns these those on behind (Ok (ErrorLine error)) payload rest each = (refl, tt)
@@ -64,13 +64,13 @@ IsBefore-rows c columns these those (payload ∷ rest) =
     (IsBefore-line columns these those (λ found. rows c columns (those ++ found ∷ []) rest) (λ found. rows c columns ((these ++ those) ++ found ∷ []) rest) (unless_report c (line c columns) payload) payload rest
     (λ found. subst (λ all. IsBefore columns these (rows c columns (those ++ found ∷ []) rest) (rows c columns all rest)) (sym (append_assoc these those (found ∷ []))) (IsBefore-rows c columns these (those ++ found ∷ []) rest)))
 
-results_before : (c : Context) (columns : List ColumnDefinition) (these : List Row) (p q : Part Stretch) (others : List Outcome) (ending : Ending) → IsBefore columns these p q → Results c p others ending → Results c q (rows_before columns these others) ending
+results_before : (c : Context) (columns : List ColumnDefinition) (these : List Row) (p q : Parsed ResultGroup) (others : List Outcome) (ending : Ending) → IsBefore columns these p q → Results c p others ending → Results c q (rows_before columns these others) ending
 results_before c columns these p q others ending is (last results rest) = subst (λ x. Results c x (rows_before columns these others) ending) (sym is.0) (last (rows_before columns these results) rest)
-results_before c columns these p q others ending is (begun listed) = subst (λ x. Results c x (rows_before columns these others) ending) (sym is) (begun (rows_before columns these listed))
-results_before c columns these p q others ending is (unexpected listed fault rest) = subst (λ x. Results c x (rows_before columns these others) ending) (sym is) (unexpected (rows_before columns these listed) fault rest)
+results_before c columns these p q others ending is (cut_off listed) = subst (λ x. Results c x (rows_before columns these others) ending) (sym is) (cut_off (rows_before columns these listed))
+results_before c columns these p q others ending is (faulty listed fault rest) = subst (λ x. Results c x (rows_before columns these others) ending) (sym is) (faulty (rows_before columns these listed) fault rest)
 results_before c columns these p q others ending is (more results rest {others = o} {ending = e} r) =
     subst (λ x. Results c x (rows_before columns these (results ++ o)) e) (sym is.0)
-    (subst (λ x. Results c (Stands (record { results = rows_before columns these results; more = true }) rest) x e) (before_append columns these results o is.1) (more (rows_before columns these results) rest r))
+    (subst (λ x. Results c (Complete (record { results = rows_before columns these results; more = true }) rest) x e) (before_append columns these results o is.1) (more (rows_before columns these results) rest r))
 
 -- What is read behind a part that was handed out is read before it with the part, joined.
 abbrev pub ReadsBehind : Context → Awaited → List Payload → List Outcome → Ending → Type 0

@@ -11,8 +11,8 @@ use Rattle.mysql_wire.proofs.Chunks.{chunks-zero, chunks_first, length-chunk}
 use Rattle.mysql_replies.specs.declared.fault.ReplyFault.{ReplyFault}
 use Rattle.mysql_replies.specs.declared.state.ReplyState.{ReplyState}
 use Rattle.mysql_replies.specs.Holding.{fault_of}
-use Rattle.mysql_replies.specs.Reply.{Progressing}
-use Rattle.mysql_replies.specs.Standings.{IsReceiving, faulted, progressing_of, reader_state}
+use Rattle.mysql_replies.specs.Reply.{OpenReply}
+use Rattle.mysql_replies.specs.States.{IsReceiving, faulted, open_reply, reader_state}
 
 -- Each chunk that is full has four bytes more than it carries.
 length-chunks : (payload : List ℕ) (id count : ℕ) → count * 16777215 ≤ length payload → length (chunks payload id count) ≡ count * 16777219
@@ -50,12 +50,12 @@ rest_within limit id bytes rest none r =
     let whole : length (chunks r.body id r.count) ≡ r.count * 16777219 = length-chunks r.body id r.count (omega (arith, r.full)) in
     tail_within limit (length r.body) (id + r.count) r.count (length bytes) r.tail rest (ap length r.joined ∙ length-append (chunks r.body id r.count) r.tail ∙ ap (λ n. n + length r.tail) whole) r.full r.within none r.ends
 
-no_fault_by : (s : Progressing) (f : Option ReplyFault) → fault_of (faulted s f) ≡ None → f ≡ None
+no_fault_by : (s : OpenReply) (f : Option ReplyFault) → fault_of (faulted s f) ≡ None → f ≡ None
 no_fault_by s None none = none
 no_fault_by s (Some fault) none = none
 
 -- Where no fault was met, no more is held than the limit and three bytes of a header.
-pub kept_within : (s : ReplyState) (packets : Incoming) → IsReceiving s (codec_by packets) packets.bytes [] → fault_of (reader_state s packets).standing ≡ None → bytes_kept (length (reader_state s packets).bytes) ≤ packets.limit + 3
+pub kept_within : (s : ReplyState) (packets : Incoming) → IsReceiving s (codec_by packets) packets.bytes [] → fault_of (reader_state s packets).so_far ≡ None → bytes_kept (length (reader_state s packets).bytes) ≤ packets.limit + 3
 kept_within s packets receiving none =
-    let paused = receiving.paused (no_fault_by (progressing_of s) s.fault none) in
+    let paused = receiving.paused (no_fault_by (open_reply s) s.fault none) in
     rest_within packets.limit (packet_number (codec_by packets) []) (held (codec_by packets) packets.bytes []) paused.rest paused.no_fault paused.is_rest

@@ -22,7 +22,7 @@ pub mod ManualOnly
 pub mod ManualStood
 pub mod ManualSome
 pub mod ManualBytes
-pub mod Standing
+pub mod WhatCame
 pub mod NoRows
-pub mod LentSteps
-pub mod LentOut
+pub mod RowSteps
+pub mod BorrowedOut

@@ -7,7 +7,7 @@ use Rattle.mysql_server_packets.specs.Packets.{ServerError}
 use Rattle.mysql_columns.specs.Columns.{ColumnDefinition, column_at}
 use Rattle.mysql_replies.specs.declared.fault.ReplyFault.{ReplyFault}
 use Rattle.mysql_replies.specs.declared.context.Context.{Context}
-use Rattle.mysql_replies.specs.Grammar.{Payload, RowsResult, PreparedResult, ErrorResult, FileResult, Part, Stands, Begun, Unexpected, ◌>>=◌, Stretch, Line, RowLine, TerminatorLine, ErrorLine, Opening, OkOpening, ErrorOpening, FileOpening, CountOpening, StatementOpening, deprecate_eof, has_report_form, is_report, unless_report, as_part, next_payload, column, eof, columns, columns_end, column_group, line, after_rows, rows, result_set, prepared, prepared_columns, opening, after_opening, one_result}
+use Rattle.mysql_replies.specs.Grammar.{Payload, RowsResult, PreparedResult, ErrorResult, FileResult, Parsed, Complete, CutOff, Faulty, ◌>>=◌, ResultGroup, Line, RowLine, TerminatorLine, ErrorLine, Opening, OkOpening, ErrorOpening, FileOpening, CountOpening, StatementOpening, deprecate_eof, has_report_form, is_report, unless_report, as_part, next_payload, column, eof, columns, columns_end, column_group, line, after_rows, rows, result_set, prepared, prepared_columns, opening, after_opening, one_result}
 use Rattle.mysql_replies.specs.Manual as manual
 use Rattle.mysql_replies.specs.Manual.{Reads, IsEof, AreColumns, IsEofDue, IsColumnGroup, group, Row, IsRow, IsTerminator, IsError, AreRows, EndedRows, IsResult, other}
 use Rattle.mysql_replies.proofs.ManualReadings.{Given, Given-unless_report, columns_given, eof_given, IsLine, line_given, IsOpening, opening_given}
@@ -20,56 +20,56 @@ pub record Front (c : Context) (payloads rest : List Payload) (P : List Payload 
   pub joined : (others : List Payload) → Others c rest others → Others c payloads (front ++ others)
 
 -- Where the part stands, such payloads are taken for it.
-abbrev pub Fronts : {A : Type 0} → Context → List Payload → (List Payload → A → Type 0) → Part A → Type 0
-Fronts c payloads P (Stands a rest) = Front c payloads rest (λ front. P front a)
-Fronts c payloads P (Begun listed) = Unit {0}
-Fronts c payloads P (Unexpected listed fault rest) = Unit {0}
+abbrev pub Fronts : {A : Type 0} → Context → List Payload → (List Payload → A → Type 0) → Parsed A → Type 0
+Fronts c payloads P (Complete a rest) = Front c payloads rest (λ front. P front a)
+Fronts c payloads P (CutOff listed) = Unit {0}
+Fronts c payloads P (Faulty listed fault rest) = Unit {0}
 
 none_taken : (c : Context) (payloads : List Payload) (P : List Payload → Type 0) → P [] → Front c payloads payloads P
 none_taken c payloads P is = record { front = []; is = is; joined = λ others w. w }
 
-Fronts-if : {A : Type 0} (c : Context) (payloads : List Payload) (P : List Payload → A → Type 0) (b : Bool) (p q : Part A) → (b ≡ true → Fronts c payloads P p) → (b ≡ false → Fronts c payloads P q) → Fronts c payloads P (if b then p else q)
+Fronts-if : {A : Type 0} (c : Context) (payloads : List Payload) (P : List Payload → A → Type 0) (b : Bool) (p q : Parsed A) → (b ≡ true → Fronts c payloads P p) → (b ≡ false → Fronts c payloads P q) → Fronts c payloads P (if b then p else q)
 Fronts-if c payloads P true p q on off = on refl
 Fronts-if c payloads P false p q on off = off refl
 
-Fronts-weaker : {A : Type 0} (c : Context) (payloads : List Payload) (P Q : List Payload → A → Type 0) (p : Part A) → ((front : List Payload) (a : A) → P front a → Q front a) → Fronts c payloads P p → Fronts c payloads Q p
-Fronts-weaker c payloads P Q (Stands a rest) each h = record { front = h.front; is = each h.front a h.is; joined = h.joined }
-Fronts-weaker c payloads P Q (Begun listed) each h = tt
-Fronts-weaker c payloads P Q (Unexpected listed fault rest) each h = tt
+Fronts-weaker : {A : Type 0} (c : Context) (payloads : List Payload) (P Q : List Payload → A → Type 0) (p : Parsed A) → ((front : List Payload) (a : A) → P front a → Q front a) → Fronts c payloads P p → Fronts c payloads Q p
+Fronts-weaker c payloads P Q (Complete a rest) each h = record { front = h.front; is = each h.front a h.is; joined = h.joined }
+Fronts-weaker c payloads P Q (CutOff listed) each h = tt
+Fronts-weaker c payloads P Q (Faulty listed fault rest) each h = tt
 
 -- After those of a first part.
-Fronts-after : {B : Type 0} (c : Context) (payloads between : List Payload) (P : List Payload → Type 0) (Q : List Payload → B → Type 0) (h : Front c payloads between P) (p : Part B) → Fronts c between (λ second b. Q (h.front ++ second) b) p → Fronts c payloads Q p
-Fronts-after c payloads between P Q h (Stands b rest) k = record {
+Fronts-after : {B : Type 0} (c : Context) (payloads between : List Payload) (P : List Payload → Type 0) (Q : List Payload → B → Type 0) (h : Front c payloads between P) (p : Parsed B) → Fronts c between (λ second b. Q (h.front ++ second) b) p → Fronts c payloads Q p
+Fronts-after c payloads between P Q h (Complete b rest) k = record {
   front = h.front ++ k.front;
   is = k.is;
   joined = λ others w. subst (λ l. Others c payloads l) (sym (append_assoc h.front k.front others)) (h.joined (k.front ++ others) (k.joined others w));
 }
-Fronts-after c payloads between P Q h (Begun listed) k = tt
-Fronts-after c payloads between P Q h (Unexpected listed fault rest) k = tt
+Fronts-after c payloads between P Q h (CutOff listed) k = tt
+Fronts-after c payloads between P Q h (Faulty listed fault rest) k = tt
 
-Fronts-bind : {A B : Type 0} (c : Context) (payloads : List Payload) (P : List Payload → A → Type 0) (Q : List Payload → B → Type 0) (p : Part A) (f : A × List Payload → Part B) → Fronts c payloads P p → ((a : A) (rest first : List Payload) → P first a → Fronts c rest (λ second b. Q (first ++ second) b) (f (a, rest))) → Fronts c payloads Q (p >>= f)
-Fronts-bind c payloads P Q (Stands a rest) f h each = Fronts-after c payloads rest (λ front. P front a) Q h (f (a, rest)) (each a rest h.front h.is)
-Fronts-bind c payloads P Q (Begun listed) f h each = tt
-Fronts-bind c payloads P Q (Unexpected listed fault rest) f h each = tt
+Fronts-bind : {A B : Type 0} (c : Context) (payloads : List Payload) (P : List Payload → A → Type 0) (Q : List Payload → B → Type 0) (p : Parsed A) (f : A × List Payload → Parsed B) → Fronts c payloads P p → ((a : A) (rest first : List Payload) → P first a → Fronts c rest (λ second b. Q (first ++ second) b) (f (a, rest))) → Fronts c payloads Q (p >>= f)
+Fronts-bind c payloads P Q (Complete a rest) f h each = Fronts-after c payloads rest (λ front. P front a) Q h (f (a, rest)) (each a rest h.front h.is)
+Fronts-bind c payloads P Q (CutOff listed) f h each = tt
+Fronts-bind c payloads P Q (Faulty listed fault rest) f h each = tt
 
 -- A report before them, or a payload that is the first of them.
-Fronts-report : {A : Type 0} (c : Context) (payload : Payload) (rest : List Payload) (P : List Payload → A → Type 0) (p : Part A) → ((front : List Payload) (a : A) → P front a → HasFirst front) → is_report c payload ≡ true → Fronts c rest P p → Fronts c (payload ∷ rest) P p
-Fronts-report c payload rest P (Stands a left) first is h = record {
+Fronts-report : {A : Type 0} (c : Context) (payload : Payload) (rest : List Payload) (P : List Payload → A → Type 0) (p : Parsed A) → ((front : List Payload) (a : A) → P front a → HasFirst front) → is_report c payload ≡ true → Fronts c rest P p → Fronts c (payload ∷ rest) P p
+Fronts-report c payload rest P (Complete a left) first is h = record {
   front = h.front;
   is = h.is;
   joined = λ others w. report_before c payload rest h.front others (first h.front a h.is) is (h.joined others w);
 }
-Fronts-report c payload rest P (Begun listed) first is h = tt
-Fronts-report c payload rest P (Unexpected listed fault left) first is h = tt
+Fronts-report c payload rest P (CutOff listed) first is h = tt
+Fronts-report c payload rest P (Faulty listed fault left) first is h = tt
 
-Fronts-payload : {A : Type 0} (c : Context) (payload : Payload) (rest : List Payload) (P Q : List Payload → A → Type 0) (p : Part A) → has_report_form c payload ≡ false → ((front : List Payload) (a : A) → P front a → Q (payload ∷ front) a) → Fronts c rest P p → Fronts c (payload ∷ rest) Q p
-Fronts-payload c payload rest P Q (Stands a left) form each h = record {
+Fronts-payload : {A : Type 0} (c : Context) (payload : Payload) (rest : List Payload) (P Q : List Payload → A → Type 0) (p : Parsed A) → has_report_form c payload ≡ false → ((front : List Payload) (a : A) → P front a → Q (payload ∷ front) a) → Fronts c rest P p → Fronts c (payload ∷ rest) Q p
+Fronts-payload c payload rest P Q (Complete a left) form each h = record {
   front = payload ∷ h.front;
   is = each h.front a h.is;
   joined = λ others w. let inner = h.joined others w in (inner.0, other form inner.1);
 }
-Fronts-payload c payload rest P Q (Begun listed) form each h = tt
-Fronts-payload c payload rest P Q (Unexpected listed fault left) form each h = tt
+Fronts-payload c payload rest P Q (CutOff listed) form each h = tt
+Fronts-payload c payload rest P Q (Faulty listed fault left) form each h = tt
 
 here : (c : Context) (payload : Payload) (rest : List Payload) (P : List Payload → Type 0) → has_report_form c payload ≡ false → P (payload ∷ []) → Front c (payload ∷ rest) rest P
 here c payload rest P form is = record { front = payload ∷ []; is = is; joined = λ others w. (w.0, other form w.1) }
@@ -104,7 +104,7 @@ one_more : (these : List ColumnDefinition) (n : ℕ) (payload : Payload) (first 
 one_more these n payload first front all reads (more_columns payloads others are) =
     subst (λ l. MoreColumns these (suc (length others)) (payload ∷ payloads) l) (sym (append_assoc these (first ∷ []) others)) (more_columns (payload ∷ payloads) (first ∷ others) (reads, are))
 
-one_then_more : (c : Context) (these : List ColumnDefinition) (n : ℕ) (a : ColumnDefinition) (rest first : List Payload) (p : Part (List ColumnDefinition)) → One ReadsColumn first a → Fronts c rest (MoreColumns (these ++ a ∷ []) n) p → Fronts c rest (λ second all. MoreColumns these (suc n) (first ++ second) all) p
+one_then_more : (c : Context) (these : List ColumnDefinition) (n : ℕ) (a : ColumnDefinition) (rest first : List Payload) (p : Parsed (List ColumnDefinition)) → One ReadsColumn first a → Fronts c rest (MoreColumns (these ++ a ∷ []) n) p → Fronts c rest (λ second all. MoreColumns these (suc n) (first ++ second) all) p
 one_then_more c these n a rest first p (one {payload = payload} reads) h =
     Fronts-weaker c rest (MoreColumns (these ++ a ∷ []) n) (λ second all. MoreColumns these (suc n) (payload ∷ second) all) p (λ front all k. one_more these n payload a front all reads k) h
 
@@ -146,7 +146,7 @@ Fronts-column_group c n payloads =
     (λ second result ends. as_group c n first second all result more ends) (Fronts-columns_end c all rest))
 
 -- Rows after these, to their end.
-data EndedAfter (c : Context) (columns : List ColumnDefinition) (these : List Row) : List Payload → Stretch → Type 0 where
+data EndedAfter (c : Context) (columns : List ColumnDefinition) (these : List Row) : List Payload → ResultGroup → Type 0 where
   terminated : (payloads : List Payload) (rows : List Row) {last : Payload} {ok : OkPacket} → AreRows c columns payloads rows → IsTerminator c last ok →
       EndedAfter c columns these (payloads ++ last ∷ []) (record { results = RowsResult columns (these ++ rows) (Some ok) ∷ []; more = more_results_exist ok.status_flags })
   failed : (payloads : List Payload) (rows : List Row) {last : Payload} {error : ServerError} → AreRows c columns payloads rows → IsError c last error →
@@ -156,11 +156,11 @@ first_to_last : (payloads : List Payload) (last : Payload) → HasFirst (payload
 first_to_last [] last = tt
 first_to_last (first ∷ rest) last = tt
 
-Ended-first : (c : Context) (columns : List ColumnDefinition) (these : List Row) (front : List Payload) (s : Stretch) → EndedAfter c columns these front s → HasFirst front
+Ended-first : (c : Context) (columns : List ColumnDefinition) (these : List Row) (front : List Payload) (s : ResultGroup) → EndedAfter c columns these front s → HasFirst front
 Ended-first c columns these front s (terminated payloads rows {last = last} are is) = first_to_last payloads last
 Ended-first c columns these front s (failed payloads rows {last = last} are is) = first_to_last payloads last
 
-row_then_ended : (c : Context) (columns : List ColumnDefinition) (these : List Row) (payload : Payload) (cells : Row) (front : List Payload) (s : Stretch) → IsRow c columns payload cells → EndedAfter c columns (these ++ cells ∷ []) front s → EndedAfter c columns these (payload ∷ front) s
+row_then_ended : (c : Context) (columns : List ColumnDefinition) (these : List Row) (payload : Payload) (cells : Row) (front : List Payload) (s : ResultGroup) → IsRow c columns payload cells → EndedAfter c columns (these ++ cells ∷ []) front s → EndedAfter c columns these (payload ∷ front) s
 row_then_ended c columns these payload cells front s row (terminated payloads rows {last = last} {ok = ok} are is) =
     subst (λ l. EndedAfter c columns these (payload ∷ payloads ++ last ∷ []) (record { results = RowsResult columns l (Some ok) ∷ []; more = more_results_exist ok.status_flags }))
     (sym (append_assoc these (cells ∷ []) rows)) (terminated (payload ∷ payloads) (cells ∷ rows) (row, are) is)
@@ -168,7 +168,7 @@ row_then_ended c columns these payload cells front s row (failed payloads rows {
     subst (λ l. EndedAfter c columns these (payload ∷ payloads ++ last ∷ []) (record { results = RowsResult columns l None ∷ ErrorResult error ∷ []; more = false }))
     (sym (append_assoc these (cells ∷ []) rows)) (failed (payload ∷ payloads) (cells ∷ rows) (row, are) is)
 
-Fronts-after_rows : (c : Context) (columns : List ColumnDefinition) (these : List Row) (on : Row → Part Stretch) (r : Result Line ReplyFault) (payload : Payload) (rest : List Payload) → Given (λ l. (has_report_form c payload ≡ false) × IsLine c columns payload l) r → ((cells : Row) → Fronts c rest (EndedAfter c columns (these ++ cells ∷ [])) (on cells)) → Fronts c (payload ∷ rest) (EndedAfter c columns these) (after_rows columns these on r payload rest)
+Fronts-after_rows : (c : Context) (columns : List ColumnDefinition) (these : List Row) (on : Row → Parsed ResultGroup) (r : Result Line ReplyFault) (payload : Payload) (rest : List Payload) → Given (λ l. (has_report_form c payload ≡ false) × IsLine c columns payload l) r → ((cells : Row) → Fronts c rest (EndedAfter c columns (these ++ cells ∷ [])) (on cells)) → Fronts c (payload ∷ rest) (EndedAfter c columns these) (after_rows columns these on r payload rest)
 Fronts-after_rows c columns these on (Ok (RowLine cells)) payload rest given each =
     Fronts-payload c payload rest (EndedAfter c columns (these ++ cells ∷ [])) (EndedAfter c columns these) (on cells) given.0 (λ front s h. row_then_ended c columns these payload cells front s given.1 h) (each cells)
 Fronts-after_rows c columns these on (Ok (TerminatorLine ok)) payload rest given each =
@@ -186,11 +186,11 @@ Fronts-rows c columns these (payload ∷ rest) =
     (λ no. Fronts-after_rows c columns these _ (unless_report c (line c columns) payload) payload rest
     (Given-unless_report c (IsLine c columns) (line c columns) payload (line_given c columns payload)) (λ cells. Fronts-rows c columns (these ++ cells ∷ []) rest))
 
-all_ended : (c : Context) (columns : List ColumnDefinition) (front : List Payload) (s : Stretch) → EndedAfter c columns [] front s → EndedRows c columns front s.results s.more
+all_ended : (c : Context) (columns : List ColumnDefinition) (front : List Payload) (s : ResultGroup) → EndedAfter c columns [] front s → EndedRows c columns front s.results s.more
 all_ended c columns front s (terminated payloads rows are is) = manual.terminated payloads are is
 all_ended c columns front s (failed payloads rows are is) = manual.failed payloads are is
 
-abbrev Result-of : Context → List Payload → Stretch → Type 0
+abbrev Result-of : Context → List Payload → ResultGroup → Type 0
 Result-of c front s = IsResult c front s.results s.more
 
 Fronts-after_opening : (c : Context) (payload : Payload) (o : Opening) (rest : List Payload) → IsOpening c payload o → Fronts c rest (λ second s. Result-of c (payload ∷ second) s) (after_opening c o rest)

@@ -6,7 +6,7 @@ use Rattle.mysql_wire.specs.Stream.Rest.{Empty, TooLarge, OutOfSync}
 use Rattle.mysql_wire.specs.Stream as stream
 use Rattle.mysql_server_packets.specs.Packets.{ProgressReport}
 use Rattle.mysql_replies.specs.declared.context.Context.{Context}
-use Rattle.mysql_replies.specs.Grammar.{Payload, Outcome, Part, Stretch, Ending, Ended, Open, Wrong, Results, last, more, one_result}
+use Rattle.mysql_replies.specs.Grammar.{Payload, Outcome, Parsed, ResultGroup, Ending, Ended, Open, Wrong, Results, last, more, one_result}
 use Rattle.mysql_replies.specs.Reply.{End, Whole, reports, before_end, end_of}
 use Rattle.mysql_replies.specs.Manual as manual
 use Rattle.mysql_replies.specs.Manual.{WithoutReports, AreResults, IsResult, IsWholeReply, OnlySuchListsAreWhole}
@@ -24,7 +24,7 @@ are_more : (c : Context) (payloads between : List Payload) (listed rest : List O
 are_more c payloads between listed rest h are =
     (h.front ++ are.0, h.joined are.0 are.1, manual.followed h.front are.0 listed rest h.is are.2)
 
-are : (c : Context) (payloads : List Payload) (p : Part Stretch) (listed : List Outcome) → Results c p listed (Ended []) → Fronts c payloads (λ front s. IsResult c front s.results s.more) p → Are c payloads listed
+are : (c : Context) (payloads : List Payload) (p : Parsed ResultGroup) (listed : List Outcome) → Results c p listed (Ended []) → Fronts c payloads (λ front s. IsResult c front s.results s.more) p → Are c payloads listed
 are c payloads p listed (last results rest) h = are_last c payloads results h
 are c payloads p listed (more results rest {others = others} {ending = ending} r) h =
     are_more c payloads rest results others h (are c rest (one_result c rest) others r (Fronts-one_result c rest))

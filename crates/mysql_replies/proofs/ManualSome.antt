@@ -3,7 +3,7 @@ use Rattle.std.proofs.Common.{◌≡◌, List, [], ◌∷◌, ◌++◌, true, fa
 use Rattle.std.proofs.lemmas.List.{append-nil}
 use Rattle.mysql_server_packets.specs.Packets.{ProgressReport, progress_report_at}
 use Rattle.mysql_replies.specs.declared.context.Context.{Context}
-use Rattle.mysql_replies.specs.Grammar.{Payload, Outcome, Stands, Ended, Results, has_report_form, is_report, one_result}
+use Rattle.mysql_replies.specs.Grammar.{Payload, Outcome, Complete, Ended, Results, has_report_form, is_report, one_result}
 use Rattle.mysql_replies.specs.Grammar as grammar
 use Rattle.mysql_replies.specs.Reply.{reports}
 use Rattle.mysql_replies.specs.Manual as manual
@@ -28,7 +28,7 @@ none_left c payloads taken nothing = refl
 as_results : (c : Context) (front payloads : List Payload) (listed : List Outcome) → AreResults c front listed → Others c payloads front → Results c (one_result c payloads) listed (Ended [])
 as_results c front payloads listed (manual.last is) left =
     let s = Stood-result c (Others c) (reports_pass c) front payloads [] listed false is (subst (λ l. Others c payloads l) (sym (append-nil front)) left) in
-    let end = s.is ∙ ap (λ l. Stands (record { results = listed; more = false }) l) (none_left c s.rest s.left.0 s.left.1) in
+    let end = s.is ∙ ap (λ l. Complete (record { results = listed; more = false }) l) (none_left c s.rest s.left.0 s.left.1) in
     subst (λ p. Results c p listed (Ended [])) (sym end) (grammar.last listed [])
 as_results c front payloads listed (manual.followed first others here rest is are) left =
     let s = Stood-result c (Others c) (reports_pass c) first payloads others here true is left in

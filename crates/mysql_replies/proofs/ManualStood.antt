@@ -6,7 +6,7 @@ use Rattle.mysql_ok_packets.specs.OkPackets.{more_results_exist}
 use Rattle.mysql_columns.specs.Columns.{ColumnDefinition}
 use Rattle.mysql_replies.specs.declared.fault.ReplyFault.{ReplyFault}
 use Rattle.mysql_replies.specs.declared.context.Context.{Context}
-use Rattle.mysql_replies.specs.Grammar.{Payload, Outcome, RowsResult, PreparedResult, ErrorResult, Part, Stands, ◌>>=◌, Stretch, Line, RowLine, TerminatorLine, ErrorLine, Opening, OkOpening, ErrorOpening, FileOpening, CountOpening, StatementOpening, has_report_form, is_report, next_payload, column, eof, columns, columns_end, column_group, after_rows, rows, result_set, prepared, prepared_columns, opening, after_opening, one_result}
+use Rattle.mysql_replies.specs.Grammar.{Payload, Outcome, RowsResult, PreparedResult, ErrorResult, Parsed, Complete, ◌>>=◌, ResultGroup, Line, RowLine, TerminatorLine, ErrorLine, Opening, OkOpening, ErrorOpening, FileOpening, CountOpening, StatementOpening, has_report_form, is_report, next_payload, column, eof, columns, columns_end, column_group, after_rows, rows, result_set, prepared, prepared_columns, opening, after_opening, one_result}
 use Rattle.mysql_replies.specs.Manual as manual
 use Rattle.mysql_replies.specs.Manual.{AreColumns, IsEofDue, no_columns, deprecated, IsColumnGroup, group, Row, AreRows, EndedRows, terminated, failed, IsResult}
 use Rattle.mysql_replies.proofs.ManualReadings.{column_read, eof_read, IsLine, line_read, IsOpening, opening_read}
@@ -22,18 +22,18 @@ abbrev pub PassesOver : Context → (List Payload → List Payload → Type 0) �
 PassesOver c L = (payloads : List Payload) (payload : Payload) (others : List Payload) → L payloads (payload ∷ others) → FirstOf c L payloads payload others
 
 -- The part stands as this, and after it come payloads of which these count.
-pub record Stood {A : Type 0} (L : List Payload → List Payload → Type 0) (p : Part A) (a : A) (others : List Payload) : Type 0 where
+pub record Stood {A : Type 0} (L : List Payload → List Payload → Type 0) (p : Parsed A) (a : A) (others : List Payload) : Type 0 where
   pub rest : List Payload
-  pub is : p ≡ Stands a rest
+  pub is : p ≡ Complete a rest
   pub left : L rest others
 
-at_once : {A : Type 0} (L : List Payload → List Payload → Type 0) (a : A) (rest others : List Payload) → L rest others → Stood L (Stands a rest) a others
+at_once : {A : Type 0} (L : List Payload → List Payload → Type 0) (a : A) (rest others : List Payload) → L rest others → Stood L (Complete a rest) a others
 at_once L a rest others left = record { rest = rest; is = refl; left = left }
 
-Stood-same : {A : Type 0} (L : List Payload → List Payload → Type 0) (p q : Part A) (a : A) (others : List Payload) → p ≡ q → Stood L q a others → Stood L p a others
+Stood-same : {A : Type 0} (L : List Payload → List Payload → Type 0) (p q : Parsed A) (a : A) (others : List Payload) → p ≡ q → Stood L q a others → Stood L p a others
 Stood-same L p q a others same s = record { rest = s.rest; is = same ∙ s.is; left = s.left }
 
-Stood-then : {A B : Type 0} (L : List Payload → List Payload → Type 0) (p : Part A) (a : A) (f : A × List Payload → Part B) (b : B) (between others : List Payload) → Stood L p a between → ((rest : List Payload) → L rest between → Stood L (f (a, rest)) b others) → Stood L (p >>= f) b others
+Stood-then : {A B : Type 0} (L : List Payload → List Payload → Type 0) (p : Parsed A) (a : A) (f : A × List Payload → Parsed B) (b : B) (between others : List Payload) → Stood L p a between → ((rest : List Payload) → L rest between → Stood L (f (a, rest)) b others) → Stood L (p >>= f) b others
 Stood-then L p a f b between others s each = Stood-same L (p >>= f) (f (a, s.rest)) b others (ap (λ x. x >>= f) s.is) (each s.rest s.left)
 
 -- What comes first that isn't a report.
@@ -41,7 +41,7 @@ next_after : {A : Type 0} (c : Context) (L : List Payload → List Payload → T
     (L rest (payload ∷ others) → Stood L (next_payload c read rest) a others) → Stood L (next_payload c read (first ∷ rest)) a others
 unfolding next_payload
 next_after c L read first rest payload others a (inl (form, same, left)) reads later =
-    Stood-same L (next_payload c read (first ∷ rest)) (Stands a rest) a others (rw (form, same, reads) refl) (at_once L a rest others left)
+    Stood-same L (next_payload c read (first ∷ rest)) (Complete a rest) a others (rw (form, same, reads) refl) (at_once L a rest others left)
 next_after c L read first rest payload others a (inr (is, left)) reads later =
     Stood-same L (next_payload c read (first ∷ rest)) (next_payload c read rest) a others (rw is refl) (later left)
 
@@ -74,7 +74,7 @@ rows_from c L passes columns these (first ∷ rest) payload others l left is =
 Stood-columns : (c : Context) (L : List Payload → List Payload → Type 0) (passes : PassesOver c L) (front : List Payload) (new these : List ColumnDefinition) (payloads others : List Payload) → AreColumns front new → L payloads (front ++ others) → Stood L (columns c (length new) these payloads) (these ++ new) others
 unfolding columns
 Stood-columns c L passes [] [] these payloads others are left =
-    subst (λ l. Stood L (Stands these payloads) l others) (sym (append-nil these)) (at_once L these payloads others left)
+    subst (λ l. Stood L (Complete these payloads) l others) (sym (append-nil these)) (at_once L these payloads others left)
 Stood-columns c L passes [] (first ∷ new) these payloads others are left = absurd are
 Stood-columns c L passes (payload ∷ front) [] these payloads others are left = absurd are
 Stood-columns c L passes (payload ∷ front) (first ∷ new) these payloads others are left =
@@ -88,10 +88,10 @@ unfolding columns_end
 Stood-columns_end c L passes all end payloads others no_columns left = at_once L [] payloads others left
 Stood-columns_end c L passes [] end payloads others (deprecated on) left = at_once L [] payloads others left
 Stood-columns_end c L passes (first ∷ tail) end payloads others (deprecated on) left =
-    Stood-same L (columns_end c (first ∷ tail) payloads) (Stands (first ∷ tail) payloads) (first ∷ tail) others (rw on refl) (at_once L (first ∷ tail) payloads others left)
+    Stood-same L (columns_end c (first ∷ tail) payloads) (Complete (first ∷ tail) payloads) (first ∷ tail) others (rw on refl) (at_once L (first ∷ tail) payloads others left)
 Stood-columns_end c L passes all end payloads others (manual.eof {first = first} {others = tail} {payload = payload} off is) left =
-    Stood-same L (columns_end c (first ∷ tail) payloads) (next_payload c eof payloads >>= λ x. Stands (first ∷ tail) x.1) (first ∷ tail) others (rw off refl)
-    (Stood-then L (next_payload c eof payloads) is.says (λ x. Stands (first ∷ tail) x.1) (first ∷ tail) others others
+    Stood-same L (columns_end c (first ∷ tail) payloads) (next_payload c eof payloads >>= λ x. Complete (first ∷ tail) x.1) (first ∷ tail) others (rw off refl)
+    (Stood-then L (next_payload c eof payloads) is.says (λ x. Complete (first ∷ tail) x.1) (first ∷ tail) others others
     (Stood-next c L passes eof payloads payload others is.says left (eof_read payload is)) (λ rest without. at_once L (first ∷ tail) rest others without))
 
 pub Stood-group : (c : Context) (L : List Payload → List Payload → Type 0) (passes : PassesOver c L) (n : ℕ) (front : List Payload) (all : List ColumnDefinition) (payloads others : List Payload) → IsColumnGroup c n front all → L payloads (front ++ others) → Stood L (column_group c n [] payloads) all others
@@ -102,14 +102,14 @@ Stood-group c L passes n front all payloads others (group first end are ends) le
     (λ rest without. Stood-columns_end c L passes all end rest others ends without)
 
 -- Rows to their end.
-Stood-rows : (c : Context) (L : List Payload → List Payload → Type 0) (passes : PassesOver c L) (columns : List ColumnDefinition) (these new : List Row) (front : List Payload) (last : Payload) (payloads others : List Payload) (s : List Row → Stretch) (l : Line) →
+Stood-rows : (c : Context) (L : List Payload → List Payload → Type 0) (passes : PassesOver c L) (columns : List ColumnDefinition) (these new : List Row) (front : List Payload) (last : Payload) (payloads others : List Payload) (s : List Row → ResultGroup) (l : Line) →
     AreRows c columns front new → L payloads (front ++ last ∷ others) → IsLine c columns last l →
-    ((all : List Row) (on : Row → Part Stretch) (rest : List Payload) → after_rows columns all on (Ok l) last rest ≡ Stands (s all) rest) →
+    ((all : List Row) (on : Row → Parsed ResultGroup) (rest : List Payload) → after_rows columns all on (Ok l) last rest ≡ Complete (s all) rest) →
     Stood L (rows c columns these payloads) (s (these ++ new)) others
 Stood-rows c L passes columns these [] [] last payloads others s l are left is ends =
     let from = rows_from c L passes columns these payloads last others l left is in
     subst (λ all. Stood L (rows c columns these payloads) (s all) others) (sym (append-nil these))
-    (Stood-same L (rows c columns these payloads) (Stands (s these) from.rest) (s these) others (from.is ∙ ends these _ from.rest) (at_once L (s these) from.rest others from.left))
+    (Stood-same L (rows c columns these payloads) (Complete (s these) from.rest) (s these) others (from.is ∙ ends these _ from.rest) (at_once L (s these) from.rest others from.left))
 Stood-rows c L passes columns these (cells ∷ new) [] last payloads others s l are left is ends = absurd are
 Stood-rows c L passes columns these [] (payload ∷ front) last payloads others s l are left is ends = absurd are
 Stood-rows c L passes columns these (cells ∷ new) (payload ∷ front) last payloads others s l are left is ends =
@@ -126,7 +126,7 @@ Stood-ended c L passes columns front payloads others listed b (failed before {ro
     Stood-rows c L passes columns [] new before end payloads others (λ all. record { results = RowsResult columns all None ∷ ErrorResult e ∷ []; more = false }) (ErrorLine e) are
     (subst (λ l. L payloads l) (append_assoc before (end ∷ []) others) left) is (λ all on rest. refl)
 
-Stood-opening : (c : Context) (L : List Payload → List Payload → Type 0) (passes : PassesOver c L) (payload : Payload) (o : Opening) (payloads between others : List Payload) (s : Stretch) → IsOpening c payload o → L payloads (payload ∷ between) → ((rest : List Payload) → L rest between → Stood L (after_opening c o rest) s others) → Stood L (one_result c payloads) s others
+Stood-opening : (c : Context) (L : List Payload → List Payload → Type 0) (passes : PassesOver c L) (payload : Payload) (o : Opening) (payloads between others : List Payload) (s : ResultGroup) → IsOpening c payload o → L payloads (payload ∷ between) → ((rest : List Payload) → L rest between → Stood L (after_opening c o rest) s others) → Stood L (one_result c payloads) s others
 unfolding one_result
 Stood-opening c L passes payload o payloads between others s is left each =
     Stood-then L (next_payload c (opening c) payloads) o _ s between others (Stood-next c L passes (opening c) payloads payload between o left (opening_read c payload o is)) each

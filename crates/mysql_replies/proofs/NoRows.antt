@@ -15,63 +15,62 @@ use Rattle.mysql_replies.specs.declared.context.Context.{Context}
 use Rattle.mysql_replies.specs.declared.fault.ReplyFault.{ReplyFault}
 use Rattle.mysql_replies.specs.declared.fault.ReplyFault.TheVariants as faults
 use Rattle.mysql_replies.specs.declared.state.ReplyState.{ReplyState}
-use Rattle.mysql_replies.specs.Grammar.{Payload, Outcome, Part, Stands, Begun, Unexpected, ◌>>=◌, Stretch, Line, RowLine, TerminatorLine, ErrorLine, Opening, OkOpening, ErrorOpening, FileOpening, CountOpening, StatementOpening, Ending, Results, last, more, begun, unexpected, PreparedResult, begins_with, terminator_limit, has_report_form, is_report, map_ok, or_fault, terminator, row, unless_report, as_part, next_payload, column, eof, columns, columns_end, column_group, line, after_rows, rows, result_set, prepared, prepared_columns, opening, after_opening, one_result, deprecate_eof}
-use Rattle.mysql_replies.specs.Lending.{rows_in, rows_listed}
-use Rattle.mysql_replies.specs.LentSteps.{IsNoRow}
+use Rattle.mysql_replies.specs.Grammar.{Payload, Outcome, Parsed, Complete, CutOff, Faulty, ◌>>=◌, ResultGroup, Line, RowLine, TerminatorLine, ErrorLine, Opening, OkOpening, ErrorOpening, FileOpening, CountOpening, StatementOpening, Ending, Results, last, more, cut_off, faulty, PreparedResult, begins_with, terminator_limit, has_report_form, is_report, map_ok, or_fault, terminator, row, unless_report, as_part, next_payload, column, eof, columns, columns_end, column_group, line, after_rows, rows, result_set, prepared, prepared_columns, opening, after_opening, one_result, deprecate_eof}
+use Rattle.mysql_replies.specs.Borrowing.{rows_in, rows_listed}
 use Rattle.mysql_replies.specs.OpenRows.{RowsSoFar}
-use Rattle.mysql_replies.specs.Reply.{Answer, Awaited, First, Columns, Rows, Parameters, PreparedColumns, Nothing, rest_of, Progressing, PayloadsDecide, Continues, end_of}
-use Rattle.mysql_replies.specs.Standings.{progressing_of, faulted, faulted_at, standing_of, IsShortOf, OnMemory, StateGoesOn, UnlessMemory}
-use Rattle.mysql_replies.specs.Steps.{IsGroupSettled, IsSettled, listed_of, reads_as_row}
+use Rattle.mysql_replies.specs.Reply.{Answer, Awaited, First, Columns, Rows, Parameters, PreparedColumns, Nothing, rest_of, OpenReply, PayloadsDecide, Continues, end_of}
+use Rattle.mysql_replies.specs.States.{open_reply, faulted, faulted_at, reply_so_far, IsShortOf, OnMemory, StateGoesOn, UnlessMemory}
+use Rattle.mysql_replies.specs.Steps.{IsGroupSettled, IsNoRow, IsSettled, listed_of, reads_as_row}
 use Rattle.mysql_replies.specs.Taking.{rows_awaited}
 use Rattle.mysql_replies.specs.Views.{awaited_view, outcome_views}
 use Rattle.mysql_replies.proofs.Finishing.{stops, ending_at}
-use Rattle.mysql_replies.proofs.Standing.{all_begun}
+use Rattle.mysql_replies.proofs.WhatCame.{all_begun}
 
 -- Of a part after which no payload is left these rows are listed.
-abbrev HasRows : Part Stretch → List Row → Type 0
-HasRows (Stands s rest) these = (flat_map rows_in s.results ≡ these) × (s.more ≡ true → rest ≡ [])
-HasRows (Begun results) these = flat_map rows_in results ≡ these
-HasRows (Unexpected results fault rest) these = flat_map rows_in results ≡ these
+abbrev HasRows : Parsed ResultGroup → List Row → Type 0
+HasRows (Complete s rest) these = (flat_map rows_in s.results ≡ these) × (s.more ≡ true → rest ≡ [])
+HasRows (CutOff results) these = flat_map rows_in results ≡ these
+HasRows (Faulty results fault rest) these = flat_map rows_in results ≡ these
 
-nothing_begun : (c : Context) → one_result c [] ≡ Begun []
+nothing_begun : (c : Context) → one_result c [] ≡ CutOff []
 unfolding one_result next_payload
 nothing_begun c = refl
 
-only_rows : (c : Context) (p : Part Stretch) (these : List Row) (results : List Outcome) (ending : Ending) → HasRows p these → Results c p results ending → flat_map rows_in results ≡ these
+only_rows : (c : Context) (p : Parsed ResultGroup) (these : List Row) (results : List Outcome) (ending : Ending) → HasRows p these → Results c p results ending → flat_map rows_in results ≡ these
 only_rows c p these results ending h (last found rest) = h.0
 only_rows c p these results ending h (more found rest {others = others} {ending = end} r) =
     let none : others ≡ [] = all_begun c [] (one_result c rest) others end (ap (one_result c) (h.1 refl) ∙ nothing_begun c) r in
     flat_map-append rows_in found others ∙ ap (λ (k : List Outcome). flat_map rows_in found ++ flat_map rows_in k) none ∙ append-nil (flat_map rows_in found) ∙ h.0
-only_rows c p these results ending h (begun found) = h
-only_rows c p these results ending h (unexpected found fault rest) = h
+only_rows c p these results ending h (cut_off found) = h
+only_rows c p these results ending h (faulty found fault rest) = h
 
 -- A part after which no payload is left, and of which nothing is listed yet.
-abbrev LeavesNone : {A : Type 0} → Part A → Type 0
-LeavesNone (Stands a rest) = rest ≡ []
-LeavesNone (Begun results) = results ≡ []
-LeavesNone (Unexpected results fault rest) = results ≡ []
+abbrev LeavesNone : {A : Type 0} → Parsed A → Type 0
+LeavesNone (Complete a rest) = rest ≡ []
+LeavesNone (CutOff results) = results ≡ []
+LeavesNone (Faulty results fault rest) = results ≡ []
 
-then_none : {A B : Type 0} (p : Part A) (f : A × List Payload → Part B) → LeavesNone p → ((a : A) → LeavesNone (f (a, []))) → LeavesNone (p >>= f)
-then_none (Stands a rest) f none each = subst (λ l. LeavesNone (f (a, l))) (sym none) (each a)
-then_none (Begun results) f none each = none
-then_none (Unexpected results fault rest) f none each = none
+then_none : {A B : Type 0} (p : Parsed A) (f : A × List Payload → Parsed B) → LeavesNone p → ((a : A) → LeavesNone (f (a, []))) → LeavesNone (p >>= f)
+then_none (Complete a rest) f none each = subst (λ l. LeavesNone (f (a, l))) (sym none) (each a)
+then_none (CutOff results) f none each = none
+then_none (Faulty results fault rest) f none each = none
 
-then_rows : {A : Type 0} (p : Part A) (f : A × List Payload → Part Stretch) → LeavesNone p → ((a : A) → HasRows (f (a, [])) []) → HasRows (p >>= f) []
-then_rows (Stands a rest) f none each = subst (λ l. HasRows (f (a, l)) []) (sym none) (each a)
-then_rows (Begun results) f none each = ap (flat_map rows_in) none
-then_rows (Unexpected results fault rest) f none each = ap (flat_map rows_in) none
+then_rows : {A : Type 0} (p : Parsed A) (f : A × List Payload → Parsed ResultGroup) → LeavesNone p → ((a : A) → HasRows (f (a, [])) []) → HasRows (p >>= f) []
+then_rows (Complete a rest) f none each = subst (λ l. HasRows (f (a, l)) []) (sym none) (each a)
+then_rows (CutOff results) f none each = ap (flat_map rows_in) none
+then_rows (Faulty results fault rest) f none each = ap (flat_map rows_in) none
 
 read_none : {A : Type 0} (r : Result A ReplyFault) (payload : Payload) → LeavesNone (as_part r payload [])
 read_none (Ok a) payload = refl
 read_none (Err fault) payload = refl
 
-if_none : {A : Type 0} (b : Bool) (p q : Part A) → LeavesNone p → LeavesNone q → LeavesNone (if b then p else q)
+if_none : {A : Type 0} (b : Bool) (p q : Parsed A) → LeavesNone p → LeavesNone q → LeavesNone (if b then p else q)
 if_none true p q x y = x
 if_none false p q x y = y
 
 next_none : {A : Type 0} (c : Context) (read : Payload → Result A ReplyFault) (payload : Payload) → LeavesNone (next_payload c read (payload ∷ []))
 unfolding next_payload
-next_none c read payload = if_none (is_report c payload) (Begun []) (as_part (unless_report c read payload) payload []) refl (read_none (unless_report c read payload) payload)
+next_none c read payload = if_none (is_report c payload) (CutOff []) (as_part (unless_report c read payload) payload []) refl (read_none (unless_report c read payload) payload)
 
 columns_none : (c : Context) (n : ℕ) (these : List ColumnDefinition) → LeavesNone (columns c n these [])
 unfolding columns next_payload
@@ -81,7 +80,7 @@ columns_none c (suc n) these = refl
 end_none : (c : Context) (these : List ColumnDefinition) → LeavesNone (columns_end c these [])
 unfolding columns_end next_payload
 end_none c [] = refl
-end_none c (first ∷ others) = if_none (deprecate_eof c.capabilities.0) (Stands (first ∷ others) []) (Begun []) refl refl
+end_none c (first ∷ others) = if_none (deprecate_eof c.capabilities.0) (Complete (first ∷ others) []) (CutOff []) refl refl
 
 group_none : (c : Context) (n : ℕ) (these : List ColumnDefinition) → LeavesNone (column_group c n these [])
 unfolding column_group
@@ -91,18 +90,18 @@ group_none c n these = then_none (columns c n these []) (λ x. columns_end c x.0
 group_one : (c : Context) (n : ℕ) (these : List ColumnDefinition) (payload : Payload) → IsGroupSettled c n these → LeavesNone (column_group c n these (payload ∷ []))
 unfolding column_group columns columns_end
 group_one c zero [] payload settled = absurd settled
-group_one c zero (first ∷ others) payload settled = rw settled (then_none (next_payload c eof (payload ∷ [])) (λ x. Stands (first ∷ others) x.1) (next_none c eof payload) (λ a. refl))
+group_one c zero (first ∷ others) payload settled = rw settled (then_none (next_payload c eof (payload ∷ [])) (λ x. Complete (first ∷ others) x.1) (next_none c eof payload) (λ a. refl))
 group_one c (suc n) these payload settled =
     then_none (next_payload c column (payload ∷ []) >>= λ x. columns c n (these ++ x.0 ∷ []) x.1) (λ x. columns_end c x.0 x.1)
     (then_none (next_payload c column (payload ∷ [])) (λ x. columns c n (these ++ x.0 ∷ []) x.1) (next_none c column payload) (λ a. columns_none c n (these ++ a ∷ [])))
     (λ all. end_none c all)
 
-set_rows : (c : Context) (p : Part (List ColumnDefinition)) → LeavesNone p → HasRows (p >>= λ x. rows c x.0 [] x.1) []
+set_rows : (c : Context) (p : Parsed (List ColumnDefinition)) → LeavesNone p → HasRows (p >>= λ x. rows c x.0 [] x.1) []
 unfolding rows
 set_rows c p none = then_rows p (λ x. rows c x.0 [] x.1) none (λ all. refl)
 
-statement_rows : (statement : PrepareOk) (parameters : List ColumnDefinition) (p : Part (List ColumnDefinition)) → LeavesNone p → HasRows (p >>= λ x. Stands (record { results = PreparedResult statement parameters x.0 ∷ []; more = false }) x.1) []
-statement_rows statement parameters p none = then_rows p (λ x. Stands (record { results = PreparedResult statement parameters x.0 ∷ []; more = false }) x.1) none (λ all. (refl, λ another. refl))
+statement_rows : (statement : PrepareOk) (parameters : List ColumnDefinition) (p : Parsed (List ColumnDefinition)) → LeavesNone p → HasRows (p >>= λ x. Complete (record { results = PreparedResult statement parameters x.0 ∷ []; more = false }) x.1) []
+statement_rows statement parameters p none = then_rows p (λ x. Complete (record { results = PreparedResult statement parameters x.0 ∷ []; more = false }) x.1) none (λ all. (refl, λ another. refl))
 
 prepared_columns_rows : (c : Context) (statement : PrepareOk) (parameters : List ColumnDefinition) (n : ℕ) (these : List ColumnDefinition) (payloads : List Payload) → LeavesNone (column_group c n these payloads) → HasRows (prepared_columns c statement parameters n these payloads) []
 unfolding prepared_columns
@@ -139,13 +138,13 @@ no_row_line false false true e (Ok x) r found none h = cc
 no_row_line false false true e (Err x) r found none h = cc
 no_row_line false false false e t r found none h = true≢false (sym none)
 
-line_rows : (c : Context) (columns : List ColumnDefinition) (these : List Row) (payload : Payload) (on : Row → Part Stretch) (r : Result Line ReplyFault) → ((found : Row) → r ≡ Ok (RowLine found) → ⊥) → HasRows (after_rows columns these on r payload []) these
+line_rows : (c : Context) (columns : List ColumnDefinition) (these : List Row) (payload : Payload) (on : Row → Parsed ResultGroup) (r : Result Line ReplyFault) → ((found : Row) → r ≡ Ok (RowLine found) → ⊥) → HasRows (after_rows columns these on r payload []) these
 line_rows c columns these payload on (Ok (RowLine found)) none = absurd (none found refl)
 line_rows c columns these payload on (Ok (TerminatorLine ok)) none = (append-nil these, λ another. refl)
 line_rows c columns these payload on (Ok (ErrorLine error)) none = (append-nil these, λ another. refl)
 line_rows c columns these payload on (Err fault) none = append-nil these
 
-if_rows : (b : Bool) (p q : Part Stretch) (these : List Row) → HasRows p these → HasRows q these → HasRows (if b then p else q) these
+if_rows : (b : Bool) (p q : Parsed ResultGroup) (these : List Row) → HasRows p these → HasRows q these → HasRows (if b then p else q) these
 if_rows true p q these x y = x
 if_rows false p q these x y = y
 
@@ -183,17 +182,17 @@ listed_rows results a = flat_map-append rows_in results (listed_of a) ∙ ap (λ
 abbrev pub rows_of_state : ReplyState → List Row
 rows_of_state s = flat_map rows_in (outcome_views s.results.items) ++ rows_awaited (awaited_view s.awaited)
 
-pub state_rows : (s : ReplyState) → rows_listed (standing_of s) ≡ rows_of_state s
+pub state_rows : (s : ReplyState) → rows_listed (reply_so_far s) ≡ rows_of_state s
 state_rows s = state_rows_by s.fault
   where
-    state_rows_by : (f : Option ReplyFault) → rows_listed (faulted (progressing_of s) f) ≡ rows_of_state s
+    state_rows_by : (f : Option ReplyFault) → rows_listed (faulted (open_reply s) f) ≡ rows_of_state s
     state_rows_by None = refl
     state_rows_by (Some fault) = listed_rows (outcome_views s.results.items) (awaited_view s.awaited)
 
 -- What a state decides over no more payloads has its rows.
 record Decided (s : ReplyState) : Type 0 where
   answer : Answer
-  decides : PayloadsDecide (standing_of s) [] stream.Open answer
+  decides : PayloadsDecide (reply_so_far s) [] stream.Open answer
   these : flat_map rows_in answer.results ≡ rows_of_state s
 
 decided : (s : ReplyState) → IsSettled s.context (awaited_view s.awaited) → Decided s
@@ -201,51 +200,51 @@ decided s settled = decided_by s.fault refl
   where
     decided_by : (f : Option ReplyFault) → s.fault ≡ f → Decided s
     decided_by None going =
-        let answer : Answer = record (faulted_at (progressing_of s) faults.Memory) { end = end_of s.count stream.Open (ending_at (awaited_view s.awaited)) } in
+        let answer : Answer = record (faulted_at (open_reply s) faults.Memory) { end = end_of s.count stream.Open (ending_at (awaited_view s.awaited)) } in
         record {
           answer = answer;
-          decides = subst (λ g. PayloadsDecide (faulted (progressing_of s) g) [] stream.Open answer) (sym going) (stops s stream.Open answer settled refl refl refl);
+          decides = subst (λ g. PayloadsDecide (faulted (open_reply s) g) [] stream.Open answer) (sym going) (stops s stream.Open answer settled refl refl refl);
           these = listed_rows (outcome_views s.results.items) (awaited_view s.awaited);
         }
     decided_by (Some fault) wrong =
-        let answer : Answer = faulted_at (progressing_of s) fault in
+        let answer : Answer = faulted_at (open_reply s) fault in
         record {
           answer = answer;
-          decides = subst (λ g. PayloadsDecide (faulted (progressing_of s) g) [] stream.Open answer) (sym wrong) refl;
+          decides = subst (λ g. PayloadsDecide (faulted (open_reply s) g) [] stream.Open answer) (sym wrong) refl;
           these = listed_rows (outcome_views s.results.items) (awaited_view s.awaited);
         }
 
 -- What is decided over one payload that is no row has the rows that were listed before it.
-rows_decided : (s : Progressing) (payload : Payload) (answer : Answer) → IsSettled s.context s.awaited → IsNoRow s.context s.awaited payload → Continues s (payload ∷ []) stream.Open answer → flat_map rows_in answer.results ≡ flat_map rows_in s.results ++ rows_awaited s.awaited
+rows_decided : (s : OpenReply) (payload : Payload) (answer : Answer) → IsSettled s.context s.awaited → IsNoRow s.context s.awaited payload → Continues s (payload ∷ []) stream.Open answer → flat_map rows_in answer.results ≡ flat_map rows_in s.results ++ rows_awaited s.awaited
 rows_decided s payload answer settled none k =
     ap (flat_map rows_in) k.results ∙ flat_map-append rows_in s.results k.others
     ∙ ap (λ (these : List Row). flat_map rows_in s.results ++ these) (only_rows s.context (rest_of s.context s.awaited (payload ∷ [])) (rows_awaited s.awaited) k.others k.ending (no_row s.context s.awaited payload settled none) k.reading)
 
-keeps_none : (before after : ReplyState) (payload : Payload) → before.fault ≡ None → IsSettled before.context (awaited_view before.awaited) → IsNoRow before.context (awaited_view before.awaited) payload → IsSettled after.context (awaited_view after.awaited) → StateGoesOn before payload after → rows_listed (standing_of after) ≡ rows_listed (standing_of before)
+keeps_none : (before after : ReplyState) (payload : Payload) → before.fault ≡ None → IsSettled before.context (awaited_view before.awaited) → IsNoRow before.context (awaited_view before.awaited) payload → IsSettled after.context (awaited_view after.awaited) → StateGoesOn before payload after → rows_listed (reply_so_far after) ≡ rows_listed (reply_so_far before)
 keeps_none before after payload going settled none still goes =
     let d = decided after still in
-    let k : Continues (progressing_of before) (payload ∷ []) stream.Open d.answer =
-    subst (λ f. PayloadsDecide (faulted (progressing_of before) f) (payload ∷ []) stream.Open d.answer) going (goes [] stream.Open d.answer d.decides) in
-    state_rows after ∙ sym d.these ∙ rows_decided (progressing_of before) payload d.answer settled none k ∙ sym (state_rows before)
+    let k : Continues (open_reply before) (payload ∷ []) stream.Open d.answer =
+    subst (λ f. PayloadsDecide (faulted (open_reply before) f) (payload ∷ []) stream.Open d.answer) going (goes [] stream.Open d.answer d.decides) in
+    state_rows after ∙ sym d.these ∙ rows_decided (open_reply before) payload d.answer settled none k ∙ sym (state_rows before)
 
-short_rows : (before after : ReplyState) → IsShortOf before after → rows_listed (standing_of after) ≡ rows_listed (standing_of before)
+short_rows : (before after : ReplyState) → IsShortOf before after → rows_listed (reply_so_far after) ≡ rows_listed (reply_so_far before)
 short_rows before after short = ap rows_listed short ∙ listed_rows (outcome_views before.results.items) (awaited_view before.awaited) ∙ sym (state_rows before)
 
 -- A payload that is no row lists none, whatever it led to.
-pub passed_rows : (before after : ReplyState) (payload : Payload) (r : Result (Unit {0}) ReplyFault) → before.fault ≡ None → IsSettled before.context (awaited_view before.awaited) → IsNoRow before.context (awaited_view before.awaited) payload → IsSettled after.context (awaited_view after.awaited) → UnlessMemory r (StateGoesOn before payload after) → OnMemory r (IsShortOf before after) → rows_listed (standing_of after) ≡ rows_listed (standing_of before)
+pub passed_rows : (before after : ReplyState) (payload : Payload) (r : Result (Unit {0}) ReplyFault) → before.fault ≡ None → IsSettled before.context (awaited_view before.awaited) → IsNoRow before.context (awaited_view before.awaited) payload → IsSettled after.context (awaited_view after.awaited) → UnlessMemory r (StateGoesOn before payload after) → OnMemory r (IsShortOf before after) → rows_listed (reply_so_far after) ≡ rows_listed (reply_so_far before)
 passed_rows before after payload (Err faults.Memory) going settled none still goes short = short_rows before after short
 passed_rows before after payload (Ok x) going settled none still goes short = keeps_none before after payload going settled none still goes
 passed_rows before after payload (Err fault) going settled none still goes short = keeps_none before after payload going settled none still goes
 
 -- As many rows are listed where the same results are, and as many rows are awaited.
-same_rows : (before after : ReplyState) → after.results ≡ before.results → rows_awaited (awaited_view after.awaited) ≡ rows_awaited (awaited_view before.awaited) → rows_listed (standing_of after) ≡ rows_listed (standing_of before)
+same_rows : (before after : ReplyState) → after.results ≡ before.results → rows_awaited (awaited_view after.awaited) ≡ rows_awaited (awaited_view before.awaited) → rows_listed (reply_so_far after) ≡ rows_listed (reply_so_far before)
 same_rows before after results awaited = state_rows after ∙ (λ i. flat_map rows_in (outcome_views (results i).items) ++ awaited i) ∙ sym (state_rows before)
 
-pub fault_rows : (before after : ReplyState) (fault : ReplyFault) → after ≡ record before { fault = Some fault } → rows_listed (standing_of after) ≡ rows_listed (standing_of before)
+pub fault_rows : (before after : ReplyState) (fault : ReplyFault) → after ≡ record before { fault = Some fault } → rows_listed (reply_so_far after) ≡ rows_listed (reply_so_far before)
 fault_rows before after fault is = same_rows before after (ap (λ (s : ReplyState). s.results) is) (ap (λ (s : ReplyState). rows_awaited (awaited_view s.awaited)) is)
 
-pub lent_rows : (before after : ReplyState) (these now : RowsSoFar) → before.awaited ≡ awaiting.Rows these → now ≡ record these { lender = now.lender } → after.results ≡ before.results → after.awaited ≡ awaiting.Rows now → rows_listed (standing_of after) ≡ rows_listed (standing_of before)
-lent_rows before after these now is same results after_is =
+pub borrowed_rows : (before after : ReplyState) (these now : RowsSoFar) → before.awaited ≡ awaiting.Rows these → now ≡ record these { reader = now.reader } → after.results ≡ before.results → after.awaited ≡ awaiting.Rows now → rows_listed (reply_so_far after) ≡ rows_listed (reply_so_far before)
+borrowed_rows before after these now is same results after_is =
     same_rows before after results
     (ap (λ a. rows_awaited (awaited_view a)) after_is ∙ ap (λ (x : RowsSoFar). x.rows) same ∙ sym (ap (λ a. rows_awaited (awaited_view a)) is))
 

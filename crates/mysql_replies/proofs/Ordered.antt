@@ -8,22 +8,22 @@ use Rattle.mysql_replies.specs.Grammar.{deprecate_eof}
 use Rattle.mysql_replies.specs.declared.fault.ReplyFault.{ReplyFault}
 use Rattle.mysql_replies.specs.declared.context.Context.{Context}
 use Rattle.mysql_wire.specs.Stream.{Rest}
-use Rattle.mysql_replies.specs.Grammar.{Payload, Outcome, Part, Stands, Begun, Unexpected, ◌>>=◌, Stretch, Line, RowLine, TerminatorLine, ErrorLine, Opening, OkOpening, ErrorOpening, FileOpening, CountOpening, StatementOpening, is_report, unless_report, as_part, next_payload, column, eof, columns, columns_end, column_group, line, after_rows, rows, result_set, prepared, prepared_columns, opening, after_opening, one_result, Ending, Results, last, more, begun, unexpected}
+use Rattle.mysql_replies.specs.Grammar.{Payload, Outcome, Parsed, Complete, CutOff, Faulty, ◌>>=◌, ResultGroup, Line, RowLine, TerminatorLine, ErrorLine, Opening, OkOpening, ErrorOpening, FileOpening, CountOpening, StatementOpening, is_report, unless_report, as_part, next_payload, column, eof, columns, columns_end, column_group, line, after_rows, rows, result_set, prepared, prepared_columns, opening, after_opening, one_result, Ending, Results, last, more, cut_off, faulty}
 use Rattle.mysql_replies.specs.Reply.{Answer, IsReply}
 use Rattle.mysql_replies.specs.Taking.{joined}
 
 -- Of the part nothing is listed before it stands.
-abbrev ListsNone : {A : Type 0} → Part A → Type 0
-ListsNone (Stands a rest) = Unit {0}
-ListsNone (Begun listed) = listed ≡ []
-ListsNone (Unexpected listed fault rest) = listed ≡ []
+abbrev ListsNone : {A : Type 0} → Parsed A → Type 0
+ListsNone (Complete a rest) = Unit {0}
+ListsNone (CutOff listed) = listed ≡ []
+ListsNone (Faulty listed fault rest) = listed ≡ []
 
-ListsNone-bind : {A B : Type 0} (p : Part A) (f : A × List Payload → Part B) → ListsNone p → ((a : A) (rest : List Payload) → ListsNone (f (a, rest))) → ListsNone (p >>= f)
-ListsNone-bind (Stands a rest) f none each = each a rest
-ListsNone-bind (Begun listed) f none each = none
-ListsNone-bind (Unexpected listed fault rest) f none each = none
+ListsNone-bind : {A B : Type 0} (p : Parsed A) (f : A × List Payload → Parsed B) → ListsNone p → ((a : A) (rest : List Payload) → ListsNone (f (a, rest))) → ListsNone (p >>= f)
+ListsNone-bind (Complete a rest) f none each = each a rest
+ListsNone-bind (CutOff listed) f none each = none
+ListsNone-bind (Faulty listed fault rest) f none each = none
 
-ListsNone-if : {A : Type 0} (b : Bool) (p q : Part A) → ListsNone p → ListsNone q → ListsNone (if b then p else q)
+ListsNone-if : {A : Type 0} (b : Bool) (p q : Parsed A) → ListsNone p → ListsNone q → ListsNone (if b then p else q)
 ListsNone-if true p q x y = x
 ListsNone-if false p q x y = y
 
@@ -54,21 +54,21 @@ unfolding column_group
 ListsNone-column_group c n these payloads = ListsNone-bind (columns c n these payloads) _ (ListsNone-columns c n these payloads) (λ a rest. ListsNone-columns_end c a rest)
 
 -- In what the part lists nothing is to be joined, whatever follows it where it stands.
-abbrev IsJoined : Part Stretch → Type 0
-IsJoined (Stands s rest) = (later : List Outcome) → joined (s.results ++ later) ≡ s.results ++ joined later
-IsJoined (Begun listed) = joined listed ≡ listed
-IsJoined (Unexpected listed fault rest) = joined listed ≡ listed
+abbrev IsJoined : Parsed ResultGroup → Type 0
+IsJoined (Complete s rest) = (later : List Outcome) → joined (s.results ++ later) ≡ s.results ++ joined later
+IsJoined (CutOff listed) = joined listed ≡ listed
+IsJoined (Faulty listed fault rest) = joined listed ≡ listed
 
-IsJoined-bind : {A : Type 0} (p : Part A) (f : A × List Payload → Part Stretch) → ListsNone p → ((a : A) (rest : List Payload) → IsJoined (f (a, rest))) → IsJoined (p >>= f)
-IsJoined-bind (Stands a rest) f none each = each a rest
-IsJoined-bind (Begun listed) f none each = ap joined none ∙ sym none
-IsJoined-bind (Unexpected listed fault rest) f none each = ap joined none ∙ sym none
+IsJoined-bind : {A : Type 0} (p : Parsed A) (f : A × List Payload → Parsed ResultGroup) → ListsNone p → ((a : A) (rest : List Payload) → IsJoined (f (a, rest))) → IsJoined (p >>= f)
+IsJoined-bind (Complete a rest) f none each = each a rest
+IsJoined-bind (CutOff listed) f none each = ap joined none ∙ sym none
+IsJoined-bind (Faulty listed fault rest) f none each = ap joined none ∙ sym none
 
-IsJoined-if : (b : Bool) (p q : Part Stretch) → IsJoined p → IsJoined q → IsJoined (if b then p else q)
+IsJoined-if : (b : Bool) (p q : Parsed ResultGroup) → IsJoined p → IsJoined q → IsJoined (if b then p else q)
 IsJoined-if true p q x y = x
 IsJoined-if false p q x y = y
 
-IsJoined-line : (columns : List ColumnDefinition) (these : List Row) (on : Row → Part Stretch) (r : Result Line ReplyFault) (payload : Payload) (rest : List Payload) → ((found : Row) → IsJoined (on found)) → IsJoined (after_rows columns these on r payload rest)
+IsJoined-line : (columns : List ColumnDefinition) (these : List Row) (on : Row → Parsed ResultGroup) (r : Result Line ReplyFault) (payload : Payload) (rest : List Payload) → ((found : Row) → IsJoined (on found)) → IsJoined (after_rows columns these on r payload rest)
 IsJoined-line columns these on (Ok (RowLine found)) payload rest each = each found
 IsJoined-line columns these on (Ok (TerminatorLine ok)) payload rest each = λ later. refl
 IsJoined-line columns these on (Ok (ErrorLine error)) payload rest each = λ later. refl
@@ -106,10 +106,10 @@ unfolding one_result
 IsJoined-one_result c payloads =
     IsJoined-bind (next_payload c (opening c) payloads) _ (ListsNone-next_payload c (opening c) payloads) (λ a rest. IsJoined-after_opening c a rest)
 
-results_joined : (c : Context) (p : Part Stretch) (results : List Outcome) (ending : Ending) → IsJoined p → Results c p results ending → joined results ≡ results
+results_joined : (c : Context) (p : Parsed ResultGroup) (results : List Outcome) (ending : Ending) → IsJoined p → Results c p results ending → joined results ≡ results
 results_joined c p results ending h (last these rest) = subst (λ (k : List Outcome). joined k ≡ k) (append-nil these) (h [])
-results_joined c p results ending h (begun listed) = h
-results_joined c p results ending h (unexpected listed fault rest) = h
+results_joined c p results ending h (cut_off listed) = h
+results_joined c p results ending h (faulty listed fault rest) = h
 results_joined c p results ending h (more these rest {others = o} {ending = e} r) =
     h o ∙ ap (λ (later : List Outcome). these ++ later) (results_joined c (one_result c rest) o e (IsJoined-one_result c rest) r)
 

@@ -23,13 +23,13 @@ use Rattle.mysql_replies.specs.declared.fault.ReplyFault.{ReplyFault}
 use Rattle.mysql_replies.specs.declared.fault.ReplyFault.TheVariants as faults
 use Rattle.mysql_replies.specs.declared.state.ReplyState.{ReplyState}
 use Rattle.mysql_replies.specs.Grammar.{Payload, Ended, Results, last}
-use Rattle.mysql_replies.specs.Reply.{Answer, FaultAt, Unfinished, reports, before_end, end_of, rest_of, Standing, GoingOn, Answered, Progressing, Continues}
+use Rattle.mysql_replies.specs.Reply.{Answer, FaultAt, Unfinished, reports, before_end, end_of, rest_of, ReplySoFar, GoingOn, Answered, OpenReply, Continues}
 use Rattle.mysql_replies.specs.Reply as reply
 use Rattle.mysql_replies.specs.Bytes.{numbers_left, numbered, after_numbered, NumberedPayloadsDecide}
 use Rattle.mysql_replies.specs.Holding.{ReaderState, BytesDecide, ReaderDecidesFrom, ReaderDecides, ReaderGoesOn, TakesAll, RunsShort, StandsShort, count_of, fault_of}
 use Rattle.mysql_replies.specs.Views.{awaited_view, outcome_views}
 use Rattle.mysql_replies.specs.Steps.{IsSettled, IsAwaiting, listed_of}
-use Rattle.mysql_replies.specs.Standings.{progressing_of, faulted_at, faulted, standing_of, NumberedStateGoesOn, reader_state, reader_state_of, answer_of, end_at, end_of_state, IsReading, IsPaused, IsReceiving, NothingBegun, FramingLaws, UnlessMemory, OnMemory, IsShortOf, fault_named}
+use Rattle.mysql_replies.specs.States.{open_reply, faulted_at, faulted, reply_so_far, NumberedStateGoesOn, reader_state, reader_state_of, answer_of, end_at, end_of_state, IsReading, IsPaused, IsReceiving, NothingBegun, FramingLaws, UnlessMemory, OnMemory, IsShortOf, fault_named}
 use Rattle.mysql_replies.proofs.Finishing.{stops, ending_at}
 use Rattle.mysql_replies.proofs.Numbers.{decides_none, end_large}
 use Rattle.mysql_replies.proofs.GoingOn.{end_ended}
@@ -53,26 +53,26 @@ on_from (p ∷ ps) number = on_from ps _
 
 -- Of these bytes these payloads were read, and what stands decides over what is still to come what was decided from
 -- the start over these payloads and that.
-pub record Received (from : Standing) (limit number : ℕ) (bytes : List ℕ) (payloads : List Payload) (s : ReplyState) (codec : Codec) (src dst : List ℕ) : Type 0 where
+pub record Received (from : ReplySoFar) (limit number : ℕ) (bytes : List ℕ) (payloads : List Payload) (s : ReplyState) (codec : Codec) (src dst : List ℕ) : Type 0 where
   pub read : HasRead limit (OnFrom number) bytes payloads codec src dst
-  pub goes_on : (z : List Payload) (rest : Rest) (answer : Answer) → NumberedPayloadsDecide (standing_of s) z rest answer → NumberedPayloadsDecide from (payloads ++ z) rest answer
+  pub goes_on : (z : List Payload) (rest : Rest) (answer : Answer) → NumberedPayloadsDecide (reply_so_far s) z rest answer → NumberedPayloadsDecide from (payloads ++ z) rest answer
 
 -- Nothing was read yet.
-pub received_none : (s : ReplyState) (codec : Codec) (src dst : List ℕ) → codec.refused ≡ None → CanGoOn codec dst → Received (standing_of s) codec.limit (packet_number codec dst) (held codec src dst) [] s codec src dst
+pub received_none : (s : ReplyState) (codec : Codec) (src dst : List ℕ) → codec.refused ≡ None → CanGoOn codec dst → Received (reply_so_far s) codec.limit (packet_number codec dst) (held codec src dst) [] s codec src dst
 received_none s codec src dst refused can_go_on = record {
   read = record { joined = refl; within = tt; number = refl; limit_same = refl; refused = refused; goes_on = can_go_on };
   goes_on = λ z rest answer h. h;
 }
 
 -- One more payload was read.
-pub received_next : FramingLaws → (from : Standing) (limit number : ℕ) (bytes : List ℕ) (payloads : List Payload) (s next : ReplyState) (codec new : Codec) (src dst src' dst' payload : List ℕ) → Received from limit number bytes payloads s codec src dst → HandsOut codec src dst new src' payload → dst' ≡ [] → NumberedStateGoesOn s payload next → Received from limit number bytes (payloads ++ payload ∷ []) next new src' dst'
+pub received_next : FramingLaws → (from : ReplySoFar) (limit number : ℕ) (bytes : List ℕ) (payloads : List Payload) (s next : ReplyState) (codec new : Codec) (src dst src' dst' payload : List ℕ) → Received from limit number bytes payloads s codec src dst → HandsOut codec src dst new src' payload → dst' ≡ [] → NumberedStateGoesOn s payload next → Received from limit number bytes (payloads ++ payload ∷ []) next new src' dst'
 received_next laws from limit number bytes payloads s next codec new src dst src' dst' payload r h empty goes = record {
   read = subst (λ d. HasRead limit (OnFrom number) bytes (payloads ++ payload ∷ []) new src' d) (sym empty) ((laws.takes limit bytes payloads codec new src dst src' payload h).0 number r.read);
   goes_on = λ z rest answer k. subst (λ ps. NumberedPayloadsDecide from ps rest answer) (sym (append_assoc payloads (payload ∷ []) z)) (r.goes_on (payload ∷ z) rest answer (goes z rest answer k));
 }
 
 -- What is held and other bytes decide, where these split.
-pub decides_more : FramingLaws → (from : Standing) (limit number : ℕ) (bytes : List ℕ) (payloads : List Payload) (s : ReplyState) (codec : Codec) (src dst : List ℕ) → Received from limit number bytes payloads s codec src dst → (more : List ℕ) (split : Split) → IsSplit codec.limit (OnFrom (packet_number codec dst)) (held codec src dst ++ more) split → (answer : Answer) → NumberedPayloadsDecide (standing_of s) split.payloads split.rest answer → BytesDecide from limit number (bytes ++ more) answer
+pub decides_more : FramingLaws → (from : ReplySoFar) (limit number : ℕ) (bytes : List ℕ) (payloads : List Payload) (s : ReplyState) (codec : Codec) (src dst : List ℕ) → Received from limit number bytes payloads s codec src dst → (more : List ℕ) (split : Split) → IsSplit codec.limit (OnFrom (packet_number codec dst)) (held codec src dst ++ more) split → (answer : Answer) → NumberedPayloadsDecide (reply_so_far s) split.payloads split.rest answer → BytesDecide from limit number (bytes ++ more) answer
 decides_more laws from limit number bytes payloads s codec src dst r more split here answer d =
     let limited : IsSplit limit (OnFrom (packet_number codec dst)) (held codec src dst ++ more) split = subst (λ k. IsSplit k (OnFrom (packet_number codec dst)) (held codec src dst ++ more) split) r.read.limit_same here in
     let there : IsSplit limit (after_all payloads (OnFrom number)) (held codec src dst ++ more) split = subst (λ k. IsSplit limit k (held codec src dst ++ more) split) (ap OnFrom r.read.number ∙ sym (on_from payloads number)) limited in
@@ -84,17 +84,17 @@ decides_more laws from limit number bytes payloads s codec src dst r more split 
     }
 
 -- Where no fault was met, what is held decides by splitting.
-pub going_decides : (s : ReplyState) (codec : Codec) (src dst more : List ℕ) (answer : Answer) → s.fault ≡ None → ReaderDecides (reader_state_of s codec src dst) more answer → BytesDecide (standing_of s) codec.limit (packet_number codec dst) (held codec src dst ++ more) answer
+pub going_decides : (s : ReplyState) (codec : Codec) (src dst more : List ℕ) (answer : Answer) → s.fault ≡ None → ReaderDecides (reader_state_of s codec src dst) more answer → BytesDecide (reply_so_far s) codec.limit (packet_number codec dst) (held codec src dst ++ more) answer
 going_decides s codec src dst more answer going =
-    subst (λ f. ReaderDecidesFrom (faulted (progressing_of s) f) (reader_state_of s codec src dst) more answer → BytesDecide (faulted (progressing_of s) f) codec.limit (packet_number codec dst) (held codec src dst ++ more) answer) (sym going) (λ h. h)
+    subst (λ f. ReaderDecidesFrom (faulted (open_reply s) f) (reader_state_of s codec src dst) more answer → BytesDecide (faulted (open_reply s) f) codec.limit (packet_number codec dst) (held codec src dst ++ more) answer) (sym going) (λ h. h)
 
-pub decides_going : (s : ReplyState) (codec : Codec) (src dst more : List ℕ) (answer : Answer) → s.fault ≡ None → BytesDecide (standing_of s) codec.limit (packet_number codec dst) (held codec src dst ++ more) answer → ReaderDecides (reader_state_of s codec src dst) more answer
+pub decides_going : (s : ReplyState) (codec : Codec) (src dst more : List ℕ) (answer : Answer) → s.fault ≡ None → BytesDecide (reply_so_far s) codec.limit (packet_number codec dst) (held codec src dst ++ more) answer → ReaderDecides (reader_state_of s codec src dst) more answer
 decides_going s codec src dst more answer going =
-    subst (λ f. BytesDecide (faulted (progressing_of s) f) codec.limit (packet_number codec dst) (held codec src dst ++ more) answer → ReaderDecidesFrom (faulted (progressing_of s) f) (reader_state_of s codec src dst) more answer) (sym going) (λ h. h)
+    subst (λ f. BytesDecide (faulted (open_reply s) f) codec.limit (packet_number codec dst) (held codec src dst ++ more) answer → ReaderDecidesFrom (faulted (open_reply s) f) (reader_state_of s codec src dst) more answer) (sym going) (λ h. h)
 
 -- What was decided from the state at the start, where that had met no fault.
 abbrev pub Since : ReplyState → Codec → List ℕ → List ℕ → List Payload → ReplyState → Codec → List ℕ → List ℕ → Type 0
-Since start first from_src from_dst payloads s codec src dst = Received (standing_of start) first.limit (packet_number first from_dst) (held first from_src from_dst) payloads s codec src dst
+Since start first from_src from_dst payloads s codec src dst = Received (reply_so_far start) first.limit (packet_number first from_dst) (held first from_src from_dst) payloads s codec src dst
 
 -- The codec waits: all payloads were taken.
 pub takes_all : (start s : ReplyState) (first codec : Codec) (from_src from_dst src dst : List ℕ) (payloads : List Payload) (rest : Rest) → Since start first from_src from_dst payloads s codec src dst → start.fault ≡ None → s.fault ≡ None → s.count ≡ start.count + length payloads → ¬ IsFault rest → IsRest codec.limit (packet_number codec dst) (held codec src dst) rest → TakesAll (reader_state_of start first from_src from_dst) (held first from_src from_dst) (reader_state_of s codec src dst)
@@ -109,7 +109,7 @@ takes_all start s first codec from_src from_dst src dst payloads rest r began go
   left = refl;
   number = r.read.number;
   limit = r.read.limit_same;
-  count = ap (λ f. count_of (faulted (progressing_of s) f)) going ∙ count ∙ ap (λ f. count_of (faulted (progressing_of start) f) + length payloads) (sym began);
+  count = ap (λ f. count_of (faulted (open_reply s) f)) going ∙ count ∙ ap (λ f. count_of (faulted (open_reply start) f) + length payloads) (sym began);
   goes_on = r.goes_on;
 }
 
@@ -117,7 +117,7 @@ pub goes_on_taken : FramingLaws → (start s : ReplyState) (first codec : Codec)
 goes_on_taken laws start s first codec from_src from_dst src dst payloads r began going more answer are h =
     let d = going_decides s codec src dst more answer going h in
     decides_going start first from_src from_dst more answer began
-    (decides_more laws (standing_of start) first.limit (packet_number first from_dst) (held first from_src from_dst) payloads s codec src dst r more d.split d.splits answer d.decides)
+    (decides_more laws (reply_so_far start) first.limit (packet_number first from_dst) (held first from_src from_dst) payloads s codec src dst r more d.split d.splits answer d.decides)
 
 pub held_nothing : FramingLaws → (codec : Codec) (src dst : List ℕ) → IsBetween codec → codec.number < 256 → dst ≡ [] → held codec src dst ≡ src
 held_nothing laws codec src dst between byte empty = ap (held codec src) empty ∙ (laws.between codec src between byte).0
@@ -131,11 +131,11 @@ some_split laws codec src dst more are others =
 -- A payload had no place: its fault is decided, whatever follows.
 pub goes_on_faulted : FramingLaws → (start s : ReplyState) (first codec : Codec) (from_src from_dst src dst : List ℕ) (payloads : List Payload) (fault : ReplyFault) → Since start first from_src from_dst payloads s codec src dst → start.fault ≡ None → s.fault ≡ Some fault → AreBytes (held codec src dst) → ReaderGoesOn (reader_state_of start first from_src from_dst) [] (reader_state_of s codec src dst)
 goes_on_faulted laws start s first codec from_src from_dst src dst payloads fault r began wrong are more answer others h =
-    let known : answer ≡ faulted_at (progressing_of s) fault = subst (λ f. ReaderDecidesFrom (faulted (progressing_of s) f) (reader_state_of s codec src dst) more answer) wrong h in
+    let known : answer ≡ faulted_at (open_reply s) fault = subst (λ f. ReaderDecidesFrom (faulted (open_reply s) f) (reader_state_of s codec src dst) more answer) wrong h in
     let split = some_split laws codec src dst more are others in
-    let decides : NumberedPayloadsDecide (standing_of s) split.0.payloads split.0.rest answer = subst (λ f. NumberedPayloadsDecide (faulted (progressing_of s) f) split.0.payloads split.0.rest answer) (sym wrong) known in
+    let decides : NumberedPayloadsDecide (reply_so_far s) split.0.payloads split.0.rest answer = subst (λ f. NumberedPayloadsDecide (faulted (open_reply s) f) split.0.payloads split.0.rest answer) (sym wrong) known in
     decides_going start first from_src from_dst more answer began
-    (decides_more laws (standing_of start) first.limit (packet_number first from_dst) (held first from_src from_dst) payloads s codec src dst r more split.0 split.1 answer decides)
+    (decides_more laws (reply_so_far start) first.limit (packet_number first from_dst) (held first from_src from_dst) payloads s codec src dst r more split.0 split.1 answer decides)
 
 -- Bytes that split into no payload and an empty rest are none.
 no_bytes : (limit number : ℕ) (bytes : List ℕ) (split : Split) → IsSplit limit (OnFrom number) bytes split → split.payloads ≡ [] → split.rest ≡ Empty → bytes ≡ []
@@ -163,39 +163,39 @@ end_after count (p ∷ z) rest some = sym (end_ended count rest p z)
 end_after count [] Empty some = absurd (some refl refl)
 end_after count [] rest some = let e : count ≡ count + 0 = omega arith in ap (λ n. FaultAt n faults.AfterEnd) e
 
-no_reports : (s : Progressing) (z : List Payload) → s.progress ≡ s.progress ++ reports s.context (before_end z (Ended z))
+no_reports : (s : OpenReply) (z : List Payload) → s.progress ≡ s.progress ++ reports s.context (before_end z (Ended z))
 no_reports s z =
     let e : length z - length z ≡ 0 = omega arith in
     sym (append-nil s.progress) ∙ ap (λ n. s.progress ++ reports s.context (take n z)) (sym e)
 
-after_end : (s : ReplyState) (z : List Payload) (rest : Rest) (answer : Answer) → awaited_view s.awaited ≡ reply.Nothing → (z ≡ [] → rest ≡ Empty → ⊥) → answer ≡ faulted_at (progressing_of s) faults.AfterEnd → Continues (progressing_of s) z rest answer
+after_end : (s : ReplyState) (z : List Payload) (rest : Rest) (answer : Answer) → awaited_view s.awaited ≡ reply.Nothing → (z ≡ [] → rest ≡ Empty → ⊥) → answer ≡ faulted_at (open_reply s) faults.AfterEnd → Continues (open_reply s) z rest answer
 after_end s z rest answer over some h = record {
   others = [];
   ending = Ended z;
   reading = subst (λ a. Results s.context (rest_of s.context a z) [] (Ended z)) (sym over) (last [] z);
   results = ap (λ a. a.results) h ∙ ap (λ a. outcome_views s.results.items ++ listed_of a) over;
-  progress = ap (λ a. a.progress) h ∙ no_reports (progressing_of s) z;
+  progress = ap (λ a. a.progress) h ∙ no_reports (open_reply s) z;
   end = ap (λ a. a.end) h ∙ end_after s.count z rest some;
 }
 
 -- Bytes after the end: that fault is decided, whatever follows.
 pub goes_on_over : FramingLaws → (start s after : ReplyState) (first codec : Codec) (from_src from_dst src dst : List ℕ) (payloads : List Payload) → Since start first from_src from_dst payloads s codec src dst → start.fault ≡ None → s.fault ≡ None → after ≡ record s { fault = Some faults.AfterEnd } → awaited_view s.awaited ≡ reply.Nothing → IsBetween codec → codec.number < 256 → dst ≡ [] → AreBytes (held codec src dst) → (src ≡ [] → ⊥) → ReaderGoesOn (reader_state_of start first from_src from_dst) [] (reader_state_of after codec src dst)
 goes_on_over laws start s after first codec from_src from_dst src dst payloads r began going is over between byte empty are some more answer others h =
-    let known : answer ≡ faulted_at (progressing_of s) faults.AfterEnd = subst (λ (t : ReplyState). ReaderDecides (reader_state_of t codec src dst) more answer) is h in
+    let known : answer ≡ faulted_at (open_reply s) faults.AfterEnd = subst (λ (t : ReplyState). ReaderDecides (reader_state_of t codec src dst) more answer) is h in
     let split = some_split laws codec src dst more are others in
     let held_some : split.0.payloads ≡ [] → split.0.rest ≡ Empty → ⊥ = λ none nothing.
     let all : held codec src dst ++ more ≡ [] = no_bytes codec.limit (packet_number codec dst) (held codec src dst ++ more) split.0 split.1 none nothing in
     some (nil_from_length src (omega (arith, ap length all, length-append (held codec src dst) more, ap length (held_nothing laws codec src dst between byte empty)))) in
     let continues = after_end s (numbered s.count split.0.payloads) (after_numbered s.count split.0.payloads split.0.rest) answer over (not_empty_from (numbers_left s.count) split.0.payloads split.0.rest held_some) known in
-    let decides : NumberedPayloadsDecide (standing_of s) split.0.payloads split.0.rest answer = subst (λ f. NumberedPayloadsDecide (faulted (progressing_of s) f) split.0.payloads split.0.rest answer) (sym going) continues in
+    let decides : NumberedPayloadsDecide (reply_so_far s) split.0.payloads split.0.rest answer = subst (λ f. NumberedPayloadsDecide (faulted (open_reply s) f) split.0.payloads split.0.rest answer) (sym going) continues in
     decides_going start first from_src from_dst more answer began
-    (decides_more laws (standing_of start) first.limit (packet_number first from_dst) (held first from_src from_dst) payloads s codec src dst r more split.0 split.1 answer decides)
+    (decides_more laws (reply_so_far start) first.limit (packet_number first from_dst) (held first from_src from_dst) payloads s codec src dst r more split.0 split.1 answer decides)
 
 -- Where the bytes are at fault, that fault is decided, whatever follows.
-decides_refused : (s : ReplyState) (rest : Rest) (fault : ReplyFault) (answer : Answer) → s.fault ≡ None → IsSettled s.context (awaited_view s.awaited) → FaultAt s.count fault ≡ end_of s.count rest (ending_at (awaited_view s.awaited)) → answer ≡ faulted_at (progressing_of s) fault → NumberedPayloadsDecide (standing_of s) [] rest answer
+decides_refused : (s : ReplyState) (rest : Rest) (fault : ReplyFault) (answer : Answer) → s.fault ≡ None → IsSettled s.context (awaited_view s.awaited) → FaultAt s.count fault ≡ end_of s.count rest (ending_at (awaited_view s.awaited)) → answer ≡ faulted_at (open_reply s) fault → NumberedPayloadsDecide (reply_so_far s) [] rest answer
 decides_refused s rest fault answer going settled end h =
-    subst (λ f. NumberedPayloadsDecide (faulted (progressing_of s) f) [] rest answer) (sym going)
-    (decides_none (GoingOn (progressing_of s)) rest answer (stops s rest answer settled (ap (λ a. a.results) h) (ap (λ a. a.progress) h) (ap (λ a. a.end) h ∙ end)))
+    subst (λ f. NumberedPayloadsDecide (faulted (open_reply s) f) [] rest answer) (sym going)
+    (decides_none (GoingOn (open_reply s)) rest answer (stops s rest answer settled (ap (λ a. a.results) h) (ap (λ a. a.progress) h) (ap (λ a. a.end) h ∙ end)))
 
 end_wrong_number : (count : ℕ) (awaited : reply.Awaited) → IsAwaiting awaited → FaultAt count faults.OutOfSync ≡ end_of count OutOfSync (ending_at awaited)
 end_wrong_number count reply.Nothing some = absurd some
@@ -203,16 +203,16 @@ end_wrong_number count awaited some = refl
 
 pub goes_on_large : FramingLaws → (start s after : ReplyState) (first codec new : Codec) (from_src from_dst src dst src' dst' : List ℕ) (payloads : List Payload) → Since start first from_src from_dst payloads s codec src dst → start.fault ≡ None → s.fault ≡ None → after ≡ record s { fault = Some faults.TooLarge } → IsSettled s.context (awaited_view s.awaited) → IsAwaiting (awaited_view s.awaited) → IsDue codec src dst refusals.TooLarge → ReaderGoesOn (reader_state_of start first from_src from_dst) [] (reader_state_of after new src' dst')
 goes_on_large laws start s after first codec new from_src from_dst src dst src' dst' payloads r began going is settled some due more answer others h =
-    let known : answer ≡ faulted_at (progressing_of s) faults.TooLarge = subst (λ (t : ReplyState). ReaderDecides (reader_state_of t new src' dst') more answer) is h in
+    let known : answer ≡ faulted_at (open_reply s) faults.TooLarge = subst (λ (t : ReplyState). ReaderDecides (reader_state_of t new src' dst') more answer) is h in
     decides_going start first from_src from_dst more answer began
-    (decides_more laws (standing_of start) first.limit (packet_number first from_dst) (held first from_src from_dst) payloads s codec src dst r more (record { payloads = []; rest_bytes = held codec src dst ++ more; rest = TooLarge }) ((laws.refused codec src dst more).0 due) answer
+    (decides_more laws (reply_so_far start) first.limit (packet_number first from_dst) (held first from_src from_dst) payloads s codec src dst r more (record { payloads = []; rest_bytes = held codec src dst ++ more; rest = TooLarge }) ((laws.refused codec src dst more).0 due) answer
     (decides_refused s TooLarge faults.TooLarge answer going settled (end_large s.count (awaited_view s.awaited) some) known))
 
 pub goes_on_wrong_number : FramingLaws → (start s after : ReplyState) (first codec new : Codec) (from_src from_dst src dst src' dst' : List ℕ) (payloads : List Payload) → Since start first from_src from_dst payloads s codec src dst → start.fault ≡ None → s.fault ≡ None → after ≡ record s { fault = Some faults.OutOfSync } → IsSettled s.context (awaited_view s.awaited) → IsAwaiting (awaited_view s.awaited) → IsDue codec src dst refusals.OutOfSync → ReaderGoesOn (reader_state_of start first from_src from_dst) [] (reader_state_of after new src' dst')
 goes_on_wrong_number laws start s after first codec new from_src from_dst src dst src' dst' payloads r began going is settled some due more answer others h =
-    let known : answer ≡ faulted_at (progressing_of s) faults.OutOfSync = subst (λ (t : ReplyState). ReaderDecides (reader_state_of t new src' dst') more answer) is h in
+    let known : answer ≡ faulted_at (open_reply s) faults.OutOfSync = subst (λ (t : ReplyState). ReaderDecides (reader_state_of t new src' dst') more answer) is h in
     decides_going start first from_src from_dst more answer began
-    (decides_more laws (standing_of start) first.limit (packet_number first from_dst) (held first from_src from_dst) payloads s codec src dst r more (record { payloads = []; rest_bytes = held codec src dst ++ more; rest = OutOfSync }) ((laws.refused codec src dst more).1 due) answer
+    (decides_more laws (reply_so_far start) first.limit (packet_number first from_dst) (held first from_src from_dst) payloads s codec src dst r more (record { payloads = []; rest_bytes = held codec src dst ++ more; rest = OutOfSync }) ((laws.refused codec src dst more).1 due) answer
     (decides_refused s OutOfSync faults.OutOfSync answer going settled (end_wrong_number s.count (awaited_view s.awaited) some) known))
 
 -- A reply that goes on is unfinished.
@@ -221,20 +221,20 @@ unfinished_at count reply.Nothing awaiting = absurd awaiting
 unfinished_at count awaited awaiting = refl
 
 -- Memory ran out after some payloads.
-pub runs_short : (start s : ReplyState) (first codec : Codec) (from_src from_dst src dst : List ℕ) (payloads : List Payload) → Since start first from_src from_dst payloads s codec src dst → start.fault ≡ None → s.fault ≡ None → s.count ≡ start.count + length payloads → IsSettled s.context (awaited_view s.awaited) → IsAwaiting (awaited_view s.awaited) → RunsShort (reader_state_of start first from_src from_dst) (held first from_src from_dst) (faulted_at (progressing_of s) faults.Memory)
+pub runs_short : (start s : ReplyState) (first codec : Codec) (from_src from_dst src dst : List ℕ) (payloads : List Payload) → Since start first from_src from_dst payloads s codec src dst → start.fault ≡ None → s.fault ≡ None → s.count ≡ start.count + length payloads → IsSettled s.context (awaited_view s.awaited) → IsAwaiting (awaited_view s.awaited) → RunsShort (reader_state_of start first from_src from_dst) (held first from_src from_dst) (faulted_at (open_reply s) faults.Memory)
 runs_short start s first codec from_src from_dst src dst payloads r began going count settled awaiting =
-    let whole : Answer = record (faulted_at (progressing_of s) faults.Memory) { end = end_of s.count stream.Open (ending_at (awaited_view s.awaited)) } in
-    let decided : NumberedPayloadsDecide (standing_of s) [] stream.Open whole = subst (λ f. NumberedPayloadsDecide (faulted (progressing_of s) f) [] stream.Open whole) (sym going)
-    (decides_none (GoingOn (progressing_of s)) stream.Open whole (stops s stream.Open whole settled refl refl refl)) in
+    let whole : Answer = record (faulted_at (open_reply s) faults.Memory) { end = end_of s.count stream.Open (ending_at (awaited_view s.awaited)) } in
+    let decided : NumberedPayloadsDecide (reply_so_far s) [] stream.Open whole = subst (λ f. NumberedPayloadsDecide (faulted (open_reply s) f) [] stream.Open whole) (sym going)
+    (decides_none (GoingOn (open_reply s)) stream.Open whole (stops s stream.Open whole settled refl refl refl)) in
     record {
       read = payloads;
       first = record { more = held codec src dst; joined = r.read.joined; within = r.read.within };
       whole = whole;
-      decided = subst (λ ps. NumberedPayloadsDecide (standing_of start) ps stream.Open whole) (append-nil payloads) (r.goes_on [] stream.Open whole decided);
+      decided = subst (λ ps. NumberedPayloadsDecide (reply_so_far start) ps stream.Open whole) (append-nil payloads) (r.goes_on [] stream.Open whole decided);
       unfinished = unfinished_at s.count (awaited_view s.awaited) awaiting;
       results = refl;
       progress = refl;
-      end = ap (λ n. FaultAt n faults.Memory) (count ∙ ap (λ f. count_of (faulted (progressing_of start) f) + length payloads) (sym began));
+      end = ap (λ n. FaultAt n faults.Memory) (count ∙ ap (λ f. count_of (faulted (open_reply start) f) + length payloads) (sym began));
     }
 
 -- An empty rest.
@@ -252,17 +252,17 @@ end_quiet count awaited stream.Open no_fault over = refl
 -- The answer where no more bytes come.
 pub finish_going : (s : ReplyState) (codec : Codec) (src dst : List ℕ) (answer : Answer) → IsReading s → s.fault ≡ None → IsPaused s codec src dst → answer ≡ answer_of s → ReaderDecides (reader_state_of s codec src dst) [] answer
 finish_going s codec src dst answer reading going p h =
-    let end : answer.end ≡ end_of s.count p.rest (ending_at (awaited_view s.awaited)) = ap (λ a. a.end) h ∙ ap (λ f. end_of_state (progressing_of s) f) going ∙ end_quiet s.count (awaited_view s.awaited) p.rest p.no_fault p.over in
-    let split : BytesDecide (standing_of s) codec.limit (packet_number codec dst) (held codec src dst ++ []) answer = record {
+    let end : answer.end ≡ end_of s.count p.rest (ending_at (awaited_view s.awaited)) = ap (λ a. a.end) h ∙ ap (λ f. end_of_state (open_reply s) f) going ∙ end_quiet s.count (awaited_view s.awaited) p.rest p.no_fault p.over in
+    let split : BytesDecide (reply_so_far s) codec.limit (packet_number codec dst) (held codec src dst ++ []) answer = record {
       split = record { payloads = []; rest_bytes = held codec src dst; rest = p.rest };
       splits = record { joined = append-nil (held codec src dst); within = tt; ends = p.is_rest };
-      decides = subst (λ f. NumberedPayloadsDecide (faulted (progressing_of s) f) [] p.rest answer) (sym going) (decides_none (GoingOn (progressing_of s)) p.rest answer (stops s p.rest answer reading.settled (ap (λ a. a.results) h) (ap (λ a. a.progress) h) end));
+      decides = subst (λ f. NumberedPayloadsDecide (faulted (open_reply s) f) [] p.rest answer) (sym going) (decides_none (GoingOn (open_reply s)) p.rest answer (stops s p.rest answer reading.settled (ap (λ a. a.results) h) (ap (λ a. a.progress) h) end));
     } in
     decides_going s codec src dst [] answer going split
 
 pub finish_faulted : (s : ReplyState) (codec : Codec) (src dst : List ℕ) (fault : ReplyFault) (answer : Answer) → s.fault ≡ Some fault → answer ≡ answer_of s → ReaderDecides (reader_state_of s codec src dst) [] answer
 finish_faulted s codec src dst fault answer wrong h =
-    subst (λ f. ReaderDecidesFrom (faulted (progressing_of s) f) (reader_state_of s codec src dst) [] answer) (sym wrong) (h ∙ ap (λ f. record (faulted_at (progressing_of s) fault) { end = end_of_state (progressing_of s) f }) wrong)
+    subst (λ f. ReaderDecidesFrom (faulted (open_reply s) f) (reader_state_of s codec src dst) [] answer) (sym wrong) (h ∙ ap (λ f. record (faulted_at (open_reply s) fault) { end = end_of_state (open_reply s) f }) wrong)
 
 -- Payloads are being taken, and no fault was met.
 pub record Taking (start : ReplyState) (first : Codec) (from_src from_dst : List ℕ) (s : ReplyState) (codec : Codec) (src dst : List ℕ) : Type 0 where
@@ -335,7 +335,7 @@ paused_over laws s codec src dst nothing_begun over none refused can_go_on bytes
     }
 
 -- The codec waits.
-pub received_waits : FramingLaws → (from : Standing) (limit number : ℕ) (bytes : List ℕ) (payloads : List Payload) (s : ReplyState) (codec new : Codec) (src dst src' dst' : List ℕ) → Received from limit number bytes payloads s codec src dst → Waits codec src dst new src' dst' → Received from limit number bytes payloads s new src' dst'
+pub received_waits : FramingLaws → (from : ReplySoFar) (limit number : ℕ) (bytes : List ℕ) (payloads : List Payload) (s : ReplyState) (codec new : Codec) (src dst src' dst' : List ℕ) → Received from limit number bytes payloads s codec src dst → Waits codec src dst new src' dst' → Received from limit number bytes payloads s new src' dst'
 received_waits laws from limit number bytes payloads s codec new src dst src' dst' r w = record {
   read = (laws.waits limit (OnFrom number) bytes payloads codec new src dst src' dst' w r.read).0;
   goes_on = r.goes_on;
@@ -370,18 +370,18 @@ refused_goes_on laws start s after first codec new from_src from_dst src dst src
 refused_goes_on laws start s after first codec new from_src from_dst src dst src' dst' refusals.Memory fault t began some e is due =
     subst (λ f. UnlessMemory {X = Unit {0}} (Err f) (ReaderGoesOn (reader_state_of start first from_src from_dst) [] (reader_state_of after new src' dst'))) (sym e) tt
 
-taking_short : (start s : ReplyState) (first codec : Codec) (from_src from_dst src dst : List ℕ) → Taking start first from_src from_dst s codec src dst → start.fault ≡ None → IsAwaiting (awaited_view s.awaited) → RunsShort (reader_state_of start first from_src from_dst) (held first from_src from_dst) (faulted_at (progressing_of s) faults.Memory)
+taking_short : (start s : ReplyState) (first codec : Codec) (from_src from_dst src dst : List ℕ) → Taking start first from_src from_dst s codec src dst → start.fault ≡ None → IsAwaiting (awaited_view s.awaited) → RunsShort (reader_state_of start first from_src from_dst) (held first from_src from_dst) (faulted_at (open_reply s) faults.Memory)
 taking_short start s first codec from_src from_dst src dst t began awaiting = runs_short start s first codec from_src from_dst src dst t.payloads t.received began t.going t.count t.reading.settled awaiting
 
 pub failed_short : (start s after : ReplyState) (first codec new : Codec) (from_src from_dst src dst src' dst' : List ℕ) (fault : ReplyFault) → Taking start first from_src from_dst s codec src dst → start.fault ≡ None → IsAwaiting (awaited_view s.awaited) → after ≡ record s { fault = Some fault } → OnMemory {X = Unit {0}} (Err fault) (StandsShort (reader_state_of start first from_src from_dst) (held first from_src from_dst) (reader_state_of after new src' dst'))
 failed_short start s after first codec new from_src from_dst src dst src' dst' faults.Memory t began awaiting is =
-    (faulted_at (progressing_of s) faults.Memory, ap standing_of is, taking_short start s first codec from_src from_dst src dst t began awaiting)
+    (faulted_at (open_reply s) faults.Memory, ap reply_so_far is, taking_short start s first codec from_src from_dst src dst t began awaiting)
 failed_short start s after first codec new from_src from_dst src dst src' dst' fault t began awaiting is = tt
 
 pub taken_short : (start s after : ReplyState) (first codec new : Codec) (from_src from_dst src dst src' dst' : List ℕ) (r : Result Unit ReplyFault) → Taking start first from_src from_dst s codec src dst → start.fault ≡ None → IsAwaiting (awaited_view s.awaited) → OnMemory r (IsShortOf s after) → OnMemory r (StandsShort (reader_state_of start first from_src from_dst) (held first from_src from_dst) (reader_state_of after new src' dst'))
 taken_short start s after first codec new from_src from_dst src dst src' dst' (Ok x) t began awaiting short = tt
 taken_short start s after first codec new from_src from_dst src dst src' dst' (Err faults.Memory) t began awaiting short =
-    (faulted_at (progressing_of s) faults.Memory, short, taking_short start s first codec from_src from_dst src dst t began awaiting)
+    (faulted_at (open_reply s) faults.Memory, short, taking_short start s first codec from_src from_dst src dst t began awaiting)
 taken_short start s after first codec new from_src from_dst src dst src' dst' (Err fault) t began awaiting short = tt
 
 -- A payload was refused.
@@ -402,6 +402,15 @@ unless_is (Err fault) never p = p
 pub on_is : {X P : Type 0} (r : Result X ReplyFault) → r ≡ Err faults.Memory → OnMemory r P → P
 on_is {P = P} r memory p = subst (λ k. OnMemory k P) memory p
 
+-- A state with a fault keeps what it kept before.
+pub reading_faulty : (s after : ReplyState) (fault : ReplyFault) → after ≡ record s { fault = Some fault } → IsReading s → IsReading after
+reading_faulty s after fault is r = subst IsReading (sym is) (record { settled = r.settled; room = r.room; spared = r.spared; empty = r.empty })
+
+-- A failed answer is none that is Ok.
+pub no_ok : (P : Type 0) (r : Result (Unit {0}) ReplyFault) → is_err r ≡ true → OnOk r P
+no_ok P (Ok x) h = absurd (let k : false ≡ true = h in cc)
+no_ok P (Err fault) h = tt
+
 pub taken_ok : {P : Type 0} (r : Result Unit ReplyFault) → is_err r ≡ false → OnOk r P → P
 taken_ok (Ok x) h p = p
 taken_ok (Err e) h p = absurd (let k : true ≡ false = h in cc)
@@ -410,10 +419,10 @@ pub taken_unless : {P : Type 0} (r : Result Unit ReplyFault) → is_err r ≡ fa
 taken_unless (Ok x) h p = p
 taken_unless (Err e) h p = absurd (let k : true ≡ false = h in cc)
 
-pub fault_is : (s : ReplyState) → fault_of (standing_of s) ≡ s.fault
-fault_is s = fault_is_by (progressing_of s) s.fault
+pub fault_is : (s : ReplyState) → fault_of (reply_so_far s) ≡ s.fault
+fault_is s = fault_is_by (open_reply s) s.fault
   where
-    fault_is_by : (p : Progressing) (f : Option ReplyFault) → fault_of (faulted p f) ≡ f
+    fault_is_by : (p : OpenReply) (f : Option ReplyFault) → fault_of (faulted p f) ≡ f
     fault_is_by p None = refl
     fault_is_by p (Some fault) = refl
 
@@ -433,7 +442,7 @@ piece_decides laws s codec src src' dst piece more answer going fed h =
     let bytes : held codec src' dst ++ more ≡ held codec src dst ++ (piece ++ more) =
     ap (λ k. held codec k dst ++ more) fed ∙ ap (λ k. k ++ more) (laws.piece codec src dst piece) ∙ append_assoc (held codec src dst) piece more in
     decides_going s codec src dst (piece ++ more) answer going
-    (subst (λ k. BytesDecide (standing_of s) codec.limit (packet_number codec dst) k answer) bytes d)
+    (subst (λ k. BytesDecide (reply_so_far s) codec.limit (packet_number codec dst) k answer) bytes d)
 
 pub piece_all : FramingLaws → (s : ReplyState) (codec : Codec) (src src' dst piece : List ℕ) (new : ReaderState) → s.fault ≡ None → src' ≡ src ++ piece → ReaderGoesOn (reader_state_of s codec src' dst) [] new → ReaderGoesOn (reader_state_of s codec src dst) piece new
 piece_all laws s codec src src' dst piece new going fed goes more answer are h = piece_decides laws s codec src src' dst piece more answer going fed (goes more answer are h)
@@ -445,7 +454,7 @@ piece_goes_on laws s codec src src' dst piece new (Err fault) going fed goes = p
 
 stays_all : (s : ReplyState) (codec : Codec) (src dst piece : List ℕ) (fault : ReplyFault) → s.fault ≡ Some fault → ReaderGoesOn (reader_state_of s codec src dst) piece (reader_state_of s codec src dst)
 stays_all s codec src dst piece fault wrong more answer are =
-    subst (λ f. ReaderDecidesFrom (faulted (progressing_of s) f) (reader_state_of s codec src dst) more answer → ReaderDecidesFrom (faulted (progressing_of s) f) (reader_state_of s codec src dst) (piece ++ more) answer) (sym wrong) (λ h. h)
+    subst (λ f. ReaderDecidesFrom (faulted (open_reply s) f) (reader_state_of s codec src dst) more answer → ReaderDecidesFrom (faulted (open_reply s) f) (reader_state_of s codec src dst) (piece ++ more) answer) (sym wrong) (λ h. h)
 
 -- A fault that was met stays decided.
 pub stays_going_on : (s : ReplyState) (codec : Codec) (src dst piece : List ℕ) (fault : ReplyFault) → s.fault ≡ Some fault → UnlessMemory {X = Unit {0}} (Err fault) (ReaderGoesOn (reader_state_of s codec src dst) piece (reader_state_of s codec src dst))
@@ -490,23 +499,23 @@ takes_piece laws s codec src src' dst piece new (Ok x) fed t = record {
 takes_piece laws s codec src src' dst piece new (Err fault) fed t = t
 
 -- After a fault the bytes that are held don't matter.
-decides_anywhere : (s : ReplyState) (fault : ReplyFault) (here there : ReaderState) (more : List ℕ) (answer : Answer) → s.fault ≡ Some fault → here.standing ≡ standing_of s → there.standing ≡ standing_of s → ReaderDecides here more answer → ReaderDecides there more answer
+decides_anywhere : (s : ReplyState) (fault : ReplyFault) (here there : ReaderState) (more : List ℕ) (answer : Answer) → s.fault ≡ Some fault → here.so_far ≡ reply_so_far s → there.so_far ≡ reply_so_far s → ReaderDecides here more answer → ReaderDecides there more answer
 decides_anywhere s fault here there more answer wrong one two h =
-    let known : Standing = Answered (faulted_at (progressing_of s) fault) in
-    let is : standing_of s ≡ known = ap (λ f. faulted (progressing_of s) f) wrong in
+    let known : ReplySoFar = Answered (faulted_at (open_reply s) fault) in
+    let is : reply_so_far s ≡ known = ap (λ f. faulted (open_reply s) f) wrong in
     let answered : ReaderDecidesFrom known here more answer = subst (λ k. ReaderDecidesFrom k here more answer) (one ∙ is) h in
     subst (λ k. ReaderDecidesFrom k there more answer) (sym (two ∙ is)) answered
 
-faulted_piece : FramingLaws → (s after : ReplyState) (codec : Codec) (src src' dst piece : List ℕ) (fault : ReplyFault) (here there : ReaderState) → s.fault ≡ None → src' ≡ src ++ piece → after.fault ≡ Some fault → here.standing ≡ standing_of after → there.standing ≡ standing_of after → ReaderGoesOn (reader_state_of s codec src' dst) [] here → ReaderGoesOn (reader_state_of s codec src dst) piece there
+faulted_piece : FramingLaws → (s after : ReplyState) (codec : Codec) (src src' dst piece : List ℕ) (fault : ReplyFault) (here there : ReaderState) → s.fault ≡ None → src' ≡ src ++ piece → after.fault ≡ Some fault → here.so_far ≡ reply_so_far after → there.so_far ≡ reply_so_far after → ReaderGoesOn (reader_state_of s codec src' dst) [] here → ReaderGoesOn (reader_state_of s codec src dst) piece there
 faulted_piece laws s after codec src src' dst piece fault here there going fed wrong one two goes more answer are h =
     piece_decides laws s codec src src' dst piece more answer going fed (goes more answer are (decides_anywhere after fault there here more answer wrong two one h))
 
-pub faulted_goes_on : FramingLaws → (s after : ReplyState) (codec : Codec) (src src' dst piece : List ℕ) (fault : ReplyFault) (here there : ReaderState) → s.fault ≡ None → src' ≡ src ++ piece → after.fault ≡ Some fault → here.standing ≡ standing_of after → there.standing ≡ standing_of after → UnlessMemory {X = Unit {0}} (Err fault) (ReaderGoesOn (reader_state_of s codec src' dst) [] here) → UnlessMemory {X = Unit {0}} (Err fault) (ReaderGoesOn (reader_state_of s codec src dst) piece there)
+pub faulted_goes_on : FramingLaws → (s after : ReplyState) (codec : Codec) (src src' dst piece : List ℕ) (fault : ReplyFault) (here there : ReaderState) → s.fault ≡ None → src' ≡ src ++ piece → after.fault ≡ Some fault → here.so_far ≡ reply_so_far after → there.so_far ≡ reply_so_far after → UnlessMemory {X = Unit {0}} (Err fault) (ReaderGoesOn (reader_state_of s codec src' dst) [] here) → UnlessMemory {X = Unit {0}} (Err fault) (ReaderGoesOn (reader_state_of s codec src dst) piece there)
 faulted_goes_on laws s after codec src src' dst piece faults.Memory here there going fed wrong one two goes = tt
 faulted_goes_on laws s after codec src src' dst piece fault here there going fed wrong one two goes = faulted_piece laws s after codec src src' dst piece fault here there going fed wrong one two goes
 
 -- What ran short over the bytes that are held ran short over the piece.
-pub piece_short : FramingLaws → (s : ReplyState) (codec : Codec) (src src' dst piece : List ℕ) (fault : ReplyFault) (here there : ReaderState) → src' ≡ src ++ piece → here.standing ≡ there.standing → OnMemory {X = Unit {0}} (Err fault) (StandsShort (reader_state_of s codec src' dst) (held codec src' dst) here) → OnMemory {X = Unit {0}} (Err fault) (StandsShort (reader_state_of s codec src dst) (held codec src dst ++ piece) there)
+pub piece_short : FramingLaws → (s : ReplyState) (codec : Codec) (src src' dst piece : List ℕ) (fault : ReplyFault) (here there : ReaderState) → src' ≡ src ++ piece → here.so_far ≡ there.so_far → OnMemory {X = Unit {0}} (Err fault) (StandsShort (reader_state_of s codec src' dst) (held codec src' dst) here) → OnMemory {X = Unit {0}} (Err fault) (StandsShort (reader_state_of s codec src dst) (held codec src dst ++ piece) there)
 piece_short laws s codec src src' dst piece faults.Memory here there fed same (answer, stands, short) = (
   answer,
   sym same ∙ stands,
@@ -537,7 +546,7 @@ paused_empty laws s codec src dst p over =
     ∙ no_bytes codec.limit (packet_number codec dst) (held codec src dst) split (record { joined = refl; within = tt; ends = p.is_rest }) refl (p.over over)
 
 -- Where a fault was met, bytes that are held in place of others change nothing.
-pub elsewhere : (start : ReaderState) (next : ReplyState) (here there : ReaderState) (r : Result Unit ReplyFault) → is_err r ≡ true → IfErr r (λ fault. next.fault ≡ Some fault) → here.standing ≡ standing_of next → there.standing ≡ standing_of next → UnlessMemory r (ReaderGoesOn start [] here) → UnlessMemory r (ReaderGoesOn start [] there)
+pub elsewhere : (start : ReaderState) (next : ReplyState) (here there : ReaderState) (r : Result Unit ReplyFault) → is_err r ≡ true → IfErr r (λ fault. next.fault ≡ Some fault) → here.so_far ≡ reply_so_far next → there.so_far ≡ reply_so_far next → UnlessMemory r (ReaderGoesOn start [] here) → UnlessMemory r (ReaderGoesOn start [] there)
 elsewhere start next here there (Ok x) failed wrong one two goes = absurd (let k : false ≡ true = failed in cc)
 elsewhere start next here there (Err faults.Memory) failed wrong one two goes = tt
 elsewhere start next here there (Err fault) failed wrong one two goes = λ more answer are h. goes more answer are (decides_anywhere next fault there here more answer wrong two one h)

@@ -1,5 +1,5 @@
 -- What a payload that is no progress report leads to, by what stands in its place.
-use Rattle.std.specs.Prelude.{nat_lt, ◌&&◌}
+use Rattle.std.specs.Prelude.{nat_lt, not, ◌&&◌, ◌||◌}
 use Rattle.std.proofs.Common.{◌≡◌, ℕ, zero, suc, ◌<◌, ◌-◌, List, [], ◌∷◌, ◌++◌, length, Bool, true, false, Result, Ok, Err, refl, ap, sym, subst, arith, if◌then◌else◌, ◌∙◌, ◌⊎◌, inl, inr}
 use Rattle.std.proofs.lemmas.List.{append-nil}
 use Rattle.mysql_rows.specs.Rows.{Row}
@@ -13,12 +13,12 @@ use Rattle.mysql_replies.specs.declared.awaited.Awaited as code
 use Rattle.mysql_replies.specs.declared.awaited.Listed.TheVariants as listed
 use Rattle.mysql_replies.specs.declared.awaited.Stepped.{Stepped}
 use Rattle.mysql_replies.specs.declared.awaited.Stepped.TheVariants.{Moved, Failed}
-use Rattle.mysql_replies.specs.Grammar.{Payload, Outcome, Part, Stands, Unexpected, ◌>>=◌, Stretch, Ending, Wrong, Results, last, more, unexpected, Line, RowLine, TerminatorLine, ErrorLine, Opening, begins_with, terminator_limit, terminator, or_fault, map_ok, row, has_report_form, as_part, next_payload, column, eof, columns, columns_end, column_group, line, after_rows, rows, result_set, prepared, prepared_columns, opening, after_opening, one_result}
+use Rattle.mysql_replies.specs.Grammar.{Payload, Outcome, Parsed, Complete, Faulty, ◌>>=◌, ResultGroup, Ending, Wrong, Results, last, more, faulty, Line, RowLine, TerminatorLine, ErrorLine, Opening, begins_with, terminator_limit, terminator, or_fault, map_ok, row, has_report_form, as_part, next_payload, column, eof, columns, columns_end, column_group, line, rows_end, after_rows, rows, result_set, prepared, prepared_columns, opening, after_opening, one_result}
 use Rattle.mysql_server_packets.specs.Packets.{error_at}
 use Rattle.mysql_replies.specs.declared.fault.ReplyFault.TheVariants.{BadError}
 use Rattle.mysql_replies.specs.Reply.{Awaited, First, Rows, Nothing, rest_of}
 use Rattle.mysql_replies.specs.Views.{Refuses, awaited_view}
-use Rattle.mysql_replies.specs.Steps.{Moves, Leads, Group, OfResultSet, OfParameters, OfPrepared, group_awaited, after_group, IsGroupSettled, IsSettled, listed_of, listed_views, reads_as_row, IsMove, IsStep}
+use Rattle.mysql_replies.specs.Steps.{IsNoRow, Moves, Leads, Group, OfResultSet, OfParameters, OfPrepared, group_awaited, after_group, IsGroupSettled, IsSettled, listed_of, listed_views, reads_as_row, IsMove, IsStep}
 
 -- A payload not in the form of a progress report is read.
 pub next_is : {A : Type 0} (c : Context) (read : Payload → Result A ReplyFault) (payload : Payload) (z : List Payload) → has_report_form c payload ≡ false → next_payload c read (payload ∷ z) ≡ as_part (read payload) payload z
@@ -29,32 +29,32 @@ pub first_found : (c : Context) (payload : Payload) (o : Opening) → has_report
 unfolding one_result
 first_found c payload o form h z = rw (next_is c (opening c) payload z form) (ap (λ r. as_part r payload z >>= λ x. after_opening c x.0 x.1) h)
 
-pub first_unexpected : (c : Context) (payload : Payload) (fault : ReplyFault) → has_report_form c payload ≡ false → opening c payload ≡ Err fault → (z : List Payload) → one_result c (payload ∷ z) ≡ Unexpected [] fault (payload ∷ z)
+pub first_faulty : (c : Context) (payload : Payload) (fault : ReplyFault) → has_report_form c payload ≡ false → opening c payload ≡ Err fault → (z : List Payload) → one_result c (payload ∷ z) ≡ Faulty [] fault (payload ∷ z)
 unfolding one_result
-first_unexpected c payload fault form h z = rw (next_is c (opening c) payload z form) (ap (λ r. as_part r payload z >>= λ x. after_opening c x.0 x.1) h)
+first_faulty c payload fault form h z = rw (next_is c (opening c) payload z form) (ap (λ r. as_part r payload z >>= λ x. after_opening c x.0 x.1) h)
 
-after_nothing : (c : Context) (results : List Outcome) (z : List Payload) (others : List Outcome) (ending : Ending) → Results c (Stands (record { results = []; more = false }) z) others ending → Results c (Stands (record { results = results; more = false }) z) (results ++ others) ending
+after_nothing : (c : Context) (results : List Outcome) (z : List Payload) (others : List Outcome) (ending : Ending) → Results c (Complete (record { results = []; more = false }) z) others ending → Results c (Complete (record { results = results; more = false }) z) (results ++ others) ending
 after_nothing c results z others ending (last these rest) = rw append-nil (last results z)
 
 -- A stretch stands: its results are listed, and the next is awaited or nothing is.
-step_more : (c : Context) (payload : Payload) (results : List Outcome) (b : Bool) → Leads c (λ z. Stands (record { results = results; more = b }) z) payload (Moves results (if b then First else Nothing)) × IsSettled c (if b then First else Nothing)
+step_more : (c : Context) (payload : Payload) (results : List Outcome) (b : Bool) → Leads c (λ z. Complete (record { results = results; more = b }) z) payload (Moves results (if b then First else Nothing)) × IsSettled c (if b then First else Nothing)
 step_more c payload results true = (λ z others ending h. more results z h, tt)
 step_more c payload results false = (λ z others ending h. after_nothing c results z others ending h, tt)
 
-pub step_stands : (c : Context) (payload : Payload) (q : List Payload → Part Stretch) (results : List Outcome) (b : Bool) (a : Awaited) → a ≡ (if b then First else Nothing) → ((z : List Payload) → q z ≡ Stands (record { results = results; more = b }) z) → Leads c q payload (Moves results a) × IsSettled c a
+pub step_stands : (c : Context) (payload : Payload) (q : List Payload → Parsed ResultGroup) (results : List Outcome) (b : Bool) (a : Awaited) → a ≡ (if b then First else Nothing) → ((z : List Payload) → q z ≡ Complete (record { results = results; more = b }) z) → Leads c q payload (Moves results a) × IsSettled c a
 step_stands c payload q results b a e same =
     let s = step_more c payload results b in
     subst (λ x. Leads c q payload (Moves results x) × IsSettled c x) (sym e) (λ z others ending h. subst (λ p. Results c p (results ++ others) ending) (sym (same z)) (s.0 z others ending h), s.1)
 
 -- Nothing stands yet, and that is awaited.
-pub step_awaits : (c : Context) (payload : Payload) (q : List Payload → Part Stretch) (a : Awaited) → ((z : List Payload) → q z ≡ rest_of c a z) → Leads c q payload (Moves [] a)
+pub step_awaits : (c : Context) (payload : Payload) (q : List Payload → Parsed ResultGroup) (a : Awaited) → ((z : List Payload) → q z ≡ rest_of c a z) → Leads c q payload (Moves [] a)
 step_awaits c payload q a same = λ z others ending h. subst (λ p. Results c p others ending) (sym (same z)) h
 
 -- A payload has no place.
-pub step_fails : {A : Type 0} (c : Context) (a : Awaited) (payload : Payload) (awaited : code.Awaited) (fault : ReplyFault) → IsSettled c a → (read : Result A ReplyFault) → awaited_view awaited ≡ a → ((f : ReplyFault) → read ≡ Err f → (z : List Payload) → rest_of c a (payload ∷ z) ≡ Unexpected (listed_of a) f (payload ∷ z)) → Refuses fault read → IsStep c a payload (Failed awaited fault)
+pub step_fails : {A : Type 0} (c : Context) (a : Awaited) (payload : Payload) (awaited : code.Awaited) (fault : ReplyFault) → IsSettled c a → (read : Result A ReplyFault) → awaited_view awaited ≡ a → ((f : ReplyFault) → read ≡ Err f → (z : List Payload) → rest_of c a (payload ∷ z) ≡ Faulty (listed_of a) f (payload ∷ z)) → Refuses fault read → IsStep c a payload (Failed awaited fault)
 step_fails c a payload awaited Memory settled read e each h = record { listed = ap listed_of e; settled = subst (IsSettled c) (sym e) settled }
 step_fails c a payload awaited fault settled read e each h =
-    (e, λ z. subst (λ p. Results c p (listed_of a) (Wrong fault (payload ∷ z))) (sym (each fault h z)) (unexpected (listed_of a) fault (payload ∷ z)))
+    (e, λ z. subst (λ p. Results c p (listed_of a) (Wrong fault (payload ∷ z))) (sym (each fault h z)) (faulty (listed_of a) fault (payload ∷ z)))
 
 -- A refusal that is the reading's is one that may be.
 pub refuses_by : {A : Type 0} (fault : ReplyFault) (read : Result A ReplyFault) → read ≡ Err fault → Refuses fault read
@@ -68,8 +68,8 @@ group_is c OfResultSet n these payloads = refl
 group_is c (OfParameters statement) n these payloads = refl
 group_is c (OfPrepared statement parameters) n these payloads = refl
 
-pub group_from : (c : Context) (g : Group) (n : ℕ) (these : List ColumnDefinition) (payloads : List Payload) (p : Part (List ColumnDefinition)) → column_group c n these payloads ≡ p → rest_of c (group_awaited g n these) payloads ≡ (p >>= λ x. after_group c g x.0 x.1)
-group_from c g n these payloads p same = group_is c g n these payloads ∙ ap (λ (q : Part (List ColumnDefinition)). q >>= λ x. after_group c g x.0 x.1) same
+pub group_from : (c : Context) (g : Group) (n : ℕ) (these : List ColumnDefinition) (payloads : List Payload) (p : Parsed (List ColumnDefinition)) → column_group c n these payloads ≡ p → rest_of c (group_awaited g n these) payloads ≡ (p >>= λ x. after_group c g x.0 x.1)
+group_from c g n these payloads p same = group_is c g n these payloads ∙ ap (λ (q : Parsed (List ColumnDefinition)). q >>= λ x. after_group c g x.0 x.1) same
 
 -- What is made of the payloads doesn't change where the group's columns don't.
 pub group_same : (c : Context) (g : Group) (n m : ℕ) (these those : List ColumnDefinition) (here there : List Payload) → column_group c n these here ≡ column_group c m those there → rest_of c (group_awaited g n these) here ≡ rest_of c (group_awaited g m those) there
@@ -101,48 +101,48 @@ moves_group c g n these awaited is settled = (
 )
 
 -- What a step makes of the same.
-pub move_same : (c : Context) (q r : List Payload → Part Stretch) (stepped : Stepped) → ((z : List Payload) → q z ≡ r z) → IsMove c r stepped → IsMove c q stepped
+pub move_same : (c : Context) (q r : List Payload → Parsed ResultGroup) (stepped : Stepped) → ((z : List Payload) → q z ≡ r z) → IsMove c r stepped → IsMove c q stepped
 move_same c q r (Moved these awaited) same (goes, settled) = (λ z others ending h. subst (λ p. Results c p (listed_views these ++ others) ending) (sym (same z)) (goes z others ending h), settled)
 move_same c q r (Failed awaited fault) same move = move
 
 -- A payload leads to what a move says.
-pub step_moves : (c : Context) (a : Awaited) (payload : Payload) (q : List Payload → Part Stretch) (stepped : Stepped) → listed_of a ≡ [] → ((z : List Payload) → rest_of c a (payload ∷ z) ≡ q z) → IsMove c q stepped → IsStep c a payload stepped
+pub step_moves : (c : Context) (a : Awaited) (payload : Payload) (q : List Payload → Parsed ResultGroup) (stepped : Stepped) → listed_of a ≡ [] → ((z : List Payload) → rest_of c a (payload ∷ z) ≡ q z) → IsMove c q stepped → IsStep c a payload stepped
 step_moves c a payload q (Moved these awaited) none same move = move_same c (λ z. rest_of c a (payload ∷ z)) q (Moved these awaited) same move
 step_moves c a payload q (Failed awaited fault) none same (memory, listed, settled) =
     subst (λ f. IsStep c a payload (Failed awaited f)) (sym memory) (record { listed = listed ∙ sym none; settled = settled })
 
 -- Where no columns are left and no EOF is due, the group stands.
-stands_at_once : (c : Context) (these : List ColumnDefinition) → (deprecate_eof c.capabilities.0 ≡ true) ⊎ (length these ≡ 0) → (z : List Payload) → column_group c 0 these z ≡ Stands these z
+stands_at_once : (c : Context) (these : List ColumnDefinition) → (deprecate_eof c.capabilities.0 ≡ true) ⊎ (length these ≡ 0) → (z : List Payload) → column_group c 0 these z ≡ Complete these z
 unfolding column_group columns columns_end
 stands_at_once c [] stands z = refl
 stands_at_once c (first ∷ others) (inl h) z = rw h refl
 stands_at_once c (first ∷ others) (inr h) z = absurd (omega arith)
 
 pub group_stands : (c : Context) (g : Group) (n : ℕ) (these : List ColumnDefinition) → n ≡ 0 → (deprecate_eof c.capabilities.0 ≡ true) ⊎ (length these ≡ 0) → (z : List Payload) → rest_of c (group_awaited g n these) z ≡ after_group c g these z
-group_stands c g n these none stands z = rw none (group_from c g 0 these z (Stands these z) (stands_at_once c these stands z))
+group_stands c g n these none stands z = rw none (group_from c g 0 these z (Complete these z) (stands_at_once c these stands z))
 
 -- The EOF that is due stands.
-eof_found : (c : Context) (first : ColumnDefinition) (others : List ColumnDefinition) (payload : Payload) (ok : OkPacket) → has_report_form c payload ≡ false → deprecate_eof c.capabilities.0 ≡ false → eof payload ≡ Ok ok → (z : List Payload) → column_group c 0 (first ∷ others) (payload ∷ z) ≡ Stands (first ∷ others) z
+eof_found : (c : Context) (first : ColumnDefinition) (others : List ColumnDefinition) (payload : Payload) (ok : OkPacket) → has_report_form c payload ≡ false → deprecate_eof c.capabilities.0 ≡ false → eof payload ≡ Ok ok → (z : List Payload) → column_group c 0 (first ∷ others) (payload ∷ z) ≡ Complete (first ∷ others) z
 unfolding column_group columns columns_end
 eof_found c first others payload ok form due h z = rw (due, next_is c eof payload z form, h) refl
 
-eof_unexpected : (c : Context) (first : ColumnDefinition) (others : List ColumnDefinition) (payload : Payload) (fault : ReplyFault) → has_report_form c payload ≡ false → deprecate_eof c.capabilities.0 ≡ false → eof payload ≡ Err fault → (z : List Payload) → column_group c 0 (first ∷ others) (payload ∷ z) ≡ Unexpected [] fault (payload ∷ z)
+eof_unexpected : (c : Context) (first : ColumnDefinition) (others : List ColumnDefinition) (payload : Payload) (fault : ReplyFault) → has_report_form c payload ≡ false → deprecate_eof c.capabilities.0 ≡ false → eof payload ≡ Err fault → (z : List Payload) → column_group c 0 (first ∷ others) (payload ∷ z) ≡ Faulty [] fault (payload ∷ z)
 unfolding column_group columns columns_end
 eof_unexpected c first others payload fault form due h z = rw (due, next_is c eof payload z form, h) refl
 
 pub eof_leads : (c : Context) (g : Group) (these : List ColumnDefinition) (payload : Payload) (ok : OkPacket) → has_report_form c payload ≡ false → IsGroupSettled c 0 these → eof payload ≡ Ok ok → (z : List Payload) → rest_of c (group_awaited g 0 these) (payload ∷ z) ≡ after_group c g these z
 eof_leads c g [] payload ok form settled h z = absurd settled
-eof_leads c g (first ∷ others) payload ok form settled h z = group_from c g 0 (first ∷ others) (payload ∷ z) (Stands (first ∷ others) z) (eof_found c first others payload ok form settled h z)
+eof_leads c g (first ∷ others) payload ok form settled h z = group_from c g 0 (first ∷ others) (payload ∷ z) (Complete (first ∷ others) z) (eof_found c first others payload ok form settled h z)
 
-eof_fails : (c : Context) (g : Group) (these : List ColumnDefinition) (payload : Payload) (fault : ReplyFault) → has_report_form c payload ≡ false → IsGroupSettled c 0 these → eof payload ≡ Err fault → (z : List Payload) → rest_of c (group_awaited g 0 these) (payload ∷ z) ≡ Unexpected [] fault (payload ∷ z)
+eof_fails : (c : Context) (g : Group) (these : List ColumnDefinition) (payload : Payload) (fault : ReplyFault) → has_report_form c payload ≡ false → IsGroupSettled c 0 these → eof payload ≡ Err fault → (z : List Payload) → rest_of c (group_awaited g 0 these) (payload ∷ z) ≡ Faulty [] fault (payload ∷ z)
 eof_fails c g [] payload fault form settled h z = absurd settled
-eof_fails c g (first ∷ others) payload fault form settled h z = group_from c g 0 (first ∷ others) (payload ∷ z) (Unexpected [] fault (payload ∷ z)) (eof_unexpected c first others payload fault form settled h z)
+eof_fails c g (first ∷ others) payload fault form settled h z = group_from c g 0 (first ∷ others) (payload ∷ z) (Faulty [] fault (payload ∷ z)) (eof_unexpected c first others payload fault form settled h z)
 
 column_found : (c : Context) (n : ℕ) (these : List ColumnDefinition) (payload : Payload) (found : ColumnDefinition) → has_report_form c payload ≡ false → column payload ≡ Ok found → (z : List Payload) → column_group c (suc n) these (payload ∷ z) ≡ column_group c n (these ++ found ∷ []) z
 unfolding column_group columns
 column_found c n these payload found form h z = rw (next_is c column payload z form, h) refl
 
-column_unexpected : (c : Context) (n : ℕ) (these : List ColumnDefinition) (payload : Payload) (fault : ReplyFault) → has_report_form c payload ≡ false → column payload ≡ Err fault → (z : List Payload) → column_group c (suc n) these (payload ∷ z) ≡ Unexpected [] fault (payload ∷ z)
+column_unexpected : (c : Context) (n : ℕ) (these : List ColumnDefinition) (payload : Payload) (fault : ReplyFault) → has_report_form c payload ≡ false → column payload ≡ Err fault → (z : List Payload) → column_group c (suc n) these (payload ∷ z) ≡ Faulty [] fault (payload ∷ z)
 unfolding column_group columns
 column_unexpected c n these payload fault form h z = rw (next_is c column payload z form, h) refl
 
@@ -151,15 +151,15 @@ column_leads c g zero these those payload found form some h pushed z = absurd (o
 column_leads c g (suc n) these those payload found form some h pushed z =
     let e : suc n - 1 ≡ n = omega arith in rw (e, pushed) (group_same c g (suc n) n these (these ++ found ∷ []) (payload ∷ z) z (column_found c n these payload found form h z))
 
-column_fails : (c : Context) (g : Group) (n : ℕ) (these : List ColumnDefinition) (payload : Payload) (fault : ReplyFault) → has_report_form c payload ≡ false → 0 < n → column payload ≡ Err fault → (z : List Payload) → rest_of c (group_awaited g n these) (payload ∷ z) ≡ Unexpected [] fault (payload ∷ z)
+column_fails : (c : Context) (g : Group) (n : ℕ) (these : List ColumnDefinition) (payload : Payload) (fault : ReplyFault) → has_report_form c payload ≡ false → 0 < n → column payload ≡ Err fault → (z : List Payload) → rest_of c (group_awaited g n these) (payload ∷ z) ≡ Faulty [] fault (payload ∷ z)
 column_fails c g zero these payload fault form some h z = absurd (omega arith)
-column_fails c g (suc n) these payload fault form some h z = group_from c g (suc n) these (payload ∷ z) (Unexpected [] fault (payload ∷ z)) (column_unexpected c n these payload fault form h z)
+column_fails c g (suc n) these payload fault form some h z = group_from c g (suc n) these (payload ∷ z) (Faulty [] fault (payload ∷ z)) (column_unexpected c n these payload fault form h z)
 
 -- A payload has no place in a group.
-group_fails : {A : Type 0} (c : Context) (g : Group) (n : ℕ) (these : List ColumnDefinition) (payload : Payload) (awaited : code.Awaited) (fault : ReplyFault) → IsGroupSettled c n these → (read : Result A ReplyFault) → awaited_view awaited ≡ group_awaited g n these → ((f : ReplyFault) → read ≡ Err f → (z : List Payload) → rest_of c (group_awaited g n these) (payload ∷ z) ≡ Unexpected [] f (payload ∷ z)) → Refuses fault read → IsStep c (group_awaited g n these) payload (Failed awaited fault)
+group_fails : {A : Type 0} (c : Context) (g : Group) (n : ℕ) (these : List ColumnDefinition) (payload : Payload) (awaited : code.Awaited) (fault : ReplyFault) → IsGroupSettled c n these → (read : Result A ReplyFault) → awaited_view awaited ≡ group_awaited g n these → ((f : ReplyFault) → read ≡ Err f → (z : List Payload) → rest_of c (group_awaited g n these) (payload ∷ z) ≡ Faulty [] f (payload ∷ z)) → Refuses fault read → IsStep c (group_awaited g n these) payload (Failed awaited fault)
 group_fails c g n these payload awaited fault settled read is each h =
     step_fails c (group_awaited g n these) payload awaited fault (settled_group c g n these settled) read is
-    (λ f e z. each f e z ∙ ap (λ results. Unexpected results f (payload ∷ z)) (sym (listed_group g n these))) h
+    (λ f e z. each f e z ∙ ap (λ results. Faulty results f (payload ∷ z)) (sym (listed_group g n these))) h
 
 pub eof_step_fails : (c : Context) (g : Group) (these : List ColumnDefinition) (payload : Payload) (awaited : code.Awaited) (fault : ReplyFault) → has_report_form c payload ≡ false → IsGroupSettled c 0 these → awaited_view awaited ≡ group_awaited g 0 these → eof payload ≡ Err fault → IsStep c (group_awaited g 0 these) payload (Failed awaited fault)
 eof_step_fails c g these payload awaited fault form settled is h =
@@ -187,6 +187,18 @@ row_line : (c : Context) (columns : List ColumnDefinition) (payload : Payload) �
 row_line c columns payload h =
     third_of (map_ok ErrorLine (or_fault BadError (error_at c.capabilities.0 payload))) (map_ok TerminatorLine (terminator c payload)) (map_ok RowLine (row c columns payload))
     (begins_with 255 payload) (begins_with 254 payload && nat_lt (length payload) (terminator_limit c)) h
+
+ended : {A : Type 0} (x y z : A) (form a b : Bool) → form ≡ false → (form || not (if a then false else if b then false else true)) ≡ true → (if a then x else if b then y else z) ≡ (if a then x else y)
+ended x y z true a b none h = let k : true ≡ false = none in cc
+ended x y z false true b none h = refl
+ended x y z false false true none h = refl
+ended x y z false false false none h = let k : false ≡ true = h in cc
+
+-- What is no report and isn't read as a row ends the rows or is nothing.
+pub ends_line : (c : Context) (columns : List ColumnDefinition) (these : List Row) (payload : Payload) → has_report_form c payload ≡ false → IsNoRow c (Rows columns these) payload → line c columns payload ≡ rows_end c payload
+ends_line c columns these payload form h =
+    ended (map_ok ErrorLine (or_fault BadError (error_at c.capabilities.0 payload))) (map_ok TerminatorLine (terminator c payload)) (map_ok RowLine (row c columns payload))
+    (has_report_form c payload) (begins_with 255 payload) (begins_with 254 payload && nat_lt (length payload) (terminator_limit c)) form h
 
 -- A row is added to those before it.
 pub row_went : (c : Context) (columns : List ColumnDefinition) (these those : List Row) (payload : Payload) (found : Row) → has_report_form c payload ≡ false → reads_as_row c payload ≡ true → row c columns payload ≡ Ok found → those ≡ these ++ found ∷ [] → Leads c (λ z. rows c columns these (payload ∷ z)) payload (Moves [] (Rows columns those))

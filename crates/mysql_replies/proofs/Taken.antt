@@ -6,25 +6,25 @@ use Rattle.mysql_columns.specs.Columns.{ColumnDefinition}
 use Rattle.mysql_replies.specs.Grammar.{deprecate_eof}
 use Rattle.mysql_replies.specs.declared.fault.ReplyFault.{ReplyFault}
 use Rattle.mysql_replies.specs.declared.context.Context.{Context}
-use Rattle.mysql_replies.specs.Grammar.{Payload, Part, Stands, Begun, Unexpected, ◌>>=◌, Stretch, Line, RowLine, TerminatorLine, ErrorLine, Opening, OkOpening, ErrorOpening, FileOpening, CountOpening, StatementOpening, is_report, unless_report, as_part, next_payload, column, eof, columns, columns_end, column_group, line, after_rows, rows, result_set, prepared, prepared_columns, opening, after_opening, one_result}
+use Rattle.mysql_replies.specs.Grammar.{Payload, Parsed, Complete, CutOff, Faulty, ◌>>=◌, ResultGroup, Line, RowLine, TerminatorLine, ErrorLine, Opening, OkOpening, ErrorOpening, FileOpening, CountOpening, StatementOpening, is_report, unless_report, as_part, next_payload, column, eof, columns, columns_end, column_group, line, after_rows, rows, result_set, prepared, prepared_columns, opening, after_opening, one_result}
 
 -- The part takes at least n of the payloads where it stands, and a unexpected is one of them.
-abbrev pub Takes : {A : Type 0} → ℕ → List Payload → Part A → Type 0
-Takes n payloads (Stands a rest) = length rest + n ≤ length payloads
-Takes n payloads (Begun listed) = Unit {0}
-Takes n payloads (Unexpected listed fault rest) = length rest ≤ length payloads
+abbrev pub Takes : {A : Type 0} → ℕ → List Payload → Parsed A → Type 0
+Takes n payloads (Complete a rest) = length rest + n ≤ length payloads
+Takes n payloads (CutOff listed) = Unit {0}
+Takes n payloads (Faulty listed fault rest) = length rest ≤ length payloads
 
-pub Takes-more : {A : Type 0} (j k : ℕ) (payloads between : List Payload) (p : Part A) → length between + j ≤ length payloads → Takes k between p → Takes (j + k) payloads p
-Takes-more j k payloads between (Stands a rest) h t = omega arith
-Takes-more j k payloads between (Begun listed) h t = tt
-Takes-more j k payloads between (Unexpected listed fault rest) h t = omega arith
+pub Takes-more : {A : Type 0} (j k : ℕ) (payloads between : List Payload) (p : Parsed A) → length between + j ≤ length payloads → Takes k between p → Takes (j + k) payloads p
+Takes-more j k payloads between (Complete a rest) h t = omega arith
+Takes-more j k payloads between (CutOff listed) h t = tt
+Takes-more j k payloads between (Faulty listed fault rest) h t = omega arith
 
-pub Takes-bind : {A B : Type 0} (j k : ℕ) (payloads : List Payload) (p : Part A) (f : A × List Payload → Part B) → Takes j payloads p → ((a : A) (rest : List Payload) → Takes k rest (f (a, rest))) → Takes (j + k) payloads (p >>= f)
-Takes-bind j k payloads (Stands a rest) f t each = Takes-more j k payloads rest (f (a, rest)) t (each a rest)
-Takes-bind j k payloads (Begun listed) f t each = tt
-Takes-bind j k payloads (Unexpected listed fault rest) f t each = t
+pub Takes-bind : {A B : Type 0} (j k : ℕ) (payloads : List Payload) (p : Parsed A) (f : A × List Payload → Parsed B) → Takes j payloads p → ((a : A) (rest : List Payload) → Takes k rest (f (a, rest))) → Takes (j + k) payloads (p >>= f)
+Takes-bind j k payloads (Complete a rest) f t each = Takes-more j k payloads rest (f (a, rest)) t (each a rest)
+Takes-bind j k payloads (CutOff listed) f t each = tt
+Takes-bind j k payloads (Faulty listed fault rest) f t each = t
 
-pub Takes-if : {A : Type 0} (n : ℕ) (payloads : List Payload) (b : Bool) (p q : Part A) → Takes n payloads p → Takes n payloads q → Takes n payloads (if b then p else q)
+pub Takes-if : {A : Type 0} (n : ℕ) (payloads : List Payload) (b : Bool) (p q : Parsed A) → Takes n payloads p → Takes n payloads q → Takes n payloads (if b then p else q)
 Takes-if n payloads true p q s t = s
 Takes-if n payloads false p q s t = t
 
@@ -32,10 +32,10 @@ Takes-as_part : {A : Type 0} (r : Result A ReplyFault) (payload : Payload) (rest
 Takes-as_part (Ok a) payload rest = omega arith
 Takes-as_part (Err fault) payload rest = omega arith
 
-Takes-cons : {A : Type 0} (n : ℕ) (payload : Payload) (rest : List Payload) (p : Part A) → Takes n rest p → Takes n (payload ∷ rest) p
-Takes-cons n payload rest (Stands a left) t = omega arith
-Takes-cons n payload rest (Begun listed) t = tt
-Takes-cons n payload rest (Unexpected listed fault left) t = omega arith
+Takes-cons : {A : Type 0} (n : ℕ) (payload : Payload) (rest : List Payload) (p : Parsed A) → Takes n rest p → Takes n (payload ∷ rest) p
+Takes-cons n payload rest (Complete a left) t = omega arith
+Takes-cons n payload rest (CutOff listed) t = tt
+Takes-cons n payload rest (Faulty listed fault left) t = omega arith
 
 pub Takes-next_payload : {A : Type 0} (c : Context) (read : Payload → Result A ReplyFault) (payloads : List Payload) → Takes 1 payloads (next_payload c read payloads)
 unfolding next_payload
@@ -43,13 +43,13 @@ Takes-next_payload c read [] = tt
 Takes-next_payload c read (payload ∷ rest) =
     Takes-if 1 (payload ∷ rest) (is_report c payload) _ _ (Takes-cons 1 payload rest _ (Takes-next_payload c read rest)) (Takes-as_part (unless_report c read payload) payload rest)
 
-pub Takes-fewer : {A : Type 0} (j k : ℕ) (payloads : List Payload) (p : Part A) → k ≤ j → Takes j payloads p → Takes k payloads p
-Takes-fewer j k payloads (Stands a rest) h t = omega arith
-Takes-fewer j k payloads (Begun listed) h t = tt
-Takes-fewer j k payloads (Unexpected listed fault rest) h t = t
+pub Takes-fewer : {A : Type 0} (j k : ℕ) (payloads : List Payload) (p : Parsed A) → k ≤ j → Takes j payloads p → Takes k payloads p
+Takes-fewer j k payloads (Complete a rest) h t = omega arith
+Takes-fewer j k payloads (CutOff listed) h t = tt
+Takes-fewer j k payloads (Faulty listed fault rest) h t = t
 
 -- A part that takes some payloads, and then one that takes any number of them.
-Takes-then : {A B : Type 0} (n : ℕ) (payloads : List Payload) (p : Part A) (f : A × List Payload → Part B) → Takes n payloads p → ((a : A) (rest : List Payload) → Takes 0 rest (f (a, rest))) → Takes n payloads (p >>= f)
+Takes-then : {A B : Type 0} (n : ℕ) (payloads : List Payload) (p : Parsed A) (f : A × List Payload → Parsed B) → Takes n payloads p → ((a : A) (rest : List Payload) → Takes 0 rest (f (a, rest))) → Takes n payloads (p >>= f)
 Takes-then n payloads p f t each = Takes-fewer (n + 0) n payloads (p >>= f) (omega arith) (Takes-bind n 0 payloads p f t each)
 
 pub Takes-columns : (c : Context) (n : ℕ) (these : List ColumnDefinition) (payloads : List Payload) → Takes 0 payloads (columns c n these payloads)
@@ -70,7 +70,7 @@ unfolding column_group
 Takes-column_group c n these payloads =
     Takes-then 0 payloads (columns c n these payloads) _ (Takes-columns c n these payloads) (λ a rest. Takes-columns_end c a rest)
 
-Takes-after_rows : (columns : List ColumnDefinition) (rows : List Row) (on : Row → Part Stretch) (r : Result Line ReplyFault) (payload : Payload) (rest : List Payload) → ((found : Row) → Takes 0 rest (on found)) → Takes 0 (payload ∷ rest) (after_rows columns rows on r payload rest)
+Takes-after_rows : (columns : List ColumnDefinition) (rows : List Row) (on : Row → Parsed ResultGroup) (r : Result Line ReplyFault) (payload : Payload) (rest : List Payload) → ((found : Row) → Takes 0 rest (on found)) → Takes 0 (payload ∷ rest) (after_rows columns rows on r payload rest)
 Takes-after_rows columns rows on (Ok (RowLine found)) payload rest each = Takes-cons 0 payload rest _ (each found)
 Takes-after_rows columns rows on (Ok (TerminatorLine ok)) payload rest each = omega arith
 Takes-after_rows columns rows on (Ok (ErrorLine error)) payload rest each = omega arith

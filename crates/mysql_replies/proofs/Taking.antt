@@ -11,8 +11,8 @@ use Rattle.mysql_replies.specs.declared.fault.ReplyFault.{ReplyFault}
 use Rattle.mysql_replies.specs.declared.fault.ReplyFault.TheVariants.{BadError, AfterEnd}
 use Rattle.mysql_replies.specs.declared.awaited.Awaited as code
 use Rattle.mysql_replies.specs.declared.awaited.Awaited.TheVariants as awaiting
-use Rattle.mysql_replies.specs.Grammar.{Payload, Outcome, Unexpected, Wrong, Results, last, unexpected, has_report_form, is_report, next_payload, columns, columns_end, column_group, rows, one_result}
-use Rattle.mysql_replies.specs.Reply.{FaultAt, report_of, Nothing, rest_of, Progressing, GoingOn, Answered, PayloadsDecide}
+use Rattle.mysql_replies.specs.Grammar.{Payload, Outcome, Faulty, Wrong, Results, last, faulty, has_report_form, is_report, next_payload, columns, columns_end, column_group, rows, one_result}
+use Rattle.mysql_replies.specs.Reply.{FaultAt, report_of, Nothing, rest_of, OpenReply, GoingOn, Answered, PayloadsDecide}
 use Rattle.mysql_wire.specs.Wire.{Reading}
 use Rattle.mysql_server_packets.specs.Views.{prepare_ok_view, progress_report_view}
 use Rattle.mysql_replies.specs.declared.fault.ReplyFault.TheVariants.{Memory}
@@ -22,15 +22,15 @@ use Rattle.std.specs.Prelude.{map}
 use Rattle.mysql_replies.specs.Grammar.{or_fault}
 use Rattle.mysql_replies.specs.Reply.{read_report}
 use Rattle.mysql_replies.specs.Steps.{IsStep}
-use Rattle.mysql_replies.specs.Standings.{progressing_of, faulted, standing_of, HasRoom, IsSpared, IsReading, UnlessMemory, OnMemory, IsShortOf}
-use Rattle.mysql_replies.specs.Standings as states
+use Rattle.mysql_replies.specs.States.{open_reply, faulted, reply_so_far, HasRoom, IsSpared, IsReading, UnlessMemory, OnMemory, IsShortOf}
+use Rattle.mysql_replies.specs.States as states
 use Rattle.mysql_replies.specs.Views.{Refuses, outcome_views, awaited_view, column_views}
 use Rattle.mysql_replies.specs.Steps.{Moves, Fails, Over, Leads, Group, OfResultSet, OfParameters, OfPrepared, group_awaited, IsGroupSettled, IsSettled, IsAwaiting, listed_of}
 use Rattle.mysql_replies.proofs.GoingOn.{StateGoesOn, after_move, go_over}
 use Rattle.mysql_replies.proofs.Stepping.{failed_settled, group_from, group_same, step_awaits}
 
 -- The state goes on where the payload leads there.
-pub went_on : (s : Progressing) (payload : Payload) (listed : List Outcome) (after : Progressing) → Leads s.context (λ z. rest_of s.context s.awaited (payload ∷ z)) payload (Moves listed after.awaited) → after.context ≡ s.context → after.results ≡ s.results ++ listed → after.progress ≡ s.progress ++ report_of s.context payload → after.count ≡ s.count + 1 → StateGoesOn s (payload ∷ []) (GoingOn after)
+pub went_on : (s : OpenReply) (payload : Payload) (listed : List Outcome) (after : OpenReply) → Leads s.context (λ z. rest_of s.context s.awaited (payload ∷ z)) payload (Moves listed after.awaited) → after.context ≡ s.context → after.results ≡ s.results ++ listed → after.progress ≡ s.progress ++ report_of s.context payload → after.count ≡ s.count + 1 → StateGoesOn s (payload ∷ []) (GoingOn after)
 unfolding after_move
 went_on s payload listed after leads context results progress count z rest answer h =
     let same : GoingOn after ≡ after_move s payload (Moves listed after.awaited) =
@@ -38,12 +38,12 @@ went_on s payload listed after leads context results progress count z rest answe
     go_over s payload (Moves listed after.awaited) leads z rest answer (subst (λ x. PayloadsDecide x z rest answer) same h)
 
 -- The state has its answer where the payload has no place.
-pub went_wrong : (s : Progressing) (payload : Payload) (fault : ReplyFault) → Leads s.context (λ z. rest_of s.context s.awaited (payload ∷ z)) payload (Fails (listed_of s.awaited) fault) → StateGoesOn s (payload ∷ []) (Answered (record { results = s.results ++ listed_of s.awaited; progress = s.progress; end = FaultAt s.count fault }))
+pub went_wrong : (s : OpenReply) (payload : Payload) (fault : ReplyFault) → Leads s.context (λ z. rest_of s.context s.awaited (payload ∷ z)) payload (Fails (listed_of s.awaited) fault) → StateGoesOn s (payload ∷ []) (Answered (record { results = s.results ++ listed_of s.awaited; progress = s.progress; end = FaultAt s.count fault }))
 unfolding after_move
 went_wrong s payload fault leads z rest answer h = go_over s payload (Fails (listed_of s.awaited) fault) leads z rest answer h
 
 -- A payload after the end.
-pub went_over : (s : Progressing) (payload : Payload) → s.awaited ≡ Nothing → StateGoesOn s (payload ∷ []) (Answered (record { results = s.results ++ listed_of s.awaited; progress = s.progress; end = FaultAt s.count AfterEnd }))
+pub went_over : (s : OpenReply) (payload : Payload) → s.awaited ≡ Nothing → StateGoesOn s (payload ∷ []) (Answered (record { results = s.results ++ listed_of s.awaited; progress = s.progress; end = FaultAt s.count AfterEnd }))
 unfolding after_move
 went_over s payload none z rest answer h =
     let leads : Leads s.context (λ z. rest_of s.context s.awaited (payload ∷ z)) payload (Over (listed_of s.awaited)) = λ z. rw none (last [] (payload ∷ z)) in
@@ -72,16 +72,16 @@ passed c awaiting.Nothing payload h settled some z = absurd some
 pub report_passes : (c : Context) (a : code.Awaited) (payload : Payload) → is_report c payload ≡ true → IsSettled c (awaited_view a) → IsAwaiting (awaited_view a) → Leads c (λ z. rest_of c (awaited_view a) (payload ∷ z)) payload (Moves [] (awaited_view a))
 report_passes c a payload h settled some = step_awaits c payload (λ z. rest_of c (awaited_view a) (payload ∷ z)) (awaited_view a) (passed c a payload h settled some)
 
-refused_columns : (c : Context) (n : ℕ) (these : List ColumnDefinition) (payload : Payload) → has_report_form c payload ≡ true → is_ok (progress_report_at payload) ≡ false → IsGroupSettled c n these → (z : List Payload) → column_group c n these (payload ∷ z) ≡ Unexpected [] BadError (payload ∷ z)
+refused_columns : (c : Context) (n : ℕ) (these : List ColumnDefinition) (payload : Payload) → has_report_form c payload ≡ true → is_ok (progress_report_at payload) ≡ false → IsGroupSettled c n these → (z : List Payload) → column_group c n these (payload ∷ z) ≡ Faulty [] BadError (payload ∷ z)
 unfolding column_group columns columns_end next_payload
 refused_columns c zero [] payload h bad settled z = absurd settled
 refused_columns c zero (first ∷ others) payload h bad settled z = rw (settled, h, bad) refl
 refused_columns c (suc n) these payload h bad settled z = rw (h, bad) refl
 
-refused_group : (c : Context) (g : Group) (n : ℕ) (these : List ColumnDefinition) (payload : Payload) → has_report_form c payload ≡ true → is_ok (progress_report_at payload) ≡ false → IsGroupSettled c n these → (z : List Payload) → rest_of c (group_awaited g n these) (payload ∷ z) ≡ Unexpected [] BadError (payload ∷ z)
-refused_group c g n these payload h bad settled z = group_from c g n these (payload ∷ z) (Unexpected [] BadError (payload ∷ z)) (refused_columns c n these payload h bad settled z)
+refused_group : (c : Context) (g : Group) (n : ℕ) (these : List ColumnDefinition) (payload : Payload) → has_report_form c payload ≡ true → is_ok (progress_report_at payload) ≡ false → IsGroupSettled c n these → (z : List Payload) → rest_of c (group_awaited g n these) (payload ∷ z) ≡ Faulty [] BadError (payload ∷ z)
+refused_group c g n these payload h bad settled z = group_from c g n these (payload ∷ z) (Faulty [] BadError (payload ∷ z)) (refused_columns c n these payload h bad settled z)
 
-refused : (c : Context) (a : code.Awaited) (payload : Payload) → has_report_form c payload ≡ true → is_ok (progress_report_at payload) ≡ false → IsSettled c (awaited_view a) → IsAwaiting (awaited_view a) → (z : List Payload) → rest_of c (awaited_view a) (payload ∷ z) ≡ Unexpected (listed_of (awaited_view a)) BadError (payload ∷ z)
+refused : (c : Context) (a : code.Awaited) (payload : Payload) → has_report_form c payload ≡ true → is_ok (progress_report_at payload) ≡ false → IsSettled c (awaited_view a) → IsAwaiting (awaited_view a) → (z : List Payload) → rest_of c (awaited_view a) (payload ∷ z) ≡ Faulty (listed_of (awaited_view a)) BadError (payload ∷ z)
 unfolding one_result rows next_payload
 refused c awaiting.First payload h bad settled some z = rw (h, bad) refl
 refused c (awaiting.Columns left these) payload h bad settled some z = refused_group c OfResultSet left (column_views these.items) payload h bad settled z
@@ -94,22 +94,22 @@ refused c awaiting.Nothing payload h bad settled some z = absurd some
 -- A payload in the form of a report that is none has no place.
 pub report_refused : (c : Context) (a : code.Awaited) (payload : Payload) → has_report_form c payload ≡ true → is_ok (progress_report_at payload) ≡ false → IsSettled c (awaited_view a) → IsAwaiting (awaited_view a) → Leads c (λ z. rest_of c (awaited_view a) (payload ∷ z)) payload (Fails (listed_of (awaited_view a)) BadError)
 report_refused c a payload h bad settled some z =
-    subst (λ p. Results c p (listed_of (awaited_view a)) (Wrong BadError (payload ∷ z))) (sym (refused c a payload h bad settled some z)) (unexpected (listed_of (awaited_view a)) BadError (payload ∷ z))
+    subst (λ p. Results c p (listed_of (awaited_view a)) (Wrong BadError (payload ∷ z))) (sym (refused c a payload h bad settled some z)) (faulty (listed_of (awaited_view a)) BadError (payload ∷ z))
 
 -- The code's state goes on where the payload leads there.
 pub state_on : (before after : ReplyState) (payload : Payload) (listed : List Outcome) → before.fault ≡ None → after.fault ≡ None → Leads before.context (λ z. rest_of before.context (awaited_view before.awaited) (payload ∷ z)) payload (Moves listed (awaited_view after.awaited)) → after.context ≡ before.context → outcome_views after.results.items ≡ outcome_views before.results.items ++ listed → map progress_report_view after.progress.items ≡ map progress_report_view before.progress.items ++ report_of before.context payload → after.count ≡ before.count + 1 → states.StateGoesOn before payload after
 state_on before after payload listed going still leads context results progress count z rest answer h =
-    subst (λ f. PayloadsDecide (faulted (progressing_of before) f) (payload ∷ z) rest answer) (sym going)
-    (went_on (progressing_of before) payload listed (progressing_of after) leads context results progress count z rest answer
-    (subst (λ f. PayloadsDecide (faulted (progressing_of after) f) z rest answer) still h))
+    subst (λ f. PayloadsDecide (faulted (open_reply before) f) (payload ∷ z) rest answer) (sym going)
+    (went_on (open_reply before) payload listed (open_reply after) leads context results progress count z rest answer
+    (subst (λ f. PayloadsDecide (faulted (open_reply after) f) z rest answer) still h))
 
 -- The code's state has its answer where the payload has no place.
 pub state_wrong : (before after : ReplyState) (same : code.Awaited) (payload : Payload) (fault : ReplyFault) → before.fault ≡ None → after ≡ record before { awaited = same; fault = Some fault } → awaited_view same ≡ awaited_view before.awaited → Leads before.context (λ z. rest_of before.context (awaited_view before.awaited) (payload ∷ z)) payload (Fails (listed_of (awaited_view before.awaited)) fault) → states.StateGoesOn before payload after
 state_wrong before after same payload fault going is awaited leads z rest answer h =
-    let k = subst (λ s. PayloadsDecide (standing_of s) z rest answer) is h in
+    let k = subst (λ s. PayloadsDecide (reply_so_far s) z rest answer) is h in
     let l = subst (λ a. PayloadsDecide (Answered (record { results = outcome_views before.results.items ++ listed_of a; progress = map progress_report_view before.progress.items; end = FaultAt before.count fault })) z rest answer) awaited k in
-    subst (λ f. PayloadsDecide (faulted (progressing_of before) f) (payload ∷ z) rest answer) (sym going)
-    (went_wrong (progressing_of before) payload fault leads z rest answer l)
+    subst (λ f. PayloadsDecide (faulted (open_reply before) f) (payload ∷ z) rest answer) (sym going)
+    (went_wrong (open_reply before) payload fault leads z rest answer l)
 
 -- A step that failed.
 pub step_failed : (before after : ReplyState) (same : code.Awaited) (payload : Payload) (fault : ReplyFault) → before.fault ≡ None → after ≡ record before { awaited = same; fault = Some fault } → IsStep before.context (awaited_view before.awaited) payload (Failed same fault) → UnlessMemory {X = Unit {0}} (Err fault) (states.StateGoesOn before payload after)
@@ -134,9 +134,9 @@ report_failed before after payload fault going is form settled some h = wrong_re
 -- A payload after the last result.
 pub state_over : (before after : ReplyState) (payload : Payload) → before.fault ≡ None → after ≡ record before { fault = Some AfterEnd } → before.awaited ≡ awaiting.Nothing → states.StateGoesOn before payload after
 state_over before after payload going is none z rest answer h =
-    let k = subst (λ s. PayloadsDecide (standing_of s) z rest answer) is h in
-    subst (λ f. PayloadsDecide (faulted (progressing_of before) f) (payload ∷ z) rest answer) (sym going)
-    (went_over (progressing_of before) payload (ap awaited_view none) z rest answer k)
+    let k = subst (λ s. PayloadsDecide (reply_so_far s) z rest answer) is h in
+    subst (λ f. PayloadsDecide (faulted (open_reply before) f) (payload ∷ z) rest answer) (sym going)
+    (went_over (open_reply before) payload (ap awaited_view none) z rest answer k)
 
 or_fault_ok : (report : ProgressReport) (name : ReplyFault) (read : Reading ProgressReport) → or_fault name read ≡ Ok report → (is_ok read ≡ true) × (read_report read ≡ report ∷ [])
 or_fault_ok report name (Ok x) h = (refl, cc)
@@ -173,9 +173,9 @@ on_ok (Err e) h p = absurd (let k : true ≡ false = sym h in cc)
 -- A list with more room holds the same results.
 pub roomed : (before after : ReplyState) (room : Vec ReplyResult Global) (payload : Payload) → room.items ≡ before.results.items → states.StateGoesOn (record before { results = room }) payload after → states.StateGoesOn before payload after
 roomed before after room payload same goes z rest answer h =
-    let standing : standing_of (record before { results = room }) ≡ standing_of before =
+    let so_far : reply_so_far (record before { results = room }) ≡ reply_so_far before =
     ap (λ items. faulted (record { context = before.context; results = outcome_views items; progress = map progress_report_view before.progress.items; count = before.count; awaited = awaited_view before.awaited }) before.fault) same in
-    subst (λ s. PayloadsDecide s (payload ∷ z) rest answer) standing (goes z rest answer h)
+    subst (λ s. PayloadsDecide s (payload ∷ z) rest answer) so_far (goes z rest answer h)
 
 pub roomed_unless : (before after : ReplyState) (room : Vec ReplyResult Global) (payload : Payload) (fault : ReplyFault) → room.items ≡ before.results.items → UnlessMemory {X = Unit {0}} (Err fault) (states.StateGoesOn (record before { results = room }) payload after) → UnlessMemory {X = Unit {0}} (Err fault) (states.StateGoesOn before payload after)
 roomed_unless before after room payload Memory same goes = tt
@@ -184,7 +184,7 @@ roomed_unless before after room payload fault same goes = roomed before after ro
 -- Memory ran out over a payload.
 short_failed : (before after : ReplyState) (same : code.Awaited) → after ≡ record before { awaited = same; fault = Some Memory } → listed_of (awaited_view same) ≡ listed_of (awaited_view before.awaited) → IsShortOf before after
 short_failed before after same is listed =
-    ap standing_of is ∙ ap (λ these. Answered (record { results = outcome_views before.results.items ++ these; progress = map progress_report_view before.progress.items; end = FaultAt before.count Memory })) listed
+    ap reply_so_far is ∙ ap (λ these. Answered (record { results = outcome_views before.results.items ++ these; progress = map progress_report_view before.progress.items; end = FaultAt before.count Memory })) listed
 
 pub step_short : (before after : ReplyState) (same : code.Awaited) (payload : Payload) (fault : ReplyFault) → after ≡ record before { awaited = same; fault = Some fault } → IsStep before.context (awaited_view before.awaited) payload (Failed same fault) → OnMemory {X = Unit {0}} (Err fault) (IsShortOf before after)
 step_short before after same payload Memory is step = short_failed before after same is step.listed

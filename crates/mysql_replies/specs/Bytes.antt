@@ -11,11 +11,15 @@ use Rattle.mysql_wire.specs.Stream.Rest.{TooLarge}
 use Rattle.mysql_replies.specs.declared.context.Context.{Context}
 use Rattle.mysql_replies.specs.declared.fault.ReplyFault.TheVariants.{Memory}
 use Rattle.mysql_replies.specs.Grammar.{Payload}
-use Rattle.mysql_replies.specs.Reply.{Answer, FaultAt, Unfinished, IsReply, Standing, GoingOn, Answered, Continues}
+use Rattle.mysql_replies.specs.Reply.{Answer, FaultAt, Unfinished, IsReply, ReplySoFar, GoingOn, Answered, Continues}
 
--- How many more payloads can be numbered after so many: numbers are below 2^64 - 1.
+-- Payloads are counted in 64 bits: the numbers of payloads are below 2^64 - 1.
+abbrev pub number_bound : ℕ
+number_bound = 18446744073709551615
+
+-- How many more payloads can be numbered after so many.
 abbrev pub numbers_left : ℕ → ℕ
-numbers_left count = 18446744073709551615 - count
+numbers_left count = number_bound - count
 
 -- The payloads that can be numbered, where so many came before them.
 abbrev pub numbered : ℕ → List Payload → List Payload
@@ -57,9 +61,9 @@ pub record IsShortReplyOf (c : Context) (first_id limit : ℕ) (pieces : List (L
   pub at_least : length came.payloads ≤ length read
   pub stops : StopsAfter c first_id limit (flat_map (λ piece. piece) before ++ piece) read answer
 
--- From what stands, the payloads still to come and the rest after them decide this answer, as far as they can
--- be numbered.
-abbrev pub NumberedPayloadsDecide : Standing → List Payload → Rest → Answer → Type 0
+-- Behind what was read, the payloads still to come and the rest after them decide this answer, as far
+-- as they can be numbered.
+abbrev pub NumberedPayloadsDecide : ReplySoFar → List Payload → Rest → Answer → Type 0
 NumberedPayloadsDecide (GoingOn s) payloads rest answer =
     Continues s (numbered s.count payloads) (after_numbered s.count payloads rest) answer
 NumberedPayloadsDecide (Answered known) payloads rest answer = answer ≡ known

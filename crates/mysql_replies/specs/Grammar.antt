@@ -9,6 +9,8 @@ use Rattle.mysql_wire.specs.Flags.{contains}
 use Rattle.mysql_ok_packets.specs.OkPackets.{OkPacket, ok_packet_at, old_eof_at, result_set_terminator_at}
 use Rattle.mysql_ok_packets.specs.OkPackets.{more_results_exist}
 pub use Rattle.mysql_server_packets.specs.Packets.{progress_obsolete}
+pub use Rattle.mysql_row_refs.specs.Lines.{begins_with}
+use Rattle.mysql_row_refs.specs.Lines.{terminator_limit as limit_of}
 use Rattle.mysql_server_packets.specs.Packets.{PrepareOk, ServerError, error_at, progress_report_at, prepare_ok_at}
 use Rattle.mysql_columns.specs.Columns.{ColumnDefinition, column_at}
 use Rattle.mysql_rows.specs.Rows.{Row, as_row, text_row_at, binary_resultset_row_at}
@@ -35,20 +37,20 @@ pub data Outcome : Type 0 where
   FileResult : List ℕ → Outcome
 
 -- What a part of the grammar makes of a list of payloads.
-pub data Part (A : Type 0) : Type 0 where
-  -- The part stands, and these payloads follow it.
-  Stands : A → List Payload → Part A
+pub data Parsed (A : Type 0) : Type 0 where
+  -- The part is complete, and these payloads follow it.
+  Complete : A → List Payload → Parsed A
   -- The payloads end inside the part; of it these results are listed.
-  Begun : List Outcome → Part A
+  CutOff : List Outcome → Parsed A
   -- These results are listed of the part, and then the first of these payloads has no place in it.
-  Unexpected : List Outcome → ReplyFault → List Payload → Part A
+  Faulty : List Outcome → ReplyFault → List Payload → Parsed A
 
 -- One part after another.
 infixl 10 ◌>>=◌
-abbrev pub ◌>>=◌ : {A B : Type 0} → Part A → (A × List Payload → Part B) → Part B
-(Stands a rest) >>= f = f (a, rest)
-(Begun listed) >>= f = Begun listed
-(Unexpected listed fault rest) >>= f = Unexpected listed fault rest
+abbrev pub ◌>>=◌ : {A B : Type 0} → Parsed A → (A × List Payload → Parsed B) → Parsed B
+(Complete a rest) >>= f = f (a, rest)
+(CutOff listed) >>= f = CutOff listed
+(Faulty listed fault rest) >>= f = Faulty listed fault rest
 
 -- A payload in the form of a progress report, whether or not it can be read as one.
 abbrev pub has_report_form : Context → Payload → Bool
@@ -77,13 +79,13 @@ abbrev pub unless_report : {A : Type 0} → Context → (Payload → Result A Re
 unless_report c read payload = if has_report_form c payload then Err BadError else read payload
 
 -- A payload where it was read, with those that follow it.
-abbrev pub as_part : {A : Type 0} → Result A ReplyFault → Payload → List Payload → Part A
-as_part (Ok a) payload rest = Stands a rest
-as_part (Err fault) payload rest = Unexpected [] fault (payload ∷ rest)
+abbrev pub as_part : {A : Type 0} → Result A ReplyFault → Payload → List Payload → Parsed A
+as_part (Ok a) payload rest = Complete a rest
+as_part (Err fault) payload rest = Faulty [] fault (payload ∷ rest)
 
 -- The next payload, read so; progress reports before it are passed over.
-unfoldable pub next_payload : {A : Type 0} → Context → (Payload → Result A ReplyFault) → List Payload → Part A
-next_payload c read [] = Begun []
+unfoldable pub next_payload : {A : Type 0} → Context → (Payload → Result A ReplyFault) → List Payload → Parsed A
+next_payload c read [] = CutOff []
 next_payload c read (payload ∷ rest) =
     if is_report c payload then next_payload c read rest else as_part (unless_report c read payload) payload rest
 
@@ -91,26 +93,26 @@ next_payload c read (payload ∷ rest) =
 abbrev pub column : Payload → Result ColumnDefinition ReplyFault
 column payload = or_fault BadColumn (column_at payload)
 
--- n more columns after these.
-unfoldable pub columns : Context → ℕ → List ColumnDefinition → List Payload → Part (List ColumnDefinition)
-columns c zero these payloads = Stands these payloads
-columns c (suc n) these payloads = next_payload c column payloads >>= λ x. columns c n (these ++ x.0 ∷ []) x.1
+-- n more columns after the earlier ones.
+unfoldable pub columns : Context → ℕ → List ColumnDefinition → List Payload → Parsed (List ColumnDefinition)
+columns c zero earlier payloads = Complete earlier payloads
+columns c (suc n) earlier payloads = next_payload c column payloads >>= λ x. columns c n (earlier ++ x.0 ∷ []) x.1
 
 -- The EOF packet: fe, below nine bytes.
 abbrev pub eof : Payload → Result OkPacket ReplyFault
 eof payload = if nat_lt (length payload) 9 then or_fault BadTerminator (old_eof_at payload) else Err BadTerminator
 
 -- The EOF that is due after columns: none after no columns, and none with DEPRECATE_EOF.
-unfoldable pub columns_end : Context → List ColumnDefinition → List Payload → Part (List ColumnDefinition)
-columns_end c [] payloads = Stands [] payloads
+unfoldable pub columns_end : Context → List ColumnDefinition → List Payload → Parsed (List ColumnDefinition)
+columns_end c [] payloads = Complete [] payloads
 columns_end c (first ∷ others) payloads =
-    if deprecate_eof c.capabilities.0 then Stands (first ∷ others) payloads
-    else (next_payload c eof payloads >>= λ x. Stands (first ∷ others) x.1)
+    if deprecate_eof c.capabilities.0 then Complete (first ∷ others) payloads
+    else (next_payload c eof payloads >>= λ x. Complete (first ∷ others) x.1)
 
--- n more columns after these, and the EOF that is due.
-unfoldable pub column_group : Context → ℕ → List ColumnDefinition → List Payload → Part (List ColumnDefinition)
-column_group c n these payloads = do
-  all ← columns c n these payloads
+-- n more columns after the earlier ones, and the EOF that is due.
+unfoldable pub column_group : Context → ℕ → List ColumnDefinition → List Payload → Parsed (List ColumnDefinition)
+column_group c n earlier payloads = do
+  all ← columns c n earlier payloads
   columns_end c all.0 all.1
 
 -- What may stand in a row's place.
@@ -136,13 +138,15 @@ terminator c payload =
     or_fault BadTerminator
     (if deprecate_eof c.capabilities.0 then result_set_terminator_at c.capabilities.0 payload else old_eof_at payload)
 
--- A payload that begins with fe is a terminator below this length.
+-- A payload that begins with fe is a terminator below this length: 16777215 with DEPRECATE_EOF, else 9.
 abbrev pub terminator_limit : Context → ℕ
-terminator_limit c = if deprecate_eof c.capabilities.0 then 16777215 else 9
+terminator_limit c = limit_of (deprecate_eof c.capabilities.0)
 
-abbrev pub begins_with : ℕ → Payload → Bool
-begins_with b [] = false
-begins_with b (first ∷ rest) = first == b
+-- What ends rows: an error, or else a terminator.
+abbrev pub rows_end : Context → Payload → Result Line ReplyFault
+rows_end c payload =
+    if begins_with 255 payload then map_ok ErrorLine (or_fault BadError (error_at c.capabilities.0 payload))
+    else map_ok TerminatorLine (terminator c payload)
 
 -- A payload in a row's place: an error, a terminator or a row.
 abbrev pub line : Context → List ColumnDefinition → Payload → Result Line ReplyFault
@@ -152,47 +156,51 @@ line c columns payload =
     then map_ok TerminatorLine (terminator c payload)
     else map_ok RowLine (row c columns payload)
 
--- One result or two that stand together, and whether another result follows.
-pub record Stretch : Type 0 where
+-- One result, or rows and the error that ends them, and whether another result follows.
+pub record ResultGroup : Type 0 where
   pub results : List Outcome
   pub more : Bool
 
--- What a line means after these rows: a row goes on, a terminator or an error ends them.
-abbrev pub after_rows : List ColumnDefinition → List Row → (Row → Part Stretch) →
-    Result Line ReplyFault → Payload → List Payload → Part Stretch
+-- What a line means after some rows: a row goes on, a terminator or an error ends them.
+abbrev pub after_rows : List ColumnDefinition → List Row → (Row → Parsed ResultGroup) →
+    Result Line ReplyFault → Payload → List Payload → Parsed ResultGroup
 after_rows columns rows on (Ok (RowLine found)) payload rest = on found
 after_rows columns rows on (Ok (TerminatorLine ok)) payload rest =
-    Stands (record { results = RowsResult columns rows (Some ok) ∷ []; more = more_results_exist ok.status_flags }) rest
+    Complete (record {
+      results = RowsResult columns rows (Some ok) ∷ [];
+      more =
+          more_results_exist ok.status_flags;
+    }) rest
 after_rows columns rows on (Ok (ErrorLine error)) payload rest =
-    Stands (record { results = RowsResult columns rows None ∷ ErrorResult error ∷ []; more = false }) rest
+    Complete (record { results = RowsResult columns rows None ∷ ErrorResult error ∷ []; more = false }) rest
 after_rows columns rows on (Err fault) payload rest =
-    Unexpected (RowsResult columns rows None ∷ []) fault (payload ∷ rest)
+    Faulty (RowsResult columns rows None ∷ []) fault (payload ∷ rest)
 
--- The rows after these, to their terminator or an error.
-unfoldable pub rows : Context → List ColumnDefinition → List Row → List Payload → Part Stretch
-rows c columns these [] = Begun (RowsResult columns these None ∷ [])
-rows c columns these (payload ∷ rest) =
-    if is_report c payload then rows c columns these rest
-    else after_rows columns these (λ found. rows c columns (these ++ found ∷ []) rest)
+-- The rows after the earlier ones, to their terminator or an error.
+unfoldable pub rows : Context → List ColumnDefinition → List Row → List Payload → Parsed ResultGroup
+rows c columns earlier [] = CutOff (RowsResult columns earlier None ∷ [])
+rows c columns earlier (payload ∷ rest) =
+    if is_report c payload then rows c columns earlier rest
+    else after_rows columns earlier (λ found. rows c columns (earlier ++ found ∷ []) rest)
     (unless_report c (line c columns) payload) payload rest
 
--- A result set after its count: n more columns after these, the EOF that is due, and the rows.
-unfoldable pub result_set : Context → ℕ → List ColumnDefinition → List Payload → Part Stretch
-result_set c n these payloads = do
-  columns ← column_group c n these payloads
+-- A result set after its count: n more columns after the earlier ones, the EOF that is due, and the rows.
+unfoldable pub result_set : Context → ℕ → List ColumnDefinition → List Payload → Parsed ResultGroup
+result_set c n earlier payloads = do
+  columns ← column_group c n earlier payloads
   rows c columns.0 [] columns.1
 
--- A prepared reply after its parameters: n more columns after these, and the EOF that is due.
+-- A prepared reply after its parameters: n more columns after the earlier ones, and the EOF that is due.
 unfoldable pub prepared_columns : Context → PrepareOk → List ColumnDefinition → ℕ →
-    List ColumnDefinition → List Payload → Part Stretch
-prepared_columns c statement parameters n these payloads = do
-  columns ← column_group c n these payloads
-  Stands (record { results = PreparedResult statement parameters columns.0 ∷ []; more = false }) columns.1
+    List ColumnDefinition → List Payload → Parsed ResultGroup
+prepared_columns c statement parameters n earlier payloads = do
+  columns ← column_group c n earlier payloads
+  Complete (record { results = PreparedResult statement parameters columns.0 ∷ []; more = false }) columns.1
 
--- A prepared reply after its statement packet: n more parameters after these, and then its columns.
-unfoldable pub prepared : Context → PrepareOk → ℕ → List ColumnDefinition → List Payload → Part Stretch
-prepared c statement n these payloads = do
-  parameters ← column_group c n these payloads
+-- A prepared reply after its statement packet: n more parameters after the earlier ones, and then its columns.
+unfoldable pub prepared : Context → PrepareOk → ℕ → List ColumnDefinition → List Payload → Parsed ResultGroup
+prepared c statement n earlier payloads = do
+  parameters ← column_group c n earlier payloads
   prepared_columns c statement parameters.0 statement.num_columns [] parameters.1
 
 -- What the first payload of a result may be.
@@ -225,20 +233,20 @@ opening c payload =
     else map_ok CountOpening (count_within (lenenc_number_at payload))
 
 -- A result after its first payload.
-abbrev pub after_opening : Context → Opening → List Payload → Part Stretch
+abbrev pub after_opening : Context → Opening → List Payload → Parsed ResultGroup
 after_opening c (OkOpening ok) rest =
-    Stands (record { results = OkResult ok ∷ []; more = more_results_exist ok.status_flags }) rest
-after_opening c (ErrorOpening error) rest = Stands (record { results = ErrorResult error ∷ []; more = false }) rest
-after_opening c (FileOpening name) rest = Stands (record { results = FileResult name ∷ []; more = false }) rest
+    Complete (record { results = OkResult ok ∷ []; more = more_results_exist ok.status_flags }) rest
+after_opening c (ErrorOpening error) rest = Complete (record { results = ErrorResult error ∷ []; more = false }) rest
+after_opening c (FileOpening name) rest = Complete (record { results = FileResult name ∷ []; more = false }) rest
 after_opening c (CountOpening n) rest = result_set c n [] rest
 after_opening c (StatementOpening statement) rest = prepared c statement statement.num_params [] rest
 
 -- A result.
-unfoldable pub one_result : Context → List Payload → Part Stretch
+unfoldable pub one_result : Context → List Payload → Parsed ResultGroup
 one_result c payloads = next_payload c (opening c) payloads >>= λ x. after_opening c x.0 x.1
 
--- How the results of a reply end: the last one stands, and these payloads follow it; the payloads end before
--- that; or the first of these payloads has no place.
+-- How the results of a reply end: the last one is whole, and these payloads follow it; the payloads
+-- end before that; or the first of these payloads has no place.
 pub data Ending : Type 0 where
   Ended : List Payload → Ending
   Open : Ending
@@ -246,12 +254,12 @@ pub data Ending : Type 0 where
 
 -- Results one after another, by what their first part makes of the payloads: another result follows exactly
 -- where the one before says so.
-pub data Results (c : Context) : Part Stretch → List Outcome → Ending → Type 0 where
+pub data Results (c : Context) : Parsed ResultGroup → List Outcome → Ending → Type 0 where
   last : (results : List Outcome) (rest : List Payload) →
-      Results c (Stands (record { results = results; more = false }) rest) results (Ended rest)
+      Results c (Complete (record { results = results; more = false }) rest) results (Ended rest)
   more : (results : List Outcome) (rest : List Payload) {others : List Outcome} {ending : Ending} →
       Results c (one_result c rest) others ending →
-      Results c (Stands (record { results = results; more = true }) rest) (results ++ others) ending
-  begun : (results : List Outcome) → Results c (Begun results) results Open
-  unexpected : (results : List Outcome) (fault : ReplyFault) (rest : List Payload) →
-      Results c (Unexpected results fault rest) results (Wrong fault rest)
+      Results c (Complete (record { results = results; more = true }) rest) (results ++ others) ending
+  cut_off : (results : List Outcome) → Results c (CutOff results) results Open
+  faulty : (results : List Outcome) (fault : ReplyFault) (rest : List Payload) →
+      Results c (Faulty results fault rest) results (Wrong fault rest)

@@ -10,35 +10,35 @@ use Rattle.mysql_replies.specs.declared.context.Context.{Context}
 use Rattle.mysql_replies.specs.declared.fault.ReplyFault.{ReplyFault}
 use Rattle.mysql_replies.specs.declared.fault.ReplyFault.TheVariants.{Memory}
 use Rattle.mysql_replies.specs.Grammar.{Payload}
-use Rattle.mysql_replies.specs.Reply.{Answer, End, FaultAt, Unfinished, Standing, GoingOn, Answered, fresh}
+use Rattle.mysql_replies.specs.Reply.{Answer, End, FaultAt, Unfinished, ReplySoFar, GoingOn, Answered, fresh}
 use Rattle.mysql_replies.specs.Bytes.{NumberedPayloadsDecide, IsReplyOf}
 
--- What is held: what stands of the reply, and the bytes of the packet that hasn't come whole, with the number of
--- its first chunk and the limit.
+-- What is held: the reply so far, and the bytes of the packet that hasn't come whole, with the number
+-- of its first chunk and the limit.
 pub record ReaderState : Type 0 where
-  pub standing : Standing
+  pub so_far : ReplySoFar
   pub limit : ℕ
   pub number : ℕ
   pub bytes : List ℕ
 
 -- What a fresh reader holds.
 abbrev pub fresh_reader : Context → ℕ → ℕ → ReaderState
-fresh_reader c first_id limit = record { standing = fresh c; limit = limit; number = first_id; bytes = [] }
+fresh_reader c first_id limit = record { so_far = fresh c; limit = limit; number = first_id; bytes = [] }
 
--- From what stands, these bytes, numbered on from this number, decide this answer.
-pub record BytesDecide (s : Standing) (limit number : ℕ) (bytes : List ℕ) (answer : Answer) : Type 0 where
+-- Behind what was read, these bytes, numbered on from this number, decide this answer.
+pub record BytesDecide (s : ReplySoFar) (limit number : ℕ) (bytes : List ℕ) (answer : Answer) : Type 0 where
   pub split : Split
   pub splits : IsSplit limit (OnFrom number) bytes split
   pub decides : NumberedPayloadsDecide s split.payloads split.rest answer
 
-abbrev pub ReaderDecidesFrom : Standing → ReaderState → List ℕ → Answer → Type 0
+abbrev pub ReaderDecidesFrom : ReplySoFar → ReaderState → List ℕ → Answer → Type 0
 ReaderDecidesFrom (GoingOn s) reader more answer =
     BytesDecide (GoingOn s) reader.limit reader.number (reader.bytes ++ more) answer
 ReaderDecidesFrom (Answered known) reader more answer = answer ≡ known
 
 -- What is held and the bytes still to come decide this answer.
 abbrev pub ReaderDecides : ReaderState → List ℕ → Answer → Type 0
-ReaderDecides reader more answer = ReaderDecidesFrom reader.standing reader more answer
+ReaderDecides reader more answer = ReaderDecidesFrom reader.so_far reader more answer
 
 -- What is held after a piece decides, over all bytes still to come, what was decided before over the piece and these.
 abbrev pub ReaderGoesOn : ReaderState → List ℕ → ReaderState → Type 0
@@ -50,7 +50,7 @@ abbrev pub fault_of_end : End → Option ReplyFault
 fault_of_end (FaultAt count fault) = Some fault
 fault_of_end end = None
 
-abbrev pub fault_of : Standing → Option ReplyFault
+abbrev pub fault_of : ReplySoFar → Option ReplyFault
 fault_of (GoingOn s) = None
 fault_of (Answered answer) = fault_of_end answer.end
 
@@ -63,7 +63,7 @@ abbrev pub count_of_end : End → ℕ
 count_of_end (FaultAt count fault) = count
 count_of_end end = 0
 
-abbrev pub count_of : Standing → ℕ
+abbrev pub count_of : ReplySoFar → ℕ
 count_of (GoingOn s) = s.count
 count_of (Answered answer) = count_of_end answer.end
 
@@ -76,10 +76,10 @@ pub record TakesAll (old : ReaderState) (bytes : List ℕ) (new : ReaderState) :
   pub left : new.bytes ≡ split.rest_bytes
   pub number : new.number ≡ first_number (after_all split.payloads (OnFrom old.number))
   pub limit : new.limit ≡ old.limit
-  pub count : count_of new.standing ≡ count_of old.standing + length split.payloads
+  pub count : count_of new.so_far ≡ count_of old.so_far + length split.payloads
   pub goes_on : (payloads : List Payload) (rest : Rest) (answer : Answer) →
-      NumberedPayloadsDecide new.standing payloads rest answer →
-      NumberedPayloadsDecide old.standing (split.payloads ++ payloads) rest answer
+      NumberedPayloadsDecide new.so_far payloads rest answer →
+      NumberedPayloadsDecide old.so_far (split.payloads ++ payloads) rest answer
 
 -- Memory ran out over these bytes: the answer has the results and the reports of the payloads read
 -- before and of the first payloads of the bytes, however many were read, and their number. Each of
@@ -88,15 +88,15 @@ pub record RunsShort (old : ReaderState) (bytes : List ℕ) (answer : Answer) : 
   pub read : List Payload
   pub first : StandFirst old.limit (OnFrom old.number) bytes read
   pub whole : Answer
-  pub decided : NumberedPayloadsDecide old.standing read stream.Open whole
+  pub decided : NumberedPayloadsDecide old.so_far read stream.Open whole
   pub unfinished : whole.end ≡ Unfinished
   pub results : answer.results ≡ whole.results
   pub progress : answer.progress ≡ whole.progress
-  pub end : answer.end ≡ FaultAt (count_of old.standing + length read) Memory
+  pub end : answer.end ≡ FaultAt (count_of old.so_far + length read) Memory
 
 -- Where memory ran out over these bytes, such an answer stands.
 abbrev pub StandsShort : ReaderState → List ℕ → ReaderState → Type 0
-StandsShort old bytes new = (answer : Answer) × (new.standing ≡ Answered answer) × RunsShort old bytes answer
+StandsShort old bytes new = (answer : Answer) × (new.so_far ≡ Answered answer) × RunsShort old bytes answer
 
 -- Whatever is held decides an answer over any bytes, and only one.
 abbrev pub EachReaderDecides : Type 0

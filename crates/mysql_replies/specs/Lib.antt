@@ -5,10 +5,11 @@ pub mod Holding
 pub mod OpenRows
 pub mod Views
 pub mod Steps
-pub mod Standings
+pub mod States
+pub mod Pieces
 pub mod Taking
-pub mod Lending
-pub mod LentSteps
+pub mod Borrowing
+pub mod RowSteps
 pub mod Manual
 pub mod Beginnings
 pub mod BeginningLaws

@@ -172,7 +172,7 @@ pub record IsFramedReply (c : Context) (first_id limit : ℕ) (bytes : List ℕ)
   pub within : AllByRecursion (λ payload. length payload ≤ limit) payloads
   pub framed : bytes ≡ framings payloads (OnFrom first_id)
 
--- The same of bytes: such framings have the answer Whole with these results and reports,
+-- The framings of a whole reply have the answer Whole with its results and reports.
 abbrev pub EachFramingIsWhole : Type 0
 EachFramingIsWhole = (c : Context) (first_id limit : ℕ) (bytes : List ℕ) (listed : List Outcome)
     (reports : List ProgressReport) →
@@ -180,7 +180,7 @@ EachFramingIsWhole = (c : Context) (first_id limit : ℕ) (bytes : List ℕ) (li
     IsReplyOf c first_id limit bytes
     (record { results = listed; progress = reports; end = Whole })
 
--- and no other bytes have one.
+-- Bytes have the answer Whole only where they are such framings.
 abbrev pub OnlyFramingsAreWhole : Type 0
 OnlyFramingsAreWhole = (c : Context) (first_id limit : ℕ) (bytes : List ℕ) (answer : Answer) →
     IsReplyOf c first_id limit bytes answer → answer.end ≡ Whole →

@@ -11,22 +11,24 @@ use Rattle.mysql_rows.specs.Rows as rows
 use Rattle.mysql_rows.specs.declared.row.Row.{Row}
 use Rattle.mysql_rows.specs.Views.{row_view, shared_columns}
 
--- The columns, the rows so far, and what lends rows, where one was lent.
+-- The columns, the rows so far, and what reads rows to be borrowed, where one was read.
 pub record RowsSoFar : Type 0 where
   pub columns : List ColumnDefinition
   pub rows : List rows.Row
-  pub lender : Option RowReader
+  pub reader : Option RowReader
 
 abbrev pub rows_of : List Row → List rows.Row
-rows_of these = map row_view these
+rows_of kept = map row_view kept
 
 -- A second share is of the same columns; there is none only where there are no rows.
 abbrev pub HasShare : RcSlice Column Global → Option (RcSlice Column Global) → List Row → Type 0
-HasShare columns (Some share) these = shared_columns share ≡ shared_columns columns
-HasShare columns None these = these ≡ []
+HasShare columns (Some share) kept = shared_columns share ≡ shared_columns columns
+HasShare columns None kept = kept ≡ []
 
--- What lends rows lends them under the same columns, in this format.
-abbrev pub HasLender : RcSlice Column Global → RowFormat → Option RowReader → Type 0
-HasLender columns format lender =
-    IfSome lender (λ it. (shared_columns it.columns ≡ shared_columns columns) ×
-    (it.format ≡ format))
+-- A reader of rows under these columns, in this format.
+abbrev pub ReadsRows : List ColumnDefinition → RowFormat → RowReader → Type 0
+ReadsRows columns format reader = (shared_columns reader.columns ≡ columns) × (reader.format ≡ format)
+
+-- What reads rows to be borrowed reads them under the same columns, in this format.
+abbrev pub HasReader : RcSlice Column Global → RowFormat → Option RowReader → Type 0
+HasReader columns format reader = IfSome reader (ReadsRows (shared_columns columns) format)

@@ -12,7 +12,8 @@ use Rattle.mysql_replies.specs.declared.fault.ReplyFault.TheVariants.{AfterEnd}
 use Rattle.mysql_wire.specs.Stream.{Rest}
 use Rattle.mysql_wire.specs.Stream.Rest.{Empty, TooLarge, OutOfSync}
 use Rattle.mysql_replies.specs.declared.context.Context.{Context}
-use Rattle.mysql_replies.specs.Grammar.{Payload, Outcome, Part, Stands, Stretch, Ending, Ended, Open, Wrong, Results}
+use Rattle.mysql_replies.specs.Grammar.{Payload, Outcome, Parsed, Complete, ResultGroup, Ending, Ended, Open, Wrong}
+use Rattle.mysql_replies.specs.Grammar.{Results}
 use Rattle.mysql_replies.specs.Grammar.{has_report_form, rows, result_set, prepared, prepared_columns, one_result}
 
 -- How a reply ends: whole, unfinished, or at the payload of this number.
@@ -66,29 +67,29 @@ pub record IsReply (c : Context) (payloads : List Payload) (rest : Rest) (answer
 pub data Awaited : Type 0 where
   -- The first payload of a result.
   First : Awaited
-  -- Of a result set: n more columns after these, and all that follows them.
+  -- Of a result set: n more columns after the earlier ones, and all that follows them.
   Columns : ℕ → List ColumnDefinition → Awaited
-  -- Rows after these, under these columns.
+  -- Under these columns, rows after the earlier ones.
   Rows : List ColumnDefinition → List Row → Awaited
-  -- Of a prepared reply: n more parameters after these, and all that follows them.
+  -- Of a prepared reply: n more parameters after the earlier ones, and all that follows them.
   Parameters : PrepareOk → ℕ → List ColumnDefinition → Awaited
-  -- Of a prepared reply: n more columns after these.
+  -- Of a prepared reply: n more columns after the earlier ones.
   PreparedColumns : PrepareOk → List ColumnDefinition → ℕ → List ColumnDefinition → Awaited
-  -- Nothing: the last result stands.
+  -- Nothing: the last result is whole.
   Nothing : Awaited
 
 -- What the payloads make of the part that is awaited.
-abbrev pub rest_of : Context → Awaited → List Payload → Part Stretch
+abbrev pub rest_of : Context → Awaited → List Payload → Parsed ResultGroup
 rest_of c First payloads = one_result c payloads
-rest_of c (Columns n these) payloads = result_set c n these payloads
-rest_of c (Rows columns these) payloads = rows c columns these payloads
-rest_of c (Parameters statement n these) payloads = prepared c statement n these payloads
-rest_of c (PreparedColumns statement parameters n these) payloads =
-    prepared_columns c statement parameters n these payloads
-rest_of c Nothing payloads = Stands (record { results = []; more = false }) payloads
+rest_of c (Columns n earlier) payloads = result_set c n earlier payloads
+rest_of c (Rows columns earlier) payloads = rows c columns earlier payloads
+rest_of c (Parameters statement n earlier) payloads = prepared c statement n earlier payloads
+rest_of c (PreparedColumns statement parameters n earlier) payloads =
+    prepared_columns c statement parameters n earlier payloads
+rest_of c Nothing payloads = Complete (record { results = []; more = false }) payloads
 
--- What stands of a reply so far: what is listed, how many payloads there were, and what is awaited.
-pub record Progressing : Type 0 where
+-- A reply that goes on: what is listed, how many payloads there were, and what is awaited.
+pub record OpenReply : Type 0 where
   pub context : Context
   pub results : List Outcome
   pub progress : List ProgressReport
@@ -96,12 +97,12 @@ pub record Progressing : Type 0 where
   pub awaited : Awaited
 
 -- A reply is going on, or it has its answer.
-pub data Standing : Type 0 where
-  GoingOn : Progressing → Standing
-  Answered : Answer → Standing
+pub data ReplySoFar : Type 0 where
+  GoingOn : OpenReply → ReplySoFar
+  Answered : Answer → ReplySoFar
 
--- From what stands, the payloads still to come and the rest after them decide this answer.
-pub record Continues (s : Progressing) (payloads : List Payload) (rest : Rest) (answer : Answer) : Type 0 where
+-- Behind what was read, the payloads still to come and the rest after them decide this answer.
+pub record Continues (s : OpenReply) (payloads : List Payload) (rest : Rest) (answer : Answer) : Type 0 where
   pub others : List Outcome
   pub ending : Ending
   pub reading : Results s.context (rest_of s.context s.awaited payloads) others ending
@@ -109,12 +110,12 @@ pub record Continues (s : Progressing) (payloads : List Payload) (rest : Rest) (
   pub progress : answer.progress ≡ s.progress ++ reports s.context (before_end payloads ending)
   pub end : answer.end ≡ end_of (s.count + length payloads) rest ending
 
-abbrev pub PayloadsDecide : Standing → List Payload → Rest → Answer → Type 0
+abbrev pub PayloadsDecide : ReplySoFar → List Payload → Rest → Answer → Type 0
 PayloadsDecide (GoingOn s) payloads rest answer = Continues s payloads rest answer
 PayloadsDecide (Answered known) payloads rest answer = answer ≡ known
 
--- What stands before any payload has come.
-abbrev pub fresh : Context → Standing
+-- A reply of which no payload has come.
+abbrev pub fresh : Context → ReplySoFar
 fresh c = GoingOn (record { context = c; results = []; progress = []; count = 0; awaited = First })
 
 -- Each list of payloads has an answer.
@@ -127,23 +128,23 @@ abbrev pub AnswersAgree : Type 0
 AnswersAgree = (c : Context) (payloads : List Payload) (rest : Rest) (a b : Answer) →
     IsReply c payloads rest a → IsReply c payloads rest b → a ≡ b
 
--- A fresh reader decides the reply's answer.
-abbrev pub FreshStandingDecides : Type 0
-FreshStandingDecides = (c : Context) (payloads : List Payload) (rest : Rest) (answer : Answer) →
+-- A reply of which no payload has come is decided by all of its payloads.
+abbrev pub FreshReplyDecides : Type 0
+FreshReplyDecides = (c : Context) (payloads : List Payload) (rest : Rest) (answer : Answer) →
     PayloadsDecide (fresh c) payloads rest answer → IsReply c payloads rest answer
 
--- Whatever stands decides an answer, and only one.
-abbrev pub EachStandingDecides : Type 0
-EachStandingDecides = (s : Standing) (payloads : List Payload) (rest : Rest) → (answer : Answer) ×
+-- Each reply so far decides an answer, and only one.
+abbrev pub EachReplyDecides : Type 0
+EachReplyDecides = (s : ReplySoFar) (payloads : List Payload) (rest : Rest) → (answer : Answer) ×
     PayloadsDecide s payloads rest answer
 
-abbrev pub StandingsAgree : Type 0
-StandingsAgree = (s : Standing) (payloads : List Payload) (rest : Rest) (a b : Answer) →
+abbrev pub RepliesAgree : Type 0
+RepliesAgree = (s : ReplySoFar) (payloads : List Payload) (rest : Rest) (a b : Answer) →
     PayloadsDecide s payloads rest a → PayloadsDecide s payloads rest b → a ≡ b
 
--- Whatever stands, and whatever payloads come, something stands after them that decides over all payloads
--- still to come what was decided before over those that came followed by these.
-abbrev pub StandingGoesOn : Type 0
-StandingGoesOn = (before : Standing) (came : List Payload) → (after : Standing) ×
+-- Whatever was read, and whatever payloads come, there is a reply so far behind them that decides
+-- over all payloads still to come what was decided before over those that came followed by these.
+abbrev pub ReplyGoesOn : Type 0
+ReplyGoesOn = (before : ReplySoFar) (came : List Payload) → (after : ReplySoFar) ×
     ((payloads : List Payload) (rest : Rest) (answer : Answer) →
     PayloadsDecide after payloads rest answer → PayloadsDecide before (came ++ payloads) rest answer)

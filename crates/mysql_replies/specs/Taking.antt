@@ -10,7 +10,7 @@ use Rattle.mysql_replies.specs.declared.context.Context.{Context}
 use Rattle.mysql_replies.specs.declared.fault.ReplyFault.{ReplyFault}
 use Rattle.mysql_replies.specs.declared.fault.ReplyFault.TheVariants.{Memory}
 use Rattle.mysql_replies.specs.Grammar.{Outcome, RowsResult}
-use Rattle.mysql_replies.specs.Reply.{Answer, Awaited, Rows, Standing, GoingOn, Answered}
+use Rattle.mysql_replies.specs.Reply.{Answer, Awaited, Rows, ReplySoFar, GoingOn, Answered}
 use Rattle.mysql_replies.specs.Bytes.{IsReplyOf, IsShortReplyOf}
 use Rattle.mysql_replies.specs.Holding.{ReaderState, fresh_reader, ReaderDecides, ReaderGoesOn, TakesAll, StandsShort}
 use Rattle.mysql_replies.specs.Holding.{fault_of}
@@ -43,37 +43,37 @@ behind_part (Rows columns rows) = Rows columns []
 behind_part awaited = awaited
 
 -- The results that are handed out: the whole ones and that part; where a fault was met, all that are listed.
-abbrev pub results_in : Standing → List Outcome
+abbrev pub results_in : ReplySoFar → List Outcome
 results_in (GoingOn s) = s.results ++ part_of s.awaited
 results_in (Answered answer) = answer.results
 
--- What stands without them.
-abbrev pub without_results : Standing → Standing
+-- The reply so far without them.
+abbrev pub without_results : ReplySoFar → ReplySoFar
 without_results (GoingOn s) = GoingOn (record s { results = []; awaited = behind_part s.awaited })
 without_results (Answered answer) = Answered (record answer { results = [] })
 
 -- The progress reports that are handed out: all.
-abbrev pub reports_in : Standing → List ProgressReport
+abbrev pub reports_in : ReplySoFar → List ProgressReport
 reports_in (GoingOn s) = s.progress
 reports_in (Answered answer) = answer.progress
 
-abbrev pub without_reports : Standing → Standing
+abbrev pub without_reports : ReplySoFar → ReplySoFar
 without_reports (GoingOn s) = GoingOn (record s { progress = [] })
 without_reports (Answered answer) = Answered (record answer { progress = [] })
 
--- What is listed of what stands: these whole results, and these rows of a result set that goes on.
-abbrev pub Lists : Standing → List Outcome → List Row → Type 0
+-- What is listed of a reply so far: these whole results, and these rows of a result set that goes on.
+abbrev pub Lists : ReplySoFar → List Outcome → List Row → Type 0
 Lists (GoingOn s) results rows = (s.results ≡ results) × (rows_awaited s.awaited ≡ rows)
 Lists (Answered answer) results rows =
     ((answer.results ≡ results) × (rows ≡ [])) ⊎
     ((columns : List ColumnDefinition) ×
     (answer.results ≡ results ++ RowsResult columns rows None ∷ []))
 
-abbrev pub ListsResults : Standing → List Outcome → Type 0
-ListsResults standing results = (rows : List Row) × Lists standing results rows
+abbrev pub ListsResults : ReplySoFar → List Outcome → Type 0
+ListsResults so_far results = (rows : List Row) × Lists so_far results rows
 
-abbrev pub ListsRows : Standing → List Row → Type 0
-ListsRows standing rows = (results : List Outcome) × Lists standing results rows
+abbrev pub ListsRows : ReplySoFar → List Row → Type 0
+ListsRows so_far rows = (results : List Outcome) × Lists so_far results rows
 
 -- What was handed out and the answer that came later, as one.
 abbrev pub joined_answer : List Outcome → List ProgressReport → Answer → Answer
@@ -87,12 +87,12 @@ joined_answer taken reports later =
 
 -- What a reader's feed does, by its clauses.
 pub record Feeds (old new : ReaderState) (piece : List ℕ) (r : Result (Unit {0}) ReplyFault) : Type 0 where
-  pub stays : IfSome (fault_of old.standing) (λ fault. (r ≡ Err fault) × (new ≡ old))
-  pub going : OnOk r (fault_of new.standing ≡ None)
-  pub fault : IfErr r (λ fault. fault_of new.standing ≡ Some fault)
+  pub stays : IfSome (fault_of old.so_far) (λ fault. (r ≡ Err fault) × (new ≡ old))
+  pub going : OnOk r (fault_of new.so_far ≡ None)
+  pub fault : IfErr r (λ fault. fault_of new.so_far ≡ Some fault)
   pub takes : OnOk r (TakesAll old (old.bytes ++ piece) new)
   pub goes_on : (r ≡ Err Memory → ⊥) → ReaderGoesOn old piece new
-  pub short : fault_of old.standing ≡ None → r ≡ Err Memory → StandsShort old (old.bytes ++ piece) new
+  pub short : fault_of old.so_far ≡ None → r ≡ Err Memory → StandsShort old (old.bytes ++ piece) new
 
 -- A fresh reader was fed these pieces, with takes before, between and after them: these results and
 -- reports were handed out, and that is held.
@@ -105,12 +105,12 @@ pub data Runs (c : Context) (first_id limit : ℕ) : List (List ℕ) → List Ou
       Runs c first_id limit (pieces ++ piece ∷ []) taken reports new
   takes_results : {pieces : List (List ℕ)} {taken : List Outcome} {reports : List ProgressReport}
       {old : ReaderState} → Runs c first_id limit pieces taken reports old →
-      Runs c first_id limit pieces (taken ++ results_in old.standing) reports
-      (record old { standing = without_results old.standing })
+      Runs c first_id limit pieces (taken ++ results_in old.so_far) reports
+      (record old { so_far = without_results old.so_far })
   takes_reports : {pieces : List (List ℕ)} {taken : List Outcome} {reports : List ProgressReport}
       {old : ReaderState} → Runs c first_id limit pieces taken reports old →
-      Runs c first_id limit pieces taken (reports ++ reports_in old.standing)
-      (record old { standing = without_reports old.standing })
+      Runs c first_id limit pieces taken (reports ++ reports_in old.so_far)
+      (record old { so_far = without_reports old.so_far })
 
 -- All that was handed out and the answer at the end are, joined, the reply of all the bytes, or
 -- where memory ran out that of their first payloads.

@@ -11,7 +11,8 @@ use Rattle.mysql_columns.specs.Columns.{ColumnDefinition}
 use Rattle.mysql_ok_packets.specs.Views.{ok_packet_view}
 use Rattle.mysql_server_packets.specs.declared.progress_report.ProgressReport.{ProgressReport as ProgressReportOf}
 use Rattle.mysql_server_packets.specs.Packets.{ProgressReport}
-use Rattle.mysql_server_packets.specs.Views.{local_infile_view, prepare_ok_view, progress_report_view, server_error_view}
+use Rattle.mysql_server_packets.specs.Views.{local_infile_view, prepare_ok_view, progress_report_view}
+use Rattle.mysql_server_packets.specs.Views.{server_error_view}
 use Rattle.mysql_columns.specs.Views.{column_view}
 use Rattle.mysql_replies.specs.declared.fault.ReplyFault.{ReplyFault}
 use Rattle.mysql_replies.specs.declared.fault.ReplyFault.TheVariants.{Memory}
@@ -19,8 +20,8 @@ use Rattle.mysql_replies.specs.declared.opening.Opening.{Opening}
 use Rattle.mysql_replies.specs.declared.opening.Opening.TheVariants as openings
 use Rattle.mysql_columns.specs.declared.column.Column.{Column}
 use Rattle.std.specs.Prelude.{option_map}
-use Rattle.mysql_replies.specs.declared.lines.Line.{Line}
-use Rattle.mysql_replies.specs.declared.lines.Line.TheVariants as lines
+use Rattle.mysql_replies.specs.declared.lines.RowsEnd.{RowsEnd}
+use Rattle.mysql_replies.specs.declared.lines.RowsEnd.TheVariants as ends_of
 use Rattle.mysql_replies.specs.declared.results.ReplyResult.{ReplyResult}
 use Rattle.mysql_replies.specs.declared.results.ReplyResult.TheVariants as results
 use Rattle.mysql_replies.specs.declared.results.Reply.{Reply}
@@ -41,7 +42,8 @@ abbrev pub Gives : {X Y : Type 0} → (X → Y) → Result X ReplyFault → Resu
 Gives view (Ok x) read = read ≡ Ok (view x)
 Gives view (Err e) read = Refuses e read
 
--- The same of a function that asks for no memory: its refusal is the reading's.
+-- A function that asks for no memory answers, seen by view, what reading gives: its refusal is the
+-- reading's.
 abbrev pub Tells : {X Y : Type 0} → (X → Y) → Result X ReplyFault → Result Y ReplyFault → Type 0
 Tells view (Ok x) read = read ≡ Ok (view x)
 Tells view (Err e) read = read ≡ Err e
@@ -52,7 +54,7 @@ named (Ok x) fault = Ok x
 named (Err wire.Memory) fault = Err Memory
 named (Err e) fault = Err fault
 
--- The same of a reader that asks for no memory.
+-- What a packet's reader that asks for no memory answered, where a refusal has this name.
 abbrev pub refused : {X : Type 0} → Result X WireError → ReplyFault → Result X ReplyFault
 refused (Ok x) fault = Ok x
 refused (Err e) fault = Err fault
@@ -68,17 +70,16 @@ abbrev pub column_views : List Column → List ColumnDefinition
 column_views columns = map column_view columns
 
 abbrev pub row_views : List Row → List rows.Row
-row_views these = map row_view these
+row_views found = map row_view found
 
-abbrev pub line_view : Line → grammar.Line
-line_view (lines.Row row) = grammar.RowLine (row_view row)
-line_view (lines.Terminator ok) = grammar.TerminatorLine (ok_packet_view ok)
-line_view (lines.Error error) = grammar.ErrorLine (server_error_view error)
+abbrev pub rows_end_view : RowsEnd → grammar.Line
+rows_end_view (ends_of.Terminator ok) = grammar.TerminatorLine (ok_packet_view ok)
+rows_end_view (ends_of.Error error) = grammar.ErrorLine (server_error_view error)
 
 abbrev pub outcome_view : ReplyResult → grammar.Outcome
 outcome_view (results.Ok ok) = grammar.OkResult (ok_packet_view ok)
-outcome_view (results.Rows columns these terminator) =
-    grammar.RowsResult (shared_columns columns) (row_views these.items)
+outcome_view (results.Rows columns found terminator) =
+    grammar.RowsResult (shared_columns columns) (row_views found.items)
     (option_map ok_packet_view terminator)
 outcome_view (results.Prepared stmt params columns) =
     grammar.PreparedResult (prepare_ok_view stmt) (column_views params.items)
@@ -90,17 +91,17 @@ abbrev pub outcome_views : List ReplyResult → List grammar.Outcome
 outcome_views results = map outcome_view results
 
 abbrev pub report_views : List ProgressReportOf → List ProgressReport
-report_views these = map progress_report_view these
+report_views reports = map progress_report_view reports
 
 abbrev pub awaited_view : Awaited → reply.Awaited
 awaited_view awaiting.First = reply.First
-awaited_view (awaiting.Columns left these) = reply.Columns left (column_views these.items)
-awaited_view (awaiting.Rows these) = reply.Rows these.columns these.rows
-awaited_view (awaiting.Parameters stmt left these) =
-    reply.Parameters (prepare_ok_view stmt) left (column_views these.items)
-awaited_view (awaiting.PreparedColumns stmt params left these) =
+awaited_view (awaiting.Columns left columns) = reply.Columns left (column_views columns.items)
+awaited_view (awaiting.Rows open_rows) = reply.Rows open_rows.columns open_rows.rows
+awaited_view (awaiting.Parameters stmt left parameters) =
+    reply.Parameters (prepare_ok_view stmt) left (column_views parameters.items)
+awaited_view (awaiting.PreparedColumns stmt params left columns) =
     reply.PreparedColumns (prepare_ok_view stmt) (column_views params.items) left
-    (column_views these.items)
+    (column_views columns.items)
 awaited_view awaiting.Nothing = reply.Nothing
 
 abbrev pub end_view : ReplyEnd → reply.End

@@ -11,27 +11,28 @@ use mysql_server_packets::StmtPacket;
 pub enum Awaited {
     /// The first payload of a result.
     First,
-    /// So many more columns after these, and what follows them.
+    /// So many more columns of a result set after these, the EOF that is due, and the rows.
     Columns {
         left: u16,
-        these: Vec<Column>,
+        columns: Vec<Column>,
     },
-    /// Rows after these.
+    /// More rows after these, or what ends them.
     Rows(OpenRows),
-    /// So many more parameters of a prepared statement after these, and its columns.
+    /// So many more parameters of a prepared statement after these, the EOF that is due, and its
+    /// columns.
     Parameters {
         stmt: StmtPacket,
         left: u16,
-        these: Vec<Column>,
+        parameters: Vec<Column>,
     },
-    /// So many more columns of a prepared statement after these.
+    /// So many more columns of a prepared statement after these, and the EOF that is due.
     PreparedColumns {
         stmt: StmtPacket,
         params: Vec<Column>,
         left: u16,
-        these: Vec<Column>,
+        columns: Vec<Column>,
     },
-    /// Nothing: the last result stands.
+    /// Nothing: the last result is whole.
     Nothing,
 }
 
@@ -57,7 +58,7 @@ pub enum Listed {
 /// What a payload led to.
 #[derive(Drop)]
 pub enum Stepped {
-    /// These results stand, and that is awaited.
+    /// These results are whole, and that is awaited.
     Moved(Listed, Awaited),
     /// The payload has no place, or memory ran out; this is still awaited.
     Failed(Awaited, ReplyFault),

@@ -1,7 +1,6 @@
 //! Laws of framing, brought together for the proofs of the reader. They do nothing when they run.
 
-ghost use Rattle.mysql_wire.specs.Bytes.{AreBytes};
-ghost use Rattle.mysql_replies.specs.Standings.{FramingLaws};
+ghost use Rattle.mysql_replies.specs.States.{FramingLaws};
 
 use mysql_wire::laws;
 
@@ -16,11 +15,4 @@ pub fn framing_laws()
     laws::reader_takes();
     laws::reader_waits();
     laws::refusal_was_decided();
-}
-
-/// Each byte is below 256.
-pub fn bytes_are_bytes(bytes: &[u8])
-    ensures { AreBytes bytes.now }
-{
-    let _ = bytes;
 }

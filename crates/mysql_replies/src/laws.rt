@@ -1,11 +1,11 @@
 //! Laws of the grammar of replies and of what a reader holds. Each function is its law alone.
 
 ghost use Rattle.mysql_replies.specs.Beginnings.{EachAnswerHasWhatStands};
-ghost use Rattle.mysql_replies.specs.Reply.{EachHasAnswer, AnswersAgree, EachStandingDecides, StandingsAgree};
-ghost use Rattle.mysql_replies.specs.Reply.{FreshStandingDecides, StandingGoesOn};
+ghost use Rattle.mysql_replies.specs.Reply.{EachHasAnswer, AnswersAgree, EachReplyDecides, RepliesAgree};
+ghost use Rattle.mysql_replies.specs.Reply.{FreshReplyDecides, ReplyGoesOn};
 ghost use Rattle.mysql_replies.specs.Bytes.{AnyBytesHaveAnswer, CuttingsAgree};
 ghost use Rattle.mysql_replies.specs.Holding.{EachReaderDecides, ReadersAgree, FreshReaderDecides};
-ghost use Rattle.mysql_replies.specs.Lending.{LentRowsAreHandedOut};
+ghost use Rattle.mysql_replies.specs.Borrowing.{BorrowedRowsAreHandedOut};
 ghost use Rattle.mysql_replies.specs.Taking.{TakenResultsAreTheReply};
 ghost use Rattle.mysql_replies.specs.Manual.{EachSuchListIsWhole, OnlySuchListsAreWhole, EachFramingIsWhole};
 ghost use Rattle.mysql_replies.specs.Manual.{OnlyFramingsAreWhole};
@@ -18,17 +18,18 @@ pub fn each_reply_has_one_answer()
     ensures only { AnswersAgree }
 {}
 
-/// Whatever stands decides one answer over each list of payloads still to come, and a fresh reader the
-/// reply's.
+/// Each reply so far decides one answer over each list of payloads still to come.
+///
+/// One of which no payload has come decides the reply's.
 pub fn each_standing_decides()
-    ensures some { EachStandingDecides }
-    ensures only { StandingsAgree }
-    ensures fresh { FreshStandingDecides }
+    ensures some { EachReplyDecides }
+    ensures only { RepliesAgree }
+    ensures fresh { FreshReplyDecides }
 {}
 
-/// What stands after some payloads decides what was decided before over these and those still to come.
+/// Behind some payloads that is decided which was decided before over these and those to come.
 pub fn a_standing_goes_on()
-    ensures { StandingGoesOn }
+    ensures { ReplyGoesOn }
 {}
 
 /// Any bytes have an answer, and it doesn't depend on how they were cut into pieces.
@@ -39,7 +40,9 @@ pub fn bytes_have_one_answer()
     one_split();
 }
 
-/// Whatever a reader holds decides one answer over the bytes still to come, and a fresh reader the reply's.
+/// Whatever a reader holds decides one answer over the bytes still to come.
+///
+/// A fresh reader decides the reply's.
 pub fn each_reader_decides()
     ensures some { EachReaderDecides }
     ensures only { ReadersAgree }
@@ -48,22 +51,24 @@ pub fn each_reader_decides()
     one_split();
 }
 
-/// Over any feeds and takes the results and the reports that were handed out and those at the end
-/// are, joined, the reply of all the bytes; where memory ran out, they are those of the first
-/// payloads.
+/// Over any feeds and takes, what was handed out and what is left at the end are the reply.
+///
+/// They are, joined, that of all the bytes; where memory ran out, that of the first payloads.
 pub fn taken_results_are_the_reply()
     ensures { TakenResultsAreTheReply }
 {}
 
-/// A row that was lent where nothing else is listed is as one that was handed out: over any feeds,
-/// takes and rows that were lent so, these rows, the results that were handed out and those at the
-/// end are, joined, the reply.
+/// A row that was borrowed where nothing else is listed is as one that was handed out.
+///
+/// So over any feeds, takes and rows that were borrowed so, these rows, the results that were handed
+/// out and those at the end are, joined, the reply.
 pub fn lent_rows_are_handed_out()
-    ensures { LentRowsAreHandedOut }
+    ensures { BorrowedRowsAreHandedOut }
 {}
 
-/// A list of payloads has an answer that ends whole exactly where the manual has it as a whole
-/// reply: results one after another, and before any of their payloads progress reports. The
+/// A list of payloads has a whole answer exactly where the manual has it as a whole reply.
+///
+/// That is: results one after another, and before any of their payloads progress reports. The
 /// answer's results and reports are those.
 pub fn whole_replies_are_results()
     ensures some { EachSuchListIsWhole }
@@ -78,9 +83,10 @@ pub fn whole_bytes_are_framed_results()
     reader_laws();
 }
 
-/// The answer to any payloads has each result that stands whole in them, where each but the last
-/// says that another follows, and behind these the rows whose columns stand, as far as they came.
-/// Progress reports may stand among the payloads.
+/// The answer to any payloads has each result and each row that is whole in them.
+///
+/// These are the results, where each but the last says that another follows, and behind them the
+/// rows whose columns are whole, as far as they came. Progress reports may stand among the payloads.
 pub fn answers_have_what_stands()
     ensures { EachAnswerHasWhatStands }
 {}

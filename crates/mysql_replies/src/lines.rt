@@ -1,46 +1,42 @@
 //! What stands in a column's, an EOF packet's and a row's place.
 
 ghost use Rattle.std.specs.Prelude.{◌≡◌, List, map, length, Ok, Err, if◌then◌else◌};
-ghost use Rattle.mysql_rows.specs.Views.{shared_columns};
 ghost use Rattle.mysql_ok_packets.specs.OkPackets.{old_eof_at, result_set_terminator_at};
 ghost use Rattle.mysql_ok_packets.specs.Views.{ok_packet_view};
 ghost use Rattle.mysql_wire.specs.Wire.{TellsPart};
 ghost use Rattle.mysql_columns.specs.Views.{column_view};
 ghost use Rattle.mysql_replies.specs.Grammar.{deprecate_eof};
-ghost use Rattle.mysql_replies.specs.Grammar.{column, eof, terminator, terminator_limit, line};
+ghost use Rattle.mysql_replies.specs.Grammar.{column, eof, rows_end, terminator};
 ghost use Rattle.mysql_replies.specs.Steps.{reads_as_row};
-ghost use Rattle.mysql_replies.specs.Views.{Gives, Tells, line_view};
+ghost use Rattle.mysql_replies.specs.Views.{Gives, Tells, rows_end_view};
 
 use crate::context::Context;
 use crate::fault::ReplyFault;
-use crate::opening::{error_packet, named_of, refused_of, starts_with};
-use crate::row_packets::row_packet;
+use crate::opening::{error_packet, named_of, refused_of};
 use bitflags::Flags;
 use mysql_columns::Column;
-use mysql_const::{CapabilityFlags, MAX_PAYLOAD_LEN};
+use mysql_const::CapabilityFlags;
 use mysql_ok_packets::{OkPacket, OkPacketDeserializer, OldEofPacket, ResultSetTerminator};
-use mysql_rows::Row;
+use mysql_row_refs::starts_with;
 use mysql_server_packets::ServerError;
 use mysql_wire::{ParseBuf, ParseExt, WireError};
 use std::alloc::Global;
-use std::rc::RcSlice;
 
-/// What may stand in a row's place.
+/// What may stand in a row's place and is no row.
 #[derive(Drop)]
-pub enum Line {
-    Row(Row),
+pub enum RowsEnd {
     Terminator(OkPacket<'static>),
     Error(ServerError<'static>),
 }
 
-/// A column packet.
+/// Reads a column packet.
 pub fn column_packet(alloc: Global, payload: &[u8]) -> Result<Column, ReplyFault>
     ensures { Gives column_view result (column payload.now) }
 {
     named_of(ParseBuf(payload).parse(alloc, ()), ReplyFault::BadColumn)
 }
 
-/// The EOF packet.
+/// Reads an EOF packet, which has less than nine bytes.
 #[tactic(auto, unfolding(mysql_ok_packets::specs::OkPackets::old_eof_at))]
 pub fn eof_packet<'a>(
     alloc: Global,
@@ -60,7 +56,7 @@ pub fn eof_packet<'a>(
     Ok(eof.into_inner())
 }
 
-/// No EOF packets are due.
+/// Whether no EOF packets are due.
 #[tactic(auto, unfolding(bitflags::proofs::OnLiterals::bitflags_on_literals))]
 pub fn deprecates_eof(capabilities: CapabilityFlags) -> bool
     ensures { result ≡ deprecate_eof capabilities.0 }
@@ -68,8 +64,34 @@ pub fn deprecates_eof(capabilities: CapabilityFlags) -> bool
     capabilities.contains(CapabilityFlags::CLIENT_DEPRECATE_EOF)
 }
 
+// The OK packet that ends rows, which borrows from the payload.
+#[tactic(auto, unfolding(mysql_ok_packets::specs::OkPackets::result_set_terminator_at))]
+fn ok_terminator_of<'a>(
+    alloc: Global,
+    capabilities: CapabilityFlags,
+    buf: &mut ParseBuf<'a>,
+) -> Result<OkPacket<'a>, WireError>
+    ensures { TellsPart ok_packet_view buf.new.0.now result
+        (result_set_terminator_at capabilities.0 buf.old.0.now) }
+{
+    let read: OkPacketDeserializer<ResultSetTerminator> = buf.parse(alloc, capabilities)?;
+    Ok(read.into_inner())
+}
+
+// The EOF packet that ends rows, which borrows from the payload.
+#[tactic(auto, unfolding(mysql_ok_packets::specs::OkPackets::old_eof_at))]
+fn eof_terminator_of<'a>(
+    alloc: Global,
+    capabilities: CapabilityFlags,
+    buf: &mut ParseBuf<'a>,
+) -> Result<OkPacket<'a>, WireError>
+    ensures { TellsPart ok_packet_view buf.new.0.now result (old_eof_at buf.old.0.now) }
+{
+    let read: OkPacketDeserializer<OldEofPacket> = buf.parse(alloc, capabilities)?;
+    Ok(read.into_inner())
+}
+
 // A terminator, which borrows from the payload.
-#[tactic(auto, unfolding(mysql_ok_packets::specs::OkPackets::old_eof_at, mysql_ok_packets::specs::OkPackets::result_set_terminator_at))]
 fn terminator_of<'a>(
     alloc: Global,
     capabilities: CapabilityFlags,
@@ -80,15 +102,13 @@ fn terminator_of<'a>(
         else old_eof_at buf.old.0.now) }
 {
     if deprecates_eof(capabilities) {
-        let read: OkPacketDeserializer<ResultSetTerminator> = buf.parse(alloc, capabilities)?;
-        Ok(read.into_inner())
+        ok_terminator_of(alloc, capabilities, buf)
     } else {
-        let read: OkPacketDeserializer<OldEofPacket> = buf.parse(alloc, capabilities)?;
-        Ok(read.into_inner())
+        eof_terminator_of(alloc, capabilities, buf)
     }
 }
 
-/// A terminator.
+/// Reads a terminator.
 fn terminator_packet(
     alloc: Global,
     context: Context,
@@ -105,46 +125,22 @@ fn terminator_packet(
     }
 }
 
-fn limit_of_terminators(context: Context) -> usize
-    ensures { result ≡ terminator_limit context }
-{
-    if deprecates_eof(context.capabilities) {
-        MAX_PAYLOAD_LEN
-    } else {
-        9
-    }
-}
-
-/// A payload in a row's place is read as a row.
+/// Whether a payload in a row's place is read as a row.
 pub fn is_row(context: Context, payload: &[u8]) -> bool
     ensures { result ≡ reads_as_row context payload.now }
 {
-    if starts_with(payload, 255) {
-        false
-    } else if starts_with(payload, 254) && payload.len() < limit_of_terminators(context) {
-        false
-    } else {
-        true
-    }
+    mysql_row_refs::is_row(payload, deprecates_eof(context.capabilities))
 }
 
-/// A payload in a row's place.
-pub fn line_of(
-    alloc: Global,
-    context: Context,
-    columns: &RcSlice<Column>,
-    payload: &[u8],
-) -> Result<Line, ReplyFault>
-    ensures { Gives line_view result (line context (shared_columns columns.now) payload.now) }
+/// Reads what ends rows: an error, or else a terminator.
+pub fn read_rows_end(alloc: Global, context: Context, payload: &[u8]) -> Result<RowsEnd, ReplyFault>
+    ensures { Gives rows_end_view result (rows_end context payload.now) }
 {
     if starts_with(payload, 255) {
         let error = error_packet(alloc, context.capabilities, payload)?;
-        Ok(Line::Error(error))
-    } else if starts_with(payload, 254) && payload.len() < limit_of_terminators(context) {
-        let ok = terminator_packet(alloc, context, payload)?;
-        Ok(Line::Terminator(ok))
+        Ok(RowsEnd::Error(error))
     } else {
-        let row = row_packet(alloc, context.kind, columns, payload)?;
-        Ok(Line::Row(row))
+        let ok = terminator_packet(alloc, context, payload)?;
+        Ok(RowsEnd::Terminator(ok))
     }
 }

@@ -1,38 +1,41 @@
 //! The rows so far of a result set that goes on.
 
-ghost use Rattle.std.specs.Prelude.{◌≡◌, ◌==◌, ◌<◌, [], ◌∷◌, ◌++◌, None, IfErr, IfSome, OnErr, OnOk, length};
+ghost use Rattle.std.specs.Prelude.{◌≡◌, ◌==◌, ◌<◌, [], ◌∷◌, ◌++◌, None, Ok, IfErr, IfSome, IsSomeAnd, OnErr, OnOk};
+ghost use Rattle.std.specs.Prelude.{length};
 ghost use Rattle.std.specs.Prelude.{option_map};
-ghost use Rattle.mysql_row_refs.specs.RowRefs.{row_ref_view, row_of};
+ghost use Rattle.mysql_row_refs.specs.RowRefs.{row_of};
 ghost use Rattle.mysql_ok_packets.specs.Views.{ok_packet_view};
 ghost use Rattle.mysql_rows.specs.Rows.{Row as RowOf};
 ghost use Rattle.mysql_rows.specs.Views.{row_view, shared_columns};
 ghost use Rattle.mysql_replies.specs.Grammar.{RowsResult};
-ghost use Rattle.mysql_replies.specs.OpenRows.{rows_of};
-ghost use Rattle.mysql_replies.specs.LentSteps.{HasRead, IsLender, Lends, or_bad_row};
+ghost use Rattle.mysql_replies.specs.OpenRows.{ReadsRows, rows_of};
+ghost use Rattle.mysql_replies.specs.RowSteps.{RowAt, or_bad_row};
 ghost use Rattle.mysql_replies.specs.Views.{Refuses, outcome_view};
 
 use crate::fault::ReplyFault;
 use crate::results::ReplyResult;
 use mysql_columns::Column;
 use mysql_ok_packets::OkPacket;
-use mysql_row_refs::{RowFormat, RowReader, RowRef};
+use mysql_row_refs::{RowFormat, RowReader};
 use mysql_rows::Row;
 use std::alloc::{AllocError, Global};
 use std::marker::Model;
 use std::mem;
 use std::rc::RcSlice;
 
-/// Rows under their columns, and a second share of these: with it the rows are handed out without a
-/// request for memory. Rows that are lent aren't among them.
+/// The rows so far of a result set that goes on, under their columns.
+///
+/// With a second share of the columns the rows are handed out without a request for memory. Rows
+/// that are borrowed aren't among them.
 #[derive(Drop)]
 pub struct OpenRows {
     columns: RcSlice<Column>,
     // There where there are rows.
     share: Option<RcSlice<Column>>,
     rows: Vec<Row>,
-    // There once a row was lent.
-    lender: Option<RowReader>,
-    // The format in which it lends.
+    // There once a row was read to be borrowed.
+    reader: Option<RowReader>,
+    // The format in which it reads.
     format: RowFormat,
 }
 
@@ -42,29 +45,28 @@ impl Model for OpenRows {
     ghost Value = { RowsSoFar };
 
     ghost use Rattle.mysql_rows.specs.Views.{shared_columns};
-    ghost use Rattle.mysql_replies.specs.OpenRows.{rows_of, HasLender, HasShare};
+    ghost use Rattle.mysql_replies.specs.OpenRows.{rows_of, HasReader, HasShare};
 
-    ghost view = { λ these. record {
-      columns = shared_columns these.columns;
-      rows =
-          rows_of these.rows.items;
-      lender = these.lender;
+    ghost view = { λ so_far. record {
+      columns = shared_columns so_far.columns;
+      rows = rows_of so_far.rows.items;
+      reader = so_far.reader;
     } };
 
-    ghost invariant = { λ these. HasShare these.columns these.share these.rows.items ×
-        HasLender these.columns these.format these.lender };
+    ghost invariant = { λ so_far. HasShare so_far.columns so_far.share so_far.rows.items ×
+        HasReader so_far.columns so_far.format so_far.reader };
 }
 
 impl OpenRows {
     /// No row under these columns.
     pub fn new(alloc: Global, columns: RcSlice<Column>) -> OpenRows
-        ensures { result ≡ record { columns = shared_columns columns; rows = []; lender = None } }
+        ensures { result ≡ record { columns = shared_columns columns; rows = []; reader = None } }
     {
         OpenRows {
             columns,
             share: None,
             rows: Vec::new(alloc),
-            lender: None,
+            reader: None,
             format: RowFormat::Text,
         }
     }
@@ -90,7 +92,7 @@ impl OpenRows {
         self.rows.is_empty()
     }
 
-    /// Adds a row. Where memory ran out nothing changes.
+    /// Adds a row. Where memory ran out, nothing changes.
     pub fn push(&mut self, row: Row) -> Result<(), AllocError>
         ensures ok { OnOk result (self.new ≡ record self.old { rows = self.old.rows ++ row_view row ∷ [] }) }
         ensures err { OnErr result (self.new ≡ self.old) }
@@ -102,32 +104,33 @@ impl OpenRows {
         Ok(())
     }
 
-    // Makes what lends rows in this format.
+    // Makes a reader of rows in this format.
     #[inline(never)]
-    fn make_lender(&mut self, alloc: Global, format: RowFormat) -> Result<(), AllocError>
-        ensures rows { self.new ≡ record self.old { lender = self.new.lender } }
-        ensures lender { OnOk result (IsLender self.new.lender format self.old.columns) }
+    fn make_reader(&mut self, alloc: Global, format: RowFormat) -> Result<(), AllocError>
+        ensures rows { self.new ≡ record self.old { reader = self.new.reader } }
+        ensures reader { OnOk result (IsSomeAnd self.new.reader (ReadsRows self.old.columns format)) }
     {
-        let lender = RowReader::new(alloc, self.columns.clone()?, format)?;
-        self.lender = Some(lender);
+        let reader = RowReader::new(alloc, self.columns.clone()?, format)?;
+        self.reader = Some(reader);
         self.format = format;
         Ok(())
     }
 
-    // Makes it where there is none.
+    // Makes a reader of rows in this format, where there is none.
     #[inline(always)]
-    fn ready_lender(&mut self, alloc: Global, format: RowFormat) -> Result<(), AllocError>
-        ensures rows { self.new ≡ record self.old { lender = self.new.lender } }
-        ensures lender { OnOk result (IsLender self.new.lender format self.old.columns) }
+    fn ready_reader(&mut self, alloc: Global, format: RowFormat) -> Result<(), AllocError>
+        ensures rows { self.new ≡ record self.old { reader = self.new.reader } }
+        ensures reader { OnOk result (IsSomeAnd self.new.reader (ReadsRows self.old.columns format)) }
     {
-        if self.lender.is_some() && self.format == format {
+        if self.reader.is_some() && self.format == format {
             return Ok(());
         }
-        self.make_lender(alloc, format)
+        self.make_reader(alloc, format)
     }
 
-    /// Reads the places of the cells of the row that a payload is, in this format; the row can be
-    /// lent then, and isn't added. Memory is asked for at the first row alone.
+    /// Reads the places of the cells of the row that a payload is, in this format.
+    ///
+    /// The row can be borrowed then, and isn't added. Memory is asked for at the first row alone.
     #[inline(always)]
     pub fn read(
         &mut self,
@@ -135,35 +138,34 @@ impl OpenRows {
         format: RowFormat,
         payload: &[u8],
     ) -> Result<(), ReplyFault>
-        ensures rows { self.new ≡ record self.old { lender = self.new.lender } }
-        ensures ok { OnOk result (HasRead self.new.lender format self.old.columns payload.now) }
+        ensures rows { self.new ≡ record self.old { reader = self.new.reader } }
+        ensures ok { OnOk result ((row : RowOf) × RowAt self.new.reader payload.now row
+            × (row_of format self.old.columns payload.now ≡ Ok row)) }
         ensures err { IfErr result (λ fault. Refuses fault (or_bad_row (row_of format self.old.columns payload.now))) }
     {
-        if self.ready_lender(alloc, format).is_err() {
+        if self.ready_reader(alloc, format).is_err() {
             return Err(ReplyFault::Memory);
         }
-        let Some(lender) = &mut self.lender else {
+        let Some(reader) = &mut self.reader else {
             unreachable!()
         };
-        match lender.read(payload) {
+        match reader.read(payload) {
             Ok(()) => Ok(()),
             Err(_) => Err(ReplyFault::BadRow),
         }
     }
 
-    /// The row whose cells were read last, lent by its payload.
+    /// What reads rows to be borrowed, once one was read.
     #[inline(always)]
-    pub fn lent<'r, 'p>(&'r self, payload: &'p [u8]) -> RowRef<'r, 'p>
-        requires { (row : RowOf) × Lends self.now.lender payload.now row }
-        ensures { Lends self.now.lender payload.now (row_ref_view result) }
+    pub fn reader(&self) -> &Option<RowReader>
+        ensures { result.now ≡ self.now.reader }
     {
-        let Some(lender) = &self.lender else {
-            unreachable!()
-        };
-        lender.lent(payload)
+        &self.reader
     }
 
-    /// Hands out the rows, as a part of the result set; the rows behind them are listed anew. Takes no memory.
+    /// Hands out the rows, as a part of the result set. Takes no memory.
+    ///
+    /// The rows behind them are listed anew.
     pub fn take(&mut self, alloc: Global) -> ReplyResult
         requires { 0 < length self.old.rows }
         ensures part { outcome_view result ≡ RowsResult self.old.columns self.old.rows None }
@@ -188,7 +190,7 @@ impl OpenRows {
             columns,
             share: _,
             rows,
-            lender: _,
+            reader: _,
             format: _,
         } = self;
         ReplyResult::Rows {

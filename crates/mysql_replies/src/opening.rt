@@ -1,7 +1,7 @@
 //! The first payload of a result.
 
 ghost use Rattle.std.specs.Prelude.{◌≡◌, ◌≤◌, List, length, drop, Ok, Err};
-ghost use Rattle.mysql_replies.specs.Grammar.{opening, or_fault, begins_with, is_prepare, count_within, map_ok};
+ghost use Rattle.mysql_replies.specs.Grammar.{opening, or_fault, is_prepare, count_within, map_ok};
 ghost use Rattle.mysql_ok_packets.specs.OkPackets.{ok_packet_at};
 ghost use Rattle.mysql_server_packets.specs.Packets.{error_at, prepare_ok_at};
 ghost use Rattle.mysql_wire.specs.Forms.{lenenc_number_at};
@@ -15,6 +15,7 @@ use crate::context::{Context, ReplyKind};
 use crate::fault::ReplyFault;
 use mysql_const::CapabilityFlags;
 use mysql_ok_packets::{CommonOkPacket, OkPacket, OkPacketDeserializer};
+use mysql_row_refs::starts_with;
 use mysql_server_packets::err_packet::server_error_of;
 use mysql_server_packets::{LocalInfilePacket, ServerError, StmtPacket};
 use mysql_wire::{ParseBuf, ParseExt, WireError};
@@ -52,17 +53,7 @@ pub fn refused_of<T: Drop>(read: Result<T, WireError>, fault: ReplyFault) -> Res
     }
 }
 
-/// The payload begins with this byte.
-pub fn starts_with(payload: &[u8], byte: u8) -> bool
-    ensures { result ≡ begins_with byte payload.now }
-{
-    match payload {
-        [] => false,
-        [first, ..] => *first == byte,
-    }
-}
-
-/// An OK packet.
+/// Reads an OK packet.
 #[tactic(auto, unfolding(mysql_ok_packets::specs::OkPackets::ok_packet_at))]
 pub fn ok_packet(
     alloc: Global,
@@ -79,7 +70,7 @@ pub fn ok_packet(
     }
 }
 
-/// An error packet.
+/// Reads an error packet.
 pub fn error_packet(
     alloc: Global,
     capabilities: CapabilityFlags,
@@ -95,7 +86,7 @@ pub fn error_packet(
     }
 }
 
-/// A statement packet.
+/// Reads a statement packet.
 fn statement_packet(alloc: Global, payload: &[u8]) -> Result<StmtPacket, ReplyFault>
     ensures { Tells prepare_ok_view result (or_fault BadPrepare (prepare_ok_at payload.now)) }
 {
@@ -105,7 +96,7 @@ fn statement_packet(alloc: Global, payload: &[u8]) -> Result<StmtPacket, ReplyFa
     )
 }
 
-/// A request for the file of the name behind the first byte. Refused for want of memory alone.
+/// Reads a request for the file of the name behind the first byte. Refused for want of memory alone.
 fn file_packet(alloc: Global, payload: &[u8]) -> Result<LocalInfilePacket<'static>, ReplyFault>
     requires { 1 ≤ length payload.now }
     ensures { Gives local_infile_view result (Ok (drop 1 payload.now)) }
@@ -116,7 +107,7 @@ fn file_packet(alloc: Global, payload: &[u8]) -> Result<LocalInfilePacket<'stati
     }
 }
 
-/// A count of columns.
+/// Reads a count of columns: from 1 to 65535, and nothing behind it.
 fn column_count(payload: &[u8]) -> Result<u16, ReplyFault>
     ensures { Tells (λ n. n) result (count_within (lenenc_number_at payload.now)) }
 {
@@ -131,6 +122,7 @@ fn column_count(payload: &[u8]) -> Result<u16, ReplyFault>
     }
 }
 
+/// Whether the command is a prepare.
 fn prepares(kind: ReplyKind) -> bool
     ensures { result ≡ is_prepare kind }
 {
@@ -140,7 +132,17 @@ fn prepares(kind: ReplyKind) -> bool
     }
 }
 
-/// The first payload of a result.
+/// Reads the first payload of a result.
+///
+///     ff          an error packet
+///     of a prepare:
+///       00        a prepared statement's packet
+///     else:
+///       00        an OK packet
+///       fb        a request for a file, LOCAL INFILE: its name
+///       else      a count of columns, as a length-encoded integer
+///
+/// MySQL: Client/Server Protocol, "COM_QUERY Response" and "COM_STMT_PREPARE Response".
 pub fn opening_of(alloc: Global, context: Context, payload: &[u8]) -> Result<Opening, ReplyFault>
     ensures { Gives opening_view result (opening context payload.now) }
 {

@@ -9,17 +9,19 @@ ghost use Rattle.mysql_replies.specs.declared.fault.ReplyFault.TheVariants.{Memo
 ghost use Rattle.mysql_replies.specs.Bytes.{IsReplyOf, IsShortReplyOf};
 ghost use Rattle.mysql_replies.specs.Holding.{fresh_reader, fault_of, ReaderDecides, ReaderGoesOn, HasFoundNoFault};
 ghost use Rattle.mysql_replies.specs.Holding.{TakesAll, StandsShort};
-ghost use Rattle.mysql_replies.specs.Standings.{reader_state, fault_named, IsReading, IsPaused, UnlessMemory, OnMemory};
+ghost use Rattle.mysql_replies.specs.States.{reader_state, fault_named};
+ghost use Rattle.mysql_replies.specs.Pieces.{IsWaiting, TakesPiece};
 ghost use Rattle.mysql_replies.specs.Taking.{ListsResults, ListsRows, results_in, without_results, reports_in};
 ghost use Rattle.mysql_replies.specs.Taking.{without_reports};
 ghost use Rattle.mysql_replies.specs.Views.{answer_view, awaited_view, outcome_views, report_views, row_views};
-ghost use Rattle.mysql_replies.specs.Standings as states;
+ghost use Rattle.mysql_replies.specs.States as states;
 
 use crate::context::{Context, ReplyKind};
 use crate::fault::ReplyFault;
-use crate::framing::{bytes_are_bytes, framing_laws};
+use crate::framing::framing_laws;
 use crate::results::{Reply, ReplyResult};
 use crate::state::ReplyState;
+use mysql_buf::laws::are_bytes;
 use mysql_const::CapabilityFlags;
 use mysql_rows::Row;
 use mysql_server_packets::ProgressReport;
@@ -27,15 +29,15 @@ use mysql_wire::{PacketCodecError, PacketReader};
 use std::alloc::Global;
 use std::marker::Model;
 
-/// What a codec's error means for a reply.
+/// The fault of a reply that a codec's error means.
 pub fn fault_from(error: PacketCodecError) -> ReplyFault
     ensures { result ≡ fault_named error }
 {
     match error {
         PacketCodecError::PacketTooLarge => ReplyFault::TooLarge,
         PacketCodecError::PacketsOutOfSync => ReplyFault::OutOfSync,
-        PacketCodecError::Memory => ReplyFault::Memory,
-        PacketCodecError::Io(_) => ReplyFault::Memory,
+        // `Io` is of codecs over streams: what reads buffers never answers it.
+        PacketCodecError::Memory | PacketCodecError::Io(_) => ReplyFault::Memory,
     }
 }
 
@@ -47,24 +49,8 @@ fn take_payloads(
     packets: &mut PacketReader,
     piece: &[u8],
 ) -> Result<(), ReplyFault>
-    requires reading { IsReading state.old }
-    requires going { state.old.fault ≡ None }
-    requires paused { IsPaused state.old (codec_by packets.old) packets.old.bytes [] }
-    ensures reading { IsReading state.new }
-    ensures paused { OnOk result ((state.new.fault ≡ None) ×
-        IsPaused state.new (codec_by packets.new) packets.new.bytes []) }
-    ensures fault { IfErr result (λ fault. state.new.fault ≡ Some fault) }
-    ensures took { OnOk result
-        (TakesAll (reader_state state.old packets.old)
-        ((reader_state state.old packets.old).bytes ++
-        piece.now) (reader_state state.new packets.new)) }
-    ensures goes_on { UnlessMemory result
-        (ReaderGoesOn (reader_state state.old packets.old) piece.now
-        (reader_state state.new packets.new)) }
-    ensures short { OnMemory result
-        (StandsShort (reader_state state.old packets.old)
-        ((reader_state state.old packets.old).bytes ++
-        piece.now) (reader_state state.new packets.new)) }
+    requires { IsWaiting state.old packets.old }
+    ensures { TakesPiece state.old packets.old piece.now result state.new packets.new }
 {
     framing_laws();
     let mut rest = piece;
@@ -110,41 +96,9 @@ fn took_within(state: &ReplyState, packets: &mut PacketReader, piece: &[u8]) -> 
     packets.take_within(piece)
 }
 
-// Takes each payload that the piece makes whole. A piece that ends within a packet is taken at once.
-#[inline(always)]
-fn take_packets(
-    alloc: Global,
-    state: &mut ReplyState,
-    packets: &mut PacketReader,
-    piece: &[u8],
-) -> Result<(), ReplyFault>
-    requires reading { IsReading state.old }
-    requires going { state.old.fault ≡ None }
-    requires paused { IsPaused state.old (codec_by packets.old) packets.old.bytes [] }
-    ensures reading { IsReading state.new }
-    ensures paused { OnOk result ((state.new.fault ≡ None) ×
-        IsPaused state.new (codec_by packets.new) packets.new.bytes []) }
-    ensures fault { IfErr result (λ fault. state.new.fault ≡ Some fault) }
-    ensures took { OnOk result
-        (TakesAll (reader_state state.old packets.old)
-        ((reader_state state.old packets.old).bytes ++
-        piece.now) (reader_state state.new packets.new)) }
-    ensures goes_on { UnlessMemory result
-        (ReaderGoesOn (reader_state state.old packets.old) piece.now
-        (reader_state state.new packets.new)) }
-    ensures short { OnMemory result
-        (StandsShort (reader_state state.old packets.old)
-        ((reader_state state.old packets.old).bytes ++
-        piece.now) (reader_state state.new packets.new)) }
-{
-    framing_laws();
-    if took_within(state, packets, piece) {
-        return Ok(());
-    }
-    take_payloads(alloc, state, packets, piece)
-}
-
-/// What is held of a reply: what stands of it, and the bytes of the packet that isn't whole.
+/// What a reader holds: what was read of the reply, and the bytes of the packet that isn't whole.
+///
+/// They are one field, so that a row which borrows from both can be handed out.
 #[derive(Drop)]
 pub struct ReaderParts {
     pub state: ReplyState,
@@ -152,37 +106,33 @@ pub struct ReaderParts {
 }
 
 impl ReaderParts {
-    // Takes each payload that the piece makes whole.
+    // Takes each payload that the piece makes whole. A piece that ends within a packet is taken at once.
     #[inline(always)]
     fn take_packets(&mut self, alloc: Global, piece: &[u8]) -> Result<(), ReplyFault>
-        requires reading { IsReading self.old.state }
-        requires going { self.old.state.fault ≡ None }
-        requires paused { IsPaused self.old.state (codec_by self.old.packets) self.old.packets.bytes [] }
-        ensures reading { IsReading self.new.state }
-        ensures paused { OnOk result ((self.new.state.fault ≡ None) ×
-            IsPaused self.new.state (codec_by self.new.packets) self.new.packets.bytes []) }
-        ensures fault { IfErr result (λ fault. self.new.state.fault ≡ Some fault) }
-        ensures took { OnOk result
-            (TakesAll (reader_state self.old.state self.old.packets)
-            ((reader_state self.old.state self.old.packets).bytes ++
-            piece.now) (reader_state self.new.state self.new.packets)) }
-        ensures goes_on { UnlessMemory result
-            (ReaderGoesOn (reader_state self.old.state self.old.packets) piece.now
-            (reader_state self.new.state self.new.packets)) }
-        ensures short { OnMemory result
-            (StandsShort (reader_state self.old.state self.old.packets)
-            ((reader_state self.old.state self.old.packets).bytes ++
-            piece.now) (reader_state self.new.state self.new.packets)) }
+        requires { IsWaiting self.old.state self.old.packets }
+        ensures { TakesPiece self.old.state self.old.packets piece.now result self.new.state self.new.packets }
     {
-        take_packets(alloc, &mut self.state, &mut self.packets, piece)
+        framing_laws();
+        if took_within(&self.state, &mut self.packets, piece) {
+            return Ok(());
+        }
+        take_payloads(alloc, &mut self.state, &mut self.packets, piece)
     }
 }
 
-/// Reads a server's reply from the bytes of a connection, in whatever pieces they come. What it holds, beside the
-/// results and the reports that it read and that were not handed out, is at most one packet within the limit.
+/// Reads a server's reply from the bytes of a connection, in whatever pieces they come.
 ///
-/// What [`ReplyReader::take_results`] and [`ReplyReader::take_progress`] hand out on the way and what
-/// [`ReplyReader::finish`] gives are, joined, the reply.
+/// What it holds, beside the results and the reports that it read and that were not handed out, is
+/// at most one packet within the limit. What [`ReplyReader::take_results`] and
+/// [`ReplyReader::take_progress`] hand out on the way and what [`ReplyReader::finish`] gives are,
+/// joined, the reply.
+///
+///     let mut reader = ReplyReader::new(alloc, ReplyKind::Text, capabilities, 1, limit);
+///     while let Some(piece) = next_piece()? {
+///         reader.feed(piece)?;
+///         for result in reader.take_results() { .. }
+///     }
+///     let rest = reader.finish();
 ///
 /// MySQL: Client/Server Protocol, "COM_QUERY Response", "Text Resultset", "Binary Protocol Resultset" and
 /// "COM_STMT_PREPARE Response".
@@ -199,7 +149,7 @@ impl Model for ReplyReader {
 
     ghost use Rattle.std.specs.Prelude.{[]};
     ghost use Rattle.mysql_wire.specs.Incoming.{codec_by};
-    ghost use Rattle.mysql_replies.specs.Standings.{reader_state, IsReceiving};
+    ghost use Rattle.mysql_replies.specs.States.{reader_state, IsReceiving};
 
     ghost view = { λ reader. reader_state reader.parts.state reader.parts.packets };
 
@@ -208,8 +158,9 @@ impl Model for ReplyReader {
 }
 
 impl ReplyReader {
-    /// A reader of the reply to a command of this kind, of which nothing came yet. The reply's
-    /// first chunk has the number `first_id`.
+    /// A reader of the reply to a command of this kind, of which nothing came yet.
+    ///
+    /// The reply's first chunk has the number `first_id`.
     ///
     /// The limit is the `max_allowed_packet` of the side that the packets go to, and at least 4.
     /// Calls that write count 4 bytes for a packet's header in it: a payload has at most `limit -
@@ -225,28 +176,30 @@ impl ReplyReader {
     {
         framing_laws();
         let context = Context { kind, capabilities };
-        ReplyReader {
-            alloc,
-            parts: ReaderParts {
-                state: ReplyState::new(alloc, context),
-                packets: PacketReader::new(alloc, first_id, limit),
-            },
-        }
+        let parts = ReaderParts {
+            state: ReplyState::new(alloc, context),
+            packets: PacketReader::new(alloc, first_id, limit),
+        };
+        ReplyReader { alloc, parts }
     }
 
-    /// Reads the next bytes. Answers the fault of the first payload that has no place, or of the
-    /// bytes after the payloads, as soon as no further bytes could mend it; from then on it answers
-    /// that fault and changes nothing. Where memory ran out it answers Memory from then on, and
-    /// what was read of the payloads before stays: each of them has its place in a reply that goes
-    /// on behind them.
+    /// Reads the next bytes.
+    ///
+    /// Answers the fault of the first payload that has no place, or of the bytes after the payloads,
+    /// as soon as no further bytes could mend it; from then on it answers that fault and changes
+    /// nothing. Where memory ran out it answers `Memory` from then on, and what was read of the
+    /// payloads before stays: each of them has its place in a reply that goes on behind them.
+    ///
+    /// Promise: what is held decides, over all bytes to come, what was decided before over the piece
+    /// and them (`HasFoundNoFault`, `RunsShort`).
     pub fn feed(&mut self, piece: &[u8]) -> Result<(), ReplyFault>
-        ensures stays { IfSome (fault_of self.old.standing) (λ fault. (result ≡ Err fault) × (self.new ≡ self.old)) }
-        ensures going { OnOk result (fault_of self.new.standing ≡ None) }
+        ensures stays { IfSome (fault_of self.old.so_far) (λ fault. (result ≡ Err fault) × (self.new ≡ self.old)) }
+        ensures going { OnOk result (fault_of self.new.so_far ≡ None) }
         ensures no_fault { OnOk result (HasFoundNoFault self.new) }
-        ensures fault { IfErr result (λ fault. fault_of self.new.standing ≡ Some fault) }
+        ensures fault { IfErr result (λ fault. fault_of self.new.so_far ≡ Some fault) }
         ensures takes { OnOk result (TakesAll self.old (self.old.bytes ++ piece.now) self.new) }
         ensures goes_on { result ≢ Err Memory → ReaderGoesOn self.old piece.now self.new }
-        ensures short { fault_of self.old.standing ≡ None → result ≡ Err Memory →
+        ensures short { fault_of self.old.so_far ≡ None → result ≡ Err Memory →
             StandsShort self.old (self.old.bytes ++ piece.now) self.new }
     {
         framing_laws();
@@ -257,16 +210,21 @@ impl ReplyReader {
         self.parts.take_packets(self.alloc, piece)
     }
 
-    /// Hands out the results so far: those that stand whole, and of a result set that goes on its
-    /// rows so far, if there are any, as [`ReplyResult::Rows`] without a terminator. Its later rows
-    /// are listed anew, under the same columns: a result set that was handed out in parts is theirs
-    /// joined, all but the last without a terminator. Where a fault was met, or memory ran out, all
-    /// that is listed is handed out. Takes no memory.
+    /// Hands out the results so far. Takes no memory.
+    ///
+    /// They are those that stand whole, and of a result set that goes on its rows so far, if there
+    /// are any, as [`ReplyResult::Rows`] without a terminator. Its later rows are listed anew, under
+    /// the same columns: a result set that was handed out in parts is theirs joined, all but the last
+    /// without a terminator. Where a fault was met, or memory ran out, all that is listed is handed
+    /// out.
+    ///
+    /// Promise: results that stand whole, and of the result set that goes on its rows so far, are
+    /// handed out, and nothing else changes (`results_in`, `without_results`).
     ///
     /// MySQL: Client/Server Protocol, "COM_QUERY Response" and "Text Resultset".
     pub fn take_results(&mut self) -> Vec<ReplyResult>
-        ensures taken { outcome_views result.items ≡ results_in self.old.standing }
-        ensures left { self.new ≡ record self.old { standing = without_results self.old.standing } }
+        ensures taken { outcome_views result.items ≡ results_in self.old.so_far }
+        ensures left { self.new ≡ record self.old { so_far = without_results self.old.so_far } }
     {
         self.parts.state.take_results(self.alloc)
     }
@@ -275,46 +233,52 @@ impl ReplyReader {
     ///
     /// MariaDB: 'Progress report' of "ERR_Packet".
     pub fn take_progress(&mut self) -> Vec<ProgressReport<'static>>
-        ensures taken { report_views result.items ≡ reports_in self.old.standing }
-        ensures left { self.new ≡ record self.old { standing = without_reports self.old.standing } }
+        ensures taken { report_views result.items ≡ reports_in self.old.so_far }
+        ensures left { self.new ≡ record self.old { so_far = without_reports self.old.so_far } }
     {
         self.parts.state.take_progress(self.alloc)
     }
 
     /// The results that stand whole and were not handed out.
     pub fn results(&self) -> &[ReplyResult]
-        ensures { ListsResults self.now.standing (outcome_views result.now) }
+        ensures { ListsResults self.now.so_far (outcome_views result.now) }
     {
         self.parts.state.results.as_slice()
     }
 
     /// The rows so far of a result set that goes on, but for those that were handed out.
     pub fn rows(&self) -> &[Row]
-        ensures { ListsRows self.now.standing (row_views result.now) }
+        ensures { ListsRows self.now.so_far (row_views result.now) }
     {
         self.parts.state.rows()
     }
 
     /// The progress reports that were not handed out.
     pub fn progress(&self) -> &[ProgressReport<'static>]
-        ensures { report_views result.now ≡ reports_in self.now.standing }
+        ensures { report_views result.now ≡ reports_in self.now.so_far }
     {
         self.parts.state.progress.as_slice()
     }
 
-    /// How many bytes are held of the packet that isn't whole: those that came of it, but for the
-    /// headers of its chunks, of which only one that doesn't stand whole is held. Where no fault
-    /// was met they are no more than the limit and three bytes of a header. Takes no memory.
+    /// How many bytes are held of the packet that isn't whole. Takes no memory.
+    ///
+    /// They are those that came of it, but for the headers of its chunks, of which only one that
+    /// doesn't stand whole is held. Where no fault was met they are no more than the limit and three
+    /// bytes of a header.
+    ///
+    /// Promise: where no fault was met they are at most the limit and three (`bytes_kept`).
     ///
     /// MySQL: Client/Server Protocol, "MySQL Packets".
     pub fn kept(&self) -> usize
         ensures bytes { result ≡ bytes_kept (length self.now.bytes) }
-        ensures within { fault_of self.now.standing ≡ None → result ≤ self.now.limit + 3 }
+        ensures within { fault_of self.now.so_far ≡ None → result ≤ self.now.limit + 3 }
     {
         self.parts.packets.kept()
     }
 
     /// What was read, where no more bytes come, but for what was handed out. Takes no memory.
+    ///
+    /// Promise: the answer that is decided over no more bytes (`ReaderDecides`).
     pub fn finish(self) -> Reply
         ensures { ReaderDecides self [] (answer_view result) }
     {
@@ -322,13 +286,18 @@ impl ReplyReader {
     }
 }
 
-/// The reply of these pieces' bytes, one after another: the answer of a [`ReplyReader`] that is fed
-/// them. Where memory ran out over a piece its end is Fault(p, Memory), and it has the results and
-/// the reports of the first p payloads: at least of those that stand whole in the pieces before it.
+/// The reply of these pieces' bytes, one after another.
+///
+/// It is the answer of a [`ReplyReader`] that is fed them. Where memory ran out over a piece its end
+/// is `Fault(p, Memory)`, and it has the results and the reports of the first p payloads: at least
+/// of those that stand whole in the pieces before it.
 ///
 /// The limit is the `max_allowed_packet` of the side that the packets go to, and at least 4. Calls
 /// that write count 4 bytes for a packet's header in it: a payload has at most `limit - 4` bytes.
 /// Calls that read count the payload alone: it has at most `limit` bytes.
+///
+/// Promise: of any bytes in any pieces the answer is exactly what the grammar gives: results,
+/// progress reports, and how the reply ends (`IsReplyOf`, `IsShortReplyOf`).
 ///
 /// MySQL: Client/Server Protocol, "COM_QUERY Response", "Text Resultset", "Binary Protocol Resultset" and
 /// "COM_STMT_PREPARE Response".
@@ -348,7 +317,7 @@ pub fn read_reply(
     let mut reader = ReplyReader::new(alloc, kind, capabilities, first_id, limit);
     // After a fault the reader takes no notice of further pieces.
     for piece in pieces {
-        bytes_are_bytes(piece);
+        are_bytes(piece);
         let _answer = reader.feed(piece);
     }
     reader.finish()

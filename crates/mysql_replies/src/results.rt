@@ -1,4 +1,15 @@
 //! The results of a reply.
+//!
+//! [`Reply`] is what `read_reply` and `ReplyReader::finish` give: the results in their order, the
+//! progress reports, and how the reply ends.
+//!
+//!     for result in reply.results {
+//!         match result {
+//!             ReplyResult::Rows { columns, rows, .. } => { .. }
+//!             ReplyResult::Error(error) => { .. }
+//!             _ => {}
+//!         }
+//!     }
 
 use crate::fault::ReplyFault;
 use mysql_columns::Column;
@@ -15,9 +26,10 @@ use std::rc::RcSlice;
 pub enum ReplyResult {
     /// A command that gives no rows was done.
     Ok(OkPacket<'static>),
-    /// Rows under their columns, which they share, and the packet that ended them. Without it they
-    /// ended by an error, which is the next result, or haven't ended; those that were handed out
-    /// before their end go on in the next result.
+    /// Rows under their columns, which they share, and the packet that ended them.
+    ///
+    /// Without it they ended by an error, which is the next result, or haven't ended; those that
+    /// were handed out before their end go on in the next result.
     Rows {
         columns: RcSlice<Column>,
         rows: Vec<Row>,
@@ -38,7 +50,7 @@ pub enum ReplyResult {
 /// How a reply ends.
 #[derive(Clone, Copy, Debug, PartialEq, Eq)]
 pub enum ReplyEnd {
-    /// The last result stands, and nothing follows it.
+    /// The last result is whole, and nothing follows it.
     Whole,
     /// The bytes end before the last result does.
     Unfinished,
@@ -59,7 +71,7 @@ impl fmt::Display for ReplyEnd {
 /// What was read of a reply.
 #[derive(Debug, Drop)]
 pub struct Reply {
-    /// The results, in order. Rows are listed from when their columns stand.
+    /// The results, in order. Rows are listed once their columns are whole.
     pub results: Vec<ReplyResult>,
     /// The progress reports, in order.
     pub progress: Vec<ProgressReport<'static>>,

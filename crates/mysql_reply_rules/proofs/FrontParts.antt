@@ -8,23 +8,23 @@ use Rattle.mysql_columns.specs.Columns.{ColumnDefinition}
 use Rattle.mysql_rows.specs.Rows.{Row}
 use Rattle.mysql_replies.specs.declared.fault.ReplyFault.{ReplyFault}
 use Rattle.mysql_replies.specs.declared.context.Context.{Context}
-use Rattle.mysql_replies.specs.Grammar.{Payload, Outcome, RowsResult, ErrorResult, Part, Stands, Begun, Unexpected, ◌>>=◌, Stretch, Line, RowLine, TerminatorLine, ErrorLine, Opening, OkOpening, ErrorOpening, FileOpening, CountOpening, StatementOpening, deprecate_eof, is_report, unless_report, as_part, next_payload, column, eof, columns, columns_end, column_group, line, after_rows, rows, result_set, prepared, prepared_columns, opening, after_opening, one_result}
+use Rattle.mysql_replies.specs.Grammar.{Payload, Outcome, RowsResult, ErrorResult, Parsed, Complete, CutOff, Faulty, ◌>>=◌, ResultGroup, Line, RowLine, TerminatorLine, ErrorLine, Opening, OkOpening, ErrorOpening, FileOpening, CountOpening, StatementOpening, deprecate_eof, is_report, unless_report, as_part, next_payload, column, eof, columns, columns_end, column_group, line, after_rows, rows, result_set, prepared, prepared_columns, opening, after_opening, one_result}
 use Rattle.mysql_replies.specs.Beginnings.{IsFrontOf, none, open_rows}
 
 -- What is listed where the payloads end inside a part, and the same part of more payloads: where it stands, this is so of both, and
 -- where it goes on, more is listed.
-abbrev pub Grows : {A : Type 0} → (List Outcome → A → Type 0) → List Outcome → Part A → Type 0
-Grows R listed (Stands a rest) = R listed a
-Grows R listed (Begun more) = IsFrontOf listed more
-Grows R listed (Unexpected more fault rest) = Unit {0}
+abbrev pub Grows : {A : Type 0} → (List Outcome → A → Type 0) → List Outcome → Parsed A → Type 0
+Grows R listed (Complete a rest) = R listed a
+Grows R listed (CutOff more) = IsFrontOf listed more
+Grows R listed (Faulty more fault rest) = Unit {0}
 
 -- A part of a front, and the same part where these payloads follow the front: what is decided stays.
-abbrev pub GoesOn : {A : Type 0} → (List Outcome → A → Type 0) → List Payload → Part A → Part A → Type 0
-GoesOn R back (Stands a rest) q = q ≡ Stands a (rest ++ back)
-GoesOn R back (Begun listed) q = Grows R listed q
-GoesOn R back (Unexpected listed fault rest) q = q ≡ Unexpected listed fault (rest ++ back)
+abbrev pub GoesOn : {A : Type 0} → (List Outcome → A → Type 0) → List Payload → Parsed A → Parsed A → Type 0
+GoesOn R back (Complete a rest) q = q ≡ Complete a (rest ++ back)
+GoesOn R back (CutOff listed) q = Grows R listed q
+GoesOn R back (Faulty listed fault rest) q = q ≡ Faulty listed fault (rest ++ back)
 
-GoesOn-if : {A : Type 0} (R : List Outcome → A → Type 0) (back : List Payload) (b : Bool) (p other q over : Part A) → GoesOn R back p other → GoesOn R back q over → GoesOn R back (if b then p else q) (if b then other else over)
+GoesOn-if : {A : Type 0} (R : List Outcome → A → Type 0) (back : List Payload) (b : Bool) (p other q over : Parsed A) → GoesOn R back p other → GoesOn R back q over → GoesOn R back (if b then p else q) (if b then other else over)
 GoesOn-if R back true p other q over on off = on
 GoesOn-if R back false p other q over on off = off
 
@@ -33,29 +33,29 @@ abbrev Nothing : {A : Type 0} → List Outcome → A → Type 0
 Nothing listed a = listed ≡ []
 
 -- A front of a result's outcomes is listed.
-abbrev pub Listed : List Outcome → Stretch → Type 0
+abbrev pub Listed : List Outcome → ResultGroup → Type 0
 Listed listed s = IsFrontOf listed s.results
 
-nothing_grows : {A : Type 0} (R : List Outcome → A → Type 0) (q : Part A) → ((a : A) → R [] a) → Grows R [] q
-nothing_grows R (Stands a rest) each = each a
-nothing_grows R (Begun more) each = none
-nothing_grows R (Unexpected more fault rest) each = tt
+nothing_grows : {A : Type 0} (R : List Outcome → A → Type 0) (q : Parsed A) → ((a : A) → R [] a) → Grows R [] q
+nothing_grows R (Complete a rest) each = each a
+nothing_grows R (CutOff more) each = none
+nothing_grows R (Faulty more fault rest) each = tt
 
-grows_then : {A B : Type 0} (S : List Outcome → B → Type 0) (listed : List Outcome) (q : Part A) (f : A × List Payload → Part B) → ((b : B) → S [] b) → Grows Nothing listed q → Grows S listed (q >>= f)
-grows_then S listed (Stands a rest) f each h = subst (λ l. Grows S l (f (a, rest))) (sym h) (nothing_grows S (f (a, rest)) each)
-grows_then S listed (Begun more) f each h = h
-grows_then S listed (Unexpected more fault rest) f each h = tt
+grows_then : {A B : Type 0} (S : List Outcome → B → Type 0) (listed : List Outcome) (q : Parsed A) (f : A × List Payload → Parsed B) → ((b : B) → S [] b) → Grows Nothing listed q → Grows S listed (q >>= f)
+grows_then S listed (Complete a rest) f each h = subst (λ l. Grows S l (f (a, rest))) (sym h) (nothing_grows S (f (a, rest)) each)
+grows_then S listed (CutOff more) f each h = h
+grows_then S listed (Faulty more fault rest) f each h = tt
 
-GoesOn-then : {A B : Type 0} (S : List Outcome → B → Type 0) (back : List Payload) (p q : Part A) (f : A × List Payload → Part B) → ((b : B) → S [] b) → GoesOn Nothing back p q
+GoesOn-then : {A B : Type 0} (S : List Outcome → B → Type 0) (back : List Payload) (p q : Parsed A) (f : A × List Payload → Parsed B) → ((b : B) → S [] b) → GoesOn Nothing back p q
     → ((a : A) (rest : List Payload) → GoesOn S back (f (a, rest)) (f (a, rest ++ back))) → GoesOn S back (p >>= f) (q >>= f)
-GoesOn-then S back (Stands a rest) q f begins goes each = subst (λ x. GoesOn S back (f (a, rest)) (x >>= f)) (sym goes) (each a rest)
-GoesOn-then S back (Begun listed) q f begins goes each = grows_then S listed q f begins goes
-GoesOn-then S back (Unexpected listed fault rest) q f begins goes each = ap (λ x. x >>= f) goes
+GoesOn-then S back (Complete a rest) q f begins goes each = subst (λ x. GoesOn S back (f (a, rest)) (x >>= f)) (sym goes) (each a rest)
+GoesOn-then S back (CutOff listed) q f begins goes each = grows_then S listed q f begins goes
+GoesOn-then S back (Faulty listed fault rest) q f begins goes each = ap (λ x. x >>= f) goes
 
-then_nothing : {A B : Type 0} (back : List Payload) (p q : Part A) (f : A × List Payload → Part B) → GoesOn Nothing back p q → ((a : A) (rest : List Payload) → GoesOn Nothing back (f (a, rest)) (f (a, rest ++ back))) → GoesOn Nothing back (p >>= f) (q >>= f)
+then_nothing : {A B : Type 0} (back : List Payload) (p q : Parsed A) (f : A × List Payload → Parsed B) → GoesOn Nothing back p q → ((a : A) (rest : List Payload) → GoesOn Nothing back (f (a, rest)) (f (a, rest ++ back))) → GoesOn Nothing back (p >>= f) (q >>= f)
 then_nothing back p q f goes each = GoesOn-then Nothing back p q f (λ b. refl) goes each
 
-then_listed : {A : Type 0} (back : List Payload) (p q : Part A) (f : A × List Payload → Part Stretch) → GoesOn Nothing back p q → ((a : A) (rest : List Payload) → GoesOn Listed back (f (a, rest)) (f (a, rest ++ back))) → GoesOn Listed back (p >>= f) (q >>= f)
+then_listed : {A : Type 0} (back : List Payload) (p q : Parsed A) (f : A × List Payload → Parsed ResultGroup) → GoesOn Nothing back p q → ((a : A) (rest : List Payload) → GoesOn Listed back (f (a, rest)) (f (a, rest ++ back))) → GoesOn Listed back (p >>= f) (q >>= f)
 then_listed back p q f goes each = GoesOn-then Listed back p q f (λ s. none) goes each
 
 GoesOn-as_part : {A : Type 0} (r : Result A ReplyFault) (payload : Payload) (front back : List Payload) → GoesOn Nothing back (as_part r payload front) (as_part r payload (front ++ back))
@@ -94,10 +94,10 @@ record HasRows (columns : List ColumnDefinition) (these : List Row) (listed : Li
   is : listed ≡ RowsResult columns (these ++ more) end ∷ others
 
 -- They do where the part stands or goes on.
-abbrev ListsRows : List ColumnDefinition → List Row → Part Stretch → Type 0
-ListsRows columns these (Stands s rest) = HasRows columns these s.results
-ListsRows columns these (Begun listed) = HasRows columns these listed
-ListsRows columns these (Unexpected listed fault rest) = Unit {0}
+abbrev ListsRows : List ColumnDefinition → List Row → Parsed ResultGroup → Type 0
+ListsRows columns these (Complete s rest) = HasRows columns these s.results
+ListsRows columns these (CutOff listed) = HasRows columns these listed
+ListsRows columns these (Faulty listed fault rest) = Unit {0}
 
 no_more_rows : (columns : List ColumnDefinition) (these : List Row) (end : Option OkPacket) (others : List Outcome) → HasRows columns these (RowsResult columns these end ∷ others)
 no_more_rows columns these end others = record { more = []; end = end; others = others; is = ap (λ l. RowsResult columns l end ∷ others) (sym (append-nil these)) }
@@ -106,16 +106,16 @@ row_before : (columns : List ColumnDefinition) (these : List Row) (found : Row) 
 row_before columns these found listed h =
     record { more = found ∷ h.more; end = h.end; others = h.others; is = h.is ∙ ap (λ l. RowsResult columns l h.end ∷ h.others) (append_assoc these (found ∷ []) h.more) }
 
-ListsRows-before : (columns : List ColumnDefinition) (these : List Row) (found : Row) (p : Part Stretch) → ListsRows columns (these ++ found ∷ []) p → ListsRows columns these p
-ListsRows-before columns these found (Stands s rest) h = row_before columns these found s.results h
-ListsRows-before columns these found (Begun listed) h = row_before columns these found listed h
-ListsRows-before columns these found (Unexpected listed fault rest) h = tt
+ListsRows-before : (columns : List ColumnDefinition) (these : List Row) (found : Row) (p : Parsed ResultGroup) → ListsRows columns (these ++ found ∷ []) p → ListsRows columns these p
+ListsRows-before columns these found (Complete s rest) h = row_before columns these found s.results h
+ListsRows-before columns these found (CutOff listed) h = row_before columns these found listed h
+ListsRows-before columns these found (Faulty listed fault rest) h = tt
 
-ListsRows-if : (columns : List ColumnDefinition) (these : List Row) (b : Bool) (p q : Part Stretch) → ListsRows columns these p → ListsRows columns these q → ListsRows columns these (if b then p else q)
+ListsRows-if : (columns : List ColumnDefinition) (these : List Row) (b : Bool) (p q : Parsed ResultGroup) → ListsRows columns these p → ListsRows columns these q → ListsRows columns these (if b then p else q)
 ListsRows-if columns these true p q on off = on
 ListsRows-if columns these false p q on off = off
 
-ListsRows-after_rows : (columns : List ColumnDefinition) (these : List Row) (on : Row → Part Stretch) (r : Result Line ReplyFault) (payload : Payload) (rest : List Payload) → ((found : Row) → ListsRows columns these (on found)) → ListsRows columns these (after_rows columns these on r payload rest)
+ListsRows-after_rows : (columns : List ColumnDefinition) (these : List Row) (on : Row → Parsed ResultGroup) (r : Result Line ReplyFault) (payload : Payload) (rest : List Payload) → ((found : Row) → ListsRows columns these (on found)) → ListsRows columns these (after_rows columns these on r payload rest)
 ListsRows-after_rows columns these on (Ok (RowLine found)) payload rest each = each found
 ListsRows-after_rows columns these on (Ok (TerminatorLine ok)) payload rest each = no_more_rows columns these (Some ok) []
 ListsRows-after_rows columns these on (Ok (ErrorLine error)) payload rest each = no_more_rows columns these None (ErrorResult error ∷ [])
@@ -132,12 +132,12 @@ ListsRows-rows c columns these (payload ∷ rest) =
 open_rows_first : (columns : List ColumnDefinition) (these : List Row) (listed : List Outcome) → HasRows columns these listed → IsFrontOf (RowsResult columns these None ∷ []) listed
 open_rows_first columns these listed h = subst (λ l. IsFrontOf (RowsResult columns these None ∷ []) l) (sym h.is) (open_rows these h.more)
 
-rows_grow : (columns : List ColumnDefinition) (these : List Row) (p : Part Stretch) → ListsRows columns these p → Grows Listed (RowsResult columns these None ∷ []) p
-rows_grow columns these (Stands s rest) h = open_rows_first columns these s.results h
-rows_grow columns these (Begun listed) h = open_rows_first columns these listed h
-rows_grow columns these (Unexpected listed fault rest) h = tt
+rows_grow : (columns : List ColumnDefinition) (these : List Row) (p : Parsed ResultGroup) → ListsRows columns these p → Grows Listed (RowsResult columns these None ∷ []) p
+rows_grow columns these (Complete s rest) h = open_rows_first columns these s.results h
+rows_grow columns these (CutOff listed) h = open_rows_first columns these listed h
+rows_grow columns these (Faulty listed fault rest) h = tt
 
-GoesOn-after_rows : (columns : List ColumnDefinition) (these : List Row) (on over : Row → Part Stretch) (r : Result Line ReplyFault) (payload : Payload) (front back : List Payload) → ((found : Row) → GoesOn Listed back (on found) (over found))
+GoesOn-after_rows : (columns : List ColumnDefinition) (these : List Row) (on over : Row → Parsed ResultGroup) (r : Result Line ReplyFault) (payload : Payload) (front back : List Payload) → ((found : Row) → GoesOn Listed back (on found) (over found))
     → GoesOn Listed back (after_rows columns these on r payload front) (after_rows columns these over r payload (front ++ back))
 GoesOn-after_rows columns these on over (Ok (RowLine found)) payload front back each = each found
 GoesOn-after_rows columns these on over (Ok (TerminatorLine ok)) payload front back each = refl

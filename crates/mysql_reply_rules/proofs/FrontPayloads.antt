@@ -5,7 +5,7 @@ use Rattle.std.proofs.lemmas.List.{append_assoc, take_all, length-append}
 use Rattle.mysql_wire.specs.Stream.{Rest, IsFault}
 use Rattle.mysql_wire.specs.Stream.Rest.{Empty, TooLarge, OutOfSync, Open as OpenRest}
 use Rattle.mysql_replies.specs.declared.context.Context.{Context}
-use Rattle.mysql_replies.specs.Grammar.{Payload, Outcome, Part, Stands, Begun, Unexpected, Stretch, Ending, Ended, Open, Wrong, Results, last, more, begun, unexpected, one_result}
+use Rattle.mysql_replies.specs.Grammar.{Payload, Outcome, Parsed, Complete, CutOff, Faulty, ResultGroup, Ending, Ended, Open, Wrong, Results, last, more, cut_off, faulty, one_result}
 use Rattle.mysql_replies.specs.Reply as reply
 use Rattle.mysql_replies.specs.Reply.{Answer, IsReply, Whole, Unfinished, AnswersAgree, before_end, end_of, report_of}
 use Rattle.mysql_replies.specs.Manual.{EachSuchListIsWhole}
@@ -26,42 +26,42 @@ front_of_more front results others (first is) = first (front_of_more _ _ others 
 front_of_more front results others (open_rows rows later) = open_rows rows later
 
 -- A part is read as a front of these results, and is open at the end.
-record ReadsAsFront (c : Context) (p : Part Stretch) (listed : List Outcome) : Type 0 where
+record ReadsAsFront (c : Context) (p : Parsed ResultGroup) (listed : List Outcome) : Type 0 where
   found : List Outcome
   reading : Results c p found Open
   is : IsFrontOf found listed
 
-at_last : (c : Context) (back rest : List Payload) (listed : List Outcome) → length rest < length back → (p : Part Stretch) →
-    GoesOn Listed back p (Stands (record { results = listed; more = false }) rest) → ReadsAsFront c p listed
-at_last c back rest listed short (Stands s left) goes =
+at_last : (c : Context) (back rest : List Payload) (listed : List Outcome) → length rest < length back → (p : Parsed ResultGroup) →
+    GoesOn Listed back p (Complete (record { results = listed; more = false }) rest) → ReadsAsFront c p listed
+at_last c back rest listed short (Complete s left) goes =
     let payloads : rest ≡ left ++ back = cc in let e = ap length payloads in absurd (omega (arith, short, e, length-append left back))
-at_last c back rest listed short (Begun found) goes = record { found = found; reading = begun found; is = goes }
-at_last c back rest listed short (Unexpected found fault left) goes = absurd cc
+at_last c back rest listed short (CutOff found) goes = record { found = found; reading = cut_off found; is = goes }
+at_last c back rest listed short (Faulty found fault left) goes = absurd cc
 
-at_begun : (c : Context) (back : List Payload) (listed : List Outcome) (p : Part Stretch) → GoesOn Listed back p (Begun listed) → ReadsAsFront c p listed
-at_begun c back listed (Stands s left) goes = absurd cc
-at_begun c back listed (Begun found) goes = record { found = found; reading = begun found; is = goes }
-at_begun c back listed (Unexpected found fault left) goes = absurd cc
+at_begun : (c : Context) (back : List Payload) (listed : List Outcome) (p : Parsed ResultGroup) → GoesOn Listed back p (CutOff listed) → ReadsAsFront c p listed
+at_begun c back listed (Complete s left) goes = absurd cc
+at_begun c back listed (CutOff found) goes = record { found = found; reading = cut_off found; is = goes }
+at_begun c back listed (Faulty found fault left) goes = absurd cc
 
-after_one : (c : Context) (rest : List Payload) (listed others : List Outcome) (back : List Payload) → ((p : Part Stretch) → GoesOn Listed back p (one_result c rest) → ReadsAsFront c p others) → (p : Part Stretch) →
-    GoesOn Listed back p (Stands (record { results = listed; more = true }) rest) → ReadsAsFront c p (listed ++ others)
-after_one c rest listed others back each (Stands s left) goes =
+after_one : (c : Context) (rest : List Payload) (listed others : List Outcome) (back : List Payload) → ((p : Parsed ResultGroup) → GoesOn Listed back p (one_result c rest) → ReadsAsFront c p others) → (p : Parsed ResultGroup) →
+    GoesOn Listed back p (Complete (record { results = listed; more = true }) rest) → ReadsAsFront c p (listed ++ others)
+after_one c rest listed others back each (Complete s left) goes =
     let stretch : record { results = listed; more = true } ≡ s = cc in
     let payloads : rest ≡ left ++ back = cc in
     let h = each (one_result c left) (subst (λ l. GoesOn Listed back (one_result c left) (one_result c l)) (sym payloads) (GoesOn-one_result c left back)) in record {
       found = listed ++ h.found;
-      reading = subst (λ s. Results c (Stands s left) (listed ++ h.found) Open) stretch (more listed left h.reading);
+      reading = subst (λ s. Results c (Complete s left) (listed ++ h.found) Open) stretch (more listed left h.reading);
       is = front_behind listed h.found others h.is;
     }
-after_one c rest listed others back each (Begun found) goes = record { found = found; reading = begun found; is = front_of_more found listed others goes }
-after_one c rest listed others back each (Unexpected found fault left) goes = absurd cc
+after_one c rest listed others back each (CutOff found) goes = record { found = found; reading = cut_off found; is = front_of_more found listed others goes }
+after_one c rest listed others back each (Faulty found fault left) goes = absurd cc
 
-front_of : (c : Context) (back : List Payload) (q : Part Stretch) (listed : List Outcome) (ending : Ending) → Results c q listed ending → EndsWithin back ending → (p : Part Stretch) → GoesOn Listed back p q → ReadsAsFront c p listed
+front_of : (c : Context) (back : List Payload) (q : Parsed ResultGroup) (listed : List Outcome) (ending : Ending) → Results c q listed ending → EndsWithin back ending → (p : Parsed ResultGroup) → GoesOn Listed back p q → ReadsAsFront c p listed
 front_of c back q listed ending (last these rest) within p goes = at_last c back rest these within p goes
 front_of c back q listed ending (more these rest {others = others} {ending = end} reading) within p goes =
     after_one c rest these others back (λ part on. front_of c back (one_result c rest) others end reading within part on) p goes
-front_of c back q listed ending (begun these) within p goes = at_begun c back these p goes
-front_of c back q listed ending (unexpected these fault rest) within p goes = absurd within
+front_of c back q listed ending (cut_off these) within p goes = at_begun c back these p goes
+front_of c back q listed ending (faulty these fault rest) within p goes = absurd within
 
 whole_ending : (count : ℕ) (ending : Ending) → Whole ≡ end_of count Empty ending → ending ≡ Ended []
 whole_ending count (Ended []) is = refl

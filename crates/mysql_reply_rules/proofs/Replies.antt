@@ -113,15 +113,15 @@ numbered_on w n = record { context = w.context; limit = w.limit; payloads = n; r
 record Reported (w : Writing) (n : ℕ) (progress : List ProgressReport) (steps : List Step) : Type 0 where
   count : ℕ
   allowed : steps_cause (numbered_on w count) steps ≡ None
-  standing : after_steps (numbered_on w n) (map ReportStep progress ++ steps) ≡ after_steps (numbered_on w count) steps
+  so_far : after_steps (numbered_on w n) (map ReportStep progress ++ steps) ≡ after_steps (numbered_on w count) steps
 
 reported : (w : Writing) (n : ℕ) (progress : List ProgressReport) (steps : List Step) → steps_cause (numbered_on w n) (map ReportStep progress ++ steps) ≡ None
     → Reported w n progress steps
-reported w n [] steps h = record { count = n; allowed = h; standing = refl }
+reported w n [] steps h = record { count = n; allowed = h; so_far = refl }
 reported w n (r ∷ rs) steps h =
     let a = allowed (numbered_on w n) (ReportStep r) (map ReportStep rs ++ steps) h in
     let later = reported w (n + length (step_payloads w.context (ReportStep r))) rs steps a.rest in
-    record { count = later.count; allowed = later.allowed; standing = later.standing }
+    record { count = later.count; allowed = later.allowed; so_far = later.so_far }
 
 pub is_whole : RowsReadBack → (c : Context) (limit : ℕ) (results : List Outcome) (progress : List ProgressReport) → StepsFit (reply_steps results progress)
     → refusal_of c limit results progress ≡ None → IsWholeReply c (reply_payloads c results progress) (results_read c results) (reports_read c progress)
@@ -132,7 +132,7 @@ is_whole back c limit (r ∷ rs) progress fit h =
     let p = neither (steps_cause w (map ReportStep progress ++ steps)) (end_cause (after_steps w (map ReportStep progress ++ steps))) h in
     let x = reported w 0 progress steps p.0 in
     let fits = fit_apart (map ReportStep progress) steps fit in
-    let end : end_cause (after_steps (numbered_on w x.count) steps) ≡ None = subst (λ (u : Writing). end_cause u ≡ None) x.standing p.1 in
+    let end : end_cause (after_steps (numbered_on w x.count) steps) ≡ None = subst (λ (u : Writing). end_cause u ≡ None) x.so_far p.1 in
     let good = results_good back (numbered_on w x.count) (r ∷ rs) refl refl fits.1 x.allowed end in
     let forms = steps_forms back (numbered_on w x.count) steps (results_other (r ∷ rs)) fits.1 x.allowed in
     record {

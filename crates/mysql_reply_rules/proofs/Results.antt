@@ -218,7 +218,7 @@ standing_behind : (w : Writing) (columns : List ColumnDefinition) (these : List 
     (d : RowsDone w columns these (ends ++ rest) (opened w columns) (opened_at w columns))
     → after_steps w ((ColumnsStep columns ∷ map (RowStep columns) these ++ ends) ++ rest) ≡ after_steps (going w d.later d.count) (ends ++ rest)
 standing_behind w columns these ends rest d =
-    ap (λ (steps : List Step). after_steps w (ColumnsStep columns ∷ steps)) (in_order columns these ends rest) ∙ d.standing
+    ap (λ (steps : List Step). after_steps w (ColumnsStep columns ∷ steps)) (in_order columns these ends rest) ∙ d.so_far
 
 pub results_good : RowsReadBack → (w : Writing) (results : List Outcome) → w.over ≡ false → is_some_result results ≡ true → StepsFit (results_steps results)
     → steps_cause w (results_steps results) ≡ None → end_cause (after_steps w (results_steps results)) ≡ None

@@ -40,12 +40,12 @@ pub record RowsDone (w : Writing) (columns : List ColumnDefinition) (rows : List
   pub later : OpenRows
   pub count : ℕ
   pub allowed : steps_cause (going w later count) rest ≡ None
-  pub standing : after_steps (going w open_rows n) (map (RowStep columns) rows ++ rest) ≡ after_steps (going w later count) rest
+  pub so_far : after_steps (going w open_rows n) (map (RowStep columns) rows ++ rest) ≡ after_steps (going w later count) rest
 
 pub rows_done : RowsReadBack → (w : Writing) (columns : List ColumnDefinition) (rows : List Row) (rest : List Step) (open_rows : OpenRows) (n : ℕ)
     → StepsFit (map (RowStep columns) rows) → steps_cause (going w open_rows n) (map (RowStep columns) rows ++ rest) ≡ None
     → RowsDone w columns rows rest open_rows n
-rows_done back w columns [] rest open_rows n fit h = record { are_rows = tt; later = open_rows; count = n; allowed = h; standing = refl }
+rows_done back w columns [] rest open_rows n fit h = record { are_rows = tt; later = open_rows; count = n; allowed = h; so_far = refl }
 rows_done back w columns (row ∷ rows) rest open_rows n fit h =
     let a = allowed (going w open_rows n) (RowStep columns row) (map (RowStep columns) rows ++ rest) h in
     let p = neither _ _ a.checks in
@@ -56,5 +56,5 @@ rows_done back w columns (row ∷ rows) rest open_rows n fit h =
       later = later.later;
       count = later.count;
       allowed = later.allowed;
-      standing = later.standing;
+      so_far = later.so_far;
     }

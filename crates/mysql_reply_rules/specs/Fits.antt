@@ -59,6 +59,6 @@ StepFits (FileStep name) = ⊤
 StepFits (PreparedStep statement parameters columns) = StatementFits statement ×
     ColumnsFit parameters × ColumnsFit columns
 
--- The same of each of some steps.
+-- What the types of the fields of each of some steps hold.
 abbrev pub StepsFit : List Step → Type 0
 StepsFit steps = AllByRecursion (λ step. StepFits step) steps

@@ -40,7 +40,7 @@ LongerFrontsGoOn = (c : Context) (front between back : List Payload) (next : Pay
     IsReply c front rest answer → IsReply c (front ++ between) other longer →
     IsFrontAnswer c front longer.results longer.progress answer
 
--- The same of bytes: where a framed reply is cut off before one of its bytes, each answer is that
+-- Where a framed reply is cut off before one of its bytes, each answer is that
 -- to a front, of which the payloads stand that the bytes split into.
 abbrev pub EachFramedFrontIsUnfinished : Type 0
 EachFramedFrontIsUnfinished =
@@ -50,7 +50,8 @@ EachFramedFrontIsUnfinished =
     (read : IsReplyOf c first_id limit front answer) →
     IsFrontAnswer c read.split.payloads listed reports answer
 
--- The same of two fronts of bytes.
+-- Of two fronts of the bytes of a framed reply, the answer to the shorter one is that to a front of
+-- the longer one's results and reports.
 abbrev pub LongerFramedFrontsGoOn : Type 0
 LongerFramedFrontsGoOn = (c : Context) (first_id limit : ℕ) (front between back : List ℕ) (next : ℕ)
     (listed : List Outcome) (reports : List ProgressReport) (answer longer : Answer) →

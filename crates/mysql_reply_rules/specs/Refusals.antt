@@ -7,6 +7,7 @@ use Rattle.mysql_ok_packets.specs.OkPackets.{OkPacket}
 use Rattle.mysql_server_packets.specs.Packets.{ProgressReport, is_progress_code}
 use Rattle.mysql_columns.specs.Columns.{ColumnDefinition}
 use Rattle.mysql_replies.specs.declared.context.Context.{Context}
+use Rattle.mysql_replies.specs.Bytes.{number_bound}
 use Rattle.mysql_replies.specs.Grammar.{Outcome, Payload, deprecate_eof, is_binary, is_prepare}
 use Rattle.mysql_reply_rules.specs.declared.refusal.ReplyRefusal.{ReplyRefusal}
 use Rattle.mysql_reply_rules.specs.declared.refusal.ReplyRefusal.TheVariants.{AfterEnd, CellCount, NoColumns, NoForm}
@@ -38,7 +39,7 @@ pub record OpenRows : Type 0 where
   pub columns : List ColumnDefinition
   pub count : ℕ
 
--- Where the writing of a reply stands.
+-- How far a reply is written.
 pub record Writing : Type 0 where
   pub context : Context
   -- The most bytes of a payload.
@@ -49,7 +50,7 @@ pub record Writing : Type 0 where
   pub results : ℕ
   -- Rows that go on.
   pub rows : Option OpenRows
-  -- The last result stands.
+  -- The last result is written.
   pub over : Bool
 
 -- Nothing was written.
@@ -60,7 +61,7 @@ nothing_written c limit = record { context = c; limit = limit; payloads = 0; res
 abbrev pub too_large : ℕ → ℕ → List Payload → Option ReplyRefusal
 too_large limit number [] = None
 too_large limit number (payload ∷ payloads) =
-    if nat_le (length payload) limit && nat_lt number 18446744073709551615 then too_large limit (number + 1) payloads
+    if nat_le (length payload) limit && nat_lt number number_bound then too_large limit (number + 1) payloads
     else Some (PacketTooLarge number)
 
 -- Nothing follows the last result.
@@ -164,7 +165,7 @@ over_behind w (FileStep name) = true
 over_behind w (PreparedStep statement parameters columns) = true
 over_behind w step = w.over
 
--- Where the writing stands behind a step.
+-- How far it is written behind a step.
 abbrev pub after_step : Writing → Step → Writing
 after_step w step = record {
   context = w.context;
@@ -175,7 +176,7 @@ after_step w step = record {
   over = over_behind w step;
 }
 
--- Where it stands behind some steps.
+-- How far it is written behind some steps.
 abbrev pub after_steps : Writing → List Step → Writing
 after_steps w [] = w
 after_steps w (step ∷ steps) = after_steps (after_step w step) steps

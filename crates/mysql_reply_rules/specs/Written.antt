@@ -25,7 +25,7 @@ abbrev pub with_more : Bool → ℕ → ℕ
 with_more true status = bit_or status 8
 with_more false status = bit_and status 0xfff7
 
--- The same of a packet.
+-- An OK packet whose status says whether another result follows.
 abbrev pub saying : Bool → OkPacket → OkPacket
 saying more ok = with_status (with_more more ok.status_flags) ok
 
@@ -150,10 +150,6 @@ reply_steps results progress = map ReportStep progress ++ results_steps results
 -- The payloads of steps.
 abbrev pub steps_payloads : Context → List Step → List Payload
 steps_payloads c steps = flat_map (step_payloads c) steps
-
--- The payloads of a result, by whether another one follows it.
-abbrev pub result_payloads : Context → Bool → Outcome → List Payload
-result_payloads c more outcome = steps_payloads c (result_steps more outcome)
 
 -- The payloads of a reply.
 abbrev pub reply_payloads : Context → List Outcome → List ProgressReport → List Payload

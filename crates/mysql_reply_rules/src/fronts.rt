@@ -8,9 +8,10 @@ use mysql_replies::laws::{
 };
 use mysql_wire::laws::{fronts_split, reader_laws};
 
-/// The first payloads of a whole reply, with nothing or only a part of the next one behind them,
-/// read without a fault: the answer is unfinished, and has the results and the rows that stand in
-/// them, and their progress reports. The answer to more of the payloads goes on from there.
+/// The first payloads of a whole reply, with at most a part of the next, read without a fault.
+///
+/// The answer is unfinished, and has the results and the rows that stand in them, and their progress
+/// reports. The answer to more of the payloads goes on from there.
 ///
 /// Follows the MySQL Client/Server Protocol, "COM_QUERY Response" and "COM_STMT_PREPARE Response".
 pub fn payload_fronts_are_unfinished()
@@ -22,10 +23,11 @@ pub fn payload_fronts_are_unfinished()
     whole_replies_are_results();
 }
 
-/// The framings of a whole reply, cut off at any byte, read without a fault: the answer is
-/// unfinished, and has the results and the rows that stand whole before the cut, and the progress
-/// reports. The answer to more of the bytes goes on from there; where nothing is cut off, it is
-/// whole.
+/// The framings of a whole reply, cut off at any byte, read without a fault.
+///
+/// The answer is unfinished, and has the results and the rows that stand whole before the cut, and
+/// the progress reports. The answer to more of the bytes goes on from there; where nothing is cut
+/// off, it is whole.
 ///
 /// Follows the MySQL Client/Server Protocol, "MySQL Packets", "COM_QUERY Response" and "COM_STMT_PREPARE Response".
 pub fn byte_fronts_are_unfinished()

@@ -13,8 +13,9 @@ use mysql_rows::laws::{
     read_text_rows_are_written, text_rows_begin, text_rows_read_back,
 };
 
-/// The payloads of a reply against which nothing speaks are a whole reply as the manual has it,
-/// with what its results and its progress reports are read as; their framings are such a reply's.
+/// The payloads of a reply against which nothing speaks are a whole reply as the manual has it.
+///
+/// It has what its results and its progress reports are read as; their framings are such a reply's.
 pub fn written_replies_are_whole()
     ensures whole { WrittenRepliesAreWhole }
     ensures framed { WrittenRepliesAreFramed }
@@ -25,8 +26,9 @@ pub fn written_replies_are_whole()
     binary_rows_begin();
 }
 
-/// The bytes of a reply against which nothing speaks have one answer: what its results and its
-/// progress reports are read as, and Whole.
+/// The bytes of a reply against which nothing speaks have one answer.
+///
+/// It is what its results and its progress reports are read as, and `Whole`.
 pub fn written_replies_read_back()
     ensures { WrittenRepliesReadBack }
 {
@@ -34,9 +36,10 @@ pub fn written_replies_read_back()
     whole_bytes_are_framed_results();
 }
 
-/// The results and progress reports that a whole reply was read as are what is read of them once
-/// they were written again, but for the sign of an all-zero time in a binary row: reading and
-/// writing gives one form. Nothing but a payload's size speaks against writing them.
+/// What a whole reply was read as is what is read of it once it was written again.
+///
+/// Only the sign of an all-zero time in a binary row is lost: reading and writing gives one form.
+/// Nothing but a payload's size speaks against writing it.
 pub fn read_replies_are_their_own()
     ensures results { ReadResultsAreTheirOwn }
     ensures reports { ReadReportsAreTheirOwn }
@@ -47,9 +50,11 @@ pub fn read_replies_are_their_own()
     read_binary_rows_are_written();
 }
 
-/// What a whole reply was read as is written in one form: what is read of that is written in the
-/// same payloads, and two whole replies that are written in the same payloads, nothing speaking
-/// against either, were read equally, but for the sign of an all-zero time in a binary row.
+/// What a whole reply was read as is written in one form.
+///
+/// What is read of that is written in the same payloads, and two whole replies that are written in
+/// the same payloads, nothing speaking against either, were read equally, but for the sign of an
+/// all-zero time in a binary row.
 pub fn read_replies_have_one_form()
     ensures again { ReadFormsAreWrittenAgain }
     ensures equal { EqualFormsWereReadEqually }

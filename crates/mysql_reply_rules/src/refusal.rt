@@ -6,8 +6,9 @@ ghost use Rattle.mysql_reply_rules.specs.declared.refusal.ReplyRefusal.TheVarian
 use std::alloc::{AllocError, AllocFailed};
 use thiserror::Error;
 
-/// Why a reply is not written. Results, rows, places and payloads are counted from 0; payloads with
-/// the progress reports.
+/// Why a reply is not written.
+///
+/// Results, rows, places and payloads are counted from 0; payloads with the progress reports.
 ///
 /// MySQL: Client/Server Protocol, "COM_QUERY Response" and "COM_STMT_PREPARE Response".
 #[derive(Clone, Copy, Debug, PartialEq, Eq, Error)]
@@ -15,8 +16,10 @@ pub enum ReplyRefusal {
     /// A reply has at least one result.
     #[error("the reply has no result")]
     NoResults,
-    /// The result, or a progress report in its place, stands behind the last one of a reply: behind
-    /// an error, the request of a file, a prepared statement or what was written as the last.
+    /// The result, or a progress report in its place, stands behind the last one of a reply.
+    ///
+    /// The last one is an error, the request of a file, a prepared statement or what was written as
+    /// the last.
     #[error("result {0}: the result before it ends the reply")]
     AfterEnd(usize),
     /// The rows of this result go on: they have no terminator, and no error follows them.
@@ -25,6 +28,8 @@ pub enum ReplyRefusal {
     /// Rows, or their end, where no columns began them.
     #[error("result {0}: its columns are not written")]
     NotBegun(usize),
+    /// The command has no such result.
+    ///
     /// A prepared statement answers a prepare and nothing else; an OK packet, rows and the request
     /// of a file answer other commands.
     #[error("result {0}: its command has no such result")]
@@ -47,15 +52,18 @@ pub enum ReplyRefusal {
         result: usize,
         row: usize,
     },
-    /// The cell has no form in its row: its value was taken, or a binary row has none for it under its column.
+    /// The cell has no form in its row.
+    ///
+    /// Its value was taken, or a binary row has none for it under its column.
     #[error("result {result}, row {row}: the cell at {place} can't be written")]
     NoForm {
         result: usize,
         row: usize,
         place: usize,
     },
-    /// The payload of this number exceeds the limit, or has 16777215 bytes or more where it is the
-    /// OK packet that ends rows. No payload has the number 2^64 - 1.
+    /// The payload of this number exceeds the limit.
+    ///
+    /// The OK packet that ends rows has less than 16777215 bytes. No payload has the number 2^64 - 1.
     #[error("payload {0}: it is larger than max_allowed_packet")]
     PacketTooLarge(u64),
     /// Memory ran out.

@@ -1,5 +1,5 @@
 -- A reply that was appended reads back, whole and of each front.
-use Rattle.std.proofs.Common.{◌≡◌, ℕ, List, ◌∷◌, ◌++◌, None, Result, Ok, Err, OnOk, sym, ◌∙◌, subst}
+use Rattle.std.proofs.Common.{◌≡◌, ℕ, List, ◌++◌, None, sym, ◌∙◌, subst}
 use Rattle.std.specs.List.{concat}
 use Rattle.std.proofs.lemmas.List.{append_cancel_left}
 use Rattle.mysql_server_packets.specs.Packets.{ProgressReport}
@@ -10,7 +10,6 @@ use Rattle.mysql_replies.specs.Manual.{EachFramingIsWhole, IsFramedReply}
 use Rattle.mysql_replies.specs.Reply.{Answer}
 use Rattle.mysql_reply_rules.specs.Fronts.{EachFramedFrontIsUnfinished, EachFramedReplyIsWhole}
 use Rattle.mysql_reply_rules.specs.Refusals.{refusal_of}
-use Rattle.mysql_reply_rules.specs.declared.refusal.ReplyRefusal.{ReplyRefusal}
 use Rattle.mysql_reply_rules.specs.Written.{reports_read, results_read}
 use Rattle.mysql_reply_writer.specs.Replies.{Replies, reply_stream, whole_answer}
 use Rattle.mysql_reply_writer.specs.Writer.{AppendsReply}
@@ -38,13 +37,3 @@ replied each only unfinished c first_id limit results progress old new none put 
       fronts = λ front back next answer cut reply. unfinished c first_id limit front back next (results_read c results) (reports_read c progress) answer
           (subst (λ (l : List ℕ). IsFramedReply c first_id limit l (results_read c results) (reports_read c progress)) cut framed) reply;
     }
-
--- The same where writing answered Ok.
-pub replied_on : EachFramingIsWhole → EachFramedReplyIsWhole → EachFramedFrontIsUnfinished
-    → (c : Context) (first_id limit : ℕ) (results : List Outcome) (progress : List ProgressReport) (old new : List ℕ) (answer : Result (Unit {0}) ReplyRefusal)
-    → OnOk answer (refusal_of c limit results progress ≡ None) → OnOk answer (new ≡ old ++ reply_stream c first_id results progress)
-    → OnOk answer (AppendsReply c first_id limit (results_read c results) (reports_read c progress) old new)
-    → OnOk answer (Replies c first_id limit results progress old new)
-replied_on each only unfinished c first_id limit results progress old new (Ok done) none put is =
-    replied each only unfinished c first_id limit results progress old new none put is
-replied_on each only unfinished c first_id limit results progress old new (Err refusal) none put is = none

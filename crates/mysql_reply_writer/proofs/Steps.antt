@@ -15,8 +15,8 @@ use Rattle.mysql_reply_writer.proofs.Joined.{after_joined, cause_first, cause_jo
 
 -- so many of the steps were written
 pub record WroteSoFar (old : Writer) (steps : List Step) (now : Writer) (left : List Step) (before after : List ℕ) : Type 0 where
-  pub causes : steps_cause old.standing steps ≡ steps_cause now.standing left
-  pub standing : after_steps old.standing steps ≡ after_steps now.standing left
+  pub causes : steps_cause old.so_far steps ≡ steps_cause now.so_far left
+  pub so_far : after_steps old.so_far steps ≡ after_steps now.so_far left
   pub number : number_behind (payloads_of old steps) old.number ≡ number_behind (payloads_of now left) now.number
   pub bytes : before ++ framings (payloads_of old steps) (OnFrom old.number) ≡ after ++ framings (payloads_of now left) (OnFrom now.number)
   pub fit : StepsFit left → StepsFit steps
@@ -25,7 +25,7 @@ pub record WroteSoFar (old : Writer) (steps : List Step) (now : Writer) (left : 
 pub none_written : (old : Writer) (steps : List Step) (before : List ℕ) → WroteSoFar old steps old steps before before
 none_written old steps before = record {
   causes = refl;
-  standing = refl;
+  so_far = refl;
   number = refl;
   bytes = refl;
   fit = λ h. h;
@@ -33,19 +33,19 @@ none_written old steps before = record {
 }
 
 module _ (now : Writer) (these left : List Step) (new : Writer) (mid after : List ℕ) (wrote : Wrote now these new mid after) where
-  context : new.standing.context ≡ now.standing.context
-  context = ap (λ (w : Writing). w.context) wrote.standing ∙ same_context now.standing these
+  context : new.so_far.context ≡ now.so_far.context
+  context = ap (λ (w : Writing). w.context) wrote.so_far ∙ same_context now.so_far these
 
   payloads : payloads_of now (these ++ left) ≡ payloads_of now these ++ payloads_of new left
   payloads =
-      flat_map-append (step_payloads now.standing.context) these left
+      flat_map-append (step_payloads now.so_far.context) these left
       ∙ ap (λ (c : Context). payloads_of now these ++ steps_payloads c left) (sym context)
 
-  on_cause : steps_cause now.standing (these ++ left) ≡ steps_cause new.standing left
-  on_cause = cause_joined now.standing these left wrote.allowed ∙ ap (λ (w : Writing). steps_cause w left) (sym wrote.standing)
+  on_cause : steps_cause now.so_far (these ++ left) ≡ steps_cause new.so_far left
+  on_cause = cause_joined now.so_far these left wrote.allowed ∙ ap (λ (w : Writing). steps_cause w left) (sym wrote.so_far)
 
-  on_standing : after_steps now.standing (these ++ left) ≡ after_steps new.standing left
-  on_standing = after_joined now.standing these left ∙ ap (λ (w : Writing). after_steps w left) (sym wrote.standing)
+  on_standing : after_steps now.so_far (these ++ left) ≡ after_steps new.so_far left
+  on_standing = after_joined now.so_far these left ∙ ap (λ (w : Writing). after_steps w left) (sym wrote.so_far)
 
   on_number : number_behind (payloads_of now (these ++ left)) now.number ≡ number_behind (payloads_of new left) new.number
   on_number =
@@ -64,7 +64,7 @@ module _ (now : Writer) (these left : List Step) (new : Writer) (mid after : Lis
   pub written_on : (old : Writer) (steps : List Step) (before : List ℕ) → WroteSoFar old steps now (these ++ left) before mid → WroteSoFar old steps new left before after
   written_on old steps before s = record {
     causes = s.causes ∙ on_cause;
-    standing = s.standing ∙ on_standing;
+    so_far = s.so_far ∙ on_standing;
     number = s.number ∙ on_number;
     bytes = s.bytes ∙ on_bytes;
     fit = λ h. s.fit (fit_joined these left wrote.fit h);
@@ -75,7 +75,7 @@ module _ (now : Writer) (these left : List Step) (new : Writer) (mid after : Lis
 pub all_written : (old : Writer) (steps : List Step) (now : Writer) (before after : List ℕ) → WroteSoFar old steps now [] before after → Wrote old steps now before after
 all_written old steps now before after s = record {
   allowed = s.causes;
-  standing = sym s.standing;
+  so_far = sym s.so_far;
   number = sym s.number;
   appended = sym (append-nil after) ∙ sym s.bytes;
   fit = s.fit tt;
@@ -85,7 +85,7 @@ all_written old steps now before after s = record {
 pub refused_on : (old : Writer) (steps : List Step) (now : Writer) (these left : List Step) (before after : List ℕ) (refusal : ReplyRefusal)
     → WroteSoFar old steps now (these ++ left) before after → Refuses now these refusal → Refuses old steps refusal
 refused_on old steps now these left before after refusal s refuses other =
-    s.causes ∙ cause_first now.standing these left refusal (refuses other)
+    s.causes ∙ cause_first now.so_far these left refusal (refuses other)
 
 -- steps and then others
 pub two_written : (old now new : Writer) (xs ys : List Step) (before mid after : List ℕ) → Wrote old xs now before mid → Wrote now ys new mid after → Wrote old (xs ++ ys) new before after
@@ -97,12 +97,12 @@ two_written old now new xs ys before mid after first second =
 
 -- the first of them is refused
 pub first_refused : (old : Writer) (xs ys : List Step) (refusal : ReplyRefusal) → Refuses old xs refusal → Refuses old (xs ++ ys) refusal
-first_refused old xs ys refusal refuses other = cause_first old.standing xs ys refusal (refuses other)
+first_refused old xs ys refusal refuses other = cause_first old.so_far xs ys refusal (refuses other)
 
 -- those behind them are
 pub later_refused : (old now : Writer) (xs ys : List Step) (before mid : List ℕ) (refusal : ReplyRefusal) → Wrote old xs now before mid → Refuses now ys refusal → Refuses old (xs ++ ys) refusal
 later_refused old now xs ys before mid refusal first refuses other =
-    cause_joined old.standing xs ys first.allowed ∙ ap (λ (w : Writing). steps_cause w ys) (sym first.standing) ∙ refuses other
+    cause_joined old.so_far xs ys first.allowed ∙ ap (λ (w : Writing). steps_cause w ys) (sym first.so_far) ∙ refuses other
 
 -- what stood before stands in front
 pub front_written : (old now : Writer) (xs : List Step) (before mid : List ℕ) → Wrote old xs now before mid → take (length before) mid ≡ before

@@ -24,15 +24,15 @@ refusal_is c limit (r ∷ rs) progress h = refl
 
 module _ (c : Context) (first_id limit : ℕ) (results : List ReplyResult) (progress : List ProgressReport) (some : (length results == 0) ≡ false) (old : Writer) (fresh : old ≡ fresh_writer c first_id limit) where
   -- a refusal of its steps or their end
-  pub reply_refused : (refusal : ReplyRefusal) → IsCause (whole_cause old.standing (reply_steps (outcome_views results) progress)) refusal → IsCause (refusal_of c limit (outcome_views results) progress) refusal
+  pub reply_refused : (refusal : ReplyRefusal) → IsCause (whole_cause old.so_far (reply_steps (outcome_views results) progress)) refusal → IsCause (refusal_of c limit (outcome_views results) progress) refusal
   reply_refused refusal h other =
-      refusal_is c limit results progress some ∙ ap (λ (w : Writer). whole_cause w.standing (reply_steps (outcome_views results) progress)) (sym fresh) ∙ h other
+      refusal_is c limit results progress some ∙ ap (λ (w : Writer). whole_cause w.so_far (reply_steps (outcome_views results) progress)) (sym fresh) ∙ h other
 
-  module _ (new : Writer) (before after : List ℕ) (wrote : Wrote old (reply_steps (outcome_views results) progress) new before after) (end : end_cause new.standing ≡ None) where
+  module _ (new : Writer) (before after : List ℕ) (wrote : Wrote old (reply_steps (outcome_views results) progress) new before after) (end : end_cause new.so_far ≡ None) where
     pub reply_allowed : refusal_of c limit (outcome_views results) progress ≡ None
     reply_allowed =
         refusal_is c limit results progress some
-        ∙ ap (λ (w : Writer). whole_cause w.standing (reply_steps (outcome_views results) progress)) (sym fresh)
+        ∙ ap (λ (w : Writer). whole_cause w.so_far (reply_steps (outcome_views results) progress)) (sym fresh)
         ∙ whole_end old new (reply_steps (outcome_views results) progress) before after wrote ∙ end
 
     pub reply_written : after ≡ before ++ framings (reply_payloads c (outcome_views results) progress) (OnFrom first_id)

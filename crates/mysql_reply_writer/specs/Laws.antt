@@ -19,5 +19,5 @@ WholeWritingsAreReplies =
     (c : Context) (first_id limit : ℕ) (first : Outcome) (others : List Outcome)
     (progress : List ProgressReport) (new : Writer) (before after : List ℕ) →
     Wrote (fresh_writer c first_id limit) (reply_steps (first ∷ others) progress) new before after →
-    end_cause new.standing ≡ None →
+    end_cause new.so_far ≡ None →
     AppendsReply c first_id limit (results_read c (first ∷ others)) (reports_read c progress) before after

@@ -14,14 +14,14 @@ use Rattle.mysql_reply_rules.specs.Refusals.{OpenRows, Writing, after_steps, not
 use Rattle.mysql_reply_rules.specs.Written.{Step, steps_payloads}
 use Rattle.mysql_reply_writer.specs.Puts.{IsCause, number_behind}
 
--- A writer: where the writing of its reply stands, and the number of the next chunk.
+-- A writer: how far its reply is written, and the number of the next chunk.
 pub record Writer : Type 0 where
-  pub standing : Writing
+  pub so_far : Writing
   pub number : ℕ
 
 -- A writer that has written nothing.
 abbrev pub fresh_writer : Context → ℕ → ℕ → Writer
-fresh_writer c first_id limit = record { standing = nothing_written c limit; number = first_id }
+fresh_writer c first_id limit = record { so_far = nothing_written c limit; number = first_id }
 
 -- The columns of the rows that go on.
 abbrev pub columns_of : Option OpenRows → List ColumnDefinition
@@ -30,20 +30,20 @@ columns_of (Some rows) = rows.columns
 
 -- The payloads of steps, for the client of this writer.
 abbrev pub payloads_of : Writer → List Step → List (List ℕ)
-payloads_of writer steps = steps_payloads writer.standing.context steps
+payloads_of writer steps = steps_payloads writer.so_far.context steps
 
 -- Steps against which nothing speaks were written: the framings of their payloads are appended,
--- numbered on, and the writer stands behind them.
+-- numbered on, and the writer goes on behind them.
 pub record Wrote (old : Writer) (steps : List Step) (new : Writer) (before after : List ℕ) : Type 0 where
-  pub allowed : steps_cause old.standing steps ≡ None
-  pub standing : new.standing ≡ after_steps old.standing steps
+  pub allowed : steps_cause old.so_far steps ≡ None
+  pub so_far : new.so_far ≡ after_steps old.so_far steps
   pub number : new.number ≡ number_behind (payloads_of old steps) old.number
   pub appended : after ≡ before ++ framings (payloads_of old steps) (OnFrom old.number)
   pub fit : StepsFit steps
 
 -- Steps are refused by what speaks against the first that isn't written, or for want of memory.
 abbrev pub Refuses : Writer → List Step → ReplyRefusal → Type 0
-Refuses writer steps refusal = IsCause (steps_cause writer.standing steps) refusal
+Refuses writer steps refusal = IsCause (steps_cause writer.so_far steps) refusal
 
 -- The framings of a whole reply were appended, with these results and these progress reports: bytes
 -- that reading answers so, and Whole.

@@ -9,8 +9,9 @@ pub fn writings_go_on()
     ensures { WritingsGoOn }
 {}
 
-/// A writer that wrote the steps of some results, and may end there, has appended that reply:
-/// reading answers the results and the progress reports as they are read, and Whole.
+/// A writer that wrote the steps of some results, and may end there, has appended that reply.
+///
+/// Reading answers the results and the progress reports as they are read, and `Whole`.
 pub fn whole_writings_are_replies()
     ensures { WholeWritingsAreReplies }
 {

@@ -1,4 +1,7 @@
-//! Replies of a server, written: result by result as it comes, or a whole list of results.
+//! Replies of a server, written.
+//!
+//! [`ReplyWriter`] writes one result by result, as they come; [`write_reply`] a whole list of
+//! results. What they write reads back by `mysql_replies`.
 #![tactic(auto)]
 
 mod facts;

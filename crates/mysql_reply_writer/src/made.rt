@@ -4,16 +4,18 @@ ghost use Rattle.std.specs.Prelude.{◌≡◌, ◌++◌, IfErr, None, OnErr, OnO
 ghost use Rattle.std.specs.Option.{option_map};
 ghost use Rattle.mysql_ok_packets.specs.Views.{ok_packet_view};
 ghost use Rattle.mysql_server_packets.specs.Packets.{Error, Progress, protocol_41, progress_obsolete};
-ghost use Rattle.mysql_server_packets.specs.Views.{err_packet_view, progress_report_view, server_error_view, sql_state_view};
+ghost use Rattle.mysql_server_packets.specs.Views.{err_packet_view, progress_report_view, server_error_view};
+ghost use Rattle.mysql_server_packets.specs.Views.{sql_state_view};
 ghost use Rattle.mysql_replies.specs.Grammar.{deprecate_eof, is_binary as is_binary_kind};
 ghost use Rattle.mysql_replies.specs.Views.{column_views};
 ghost use Rattle.mysql_ok_packets.specs.Written.{eof_bytes, ok_packet_bytes};
-ghost use Rattle.mysql_reply_rules.specs.Refusals.{cells_cause_at, form_cause};
+ghost use Rattle.mysql_reply_rules.specs.Refusals.{form_cause};
 ghost use Rattle.mysql_reply_rules.specs.Written.{cells_payload, error_written, nothing_said, report_written, saying};
 ghost use Rattle.mysql_reply_rules.specs.Written.{state_written, terminator_payload, with_more as more_flag};
 ghost use Rattle.mysql_reply_writer.specs.Puts.{IsCause};
+ghost use Rattle.mysql_reply_writer.specs.Views.{row_cause, row_payload};
 ghost use Rattle.mysql_rows.specs.CellsWritten.{PutsRow};
-ghost use Rattle.mysql_rows.specs.Views.{row_view, shared_columns};
+ghost use Rattle.mysql_rows.specs.Views.{row_view};
 
 use crate::writer::OpenRows;
 use bitflags::Flags;
@@ -27,21 +29,21 @@ use mysql_server_packets::{ErrPacket, ProgressReport, ServerError, SqlState};
 use std::alloc::AllocError;
 use std::borrow::CowSlice;
 
-/// EOF packets are deprecated.
+/// Whether EOF packets are deprecated.
 pub(crate) fn deprecates_eof(capabilities: CapabilityFlags) -> bool
     ensures { result ≡ deprecate_eof capabilities.0 }
 {
     capabilities.contains(CapabilityFlags::CLIENT_DEPRECATE_EOF)
 }
 
-/// Clients of the protocol of version 4.1 read states of errors.
+/// Whether errors have states, which clients of the protocol of version 4.1 read.
 pub(crate) fn has_states(capabilities: CapabilityFlags) -> bool
     ensures { result ≡ protocol_41 capabilities.0 }
 {
     capabilities.contains(CapabilityFlags::CLIENT_PROTOCOL_41)
 }
 
-/// The client reads progress reports.
+/// Whether the client reads progress reports.
 pub(crate) fn tells_progress(capabilities: CapabilityFlags) -> bool
     ensures { result ≡ progress_obsolete capabilities.0 }
 {
@@ -59,7 +61,7 @@ pub(crate) fn with_more(more: bool, status: StatusFlags) -> StatusFlags
     }
 }
 
-/// An OK packet that answers a command.
+/// Makes an OK packet that answers a command.
 #[tactic(auto, unfolding(mysql_ok_packets::specs::Written::ok_packet_bytes))]
 pub(crate) fn make_ok(
     payload: &mut Vec<u8>,
@@ -74,8 +76,38 @@ pub(crate) fn make_ok(
     ok.serialize_as::<CommonOkPacket>(capabilities, status, payload)
 }
 
-/// What ends rows.
-#[tactic(auto, unfolding(mysql_ok_packets::specs::Written::ok_packet_bytes, mysql_ok_packets::specs::Written::eof_bytes))]
+// The OK packet that ends rows.
+#[tactic(auto, unfolding(mysql_ok_packets::specs::Written::ok_packet_bytes))]
+fn make_ok_terminator(
+    payload: &mut Vec<u8>,
+    capabilities: CapabilityFlags,
+    more: bool,
+    ok: &OkPacket<'_>,
+) -> Result<(), AllocError>
+    ensures { OnOk result (payload.new.items ≡
+        ok_packet_bytes 254 capabilities.0 (saying more (ok_packet_view ok.now))) }
+{
+    payload.clear();
+    let status = with_more(more, ok.status_flags());
+    ok.serialize_as::<ResultSetTerminator>(capabilities, status, payload)
+}
+
+// The EOF packet that ends rows.
+#[tactic(auto, unfolding(mysql_ok_packets::specs::Written::eof_bytes))]
+fn make_eof_terminator(
+    payload: &mut Vec<u8>,
+    capabilities: CapabilityFlags,
+    more: bool,
+    ok: &OkPacket<'_>,
+) -> Result<(), AllocError>
+    ensures { OnOk result (payload.new.items ≡ eof_bytes (saying more (ok_packet_view ok.now))) }
+{
+    payload.clear();
+    let status = with_more(more, ok.status_flags());
+    ok.serialize_as::<OldEofPacket>(capabilities, status, payload)
+}
+
+/// Makes what ends rows.
 pub(crate) fn make_terminator(
     payload: &mut Vec<u8>,
     capabilities: CapabilityFlags,
@@ -85,16 +117,14 @@ pub(crate) fn make_terminator(
     ensures { OnOk result (payload.new.items ≡
         terminator_payload capabilities.0 (saying more (ok_packet_view ok.now))) }
 {
-    payload.clear();
-    let status = with_more(more, ok.status_flags());
     if deprecates_eof(capabilities) {
-        ok.serialize_as::<ResultSetTerminator>(capabilities, status, payload)
+        make_ok_terminator(payload, capabilities, more, ok)
     } else {
-        ok.serialize_as::<OldEofPacket>(capabilities, status, payload)
+        make_eof_terminator(payload, capabilities, more, ok)
     }
 }
 
-/// The EOF packet behind columns, which says nothing.
+/// Makes the EOF packet behind columns, which says nothing.
 #[tactic(auto, unfolding(mysql_ok_packets::specs::Written::eof_bytes))]
 pub(crate) fn make_empty_eof(payload: &mut Vec<u8>) -> Result<(), AllocError>
     ensures { OnOk result (payload.new.items ≡ eof_bytes nothing_said) }
@@ -103,7 +133,7 @@ pub(crate) fn make_empty_eof(payload: &mut Vec<u8>) -> Result<(), AllocError>
     payload.extend_from_slice(&[254, 0, 0, 0, 0])
 }
 
-/// Rows come in binary.
+/// Whether rows come in binary.
 pub(crate) fn is_binary(kind: ReplyKind) -> bool
     ensures { result ≡ is_binary_kind kind }
 {
@@ -175,8 +205,8 @@ fn put_cells(
 ) -> Result<(), RowRefusal>
     requires { length columns.now ≡ length (row_view row.now).cells }
     ensures { PutsRow (form_cause binary (column_views columns.now) (row_view row.now).cells)
-        (cells_payload binary (column_views columns.now) (row_view row.now).cells) out.old.items
-        out.new.items result }
+        (cells_payload binary (column_views columns.now) (row_view row.now).cells)
+        out.old.items out.new.items result }
 {
     if binary {
         row.write_binary(columns, out)
@@ -194,14 +224,10 @@ pub(crate) fn put_row_payload(
     rows: &OpenRows,
     row: &Row,
 ) -> Result<(), ReplyRefusal>
-    ensures ok { OnOk result ((out.new.items ≡ out.old.items ++
-        cells_payload binary (shared_columns rows.now.columns) (row_view row.now).cells) ×
-        (cells_cause_at binary result_number rows.now.count (shared_columns rows.now.columns)
-        (row_view row.now).cells ≡ None)) }
+    ensures ok { OnOk result ((out.new.items ≡ out.old.items ++ row_payload binary rows.now row.now) ×
+        (row_cause binary result_number rows.now row.now ≡ None)) }
     ensures kept { OnErr result (out.new.items ≡ out.old.items) }
-    ensures err { IfErr result
-        (IsCause (cells_cause_at binary result_number rows.now.count
-        (shared_columns rows.now.columns) (row_view row.now).cells)) }
+    ensures err { IfErr result (IsCause (row_cause binary result_number rows.now row.now)) }
 {
     if row.len() != rows.columns.as_slice().len() {
         return Err(ReplyRefusal::CellCount {

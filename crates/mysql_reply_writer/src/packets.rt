@@ -1,47 +1,36 @@
 //! Payloads, numbered and framed.
 
-ghost use Rattle.std.specs.Prelude.{◌≡◌, ◌++◌, ◌-◌, ◌≤◌, ◌∷◌, [], IfErr, None, OnErr, OnOk, drop, length, map, take};
-ghost use Rattle.mysql_reply_rules.specs.Refusals.{cells_cause_at, or_cause, too_large};
-ghost use Rattle.mysql_rows.specs.Views.{row_view, shared_columns};
+ghost use Rattle.std.specs.Prelude.{◌≡◌, ◌+◌, ◌≤◌, ◌∷◌, [], IfErr, None, OnErr, OnOk, drop, length, map, take};
+ghost use Rattle.mysql_reply_rules.specs.Refusals.{or_cause, too_large};
+ghost use Rattle.mysql_rows.specs.Views.{row_view};
 ghost use Rattle.mysql_buf.specs.Writing.{lenenc_int};
 ghost use Rattle.mysql_server_packets.specs.Packets.{prepare_ok};
 ghost use Rattle.mysql_server_packets.specs.Views.{prepare_ok_view};
 ghost use Rattle.mysql_columns.specs.Columns.{column};
 ghost use Rattle.mysql_replies.specs.Views.{column_views};
 ghost use Rattle.mysql_reply_rules.specs.Fits.{CellsFit, ColumnsFit};
-ghost use Rattle.mysql_reply_rules.specs.Written.{cells_payload, eof_due, group_payloads, prepared_payloads};
-ghost use Rattle.mysql_wire.specs.Framing.{chunk, max_payload_len};
+ghost use Rattle.mysql_reply_rules.specs.Written.{eof_due, group_payloads, prepared_payloads};
 ghost use Rattle.mysql_reply_writer.specs.Puts.{IsCause, Puts, RefusesPayloads};
-ghost use Rattle.mysql_reply_writer.specs.Views.{place_view};
+ghost use Rattle.mysql_reply_writer.specs.Views.{PutsPayloads, RefusesPayload, place_view, row_cause, row_payload};
+ghost use Rattle.mysql_reply_writer.specs.Views.{with_counts};
 
 use crate::facts::{cells_fit, column_fits};
 use crate::made::{deprecates_eof, make_empty_eof, put_row_payload};
 use crate::writer::OpenRows;
-use byteorder::{ByteOrder, LittleEndian};
 use mysql_buf::BufMutExt;
 use mysql_columns::Column;
-use mysql_const::{CapabilityFlags, MAX_PAYLOAD_LEN};
+use mysql_const::CapabilityFlags;
 use mysql_fields::MySerialize;
 use mysql_reply_rules::ReplyRefusal;
 use mysql_rows::Row;
 use mysql_server_packets::StmtPacket;
-use mysql_wire::packet_to_chunks;
+use mysql_wire::{frame_in_place, packet_to_chunks};
 use std::alloc::Global;
 
-/// Writes the header of the chunk that stands from this place on to the end, into the four bytes before it.
-#[inline(always)]
-fn put_header(start: usize, number: u8, out: &mut Vec<u8>)
-    requires behind { 4 ≤ start }
-    requires inside { start ≤ length out.old.items }
-    requires fits { length out.old.items - start ≤ max_payload_len }
-    ensures { out.new.items ≡ take (start - 4) out.old.items ++ chunk number (drop start out.old.items) }
-{
-    let mut header = [0, 0, 0, number];
-    LittleEndian::write_u24(&mut header, (out.len() - start) as u32);
-    out[start - 4..start].copy_from_slice(&header);
-}
-
-/// The packets that are written. Each payload is made in a buffer first.
+/// The packets that are written.
+///
+/// Each payload is made in a buffer first, but for rows, which are made and framed where they are
+/// put.
 #[derive(Drop)]
 pub(crate) struct Packets {
     /// The most bytes of a payload.
@@ -70,8 +59,8 @@ impl Packets {
 
     /// Appends the payload that was made, which has at most so many bytes.
     pub(crate) fn put_made(&mut self, room: usize, out: &mut Vec<u8>) -> Result<(), ReplyRefusal>
-        ensures ok { OnOk result (Puts room (place_view self.old) (self.old.payload.items ∷
-            []) (place_view self.new) out.old.items out.new.items) }
+        ensures ok { OnOk result (Puts room (place_view self.old) (self.old.payload.items ∷ [])
+            (place_view self.new) out.old.items out.new.items) }
         ensures err { IfErr result (RefusesPayloads room (place_view self.old) (self.old.payload.items ∷ [])) }
         ensures kept { OnErr result (out.new.items ≡ out.old.items) }
         ensures place { OnErr result (place_view self.new ≡ place_view self.old) }
@@ -91,9 +80,9 @@ impl Packets {
         payload: &P,
         out: &mut Vec<u8>,
     ) -> Result<(), ReplyRefusal>
-        ensures ok { OnOk result (Puts self.old.limit (place_view self.old) (P.written payload.now ∷
-            []) (place_view self.new) out.old.items out.new.items) }
-        ensures err { IfErr result (RefusesPayloads self.old.limit (place_view self.old) (P.written payload.now ∷ [])) }
+        ensures ok { OnOk result
+            (PutsPayloads self.old (P.written payload.now ∷ []) self.new out.old.items out.new.items) }
+        ensures err { IfErr result (RefusesPayload self.old (P.written payload.now ∷ [])) }
         ensures kept { OnErr result (out.new.items ≡ out.old.items) }
         ensures place { OnErr result (place_view self.new ≡ place_view self.old) }
         ensures limit { self.new.limit ≡ self.old.limit }
@@ -103,56 +92,33 @@ impl Packets {
         self.put_made(self.limit, out)
     }
 
-    /// Frames the payload that stands from this place on, behind room for a header: it is taken
-    /// into the buffer and appended again.
-    #[cold]
-    fn frame_again(&mut self, start: usize, out: &mut Vec<u8>) -> Result<(), ReplyRefusal>
-        requires behind { 4 ≤ start }
-        requires inside { start ≤ length out.old.items }
-        ensures ok { OnOk result (Puts self.old.limit (place_view self.old)
-            (drop start out.old.items ∷ []) (place_view self.new) (take (start - 4) out.old.items)
-            out.new.items) }
-        ensures err { IfErr result
-            (RefusesPayloads self.old.limit (place_view self.old) (drop start out.old.items ∷ [])) }
-        ensures kept { OnErr result (take (start - 4) out.new.items ≡ take (start - 4) out.old.items) }
-        ensures place { OnErr result (place_view self.new ≡ place_view self.old) }
-        ensures limit { self.new.limit ≡ self.old.limit }
-    {
-        self.payload.clear();
-        let (_, payload) = out.as_slice().split_at(start);
-        self.payload.extend_from_slice(payload)?;
-        out.truncate(start - 4);
-        self.put_made(self.limit, out)
-    }
-
-    /// The same: where one chunk is enough, the header is written where there is room for it.
+    /// Frames the payload behind room for a header, which begins at this place.
     #[inline(always)]
     fn frame(&mut self, start: usize, out: &mut Vec<u8>) -> Result<(), ReplyRefusal>
-        requires behind { 4 ≤ start }
-        requires inside { start ≤ length out.old.items }
-        ensures ok { OnOk result (Puts self.old.limit (place_view self.old)
-            (drop start out.old.items ∷ []) (place_view self.new) (take (start - 4) out.old.items)
-            out.new.items) }
-        ensures err { IfErr result
-            (RefusesPayloads self.old.limit (place_view self.old) (drop start out.old.items ∷ [])) }
-        ensures kept { OnErr result (take (start - 4) out.new.items ≡ take (start - 4) out.old.items) }
+        requires { start + 4 ≤ length out.old.items }
+        ensures ok { OnOk result
+            (PutsPayloads self.old (drop (start + 4) out.old.items ∷ []) self.new
+            (take start out.old.items) out.new.items) }
+        ensures err { IfErr result (RefusesPayload self.old (drop (start + 4) out.old.items ∷ [])) }
+        ensures kept { OnErr result (take start out.new.items ≡ take start out.old.items) }
         ensures place { OnErr result (place_view self.new ≡ place_view self.old) }
         ensures limit { self.new.limit ≡ self.old.limit }
     {
-        let size = out.len() - start;
-        if size >= MAX_PAYLOAD_LEN {
-            return self.frame_again(start, out);
-        }
+        let size = out.len() - start - 4;
         if size > self.limit || self.payloads == u64::MAX {
             return Err(ReplyRefusal::PacketTooLarge(self.payloads));
         }
-        put_header(start, self.number, out);
-        self.number = self.number.wrapping_add(1);
-        self.payloads += 1;
-        Ok(())
+        match frame_in_place(self.number, start, &mut self.payload, out) {
+            Ok(next) => {
+                self.number = next;
+                self.payloads += 1;
+                Ok(())
+            }
+            Err(_) => Err(ReplyRefusal::Memory),
+        }
     }
 
-    /// Appends a row, framed. After a refusal what stood before stands in front.
+    /// Appends a row, framed. After a refusal `out` still begins with what it held.
     #[inline(always)]
     fn put_framed_row(
         &mut self,
@@ -162,24 +128,19 @@ impl Packets {
         row: &Row,
         out: &mut Vec<u8>,
     ) -> Result<(), ReplyRefusal>
-        ensures ok { OnOk result (Puts self.old.limit (place_view self.old)
-            (cells_payload binary (shared_columns rows.now.columns) (row_view row.now).cells ∷
-            []) (place_view self.new) out.old.items out.new.items) }
-        ensures form { OnOk result
-            (cells_cause_at binary result_number rows.now.count (shared_columns rows.now.columns)
-            (row_view row.now).cells ≡ None) }
+        ensures ok { OnOk result
+            (PutsPayloads self.old (row_payload binary rows.now row.now ∷ [])
+            self.new out.old.items out.new.items) }
+        ensures form { OnOk result (row_cause binary result_number rows.now row.now ≡ None) }
         ensures err { IfErr result
-            (IsCause (or_cause (cells_cause_at binary result_number rows.now.count
-            (shared_columns rows.now.columns) (row_view row.now).cells)
-            (too_large self.old.limit self.old.payloads
-            (cells_payload binary (shared_columns rows.now.columns) (row_view row.now).cells ∷
-            [])))) }
+            (IsCause (or_cause (row_cause binary result_number rows.now row.now)
+            (too_large self.old.limit self.old.payloads (row_payload binary rows.now row.now ∷ [])))) }
         ensures kept { take (length out.old.items) out.new.items ≡ out.old.items }
         ensures place { OnErr result (place_view self.new ≡ place_view self.old) }
         ensures limit { self.new.limit ≡ self.old.limit }
     {
-        out.extend_from_slice(&[0, 0, 0, 0])?;
         let start = out.len();
+        out.extend_from_slice(&[0, 0, 0, 0])?;
         put_row_payload(out, binary, result_number, rows, row)?;
         self.frame(start, out)
     }
@@ -193,19 +154,14 @@ impl Packets {
         row: &Row,
         out: &mut Vec<u8>,
     ) -> Result<(), ReplyRefusal>
-        ensures ok { OnOk result (Puts self.old.limit (place_view self.old)
-            (cells_payload binary (shared_columns rows.now.columns) (row_view row.now).cells ∷
-            []) (place_view self.new) out.old.items out.new.items) }
-        ensures form { OnOk result
-            (cells_cause_at binary result_number rows.now.count (shared_columns rows.now.columns)
-            (row_view row.now).cells ≡ None) }
+        ensures ok { OnOk result
+            (PutsPayloads self.old (row_payload binary rows.now row.now ∷ [])
+            self.new out.old.items out.new.items) }
+        ensures form { OnOk result (row_cause binary result_number rows.now row.now ≡ None) }
         ensures fit { OnOk result (CellsFit (row_view row.now).cells) }
         ensures err { IfErr result
-            (IsCause (or_cause (cells_cause_at binary result_number rows.now.count
-            (shared_columns rows.now.columns) (row_view row.now).cells)
-            (too_large self.old.limit self.old.payloads
-            (cells_payload binary (shared_columns rows.now.columns) (row_view row.now).cells ∷
-            [])))) }
+            (IsCause (or_cause (row_cause binary result_number rows.now row.now)
+            (too_large self.old.limit self.old.payloads (row_payload binary rows.now row.now ∷ [])))) }
         ensures kept { OnErr result (out.new.items ≡ out.old.items) }
         ensures place { OnErr result (place_view self.new ≡ place_view self.old) }
         ensures limit { self.new.limit ≡ self.old.limit }
@@ -221,13 +177,12 @@ impl Packets {
 
     /// Appends a packet for each column.
     fn put_columns(&mut self, columns: &[Column], out: &mut Vec<u8>) -> Result<(), ReplyRefusal>
-        ensures ok { OnOk result (Puts self.old.limit (place_view self.old)
-            (map column (column_views columns.now)) (place_view self.new) out.old.items
-            out.new.items) }
+        ensures ok { OnOk result
+            (PutsPayloads self.old (map column (column_views columns.now))
+            self.new out.old.items out.new.items) }
         ensures fit { OnOk result (ColumnsFit (column_views columns.now)) }
         ensures err { IfErr result
-            (RefusesPayloads self.old.limit (place_view self.old)
-            (map column (column_views columns.now))) }
+            (RefusesPayload self.old (map column (column_views columns.now))) }
         ensures kept { take (length out.old.items) out.new.items ≡ out.old.items }
         ensures limit { self.new.limit ≡ self.old.limit }
     {
@@ -245,12 +200,11 @@ impl Packets {
         columns: &[Column],
         out: &mut Vec<u8>,
     ) -> Result<(), ReplyRefusal>
-        ensures ok { OnOk result (Puts self.old.limit (place_view self.old)
-            (eof_due capabilities.0 (column_views columns.now)) (place_view self.new) out.old.items
-            out.new.items) }
+        ensures ok { OnOk result
+            (PutsPayloads self.old (eof_due capabilities.0 (column_views columns.now))
+            self.new out.old.items out.new.items) }
         ensures err { IfErr result
-            (RefusesPayloads self.old.limit (place_view self.old)
-            (eof_due capabilities.0 (column_views columns.now))) }
+            (RefusesPayload self.old (eof_due capabilities.0 (column_views columns.now))) }
         ensures kept { take (length out.old.items) out.new.items ≡ out.old.items }
         ensures limit { self.new.limit ≡ self.old.limit }
     {
@@ -268,13 +222,12 @@ impl Packets {
         columns: &[Column],
         out: &mut Vec<u8>,
     ) -> Result<(), ReplyRefusal>
-        ensures ok { OnOk result (Puts self.old.limit (place_view self.old)
-            (group_payloads capabilities.0 (column_views columns.now)) (place_view self.new)
-            out.old.items out.new.items) }
+        ensures ok { OnOk result
+            (PutsPayloads self.old (group_payloads capabilities.0 (column_views columns.now))
+            self.new out.old.items out.new.items) }
         ensures fit { OnOk result (ColumnsFit (column_views columns.now)) }
         ensures err { IfErr result
-            (RefusesPayloads self.old.limit (place_view self.old)
-            (group_payloads capabilities.0 (column_views columns.now))) }
+            (RefusesPayload self.old (group_payloads capabilities.0 (column_views columns.now))) }
         ensures kept { take (length out.old.items) out.new.items ≡ out.old.items }
         ensures limit { self.new.limit ≡ self.old.limit }
     {
@@ -282,21 +235,19 @@ impl Packets {
         self.put_eof_due(capabilities, columns, out)
     }
 
-    /// Appends a count of columns, the columns, and the EOF that is due. After a refusal what stood
-    /// before stands in front.
+    /// Appends a count of columns, the columns, and the EOF that is due. After a refusal
+    /// `out` still begins with what it held.
     fn put_head_packets(
         &mut self,
         capabilities: CapabilityFlags,
         columns: &[Column],
         out: &mut Vec<u8>,
     ) -> Result<(), ReplyRefusal>
-        ensures ok { OnOk result (Puts self.old.limit (place_view self.old)
-            (lenenc_int (length columns.now) ∷
-            group_payloads capabilities.0 (column_views columns.now)) (place_view self.new)
-            out.old.items out.new.items) }
+        ensures ok { OnOk result (PutsPayloads self.old (lenenc_int (length columns.now) ∷
+            group_payloads capabilities.0 (column_views columns.now)) self.new out.old.items out.new.items) }
         ensures fit { OnOk result (ColumnsFit (column_views columns.now)) }
         ensures err { IfErr result
-            (RefusesPayloads self.old.limit (place_view self.old) (lenenc_int (length columns.now) ∷
+            (RefusesPayload self.old (lenenc_int (length columns.now) ∷
             group_payloads capabilities.0 (column_views columns.now))) }
         ensures kept { take (length out.old.items) out.new.items ≡ out.old.items }
         ensures limit { self.new.limit ≡ self.old.limit }
@@ -307,20 +258,19 @@ impl Packets {
         self.put_group(capabilities, columns, out)
     }
 
-    /// The same, where nothing changes after a refusal.
+    /// Appends a count of columns, the columns, and the EOF that is due. After a refusal nothing has
+    /// changed.
     pub(crate) fn put_head(
         &mut self,
         capabilities: CapabilityFlags,
         columns: &[Column],
         out: &mut Vec<u8>,
     ) -> Result<(), ReplyRefusal>
-        ensures ok { OnOk result (Puts self.old.limit (place_view self.old)
-            (lenenc_int (length columns.now) ∷
-            group_payloads capabilities.0 (column_views columns.now)) (place_view self.new)
-            out.old.items out.new.items) }
+        ensures ok { OnOk result (PutsPayloads self.old (lenenc_int (length columns.now) ∷
+            group_payloads capabilities.0 (column_views columns.now)) self.new out.old.items out.new.items) }
         ensures fit { OnOk result (ColumnsFit (column_views columns.now)) }
         ensures err { IfErr result
-            (RefusesPayloads self.old.limit (place_view self.old) (lenenc_int (length columns.now) ∷
+            (RefusesPayload self.old (lenenc_int (length columns.now) ∷
             group_payloads capabilities.0 (column_views columns.now))) }
         ensures kept { OnErr result (out.new.items ≡ out.old.items) }
         ensures place { OnErr result (place_view self.new ≡ place_view self.old) }
@@ -348,20 +298,11 @@ impl Packets {
     ) -> Result<(), ReplyRefusal>
         requires parameters { parameters ≤ 65535 }
         requires columns { columns ≤ 65535 }
-        ensures ok { OnOk result (Puts self.old.limit (place_view self.old)
-            (prepare_ok (record (prepare_ok_view statement.now) {
-              num_params =
-                  parameters;
-              num_columns = columns;
-            }) ∷ []) (place_view self.new) out.old.items
-            out.new.items) }
+        ensures ok { OnOk result
+            (PutsPayloads self.old (prepare_ok (with_counts statement.now parameters columns) ∷ [])
+            self.new out.old.items out.new.items) }
         ensures err { IfErr result
-            (RefusesPayloads self.old.limit (place_view self.old)
-            (prepare_ok (record (prepare_ok_view statement.now) {
-              num_params =
-                  parameters;
-              num_columns = columns;
-            }) ∷ [])) }
+            (RefusesPayload self.old (prepare_ok (with_counts statement.now parameters columns) ∷ [])) }
         ensures kept { OnErr result (out.new.items ≡ out.old.items) }
         ensures limit { self.new.limit ≡ self.old.limit }
     {
@@ -375,7 +316,7 @@ impl Packets {
     }
 
     /// Appends a statement packet with the counts of these lists, and each list as a group. After a
-    /// refusal what stood before stands in front.
+    /// refusal `out` still begins with what it held.
     fn put_prepared_packets(
         &mut self,
         capabilities: CapabilityFlags,
@@ -386,14 +327,12 @@ impl Packets {
     ) -> Result<(), ReplyRefusal>
         requires parameters { length parameters.now ≤ 65535 }
         requires columns { length columns.now ≤ 65535 }
-        ensures ok { OnOk result (Puts self.old.limit (place_view self.old)
-            (prepared_payloads capabilities.0 (prepare_ok_view statement.now)
-            (column_views parameters.now) (column_views columns.now)) (place_view self.new)
-            out.old.items out.new.items) }
+        ensures ok { OnOk result
+            (PutsPayloads self.old (prepared_payloads capabilities.0 (prepare_ok_view statement.now)
+            (column_views parameters.now) (column_views columns.now)) self.new out.old.items out.new.items) }
         ensures fit { OnOk result (ColumnsFit (column_views parameters.now) × ColumnsFit (column_views columns.now)) }
         ensures err { IfErr result
-            (RefusesPayloads self.old.limit (place_view self.old)
-            (prepared_payloads capabilities.0 (prepare_ok_view statement.now)
+            (RefusesPayload self.old (prepared_payloads capabilities.0 (prepare_ok_view statement.now)
             (column_views parameters.now) (column_views columns.now))) }
         ensures kept { take (length out.old.items) out.new.items ≡ out.old.items }
         ensures limit { self.new.limit ≡ self.old.limit }
@@ -403,7 +342,8 @@ impl Packets {
         self.put_group(capabilities, columns, out)
     }
 
-    /// The same, where nothing changes after a refusal.
+    /// Appends a statement packet with the counts of these lists, and each list as a group. After a
+    /// refusal nothing has changed.
     pub(crate) fn put_prepared(
         &mut self,
         capabilities: CapabilityFlags,
@@ -414,14 +354,12 @@ impl Packets {
     ) -> Result<(), ReplyRefusal>
         requires parameters { length parameters.now ≤ 65535 }
         requires columns { length columns.now ≤ 65535 }
-        ensures ok { OnOk result (Puts self.old.limit (place_view self.old)
-            (prepared_payloads capabilities.0 (prepare_ok_view statement.now)
-            (column_views parameters.now) (column_views columns.now)) (place_view self.new)
-            out.old.items out.new.items) }
+        ensures ok { OnOk result
+            (PutsPayloads self.old (prepared_payloads capabilities.0 (prepare_ok_view statement.now)
+            (column_views parameters.now) (column_views columns.now)) self.new out.old.items out.new.items) }
         ensures fit { OnOk result (ColumnsFit (column_views parameters.now) × ColumnsFit (column_views columns.now)) }
         ensures err { IfErr result
-            (RefusesPayloads self.old.limit (place_view self.old)
-            (prepared_payloads capabilities.0 (prepare_ok_view statement.now)
+            (RefusesPayload self.old (prepared_payloads capabilities.0 (prepare_ok_view statement.now)
             (column_views parameters.now) (column_views columns.now))) }
         ensures kept { OnErr result (out.new.items ≡ out.old.items) }
         ensures place { OnErr result (place_view self.new ≡ place_view self.old) }

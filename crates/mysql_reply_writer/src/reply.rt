@@ -6,27 +6,35 @@ ghost use Rattle.mysql_reply_rules.specs.Refusals.{refusal_of};
 ghost use Rattle.mysql_reply_writer.specs.Puts.{IsCause};
 ghost use Rattle.mysql_reply_writer.specs.Replies.{Replies};
 
-use crate::whole::put_whole_reply;
+use crate::whole::put_reply;
+use crate::writer::ReplyWriter;
 use mysql_const::CapabilityFlags;
 use mysql_replies::laws::whole_bytes_are_framed_results;
 use mysql_replies::{ReplyKind, ReplyResult};
 use mysql_reply_rules::ReplyRefusal;
 use mysql_reply_rules::fronts::byte_fronts_are_unfinished;
+use mysql_reply_rules::laws::written_replies_are_whole;
 use mysql_server_packets::ProgressReport;
 use std::alloc::Global;
 
-/// Appends a server's reply to a command of this kind: the packets of these results one after
-/// another, before them the progress reports. The first chunk has the number `first_id`. A payload
-/// has at most `limit` bytes, as calls that read count them: without the headers of its chunks.
-/// Another result follows each but the last: of each status the writer sets or clears
-/// SERVER_MORE_RESULTS_EXISTS itself. Progress reports go only to a client that knows them, by the
-/// capability PROGRESS_OBSOLETE. After a refusal `out` is as it was.
+/// Appends a server's reply to a command of this kind.
+///
+/// These are the packets of the results one after another, before them the progress reports. The
+/// first chunk has the number `first_id`. A payload has at most `limit` bytes, as calls that read
+/// count them: without the headers of its chunks. Another result follows each but the last: of each
+/// status the writer sets or clears SERVER_MORE_RESULTS_EXISTS itself. Progress reports go only to a
+/// client that knows them, by the capability PROGRESS_OBSOLETE. After a refusal `out` is as it was.
+///
+/// Promise: refused by the first cause in the order of the stream; else the framings of a reply are
+/// appended that reads as these results and reports, and so does each front (`refusal_of`,
+/// `Replies`).
 ///
 /// # Errors
-/// `NoResults` where there is no result; else the first cause in the order of the stream, each
-/// payload's `PacketTooLarge` behind the other causes of what is written with it: of a progress
-/// report, a result that isn't rows, the columns of rows, a row, the end of rows. `Memory` may
-/// stand in place of any answer.
+/// - `NoResults` where there is no result;
+/// - else the first cause in the order of the stream, each payload's `PacketTooLarge` behind the
+///   other causes of what is written with it: of a progress report, a result that isn't rows, the
+///   columns of rows, a row, the end of rows;
+/// - `Memory`, which may stand in place of any answer.
 ///
 /// MySQL: Client/Server Protocol, "COM_QUERY Response", "Text Resultset", "Binary Protocol Resultset" and
 /// "COM_STMT_PREPARE Response"; MariaDB: 'Progress report' of "ERR_Packet".
@@ -48,16 +56,19 @@ pub fn write_reply(
         (Replies (record { kind = kind; capabilities = capabilities }) first_id limit
         (outcome_views results.now) (report_views progress.now) out.old.items out.new.items) }
 {
+    written_replies_are_whole();
     whole_bytes_are_framed_results();
     byte_fronts_are_unfinished();
-    put_whole_reply(
-        alloc,
-        kind,
-        capabilities,
-        first_id,
-        limit,
-        results,
-        progress,
-        out,
-    )
+    if results.is_empty() {
+        return Err(ReplyRefusal::NoResults);
+    }
+    let start = out.len();
+    let mut writer = ReplyWriter::new(alloc, kind, capabilities, first_id, limit);
+    match put_reply(&mut writer, results, progress, out) {
+        Ok(()) => Ok(()),
+        Err(refusal) => {
+            out.truncate(start);
+            Err(refusal)
+        }
+    }
 }

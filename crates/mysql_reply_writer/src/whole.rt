@@ -1,37 +1,32 @@
-//! A whole reply, written.
+//! The results of a whole reply, one after another.
 
-ghost use Rattle.std.specs.Prelude.{◌≡◌, ◌++◌, ◌∷◌, [], IfErr, None, OnErr, OnOk, Some, length, map, option_map, take};
+ghost use Rattle.std.specs.Prelude.{◌≡◌, IfErr, None, OnOk, length, map, option_map, take};
 ghost use Rattle.mysql_ok_packets.specs.Views.{ok_packet_view};
 ghost use Rattle.mysql_replies.specs.Grammar.{RowsResult};
 ghost use Rattle.mysql_replies.specs.Views.{outcome_view, outcome_views, report_views, row_views};
 ghost use Rattle.mysql_rows.specs.Views.{shared_columns};
-ghost use Rattle.mysql_wire.specs.Stream.{framings};
-ghost use Rattle.mysql_wire.specs.Stream.Numbering.{OnFrom};
-ghost use Rattle.mysql_reply_rules.specs.Refusals.{end_cause, refusal_of, whole_cause};
-ghost use Rattle.mysql_reply_rules.specs.Written.{ReportStep, RowStep, end_steps, reply_payloads, reply_steps};
-ghost use Rattle.mysql_reply_rules.specs.Written.{reports_read, result_steps, results_read, results_steps};
+ghost use Rattle.mysql_reply_rules.specs.Refusals.{end_cause, whole_cause};
+ghost use Rattle.mysql_reply_rules.specs.Written.{ReportStep, RowStep, end_steps, reply_steps, result_steps};
+ghost use Rattle.mysql_reply_rules.specs.Written.{results_steps};
 ghost use Rattle.mysql_reply_writer.specs.Puts.{IsCause};
-ghost use Rattle.mysql_reply_writer.specs.Writer.{AppendsReply, Refuses, Wrote, columns_of};
+ghost use Rattle.mysql_reply_writer.specs.Writer.{Refuses, Wrote, columns_of};
 
 use crate::writer::ReplyWriter;
 use mysql_columns::Column;
-use mysql_const::CapabilityFlags;
 use mysql_ok_packets::OkPacket;
-use mysql_replies::{ReplyKind, ReplyResult};
+use mysql_replies::ReplyResult;
 use mysql_reply_rules::ReplyRefusal;
-use mysql_reply_rules::laws::written_replies_are_whole;
 use mysql_rows::Row;
 use mysql_server_packets::ProgressReport;
-use std::alloc::Global;
 use std::rc::RcSlice;
 
 // Writes rows under the columns that rows began with.
 fn put_rows(writer: &mut ReplyWriter, rows: &[Row], out: &mut Vec<u8>) -> Result<(), ReplyRefusal>
     ensures ok { OnOk result (Wrote writer.old
-        (map (RowStep (columns_of writer.old.standing.rows)) (row_views rows.now)) writer.new
+        (map (RowStep (columns_of writer.old.so_far.rows)) (row_views rows.now)) writer.new
         out.old.items out.new.items) }
     ensures err { IfErr result
-        (Refuses writer.old (map (RowStep (columns_of writer.old.standing.rows))
+        (Refuses writer.old (map (RowStep (columns_of writer.old.so_far.rows))
         (row_views rows.now))) }
     ensures kept { take (length out.old.items) out.new.items ≡ out.old.items }
 {
@@ -147,8 +142,8 @@ fn put_reports(
     Ok(())
 }
 
-// Writes a whole reply. After a refusal what stood before stands in front.
-fn put_reply(
+/// Writes a whole reply. After a refusal `out` still begins with what it held.
+pub(crate) fn put_reply(
     writer: &mut ReplyWriter,
     results: &[ReplyResult],
     progress: &[ProgressReport<'static>],
@@ -157,56 +152,13 @@ fn put_reply(
     ensures ok { OnOk result (Wrote writer.old
         (reply_steps (outcome_views results.now) (report_views progress.now)) writer.new
         out.old.items out.new.items) }
-    ensures whole { OnOk result (end_cause writer.new.standing ≡ None) }
+    ensures whole { OnOk result (end_cause writer.new.so_far ≡ None) }
     ensures err { IfErr result
-        (IsCause (whole_cause writer.old.standing
+        (IsCause (whole_cause writer.old.so_far
         (reply_steps (outcome_views results.now) (report_views progress.now)))) }
     ensures kept { take (length out.old.items) out.new.items ≡ out.old.items }
 {
     put_reports(writer, progress, out)?;
     put_results(writer, results, out)?;
     writer.finish()
-}
-
-/// Appends a reply: what reads back as its results, or nothing.
-pub(crate) fn put_whole_reply(
-    alloc: Global,
-    kind: ReplyKind,
-    capabilities: CapabilityFlags,
-    first_id: u8,
-    limit: usize,
-    results: &[ReplyResult],
-    progress: &[ProgressReport<'static>],
-    out: &mut Vec<u8>,
-) -> Result<(), ReplyRefusal>
-    ensures refused { IfErr result
-        (IsCause (refusal_of (record { kind = kind; capabilities = capabilities }) limit
-        (outcome_views results.now) (report_views progress.now))) }
-    ensures kept { OnErr result (out.new.items ≡ out.old.items) }
-    ensures allowed { OnOk result
-        (refusal_of (record { kind = kind; capabilities = capabilities }) limit
-        (outcome_views results.now) (report_views progress.now) ≡ None) }
-    ensures written { OnOk result (out.new.items ≡ out.old.items ++
-        framings (reply_payloads (record { kind = kind; capabilities = capabilities })
-        (outcome_views results.now) (report_views progress.now)) (OnFrom first_id)) }
-    ensures reads_back { OnOk result
-        (AppendsReply (record { kind = kind; capabilities = capabilities }) first_id limit
-        (results_read (record { kind = kind; capabilities = capabilities })
-        (outcome_views results.now))
-        (reports_read (record { kind = kind; capabilities = capabilities })
-        (report_views progress.now)) out.old.items out.new.items) }
-{
-    written_replies_are_whole();
-    if results.is_empty() {
-        return Err(ReplyRefusal::NoResults);
-    }
-    let start = out.len();
-    let mut writer = ReplyWriter::new(alloc, kind, capabilities, first_id, limit);
-    match put_reply(&mut writer, results, progress, out) {
-        Ok(()) => Ok(()),
-        Err(refusal) => {
-            out.truncate(start);
-            Err(refusal)
-        }
-    }
 }

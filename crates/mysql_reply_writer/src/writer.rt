@@ -39,10 +39,20 @@ pub(crate) struct OpenRows {
     pub(crate) count: usize,
 }
 
-/// Writes a reply result by result, as they come: of a reply that doesn't fit in memory, or whose
-/// rows are still being found. Each call appends the packets of what it is given, or refuses it,
-/// and then neither the writer nor the output has changed. What it holds is one packet. A reply
-/// that was written whole is one at whose end [`ReplyWriter::finish`] has nothing to refuse.
+/// Writes a reply result by result, as they come.
+///
+/// It is for a reply that doesn't fit in memory, or whose rows are still being found. Each call
+/// appends the packets of what it is given, or refuses it, and then neither the writer nor the
+/// output has changed. What it holds is one packet. A reply that was written whole is one at whose
+/// end [`ReplyWriter::finish`] has nothing to refuse.
+///
+///     let mut writer = ReplyWriter::new(alloc, ReplyKind::Text, capabilities, 1, limit);
+///     writer.columns(&columns, &mut out)?;
+///     while let Some(row) = next_row()? {
+///         writer.row(&row, &mut out)?;
+///     }
+///     writer.end_rows(&ok, false, &mut out)?;
+///     writer.finish()?;
 ///
 /// MySQL: Client/Server Protocol, "COM_QUERY Response", "Text Resultset", "Binary Protocol Resultset" and
 /// "COM_STMT_PREPARE Response".
@@ -64,7 +74,7 @@ impl Model for ReplyWriter {
     ghost use Rattle.mysql_reply_writer.specs.Views.{payloads_in, rows_view};
 
     ghost view = { λ w. record {
-      standing = record {
+      so_far = record {
         context = w.context;
         limit = w.packets.limit;
         payloads = w.packets.payloads;
@@ -80,9 +90,10 @@ impl Model for ReplyWriter {
 }
 
 impl ReplyWriter {
-    /// A writer of the reply to a command of this kind, of which nothing is written yet. The
-    /// reply's first chunk has the number `first_id`. A payload has at most `limit` bytes, as calls
-    /// that read count them: without the headers of its chunks.
+    /// A writer of the reply to a command of this kind, of which nothing is written yet.
+    ///
+    /// The reply's first chunk has the number `first_id`. A payload has at most `limit` bytes, as
+    /// calls that read count them: without the headers of its chunks.
     pub fn new(
         alloc: Global,
         kind: ReplyKind,
@@ -101,9 +112,9 @@ impl ReplyWriter {
         }
     }
 
-    // The last result doesn't stand.
+    // Refused where the last result is written.
     fn check_over(&self) -> Result<(), ReplyRefusal>
-        ensures { cause_in result ≡ over_cause self.now.standing }
+        ensures { cause_in result ≡ over_cause self.now.so_far }
     {
         if self.over {
             return Err(ReplyRefusal::AfterEnd(self.results));
@@ -111,9 +122,9 @@ impl ReplyWriter {
         Ok(())
     }
 
-    // A result may begin.
+    // Refused where no result may begin.
     fn check_place(&self) -> Result<(), ReplyRefusal>
-        ensures { cause_in result ≡ place_cause self.now.standing }
+        ensures { cause_in result ≡ place_cause self.now.so_far }
     {
         self.check_over()?;
         if self.rows.is_some() {
@@ -122,9 +133,9 @@ impl ReplyWriter {
         Ok(())
     }
 
-    // Rows go on.
+    // Refused where no rows go on.
     fn check_rows(&self) -> Result<(), ReplyRefusal>
-        ensures { cause_in result ≡ rows_cause self.now.standing }
+        ensures { cause_in result ≡ rows_cause self.now.so_far }
     {
         self.check_over()?;
         if self.rows.is_none() {
@@ -133,9 +144,9 @@ impl ReplyWriter {
         Ok(())
     }
 
-    // The command is a prepare.
+    // Whether the command is a prepare.
     fn is_prepare(&self) -> bool
-        ensures { result ≡ is_prepare self.now.standing.context.kind }
+        ensures { result ≡ is_prepare self.now.so_far.context.kind }
     {
         match self.context.kind {
             ReplyKind::Prepare => true,
@@ -143,9 +154,9 @@ impl ReplyWriter {
         }
     }
 
-    // The command has such results.
+    // Refused where the command has no such result.
     fn check_kind(&self, wrong: bool) -> Result<(), ReplyRefusal>
-        ensures { cause_in result ≡ kind_cause self.now.standing wrong }
+        ensures { cause_in result ≡ kind_cause self.now.so_far wrong }
     {
         if wrong {
             return Err(ReplyRefusal::WrongKind(self.results));
@@ -153,9 +164,9 @@ impl ReplyWriter {
         Ok(())
     }
 
-    // Each bit of the status has a name.
+    // Refused where a bit of the status has no name.
     fn check_status(&self, ok: &OkPacket<'_>) -> Result<(), ReplyRefusal>
-        ensures { cause_in result ≡ status_cause self.now.standing (ok_packet_view ok.now) }
+        ensures { cause_in result ≡ status_cause self.now.so_far (ok_packet_view ok.now) }
     {
         if !has_named_status(ok.status_flags()) {
             return Err(ReplyRefusal::Status(self.results));
@@ -163,9 +174,9 @@ impl ReplyWriter {
         Ok(())
     }
 
-    // A result has at most 65535 columns.
+    // Refused where a result has more than 65535 columns.
     fn check_count(&self, columns: &[Column]) -> Result<(), ReplyRefusal>
-        ensures { cause_in result ≡ count_cause self.now.standing (column_views columns.now) }
+        ensures { cause_in result ≡ count_cause self.now.so_far (column_views columns.now) }
     {
         if columns.len() > 65535 {
             return Err(ReplyRefusal::TooManyColumns(self.results));
@@ -173,9 +184,9 @@ impl ReplyWriter {
         Ok(())
     }
 
-    // An OK packet may be written.
+    // Refused where no OK packet may be written.
     fn check_ok(&self, more: bool, ok: &OkPacket<'_>) -> Result<(), ReplyRefusal>
-        ensures { cause_in result ≡ first_cause (step_checks self.now.standing (OkStep more (ok_packet_view ok.now))) }
+        ensures { cause_in result ≡ first_cause (step_checks self.now.so_far (OkStep more (ok_packet_view ok.now))) }
     {
         let _more = more;
         self.check_place()?;
@@ -183,10 +194,10 @@ impl ReplyWriter {
         self.check_status(ok)
     }
 
-    // Columns may begin rows.
+    // Refused where these columns may not begin rows.
     fn check_columns(&self, columns: &[Column]) -> Result<(), ReplyRefusal>
         ensures { cause_in result ≡
-            first_cause (step_checks self.now.standing (ColumnsStep (column_views columns.now))) }
+            first_cause (step_checks self.now.so_far (ColumnsStep (column_views columns.now))) }
     {
         self.check_place()?;
         self.check_kind(self.is_prepare())?;
@@ -196,18 +207,18 @@ impl ReplyWriter {
         self.check_count(columns)
     }
 
-    // What ends rows may be written.
+    // Refused where what ends rows may not be written.
     fn check_end(&self, more: bool, ok: &OkPacket<'_>) -> Result<(), ReplyRefusal>
-        ensures { cause_in result ≡ first_cause (step_checks self.now.standing (EndStep more (ok_packet_view ok.now))) }
+        ensures { cause_in result ≡ first_cause (step_checks self.now.so_far (EndStep more (ok_packet_view ok.now))) }
     {
         let _more = more;
         self.check_rows()?;
         self.check_status(ok)
     }
 
-    // The number of an error.
+    // The number of the result that an error is.
     fn error_number(&self) -> usize
-        ensures { result ≡ error_number self.now.standing }
+        ensures { result ≡ error_number self.now.so_far }
     {
         // There are at least as many payloads.
         let _payloads = self.packets.payloads;
@@ -217,10 +228,10 @@ impl ReplyWriter {
         }
     }
 
-    // An error may be written.
+    // Refused where no error may be written.
     fn check_error(&self, error: &ServerError<'_>) -> Result<(), ReplyRefusal>
         ensures { cause_in result ≡
-            first_cause (step_checks self.now.standing (ErrorStep (server_error_view error.now))) }
+            first_cause (step_checks self.now.so_far (ErrorStep (server_error_view error.now))) }
     {
         self.check_over()?;
         if error.error_code() == 0xffff && tells_progress(self.context.capabilities) {
@@ -229,17 +240,17 @@ impl ReplyWriter {
         Ok(())
     }
 
-    // A request for a file may be written.
+    // Refused where no request for a file may be written.
     fn check_file(&self, file: &LocalInfilePacket<'_>) -> Result<(), ReplyRefusal>
         ensures { cause_in result ≡
-            first_cause (step_checks self.now.standing (FileStep (local_infile_view file.now))) }
+            first_cause (step_checks self.now.so_far (FileStep (local_infile_view file.now))) }
     {
         let _file = file;
         self.check_place()?;
         self.check_kind(self.is_prepare())
     }
 
-    // A prepared statement may be written.
+    // Refused where no prepared statement may be written.
     fn check_prepared(
         &self,
         statement: &StmtPacket,
@@ -247,7 +258,7 @@ impl ReplyWriter {
         columns: &[Column],
     ) -> Result<(), ReplyRefusal>
         ensures { cause_in result ≡
-            first_cause (step_checks self.now.standing
+            first_cause (step_checks self.now.so_far
             (PreparedStep (prepare_ok_view statement.now) (column_views parameters.now)
             (column_views columns.now))) }
     {
@@ -258,12 +269,13 @@ impl ReplyWriter {
         self.check_count(columns)
     }
 
-    /// Writes an OK packet as a result, and whether another result follows it: without one the
-    /// reply ends here. Of the packet's status the writer sets or clears SERVER_MORE_RESULTS_EXISTS
-    /// itself.
+    /// Writes an OK packet as a result, and whether another result follows it.
+    ///
+    /// Without one the reply ends here. Of the packet's status the writer sets or clears
+    /// SERVER_MORE_RESULTS_EXISTS itself.
     ///
     /// # Errors
-    /// In this order `AfterEnd`, `NotEnded`, `WrongKind`, `Status`, `PacketTooLarge`, `Memory`.
+    /// - In this order `AfterEnd`, `NotEnded`, `WrongKind`, `Status`, `PacketTooLarge`, `Memory`.
     ///
     /// MySQL: Client/Server Protocol, "OK_Packet".
     pub fn ok(
@@ -290,12 +302,14 @@ impl ReplyWriter {
         Ok(())
     }
 
-    /// Writes what ends rows, and whether another result follows them: without one the reply ends
-    /// here. Of the packet's status the writer sets or clears SERVER_MORE_RESULTS_EXISTS itself.
-    /// Where EOF packets are not deprecated only status and warnings are written.
+    /// Writes what ends rows, and whether another result follows them.
+    ///
+    /// Without one the reply ends here. Of the packet's status the writer sets or clears
+    /// SERVER_MORE_RESULTS_EXISTS itself. Where EOF packets are not deprecated only status and
+    /// warnings are written.
     ///
     /// # Errors
-    /// In this order `AfterEnd`, `NotBegun`, `Status`, `PacketTooLarge`, `Memory`.
+    /// - In this order `AfterEnd`, `NotBegun`, `Status`, `PacketTooLarge`, `Memory`.
     ///
     /// MySQL: Client/Server Protocol, "Text Resultset", "OK_Packet" and "EOF_Packet".
     pub fn end_rows(
@@ -325,7 +339,7 @@ impl ReplyWriter {
     /// Writes an error, as a result or as the end of rows. The reply ends here.
     ///
     /// # Errors
-    /// In this order `AfterEnd`, `ReadsAsReport`, `PacketTooLarge`, `Memory`.
+    /// - In this order `AfterEnd`, `ReadsAsReport`, `PacketTooLarge`, `Memory`.
     ///
     /// MySQL: Client/Server Protocol, "ERR_Packet".
     pub fn error(&mut self, error: &ServerError<'_>, out: &mut Vec<u8>) -> Result<(), ReplyRefusal>
@@ -349,7 +363,7 @@ impl ReplyWriter {
     /// Writes the request of a file. The reply ends here.
     ///
     /// # Errors
-    /// In this order `AfterEnd`, `NotEnded`, `WrongKind`, `PacketTooLarge`, `Memory`.
+    /// - In this order `AfterEnd`, `NotEnded`, `WrongKind`, `PacketTooLarge`, `Memory`.
     ///
     /// MySQL: Client/Server Protocol, "LOCAL INFILE Request".
     pub fn file(
@@ -371,11 +385,13 @@ impl ReplyWriter {
         Ok(())
     }
 
-    /// Writes a progress report, which may stand before any payload of a result. To a client that
-    /// doesn't know progress reports, by the capability PROGRESS_OBSOLETE, nothing is written.
+    /// Writes a progress report, which may stand before any payload of a result.
+    ///
+    /// To a client that doesn't know progress reports, by the capability PROGRESS_OBSOLETE, nothing
+    /// is written.
     ///
     /// # Errors
-    /// In this order `AfterEnd`, `PacketTooLarge`, `Memory`.
+    /// - In this order `AfterEnd`, `PacketTooLarge`, `Memory`.
     ///
     /// MariaDB: 'Progress report' of "ERR_Packet".
     pub fn report(
@@ -401,7 +417,7 @@ impl ReplyWriter {
     /// Begins rows under these columns, which the writer shares until the rows end.
     ///
     /// # Errors
-    /// In this order `AfterEnd`, `NotEnded`, `WrongKind`, `NoColumns`, `TooManyColumns`, `PacketTooLarge`, `Memory`.
+    /// - In this order `AfterEnd`, `NotEnded`, `WrongKind`, `NoColumns`, `TooManyColumns`, `PacketTooLarge`, `Memory`.
     ///
     /// MySQL: Client/Server Protocol, "Text Resultset", "Column Definition".
     pub fn columns(
@@ -429,15 +445,15 @@ impl ReplyWriter {
     /// Writes a row under the columns that the rows began with, whatever columns it has itself.
     ///
     /// # Errors
-    /// In this order `AfterEnd`, `NotBegun`, `CellCount`, `NoForm`, `PacketTooLarge`, `Memory`.
+    /// - In this order `AfterEnd`, `NotBegun`, `CellCount`, `NoForm`, `PacketTooLarge`, `Memory`.
     ///
     /// MySQL: Client/Server Protocol, "Text Resultset Row" and "Binary Protocol Resultset Row".
     pub fn row(&mut self, row: &Row, out: &mut Vec<u8>) -> Result<(), ReplyRefusal>
         ensures ok { OnOk result (Wrote self.old
-            (RowStep (columns_of self.old.standing.rows) (row_view row.now) ∷
+            (RowStep (columns_of self.old.so_far.rows) (row_view row.now) ∷
             []) self.new out.old.items out.new.items) }
         ensures err { IfErr result
-            (Refuses self.old (RowStep (columns_of self.old.standing.rows) (row_view row.now) ∷ [])) }
+            (Refuses self.old (RowStep (columns_of self.old.so_far.rows) (row_view row.now) ∷ [])) }
         ensures kept { OnErr result (out.new.items ≡ out.old.items) }
         ensures stays { OnErr result (self.new ≡ self.old) }
     {
@@ -460,11 +476,12 @@ impl ReplyWriter {
         answer
     }
 
-    /// Writes a prepared statement with its parameters and its columns, whose counts stand in place
-    /// of those that the packet has. The reply ends here.
+    /// Writes a prepared statement with its parameters and its columns. The reply ends here.
+    ///
+    /// The counts of these lists stand in place of those that the packet has.
     ///
     /// # Errors
-    /// In this order `AfterEnd`, `NotEnded`, `WrongKind`, `TooManyColumns`, `PacketTooLarge`, `Memory`.
+    /// - In this order `AfterEnd`, `NotEnded`, `WrongKind`, `TooManyColumns`, `PacketTooLarge`, `Memory`.
     ///
     /// MySQL: Client/Server Protocol, "COM_STMT_PREPARE Response".
     pub fn prepared(
@@ -498,9 +515,9 @@ impl ReplyWriter {
         Ok(())
     }
 
-    /// Whether the last result stands: nothing more is written.
+    /// Whether the last result is written: nothing follows it.
     pub fn is_over(&self) -> bool
-        ensures { result ≡ self.now.standing.over }
+        ensures { result ≡ self.now.so_far.over }
     {
         self.over
     }
@@ -508,10 +525,10 @@ impl ReplyWriter {
     /// Ends the writing.
     ///
     /// # Errors
-    /// `NoResults` where nothing but progress reports was written; `NotEnded` with the number of a
-    /// result whose rows go on, or that was said to follow.
+    /// - `NoResults` where nothing but progress reports was written;
+    /// - `NotEnded` with the number of a result whose rows go on, or that was said to follow.
     pub fn finish(&self) -> Result<(), ReplyRefusal>
-        ensures { cause_in result ≡ end_cause self.now.standing }
+        ensures { cause_in result ≡ end_cause self.now.so_far }
     {
         if self.over {
             return Ok(());

@@ -11,15 +11,15 @@ use Rattle.mysql_replies.proofs.reader.read_reply.Goals as goal
 pub loop-piece-init : goal.loop-piece-init
 loop-piece-init c =
     let context : Context = record { kind = c.args.kind; capabilities = c.args.capabilities } in
-    subst (λ (reader : ReaderState). IsFed (fault_of reader.standing) context c.args.first_id c.args.limit [] reader) (sym c.new-reader.ensures) (fed_nothing context c.args.first_id c.args.limit)
+    subst (λ (reader : ReaderState). IsFed (fault_of reader.so_far) context c.args.first_id c.args.limit [] reader) (sym c.new-reader.ensures) (fed_nothing context c.args.first_id c.args.limit)
 
 pub loop-piece-preserved : goal.loop-piece-preserved
 loop-piece-preserved c =
     let i = c.loop-piece.piece-index in
     let f = c.feed-answer.ensures in
-    subst (λ pieces. IsFed (fault_of c.feed-answer.new.self.standing) (record { kind = c.args.kind; capabilities = c.args.capabilities }) c.args.first_id c.args.limit pieces c.feed-answer.new.self)
+    subst (λ pieces. IsFed (fault_of c.feed-answer.new.self.so_far) (record { kind = c.args.kind; capabilities = c.args.capabilities }) c.args.first_id c.args.limit pieces c.feed-answer.new.self)
     (sym (pieces_more c.args.pieces.now i (record { ref_ptr = (0, 0); now = [] }) c.loop-piece-test.true))
-    (fed_next _ c.args.first_id c.args.limit _ _ c.loop-piece.reader c.feed-answer.new.self c.feed-answer.result c.bytes_are_bytes.ensures
+    (fed_next _ c.args.first_id c.args.limit _ _ c.loop-piece.reader c.feed-answer.new.self c.feed-answer.result c.are_bytes.ensures.bytes
     (record { stays = f.stays; going = f.going; fault = f.fault; takes = f.takes; goes_on = f.goes_on; short = f.short }) c.loop-piece.invariant)
 
 pub returns : goal.returns

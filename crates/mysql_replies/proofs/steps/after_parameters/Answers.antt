@@ -1,6 +1,6 @@
 use Rattle.std.proofs.Common.{◌≡◌, [], ◌∷◌, false, refl, ap, sym, inr, arith, ◌∙◌}
 use Rattle.mysql_server_packets.specs.Views.{prepare_ok_view}
-use Rattle.mysql_replies.specs.Grammar.{Stands, PreparedResult, prepared_columns}
+use Rattle.mysql_replies.specs.Grammar.{Complete, PreparedResult, prepared_columns}
 use Rattle.mysql_replies.specs.Reply as reply
 use Rattle.mysql_replies.specs.Views.{column_views}
 use Rattle.mysql_replies.specs.Steps.{OfPrepared}
@@ -14,4 +14,4 @@ returns-else-left-gt0 c =
     let none : c.args.stmt.num_columns ≡ 0 = omega arith in
     step_stands c.args.context [] (λ z. prepared_columns c.args.context stmt params c.args.stmt.num_columns [] z) (PreparedResult stmt params (column_views c.new-columns.result.items) ∷ []) false reply.Nothing refl
     (λ z. group_stands c.args.context (OfPrepared stmt params) c.args.stmt.num_columns [] none (inr refl) z
-    ∙ ap (λ columns. Stands (record { results = PreparedResult stmt params (column_views columns) ∷ []; more = false }) z) (sym c.new-columns.ensures.items))
+    ∙ ap (λ columns. Complete (record { results = PreparedResult stmt params (column_views columns) ∷ []; more = false }) z) (sym c.new-columns.ensures.items))

@@ -10,13 +10,13 @@ use Rattle.mysql_replies.proofs.steps.columns_awaited.Goals as goal
 pub returns-then-deprecates_eof : goal.returns-then-deprecates_eof
 returns-then-deprecates_eof c =
     let g = group_view c.args.group in
-    let these = column_views c.args.these.items in
+    let these = column_views c.args.columns.items in
     move_same c.args.context (λ z. rest_of c.args.context (group_awaited g c.args.left these) z) (λ z. after_group c.args.context g these z) c.after_columns.result
     (group_stands c.args.context g c.args.left these (omega arith) (inl (sym c.deprecates_eof.ensures ∙ c.if-deprecates_eof.true))) c.after_columns.ensures
 
 pub returns-then-is_empty : goal.returns-then-is_empty
 returns-then-is_empty c =
     let g = group_view c.args.group in
-    let these = column_views c.args.these.items in
+    let these = column_views c.args.columns.items in
     move_same c.args.context (λ z. rest_of c.args.context (group_awaited g c.args.left these) z) (λ z. after_group c.args.context g these z) c.after_columns-then-is_empty.result
     (group_stands c.args.context g c.args.left these (omega arith) (inr (grind (arith, common_steps, length-map)))) c.after_columns-then-is_empty.ensures

@@ -7,7 +7,7 @@ use Rattle.mysql_replies.specs.Grammar.{OkResult, ErrorResult, FileResult, one_r
 use Rattle.mysql_replies.specs.Reply as reply
 use Rattle.mysql_replies.specs.Views.{awaited_view, column_views}
 use Rattle.mysql_replies.specs.Steps.{OfResultSet, OfParameters, group_awaited}
-use Rattle.mysql_replies.proofs.Stepping.{first_found, first_unexpected, step_moves, step_stands, step_fails}
+use Rattle.mysql_replies.proofs.Stepping.{first_found, first_faulty, step_moves, step_stands, step_fails}
 use Rattle.mysql_replies.proofs.steps.first_step.Goals as goal
 
 pub returns-in-Ok-Ok : goal.returns-in-Ok-Ok
@@ -28,7 +28,7 @@ returns-in-Ok-File c =
 pub returns-in-Err : goal.returns-in-Err
 returns-in-Err c =
     step_fails c.args.context reply.First c.args.payload.now awaiting.First c.in-Err.fault tt (opening c.args.context c.args.payload.now) refl
-    (λ f h. first_unexpected c.args.context c.args.payload.now f c.requires.no_report h) c.in-Err.ensures
+    (λ f h. first_faulty c.args.context c.args.payload.now f c.requires.no_report h) c.in-Err.ensures
 
 pub returns-in-Ok-Count : goal.returns-in-Ok-Count
 returns-in-Ok-Count c =

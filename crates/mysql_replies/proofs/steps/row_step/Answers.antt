@@ -14,7 +14,7 @@ use Rattle.mysql_replies.proofs.steps.row_step.Goals as goal
 
 pub returns-else-is_err : goal.returns-else-is_err
 returns-else-is_err c =
-    let these = c.args.these.now in
+    let these = c.args.open_rows.now in
     let pushed = on_ok c.push.result c.if-is_err.ensures.negation c.push.ensures.ok in
     let read = subst (λ columns. row c.args.context columns c.args.payload.now ≡ Ok (row_view c.in-Ok.row)) c.columns.ensures c.in-Ok.ensures in
     subst (λ (now : RowsSoFar). IsStep c.args.context (reply.Rows these.columns these.rows) c.args.payload.now (Moved listed.None (awaiting.Rows now))) (sym pushed)
@@ -22,6 +22,6 @@ returns-else-is_err c =
 
 pub returns-in-Err : goal.returns-in-Err
 returns-in-Err c =
-    let these = c.args.these.now in
+    let these = c.args.open_rows.now in
     row_failed c.args.context these.columns these.rows c.args.payload.now (awaiting.Rows these) c.in-Err.fault c.requires.no_report c.requires.row refl
     (subst (λ columns. Refuses c.in-Err.fault (row c.args.context columns c.args.payload.now)) c.columns.ensures c.in-Err.ensures)

@@ -1,11 +1,20 @@
-use Rattle.std.proofs.Common.{◌≡◌}
+use Rattle.std.proofs.Common.{◌≡◌, ◌==◌, false, length, rules}
+use Rattle.mysql_replies.specs.declared.context.Context.{Context}
 use Rattle.mysql_replies.specs.Views.{outcome_views, report_views}
-use Rattle.mysql_reply_writer.proofs.Replied.{replied_on}
+use Rattle.mysql_reply_writer.proofs.Replied.{replied}
+use Rattle.mysql_reply_writer.proofs.WholeReplies.{reply_allowed, reply_read, reply_written}
 use Rattle.mysql_reply_writer.proofs.reply.write_reply.Goals as goal
 
-pub returns-clause-delivered : goal.returns-clause-delivered
-returns-clause-delivered c =
-    replied_on c.whole_bytes_are_framed_results.ensures.some c.byte_fronts_are_unfinished.ensures.whole c.byte_fronts_are_unfinished.ensures.unfinished
-    (record { kind = c.args.kind; capabilities = c.args.capabilities }) c.args.first_id c.args.limit (outcome_views c.args.results.now) (report_views c.args.progress.now)
-    c.args.out.now.items c.put_whole_reply.new.out.items c.put_whole_reply.result
-    c.put_whole_reply.ensures.allowed c.put_whole_reply.ensures.written c.put_whole_reply.ensures.reads_back
+pub returns-in-Ok-clause-delivered : goal.returns-in-Ok-clause-delivered
+returns-in-Ok-clause-delivered c =
+    let context : Context = record { kind = c.args.kind; capabilities = c.args.capabilities } in
+    let results = c.args.results.now in
+    let progress = report_views c.args.progress.now in
+    let old = c.args.out.now.items in
+    let new = c.put_reply.new.out.items in
+    let some : (length results == 0) ≡ false = search rules in
+    replied c.whole_bytes_are_framed_results.ensures.some c.byte_fronts_are_unfinished.ensures.whole c.byte_fronts_are_unfinished.ensures.unfinished
+    context c.args.first_id c.args.limit (outcome_views results) progress old new
+    (reply_allowed context c.args.first_id c.args.limit results progress some c.new-writer.result c.new-writer.ensures c.put_reply.new.writer old new c.in-Ok.ensures.ok c.in-Ok.ensures.whole)
+    (reply_written context c.args.first_id c.args.limit results progress some c.new-writer.result c.new-writer.ensures c.put_reply.new.writer old new c.in-Ok.ensures.ok c.in-Ok.ensures.whole)
+    (reply_read context c.args.first_id c.args.limit results progress some c.new-writer.result c.new-writer.ensures c.put_reply.new.writer old new c.in-Ok.ensures.ok c.in-Ok.ensures.whole c.written_replies_are_whole.ensures.framed)

@@ -7,6 +7,6 @@ use Rattle.mysql_reply_writer.proofs.whole.put_rows.Given as goal
 
 abbrev pub invariant-rows : goal.invariant-rows
 invariant-rows l =
-    (columns_of l.writer.standing.rows ≡ columns_of l.fn.writer.standing.rows)
-    × WroteSoFar l.fn.writer (map (RowStep (columns_of l.fn.writer.standing.rows)) (row_views l.rows)) l.writer
-    (map (RowStep (columns_of l.fn.writer.standing.rows)) (row_views (drop l.row-index l.rows))) l.fn.out.items l.out.items
+    (columns_of l.writer.so_far.rows ≡ columns_of l.fn.writer.so_far.rows)
+    × WroteSoFar l.fn.writer (map (RowStep (columns_of l.fn.writer.so_far.rows)) (row_views l.rows)) l.writer
+    (map (RowStep (columns_of l.fn.writer.so_far.rows)) (row_views (drop l.row-index l.rows))) l.fn.out.items l.out.items

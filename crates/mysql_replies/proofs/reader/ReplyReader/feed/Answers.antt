@@ -1,17 +1,17 @@
 use Rattle.std.proofs.Common.{◌++◌, [], Err, ap, subst, sym, refl, ◌∙◌}
 use Rattle.mysql_wire.specs.Incoming.{codec_by}
 use Rattle.mysql_replies.specs.Holding.{ReaderGoesOn, StandsShort, fault_of}
-use Rattle.mysql_replies.specs.Standings.{reader_state, UnlessMemory, OnMemory}
+use Rattle.mysql_replies.specs.States.{reader_state, UnlessMemory, OnMemory}
 use Rattle.mysql_replies.proofs.Receiving.{fault_is, if_fault, if_no_fault, not_both, stays_going_on, unless_is, on_is}
 use Rattle.mysql_replies.proofs.Found.{feed_found_none}
 use Rattle.mysql_replies.proofs.reader.ReplyReader.feed.Goals as goal
 
 pub returns-in-Some-clause-stays : goal.returns-in-Some-clause-stays
 returns-in-Some-clause-stays c =
-    if_fault _ _ c.in-Some.fault (ap (λ held. fault_of held.standing) (sym c.self.view_is) ∙ fault_is c.self.inside.parts.state ∙ c.in-Some.is) (refl, refl)
+    if_fault _ _ c.in-Some.fault (ap (λ held. fault_of held.so_far) (sym c.self.view_is) ∙ fault_is c.self.inside.parts.state ∙ c.in-Some.is) (refl, refl)
 
 pub returns-in-Some-clause-fault : goal.returns-in-Some-clause-fault
-returns-in-Some-clause-fault c = ap (λ held. fault_of held.standing) (sym c.self.view_is) ∙ fault_is c.self.inside.parts.state ∙ c.in-Some.is
+returns-in-Some-clause-fault c = ap (λ held. fault_of held.so_far) (sym c.self.view_is) ∙ fault_is c.self.inside.parts.state ∙ c.in-Some.is
 
 pub returns-in-Some-clause-goes_on : goal.returns-in-Some-clause-goes_on
 returns-in-Some-clause-goes_on c =
@@ -20,10 +20,10 @@ returns-in-Some-clause-goes_on c =
 
 pub returns-in-Some-clause-short : goal.returns-in-Some-clause-short
 returns-in-Some-clause-short c =
-    not_both _ c.in-Some.fault (ap (λ held. fault_of held.standing) (sym c.self.view_is) ∙ fault_is c.self.inside.parts.state ∙ c.in-Some.is)
+    not_both _ c.in-Some.fault (ap (λ held. fault_of held.so_far) (sym c.self.view_is) ∙ fault_is c.self.inside.parts.state ∙ c.in-Some.is)
 
 pub returns-clause-stays : goal.returns-clause-stays
-returns-clause-stays c = if_no_fault _ _ (ap (λ held. fault_of held.standing) (sym c.self.view_is) ∙ fault_is c.self.inside.parts.state ∙ c.in-None.is)
+returns-clause-stays c = if_no_fault _ _ (ap (λ held. fault_of held.so_far) (sym c.self.view_is) ∙ fault_is c.self.inside.parts.state ∙ c.in-None.is)
 
 pub returns-clause-no_fault : goal.returns-clause-no_fault
 returns-clause-no_fault c = feed_found_none c.framing_laws.ensures c.take_packets.new.self.state c.take_packets.new.self.packets c.take_packets.result c.take_packets.ensures.reading c.take_packets.ensures.paused

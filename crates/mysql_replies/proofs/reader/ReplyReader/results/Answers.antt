@@ -1,6 +1,6 @@
 use Rattle.std.proofs.Common.{subst, sym}
 use Rattle.mysql_replies.specs.Holding.{ReaderState}
-use Rattle.mysql_replies.specs.Standings.{standing_of}
+use Rattle.mysql_replies.specs.States.{reply_so_far}
 use Rattle.mysql_replies.specs.Taking.{Lists, ListsResults, rows_awaited}
 use Rattle.mysql_replies.specs.Views.{outcome_views, awaited_view}
 use Rattle.mysql_replies.proofs.Handing.{state_lists}
@@ -9,5 +9,5 @@ use Rattle.mysql_replies.proofs.reader.ReplyReader.results.Goals as goal
 pub returns : goal.returns
 returns c =
     let s = c.self.inside.parts.state in
-    subst (λ (held : ReaderState). ListsResults held.standing (outcome_views c.as_slice.result.now)) c.self.view_is
-    (rows_awaited (awaited_view s.awaited), subst (λ items. Lists (standing_of s) (outcome_views items) (rows_awaited (awaited_view s.awaited))) (sym c.as_slice.ensures.value) (state_lists s))
+    subst (λ (held : ReaderState). ListsResults held.so_far (outcome_views c.as_slice.result.now)) c.self.view_is
+    (rows_awaited (awaited_view s.awaited), subst (λ items. Lists (reply_so_far s) (outcome_views items) (rows_awaited (awaited_view s.awaited))) (sym c.as_slice.ensures.value) (state_lists s))

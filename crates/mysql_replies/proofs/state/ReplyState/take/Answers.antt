@@ -1,5 +1,5 @@
 use Rattle.std.proofs.Common.{◌+◌, ◌^◌, ◌<◌, Err, sym, subst, arith}
-use Rattle.mysql_replies.specs.Standings.{UnlessMemory, NumberedStateGoesOn}
+use Rattle.mysql_replies.specs.States.{UnlessMemory, NumberedStateGoesOn}
 use Rattle.mysql_replies.proofs.Numbers.{too_large, numbered_unless}
 use Rattle.mysql_replies.proofs.state.ReplyState.take.Goals as goal
 

@@ -4,7 +4,7 @@ use Rattle.mysql_replies.specs.declared.awaited.Stepped.TheVariants.{Failed}
 use Rattle.mysql_replies.specs.Views.{awaited_view}
 use Rattle.mysql_replies.specs.Steps.{IsStep, Leads, Moves, listed_views}
 use Rattle.mysql_replies.specs.Reply.{rest_of}
-use Rattle.mysql_replies.specs.Standings.{IsShortOf, OnMemory, UnlessMemory, StateGoesOn}
+use Rattle.mysql_replies.specs.States.{IsShortOf, OnMemory, UnlessMemory, StateGoesOn}
 use Rattle.mysql_replies.proofs.Taking.{reading_failed, step_failed, step_moved, step_short, roomed, roomed_unless, short_roomed}
 use Rattle.mysql_replies.proofs.state.ReplyState.take_other.Goals as goal
 

@@ -1,15 +1,14 @@
 use Rattle.std.proofs.Common.{arith, ◌++◌, [], refl, ap, subst}
 use Rattle.mysql_wire.specs.Incoming.{Incoming, codec_by}
-use Rattle.mysql_replies.specs.Holding.{ReaderGoesOn}
-use Rattle.mysql_replies.specs.Standings.{reader_state, UnlessMemory}
+use Rattle.mysql_replies.specs.Pieces.{TakesPiece}
 use Rattle.mysql_replies.proofs.Receiving.{taking_starts, piece_bytes, waits_taken}
-use Rattle.mysql_replies.proofs.reader.take_packets.Goals as goal
+use Rattle.mysql_replies.proofs.reader.ReaderParts.take_packets.Goals as goal
 
 pub returns-then-took_within : goal.returns-then-took_within
 returns-then-took_within c =
     let laws = c.framing_laws.ensures in
-    let start = c.args.state.now in
-    let old = c.args.packets.now in
+    let start = c.args.self.now.state in
+    let old = c.args.self.now.packets in
     let piece = c.args.piece.now in
     let fed = old.bytes ++ piece in
     let t =
@@ -20,7 +19,7 @@ returns-then-took_within c =
     (ap (λ (x : Incoming). x.payload) c.if-took_within.ensures.used) in
     record { reading = c.requires.reading; paused = (c.requires.going, taken.0); fault = tt; took = taken.1; goes_on = taken.2; short = tt }
 
-pub returns-clause-goes_on : goal.returns-clause-goes_on
-returns-clause-goes_on c =
-    subst (λ (p : Incoming). UnlessMemory c.take_payloads.result (ReaderGoesOn (reader_state c.args.state.now p) c.args.piece.now (reader_state c.take_payloads.new.state c.take_payloads.new.packets)))
-    c.if-took_within.ensures.kept c.take_payloads.ensures.goes_on
+pub returns : goal.returns
+returns c =
+    subst (λ (p : Incoming). TakesPiece c.args.self.now.state p c.args.piece.now c.take_payloads.result c.take_payloads.new.state c.take_payloads.new.packets)
+    c.if-took_within.ensures.kept c.take_payloads.ensures

@@ -1,4 +1,4 @@
--- Rows that are lent: what a payload leads to, and what bytes were used.
+-- Rows that are borrowed: what a payload leads to, and what bytes were used.
 use Rattle.std.proofs.Common.{◌≡◌, ℕ, ◌+◌, ◌^◌, ◌<◌, ◌≤◌, List, [], ◌∷◌, ◌++◌, length, Bool, true, false, Option, Some, None, Result, Ok, Err, refl, ap, sym, subst, arith, ◌∙◌, length-append}
 use Rattle.std.specs.Prelude.{if◌then◌else◌, ◌==◌, OnOk, IfErr}
 use Rattle.std.proofs.lemmas.List.{append-nil}
@@ -23,15 +23,15 @@ use Rattle.mysql_replies.specs.declared.context.ReplyKind.{ReplyKind}
 use Rattle.mysql_replies.specs.declared.context.ReplyKind.TheVariants as kinds
 use Rattle.mysql_replies.specs.declared.fault.ReplyFault.{ReplyFault}
 use Rattle.mysql_replies.specs.declared.fault.ReplyFault.TheVariants as faults
-use Rattle.mysql_replies.specs.declared.lending.Place.{Place}
+use Rattle.mysql_replies.specs.declared.borrowing.Place.{Place}
 use Rattle.mysql_replies.specs.declared.state.ReplyState.{ReplyState}
 use Rattle.mysql_replies.specs.Grammar.{Payload, has_report_form, is_binary, row, whole_or_fault}
 use Rattle.mysql_replies.specs.Holding.{HasFoundNoFault, ReaderState, ReaderGoesOn, StandsShort, TakesAll}
-use Rattle.mysql_replies.specs.Lending.{LendsNext, LendsRow, rows_listed}
-use Rattle.mysql_replies.specs.LentSteps.{HasRead, LendStep, Lends, LendsAwaited, LendsBehind, LendsOne, format_of, keeping, or_bad_row, passed_as, payload_at, with_row}
+use Rattle.mysql_replies.specs.Borrowing.{BorrowsNext, BorrowsRow, rows_listed}
+use Rattle.mysql_replies.specs.RowSteps.{StateBorrowsNext, RowAt, ReaderBorrows, StateBorrows, format_of, keeping, or_bad_row, passed_as, payload_at, reader_of, with_row}
 use Rattle.mysql_replies.specs.OpenRows.{RowsSoFar}
 use Rattle.mysql_replies.specs.Reply.{GoingOn, Rows, rest_of}
-use Rattle.mysql_replies.specs.Standings.{FramingLaws, IsPaused, IsShortOf, NumberedStateGoesOn, OnMemory, StateGoesOn, UnlessMemory, faulted, progressing_of, reader_state, reader_state_of, standing_of}
+use Rattle.mysql_replies.specs.States.{FramingLaws, IsPaused, IsShortOf, NumberedStateGoesOn, OnMemory, StateGoesOn, UnlessMemory, faulted, open_reply, reader_state, reader_state_of, reply_so_far}
 use Rattle.mysql_replies.specs.Steps.{IsAwaiting, IsStep, Leads, Moves, reads_as_row}
 use Rattle.mysql_replies.specs.Taking.{Feeds}
 use Rattle.mysql_replies.specs.Views.{Refuses, awaited_view, outcome_views}
@@ -40,7 +40,7 @@ use Rattle.mysql_replies.proofs.Receiving.{Since, Taking, all_taken, elsewhere, 
 use Rattle.mysql_replies.proofs.Stepping.{row_failed, row_went}
 use Rattle.mysql_replies.proofs.Taking.{step_failed, step_moved, step_short}
 
--- What a lender reads is the row of the grammar.
+-- What a reader of rows reads is the row of the grammar.
 whole_if : (b : Bool) (found : Row) (error : RowError) → (if b then Ok found else Err faults.BadRow) ≡ or_bad_row (if b then Ok found else Err error)
 whole_if true found error = refl
 whole_if false found error = refl
@@ -57,32 +57,32 @@ row_is c columns payload = row_is_by c.kind
     row_is_by kinds.Binary = whole_is (as_row columns (binary_resultset_row_at columns payload))
     row_is_by kinds.Prepare = whole_is (as_row columns (text_row_at columns payload))
 
--- A row is lent, of which the state that had kept it goes on.
-pub row_lent : (before : ReplyState) (these now : RowsSoFar) (payload : Payload) → before.fault ≡ None → before.count + 1 < 2 ^ 64 → before.awaited ≡ awaiting.Rows these → now ≡ record these { lender = now.lender } → has_report_form before.context payload ≡ false → reads_as_row before.context payload ≡ true → HasRead now.lender (format_of before.context.kind) these.columns payload → LendsOne before payload (record before { awaited = awaiting.Rows now; count = before.count + 1 })
-row_lent before these now payload going room is same form like h =
+-- A row can be borrowed, of which the state that had kept it goes on.
+pub row_borrowed : (before : ReplyState) (these now : RowsSoFar) (payload : Payload) → before.fault ≡ None → before.count + 1 < 2 ^ 64 → before.awaited ≡ awaiting.Rows these → now ≡ record these { reader = now.reader } → has_report_form before.context payload ≡ false → reads_as_row before.context payload ≡ true → (row : Row) × RowAt now.reader payload row × (row_of (format_of before.context.kind) these.columns payload ≡ Ok row) → StateBorrows before payload (record before { awaited = awaiting.Rows now; count = before.count + 1 })
+row_borrowed before these now payload going room is same form like h =
     let c = before.context in
-    let next : code.Awaited = awaiting.Rows (record now { rows = now.rows ++ h.row ∷ [] }) in
-    let read : row c these.columns payload ≡ Ok h.row = row_is c these.columns payload ∙ ap or_bad_row h.read in
-    let went : Leads c (λ z. rest_of c (Rows these.columns these.rows) (payload ∷ z)) payload (Moves [] (Rows these.columns (now.rows ++ h.row ∷ []))) =
-    row_went c these.columns these.rows (now.rows ++ h.row ∷ []) payload h.row form like read (ap (λ (x : RowsSoFar). x.rows ++ h.row ∷ []) same) in
+    let next : code.Awaited = awaiting.Rows (record now { rows = now.rows ++ h.0 ∷ [] }) in
+    let read : row c these.columns payload ≡ Ok h.0 = row_is c these.columns payload ∙ ap or_bad_row h.2 in
+    let went : Leads c (λ z. rest_of c (Rows these.columns these.rows) (payload ∷ z)) payload (Moves [] (Rows these.columns (now.rows ++ h.0 ∷ []))) =
+    row_went c these.columns these.rows (now.rows ++ h.0 ∷ []) payload h.0 form like read (ap (λ (x : RowsSoFar). x.rows ++ h.0 ∷ []) same) in
     let leads : Leads c (λ z. rest_of c (awaited_view before.awaited) (payload ∷ z)) payload (Moves [] (awaited_view next)) =
     subst (λ a. Leads c (λ z. rest_of c (awaited_view a) (payload ∷ z)) payload (Moves [] (awaited_view next))) (sym is)
-    (subst (λ columns. Leads c (λ z. rest_of c (Rows these.columns these.rows) (payload ∷ z)) payload (Moves [] (Rows columns (now.rows ++ h.row ∷ [])))) (sym (ap (λ (x : RowsSoFar). x.columns) same)) went) in
+    (subst (λ columns. Leads c (λ z. rest_of c (Rows these.columns these.rows) (payload ∷ z)) payload (Moves [] (Rows columns (now.rows ++ h.0 ∷ [])))) (sym (ap (λ (x : RowsSoFar). x.columns) same)) went) in
     let after : ReplyState = record before { awaited = next; count = before.count + 1 } in
     record {
-      row = h.row;
-      lends = h.lends;
+      row = h.0;
+      lies = h.1;
       goes_on = goes_over_numbered before after payload going room (λ e. refl)
           (step_moved before (record before { awaited = next }) next [] payload going refl (sym (append-nil (outcome_views before.results.items))) form leads);
     }
 
 -- What a payload without a place leads to, or one over which memory ran out.
-pub failed_step : (before after : ReplyState) (payload : Payload) (fault : ReplyFault) → before.fault ≡ None → before.count + 1 < 2 ^ 64 → after.fault ≡ Some fault → UnlessMemory {X = Unit {0}} (Err fault) (StateGoesOn before payload after) → OnMemory {X = Unit {0}} (Err fault) (IsShortOf before after) → LendStep before payload (Err fault) after
+pub failed_step : (before after : ReplyState) (payload : Payload) (fault : ReplyFault) → before.fault ≡ None → before.count + 1 < 2 ^ 64 → after.fault ≡ Some fault → UnlessMemory {X = Unit {0}} (Err fault) (StateGoesOn before payload after) → OnMemory {X = Unit {0}} (Err fault) (IsShortOf before after) → StateBorrowsNext before payload (Err fault) after
 failed_step before after payload faults.Memory going room wrong goes short = short
 failed_step before after payload fault going room wrong goes short = goes_over_numbered before after payload going room (λ e. not_both after.fault fault wrong e) goes
 
 -- The same of a row.
-pub row_unread : (before after : ReplyState) (these now : RowsSoFar) (payload : Payload) (fault : ReplyFault) → before.fault ≡ None → before.count + 1 < 2 ^ 64 → before.awaited ≡ awaiting.Rows these → now ≡ record these { lender = now.lender } → has_report_form before.context payload ≡ false → reads_as_row before.context payload ≡ true → after ≡ record before { awaited = awaiting.Rows now; fault = Some fault } → Refuses fault (or_bad_row (row_of (format_of before.context.kind) these.columns payload)) → LendStep before payload (Err fault) after
+pub row_unread : (before after : ReplyState) (these now : RowsSoFar) (payload : Payload) (fault : ReplyFault) → before.fault ≡ None → before.count + 1 < 2 ^ 64 → before.awaited ≡ awaiting.Rows these → now ≡ record these { reader = now.reader } → has_report_form before.context payload ≡ false → reads_as_row before.context payload ≡ true → after ≡ record before { awaited = awaiting.Rows now; fault = Some fault } → Refuses fault (or_bad_row (row_of (format_of before.context.kind) these.columns payload)) → StateBorrowsNext before payload (Err fault) after
 row_unread before after these now payload fault going room is same form like after_is h =
     let c = before.context in
     let kept : awaited_view (awaiting.Rows now) ≡ Rows these.columns these.rows = ap (λ (x : RowsSoFar). Rows x.columns x.rows) same in
@@ -94,7 +94,7 @@ row_unread before after these now payload fault going room is same form like aft
     (step_short before after (awaiting.Rows now) payload fault after_is step)
 
 -- What a payload that is no row leads to.
-pub passed_step : (before after : ReplyState) (payload : Payload) (r : Result (Unit {0}) ReplyFault) → before.fault ≡ None → before.count + 1 < 2 ^ 64 → OnOk r ((after.fault ≡ None) × (after.count ≡ before.count + 1)) → IfErr r (λ fault. after.fault ≡ Some fault) → UnlessMemory r (StateGoesOn before payload after) → OnMemory r (IsShortOf before after) → LendStep before payload (passed_as r) after
+pub passed_step : (before after : ReplyState) (payload : Payload) (r : Result (Unit {0}) ReplyFault) → before.fault ≡ None → before.count + 1 < 2 ^ 64 → OnOk r ((after.fault ≡ None) × (after.count ≡ before.count + 1)) → IfErr r (λ fault. after.fault ≡ Some fault) → UnlessMemory r (StateGoesOn before payload after) → OnMemory r (IsShortOf before after) → StateBorrowsNext before payload (passed_as r) after
 passed_step before after payload (Err faults.Memory) going room ok wrong goes short = short
 passed_step before after payload (Ok x) going room ok wrong goes short = goes_over_numbered before after payload going room (λ e. ok.1) goes
 passed_step before after payload (Err fault) going room ok wrong goes short = goes_over_numbered before after payload going room (λ e. not_both after.fault fault wrong e) goes
@@ -155,13 +155,13 @@ used_up laws start s next old now new piece rest left payload t began h none fit
     (subst (λ k. IsRest codec.limit (packet_number codec []) k Empty) (sym nothing) (empty_rest codec.limit (packet_number codec []))) in
     record { used = c.0; cut = c.1; takes = all.0; goes_on = all.1; whole = nothing }
 
--- A row's payload was handed out, and the row is lent.
-pub lent_behind : FramingLaws → (start s next : ReplyState) (old now new : Incoming) (piece rest left payload : List ℕ) (place : Place) → Taking start (codec_by old) (old.bytes ++ piece) [] s (codec_by now) (now.bytes ++ rest) [] → start.fault ≡ None → HandsOut (codec_by now) (now.bytes ++ rest) [] (codec_by new) (new.bytes ++ left) payload → new.bytes ≡ [] → length left ≤ length piece → next.fault ≡ None → next.count ≡ s.count + 1 → LendsOne s payload next → payload ≡ payload_at place new → LendsBehind (reader_state start old) piece place next new left
-lent_behind laws start s next old now new piece rest left payload place t began h none fits going count one is =
+-- A row's payload was handed out, and the row can be borrowed.
+pub borrowed_behind : FramingLaws → (start s next : ReplyState) (old now new : Incoming) (piece rest left payload : List ℕ) (place : Place) → Taking start (codec_by old) (old.bytes ++ piece) [] s (codec_by now) (now.bytes ++ rest) [] → start.fault ≡ None → HandsOut (codec_by now) (now.bytes ++ rest) [] (codec_by new) (new.bytes ++ left) payload → new.bytes ≡ [] → length left ≤ length piece → next.fault ≡ None → next.count ≡ s.count + 1 → StateBorrows s payload next → payload ≡ payload_at place new → ReaderBorrows (reader_state start old) piece place next new left
+borrowed_behind laws start s next old now new piece rest left payload place t began h none fits going count one is =
     let u = used_up laws start s (keeping next one.row) old now new piece rest left payload t began h none fits going count one.goes_on in
     record {
       row = one.row;
-      lends = subst (λ k. LendsAwaited next.awaited k one.row) is one.lends;
+      lies = subst (λ k. RowAt (reader_of next.awaited) k one.row) is one.lies;
       used = u.used;
       cut = u.cut;
       takes = u.takes;
@@ -174,25 +174,25 @@ pub paused_behind : FramingLaws → (s : ReplyState) (now new : Incoming) (src s
 paused_behind laws s now new src src' payload h none =
     fresh_paused laws s (codec_by new) new.bytes [] h.between (handed_number (codec_by now) (codec_by new) src [] src' payload h) none refl
 
-step_goes : (before after : ReplyState) (payload : Payload) (fault : ReplyFault) → LendStep before payload (Err fault) after → UnlessMemory {X = Unit {0}} (Err fault) (NumberedStateGoesOn before payload after)
+step_goes : (before after : ReplyState) (payload : Payload) (fault : ReplyFault) → StateBorrowsNext before payload (Err fault) after → UnlessMemory {X = Unit {0}} (Err fault) (NumberedStateGoesOn before payload after)
 step_goes before after payload faults.Memory step = tt
 step_goes before after payload fault step = step
 
-step_falls_short : (before after : ReplyState) (payload : Payload) (fault : ReplyFault) → LendStep before payload (Err fault) after → OnMemory {X = Unit {0}} (Err fault) (IsShortOf before after)
+step_falls_short : (before after : ReplyState) (payload : Payload) (fault : ReplyFault) → StateBorrowsNext before payload (Err fault) after → OnMemory {X = Unit {0}} (Err fault) (IsShortOf before after)
 step_falls_short before after payload faults.Memory step = step
 step_falls_short before after payload fault step = tt
 
 -- A payload was handed out, and it has no place or memory ran out over it.
-pub lend_failed : FramingLaws → (start s next : ReplyState) (old now new : Incoming) (piece rest left payload : List ℕ) (fault : ReplyFault) → Taking start (codec_by old) (old.bytes ++ piece) [] s (codec_by now) (now.bytes ++ rest) [] → start.fault ≡ None → HandsOut (codec_by now) (now.bytes ++ rest) [] (codec_by new) (new.bytes ++ left) payload → next.fault ≡ Some fault → LendStep s payload (Err fault) next → UnlessMemory {X = Unit {0}} (Err fault) (ReaderGoesOn (reader_state start old) piece (reader_state next new))
-lend_failed laws start s next old now new piece rest left payload fault t began h wrong step =
+pub borrow_failed : FramingLaws → (start s next : ReplyState) (old now new : Incoming) (piece rest left payload : List ℕ) (fault : ReplyFault) → Taking start (codec_by old) (old.bytes ++ piece) [] s (codec_by now) (now.bytes ++ rest) [] → start.fault ≡ None → HandsOut (codec_by now) (now.bytes ++ rest) [] (codec_by new) (new.bytes ++ left) payload → next.fault ≡ Some fault → StateBorrowsNext s payload (Err fault) next → UnlessMemory {X = Unit {0}} (Err fault) (ReaderGoesOn (reader_state start old) piece (reader_state next new))
+borrow_failed laws start s next old now new piece rest left payload fault t began h wrong step =
     let fed = old.bytes ++ piece in
     let src = now.bytes ++ rest in
     piece_goes_on laws start (codec_by old) old.bytes fed [] piece (reader_state next new) (Err fault) began refl
     (elsewhere (reader_state_of start (codec_by old) fed []) next (reader_state_of next (codec_by new) (new.bytes ++ left) []) (reader_state next new) (Err fault) refl wrong refl refl
     (taken_goes_on laws start s next (codec_by old) (codec_by now) (codec_by new) fed [] src [] (new.bytes ++ left) [] payload (Err fault) refl t began h refl wrong (step_goes s next payload fault step)))
 
-pub lend_short : FramingLaws → (start s next : ReplyState) (old now new : Incoming) (piece rest payload : List ℕ) (fault : ReplyFault) → Taking start (codec_by old) (old.bytes ++ piece) [] s (codec_by now) (now.bytes ++ rest) [] → start.fault ≡ None → IsAwaiting (awaited_view s.awaited) → LendStep s payload (Err fault) next → OnMemory {X = Unit {0}} (Err fault) (StandsShort (reader_state start old) ((reader_state start old).bytes ++ piece) (reader_state next new))
-lend_short laws start s next old now new piece rest payload fault t began some step =
+pub borrow_short : FramingLaws → (start s next : ReplyState) (old now new : Incoming) (piece rest payload : List ℕ) (fault : ReplyFault) → Taking start (codec_by old) (old.bytes ++ piece) [] s (codec_by now) (now.bytes ++ rest) [] → start.fault ≡ None → IsAwaiting (awaited_view s.awaited) → StateBorrowsNext s payload (Err fault) next → OnMemory {X = Unit {0}} (Err fault) (StandsShort (reader_state start old) ((reader_state start old).bytes ++ piece) (reader_state next new))
+borrow_short laws start s next old now new piece rest payload fault t began some step =
     piece_runs_short laws start (codec_by old) old.bytes [] piece (Err fault) (reader_state next new)
     (taken_short start s next (codec_by old) (codec_by now) (codec_by new) (old.bytes ++ piece) [] (now.bytes ++ rest) [] new.bytes [] (Err fault) t began some (step_falls_short s next payload fault step))
 
@@ -227,29 +227,21 @@ feeds_fails start next old new piece fault began wrong goes short = record {
   short = λ none memory. on_is {X = Unit {0}} (Err fault) memory short;
 }
 
--- One row is lent of a payload.
-same_row : (a : code.Awaited) (payload : Payload) (x y : Row) → LendsAwaited a payload x → LendsAwaited a payload y → x ≡ y
-same_row (awaiting.Rows these) payload x y one two = same_row_by these.lender one two
-  where
-    same_row_by : (lender : Option RowReader) → Lends lender payload x → Lends lender payload y → x ≡ y
-    same_row_by (Some it) one two = one.1 ∙ sym two.1
-    same_row_by None one two = absurd one
-same_row awaiting.First payload x y one two = absurd one
-same_row (awaiting.Columns left these) payload x y one two = absurd one
-same_row (awaiting.Parameters stmt left these) payload x y one two = absurd one
-same_row (awaiting.PreparedColumns stmt params left these) payload x y one two = absurd one
-same_row awaiting.Nothing payload x y one two = absurd one
+-- One row lies in a payload.
+same_row : (reader : Option RowReader) (payload : Payload) (x y : Row) → RowAt reader payload x → RowAt reader payload y → x ≡ y
+same_row (Some reader) payload x y one two = one.1 ∙ sym two.1
+same_row None payload x y one two = absurd one
 
-lends_kept : (start next : ReplyState) (old new : Incoming) (piece rest used : List ℕ) (found : Row) (these : RowsSoFar) → next.awaited ≡ awaiting.Rows these → start.fault ≡ None → next.fault ≡ None → piece ≡ used ++ rest → (reader_state next new).bytes ≡ [] → TakesAll (reader_state start old) ((reader_state start old).bytes ++ used) (reader_state (keeping next found) new) → ReaderGoesOn (reader_state start old) used (reader_state (keeping next found) new) → LendsRow (reader_state start old) piece found (reader_state next new) rest
-lends_kept start next old new piece rest used found these is began going cut whole takes goes =
-    let kept : ReaderState = record (reader_state next new) { standing = GoingOn (record (progressing_of next) { awaited = Rows these.columns (these.rows ++ found ∷ []) }) } in
+borrows_kept : (start next : ReplyState) (old new : Incoming) (piece rest used : List ℕ) (found : Row) (these : RowsSoFar) → next.awaited ≡ awaiting.Rows these → start.fault ≡ None → next.fault ≡ None → piece ≡ used ++ rest → (reader_state next new).bytes ≡ [] → TakesAll (reader_state start old) ((reader_state start old).bytes ++ used) (reader_state (keeping next found) new) → ReaderGoesOn (reader_state start old) used (reader_state (keeping next found) new) → BorrowsRow (reader_state start old) piece found (reader_state next new) rest
+borrows_kept start next old new piece rest used found these is began going cut whole takes goes =
+    let kept : ReaderState = record (reader_state next new) { so_far = GoingOn (record (open_reply next) { awaited = Rows these.columns (these.rows ++ found ∷ []) }) } in
     let same : reader_state (keeping next found) new ≡ kept =
-    λ i. record (reader_state next new) { standing = faulted (record (progressing_of next) { awaited = awaited_view (with_row (is i) found) }) (going i) } in
+    λ i. record (reader_state next new) { so_far = faulted (record (open_reply next) { awaited = awaited_view (with_row (is i) found) }) (going i) } in
     record {
       used = used;
       cut = cut;
-      s = progressing_of next;
-      going = ap (faulted (progressing_of next)) going;
+      s = open_reply next;
+      going = ap (faulted (open_reply next)) going;
       columns = these.columns;
       rows = these.rows;
       awaits = ap awaited_view is;
@@ -257,31 +249,31 @@ lends_kept start next old new piece rest used found these is began going cut who
       whole = whole;
     }
 
-lends_by : (start next : ReplyState) (old new : Incoming) (piece rest used : List ℕ) (payload : Payload) (found : Row) (a : code.Awaited) → next.awaited ≡ a → LendsAwaited a payload found → start.fault ≡ None → next.fault ≡ None → piece ≡ used ++ rest → (reader_state next new).bytes ≡ [] → TakesAll (reader_state start old) ((reader_state start old).bytes ++ used) (reader_state (keeping next found) new) → ReaderGoesOn (reader_state start old) used (reader_state (keeping next found) new) → LendsRow (reader_state start old) piece found (reader_state next new) rest
-lends_by start next old new piece rest used payload found (awaiting.Rows these) is lends began going cut whole takes goes = lends_kept start next old new piece rest used found these is began going cut whole takes goes
-lends_by start next old new piece rest used payload found awaiting.First is lends began going cut whole takes goes = absurd lends
-lends_by start next old new piece rest used payload found (awaiting.Columns left these) is lends began going cut whole takes goes = absurd lends
-lends_by start next old new piece rest used payload found (awaiting.Parameters stmt left these) is lends began going cut whole takes goes = absurd lends
-lends_by start next old new piece rest used payload found (awaiting.PreparedColumns stmt params left these) is lends began going cut whole takes goes = absurd lends
-lends_by start next old new piece rest used payload found awaiting.Nothing is lends began going cut whole takes goes = absurd lends
+borrows_by : (start next : ReplyState) (old new : Incoming) (piece rest used : List ℕ) (payload : Payload) (found : Row) (a : code.Awaited) → next.awaited ≡ a → RowAt (reader_of a) payload found → start.fault ≡ None → next.fault ≡ None → piece ≡ used ++ rest → (reader_state next new).bytes ≡ [] → TakesAll (reader_state start old) ((reader_state start old).bytes ++ used) (reader_state (keeping next found) new) → ReaderGoesOn (reader_state start old) used (reader_state (keeping next found) new) → BorrowsRow (reader_state start old) piece found (reader_state next new) rest
+borrows_by start next old new piece rest used payload found (awaiting.Rows these) is lies began going cut whole takes goes = borrows_kept start next old new piece rest used found these is began going cut whole takes goes
+borrows_by start next old new piece rest used payload found awaiting.First is lies began going cut whole takes goes = absurd lies
+borrows_by start next old new piece rest used payload found (awaiting.Columns left these) is lies began going cut whole takes goes = absurd lies
+borrows_by start next old new piece rest used payload found (awaiting.Parameters stmt left these) is lies began going cut whole takes goes = absurd lies
+borrows_by start next old new piece rest used payload found (awaiting.PreparedColumns stmt params left these) is lies began going cut whole takes goes = absurd lies
+borrows_by start next old new piece rest used payload found awaiting.Nothing is lies began going cut whole takes goes = absurd lies
 
--- The row that is lent is the next one of the piece.
-pub lends_row : (start next : ReplyState) (old new : Incoming) (piece rest : List ℕ) (place : Place) (found : Row) → LendsBehind (reader_state start old) piece place next new rest → LendsAwaited next.awaited (payload_at place new) found → start.fault ≡ None → next.fault ≡ None → LendsRow (reader_state start old) piece found (reader_state next new) rest
-lends_row start next old new piece rest place found behind lends began going =
-    let is : behind.row ≡ found = same_row next.awaited (payload_at place new) behind.row found behind.lends lends in
-    lends_by start next old new piece rest behind.used (payload_at place new) found next.awaited refl lends began going behind.cut behind.whole
+-- The row that is borrowed is the next one of the piece.
+pub borrows_row : (start next : ReplyState) (old new : Incoming) (piece rest : List ℕ) (place : Place) (found : Row) → ReaderBorrows (reader_state start old) piece place next new rest → RowAt (reader_of next.awaited) (payload_at place new) found → start.fault ≡ None → next.fault ≡ None → BorrowsRow (reader_state start old) piece found (reader_state next new) rest
+borrows_row start next old new piece rest place found behind lies began going =
+    let is : behind.row ≡ found = same_row (reader_of next.awaited) (payload_at place new) behind.row found behind.lies lies in
+    borrows_by start next old new piece rest behind.used (payload_at place new) found next.awaited refl lies began going behind.cut behind.whole
     (subst (λ k. TakesAll (reader_state start old) ((reader_state start old).bytes ++ behind.used) (reader_state (keeping next k) new)) is behind.takes)
     (subst (λ k. ReaderGoesOn (reader_state start old) behind.used (reader_state (keeping next k) new)) is behind.goes_on)
 
--- What a reader does over a piece: its next row is lent, all of it is read, or a fault is met.
-pub next_lent : (start next : ReplyState) (old new : Incoming) (piece rest : List ℕ) (place : Place) (found : RowRef) → LendsBehind (reader_state start old) piece place next new rest → LendsAwaited next.awaited (payload_at place new) (row_ref_view found) → start.fault ≡ None → next.fault ≡ None → rows_listed (standing_of next) ≡ rows_listed (standing_of start) → LendsNext (reader_state start old) piece (Ok (Some found)) (reader_state next new) rest
-next_lent start next old new piece rest place found behind lends began going none = record { advances = lends_row start next old new piece rest place (row_ref_view found) behind lends began going; keeps_none = none }
+-- What a reader does over a piece: its next row is borrowed, all of it is read, or a fault is met.
+pub next_borrowed : (start next : ReplyState) (old new : Incoming) (piece rest : List ℕ) (place : Place) (found : RowRef) → ReaderBorrows (reader_state start old) piece place next new rest → RowAt (reader_of next.awaited) (payload_at place new) (row_ref_view found) → start.fault ≡ None → next.fault ≡ None → rows_listed (reply_so_far next) ≡ rows_listed (reply_so_far start) → BorrowsNext (reader_state start old) piece (Ok (Some found)) (reader_state next new) rest
+next_borrowed start next old new piece rest place found behind lies began going none = record { advances = borrows_row start next old new piece rest place (row_ref_view found) behind lies began going; keeps_none = none }
 
-pub next_none : (start next : ReplyState) (old new : Incoming) (piece rest : List ℕ) → rest ≡ [] → start.fault ≡ None → next.fault ≡ None → TakesAll (reader_state start old) ((reader_state start old).bytes ++ piece) (reader_state next new) → ReaderGoesOn (reader_state start old) piece (reader_state next new) → HasFoundNoFault (reader_state next new) → rows_listed (standing_of next) ≡ rows_listed (standing_of start) → LendsNext (reader_state start old) piece (Ok None) (reader_state next new) rest
+pub next_none : (start next : ReplyState) (old new : Incoming) (piece rest : List ℕ) → rest ≡ [] → start.fault ≡ None → next.fault ≡ None → TakesAll (reader_state start old) ((reader_state start old).bytes ++ piece) (reader_state next new) → ReaderGoesOn (reader_state start old) piece (reader_state next new) → HasFoundNoFault (reader_state next new) → rows_listed (reply_so_far next) ≡ rows_listed (reply_so_far start) → BorrowsNext (reader_state start old) piece (Ok None) (reader_state next new) rest
 next_none start next old new piece rest used began going takes goes found none = record { advances = (feeds_all start next old new piece began going takes goes, found, used); keeps_none = none }
 
-pub next_fails : (start next : ReplyState) (old new : Incoming) (piece : List ℕ) (fault : ReplyFault) → start.fault ≡ None → next.fault ≡ Some fault → UnlessMemory {X = Unit {0}} (Err fault) (ReaderGoesOn (reader_state start old) piece (reader_state next new)) → OnMemory {X = Unit {0}} (Err fault) (StandsShort (reader_state start old) ((reader_state start old).bytes ++ piece) (reader_state next new)) → rows_listed (standing_of next) ≡ rows_listed (standing_of start) → LendsNext (reader_state start old) piece (Err fault) (reader_state next new) piece
+pub next_fails : (start next : ReplyState) (old new : Incoming) (piece : List ℕ) (fault : ReplyFault) → start.fault ≡ None → next.fault ≡ Some fault → UnlessMemory {X = Unit {0}} (Err fault) (ReaderGoesOn (reader_state start old) piece (reader_state next new)) → OnMemory {X = Unit {0}} (Err fault) (StandsShort (reader_state start old) ((reader_state start old).bytes ++ piece) (reader_state next new)) → rows_listed (reply_so_far next) ≡ rows_listed (reply_so_far start) → BorrowsNext (reader_state start old) piece (Err fault) (reader_state next new) piece
 next_fails start next old new piece fault began wrong goes short none = record { advances = (feeds_fails start next old new piece fault began wrong goes short, refl); keeps_none = none }
 
-pub next_stays : (s : ReplyState) (packets : Incoming) (piece : List ℕ) (fault : ReplyFault) → s.fault ≡ Some fault → LendsNext (reader_state s packets) piece (Err fault) (reader_state s packets) piece
+pub next_stays : (s : ReplyState) (packets : Incoming) (piece : List ℕ) (fault : ReplyFault) → s.fault ≡ Some fault → BorrowsNext (reader_state s packets) piece (Err fault) (reader_state s packets) piece
 next_stays s packets piece fault wrong = record { advances = (feeds_stays s packets piece fault wrong, refl); keeps_none = refl }

@@ -1,5 +1,5 @@
 -- Words of the reader's own body, which no public call's clause has: what the code holds of a
--- reply, as what stands of it. MySQL: Client/Server Protocol, "COM_QUERY Response" and "MySQL
+-- reply, as the reply so far. MySQL: Client/Server Protocol, "COM_QUERY Response" and "MySQL
 -- Packets".
 use Rattle.std.specs.Prelude.{◌≡◌, ℕ, ◌<◌, ◌+◌, List, [], ◌∷◌, ◌++◌, length, map, Option, Some, None, Result, Err, Vec}
 use Rattle.std.specs.Prelude.{vec_len, vec_capacity}
@@ -21,7 +21,7 @@ use Rattle.mysql_replies.specs.declared.awaited.Awaited.{Awaited}
 use Rattle.mysql_replies.specs.declared.awaited.Awaited.TheVariants as awaiting
 use Rattle.mysql_replies.specs.declared.state.ReplyState.{ReplyState}
 use Rattle.mysql_replies.specs.Grammar.{Payload}
-use Rattle.mysql_replies.specs.Reply.{Answer, PayloadsDecide, Progressing, Standing, GoingOn, Answered, FaultAt, End}
+use Rattle.mysql_replies.specs.Reply.{Answer, PayloadsDecide, OpenReply, ReplySoFar, GoingOn, Answered, FaultAt, End}
 use Rattle.mysql_replies.specs.Reply.{Whole, Unfinished}
 use Rattle.mysql_replies.specs.Reply as reply
 use Rattle.mysql_replies.specs.Bytes.{NumberedPayloadsDecide}
@@ -30,8 +30,8 @@ use Rattle.mysql_replies.specs.OpenRows.{RowsSoFar}
 use Rattle.mysql_replies.specs.Views.{outcome_views, awaited_view}
 use Rattle.mysql_replies.specs.Steps.{IsSettled, listed_of}
 
-abbrev pub progressing_of : ReplyState → Progressing
-progressing_of s = record {
+abbrev pub open_reply : ReplyState → OpenReply
+open_reply s = record {
   context = s.context;
   results = outcome_views s.results.items;
   progress = map progress_report_view s.progress.items;
@@ -40,7 +40,7 @@ progressing_of s = record {
 }
 
 -- The answer where this fault was met.
-abbrev pub faulted_at : Progressing → ReplyFault → Answer
+abbrev pub faulted_at : OpenReply → ReplyFault → Answer
 faulted_at s fault = record {
   results = s.results ++ listed_of s.awaited;
   progress =
@@ -48,26 +48,26 @@ faulted_at s fault = record {
   end = FaultAt s.count fault;
 }
 
-abbrev pub faulted : Progressing → Option ReplyFault → Standing
+abbrev pub faulted : OpenReply → Option ReplyFault → ReplySoFar
 faulted s None = GoingOn s
 faulted s (Some fault) = Answered (faulted_at s fault)
 
--- What stands: a reply that goes on, or the answer with a fault.
-abbrev pub standing_of : ReplyState → Standing
-standing_of s = faulted (progressing_of s) s.fault
+-- The reply so far: it goes on, or has its answer with a fault.
+abbrev pub reply_so_far : ReplyState → ReplySoFar
+reply_so_far s = faulted (open_reply s) s.fault
 
 -- Rows that haven't ended can be listed without growing the list.
 abbrev pub HasRoom : Awaited → Vec ReplyResult Global → Type 0
-HasRoom (awaiting.Rows these) results = vec_len results < vec_capacity results
+HasRoom (awaiting.Rows open_rows) results = vec_len results < vec_capacity results
 HasRoom awaited results = Unit {0}
 
 -- Where there is anything to hand out, a list with room can take its place.
 abbrev pub HasSpare : RowsSoFar → Vec ReplyResult Global → Vec ReplyResult Global → Type 0
-HasSpare these results spare = 0 < length results.items + length these.rows → vec_len spare < vec_capacity spare
+HasSpare open_rows results spare = 0 < length results.items + length open_rows.rows → vec_len spare < vec_capacity spare
 
--- The same where rows are awaited.
+-- Where rows are awaited, there is such a list.
 abbrev pub IsSpared : Awaited → Vec ReplyResult Global → Vec ReplyResult Global → Type 0
-IsSpared (awaiting.Rows these) results spare = HasSpare these results spare
+IsSpared (awaiting.Rows open_rows) results spare = HasSpare open_rows results spare
 IsSpared awaited results spare = Unit {0}
 
 -- What every state keeps.
@@ -91,24 +91,24 @@ OnMemory r P = Unit {0}
 -- followed by that.
 abbrev pub StateGoesOn : ReplyState → Payload → ReplyState → Type 0
 StateGoesOn before payload after = (z : List Payload) (rest : Rest) (answer : Answer) →
-    PayloadsDecide (standing_of after) z rest answer → PayloadsDecide (standing_of before) (payload ∷ z) rest answer
+    PayloadsDecide (reply_so_far after) z rest answer → PayloadsDecide (reply_so_far before) (payload ∷ z) rest answer
 
--- The same, as far as the payloads can be numbered.
+-- The state after a payload decides so as far as the payloads can be numbered.
 abbrev pub NumberedStateGoesOn : ReplyState → Payload → ReplyState → Type 0
 NumberedStateGoesOn before payload after = (z : List Payload) (rest : Rest) (answer : Answer) →
-    NumberedPayloadsDecide (standing_of after) z rest answer →
-    NumberedPayloadsDecide (standing_of before) (payload ∷ z) rest answer
+    NumberedPayloadsDecide (reply_so_far after) z rest answer →
+    NumberedPayloadsDecide (reply_so_far before) (payload ∷ z) rest answer
 
--- What stands where memory ran out over a payload: all that stood, and that fault.
+-- Where memory ran out over a payload, all that was listed is the answer, with that fault.
 abbrev pub IsShortOf : ReplyState → ReplyState → Type 0
-IsShortOf before after = standing_of after ≡ Answered (faulted_at (progressing_of before) Memory)
+IsShortOf before after = reply_so_far after ≡ Answered (faulted_at (open_reply before) Memory)
 
 -- The end where no more bytes come.
 abbrev pub end_at : reply.Awaited → End
 end_at reply.Nothing = Whole
 end_at awaited = Unfinished
 
-abbrev pub end_of_state : Progressing → Option ReplyFault → End
+abbrev pub end_of_state : OpenReply → Option ReplyFault → End
 end_of_state s None = end_at s.awaited
 end_of_state s (Some fault) = FaultAt s.count fault
 
@@ -117,14 +117,14 @@ abbrev pub answer_of : ReplyState → Answer
 answer_of s = record {
   results = outcome_views s.results.items ++ listed_of (awaited_view s.awaited);
   progress = map progress_report_view s.progress.items;
-  end = end_of_state (progressing_of s) s.fault;
+  end = end_of_state (open_reply s) s.fault;
 }
 
 -- What a reader with this codec, src and dst holds.
 abbrev pub reader_state_of : ReplyState → Codec → List ℕ → List ℕ → ReaderState
 reader_state_of s codec src dst =
     record {
-      standing = standing_of s;
+      so_far = reply_so_far s;
       limit = codec.limit;
       number =
           packet_number codec dst;
@@ -135,7 +135,7 @@ reader_state_of s codec src dst =
 abbrev pub reader_state : ReplyState → Incoming → ReaderState
 reader_state s packets = reader_state_of s (codec_by packets) packets.bytes []
 
--- After the last result nothing was begun.
+-- After the last result nothing of a packet was begun.
 abbrev pub NothingBegun : ReplyState → Codec → List ℕ → Type 0
 NothingBegun s codec dst = awaited_view s.awaited ≡ reply.Nothing → IsBetween codec × (codec.number < 256) × (dst ≡ [])
 

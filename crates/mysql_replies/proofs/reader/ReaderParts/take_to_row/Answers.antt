@@ -2,26 +2,26 @@ use Rattle.std.proofs.Common.{rules, arith, ◌≡◌, ◌<◌, ◌≤◌, ◌++
 use Rattle.std.proofs.lemmas.List.{nil_from_length}
 use Rattle.mysql_wire.specs.Incoming.{codec_by}
 use Rattle.mysql_replies.specs.declared.fault.ReplyFault.TheVariants as faults
-use Rattle.mysql_replies.specs.declared.lending.Place.TheVariants as places
+use Rattle.mysql_replies.specs.declared.borrowing.Place.TheVariants as places
 use Rattle.mysql_replies.specs.declared.state.ReplyState.{ReplyState}
 use Rattle.mysql_replies.specs.Holding.{ReaderGoesOn}
-use Rattle.mysql_replies.specs.LentSteps.{LendStep, LendsOne}
-use Rattle.mysql_replies.specs.Standings.{reader_state_of, reader_state, NumberedStateGoesOn, UnlessMemory, fault_named}
+use Rattle.mysql_replies.specs.RowSteps.{StateBorrowsNext, StateBorrows}
+use Rattle.mysql_replies.specs.States.{reader_state_of, reader_state, NumberedStateGoesOn, UnlessMemory, fault_named}
 use Rattle.mysql_replies.specs.Views.{awaited_view}
-use Rattle.mysql_replies.proofs.LentSteps.{lend_failed, lend_short, lent_behind, paused_behind}
+use Rattle.mysql_replies.proofs.RowSteps.{borrow_failed, borrow_short, borrowed_behind, paused_behind}
 use Rattle.mysql_replies.proofs.Receiving.{taking_starts, paused_empty, not_empty, elsewhere, piece_bytes, piece_goes_on, piece_runs_short, goes_on_over, taking_next, refused_goes_on, failed_short, over_taken, waits_taken}
-use Rattle.mysql_replies.proofs.lending.take_to_row.Goals as goal
+use Rattle.mysql_replies.proofs.reader.ReaderParts.take_to_row.Goals as goal
 
 pub packets-init : goal.packets-init
 packets-init c =
     let laws = c.framing_laws.ensures in
-    let start = c.args.state.now in
-    let old = c.args.packets.now in
+    let start = c.args.self.now.state in
+    let old = c.args.self.now.packets in
     let piece = c.args.rest.now.now in
     let fed = old.bytes ++ piece in
     record {
       taking = taking_starts start (codec_by old) fed [] c.requires.reading c.requires.going c.requires.paused.refused c.requires.paused.can_go_on
-          (piece_bytes laws (codec_by old) old.bytes fed [] piece refl c.requires.paused.bytes c.bytes_are_bytes.ensures) c.requires.paused.nothing_begun;
+          (piece_bytes laws (codec_by old) old.bytes fed [] piece refl c.requires.paused.bytes c.are_bytes.ensures.bytes) c.requires.paused.nothing_begun;
       over = paused_empty laws start (codec_by old) old.bytes [] c.requires.paused;
       keeps_none = refl;
       shorter = omega arith;
@@ -32,26 +32,26 @@ returns-then-is_empty-clause-paused c =
     let t = c.packets.invariant.taking in
     let over = c.is_over.ensures.over c.if-is_over.true in
     let used : c.packets.rest.now ≡ [] = nil_from_length c.packets.rest.now (search rules) in
-    let taken = over_taken c.framing_laws.ensures c.args.state.now c.packets.state c.args.packets.now c.packets.packets c.args.rest.now.now c.packets.rest.now t c.requires.going over (c.packets.invariant.over (ap awaited_view over)) used in
+    let taken = over_taken c.framing_laws.ensures c.args.self.now.state c.packets.self.state c.args.self.now.packets c.packets.self.packets c.args.rest.now.now c.packets.rest.now t c.requires.going over (c.packets.invariant.over (ap awaited_view over)) used in
     (t.going, taken.0)
 
-pub returns-then-is_empty-clause-lends : goal.returns-then-is_empty-clause-lends
-returns-then-is_empty-clause-lends c =
+pub returns-then-is_empty-clause-found : goal.returns-then-is_empty-clause-found
+returns-then-is_empty-clause-found c =
     let t = c.packets.invariant.taking in
     let over = c.is_over.ensures.over c.if-is_over.true in
     let used : c.packets.rest.now ≡ [] = nil_from_length c.packets.rest.now (search rules) in
-    let taken = over_taken c.framing_laws.ensures c.args.state.now c.packets.state c.args.packets.now c.packets.packets c.args.rest.now.now c.packets.rest.now t c.requires.going over (c.packets.invariant.over (ap awaited_view over)) used in
+    let taken = over_taken c.framing_laws.ensures c.args.self.now.state c.packets.self.state c.args.self.now.packets c.packets.self.packets c.args.rest.now.now c.packets.rest.now t c.requires.going over (c.packets.invariant.over (ap awaited_view over)) used in
     (used, taken.1, taken.2)
 
 pub returns-then-is_over-clause-goes_on : goal.returns-then-is_over-clause-goes_on
 returns-then-is_over-clause-goes_on c =
     let laws = c.framing_laws.ensures in
-    let start = c.args.state.now in
-    let old = c.args.packets.now in
+    let start = c.args.self.now.state in
+    let old = c.args.self.now.packets in
     let piece = c.args.rest.now.now in
     let fed = old.bytes ++ piece in
-    let s = c.packets.state in
-    let now = c.packets.packets in
+    let s = c.packets.self.state in
+    let now = c.packets.self.packets in
     let src = now.bytes ++ c.packets.rest.now in
     let t = c.packets.invariant.taking in
     let over = c.is_over.ensures.over c.if-is_over.true in
@@ -66,31 +66,31 @@ returns-then-is_over-clause-goes_on c =
 
 pub returns-in-Ok-true-clause-paused : goal.returns-in-Ok-true-clause-paused
 returns-in-Ok-true-clause-paused c =
-    let now = c.packets.packets in
+    let now = c.packets.self.packets in
     let new = c.read_in_place.new.self in
-    (c.in-Ok-true.ensures.ok.0, paused_behind c.framing_laws.ensures c.lend.new.self now new (now.bytes ++ c.packets.rest.now) (new.bytes ++ c.read_in_place.new.piece.now) c.in-Some.payload.now c.in-Some.ensures.found c.in-Some.ensures.between.0)
+    (c.in-Ok-true.ensures.ok.0, paused_behind c.framing_laws.ensures c.borrow.new.self now new (now.bytes ++ c.packets.rest.now) (new.bytes ++ c.read_in_place.new.piece.now) c.in-Some.payload.now c.in-Some.ensures.found c.in-Some.ensures.between.0)
 
-pub returns-in-Ok-true-clause-lends : goal.returns-in-Ok-true-clause-lends
-returns-in-Ok-true-clause-lends c =
-    let s = c.packets.state in
-    let next = c.lend.new.self in
+pub returns-in-Ok-true-clause-found : goal.returns-in-Ok-true-clause-found
+returns-in-Ok-true-clause-found c =
+    let s = c.packets.self.state in
+    let next = c.borrow.new.self in
     let payload = c.in-Some.payload.now in
     let ok = c.in-Ok-true.ensures.ok in
-    let step : LendsOne s payload next = rw c.in-Ok-true.field-0-test at c.in-Ok-true.ensures.step in
+    let step : StateBorrows s payload next = rw c.in-Ok-true.field-0-test at c.in-Ok-true.ensures.step in
     let fits : length c.read_in_place.new.piece.now ≤ length c.args.rest.now.now = omega (arith, c.in-Some.ensures.between.2, c.packets.invariant.shorter) in
-    lent_behind c.framing_laws.ensures c.args.state.now s next c.args.packets.now c.packets.packets c.read_in_place.new.self c.args.rest.now.now c.packets.rest.now c.read_in_place.new.piece.now payload (places.InPiece c.in-Some.payload)
+    borrowed_behind c.framing_laws.ensures c.args.self.now.state s next c.args.self.now.packets c.packets.self.packets c.read_in_place.new.self c.args.rest.now.now c.packets.rest.now c.read_in_place.new.piece.now payload (places.InPiece c.in-Some.payload)
     c.packets.invariant.taking c.requires.going c.in-Some.ensures.found c.in-Some.ensures.between.0 fits ok.0 ok.1 step refl
 
 pub packets-preserved-in-Ok-false : goal.packets-preserved-in-Ok-false
 packets-preserved-in-Ok-false c =
-    let start = c.args.state.now in
-    let old = c.args.packets.now in
+    let start = c.args.self.now.state in
+    let old = c.args.self.now.packets in
     let fed = old.bytes ++ c.args.rest.now.now in
-    let s = c.packets.state in
-    let now = c.packets.packets in
+    let s = c.packets.self.state in
+    let now = c.packets.self.packets in
     let src = now.bytes ++ c.packets.rest.now in
     let new = c.read_in_place.new.self in
-    let next = c.lend.new.self in
+    let next = c.borrow.new.self in
     let payload = c.in-Some.payload.now in
     let ok = c.in-Ok-false.ensures.ok in
     let step : NumberedStateGoesOn s payload next = rw c.in-Ok-false.field-0-test at c.in-Ok-false.ensures.step in
@@ -104,114 +104,114 @@ packets-preserved-in-Ok-false c =
 
 pub returns-in-Err-clause-goes_on : goal.returns-in-Err-clause-goes_on
 returns-in-Err-clause-goes_on c =
-    lend_failed c.framing_laws.ensures c.args.state.now c.packets.state c.lend.new.self c.args.packets.now c.packets.packets c.read_in_place.new.self c.args.rest.now.now c.packets.rest.now c.read_in_place.new.piece.now c.in-Some.payload.now c.in-Err.fault
+    borrow_failed c.framing_laws.ensures c.args.self.now.state c.packets.self.state c.borrow.new.self c.args.self.now.packets c.packets.self.packets c.read_in_place.new.self c.args.rest.now.now c.packets.rest.now c.read_in_place.new.piece.now c.in-Some.payload.now c.in-Err.fault
     c.packets.invariant.taking c.requires.going c.in-Some.ensures.found c.in-Err.ensures.fault c.in-Err.ensures.step
 
 pub returns-in-Err-clause-short : goal.returns-in-Err-clause-short
 returns-in-Err-clause-short c =
-    lend_short c.framing_laws.ensures c.args.state.now c.packets.state c.lend.new.self c.args.packets.now c.packets.packets c.read_in_place.new.self c.args.rest.now.now c.packets.rest.now c.in-Some.payload.now c.in-Err.fault
+    borrow_short c.framing_laws.ensures c.args.self.now.state c.packets.self.state c.borrow.new.self c.args.self.now.packets c.packets.self.packets c.read_in_place.new.self c.args.rest.now.now c.packets.rest.now c.in-Some.payload.now c.in-Err.fault
     c.packets.invariant.taking c.requires.going (c.is_over.ensures.awaiting c.if-is_over.false) c.in-Err.ensures.step
 
-pub returns-in-Ok-true-lend-clause-paused : goal.returns-in-Ok-true-lend-clause-paused
-returns-in-Ok-true-lend-clause-paused c =
-    let now = c.packets.packets in
+pub returns-in-Ok-true-borrow-clause-paused : goal.returns-in-Ok-true-borrow-clause-paused
+returns-in-Ok-true-borrow-clause-paused c =
+    let now = c.packets.self.packets in
     let new = c.advance.new.self in
-    let left : (c.read_in_place.new.self ≡ c.packets.packets) × (c.read_in_place.new.piece ≡ c.packets.rest) = search rules in
+    let left : (c.read_in_place.new.self ≡ c.packets.self.packets) × (c.read_in_place.new.piece ≡ c.packets.rest) = search rules in
     let h = rw (left.0, left.1) at (rw c.in-Ok-true-advance.field-0-test at c.in-Ok-true-advance.ensures.ok) in
     let none : new.bytes ≡ [] = search rules in
-    (c.in-Ok-true-lend.ensures.ok.0, paused_behind c.framing_laws.ensures c.lend-in-Ok-true-advance.new.self now new (now.bytes ++ c.packets.rest.now) (new.bytes ++ c.advance.new.piece.now) new.payload h none)
+    (c.in-Ok-true-borrow.ensures.ok.0, paused_behind c.framing_laws.ensures c.borrow-in-Ok-true-advance.new.self now new (now.bytes ++ c.packets.rest.now) (new.bytes ++ c.advance.new.piece.now) new.payload h none)
 
-pub returns-in-Ok-true-lend-clause-lends : goal.returns-in-Ok-true-lend-clause-lends
-returns-in-Ok-true-lend-clause-lends c =
-    let s = c.packets.state in
+pub returns-in-Ok-true-borrow-clause-found : goal.returns-in-Ok-true-borrow-clause-found
+returns-in-Ok-true-borrow-clause-found c =
+    let s = c.packets.self.state in
     let new = c.advance.new.self in
-    let next = c.lend-in-Ok-true-advance.new.self in
-    let left : (c.read_in_place.new.self ≡ c.packets.packets) × (c.read_in_place.new.piece ≡ c.packets.rest) = search rules in
+    let next = c.borrow-in-Ok-true-advance.new.self in
+    let left : (c.read_in_place.new.self ≡ c.packets.self.packets) × (c.read_in_place.new.piece ≡ c.packets.rest) = search rules in
     let h = rw (left.0, left.1) at (rw c.in-Ok-true-advance.field-0-test at c.in-Ok-true-advance.ensures.ok) in
     let none : new.bytes ≡ [] = search rules in
     let less : length c.advance.new.piece.now < length c.read_in_place.new.piece.now = search rules in
     let fewer : length c.advance.new.piece.now < length c.packets.rest.now = rw left.1 at less in
     let fits : length c.advance.new.piece.now ≤ length c.args.rest.now.now = omega (arith, fewer, c.packets.invariant.shorter) in
-    let ok = c.in-Ok-true-lend.ensures.ok in
-    let step : LendsOne s c.payload.result.now next = rw c.in-Ok-true-lend.field-0-test at c.in-Ok-true-lend.ensures.step in
-    lent_behind c.framing_laws.ensures c.args.state.now s next c.args.packets.now c.packets.packets new c.args.rest.now.now c.packets.rest.now c.advance.new.piece.now new.payload places.InBuffer
-    c.packets.invariant.taking c.requires.going h none fits ok.0 ok.1 (subst (λ p. LendsOne s p next) c.payload.ensures step) refl
+    let ok = c.in-Ok-true-borrow.ensures.ok in
+    let step : StateBorrows s c.payload.result.now next = rw c.in-Ok-true-borrow.field-0-test at c.in-Ok-true-borrow.ensures.step in
+    borrowed_behind c.framing_laws.ensures c.args.self.now.state s next c.args.self.now.packets c.packets.self.packets new c.args.rest.now.now c.packets.rest.now c.advance.new.piece.now new.payload places.InBuffer
+    c.packets.invariant.taking c.requires.going h none fits ok.0 ok.1 (subst (λ p. StateBorrows s p next) c.payload.ensures step) refl
 
 pub packets-preserved : goal.packets-preserved
 packets-preserved c =
-    let start = c.args.state.now in
-    let old = c.args.packets.now in
+    let start = c.args.self.now.state in
+    let old = c.args.self.now.packets in
     let fed = old.bytes ++ c.args.rest.now.now in
-    let s = c.packets.state in
-    let now = c.packets.packets in
+    let s = c.packets.self.state in
+    let now = c.packets.self.packets in
     let src = now.bytes ++ c.packets.rest.now in
     let new = c.advance.new.self in
-    let next = c.lend-in-Ok-true-advance.new.self in
-    let left : (c.read_in_place.new.self ≡ c.packets.packets) × (c.read_in_place.new.piece ≡ c.packets.rest) = search rules in
+    let next = c.borrow-in-Ok-true-advance.new.self in
+    let left : (c.read_in_place.new.self ≡ c.packets.self.packets) × (c.read_in_place.new.piece ≡ c.packets.rest) = search rules in
     let h = rw (left.0, left.1) at (rw c.in-Ok-true-advance.field-0-test at c.in-Ok-true-advance.ensures.ok) in
     let none : new.bytes ≡ [] = search rules in
     let less : length c.advance.new.piece.now < length c.read_in_place.new.piece.now = search rules in
     let fewer : length c.advance.new.piece.now < length c.packets.rest.now = rw left.1 at less in
-    let ok = c.in-Ok-false-lend.ensures.ok in
-    let step : NumberedStateGoesOn s c.payload.result.now next = rw c.in-Ok-false-lend.field-0-test at c.in-Ok-false-lend.ensures.step in
+    let ok = c.in-Ok-false-borrow.ensures.ok in
+    let step : NumberedStateGoesOn s c.payload.result.now next = rw c.in-Ok-false-borrow.field-0-test at c.in-Ok-false-borrow.ensures.step in
     record {
-      taking = taking_next c.framing_laws.ensures start s next (codec_by old) (codec_by now) (codec_by new) fed [] src [] (new.bytes ++ c.advance.new.piece.now) [] new.payload c.packets.invariant.taking h refl c.in-Ok-false-lend.ensures.reading ok.0 ok.1
+      taking = taking_next c.framing_laws.ensures start s next (codec_by old) (codec_by now) (codec_by new) fed [] src [] (new.bytes ++ c.advance.new.piece.now) [] new.payload c.packets.invariant.taking h refl c.in-Ok-false-borrow.ensures.reading ok.0 ok.1
           (subst (λ p. NumberedStateGoesOn s p next) c.payload.ensures step);
       over = λ _. none;
-      keeps_none = c.in-Ok-false-lend.ensures.keeps_none ∙ c.packets.invariant.keeps_none;
+      keeps_none = c.in-Ok-false-borrow.ensures.keeps_none ∙ c.packets.invariant.keeps_none;
       shorter = omega (arith, fewer, c.packets.invariant.shorter);
     }
 
-pub returns-in-Err-lend-clause-goes_on : goal.returns-in-Err-lend-clause-goes_on
-returns-in-Err-lend-clause-goes_on c =
-    let s = c.packets.state in
+pub returns-in-Err-borrow-clause-goes_on : goal.returns-in-Err-borrow-clause-goes_on
+returns-in-Err-borrow-clause-goes_on c =
+    let s = c.packets.self.state in
     let new = c.advance.new.self in
-    let next = c.lend-in-Ok-true-advance.new.self in
-    let left : (c.read_in_place.new.self ≡ c.packets.packets) × (c.read_in_place.new.piece ≡ c.packets.rest) = search rules in
+    let next = c.borrow-in-Ok-true-advance.new.self in
+    let left : (c.read_in_place.new.self ≡ c.packets.self.packets) × (c.read_in_place.new.piece ≡ c.packets.rest) = search rules in
     let h = rw (left.0, left.1) at (rw c.in-Ok-true-advance.field-0-test at c.in-Ok-true-advance.ensures.ok) in
-    lend_failed c.framing_laws.ensures c.args.state.now s next c.args.packets.now c.packets.packets new c.args.rest.now.now c.packets.rest.now c.advance.new.piece.now new.payload c.in-Err-lend.fault
-    c.packets.invariant.taking c.requires.going h c.in-Err-lend.ensures.fault (subst (λ p. LendStep s p (Err c.in-Err-lend.fault) next) c.payload.ensures c.in-Err-lend.ensures.step)
+    borrow_failed c.framing_laws.ensures c.args.self.now.state s next c.args.self.now.packets c.packets.self.packets new c.args.rest.now.now c.packets.rest.now c.advance.new.piece.now new.payload c.in-Err-borrow.fault
+    c.packets.invariant.taking c.requires.going h c.in-Err-borrow.ensures.fault (subst (λ p. StateBorrowsNext s p (Err c.in-Err-borrow.fault) next) c.payload.ensures c.in-Err-borrow.ensures.step)
 
-pub returns-in-Err-lend-clause-short : goal.returns-in-Err-lend-clause-short
-returns-in-Err-lend-clause-short c =
-    lend_short c.framing_laws.ensures c.args.state.now c.packets.state c.lend-in-Ok-true-advance.new.self c.args.packets.now c.packets.packets c.advance.new.self c.args.rest.now.now c.packets.rest.now c.payload.result.now c.in-Err-lend.fault
-    c.packets.invariant.taking c.requires.going (c.is_over.ensures.awaiting c.if-is_over.false) c.in-Err-lend.ensures.step
+pub returns-in-Err-borrow-clause-short : goal.returns-in-Err-borrow-clause-short
+returns-in-Err-borrow-clause-short c =
+    borrow_short c.framing_laws.ensures c.args.self.now.state c.packets.self.state c.borrow-in-Ok-true-advance.new.self c.args.self.now.packets c.packets.self.packets c.advance.new.self c.args.rest.now.now c.packets.rest.now c.payload.result.now c.in-Err-borrow.fault
+    c.packets.invariant.taking c.requires.going (c.is_over.ensures.awaiting c.if-is_over.false) c.in-Err-borrow.ensures.step
 
-pub returns-in-Ok-false-advance-clause-lends : goal.returns-in-Ok-false-advance-clause-lends
-returns-in-Ok-false-advance-clause-lends c =
+pub returns-in-Ok-false-advance-clause-found : goal.returns-in-Ok-false-advance-clause-found
+returns-in-Ok-false-advance-clause-found c =
     let t = c.packets.invariant.taking in
     let new = c.advance.new.self in
-    let left : (c.read_in_place.new.self ≡ c.packets.packets) × (c.read_in_place.new.piece ≡ c.packets.rest) = search rules in
+    let left : (c.read_in_place.new.self ≡ c.packets.self.packets) × (c.read_in_place.new.piece ≡ c.packets.rest) = search rules in
     let w = rw (left.0, left.1) at (rw c.in-Ok-false-advance.field-0-test at c.in-Ok-false-advance.ensures.ok) in
     let used : c.advance.new.piece.now ≡ [] = search rules in
     let none : new.payload ≡ [] = search rules in
-    let taken = waits_taken c.framing_laws.ensures c.args.state.now c.packets.state c.args.packets.now c.packets.packets new c.args.rest.now.now c.packets.rest.now c.advance.new.piece.now t c.requires.going (c.is_over.ensures.awaiting c.if-is_over.false) w used none in
+    let taken = waits_taken c.framing_laws.ensures c.args.self.now.state c.packets.self.state c.args.self.now.packets c.packets.self.packets new c.args.rest.now.now c.packets.rest.now c.advance.new.piece.now t c.requires.going (c.is_over.ensures.awaiting c.if-is_over.false) w used none in
     (used, taken.1, taken.2)
 
 pub returns-in-Ok-false-advance-clause-paused : goal.returns-in-Ok-false-advance-clause-paused
 returns-in-Ok-false-advance-clause-paused c =
     let t = c.packets.invariant.taking in
     let new = c.advance.new.self in
-    let left : (c.read_in_place.new.self ≡ c.packets.packets) × (c.read_in_place.new.piece ≡ c.packets.rest) = search rules in
+    let left : (c.read_in_place.new.self ≡ c.packets.self.packets) × (c.read_in_place.new.piece ≡ c.packets.rest) = search rules in
     let w = rw (left.0, left.1) at (rw c.in-Ok-false-advance.field-0-test at c.in-Ok-false-advance.ensures.ok) in
     let used : c.advance.new.piece.now ≡ [] = search rules in
     let none : new.payload ≡ [] = search rules in
-    let taken = waits_taken c.framing_laws.ensures c.args.state.now c.packets.state c.args.packets.now c.packets.packets new c.args.rest.now.now c.packets.rest.now c.advance.new.piece.now t c.requires.going (c.is_over.ensures.awaiting c.if-is_over.false) w used none in
+    let taken = waits_taken c.framing_laws.ensures c.args.self.now.state c.packets.self.state c.args.self.now.packets c.packets.self.packets new c.args.rest.now.now c.packets.rest.now c.advance.new.piece.now t c.requires.going (c.is_over.ensures.awaiting c.if-is_over.false) w used none in
     (t.going, taken.0)
 
 pub returns-in-Err-advance-clause-goes_on : goal.returns-in-Err-advance-clause-goes_on
 returns-in-Err-advance-clause-goes_on c =
     let laws = c.framing_laws.ensures in
-    let start = c.args.state.now in
-    let old = c.args.packets.now in
+    let start = c.args.self.now.state in
+    let old = c.args.self.now.packets in
     let piece = c.args.rest.now.now in
     let fed = old.bytes ++ piece in
-    let s = c.packets.state in
-    let now = c.packets.packets in
+    let s = c.packets.self.state in
+    let now = c.packets.self.packets in
     let src = now.bytes ++ c.packets.rest.now in
     let t = c.packets.invariant.taking in
     let new = c.advance.new.self in
-    let left : (c.read_in_place.new.self ≡ c.packets.packets) × (c.read_in_place.new.piece ≡ c.packets.rest) = search rules in
+    let left : (c.read_in_place.new.self ≡ c.packets.self.packets) × (c.read_in_place.new.piece ≡ c.packets.rest) = search rules in
     let w = rw (left.0, left.1) at c.in-Err-advance.ensures.refused in
     let named = c.fail-in-Err-advance.ensures.same ∙ c.fault_from.ensures ∙ ap fault_named w.answered in
     let is = c.fail-in-Err-advance.ensures.state ∙ ap (λ f. record s { fault = Some f }) (sym c.fail-in-Err-advance.ensures.same) in
@@ -222,12 +222,12 @@ returns-in-Err-advance-clause-goes_on c =
 pub returns-in-Err-advance-clause-short : goal.returns-in-Err-advance-clause-short
 returns-in-Err-advance-clause-short c =
     let laws = c.framing_laws.ensures in
-    let start = c.args.state.now in
-    let old = c.args.packets.now in
+    let start = c.args.self.now.state in
+    let old = c.args.self.now.packets in
     let piece = c.args.rest.now.now in
     let fed = old.bytes ++ piece in
-    let s = c.packets.state in
-    let now = c.packets.packets in
+    let s = c.packets.self.state in
+    let now = c.packets.self.packets in
     let src = now.bytes ++ c.packets.rest.now in
     let t = c.packets.invariant.taking in
     let new = c.advance.new.self in
