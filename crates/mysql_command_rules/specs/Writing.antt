@@ -1,17 +1,18 @@
 -- Sets that are written to a writer: what it takes where all of them are written, and where not.
 -- MySQL: Client/Server Protocol, "COM_QUERY", "COM_STMT_PREPARE", "COM_STMT_SEND_LONG_DATA", "COM_STMT_EXECUTE".
-use Rattle.std.specs.Prelude.{◌≡◌, ◌⊎◌, ◌+◌, ◌<◌, ◌≤◌, ℕ, List, [], length, take, Option}
+use Rattle.std.specs.Prelude.{◌≡◌, ◌⊎◌, ◌+◌, ◌<◌, ◌≤◌, ℕ, List, [], ◌++◌, length, take, Option}
 use Rattle.std.specs.Io.KnownBytes.{Appends, Keeps}
 use Rattle.mysql_wire.specs.Bytes.{AreBytes}
 use Rattle.mysql_values.specs.declared.params.Params.{Params}
 use Rattle.mysql_command_rules.specs.declared.refusal.Refusal.{Refusal}
 use Rattle.mysql_command_rules.specs.declared.road.Road.{Road}
+use Rattle.mysql_command_rules.specs.OneSet.{first_sets}
 use Rattle.mysql_command_rules.specs.Reading.{SentReadable}
 use Rattle.mysql_command_rules.specs.Sending.{RefusesGiven}
 use Rattle.mysql_command_rules.specs.Sets.{Given, all_given}
-use Rattle.mysql_set_writer.specs.Lots.{TakesFront}
-use Rattle.mysql_set_writer.specs.declared.error.SendToError.{SendToError}
-use Rattle.mysql_set_writer.specs.declared.error.SendToError.TheVariants.{Refused, Io}
+use Rattle.mysql_command_rules.specs.Buffering.{TakesFront}
+use Rattle.mysql_command_rules.specs.declared.send_to_error.SendToError.{SendToError}
+use Rattle.mysql_command_rules.specs.declared.send_to_error.SendToError.TheVariants.{Refused, Io}
 
 -- sets that give this for the query's names are written: the writer takes a stream that carries them
 pub record Writes (road : Road) (query : List ℕ) (sets : List (List ℕ) → List Given) (id limit : ℕ)
@@ -59,3 +60,11 @@ Stops road query sets id limit old new (Refused refusal count) =
     × (StopsAtQuery road query id limit old new refusal count ⊎
     StopsAtSet road query sets id limit old new refusal count)
 Stops road query sets id limit old new (Io error) = FailsAmong road query sets id limit old new
+
+-- the first sets, so many, are sent: a front of what carries them is written, and the rest is buffered
+pub record WrittenSoFar (road : Road) (query : List ℕ) (sets : List Params) (id limit : ℕ)
+    (old now : Option (List ℕ)) (buffered : List ℕ) (count : ℕ) : Type 0 where
+  pub written : List ℕ
+  pub bytes : AreBytes written
+  pub taken : Appends old now written
+  pub carries : SentReadable road query (first_sets count (all_given sets)) id limit [] (written ++ buffered)

@@ -1,7 +1,9 @@
-ghost use Rattle.std.specs.Prelude.{◌≡◌};
-ghost use Rattle.mysql_set_writer.specs.declared.error.SendToError.TheVariants as errors;
+//! Why sets are not written.
 
-use mysql_command_rules::Refusal;
+ghost use Rattle.std.specs.Prelude.{◌≡◌};
+ghost use Rattle.mysql_command_rules.specs.declared.send_to_error.SendToError.TheVariants as errors;
+
+use crate::refusal::Refusal;
 use std::io;
 use thiserror::Error;
 

@@ -1,16 +1,16 @@
-//! Lots: packets that are gathered, and handed on to a writer together.
+//! Packets that are buffered, and written to a writer together.
 
 ghost use Rattle.std.specs.Prelude.{◌≡◌, ◌++◌, [], List, ℕ, IfErr, OnErr, OnOk, Ok, take, length, ◌≤◌};
 ghost use Rattle.std.specs.Io.KnownBytes.{Appends};
 ghost use Rattle.mysql_wire.specs.Bytes.{AreBytes};
-ghost use Rattle.mysql_set_writer.specs.Lots.{HandsOn, StopsAt, TakesFront};
+ghost use Rattle.mysql_command_rules.specs.Buffering.{Flushes, StopsAt, TakesFront};
 
-use crate::SendToError;
-use mysql_command_rules::Refusal;
+use crate::refusal::Refusal;
+use crate::send_to_error::SendToError;
 use std::io::{self, ErrorKind, Write};
 
-/// So many bytes are handed on together, and what was gathered beyond them.
-const LOT_LEN: usize = 8192;
+/// So many bytes are written together, and what was buffered beyond them.
+const BUFFER_LEN: usize = 8192;
 
 /// Writes all bytes. A writer that was interrupted is asked again; one that failed has taken a
 /// front of them, and not all.
@@ -42,43 +42,47 @@ fn write_bytes<W: Write>(bytes: &[u8], to: &mut W) -> io::Result<()>
     }
 }
 
-/// Writes what was gathered, and empties it.
+/// Writes what was buffered, and empties the buffer.
 ///
 /// # Errors
 /// Those of the writer, which has then taken a front of it, and not all.
-pub fn hand_on<W: Write>(lot: &mut Vec<u8>, to: &mut W) -> io::Result<()>
-    ensures ok { OnOk result (Appends (W.contents to.old) (W.contents to.new) lot.old.items) }
-    ensures err { OnErr result (TakesFront (W.contents to.old) (W.contents to.new) lot.old.items) }
-    ensures bytes { AreBytes lot.old.items }
-    ensures emptied { lot.new.items ≡ [] }
+pub fn flush<W: Write>(buffer: &mut Vec<u8>, to: &mut W) -> io::Result<()>
+    ensures ok { OnOk result (Appends (W.contents to.old) (W.contents to.new) buffer.old.items) }
+    ensures err { OnErr result (TakesFront (W.contents to.old) (W.contents to.new) buffer.old.items) }
+    ensures bytes { AreBytes buffer.old.items }
+    ensures emptied { buffer.new.items ≡ [] }
 {
-    let written = write_bytes(lot, to);
-    lot.clear();
+    let written = write_bytes(buffer, to);
+    buffer.clear();
     written
 }
 
-/// Hands on what was gathered where it is a lot; where a set was refused, what stood before it, from the start on.
-pub(crate) fn hand_on_set<W: Write>(
+/// Flushes a full buffer behind a set that was appended. Where the set was refused, what it began
+/// behind, from `start` on, is written, and the refusal handed on with the set's number.
+///
+/// # Errors
+/// `Refused` with the set's refusal, `Io` where the writer failed.
+pub fn flush_set<W: Write>(
     put: Result<(), Refusal>,
     set: usize,
     start: usize,
-    lot: &mut Vec<u8>,
+    buffer: &mut Vec<u8>,
     to: &mut W,
 ) -> Result<(), SendToError>
-    ensures ok { OnOk result (HandsOn (W.contents to.old) (W.contents to.new) lot.old.items lot.new.items) }
+    ensures ok { OnOk result (Flushes (W.contents to.old) (W.contents to.new) buffer.old.items buffer.new.items) }
     ensures put { OnOk result (put ≡ Ok tt) }
-    ensures err { IfErr result (StopsAt (W.contents to.old) (W.contents to.new) put set start lot.old.items) }
+    ensures err { IfErr result (StopsAt (W.contents to.old) (W.contents to.new) put set start buffer.old.items) }
 {
     match put {
         Ok(()) => {
-            if lot.len() >= LOT_LEN {
-                hand_on(lot, to)?;
+            if buffer.len() >= BUFFER_LEN {
+                flush(buffer, to)?;
             }
             Ok(())
         }
         Err(refusal) => {
-            lot.truncate(start);
-            hand_on(lot, to)?;
+            buffer.truncate(start);
+            flush(buffer, to)?;
             Err(SendToError::Refused(refusal, set))
         }
     }

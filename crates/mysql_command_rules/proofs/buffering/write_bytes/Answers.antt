@@ -1,8 +1,8 @@
 use Rattle.std.proofs.Common.{◌≡◌, ℕ, ◌-◌, List, ◌++◌, length, take, drop, sym, ap, ◌∙◌, append_assoc, take-append-drop}
 use Rattle.std.proofs.lemmas.List.{take_rest}
 use Rattle.std.proofs.KnownBytes.{Appends-kept, Appends-trans}
-use Rattle.mysql_set_writer.proofs.lots.write_bytes.Goals.{in-Ok, in-Err+else-ne}
-use Rattle.mysql_set_writer.proofs.lots.write_bytes.Goals as goal
+use Rattle.mysql_command_rules.proofs.buffering.write_bytes.Goals.{in-Ok, in-Err+else-ne}
+use Rattle.mysql_command_rules.proofs.buffering.write_bytes.Goals as goal
 
 -- what was written moves to the front
 moves_front : (all done rest : List ℕ) (n : ℕ) → all ≡ done ++ rest → all ≡ (done ++ take n rest) ++ take (length rest - n) (drop n rest)

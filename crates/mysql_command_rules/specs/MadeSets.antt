@@ -1,6 +1,6 @@
 -- Parameter sets that are made one at a time.
 -- MySQL: Client/Server Protocol, "COM_QUERY", "COM_STMT_EXECUTE".
-use Rattle.std.specs.Prelude.{◌≡◌, ℕ, Bool, true, false, List, slice_get, Some, Result, Err, Ok}
+use Rattle.std.specs.Prelude.{◌≡◌, ℕ, Bool, true, false, List, slice_get, take, Some, Result, Err, Ok}
 use Rattle.mysql_values.specs.declared.params.Params.{Params}
 use Rattle.mysql_values.specs.declared.params.ParamsError.TheVariants as params_error
 use Rattle.mysql_values.specs.declared.params.SetError.{SetError}
@@ -26,3 +26,8 @@ IsSetAt given number made = (names : List (List ℕ)) → slice_get (given names
 pub record AllMade (given : List (List ℕ) → List Given) : Type 0 where
   pub sets : List Params
   pub give : (names : List (List ℕ)) → all_given sets names ≡ given names
+
+-- parameter sets that give every query what is given by the first, so many
+pub record MadeUpTo (given : List (List ℕ) → List Given) (count : ℕ) : Type 0 where
+  pub sets : List Params
+  pub give : (names : List (List ℕ)) → all_given sets names ≡ take count (given names)
