@@ -43,7 +43,10 @@ impl<'a> AuthMoreData<'a> {
         self.data.as_slice()
     }
 
-    /// The same packet, which borrows nothing. Refused for want of memory.
+    /// The packet in bytes of its own: it borrows nothing.
+    ///
+    /// # Errors
+    /// - `AllocError` for want of memory.
     pub fn into_owned(self, alloc: Global) -> Result<AuthMoreData<'static>, AllocError>
         ensures { IfOk result (λ owned. more_data_view owned ≡ more_data_view self.entry) }
     {
@@ -52,7 +55,10 @@ impl<'a> AuthMoreData<'a> {
         })
     }
 
-    /// A copy of the packet, which borrows nothing. Refused for want of memory.
+    /// A copy of the packet, which borrows nothing.
+    ///
+    /// # Errors
+    /// - `AllocError` for want of memory.
     pub fn clone(&self, alloc: Global) -> Result<AuthMoreData<'static>, AllocError>
         ensures { IfOk result (λ copy. more_data_view copy ≡ more_data_view self.now) }
     {
@@ -135,8 +141,10 @@ impl<'a> PublicKeyResponse<'a> {
         PublicKeyResponse { rsa_key }
     }
 
-    /// The key as text, in PEM form; bytes that aren't UTF-8 are replaced. Refused for want of
-    /// memory.
+    /// The key as text, in PEM form; bytes that aren't UTF-8 are replaced.
+    ///
+    /// # Errors
+    /// - `Memory`.
     pub fn rsa_key(&self, alloc: Global) -> Result<CowStr<'_>, WireError>
         ensures memory { IsOkUnless result wire.Memory }
         ensures value { IfOk result (λ text. cow_str_bytes text ≡ encode_utf8_all (lossy_chars (key_view self.now))) }
@@ -144,7 +152,10 @@ impl<'a> PublicKeyResponse<'a> {
         Ok(self.rsa_key.as_slice().to_str_lossy(alloc)?)
     }
 
-    /// A copy of the packet, which borrows nothing. Refused for want of memory.
+    /// A copy of the packet, which borrows nothing.
+    ///
+    /// # Errors
+    /// - `AllocError` for want of memory.
     pub fn clone(&self, alloc: Global) -> Result<PublicKeyResponse<'static>, AllocError>
         ensures { IfOk result (λ copy. key_view copy ≡ key_view self.now) }
     {

@@ -3,10 +3,11 @@
 ghost use Rattle.std.specs.Prelude.{◌≡◌, MatchOption, None, Some};
 ghost use Rattle.mysql_auth.specs.Plugins.{parsec_salt};
 
-/// The number of iterations and the salt that a server's packet names: 20 bytes, of which the first
-/// is `P` and the second a factor of at most 20; the iterations are 1024 times two to the factor.
-/// None of other bytes.
-/// (MariaDB: "Authentication Plugin - PARSEC".)
+/// The number of iterations and the salt that a server's packet names.
+///
+/// The packet has 20 bytes, of which the first is `P` and the second a factor of at most 20; the
+/// iterations are 1024 times two to the factor. None of other bytes. (MariaDB: "Authentication
+/// Plugin - PARSEC".)
 pub fn parse_parsec_salt(packet: &[u8]) -> Option<(u32, &[u8; 18])>
     ensures { MatchOption result (parsec_salt packet.now ≡ None) (λ found. parsec_salt packet.now ≡
         Some (found.0, found.1.now)) }

@@ -93,7 +93,7 @@ impl<'a> AuthPlugin<'a> {
         }
     }
 
-    /// The same plugin, which borrows from this one.
+    /// The plugin, borrowed from this one.
     pub fn borrow(&self) -> AuthPlugin<'_>
         ensures { plugin_view result ≡ plugin_view self.now }
     {
@@ -114,7 +114,10 @@ impl<'a> AuthPlugin<'a> {
         }
     }
 
-    /// The same plugin, which borrows nothing. Refused for want of memory.
+    /// The plugin in bytes of its own: it borrows nothing.
+    ///
+    /// # Errors
+    /// - `AllocError` for want of memory.
     pub fn into_owned(self, alloc: Global) -> Result<AuthPlugin<'static>, AllocError>
         ensures { IfOk result (λ plugin. plugin_view plugin ≡ plugin_view self.entry) }
     {
@@ -137,17 +140,21 @@ impl<'a> AuthPlugin<'a> {
         })
     }
 
-    /// A copy of the plugin, which borrows nothing. Refused for want of memory.
+    /// A copy of the plugin, which borrows nothing.
+    ///
+    /// # Errors
+    /// - `AllocError` for want of memory.
     pub fn clone(&self, alloc: Global) -> Result<AuthPlugin<'static>, AllocError>
         ensures { IfOk result (λ plugin. plugin_view plugin ≡ plugin_view self.now) }
     {
         self.borrow().into_owned(alloc)
     }
 
-    /// Takes what the plugin needs beside the first data from a server's packet: for PARSEC the
-    /// iterations and the salt, by [`parse_parsec_salt`]. None, and nothing changes, where the
-    /// packet doesn't hold them, and for each other plugin.
-    /// (MariaDB: "Authentication Plugin - PARSEC".)
+    /// Takes what the plugin needs beside the first data from a server's packet.
+    ///
+    /// For PARSEC that is the iterations and the salt, by [`parse_parsec_salt`]. None, and nothing
+    /// changes, where the packet doesn't hold them, and for each other plugin. (MariaDB:
+    /// "Authentication Plugin - PARSEC".)
     pub fn read_add_data(&mut self, payload: &[u8]) -> Option<()>
         ensures { MatchOption result
             (Keeps payload.now (plugin_view self.old) (plugin_view self.new))

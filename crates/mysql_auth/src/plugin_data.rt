@@ -42,7 +42,10 @@ impl<'a> AuthPluginData<'a> {
         }
     }
 
-    /// The same data, which borrows nothing. Refused for want of memory.
+    /// The data in bytes of its own: it borrows nothing.
+    ///
+    /// # Errors
+    /// - `AllocError` for want of memory.
     pub fn into_owned(self, alloc: Global) -> Result<AuthPluginData<'static>, AllocError>
         ensures { IfOk result (λ owned. data_view owned ≡ data_view self.entry) }
     {
@@ -58,7 +61,10 @@ impl<'a> AuthPluginData<'a> {
         })
     }
 
-    /// A copy of the data, which borrows nothing. Refused for want of memory.
+    /// A copy of the data, which borrows nothing.
+    ///
+    /// # Errors
+    /// - `AllocError` for want of memory.
     pub fn clone(&self, alloc: Global) -> Result<AuthPluginData<'static>, AllocError>
         ensures { IfOk result (λ copy. data_view copy ≡ data_view self.now) }
     {

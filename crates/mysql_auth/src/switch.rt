@@ -125,7 +125,10 @@ impl<'a> AuthSwitchRequest<'a> {
         without_zero(self.plugin_data.as_slice())
     }
 
-    /// The same packet, which borrows nothing. Refused for want of memory.
+    /// The packet in bytes of its own: it borrows nothing.
+    ///
+    /// # Errors
+    /// - `AllocError` for want of memory.
     pub fn into_owned(self, alloc: Global) -> Result<AuthSwitchRequest<'static>, AllocError>
         ensures { IfOk result (λ owned. switch_view owned ≡ switch_view self.entry) }
     {
@@ -135,7 +138,10 @@ impl<'a> AuthSwitchRequest<'a> {
         })
     }
 
-    /// A copy of the packet, which borrows nothing. Refused for want of memory.
+    /// A copy of the packet, which borrows nothing.
+    ///
+    /// # Errors
+    /// - `AllocError` for want of memory.
     pub fn clone(&self, alloc: Global) -> Result<AuthSwitchRequest<'static>, AllocError>
         ensures { IfOk result (λ copy. switch_view copy ≡ switch_view self.now) }
     {

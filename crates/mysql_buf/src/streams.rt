@@ -38,7 +38,11 @@ pub trait ReadMysqlExt: Read {
     }
 
     /// Reads a length-encoded number and that many bytes, which take room only as they come.
-    /// Refused as [`read_lenenc_int`](Self::read_lenenc_int) is, or by `OutOfMemory`.
+    ///
+    /// # Errors
+    /// - Those of [`read_lenenc_int`](Self::read_lenenc_int).
+    /// - `OutOfMemory`.
+    ///
     /// (MySQL: Client/Server Protocol, "Protocol::LengthEncodedString".)
     final fn read_lenenc_str(&mut self, alloc: Global) -> io::Result<Vec<u8>>
     where
@@ -60,7 +64,11 @@ impl<R: Read> ReadMysqlExt for R {}
 /// What every writer writes besides the numbers of `byteorder`.
 pub trait WriteMysqlExt: Write {
     /// Writes a length-encoded number in its shortest spelling, and answers how many bytes it
-    /// wrote. Refused as the writer refuses; a part of the bytes may then be written.
+    /// wrote.
+    ///
+    /// # Errors
+    /// - Those of the writer. A part of the bytes may then be written.
+    ///
     /// (MySQL: Client/Server Protocol, "Protocol::LengthEncodedInteger".)
     final fn write_lenenc_int(&mut self, number: u64) -> io::Result<u64>
     where
@@ -74,8 +82,13 @@ pub trait WriteMysqlExt: Write {
     }
 
     /// Writes a text after its length as a length-encoded number, and answers how many bytes it
-    /// wrote, the length's included. Refused as the writer refuses; a part of the bytes may then
-    /// be written.
+    /// wrote.
+    ///
+    /// The number counts the length's bytes too.
+    ///
+    /// # Errors
+    /// - Those of the writer. A part of the bytes may then be written.
+    ///
     /// (MySQL: Client/Server Protocol, "Protocol::LengthEncodedString".)
     final fn write_lenenc_str(&mut self, text: &[u8]) -> io::Result<u64>
     where

@@ -30,8 +30,10 @@ pub fn varlen_uint_size(number: u64) -> usize
     }
 }
 
-/// Takes a number of variable length, in any of its spellings, or answers `None` where it is cut
-/// off; the buffer then stays as it was.
+/// Takes a number of variable length, in any of its spellings.
+///
+/// The answer is `None` where the number is cut off; the buffer then stays as it was.
+///
 /// (MySQL: Source Code Documentation, "mysql::serialization", "Variable-length integer".)
 #[tactic(auto, unfolding(crate::specs::Reading::first))]
 pub fn read_varlen_uint(buf: &mut ParseBuf<'_>) -> Option<u64>
@@ -62,8 +64,11 @@ fn read_short(first: u8, buf: &mut ParseBuf<'_>) -> Option<u64>
     Some(LittleEndian::read_uint(bytes, size) >> size)
 }
 
-/// Appends a number of variable length in its shortest spelling, or is refused for want of memory
-/// and leaves the buffer's bytes as they were.
+/// Appends a number of variable length in its shortest spelling.
+///
+/// # Errors
+/// - `AllocError` for want of memory. The buffer's bytes are then as they were.
+///
 /// (MySQL: Source Code Documentation, "mysql::serialization", "Variable-length integer".)
 pub fn write_varlen_uint<B: BufMut>(buf: &mut B, number: u64) -> Result<(), AllocError>
     ensures ok { OnOk result (B.written buf.new ≡ B.written buf.old ++ varlen number) }

@@ -28,7 +28,10 @@ pub enum BulkExecuteRequestError {
 }
 
 impl BulkExecuteRequestError {
-    /// A copy. Refused for want of memory.
+    /// A copy.
+    ///
+    /// # Errors
+    /// - `AllocError` for want of memory.
     pub fn clone(&self, alloc: Global) -> Result<BulkExecuteRequestError, AllocError>
         ensures { IfOk result (λ copy. refusal_parts copy ≡ refusal_parts self.now) }
     {

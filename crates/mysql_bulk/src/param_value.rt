@@ -44,7 +44,10 @@ impl StmtBulkExecuteParamValue {
         &self.value
     }
 
-    /// A copy. Refused for want of memory.
+    /// A copy.
+    ///
+    /// # Errors
+    /// - `AllocError` for want of memory.
     pub fn clone(&self, alloc: Global) -> Result<StmtBulkExecuteParamValue, AllocError>
         ensures { IfOk result (λ copy. copy ≡ self.now) }
     {
@@ -73,7 +76,10 @@ pub struct StmtBulkExecuteParamValues {
 }
 
 impl StmtBulkExecuteParamValues {
-    /// These values, each by the indicator that it is sent with. Refused for want of memory.
+    /// These values, each by the indicator that it is sent with.
+    ///
+    /// # Errors
+    /// - `AllocError` for want of memory.
     pub fn new(alloc: Global, values: Vec<Value>) -> Result<StmtBulkExecuteParamValues, AllocError>
         ensures { IfOk result (λ made. made.values.items ≡ map param_value_of values.items) }
     {
@@ -82,7 +88,10 @@ impl StmtBulkExecuteParamValues {
         Ok(StmtBulkExecuteParamValues { values: made })
     }
 
-    /// A copy. Refused for want of memory.
+    /// A copy.
+    ///
+    /// # Errors
+    /// - `AllocError` for want of memory.
     pub fn clone(&self, alloc: Global) -> Result<StmtBulkExecuteParamValues, AllocError>
         ensures { IfOk result (λ copy. copy.values.items ≡ self.now.values.items) }
     {

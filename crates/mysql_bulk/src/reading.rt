@@ -163,11 +163,19 @@ fn row_of(
     Ok(row)
 }
 
-/// Reads one row of a bulk execution by the types and flags of its columns, and leaves the rest.
-/// Behind the indicator 0 stands a cell; 1 (NULL), 2 (DEFAULT) and 3 (IGNORE) have none, and are
-/// NULL. Refused, at the first value that fails, by UnexpectedEof where it is cut off, UnknownValue
-/// for another indicator, UnsupportedType for a cell of a type that has none, Memory; all bytes are
-/// then left.
+/// Reads one row of a bulk execution by the types and flags of its columns.
+///
+/// What follows the row is left. Behind the indicator 0 stands a cell; 1 (NULL), 2 (DEFAULT) and 3
+/// (IGNORE) have none, and are NULL.
+///
+/// # Errors
+/// At the first value that fails:
+/// - `UnexpectedEof` where it is cut off.
+/// - `UnknownValue` for another indicator.
+/// - `UnsupportedType` for a cell of a type that has none.
+/// - `Memory`.
+///
+/// All bytes are left after an error.
 ///
 /// MariaDB: Client/Server Protocol, "COM_STMT_BULK_EXECUTE".
 pub fn read_bulk_row(

@@ -39,11 +39,16 @@ pub(crate) fn sends(flags: StmtBulkExecuteFlags) -> bool
 }
 
 impl ComStmtBulkExecuteRequest {
-    /// The execution with these rows, by the types of their values where the flags say that types
-    /// are sent: a column has the type of its first value that isn't NULL, without a sign also
-    /// where a later value of that type has none, and NULL where there is no such value. Refuses
-    /// NoParams where there are no rows, MixedArity where not all have as many values as the first,
-    /// then Memory.
+    /// The execution with these rows, by the types of their values.
+    ///
+    /// The types are sent where the flags say so: a column has the type of its first value that
+    /// isn't NULL, without a sign also where a later value of that type has none, and NULL where
+    /// there is no such value.
+    ///
+    /// # Errors
+    /// - `NoParams` where there are no rows.
+    /// - `MixedArity` where not all have as many values as the first.
+    /// - `Memory`.
     ///
     /// MariaDB: Client/Server Protocol, "COM_STMT_BULK_EXECUTE".
     pub fn new(
@@ -80,9 +85,10 @@ impl ComStmtBulkExecuteRequest {
         Ok(made)
     }
 
-    /// The execution with these rows, one after another in one list of `count` times `arity`
-    /// values, with types as in `new`. It takes the values; refused for want of memory it leaves
-    /// them.
+    /// The execution with these rows, one after another in one list.
+    ///
+    /// The list has `count` times `arity` values, with types as in [`new`](Self::new). It takes the
+    /// values; refused for want of memory it leaves them.
     pub fn from_flat(
         alloc: Global,
         stmt_id: u32,
@@ -118,10 +124,15 @@ impl ComStmtBulkExecuteRequest {
         })
     }
 
-    /// The execution with these rows, by these types of their columns, which are ignored where the
-    /// flags don't say that types are sent. Refuses NoParams where there are no rows, MixedArity
-    /// where not all have as many values as the first or where types are sent and aren't as many,
-    /// then Memory.
+    /// The execution with these rows, by these types of their columns.
+    ///
+    /// The types are ignored where the flags don't say that types are sent.
+    ///
+    /// # Errors
+    /// - `NoParams` where there are no rows.
+    /// - `MixedArity` where not all have as many values as the first, or where types are sent and
+    ///   aren't as many.
+    /// - `Memory`.
     ///
     /// MariaDB: Client/Server Protocol, "COM_STMT_BULK_EXECUTE".
     pub fn with_types(
@@ -165,7 +176,10 @@ impl ComStmtBulkExecuteRequest {
         })
     }
 
-    /// A copy. Refused for want of memory.
+    /// A copy.
+    ///
+    /// # Errors
+    /// - `AllocError` for want of memory.
     pub fn clone(&self, alloc: Global) -> Result<ComStmtBulkExecuteRequest, AllocError>
         ensures { IfOk result (λ copy. bulk_view copy ≡ bulk_view self.now) }
     {

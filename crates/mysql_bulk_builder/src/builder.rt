@@ -197,7 +197,10 @@ impl<'a> ComStmtBulkExecuteRequestBuilder<'a> {
         builder
     }
 
-    /// A copy with the rows held, by this allocator. Refused for want of memory.
+    /// A copy with the rows held, by this allocator.
+    ///
+    /// # Errors
+    /// - `AllocError` for want of memory.
     pub fn clone(&self, alloc: Global) -> Result<ComStmtBulkExecuteRequestBuilder<'a>, AllocError>
         ensures { IfOk result (λ copy. copy ≡ self.now) }
     {
@@ -216,7 +219,9 @@ impl<'a> ComStmtBulkExecuteRequestBuilder<'a> {
         })
     }
 
-    /// What the rows held and one more take together, and how many they are, where the next request has room for it.
+    /// What the rows held and one more take together, and how many they are.
+    ///
+    /// None where the next request has no room for it.
     fn with_one_more(&self, row: &[Value]) -> Option<(usize, usize)>
         ensures { HasOneMore self.now row.now result }
     {

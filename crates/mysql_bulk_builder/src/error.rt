@@ -21,7 +21,10 @@ pub enum BulkExecuteRequestBuilderError {
 }
 
 impl BulkExecuteRequestBuilderError {
-    /// A copy. Refused for want of memory.
+    /// A copy.
+    ///
+    /// # Errors
+    /// - `AllocError` for want of memory.
     pub fn clone(&self, alloc: Global) -> Result<BulkExecuteRequestBuilderError, AllocError>
         ensures { IfOk result (λ copy. IsSameError copy self.now) }
     {

@@ -23,7 +23,7 @@ pub(crate) fn append_row(
     Ok(())
 }
 
-/// The same values again.
+/// Copies of the values, in order.
 pub(crate) fn copies_of(
     alloc: Global,
     values: &[StmtBulkExecuteParamValue],

@@ -64,7 +64,7 @@ pub fn place_of_other<'a>(firsts: &mut [&'a Value], row: &[&'a Value]) -> Option
     None
 }
 
-/// The least row, and in it the least place, with a value of another kind than the earlier ones of its column.
+/// The least row, and place in it, with a value of another kind than its column's earlier ones.
 pub fn mixed_kinds(
     alloc: Global,
     rows: &[&[&Value]],

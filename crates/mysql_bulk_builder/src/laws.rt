@@ -63,8 +63,9 @@ pub fn whole_is_tight()
     ensures none { WholeHasNoneTooLarge }
 {}
 
-/// Rows that mix no kinds mix none with one more row, none of whose values is of another kind than
-/// its column's first one.
+/// Rows that mix no kinds mix none with one more row of the same kinds.
+///
+/// None of that row's values is of another kind than its column's first one.
 pub fn one_more_mixes_none()
     ensures { OneMoreMixesNone }
 {}
@@ -74,9 +75,10 @@ pub fn types_in_force_serve()
     ensures { TypesInForceServe }
 {}
 
-/// The requests that an iterator gives one after another are those of the first parts of the tight
-/// cut of the rows held and given, and of all its parts where no row is left. Held and given rows
-/// are together at most `usize::MAX`.
+/// The requests that an iterator gives are those of the first parts of the tight cut.
+///
+/// The cut is that of the rows held and given, at most `usize::MAX` together; where no row is left
+/// the requests are those of all its parts.
 pub fn iterators_give_the_tight_cut()
     ensures { GivesFirst }
 {}

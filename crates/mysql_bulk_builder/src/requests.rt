@@ -12,7 +12,7 @@ use mysql_bulk::ComStmtBulkExecuteRequest;
 use mysql_cells::Value;
 use mysql_values::Params;
 
-/// The requests of rows held by a builder and of rows or sets handed in, as few as there can be.
+/// The requests of a builder's rows and of those handed in, as few as there can be.
 ///
 /// Each request takes as many rows as it has room for. An error is the last item; the rows before
 /// the one that it speaks of stay with the builder.

@@ -57,7 +57,9 @@ pub extern "C" fn mysql_session_bytes_clear(alloc: Global, handle: &mut Handle) 
     bytes_clear(alloc, handle)
 }
 
-/// Makes the handle stand for a receiver of a stream of commands about this query, whose statement was given this id.
+/// Makes the handle stand for a receiver of a stream of commands about this query.
+///
+/// `id` is that of the query's statement.
 #[unsafe(no_mangle)]
 pub extern "C" fn mysql_session_receiver_new(
     alloc: Global,
@@ -88,8 +90,10 @@ pub extern "C" fn mysql_session_receiver_feed(
     receiver_feed(alloc, handle, piece)
 }
 
-/// Ends a receiver: the handle stands for the audit of what was fed, and holds the sets that
-/// weren't let go. Shows how the stream ends. Of an audit it shows the same again.
+/// Ends a receiver, and shows how the stream ends.
+///
+/// The handle stands for the audit of what was fed, and holds the sets that weren't let go. Of an
+/// audit it shows the same again.
 #[unsafe(no_mangle)]
 pub extern "C" fn mysql_session_receiver_end(
     alloc: Global,
@@ -298,9 +302,10 @@ pub extern "C" fn mysql_session_sets_clear(alloc: Global, handle: &mut Handle) -
     sets_clear(alloc, handle)
 }
 
-/// Appends the whole ones of the parameter sets of one handle to the bytes of another, by the road
-/// of this number: 0 is text, 1 is execute, 2 is bulk. Where they aren't sent it shows the set and
-/// the place that are refused, and the bytes stay.
+/// Appends the whole parameter sets of one handle, as commands, to the bytes of another.
+///
+/// The number of the road is 0 for text, 1 for execute, 2 for bulk. Where the sets aren't sent it
+/// shows the set and the place that are refused, and the bytes stay.
 #[unsafe(no_mangle)]
 pub extern "C" fn mysql_session_send(
     alloc: Global,
@@ -335,7 +340,9 @@ pub extern "C" fn mysql_session_bind_text(
     bind_text(alloc, sets, set, query, out, place)
 }
 
-/// Appends the literal of the value at a place of the set of this number to the bytes of another handle.
+/// Appends the literal of a value to the bytes of another handle.
+///
+/// The value is at a place of the set of this number.
 #[unsafe(no_mangle)]
 pub extern "C" fn mysql_session_value_text(
     alloc: Global,
@@ -350,7 +357,9 @@ pub extern "C" fn mysql_session_value_text(
     value_text(alloc, sets, set, place, out)
 }
 
-/// Makes the handle stand for a recoder of a stream of commands about this query, whose statement was given this id.
+/// Makes the handle stand for a recoder of a stream of commands about this query.
+///
+/// `id` is that of the query's statement.
 #[unsafe(no_mangle)]
 pub extern "C" fn mysql_session_recoder_new(
     alloc: Global,
@@ -367,9 +376,10 @@ pub extern "C" fn mysql_session_recoder_new(
     recoder_new(alloc, handle, query, id, limit)
 }
 
-/// Feeds a recoder with the next piece of its stream, and appends the executions of the sets that
-/// are whole with it to the bytes of another handle, before the first of all the prepare. Where it
-/// is refused it shows where, and the bytes stay.
+/// Feeds a recoder with the next piece of its stream, and appends the executions it makes.
+///
+/// They are those of the sets that are whole with the piece, before the first of all the prepare,
+/// and go to the bytes of another handle. Where it is refused it shows where, and the bytes stay.
 #[unsafe(no_mangle)]
 pub extern "C" fn mysql_session_recoder_feed(
     alloc: Global,

@@ -70,8 +70,9 @@ pub extern "C" fn mysql_session_packets_restart(alloc: Global, handle: &mut Hand
     packets_restart(alloc, handle)
 }
 
-/// Appends a payload to the bytes that a handle stands for, framed in chunks from this number on,
-/// which goes on behind the last one.
+/// Appends a payload to the bytes that a handle stands for, framed in chunks.
+///
+/// The first has this number, which goes on behind the last one.
 #[unsafe(no_mangle)]
 pub extern "C" fn mysql_session_packet_put(
     alloc: Global,
@@ -224,7 +225,9 @@ pub extern "C" fn mysql_session_register_replica_put(
     register_replica_put(alloc, out, server, host, user, password, port)
 }
 
-/// Appends to the bytes that a handle stands for the request for the binary log from a position of a file.
+/// Appends the request for the binary log from a position of a file.
+///
+/// It goes to the bytes that a handle stands for.
 #[unsafe(no_mangle)]
 pub extern "C" fn mysql_session_binlog_dump_put(
     alloc: Global,
@@ -241,8 +244,9 @@ pub extern "C" fn mysql_session_binlog_dump_put(
     binlog_dump_put(alloc, out, server, position, flags, file)
 }
 
-/// Appends to the bytes that a handle stands for the request for the binary log without the
-/// transactions of the sets that a text names.
+/// Appends the request for the binary log without the transactions that a text's sets name.
+///
+/// It goes to the bytes that a handle stands for.
 #[unsafe(no_mangle)]
 pub extern "C" fn mysql_session_binlog_dump_gtid_put(
     alloc: Global,

@@ -20,8 +20,10 @@ use mysql_c_handles::{Handle, ShownEnd};
 use mysql_c_replies::{ShownColumn, ShownResult, ShownSpot, ShownValue};
 use std::alloc::Global;
 
-/// Makes the handle stand for a reader of the reply to a command of this kind: 0 is a query, 1 an
-/// execution, 2 a prepare. The reply's first chunk has the number `first`.
+/// Makes the handle stand for a reader of the reply to a command of this kind.
+///
+/// The kinds are 0 a query, 1 an execution, 2 a prepare. The reply's first chunk has the number
+/// `first`.
 #[unsafe(no_mangle)]
 pub extern "C" fn mysql_session_reply_new(
     alloc: Global,
@@ -47,8 +49,9 @@ pub extern "C" fn mysql_session_reply_feed(alloc: Global, handle: &mut Handle, p
     mysql_c_replies::reply_feed(alloc, handle, piece)
 }
 
-/// Takes the results so far: those that stand whole, and of a result set that goes on its rows so
-/// far. Those that were taken before are let go, and so are the progress reports that came.
+/// Takes the results that stand whole, and the rows so far of a result set that goes on.
+///
+/// Those that were taken before are let go, and so are the progress reports that came.
 #[unsafe(no_mangle)]
 pub extern "C" fn mysql_session_reply_take(alloc: Global, handle: &mut Handle) -> u32
     ensures { OfReply handle.old.object result handle.new.object (OutcomesAreTaken result handle.new.object) }
@@ -99,9 +102,10 @@ pub extern "C" fn mysql_session_reply_result(
     mysql_c_replies::reply_result(alloc, handle, number, shown)
 }
 
-/// Shows a change of the session's state that an OK packet tells, by the number of its result and
-/// the position where it begins: its type and its bytes. The position is 0 for the first change,
-/// and is moved on to the next one.
+/// Shows a change of the session's state that an OK packet tells: its type and its bytes.
+///
+/// The change is named by the number of its result and the position where it begins, which is 0 for
+/// the first change, and is moved on to the next one.
 #[unsafe(no_mangle)]
 pub extern "C" fn mysql_session_reply_state(
     alloc: Global,
@@ -170,9 +174,10 @@ pub extern "C" fn mysql_session_reply_param(
     mysql_c_replies::reply_param(alloc, handle, number, param, shown)
 }
 
-/// Makes the handle stand for a writer of the reply to a command of this kind: 0 is a query, 1 an
-/// execution, 2 a prepare. The reply's first chunk has the number `first`, and a payload has at
-/// most `limit` bytes.
+/// Makes the handle stand for a writer of the reply to a command of this kind.
+///
+/// The kinds are 0 a query, 1 an execution, 2 a prepare. The reply's first chunk has the number
+/// `first`, and a payload has at most `limit` bytes.
 #[unsafe(no_mangle)]
 pub extern "C" fn mysql_session_writer_new(
     alloc: Global,

@@ -9,9 +9,10 @@ use mysql_c_handles::Code;
 use mysql_values::{ByteString, Value};
 use std::alloc::Global;
 
-/// A value as C describes it: its kind (0 NULL, 1 a number with a sign, 2 one without, 3 bytes, 6 a
-/// date, 7 a duration), and what that kind has. Bytes lie in those that are handed over beside the
-/// array, `len` of them from `start` on.
+/// A value as C describes it: its kind, and what that kind has.
+///
+/// The kinds are 0 NULL, 1 a number with a sign, 2 one without, 3 bytes, 6 a date, 7 a duration.
+/// Bytes lie in those that are handed over beside the array, `len` of them from `start` on.
 #[repr(C)]
 #[derive(Clone, Copy)]
 pub struct Parameter {

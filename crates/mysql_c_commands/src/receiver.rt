@@ -168,7 +168,9 @@ fn clear_sets(object: &mut Object) -> Code
     }
 }
 
-/// Makes the handle stand for a receiver of a stream of commands about this query, whose statement was given this id.
+/// Makes the handle stand for a receiver of a stream of commands about this query.
+///
+/// `id` is that of the query's statement.
 pub fn receiver_new(alloc: Global, handle: &mut Handle, query: &[u8], id: u32, limit: usize) -> u32
     ensures made { result ≡ 0 → IsReceiver handle.new.object (IsNew query.now id limit) × HasMixed query.now false }
     ensures kept { result ≢ 0 → handle.new.object ≡ handle.old.object }
@@ -198,8 +200,10 @@ pub fn receiver_feed(alloc: Global, handle: &mut Handle, piece: &[u8]) -> u32
     code.number()
 }
 
-/// Ends a receiver: the handle stands for the audit of what was fed, and holds the sets that
-/// weren't let go. Shows how the stream ends. Of an audit it shows the same again.
+/// Ends a receiver, and shows how the stream ends.
+///
+/// The handle stands for the audit of what was fed, and holds the sets that weren't let go. Of an
+/// audit it shows the same again.
 pub fn receiver_end(alloc: Global, handle: &mut Handle, end: &mut ShownEnd) -> u32
     ensures { EndsAs handle.old.object result handle.new.object end.new }
 {

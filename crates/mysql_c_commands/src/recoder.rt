@@ -153,7 +153,7 @@ fn ended(recoder: Recoder, out: &mut Vec<u8>, stop: &mut ShownStop) -> Code
     }
 }
 
-/// The same of the recoder that an object is.
+/// Ends the recoder that an object is, and appends what it still has to bytes.
 fn ended_object(held: Object, out: &mut Vec<u8>, stop: &mut ShownStop) -> Code
     ensures { EndsObject held out.old.items (code_number result) stop.new out.new.items }
 {
@@ -175,7 +175,7 @@ fn end_to(held: &mut Object, object: &mut Object, stop: &mut ShownStop) -> Code
     }
 }
 
-/// The same with the bytes that a handle stands for.
+/// Ends the recoder that an object is, and appends to the bytes that a handle stands for.
 fn end_onto(alloc: Global, held: &mut Object, out: &mut Handle, stop: &mut ShownStop) -> Code
     ensures { EndsTo held.old out.old.object (code_number result) stop.new held.new out.new.object }
 {
@@ -198,7 +198,9 @@ fn end_from(alloc: Global, held: &mut Object, out: &mut Handle, stop: &mut Shown
     }
 }
 
-/// Makes the handle stand for a recoder of a stream of commands about this query, whose statement was given this id.
+/// Makes the handle stand for a recoder of a stream of commands about this query.
+///
+/// `id` is that of the query's statement.
 pub fn recoder_new(alloc: Global, handle: &mut Handle, query: &[u8], id: u32, limit: usize) -> u32
     ensures made { result ≡ 0 → IsRecoder handle.new.object (λ r. IsNewRecoder query.now id limit (recoder_state r)) }
     ensures kept { result ≢ 0 → handle.new.object ≡ handle.old.object }
@@ -214,9 +216,10 @@ pub fn recoder_new(alloc: Global, handle: &mut Handle, query: &[u8], id: u32, li
     }
 }
 
-/// Feeds a recoder with the next piece of its stream, and appends the executions of the sets that
-/// are whole with it to the bytes of another handle, before the first of all the prepare. Where it
-/// is refused it shows where, and the bytes stay.
+/// Feeds a recoder with the next piece of its stream, and appends the executions it makes.
+///
+/// They are those of the sets that are whole with the piece, before the first of all the prepare,
+/// and go to the bytes of another handle. Where it is refused it shows where, and the bytes stay.
 pub fn recoder_feed(
     alloc: Global,
     handle: &mut Handle,
@@ -234,8 +237,9 @@ pub fn recoder_feed(
     code.number()
 }
 
-/// Ends a recoder: where its stream carried no set the prepare is appended to the bytes of another
-/// handle. The handle stands for nothing then, also where the end is refused.
+/// Ends a recoder; the handle stands for nothing then, also where the end is refused.
+///
+/// Where its stream carried no set the prepare is appended to the bytes of another handle.
 pub fn recoder_end(
     alloc: Global,
     handle: &mut Handle,

@@ -164,9 +164,10 @@ fn append_sets(
     code
 }
 
-/// Appends the whole ones of the parameter sets of one handle to the bytes of another, by the road
-/// of this number: 0 is text, 1 is execute, 2 is bulk. Where they aren't sent it shows the set and
-/// the place that are refused, and the bytes stay.
+/// Appends the whole parameter sets of one handle, as commands, to the bytes of another.
+///
+/// The number of the road is 0 for text, 1 for execute, 2 for bulk. Where the sets aren't sent it
+/// shows the set and the place that are refused, and the bytes stay.
 pub fn send(
     alloc: Global,
     sets: &mut Handle,

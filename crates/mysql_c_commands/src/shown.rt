@@ -7,7 +7,9 @@ ghost use Rattle.mysql_c_commands.specs.Shown.{Shows, ShowsNumber, end_kind, end
 use mysql_c_handles::{Code, ShownEnd, number_of_fault, start_of};
 use mysql_receive::{Content, End};
 
-/// A content: its kind (0 NULL, 1 a number with a sign, 2 one without, 3 bytes), and what that kind has.
+/// A content: its kind, and what that kind has.
+///
+/// The kinds are 0 NULL, 1 a number with a sign, 2 one without, 3 bytes.
 #[repr(C)]
 #[derive(Clone, Copy)]
 pub struct ShownContent {

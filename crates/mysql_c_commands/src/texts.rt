@@ -189,7 +189,9 @@ pub fn bind_text(
     code.number()
 }
 
-/// Appends the literal of the value at a place of the set of this number to the bytes of another handle.
+/// Appends the literal of a value to the bytes of another handle.
+///
+/// The value is at a place of the set of this number.
 pub fn value_text(
     alloc: Global,
     sets: &mut Handle,

@@ -92,7 +92,9 @@ impl Handle {
         drop(replace(self, Handle::of(object)));
     }
 
-    /// The same, but an empty object is freed, and the handle holds no pointer then.
+    /// Puts the object in place of what the handle stands for, or frees it where it is empty.
+    ///
+    /// The handle holds no pointer then.
     pub fn put_unless_empty(&mut self, alloc: Global, object: Box<Object>)
         ensures { self.new.object ≡ object.value }
     {

@@ -179,8 +179,9 @@ pub fn packets_restart(alloc: Global, handle: &mut Handle) -> u32
     code.number()
 }
 
-/// Appends a payload to the bytes that a handle stands for, framed in chunks from this number on,
-/// which goes on behind the last one.
+/// Appends a payload to the bytes that a handle stands for, framed in chunks.
+///
+/// The first has this number, which goes on behind the last one.
 pub fn packet_put(
     alloc: Global,
     out: &mut Handle,

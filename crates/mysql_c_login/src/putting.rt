@@ -17,7 +17,7 @@ pub(crate) fn put<T: MySerialize>(alloc: Global, out: &mut Handle, value: &T) ->
     }
 }
 
-/// The same of a value that has to be allowed.
+/// Puts what is written of a value that has to be allowed behind the bytes that a handle stands for.
 pub(crate) fn put_if<T: MySerialize>(
     alloc: Global,
     out: &mut Handle,

@@ -65,7 +65,9 @@ pub fn register_replica_put(
     put_if(alloc, out, short, &packet)
 }
 
-/// Appends to the bytes that a handle stands for the request for the binary log from a position of a file.
+/// Appends the request for the binary log from a position of a file.
+///
+/// It goes to the bytes that a handle stands for.
 pub fn binlog_dump_put(
     alloc: Global,
     out: &mut Handle,
@@ -109,8 +111,9 @@ fn dump_by_sids<'a>(
         .with_flags(BinlogDumpFlags(flags))
 }
 
-/// Appends to the bytes that a handle stands for the request for the binary log without the
-/// transactions of the sets that a text names.
+/// Appends the request for the binary log without the transactions that a text's sets name.
+///
+/// It goes to the bytes that a handle stands for.
 pub fn binlog_dump_gtid_put(
     alloc: Global,
     out: &mut Handle,

@@ -46,7 +46,7 @@ pub(crate) fn given(text: &[u8]) -> Option<&[u8]>
     Some(text)
 }
 
-/// The same text, lent.
+/// A text that may be none, borrowed.
 pub(crate) fn lent(text: Option<&[u8]>) -> Option<CowSlice<'_, u8>>
     ensures { option_map cow_slice_items result ≡ option_map (λ bytes. bytes.now) text.entry }
 {

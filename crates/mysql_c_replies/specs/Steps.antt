@@ -2,7 +2,7 @@
 use Rattle.std.specs.Prelude.{◌≡◌, ◌≢◌, ℕ, List, [], ◌∷◌, Bool, false, length, take, drop, nat_lt}
 use Rattle.mysql_columns.specs.Columns.{ColumnDefinition}
 use Rattle.mysql_ok_packets.specs.Views.{ok_packet_view}
-use Rattle.mysql_packets.specs.Views.{prepare_ok_view, server_error_view}
+use Rattle.mysql_server_packets.specs.Views.{prepare_ok_view, server_error_view}
 use Rattle.mysql_replies.specs.Views.{column_views}
 use Rattle.mysql_rows.specs.Views.{row_view}
 use Rattle.mysql_reply_rules.specs.declared.refusal.ReplyRefusal.{ReplyRefusal}

@@ -4,7 +4,7 @@ use Rattle.mysql_cells.specs.declared.value.Value.{Value}
 use Rattle.mysql_columns.specs.Columns.{ColumnDefinition}
 use Rattle.mysql_const.specs.declared.column_type.ColumnType.{ColumnType}
 use Rattle.mysql_ok_packets.specs.OkPackets.{OkPacket, unless_empty, unless_zero}
-use Rattle.mysql_packets.specs.Packets.{PrepareOk, ServerError}
+use Rattle.mysql_server_packets.specs.Packets.{PrepareOk, ServerError}
 use Rattle.mysql_rows.specs.Rows.{Row}
 use Rattle.mysql_reply_rules.specs.Refusals.{end_cause}
 use Rattle.mysql_reply_rules.specs.Written.{RowStep}

@@ -254,10 +254,11 @@ pub fn reply_result(
     code.number()
 }
 
-/// Shows a change of the session's state that an OK packet tells, by the number of its result and
-/// the position where it begins: its type and its bytes. The position is 0 for the first change,
-/// and is moved on to the next one; behind the last, and where the bytes there are no change, it
-/// stays.
+/// Shows a change of the session's state that an OK packet tells: its type and its bytes.
+///
+/// The change is named by the number of its result and the position where it begins, which is 0 for
+/// the first change, and is moved on to the next one; behind the last, and where the bytes there
+/// are no change, it stays.
 pub fn reply_state(
     alloc: Global,
     handle: &mut Handle,

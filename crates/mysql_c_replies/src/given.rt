@@ -1,7 +1,8 @@
 //! What C gives to a writer of a reply.
 
-use mysql_packets::{OkPacket, ServerError, StmtPacket};
+use mysql_ok_packets::OkPacket;
 use mysql_rows::Row;
+use mysql_server_packets::{ServerError, StmtPacket};
 
 /// What is to be written next.
 #[derive(Drop)]

@@ -84,8 +84,10 @@ fn end(object: &mut Object, end: &mut ShownEnd) -> Code
     code
 }
 
-/// Makes the handle stand for a reader of the reply to a command of this kind: 0 is a query, 1 an
-/// execution, 2 a prepare. The reply's first chunk has the number `first`.
+/// Makes the handle stand for a reader of the reply to a command of this kind.
+///
+/// The kinds are 0 a query, 1 an execution, 2 a prepare. The reply's first chunk has the number
+/// `first`.
 pub fn reply_new(
     alloc: Global,
     handle: &mut Handle,
@@ -122,8 +124,9 @@ pub fn reply_feed(alloc: Global, handle: &mut Handle, piece: &[u8]) -> u32
     code.number()
 }
 
-/// Takes the results so far: those that stand whole, and of a result set that goes on its rows so
-/// far. Those that were taken before are let go, and so are the progress reports that came.
+/// Takes the results that stand whole, and the rows so far of a result set that goes on.
+///
+/// Those that were taken before are let go, and so are the progress reports that came.
 pub fn reply_take(alloc: Global, handle: &mut Handle) -> u32
     ensures { OfReply handle.old.object result handle.new.object (OutcomesAreTaken result handle.new.object) }
 {

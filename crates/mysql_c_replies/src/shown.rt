@@ -6,7 +6,7 @@ ghost use Rattle.mysql_columns.specs.Views.{column_view};
 ghost use Rattle.mysql_ok_packets.specs.OkPackets.{all_states_at};
 ghost use Rattle.mysql_ok_packets.specs.Views.{ok_packet_view};
 ghost use Rattle.mysql_ok_packets.specs.Written.{or_empty};
-ghost use Rattle.mysql_packets.specs.Views.{prepare_ok_view, server_error_view};
+ghost use Rattle.mysql_server_packets.specs.Views.{prepare_ok_view, server_error_view};
 ghost use Rattle.mysql_replies.specs.Grammar.{ErrorResult};
 ghost use Rattle.mysql_replies.specs.Views.{outcome_view};
 ghost use Rattle.mysql_c_handles.specs.Codes.{code_number};
@@ -20,14 +20,16 @@ use mysql_cells::Value;
 use mysql_columns::Column;
 use mysql_fields::{ParseExt, WireError};
 use mysql_ok_packets::OkPacket;
-use mysql_packets::{ServerError, StmtPacket};
 use mysql_replies::{ReplyEnd, ReplyResult};
+use mysql_server_packets::{ServerError, StmtPacket};
 use mysql_session_states::SessionStateInfo;
 use std::alloc::Global;
 
-/// A result: its kind (0 OK, 1 rows, 2 a prepared statement, 3 an error, 4 a request for a file),
-/// and what that kind has. The text is what an OK packet tells, an error's message or a file's
-/// name; `ended` is false of rows alone, where the packet that ends them didn't come.
+/// A result: its kind, and what that kind has.
+///
+/// The kinds are 0 OK, 1 rows, 2 a prepared statement, 3 an error, 4 a request for a file. The text
+/// is what an OK packet tells, an error's message or a file's name; `ended` is false of rows alone,
+/// where the packet that ends them didn't come.
 #[repr(C)]
 #[derive(Clone, Copy)]
 pub struct ShownResult {
@@ -49,8 +51,10 @@ pub struct ShownResult {
     pub ended: bool,
 }
 
-/// A value: its kind (0 NULL, 1 a number with a sign, 2 one without, 3 bytes, 4 a float by its
-/// bits, 5 a double by its bits, 6 a date, 7 a duration), and what that kind has.
+/// A value: its kind, and what that kind has.
+///
+/// The kinds are 0 NULL, 1 a number with a sign, 2 one without, 3 bytes, 4 a float by its bits, 5 a
+/// double by its bits, 6 a date, 7 a duration.
 #[repr(C)]
 #[derive(Clone, Copy)]
 pub struct ShownValue {

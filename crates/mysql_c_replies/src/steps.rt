@@ -1,7 +1,7 @@
 //! What C gives, written by the writer of one handle to the bytes of another.
 
 ghost use Rattle.std.specs.Prelude.{◌≡◌, ◌∷◌, ◌≤◌, [], false, IfErr, OnErr, OnOk, length, take, drop};
-ghost use Rattle.mysql_packets.specs.Views.{prepare_ok_view};
+ghost use Rattle.mysql_server_packets.specs.Views.{prepare_ok_view};
 ghost use Rattle.mysql_reply_rules.specs.Written.{ColumnsStep, PreparedStep};
 ghost use Rattle.mysql_reply_writer.specs.Writer.{Refuses, Wrote};
 ghost use Rattle.mysql_c_handles.specs.Codes.{code_number};
@@ -12,8 +12,8 @@ ghost use Rattle.mysql_c_replies.specs.Steps.{lacks_columns, step_given};
 use crate::given::Given;
 use crate::spot::{ShownSpot, show_refusal};
 use mysql_c_handles::{Code, Handle, Object, WrittenReply};
-use mysql_packets::StmtPacket;
 use mysql_reply_rules::ReplyRefusal;
+use mysql_server_packets::StmtPacket;
 use std::alloc::Global;
 use std::mem::replace;
 use std::rc::RcSlice;
@@ -86,7 +86,7 @@ fn write(
     }
 }
 
-/// The same as a code, with the spot of a refusal.
+/// Writes what is given behind bytes, and answers a code, with the spot of a refusal.
 fn written(
     alloc: Global,
     reply: &mut WrittenReply,
@@ -104,7 +104,7 @@ fn written(
     }
 }
 
-/// The same behind the bytes of a handle's object.
+/// Writes what is given behind the bytes of a handle's object.
 fn write_behind(
     alloc: Global,
     reply: &mut WrittenReply,
@@ -123,7 +123,7 @@ fn write_behind(
     }
 }
 
-/// The same behind the bytes that a handle stands for.
+/// Writes what is given behind the bytes that a handle stands for.
 fn write_to(
     alloc: Global,
     reply: &mut WrittenReply,
@@ -143,7 +143,7 @@ fn write_to(
     code
 }
 
-/// The same by the writer that an object is.
+/// Writes what is given by the writer that an object is.
 fn write_by(
     alloc: Global,
     object: &mut Object,
@@ -162,7 +162,7 @@ fn write_by(
     }
 }
 
-/// The same by the writer that a handle stands for.
+/// Writes what is given by the writer that a handle stands for.
 fn write_with(
     alloc: Global,
     handle: &mut Handle,

@@ -5,7 +5,7 @@ ghost use Rattle.std.specs.Prelude.{length, map, option_map, take, true};
 ghost use Rattle.std.specs.Rc.{rc_slice_items};
 ghost use Rattle.mysql_columns.specs.Views.{column_view};
 ghost use Rattle.mysql_const.specs.ColumnTypes.{column_type_named};
-ghost use Rattle.mysql_packets.specs.Views.{sql_state_view};
+ghost use Rattle.mysql_server_packets.specs.Views.{sql_state_view};
 ghost use Rattle.mysql_reply_rules.specs.Written.{ColumnsStep, EndStep, ErrorStep, OkStep, PreparedStep};
 ghost use Rattle.mysql_rows.specs.Views.{row_view};
 ghost use Rattle.mysql_c_handles.specs.Codes.{code_number};
@@ -25,9 +25,10 @@ use mysql_c_handles::{Code, Handle, Object, WrittenReply};
 use mysql_cells::Value;
 use mysql_columns::Column;
 use mysql_const::{CapabilityFlags, ColumnFlags, ColumnType, StatusFlags};
-use mysql_packets::{OkPacket, ServerError, SqlState, StmtPacket};
+use mysql_ok_packets::OkPacket;
 use mysql_reply_writer::ReplyWriter;
 use mysql_rows::{Row, new_row};
+use mysql_server_packets::{ServerError, SqlState, StmtPacket};
 use std::alloc::{AllocError, Global};
 use std::borrow::CowSlice;
 use std::rc::RcSlice;
@@ -132,7 +133,7 @@ fn take_column(object: &mut Object, column: Column) -> Code
     }
 }
 
-/// The same to the writer that a handle stands for.
+/// Gives one more column to the writer that a handle stands for.
 fn give_column(alloc: Global, handle: &mut Handle, column: Column) -> u32
     ensures { OfWriter handle.old.object result handle.new.object
         (TakesColumn (column_view column) result handle.new.object) }
@@ -159,9 +160,10 @@ fn end(object: &Object, spot: &mut ShownSpot) -> Code
     }
 }
 
-/// Makes the handle stand for a writer of the reply to a command of this kind: 0 is a query, 1 an
-/// execution, 2 a prepare. The reply's first chunk has the number `first`, and a payload has at
-/// most `limit` bytes.
+/// Makes the handle stand for a writer of the reply to a command of this kind.
+///
+/// The kinds are 0 a query, 1 an execution, 2 a prepare. The reply's first chunk has the number
+/// `first`, and a payload has at most `limit` bytes.
 pub fn writer_new(
     alloc: Global,
     handle: &mut Handle,

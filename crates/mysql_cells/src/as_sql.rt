@@ -66,9 +66,14 @@ pub fn sql_text_is_a_literal()
     content_of_a_spelling();
 }
 
-/// Appends the literal of a value: its SQL text with backslash escapes, an all-zero time without its sign.
+/// Appends the literal of a value: its SQL text with backslash escapes, an all-zero time without
+/// its sign.
 ///
-/// Refuses `Float` for a float, then `Memory`; `out` is then as it was.
+/// # Errors
+/// - `Float` for a float.
+/// - `Memory`.
+///
+/// `out` is as it was after an error.
 ///
 /// Follows the MySQL Reference Manual, "Literal Values".
 pub fn push_literal(out: &mut Vec<u8>, value: &Value) -> Result<(), AsSqlError>
@@ -96,16 +101,18 @@ pub fn push_literal(out: &mut Vec<u8>, value: &Value) -> Result<(), AsSqlError>
 }
 
 impl Value {
-    /// The SQL text of the value: `NULL`, digits, a date or a time in quotes, UTF-8 in quotes,
-    /// other bytes in hexadecimal.
+    /// The SQL text of the value: `NULL`, digits, or quoted or hexadecimal bytes.
+    ///
+    /// Dates, times and UTF-8 stand in quotes, other bytes in hexadecimal.
     ///
     /// **Safe for** a server that takes backslash escapes, over a connection in UTF-8. With
-    /// `no_backslash_escape` it is for one in
-    /// the SQL mode NO_BACKSLASH_ESCAPES: single quotes are doubled, and no other byte is escaped.
-    /// By the wrong one of both, or in a character set with a quote or a backslash among the bytes
-    /// of a character, a value may end its literal.
+    /// `no_backslash_escape` it is for one in the SQL mode NO_BACKSLASH_ESCAPES: single quotes are
+    /// doubled, and no other byte is escaped. By the wrong one of both, or in a character set with
+    /// a quote or a backslash among the bytes of a character, a value may end its literal.
     ///
-    /// Refuses `Float` for a float, then `Memory`.
+    /// # Errors
+    /// - `Float` for a float.
+    /// - `Memory`.
     ///
     /// Follows the MySQL Reference Manual, "Literal Values".
     pub fn as_sql(&self, alloc: Global, no_backslash_escape: bool) -> Result<String, AsSqlError>

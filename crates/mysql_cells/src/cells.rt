@@ -71,8 +71,11 @@ fn there<T>(first: Option<T>) -> Result<T, WireError>
 /// field are skipped.
 ///
 /// # Errors
-/// `UnsupportedType` for a type without cells, `UnexpectedEof` where the bytes end before the cell
-/// does, then `Memory`. All bytes are then left.
+/// - `UnsupportedType` for a type without cells.
+/// - `UnexpectedEof` where the bytes end before the cell does.
+/// - `Memory`.
+///
+/// All bytes are left after an error.
 ///
 /// Follows "Binary Protocol Value" of the client/server protocol documentation.
 #[tactic(auto, unfolding(crate::specs::Cells::cell_at))]
@@ -93,8 +96,11 @@ pub fn read_cell(
 /// Reads the cell of the text protocol that stands first: NULL or bytes.
 ///
 /// # Errors
-/// `UnexpectedEof` where the bytes end before the cell does, `BadLength` where the first one is ff,
-/// then `Memory`. All bytes are then left.
+/// - `UnexpectedEof` where the bytes end before the cell does.
+/// - `BadLength` where the first one is ff.
+/// - `Memory`.
+///
+/// All bytes are left after an error.
 ///
 /// Follows "Text Resultset Row" of the client/server protocol documentation.
 #[tactic(auto, unfolding(crate::specs::Cells::text_cell_at))]

@@ -9,10 +9,12 @@ use mysql_queries::{ByteString, Content};
 use std::alloc::{AllocError, Global};
 
 impl Value {
-    /// What the value means: nothing, its number, its bytes, or the text of its date or time, an
-    /// all-zero time taken as positive. None of a float.
+    /// What the value means: nothing, a number, bytes, or the text of a date or time.
     ///
-    /// Bytes are moved, not copied.
+    /// An all-zero time is taken as positive, and a float means None. Bytes are moved, not copied.
+    ///
+    /// # Errors
+    /// - `AllocError` for want of memory.
     ///
     /// Follows the MySQL Reference Manual, "Literal Values".
     pub fn into_content(self, alloc: Global) -> Result<Option<Content>, AllocError>

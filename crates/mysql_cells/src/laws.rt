@@ -13,9 +13,10 @@ pub fn cells_have_lengths()
     ensures { CellLength }
 {}
 
-/// A value's cell, read by the type that the value is sent by, is the value, whatever follows it;
-/// but an unsigned number below 2^63 comes as `Int`, and a negative time of all zeros as positive.
-/// What is read means what was written.
+/// A value's cell, read by the type that the value is sent by, is the value.
+///
+/// That holds whatever follows it; but an unsigned number below 2^63 comes as `Int`, and a negative
+/// time of all zeros as positive. What is read means what was written.
 pub fn cells_read_back()
     ensures same { CellsReadBack }
     ensures content { ReadBackMeansTheSame }

@@ -31,7 +31,7 @@ pub enum Value {
 }
 
 impl Value {
-    /// The same value again.
+    /// A copy of the value, with bytes of its own.
     pub fn clone(&self, alloc: Global) -> Result<Value, AllocError>
         ensures { IfOk result (λ copy. copy ≡ self.now) }
     {
@@ -52,7 +52,7 @@ impl Value {
     }
 }
 
-/// The same value again, by the allocator of its bytes; so lists and maps of values are cloned.
+/// Copies the value, by the allocator of its bytes; so lists and maps of values are cloned.
 impl Clone for Value {
     ghost is_clone = { λ value copy. copy ≡ value };
 

@@ -73,7 +73,10 @@ impl Column {
         }
     }
 
-    /// The same with this name of its schema, which is copied. Refused for want of memory.
+    /// The column with this name of its schema, which is copied.
+    ///
+    /// # Errors
+    /// - `AllocError` for want of memory.
     pub fn with_schema(mut self, schema: &[u8]) -> Result<Column, AllocError>
         ensures { IfOk result (λ column. column_view column ≡ record (column_view self) { schema = schema.now }) }
     {
@@ -82,7 +85,10 @@ impl Column {
         Ok(self)
     }
 
-    /// The same with this name of its table in the query, which is copied. Refused for want of memory.
+    /// The column with this name of its table in the query, which is copied.
+    ///
+    /// # Errors
+    /// - `AllocError` for want of memory.
     pub fn with_table(mut self, table: &[u8]) -> Result<Column, AllocError>
         ensures { IfOk result (λ column. column_view column ≡ record (column_view self) { table = table.now }) }
     {
@@ -91,7 +97,10 @@ impl Column {
         Ok(self)
     }
 
-    /// The same with this name of its table in the schema, which is copied. Refused for want of memory.
+    /// The column with this name of its table in the schema, which is copied.
+    ///
+    /// # Errors
+    /// - `AllocError` for want of memory.
     pub fn with_org_table(mut self, org_table: &[u8]) -> Result<Column, AllocError>
         ensures { IfOk result (λ column. column_view column ≡ record (column_view self) { org_table = org_table.now }) }
     {
@@ -100,7 +109,10 @@ impl Column {
         Ok(self)
     }
 
-    /// The same with this name in the query, which is copied. Refused for want of memory.
+    /// The column with this name in the query, which is copied.
+    ///
+    /// # Errors
+    /// - `AllocError` for want of memory.
     pub fn with_name(mut self, name: &[u8]) -> Result<Column, AllocError>
         ensures { IfOk result (λ column. column_view column ≡ record (column_view self) { name = name.now }) }
     {
@@ -109,7 +121,10 @@ impl Column {
         Ok(self)
     }
 
-    /// The same with this name in the table, which is copied. Refused for want of memory.
+    /// The column with this name in the table, which is copied.
+    ///
+    /// # Errors
+    /// - `AllocError` for want of memory.
     pub fn with_org_name(mut self, org_name: &[u8]) -> Result<Column, AllocError>
         ensures { IfOk result (λ column. column_view column ≡ record (column_view self) { org_name = org_name.now }) }
     {
@@ -118,7 +133,7 @@ impl Column {
         Ok(self)
     }
 
-    /// The same with these flags.
+    /// The column with these flags.
     pub fn with_flags(mut self, flags: ColumnFlags) -> Column
         ensures { column_view result ≡ record (column_view self) { flags = flags } }
     {
@@ -126,7 +141,7 @@ impl Column {
         self
     }
 
-    /// The same with this length.
+    /// The column with this length.
     pub fn with_column_length(mut self, column_length: u32) -> Column
         ensures { column_view result ≡ record (column_view self) { column_length = column_length } }
     {
@@ -134,7 +149,7 @@ impl Column {
         self
     }
 
-    /// The same with this number of its character set's collation.
+    /// The column with this number of its character set's collation.
     pub fn with_character_set(mut self, character_set: u16) -> Column
         ensures { column_view result ≡ record (column_view self) { character_set = character_set } }
     {
@@ -142,7 +157,7 @@ impl Column {
         self
     }
 
-    /// The same with so many digits behind the decimal point.
+    /// The column with so many digits behind the decimal point.
     pub fn with_decimals(mut self, decimals: u8) -> Column
         ensures { column_view result ≡ record (column_view self) { decimals = decimals } }
     {
@@ -158,7 +173,9 @@ impl Column {
     }
 
     /// The name of the column's schema, as text, where bytes that aren't UTF-8 are replaced.
-    /// Refused for want of memory.
+    ///
+    /// # Errors
+    /// - `Memory`.
     pub fn schema_str(&self, alloc: Global) -> Result<CowStr<'_>, WireError>
         ensures memory { IsOkUnless result wire.Memory }
         ensures value { IfOk result (λ text. cow_str_bytes text ≡
@@ -175,7 +192,9 @@ impl Column {
     }
 
     /// The name of its table in the query, as text, where bytes that aren't UTF-8 are replaced.
-    /// Refused for want of memory.
+    ///
+    /// # Errors
+    /// - `Memory`.
     pub fn table_str(&self, alloc: Global) -> Result<CowStr<'_>, WireError>
         ensures memory { IsOkUnless result wire.Memory }
         ensures value { IfOk result (λ text. cow_str_bytes text ≡
@@ -192,7 +211,9 @@ impl Column {
     }
 
     /// The name of its table in the schema, as text, where bytes that aren't UTF-8 are replaced.
-    /// Refused for want of memory.
+    ///
+    /// # Errors
+    /// - `Memory`.
     pub fn org_table_str(&self, alloc: Global) -> Result<CowStr<'_>, WireError>
         ensures memory { IsOkUnless result wire.Memory }
         ensures value { IfOk result (λ text. cow_str_bytes text ≡
@@ -208,7 +229,10 @@ impl Column {
         self.name.as_slice()
     }
 
-    /// Its name in the query, as text, where bytes that aren't UTF-8 are replaced. Refused for want of memory.
+    /// Its name in the query, as text, where bytes that aren't UTF-8 are replaced.
+    ///
+    /// # Errors
+    /// - `Memory`.
     pub fn name_str(&self, alloc: Global) -> Result<CowStr<'_>, WireError>
         ensures memory { IsOkUnless result wire.Memory }
         ensures value { IfOk result (λ text. cow_str_bytes text ≡
@@ -224,7 +248,10 @@ impl Column {
         self.org_name.as_slice()
     }
 
-    /// Its name in the table, as text, where bytes that aren't UTF-8 are replaced. Refused for want of memory.
+    /// Its name in the table, as text, where bytes that aren't UTF-8 are replaced.
+    ///
+    /// # Errors
+    /// - `Memory`.
     pub fn org_name_str(&self, alloc: Global) -> Result<CowStr<'_>, WireError>
         ensures memory { IsOkUnless result wire.Memory }
         ensures value { IfOk result (λ text. cow_str_bytes text ≡
@@ -268,7 +295,10 @@ impl Column {
         self.decimals
     }
 
-    /// A copy. Refused for want of memory.
+    /// A copy.
+    ///
+    /// # Errors
+    /// - `AllocError` for want of memory.
     pub fn clone(&self, alloc: Global) -> Result<Column, AllocError>
         ensures { IfOk result (λ copy. column_view copy ≡ column_view self.now) }
     {

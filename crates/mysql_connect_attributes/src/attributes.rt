@@ -22,12 +22,13 @@ use mysql_fields::{
 use std::alloc::{AllocError, Global};
 use std::borrow::CowSlice;
 
-/// The attributes of a connection: each key once, in the order in which the keys first came, and
-/// with its last value. Keys are compared and hashed by their bytes.
-/// (MySQL: Client/Server Protocol, "Protocol::HandshakeResponse41".)
+/// The attributes of a connection: each key once, with its last value.
 ///
-/// Reading is refused by `UnexpectedEof` where the total or the bytes that it counts are cut off, or
-/// where an attribute doesn't end within them, and by `Memory`.
+/// They stand in the order in which the keys first came. Keys are compared and hashed by their
+/// bytes. (MySQL: Client/Server Protocol, "Protocol::HandshakeResponse41".)
+///
+/// Reading is refused by `UnexpectedEof` where the total or the bytes that it counts are cut off,
+/// or where an attribute doesn't end within them, and by `Memory`.
 #[derive(Debug, PartialEq, Eq, Drop)]
 pub struct ConnectAttributes<'a> {
     entries: IndexMap<RawBytes<'a, LenEnc>, RawBytes<'a, LenEnc>>,
@@ -56,8 +57,10 @@ impl<'a> ConnectAttributes<'a> {
         Ok(())
     }
 
-    /// The attributes of these texts, which are moved and not copied. Refused for want of memory
-    /// alone.
+    /// The attributes of these texts, which are moved and not copied.
+    ///
+    /// # Errors
+    /// - `AllocError` for want of memory.
     pub fn from_texts(
         alloc: Global,
         texts: IndexMap<String, String>,
@@ -73,7 +76,10 @@ impl<'a> ConnectAttributes<'a> {
         Ok(all)
     }
 
-    /// The same attributes, which borrow nothing. Refused for want of memory alone.
+    /// The attributes in bytes of their own: they borrow nothing.
+    ///
+    /// # Errors
+    /// - `AllocError` for want of memory.
     pub fn into_owned(self, alloc: Global) -> Result<ConnectAttributes<'static>, AllocError>
         ensures { IfOk result (λ all. attributes_view all ≡ attributes_view self.entry) }
     {
@@ -84,7 +90,10 @@ impl<'a> ConnectAttributes<'a> {
         Ok(all)
     }
 
-    /// A copy of the attributes, which borrows nothing. Refused for want of memory alone.
+    /// A copy of the attributes, which borrows nothing.
+    ///
+    /// # Errors
+    /// - `AllocError` for want of memory.
     pub fn clone(&self, alloc: Global) -> Result<ConnectAttributes<'static>, AllocError>
         ensures { IfOk result (λ all. attributes_view all ≡ attributes_view self.now) }
     {
@@ -96,7 +105,10 @@ impl<'a> ConnectAttributes<'a> {
     }
 
     /// The attributes as texts, where bytes that aren't UTF-8 are replaced. Of keys with the same
-    /// text the first one's place and the last one's value stay. Refused for want of memory alone.
+    /// text the first one's place and the last one's value stay.
+    ///
+    /// # Errors
+    /// - `Memory`.
     pub fn texts(&self, alloc: Global) -> Result<IndexMap<String, String>, WireError>
         ensures memory { IsOkUnless result wire.Memory }
         ensures value { IfOk result (λ texts. map text_attribute texts.entries ≡
@@ -140,8 +152,10 @@ impl ConnectAttributes<'static> {
     }
 }
 
-/// Two texts of a packet, which borrow nothing: of an attribute, or of a user and a database. Refused for
-/// want of memory alone.
+/// Two texts of a packet, which borrow nothing: of an attribute, or of a user and a database.
+///
+/// # Errors
+/// - `AllocError` for want of memory.
 pub fn owned_pair<T: BytesRepr, U: BytesRepr>(
     alloc: Global,
     first: RawBytes<T>,
@@ -155,7 +169,10 @@ pub fn owned_pair<T: BytesRepr, U: BytesRepr>(
     Ok((first, second))
 }
 
-/// Copies of two texts of a packet, which borrow nothing. Refused for want of memory alone.
+/// Copies of two texts of a packet, which borrow nothing.
+///
+/// # Errors
+/// - `AllocError` for want of memory.
 pub fn copied_pair<T: BytesRepr, U: BytesRepr>(
     alloc: Global,
     first: &RawBytes<T>,

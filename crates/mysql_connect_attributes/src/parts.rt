@@ -43,8 +43,11 @@ impl<'x, T: MySerialize> MySerialize for IfHeld<'x, T> {
     }
 }
 
-/// A part of a packet that is read where it stands there, and else takes no byte. Refused as the part's
-/// own reading is.
+/// A part of a packet that is read where it stands there, and else takes no byte.
+///
+/// # Errors
+/// - Those of the part's own reading.
+///
 /// (MySQL: Client/Server Protocol, "Protocol::HandshakeResponse41" and "COM_CHANGE_USER".)
 pub fn parse_if<'de, T: MyDeserialize<'de>>(
     alloc: Global,
@@ -62,8 +65,9 @@ pub fn parse_if<'de, T: MyDeserialize<'de>>(
     Ok(Some(part))
 }
 
-/// A plugin by its name to a zero or to the end of the bytes, where it stands there; never refused.
-/// (MySQL: Client/Server Protocol, "Protocol::HandshakeResponse41".)
+/// A plugin by its name to a zero or to the end of the bytes, where it stands there.
+///
+/// It is never refused. (MySQL: Client/Server Protocol, "Protocol::HandshakeResponse41".)
 pub fn plugin_to_zero<'de>(is_there: bool, rest: &mut ParseBuf<'de>) -> Option<AuthPlugin<'de>>
     ensures { if_there is_there plugin_to_zero_at rest.old.0.now ≡ Ok (option_map plugin_view result, rest.new.0.now) }
 {
@@ -73,8 +77,11 @@ pub fn plugin_to_zero<'de>(is_there: bool, rest: &mut ParseBuf<'de>) -> Option<A
     Some(AuthPlugin::from_bytes(rest.eat_null_str()))
 }
 
-/// A plugin by its name to a zero, where it stands there. Refused by `UnexpectedEof` where no zero ends
-/// the name.
+/// A plugin by its name to a zero, where it stands there.
+///
+/// # Errors
+/// - `UnexpectedEof` where no zero ends the name.
+///
 /// (MySQL: Client/Server Protocol, "COM_CHANGE_USER".)
 pub fn plugin_before_zero<'de>(
     is_there: bool,
@@ -104,7 +111,10 @@ pub fn or_no_bytes<'a>(bytes: Option<CowSlice<'a, u8>>) -> CowSlice<'a, u8>
     }
 }
 
-/// The plugin, which borrows nothing, where there is one. Refused for want of memory alone.
+/// The plugin, which borrows nothing, where there is one.
+///
+/// # Errors
+/// - `AllocError` for want of memory.
 pub fn owned_plugin(
     alloc: Global,
     plugin: Option<AuthPlugin>,
@@ -117,7 +127,10 @@ pub fn owned_plugin(
     }
 }
 
-/// A copy of the plugin, which borrows nothing, where there is one. Refused for want of memory alone.
+/// A copy of the plugin, which borrows nothing, where there is one.
+///
+/// # Errors
+/// - `AllocError` for want of memory.
 pub fn copied_plugin(
     alloc: Global,
     plugin: &Option<AuthPlugin>,
@@ -130,7 +143,10 @@ pub fn copied_plugin(
     }
 }
 
-/// The attributes, which borrow nothing, where there are any. Refused for want of memory alone.
+/// The attributes, which borrow nothing, where there are any.
+///
+/// # Errors
+/// - `AllocError` for want of memory.
 pub fn owned_attributes(
     alloc: Global,
     attributes: Option<ConnectAttributes>,
@@ -143,8 +159,10 @@ pub fn owned_attributes(
     }
 }
 
-/// A copy of the attributes, which borrows nothing, where there are any. Refused for want of memory
-/// alone.
+/// A copy of the attributes, which borrows nothing, where there are any.
+///
+/// # Errors
+/// - `AllocError` for want of memory.
 pub fn copied_attributes(
     alloc: Global,
     attributes: &Option<ConnectAttributes>,
@@ -157,8 +175,10 @@ pub fn copied_attributes(
     }
 }
 
-/// The attributes of these texts, which are moved and not copied, where there are any. Refused for want
-/// of memory alone.
+/// The attributes of these texts, which are moved and not copied, where there are any.
+///
+/// # Errors
+/// - `AllocError` for want of memory.
 pub fn attributes_of_texts<'a>(
     alloc: Global,
     texts: Option<IndexMap<String, String>>,

@@ -24,10 +24,13 @@ pub trait Intermediate<T>: Sized {
 
     /// Undoes the conversion: a value that converts to the same again.
     ///
-    /// It is the value that was read where that was kept or moved, and else the one that its result converts to.
+    /// It is the value that was read where that was kept or moved, and else the one that its result
+    /// converts to.
     ///
     /// # Errors
-    /// `TooLong` where that has no value, which no intermediate of this crate that was read answers; `Memory`.
+    /// - `TooLong` where that has no value, which no intermediate of this crate that was read
+    ///   answers.
+    /// - `Memory`.
     fn rollback(self, alloc: Global) -> Result<Value, ToValueError>
         ensures ok { IfOk result (λ value. rolled_back self ≡ Some value) }
         ensures err { IfErr result (λ e. (e ≡ to_value_error.Memory) ⊎
@@ -59,17 +62,19 @@ pub trait FromValue: Sized {
     /// Converts a value so that it can still be undone.
     ///
     /// # Errors
-    /// `FromValueError` with the value, where it doesn't convert.
+    /// - `FromValueError` with the value, where it doesn't convert.
     fn get_intermediate(value: Value) -> Result<Self::Intermediate, FromValueError>
         ensures ok { IfOk result (λ step. converted value ≡ Some (shown (Self.Intermediate.committed step))) }
         ensures again { IfOk result (λ step. ReadsAgain converted value (Self.Intermediate.rolled_back step)) }
         ensures err { IfErr result (λ e. (converted value ≡ None) × (e.0 ≡ value)) };
 
-    /// Converts a copy of a value, as `from_value_opt` does; an impl may spare the copy where it keeps nothing of it.
+    /// Converts a copy of a value, as `from_value_opt` does.
+    ///
+    /// An impl may spare the copy where it keeps nothing of it.
     ///
     /// # Errors
-    /// `AllocError`, outermost, for want of memory alone; `FromValueError` with a copy of the
-    /// value, where it doesn't convert.
+    /// - `AllocError`, outermost, for want of memory alone.
+    /// - `FromValueError` with a copy of the value, where it doesn't convert.
     fn from_value_ref_opt(
         alloc: Global,
         value: &Value,
@@ -86,7 +91,7 @@ pub trait FromValue: Sized {
     /// Converts a value.
     ///
     /// # Errors
-    /// `FromValueError` with the value, where it doesn't convert.
+    /// - `FromValueError` with the value, where it doesn't convert.
     final fn from_value_opt(value: Value) -> Result<Self, FromValueError>
         ensures ok { IfOk result (λ x. converted value ≡ Some (shown x)) }
         ensures err { IfErr result (λ e. (converted value ≡ None) × (e.0 ≡ value)) }
@@ -118,7 +123,7 @@ pub fn from_value<T: FromValue>(value: Value) -> T
 /// Converts a value.
 ///
 /// # Errors
-/// `FromValueError` with the value, where it doesn't convert.
+/// - `FromValueError` with the value, where it doesn't convert.
 pub fn from_value_opt<T: FromValue>(value: Value) -> Result<T, FromValueError>
     ensures ok { IfOk result (λ x. T.converted value ≡ Some (T.shown x)) }
     ensures err { IfErr result (λ e. (T.converted value ≡ None) × (e.0 ≡ value)) }
@@ -129,7 +134,7 @@ pub fn from_value_opt<T: FromValue>(value: Value) -> Result<T, FromValueError>
 /// Converts a value so that it can still be undone.
 ///
 /// # Errors
-/// `FromValueError` with the value, where it doesn't convert.
+/// - `FromValueError` with the value, where it doesn't convert.
 pub fn get_intermediate<T: FromValue>(value: Value) -> Result<T::Intermediate, FromValueError>
     ensures ok { IfOk result (λ step. T.converted value ≡ Some (T.shown (T.Intermediate.committed step))) }
     ensures again { IfOk result (λ step. ReadsAgain T.converted value (T.Intermediate.rolled_back step)) }

@@ -486,7 +486,10 @@ impl<T: IntRepr, U> RawConst<T, U> {
 }
 
 impl<T: IntRepr, U: ConstValue<Number = T::Primitive>> RawConst<T, U> {
-    /// The value that has this number. Refused by `UnknownValue` where there is none.
+    /// The value that has this number.
+    ///
+    /// # Errors
+    /// - `UnknownValue` where there is none.
     pub fn get(&self) -> Result<U, WireError>
         ensures { result ≡ known (U.named self.now.0) }
     {

@@ -40,13 +40,18 @@ pub trait SeqRepr {
     // in this context the count is read back
     ghost IsReadBack: { Self.Ctx → ℕ → Type 0 };
 
-    /// Appends a count. Refused for want of memory alone, and the buffer is then as it was.
+    /// Appends a count.
+    ///
+    /// # Errors
+    /// - `AllocError` for want of memory. The buffer is then as it was.
     fn serialize_count(count: usize, buf: &mut Vec<u8>) -> Result<(), AllocError>
         requires { count ≤ MAX_LEN }
         ensures { Appends result buf.old.items buf.new.items (written count) };
 
-    /// Reads the count that stands first. Refused by `UnexpectedEof` where it is cut off; all
-    /// bytes are then left.
+    /// Reads the count that stands first.
+    ///
+    /// # Errors
+    /// - `UnexpectedEof` where it is cut off. All bytes are then left.
     fn deserialize_count(ctx: Self::Ctx, buf: &mut ParseBuf) -> Result<usize, WireError>
         ensures { Tells (λ n. n) buf.old.0.now buf.new.0.now result (read_at ctx buf.old.0.now) };
 
@@ -293,8 +298,10 @@ impl<T, U> Seq<'static, T, U> {
 }
 
 impl<'a, T: Clone, U> Seq<'a, T, U> {
-    /// Appends an element; borrowed ones are cloned first. Refused for want of memory alone, and
-    /// the list is then as it was.
+    /// Appends an element; borrowed ones are cloned first.
+    ///
+    /// # Errors
+    /// - `AllocError` for want of memory. The list is then as it was.
     pub fn push(&mut self, alloc: Global, element: T) -> Result<(), AllocError>
         ensures grown { IfOk result
             (λ _. IsGrown T.is_clone (cow_slice_items self.old.0) element
@@ -318,7 +325,10 @@ impl<'a, T: Clone, U> Seq<'a, T, U> {
 }
 
 impl<'a, T: Clone, U> Seq<'a, T, U> {
-    /// The same list, owned; borrowed elements are cloned. Refused for want of memory alone.
+    /// The list in a `Vec` of its own; borrowed elements are cloned.
+    ///
+    /// # Errors
+    /// - `AllocError` for want of memory.
     pub fn into_owned<'b>(self, alloc: Global) -> Result<Seq<'b, T, U>, AllocError>
         ensures same { IfOk result
             (λ owned. IsCopied T.is_clone (cow_slice_items self.entry.0) (cow_slice_items owned.0)) }
@@ -335,7 +345,10 @@ impl<'a, T: Clone, U> Seq<'a, T, U> {
         Ok(Seq(CowSlice::Owned(all), PhantomData))
     }
 
-    /// A copy of the list, which owns clones of the elements. Refused for want of memory alone.
+    /// A copy of the list, which owns clones of the elements.
+    ///
+    /// # Errors
+    /// - `AllocError` for want of memory.
     pub fn clone<'b>(&self, alloc: Global) -> Result<Seq<'b, T, U>, AllocError>
         ensures same { IfOk result (λ copy. AllZip T.is_clone (cow_slice_items self.now.0) (cow_slice_items copy.0)) }
         ensures same_if_clones_equal { IfOk result (λ copy. ((x y : T) → T.is_clone x y → y ≡ x) →

@@ -47,7 +47,10 @@ impl BitmapBytes for &mut [u8] {
 pub struct NullBitmap<T: SerializationSide, U = Vec<u8>>(pub U, PhantomData<T>);
 
 impl<T: SerializationSide> NullBitmap<T, Vec<u8>> {
-    /// A bitmap of so many columns, none of them NULL. Refused for want of memory alone.
+    /// A bitmap of so many columns, none of them NULL.
+    ///
+    /// # Errors
+    /// - `AllocError` for want of memory.
     pub fn new(alloc: Global, columns: usize) -> Result<NullBitmap<T, Vec<u8>>, AllocError>
         ensures { IfOk result (λ bitmap. bitmap.0.items ≡ replicate (len_of T.BIT_OFFSET columns) 0) }
     {
@@ -57,7 +60,10 @@ impl<T: SerializationSide> NullBitmap<T, Vec<u8>> {
         Ok(NullBitmap(bytes, PhantomData))
     }
 
-    /// A copy. Refused for want of memory.
+    /// A copy.
+    ///
+    /// # Errors
+    /// - `AllocError` for want of memory.
     pub fn clone(&self, alloc: Global) -> Result<NullBitmap<T, Vec<u8>>, AllocError>
         ensures { IfOk result (λ copy. copy.0.items ≡ self.now.0.items) }
     {
@@ -65,7 +71,10 @@ impl<T: SerializationSide> NullBitmap<T, Vec<u8>> {
     }
 
     /// Takes the bitmap of so many columns from the front of `input`, where its bytes have to
-    /// stand. Refused for want of memory alone; `input` is then as it was.
+    /// stand.
+    ///
+    /// # Errors
+    /// - `AllocError` for want of memory. `input` is then as it was.
     pub fn read(
         alloc: Global,
         input: &mut &[u8],

@@ -53,7 +53,10 @@ impl<'a, T: IntRepr, U> RawSeq<'a, T, U> {
         self.0.as_slice().get(index).copied()
     }
 
-    /// The same list, owned. Refused for want of memory alone.
+    /// The list in a `Vec` of its own.
+    ///
+    /// # Errors
+    /// - `AllocError` for want of memory.
     pub fn into_owned<'b>(self, alloc: Global) -> Result<RawSeq<'b, T, U>, AllocError>
         ensures same { IfOk result (λ owned. cow_slice_items owned.0 ≡ cow_slice_items self.entry.0) }
         ensures owned { IfOk result (λ owned. IsOwnedSlice owned.0) }
@@ -65,7 +68,10 @@ impl<'a, T: IntRepr, U> RawSeq<'a, T, U> {
         Ok(RawSeq(CowSlice::Owned(all), PhantomData))
     }
 
-    /// A copy of the list, which owns its numbers. Refused for want of memory alone.
+    /// A copy of the list, which owns its numbers.
+    ///
+    /// # Errors
+    /// - `AllocError` for want of memory.
     pub fn clone<'b>(&self, alloc: Global) -> Result<RawSeq<'b, T, U>, AllocError>
         ensures same { IfOk result (λ copy. cow_slice_items copy.0 ≡ cow_slice_items self.now.0) }
         ensures owned { IfOk result (λ copy. IsOwnedSlice copy.0) }

@@ -42,12 +42,17 @@ pub trait IntRepr {
     // what reading answers, of every list of bytes
     ghost read_at: { List ℕ → Reading Self.Primitive };
 
-    /// Appends a number. Refused for want of memory alone, and the buffer is then as it was.
+    /// Appends a number.
+    ///
+    /// # Errors
+    /// - `AllocError` for want of memory. The buffer is then as it was.
     fn serialize(number: Self::Primitive, buf: &mut Vec<u8>) -> Result<(), AllocError>
         ensures { Appends result buf.old.items buf.new.items (written number) };
 
-    /// Reads the number that stands first. Refused by `UnexpectedEof` where it is cut off; all
-    /// bytes are then left.
+    /// Reads the number that stands first.
+    ///
+    /// # Errors
+    /// - `UnexpectedEof` where it is cut off. All bytes are then left.
     fn deserialize(buf: &mut ParseBuf) -> Result<Self::Primitive, WireError>
         requires { Suffices SIZE (length buf.old.0.now) }
         ensures { Tells (λ x. x) buf.old.0.now buf.new.0.now result (read_at buf.old.0.now) };

@@ -13,8 +13,10 @@ pub trait MySerialize {
     // the bytes that are written
     ghost written: { Self → List ℕ };
 
-    /// Appends the whole value. Refused for want of memory alone, and the buffer is then as it
-    /// was.
+    /// Appends the whole value.
+    ///
+    /// # Errors
+    /// - `AllocError` for want of memory. The buffer is then as it was.
     fn serialize(&self, buf: &mut Vec<u8>) -> Result<(), AllocError>
         ensures { Appends result buf.old.items buf.new.items (written self.now) };
 }
@@ -136,8 +138,10 @@ pub trait ParseExt<'a>: Sized {
     fn set_unread(&mut self, buf: ParseBuf<'a>)
         ensures { left self.new ≡ buf.entry.0.now };
 
-    /// Reads a value whose bytes are there, if it has a size. Refused as the value's type says;
-    /// all bytes are then left.
+    /// Reads a value whose bytes are there, if it has a size.
+    ///
+    /// # Errors
+    /// - Those of the value's type. All bytes are then left.
     final fn parse_unchecked<T: MyDeserialize<'a>>(
         &mut self,
         alloc: Global,
@@ -153,8 +157,13 @@ pub trait ParseExt<'a>: Sized {
         answer
     }
 
-    /// Reads a value, or is refused: by `UnexpectedEof` where there are fewer bytes than its size,
-    /// then as its type says. All bytes are then left.
+    /// Reads a value.
+    ///
+    /// # Errors
+    /// - `UnexpectedEof` where there are fewer bytes than its size.
+    /// - Those of the value's type.
+    ///
+    /// All bytes are left after an error.
     final fn parse<T: MyDeserialize<'a>>(
         &mut self,
         alloc: Global,

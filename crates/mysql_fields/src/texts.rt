@@ -52,12 +52,20 @@ pub trait BytesRepr {
     // what reading answers, of every list of bytes
     ghost read_at: { Self.Ctx → List ℕ → Reading (List ℕ) };
 
-    /// Appends a text. Refused for want of memory alone, and the buffer is then as it was.
+    /// Appends a text.
+    ///
+    /// # Errors
+    /// - `AllocError` for want of memory. The buffer is then as it was.
     fn serialize(text: &[u8], buf: &mut Vec<u8>) -> Result<(), AllocError>
         ensures { Appends result buf.old.items buf.new.items (written text.now) };
 
-    /// Reads the text that stands first. Refused by `UnexpectedEof` where it is cut off, and as
-    /// the representation says; all bytes are then left.
+    /// Reads the text that stands first.
+    ///
+    /// # Errors
+    /// - `UnexpectedEof` where it is cut off.
+    /// - Those that the representation names.
+    ///
+    /// All bytes are left after an error.
     fn deserialize<'de>(
         ctx: Self::Ctx,
         buf: &mut ParseBuf<'de>,
@@ -105,8 +113,10 @@ impl<'a, T: BytesRepr> RawBytes<'a, T> {
         self.len() == 0
     }
 
-    /// The bytes that count as text, where bytes that aren't UTF-8 are replaced. Refused for want
-    /// of memory.
+    /// The bytes that count as text, where bytes that aren't UTF-8 are replaced.
+    ///
+    /// # Errors
+    /// - `Memory`.
     pub fn as_str(&self, alloc: Global) -> Result<CowStr<'_>, WireError>
         ensures memory { IfErr result (λ e. e ≡ Memory) }
         ensures text { IfOk result (λ text. cow_str_bytes text ≡
@@ -115,7 +125,10 @@ impl<'a, T: BytesRepr> RawBytes<'a, T> {
         Ok(self.as_bytes().to_str_lossy(alloc)?)
     }
 
-    /// The same text, owned. Refused for want of memory.
+    /// The text in bytes of its own.
+    ///
+    /// # Errors
+    /// - `AllocError` for want of memory.
     pub fn into_owned(self, alloc: Global) -> Result<RawBytes<'static, T>, AllocError>
         ensures { IfOk result (λ owned. cow_slice_items owned.0 ≡ cow_slice_items self.entry.0) }
     {
@@ -123,7 +136,10 @@ impl<'a, T: BytesRepr> RawBytes<'a, T> {
         Ok(RawBytes(CowSlice::Owned(bytes), PhantomData))
     }
 
-    /// A copy of the text, which borrows nothing. Refused for want of memory.
+    /// A copy of the text, which borrows nothing.
+    ///
+    /// # Errors
+    /// - `AllocError` for want of memory.
     pub fn clone(&self, alloc: Global) -> Result<RawBytes<'static, T>, AllocError>
         ensures { IfOk result (λ copy. cow_slice_items copy.0 ≡ cow_slice_items self.now.0) }
     {
@@ -380,7 +396,10 @@ impl BytesRepr for U32Bytes {
     }
 }
 
-/// A text before its first zero, and a zero. Refused by `UnexpectedEof` without a zero.
+/// A text before its first zero, and a zero.
+///
+/// Reading is refused by `UnexpectedEof` where no zero comes.
+///
 /// (MySQL: Client/Server Protocol, "Protocol::NullTerminatedString".)
 #[derive(Clone, Copy, Debug, PartialEq, Eq)]
 pub struct NullBytes;
@@ -473,8 +492,10 @@ impl BytesRepr for EofBytes {
     }
 }
 
-/// A text's first `M` bytes alone: the context says how many are read. Refused by `TooManyBytes`
-/// where it says more than `M`.
+/// A text's first `M` bytes alone: the context says how many are read.
+///
+/// Reading is refused by `TooManyBytes` where the context says more than `M`.
+///
 /// (MySQL: Client/Server Protocol, "Protocol::VariableLengthString".)
 #[derive(Clone, Copy, Debug, PartialEq, Eq)]
 pub struct BareBytes<const M: usize>;

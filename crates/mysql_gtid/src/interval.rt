@@ -24,8 +24,11 @@ impl GnoInterval {
         GnoInterval { start, end }
     }
 
-    /// The interval with these ends. Refuses StartNotBelowEnd where `start` isn't below `end`, then
-    /// ZeroGno where `start` is 0.
+    /// The interval with these ends.
+    ///
+    /// # Errors
+    /// - `StartNotBelowEnd` where `start` isn't below `end`.
+    /// - `ZeroGno` where `start` is 0.
     pub fn check_and_new(start: u64, end: u64) -> Result<GnoInterval, SidError>
         ensures { result ≡ interval_between start end }
     {

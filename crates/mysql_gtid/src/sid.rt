@@ -19,8 +19,10 @@ use uuid::Uuid;
 /// How many bytes a UUID has.
 pub const UUID_LEN: usize = 16;
 
-/// A set of global transaction identifiers of one source: the source's UUID, a tag if there is one, and intervals of
-/// transaction numbers in any order.
+/// A set of global transaction identifiers of one source.
+///
+/// It has the source's UUID, a tag if there is one, and intervals of transaction numbers in any
+/// order.
 ///
 /// MySQL Reference Manual, "GTID Sets".
 #[derive(Debug, PartialEq, Eq, Hash, Drop)]
@@ -57,13 +59,19 @@ impl<'a> Sid<'a> {
         }
     }
 
-    /// The set that a text writes: a UUID, then a tag if there is one, then intervals `n` or `n-m`,
-    /// with colons between. A tag stands where what follows the UUID begins with no digit; numbers
-    /// may begin with a plus.
+    /// The set that a text writes: a UUID, a tag if there is one, and intervals.
     ///
-    /// What stands leftmost is refused: NoColon, BadUuid, Empty where nothing follows the first
-    /// colon, NoIntervals where what follows begins with no digit and holds no colon, BadTag, and
-    /// for each interval in its turn BadInterval, Overflow, StartNotBelowEnd, ZeroGno.
+    /// The intervals are `n` or `n-m`, and colons stand between all parts. A tag stands where what
+    /// follows the UUID begins with no digit; numbers may begin with a plus.
+    ///
+    /// # Errors
+    /// What stands leftmost is refused:
+    /// - `NoColon`.
+    /// - `BadUuid`.
+    /// - `Empty` where nothing follows the first colon.
+    /// - `NoIntervals` where what follows begins with no digit and holds no colon.
+    /// - `BadTag`.
+    /// - For each interval in its turn `BadInterval`, `Overflow`, `StartNotBelowEnd`, `ZeroGno`.
     ///
     /// MySQL Reference Manual, "GTID Sets".
     pub fn parse(alloc: Global, text: &str) -> Result<Sid<'static>, SidError>
@@ -91,7 +99,10 @@ impl<'a> Sid<'a> {
         self
     }
 
-    /// The set with this interval behind its others. Refuses want of memory alone, and the set is gone then.
+    /// The set with this interval behind its others.
+    ///
+    /// # Errors
+    /// - `AllocError` for want of memory. The set is gone then.
     pub fn with_interval(mut self, interval: GnoInterval) -> Result<Sid<'a>, AllocError>
         ensures { IfOk result (λ sid. sid_view sid ≡
             record (sid_view self.entry) {
@@ -245,7 +256,7 @@ fn intervals_of(alloc: Global, text: &str) -> Result<Vec<GnoInterval>, SidError>
     Ok(intervals)
 }
 
-/// The same tag, which borrows nothing.
+/// The tag in bytes of its own: it borrows nothing.
 fn owned(alloc: Global, tag: Option<Tag<'_>>) -> Result<Option<Tag<'static>>, AllocError>
     ensures { IfOk result (λ own. own ≡ tag.entry) }
 {

@@ -30,7 +30,7 @@ pub enum InvalidTag {
     TooLong(usize),
     /// The first character is this one, which is neither a letter from a to z nor an underscore.
     InvalidFirstChar(char),
-    /// A later character is this one, which is neither a letter from a to z nor an underscore or a digit.
+    /// A later character is this one: neither a letter from a to z, an underscore nor a digit.
     InvalidChar(char),
 }
 
@@ -93,8 +93,10 @@ fn check(text: &str) -> Result<(), InvalidTag>
     }
 }
 
-/// A tag of global transaction identifiers: a letter from a to z or an underscore, then letters,
-/// underscores and digits, at most 32 bytes in all. Tags are ordered by their bytes.
+/// A tag of global transaction identifiers.
+///
+/// It is a letter from a to z or an underscore, then letters, underscores and digits, at most 32
+/// bytes in all. Tags are ordered by their bytes.
 ///
 /// MySQL Reference Manual, "GTID Format and Storage".
 #[derive(Drop)]
@@ -118,8 +120,13 @@ impl<'a> Tag<'a> {
     /// The most bytes that a tag has.
     pub const MAX_LEN: usize = 32;
 
-    /// A tag of a text, which is moved and not copied. Refuses Empty, then TooLong with the number of bytes, then
-    /// InvalidFirstChar, then InvalidChar with the leftmost such character.
+    /// A tag of a text, which is moved and not copied.
+    ///
+    /// # Errors
+    /// - `Empty`.
+    /// - `TooLong` with the number of bytes.
+    /// - `InvalidFirstChar`.
+    /// - `InvalidChar` with the leftmost such character.
     ///
     /// MySQL Reference Manual, "GTID Format and Storage".
     pub fn new(text: CowStr<'a>) -> Result<Tag<'a>, InvalidTag>
@@ -138,7 +145,7 @@ impl<'a> Tag<'a> {
         self.text.as_str()
     }
 
-    /// The same tag, which borrows nothing.
+    /// The tag in bytes of its own: it borrows nothing.
     pub fn into_owned(self, alloc: Global) -> Result<Tag<'static>, AllocError>
         ensures { IfOk result (λ tag. tag ≡ self.entry) }
     {

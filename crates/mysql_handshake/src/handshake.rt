@@ -176,7 +176,8 @@ impl<'a> HandshakePacket<'a> {
         }
     }
 
-    /// The same packet with these capabilities of MariaDB's own.
+    /// The packet with these capabilities of MariaDB's own.
+    ///
     /// (MariaDB: "Connecting", 'Capabilities'.)
     pub fn with_mariadb_ext_capabilities(
         mut self,
@@ -202,8 +203,10 @@ impl<'a> HandshakePacket<'a> {
         self.server_version.as_slice()
     }
 
-    /// The server's version as text; bytes that aren't UTF-8 are replaced. Refused for want of
-    /// memory.
+    /// The server's version as text; bytes that aren't UTF-8 are replaced.
+    ///
+    /// # Errors
+    /// - `Memory`.
     pub fn server_version_str(&self, alloc: Global) -> Result<CowStr<'_>, WireError>
         ensures memory { IsOkUnless result wire.Memory }
         ensures value { IfOk result (λ text. cow_str_bytes text ≡
@@ -293,7 +296,9 @@ impl<'a> HandshakePacket<'a> {
     }
 
     /// The name of the plugin, if there is one, as text; bytes that aren't UTF-8 are replaced.
-    /// Refused for want of memory.
+    ///
+    /// # Errors
+    /// - `Memory`.
     pub fn auth_plugin_name_str(&self, alloc: Global) -> Result<Option<CowStr<'_>>, WireError>
         ensures memory { IsOkUnless result wire.Memory }
         ensures value { IfOk result (λ text. option_map cow_str_bytes text ≡
@@ -318,7 +323,10 @@ impl<'a> HandshakePacket<'a> {
         }
     }
 
-    /// The nonce: both scrambles, cut or padded with zeros to 20 bytes. Refused for want of memory.
+    /// The nonce: both scrambles, cut or padded with zeros to 20 bytes.
+    ///
+    /// # Errors
+    /// - `AllocError` for want of memory.
     pub fn nonce(&self, alloc: Global) -> Result<Vec<u8>, AllocError>
         ensures { IfOk result (λ nonce. nonce.items ≡ nonce_of (handshake_view self.now)) }
     {
@@ -330,7 +338,10 @@ impl<'a> HandshakePacket<'a> {
         Ok(nonce)
     }
 
-    /// The same packet, which borrows nothing. Refused for want of memory.
+    /// The packet in bytes of its own: it borrows nothing.
+    ///
+    /// # Errors
+    /// - `AllocError` for want of memory.
     pub fn into_owned(self, alloc: Global) -> Result<HandshakePacket<'static>, AllocError>
         ensures { IfOk result (λ owned. handshake_view owned ≡ handshake_view self.entry) }
     {
@@ -349,7 +360,10 @@ impl<'a> HandshakePacket<'a> {
         })
     }
 
-    /// A copy of the packet, which borrows nothing. Refused for want of memory.
+    /// A copy of the packet, which borrows nothing.
+    ///
+    /// # Errors
+    /// - `AllocError` for want of memory.
     pub fn clone(&self, alloc: Global) -> Result<HandshakePacket<'static>, AllocError>
         ensures { IfOk result (λ copy. handshake_view copy ≡ handshake_view self.now) }
     {

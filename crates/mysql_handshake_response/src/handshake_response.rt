@@ -120,11 +120,15 @@ fn name_of<'a>(name: Option<CowSlice<'a, u8>>) -> Option<RawBytes<'a, NullBytes>
 }
 
 impl<'a> HandshakeResponse<'a> {
-    /// An answer with these parts, of a client with these capabilities to a server of this version, which takes
-    /// packets of at most `max_packet_size` bytes. The capabilities of a database, a plugin and attributes are
-    /// set where these are given, and else cleared. The collation is utf8mb4_general_ci (45) from version
-    /// 5.5.3 on, else utf8mb3_general_ci (33). There are none of MariaDB's own capabilities. Refused for
-    /// want of memory alone.
+    /// A client's answer with these parts to a server of this version.
+    ///
+    /// The client takes packets of at most `max_packet_size` bytes. The capabilities of a database,
+    /// a plugin and attributes are set where these are given, and else cleared. The collation is
+    /// utf8mb4_general_ci (45) from version 5.5.3 on, else utf8mb3_general_ci (33). There are none
+    /// of MariaDB's own capabilities.
+    ///
+    /// # Errors
+    /// - `AllocError` for want of memory.
     #[allow(clippy::too_many_arguments)]
     pub fn new(
         alloc: Global,
@@ -188,7 +192,10 @@ impl<'a> HandshakeResponse<'a> {
         self
     }
 
-    /// A copy of the answer, which borrows nothing. Refused for want of memory alone.
+    /// A copy of the answer, which borrows nothing.
+    ///
+    /// # Errors
+    /// - `AllocError` for want of memory.
     pub fn clone(&self, alloc: Global) -> Result<HandshakeResponse<'static>, AllocError>
         ensures { IfOk result (λ copy. response_view copy ≡ response_view self.now) }
     {
@@ -290,9 +297,11 @@ impl<'a> HandshakeResponse<'a> {
         self.auth_plugin.as_ref()
     }
 
-    /// The attributes as texts, where there are any and where bytes that aren't UTF-8 are replaced. Of keys
-    /// with the same text the first one's place and the last one's value stay. Refused for want of memory
-    /// alone.
+    /// The attributes as texts, where there are any and where bytes that aren't UTF-8 are replaced.
+    /// Of keys with the same text the first one's place and the last one's value stay.
+    ///
+    /// # Errors
+    /// - `Memory`.
     pub fn connect_attributes(
         &self,
         alloc: Global,

@@ -64,7 +64,7 @@ impl<'a> ComChangeUserMoreData<'a> {
         }
     }
 
-    /// The same with this plugin, or with none.
+    /// The command with this plugin, or with none.
     pub fn with_auth_plugin(
         mut self,
         auth_plugin: Option<AuthPlugin<'a>>,
@@ -76,7 +76,10 @@ impl<'a> ComChangeUserMoreData<'a> {
         self
     }
 
-    /// The same with the attributes of these texts, or with none. Refused for want of memory alone.
+    /// The command with the attributes of these texts, or with none.
+    ///
+    /// # Errors
+    /// - `AllocError` for want of memory.
     pub fn with_connect_attributes(
         mut self,
         alloc: Global,
@@ -92,7 +95,10 @@ impl<'a> ComChangeUserMoreData<'a> {
         Ok(self)
     }
 
-    /// The same, which borrows nothing. Refused for want of memory alone.
+    /// The value in bytes of its own: it borrows nothing.
+    ///
+    /// # Errors
+    /// - `AllocError` for want of memory.
     pub fn into_owned(self, alloc: Global) -> Result<ComChangeUserMoreData<'static>, AllocError>
         ensures { IfOk result (λ more. more_view more ≡ more_view self.entry) }
     {
@@ -103,7 +109,10 @@ impl<'a> ComChangeUserMoreData<'a> {
         })
     }
 
-    /// A copy, which borrows nothing. Refused for want of memory alone.
+    /// A copy, which borrows nothing.
+    ///
+    /// # Errors
+    /// - `AllocError` for want of memory.
     pub fn clone(&self, alloc: Global) -> Result<ComChangeUserMoreData<'static>, AllocError>
         ensures { IfOk result (λ copy. more_view copy ≡ more_view self.now) }
     {
@@ -272,7 +281,10 @@ impl<'a> ComChangeUser<'a> {
         self
     }
 
-    /// The same command, which borrows nothing. Refused for want of memory alone.
+    /// The command in bytes of its own: it borrows nothing.
+    ///
+    /// # Errors
+    /// - `AllocError` for want of memory.
     pub fn into_owned(self, alloc: Global) -> Result<ComChangeUser<'static>, AllocError>
         ensures { IfOk result (λ owned. change_user_view owned ≡ change_user_view self.entry) }
     {
@@ -291,7 +303,10 @@ impl<'a> ComChangeUser<'a> {
         })
     }
 
-    /// A copy of the command, which borrows nothing. Refused for want of memory alone.
+    /// A copy of the command, which borrows nothing.
+    ///
+    /// # Errors
+    /// - `AllocError` for want of memory.
     pub fn clone(&self, alloc: Global) -> Result<ComChangeUser<'static>, AllocError>
         ensures { IfOk result (λ copy. change_user_view copy ≡ change_user_view self.now) }
     {

@@ -32,7 +32,10 @@ impl<'de, T> OkPacketDeserializer<'de, T> {
         self.0
     }
 
-    /// A copy of the packet, which borrows nothing. Refused for want of memory.
+    /// A copy of the packet, which borrows nothing.
+    ///
+    /// # Errors
+    /// - `AllocError` for want of memory.
     pub fn clone(&self, alloc: Global) -> Result<OkPacketDeserializer<'static, T>, AllocError>
         ensures { IfOk result (λ copy. ok_packet_view copy.0 ≡ ok_packet_view self.now.0) }
     {

@@ -35,7 +35,10 @@ pub trait OkPacketKind {
     // what is read of a packet that was written
     ghost kept: { ℕ → OkPacketFields → OkPacketFields };
 
-    /// Reads what follows the header. Refused as the kind says; all bytes are then left.
+    /// Reads what follows the header.
+    ///
+    /// # Errors
+    /// - Those that the kind names. All bytes are then left.
     fn parse_body<'de>(
         alloc: Global,
         capabilities: CapabilityFlags,
@@ -43,8 +46,10 @@ pub trait OkPacketKind {
     ) -> Result<OkPacketBody<'de>, WireError>
         ensures { Tells body_view buf.old.0.now buf.new.0.now result (body_at capabilities.0 buf.old.0.now) };
 
-    /// Appends what follows the header, with this status in place of the packet's own. Refused for
-    /// want of memory alone, and the buffer is then as it was.
+    /// Appends what follows the header, with this status in place of the packet's own.
+    ///
+    /// # Errors
+    /// - `AllocError` for want of memory. The buffer is then as it was.
     fn write_body(
         capabilities: CapabilityFlags,
         status: StatusFlags,
@@ -193,7 +198,7 @@ impl OkPacketKind for OldEofPacket {
 #[derive(Clone, Copy, Debug, PartialEq, Eq, Hash)]
 pub struct NetworkStreamTerminator;
 
-/// The same as an EOF packet that ends rows.
+/// Written and read as an EOF packet that ends rows.
 ///
 /// MySQL: Client/Server Protocol, "EOF_Packet" and "Binlog Network Stream".
 impl OkPacketKind for NetworkStreamTerminator {

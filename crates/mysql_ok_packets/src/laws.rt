@@ -6,8 +6,10 @@ ghost use Rattle.mysql_ok_packets.specs.Statements.{TerminatorsReadBack};
 
 use crate::kind::OkPacketKind;
 
-/// A packet that was written is read again by its kind where nothing follows it: an OK packet that
-/// answers a command, one that ends a result set, and an EOF packet.
+/// A packet that was written is read again by its kind where nothing follows it.
+///
+/// The kinds are an OK packet that answers a command, one that ends a result set, and an EOF
+/// packet.
 #[tactic(auto, using(crate::proofs::Back::read_back))]
 pub fn ok_packets_read_back()
     ensures ok { OkPacketsReadBack }
@@ -23,8 +25,9 @@ pub fn kinds_read_back<T: OkPacketKind>()
     let _header = T::HEADER;
 }
 
-/// A packet that was read can be written, and what is read of that is the packet: reading and
-/// writing again gives one form.
+/// A packet that was read can be written, and is what is read of that.
+///
+/// Reading and writing again gives one form.
 pub fn packets_are_their_own()
     ensures ok { OkPacketsAreTheirOwn }
     ensures terminator { TerminatorsAreTheirOwn }

@@ -20,8 +20,10 @@ use mysql_session_states::{SessionStateInfo, states_of};
 use std::alloc::{AllocError, Global};
 use std::borrow::{CowSlice, CowStr};
 
-/// An OK packet: what a server answers to a command that gives no rows, and what ends a result set where EOF
-/// packets are deprecated. [`OkPacket::serialize_as`] writes it as one of the four kinds.
+/// An OK packet: a server's answer to a command that gives no rows.
+///
+/// It also ends a result set where EOF packets are deprecated. [`OkPacket::serialize_as`] writes it
+/// as one of the four kinds.
 ///
 /// MySQL: Client/Server Protocol, "OK_Packet".
 #[derive(Debug, PartialEq, Eq, Drop)]
@@ -202,7 +204,10 @@ impl<'a> OkPacket<'a> {
         or_empty_of(&self.session_state_info)
     }
 
-    /// The same packet, which borrows nothing. Refused for want of memory.
+    /// The packet in bytes of its own: it borrows nothing.
+    ///
+    /// # Errors
+    /// - `AllocError` for want of memory.
     pub fn into_owned(self, alloc: Global) -> Result<OkPacket<'static>, AllocError>
         ensures { IfOk result (λ same. ok_packet_view same ≡ ok_packet_view self.entry) }
     {
@@ -218,7 +223,10 @@ impl<'a> OkPacket<'a> {
         })
     }
 
-    /// A copy of the packet, which borrows nothing. Refused for want of memory.
+    /// A copy of the packet, which borrows nothing.
+    ///
+    /// # Errors
+    /// - `AllocError` for want of memory.
     pub fn clone(&self, alloc: Global) -> Result<OkPacket<'static>, AllocError>
         ensures { IfOk result (λ copy. ok_packet_view copy ≡ ok_packet_view self.now) }
     {
@@ -270,7 +278,10 @@ impl<'a> OkPacket<'a> {
     }
 
     /// The server's text on the command as text, where it isn't empty; bytes that aren't UTF-8 are
-    /// replaced. Refused for want of memory.
+    /// replaced.
+    ///
+    /// # Errors
+    /// - `Memory`.
     pub fn info_str(&self, alloc: Global) -> Result<Option<CowStr<'_>>, WireError>
         ensures memory { IsOkUnless result wire.Memory }
         ensures value { IfOk result (λ text. option_map cow_str_bytes text ≡
@@ -289,9 +300,12 @@ impl<'a> OkPacket<'a> {
         lent(&self.session_state_info)
     }
 
-    /// The changes of the session's state, in their order; none where there are none. Refused by
-    /// `UnexpectedEof` where one is cut off and by `UnknownValue` for a type without a name,
-    /// whichever stands first, and by `Memory`.
+    /// The changes of the session's state, in their order; none where there are none.
+    ///
+    /// # Errors
+    /// - `UnexpectedEof` where one is cut off, or `UnknownValue` for a type without a name,
+    ///   whichever stands first.
+    /// - `Memory`.
     ///
     /// MySQL: Client/Server Protocol, "OK_Packet", 'Session State Information'.
     pub fn session_state_info(&self, alloc: Global) -> Result<Vec<SessionStateInfo<'_>>, WireError>

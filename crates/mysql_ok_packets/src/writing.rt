@@ -78,10 +78,13 @@ pub(crate) fn write_eof_body(
 }
 
 impl<'a> OkPacket<'a> {
-    /// Appends the packet as one of the kind `T`, for a client of these capabilities, with this
-    /// status in place of its own. Refused for want of memory alone, and the buffer is then as it
-    /// was. Only a status whose bits all have names ([`has_named_status`](crate::has_named_status))
-    /// is read back.
+    /// Appends the packet as one of the kind `T`, for a client of these capabilities.
+    ///
+    /// `status` is written in place of the packet's own. Only a status whose bits all have names
+    /// ([`has_named_status`](crate::has_named_status)) is read back.
+    ///
+    /// # Errors
+    /// - `AllocError` for want of memory. The buffer is then as it was.
     ///
     /// MySQL: Client/Server Protocol, "OK_Packet" and "EOF_Packet".
     pub fn serialize_as<T: OkPacketKind>(

@@ -1,23 +1,8 @@
-//! Packets of a server's reply: error packets and progress reports, requests for files, statement
-//! packets; columns, rows, OK packets, and the commands of prepared statements, single and in bulk,
-//! are passed on, and so are values and the wire.
+//! The face of packets: what a server answers (columns, rows, OK packets, errors, progress reports,
+//! requests for files, statement packets), and the commands of prepared statements, single and in
+//! bulk. Values and the wire are passed on with it.
 #![tactic(auto)]
 
-pub mod err_packet;
-pub mod headers;
-pub mod laws;
-pub mod local_infile;
-pub mod progress_report;
-pub mod server_error;
-pub mod statement;
-mod texts;
-
-pub use err_packet::ErrPacket;
-pub use headers::{
-    ErrPacketHeader, InvalidErrPacketHeader, InvalidLocalInfileHeader, InvalidSqlStateMarker,
-    InvalidStmtPacketStatus, LocalInfileHeader, SqlStateMarker, StmtPacketStatus,
-};
-pub use local_infile::LocalInfilePacket;
 pub use mysql_bulk::{
     BulkExecuteRequestError, ComStmtBulkExecuteHeader, ComStmtBulkExecuteRequest,
     InvalidComStmtBulkExecuteHeader, StmtBulkExecuteParamType, StmtBulkExecuteParamValue,
@@ -40,6 +25,12 @@ pub use mysql_rows::{
     ColumnIndex, Row, RowDeserializer, RowRefusal, new_row, new_row_raw, write_binary_row,
     write_text_row,
 };
+pub use mysql_server_packets::{
+    ErrPacket, ErrPacketHeader, InvalidErrPacketHeader, InvalidLocalInfileHeader,
+    InvalidSqlStateMarker, InvalidStmtPacketStatus, LocalInfileHeader, LocalInfilePacket,
+    ProgressReport, ServerError, SqlState, SqlStateMarker, StmtPacket, StmtPacketStatus,
+    err_packet, headers, laws, local_infile, progress_report, server_error, statement,
+};
 pub use mysql_session_states::{
     Gtids, Schema, SessionStateChange, SessionStateInfo, SystemVariable,
     TransactionCharacteristics, TransactionState, Unsupported, put_states,
@@ -51,6 +42,3 @@ pub use mysql_stmt::{
     InvalidComStmtResetHeader, InvalidComStmtSendLongDataHeader, InvalidIterationCount,
     IterationCount,
 };
-pub use progress_report::ProgressReport;
-pub use server_error::{ServerError, SqlState};
-pub use statement::StmtPacket;

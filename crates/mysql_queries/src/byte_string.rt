@@ -36,7 +36,7 @@ impl ByteString {
         })
     }
 
-    /// The same bytes again.
+    /// A copy of the bytes, in memory of its own.
     pub fn clone(&self, alloc: Global) -> Result<ByteString, AllocError>
         ensures { IfOk result (λ made. made ≡ self.now) }
     {
@@ -65,7 +65,7 @@ impl ByteString {
     }
 }
 
-/// The same bytes again, by the allocator of these.
+/// Copies the bytes, by the allocator of these.
 impl Clone for ByteString {
     ghost is_clone = { λ bytes made. made ≡ bytes };
 

@@ -16,7 +16,7 @@ pub enum Content {
 }
 
 impl Content {
-    /// The same content again.
+    /// A copy of the content, in memory of its own.
     pub fn clone(&self, alloc: Global) -> Result<Content, AllocError>
         ensures { IfOk result (λ copy. copy ≡ self.now) }
     {

@@ -44,8 +44,9 @@ fn value_of(b: u8) -> u8
     }
 }
 
-/// Reads a literal that begins with `0x`: how many bytes it takes, and its content into the buffer;
-/// None where its digits are none or odd in number.
+/// Reads a literal that begins with `0x`, and puts its content into the buffer.
+///
+/// The answer is how many bytes it takes, or None where its digits are none or odd in number.
 pub fn read_hex(text: &[u8], buf: &mut Vec<u8>) -> Result<Option<usize>, AllocError>
     requires { begins_hex text.now ≡ true }
     ensures in_range { IfOk result (λ found. IfSome found (λ n. n ≤ length text.now)) }

@@ -42,7 +42,9 @@ pub fn content_of_a_spelling()
     ensures written { WrittenIsRead }
 {}
 
-/// Where each placeholder of a query stands alone, the two ways to read a text agree, and there is at most one reading.
+/// Where placeholders stand alone, the two ways to read a text agree.
+///
+/// There is at most one reading then.
 pub fn one_reading()
     ensures at_most_one { OneReading }
     ensures lexed { LexedIsSliced }
@@ -54,8 +56,9 @@ pub fn texts_are_decided()
     ensures { TextIsDecided }
 {}
 
-/// Where each placeholder of a query stands alone, the query with a literal in each place is read
-/// as the literals' contents.
+/// A query with a literal in each place is read as the literals' contents.
+///
+/// Each placeholder has to stand alone.
 pub fn filled_text_is_read()
     ensures { FilledIsRead }
 {}

@@ -67,7 +67,8 @@ impl<'a> ParsedNamedParams<'a> {
     /// Parses a query.
     ///
     /// # Errors
-    /// `Mixed` where both names and question marks occur, `Memory`.
+    /// - `Mixed` where both names and question marks occur.
+    /// - `Memory`.
     pub fn parse(alloc: Global, query: &'a [u8]) -> Result<ParsedNamedParams<'a>, NamedParamsError>
         ensures query { IfOk result (λ parsed. IsParsed query.entry.now parsed.query) }
         ensures names { IfOk result (λ parsed. HasNames query.entry.now parsed.names) }
@@ -82,7 +83,8 @@ impl<'a> ParsedNamedParams<'a> {
     /// Parses a query whose placeholders were found before.
     ///
     /// # Errors
-    /// `Mixed` where both names and question marks occur, `Memory`.
+    /// - `Mixed` where both names and question marks occur.
+    /// - `Memory`.
     pub fn parse_at(
         alloc: Global,
         query: &'a [u8],
@@ -124,7 +126,10 @@ impl<'a> ParsedNamedParams<'a> {
         self.params.as_slice()
     }
 
-    /// A copy of the parsed query, which borrows nothing. Refused for want of memory.
+    /// A copy of the parsed query, which borrows nothing.
+    ///
+    /// # Errors
+    /// - `AllocError` for want of memory.
     pub fn clone(&self, alloc: Global) -> Result<ParsedNamedParams<'static>, AllocError>
         ensures { IfOk result (λ copy. copy ≡ self.now) }
     {

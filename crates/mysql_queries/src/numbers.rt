@@ -63,7 +63,9 @@ fn number_of(digits: &[u8]) -> Option<u64>
     Some(n)
 }
 
-/// The number at the front of a text, and how many bytes it takes; None where the digits there are none in range.
+/// Reads the number at the front of a text, and answers how many bytes it takes.
+///
+/// None where the digits there are none in range.
 pub fn read_number(text: &[u8]) -> Option<(i128, usize)>
     requires { begins_hex text.now ≡ false }
     ensures in_range { IfSome result (λ found. found.1 ≤ length text.now) }

@@ -152,8 +152,9 @@ fn push_run(out: &mut Vec<u8>, text: &[u8]) -> Result<usize, AllocError>
     Ok(run)
 }
 
-/// Reads a literal that begins with a single quote: how many bytes it takes, and its content into
-/// the buffer; None where nothing closes it.
+/// Reads a literal that begins with a single quote, and puts its content into the buffer.
+///
+/// The answer is how many bytes it takes, or None where nothing closes it.
 pub fn read_string(text: &[u8], buf: &mut Vec<u8>) -> Result<Option<usize>, AllocError>
     requires some { 0 < length text.now }
     requires begins { slice_index text.now 0 ≡ single_quote }

@@ -34,8 +34,7 @@ fn read_content<'a>(alloc: Global, text: &'a [u8]) -> Result<Option<(Content, &'
     }
 }
 
-/// Reads a text as the query with literals in the places of its placeholders, and gives the
-/// literals' contents in order.
+/// Reads a text as the query with literals in its places, and gives their contents in order.
 ///
 /// `places` are the query's placeholders, as [`places`](crate::placeholders::places) lists them,
 /// and each of them stands alone. None where the text is not the query's pieces with literals

@@ -48,7 +48,7 @@ impl<'a> ComBinlogDump<'a> {
         }
     }
 
-    /// The same from this position.
+    /// The request from this position.
     pub fn with_pos(mut self, pos: u32) -> ComBinlogDump<'a>
         ensures { binlog_dump_view result ≡ record (binlog_dump_view self.entry) { pos = pos } }
     {
@@ -56,7 +56,7 @@ impl<'a> ComBinlogDump<'a> {
         self
     }
 
-    /// The same with these flags.
+    /// The request with these flags.
     pub fn with_flags(mut self, flags: BinlogDumpFlags) -> ComBinlogDump<'a>
         ensures { binlog_dump_view result ≡ record (binlog_dump_view self.entry) { flags = flags.0 } }
     {
@@ -64,7 +64,7 @@ impl<'a> ComBinlogDump<'a> {
         self
     }
 
-    /// The same with this file's name.
+    /// The request with this file's name.
     pub fn with_filename(mut self, filename: CowSlice<'a, u8>) -> ComBinlogDump<'a>
         ensures { binlog_dump_view result ≡
             record (binlog_dump_view self.entry) { filename = cow_slice_items filename.entry } }
@@ -101,7 +101,10 @@ impl<'a> ComBinlogDump<'a> {
         self.filename.as_slice()
     }
 
-    /// The file's name as text, where bytes that aren't UTF-8 are replaced. Refused for want of memory.
+    /// The file's name as text, where bytes that aren't UTF-8 are replaced.
+    ///
+    /// # Errors
+    /// - `Memory`.
     pub fn filename(&self, alloc: Global) -> Result<CowStr<'_>, WireError>
         ensures memory { IsOkUnless result wire.Memory }
         ensures value { IfOk result (λ text. cow_str_bytes text ≡
@@ -110,7 +113,10 @@ impl<'a> ComBinlogDump<'a> {
         lossy(alloc, self.filename_raw())
     }
 
-    /// A copy, which borrows nothing. Refused for want of memory.
+    /// A copy, which borrows nothing.
+    ///
+    /// # Errors
+    /// - `AllocError` for want of memory.
     pub fn clone(&self, alloc: Global) -> Result<ComBinlogDump<'static>, AllocError>
         ensures { IfOk result (λ copy. binlog_dump_view copy ≡ binlog_dump_view self.now) }
     {

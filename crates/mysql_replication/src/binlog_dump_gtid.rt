@@ -29,9 +29,10 @@ use mysql_gtid::{Sid, SidBlock};
 use std::alloc::{AllocError, Global};
 use std::borrow::{CowSlice, CowStr};
 
-/// The request for the binary log without the transactions that are known: their sets, and a
-/// position of a file, of whose name at most 2^32 - 1 bytes are written. `BINLOG_THROUGH_GTID` is
-/// set exactly where there are sets.
+/// The request for the binary log without the transactions that are known.
+///
+/// It has their sets, and a position of a file, of whose name at most 2^32 - 1 bytes are written.
+/// `BINLOG_THROUGH_GTID` is set exactly where there are sets.
 ///
 /// MySQL: Client/Server Protocol, "COM_BINLOG_DUMP_GTID".
 #[derive(Debug, PartialEq, Eq, Hash, Drop)]
@@ -69,7 +70,7 @@ impl<'a> ComBinlogDumpGtid<'a> {
         }
     }
 
-    /// The same of the replica with this id.
+    /// The request of the replica with this id.
     pub fn with_server_id(mut self, server_id: u32) -> ComBinlogDumpGtid<'a>
         ensures { binlog_dump_gtid_view result ≡ record (binlog_dump_gtid_view self.entry) { server_id = server_id } }
     {
@@ -77,7 +78,7 @@ impl<'a> ComBinlogDumpGtid<'a> {
         self
     }
 
-    /// The same from this position.
+    /// The request from this position.
     pub fn with_pos(mut self, pos: u64) -> ComBinlogDumpGtid<'a>
         ensures { binlog_dump_gtid_view result ≡ record (binlog_dump_gtid_view self.entry) { pos = pos } }
     {
@@ -85,7 +86,7 @@ impl<'a> ComBinlogDumpGtid<'a> {
         self
     }
 
-    /// The same with this file's name.
+    /// The request with this file's name.
     pub fn with_filename(mut self, filename: CowSlice<'a, u8>) -> ComBinlogDumpGtid<'a>
         ensures { binlog_dump_gtid_view result ≡
             record (binlog_dump_gtid_view self.entry) { filename = cow_slice_items filename.entry } }
@@ -94,7 +95,7 @@ impl<'a> ComBinlogDumpGtid<'a> {
         self
     }
 
-    /// The same with these flags, of which `BINLOG_THROUGH_GTID` is set where there are sets, and
+    /// The request with these flags, of which `BINLOG_THROUGH_GTID` is set where there are sets, and
     /// not where there are none.
     pub fn with_flags(mut self, flags: BinlogDumpFlags) -> ComBinlogDumpGtid<'a>
         ensures { binlog_dump_gtid_view result ≡
@@ -107,7 +108,7 @@ impl<'a> ComBinlogDumpGtid<'a> {
         self
     }
 
-    /// The same with these sets in place of its own.
+    /// The request with these sets in place of its own.
     pub fn with_sids(mut self, sids: CowSlice<'a, Sid<'a>>) -> ComBinlogDumpGtid<'a>
         ensures { binlog_dump_gtid_view result ≡
             record (binlog_dump_gtid_view self.entry) {
@@ -123,8 +124,10 @@ impl<'a> ComBinlogDumpGtid<'a> {
         self
     }
 
-    /// The same with this set behind its others; borrowed ones are copied first. Refused for want
-    /// of memory alone, and the request is gone then.
+    /// The request with this set behind its others; borrowed ones are copied first.
+    ///
+    /// # Errors
+    /// - `AllocError` for want of memory. The request is gone then.
     pub fn with_sid(self, alloc: Global, sid: Sid<'a>) -> Result<ComBinlogDumpGtid<'a>, AllocError>
         ensures { IfOk result (λ p. binlog_dump_gtid_view p ≡
             record (binlog_dump_gtid_view self.entry) {
@@ -166,7 +169,10 @@ impl<'a> ComBinlogDumpGtid<'a> {
         front_of(self.filename.as_slice(), u32::MAX as usize)
     }
 
-    /// The file's name as text, where bytes that aren't UTF-8 are replaced. Refused for want of memory.
+    /// The file's name as text, where bytes that aren't UTF-8 are replaced.
+    ///
+    /// # Errors
+    /// - `Memory`.
     pub fn filename(&self, alloc: Global) -> Result<CowStr<'_>, WireError>
         ensures memory { IsOkUnless result wire.Memory }
         ensures value { IfOk result (λ text. cow_str_bytes text ≡
@@ -190,7 +196,10 @@ impl<'a> ComBinlogDumpGtid<'a> {
         self.sids.as_slice()
     }
 
-    /// A copy, which borrows nothing. Refused for want of memory.
+    /// A copy, which borrows nothing.
+    ///
+    /// # Errors
+    /// - `AllocError` for want of memory.
     pub fn clone(&self, alloc: Global) -> Result<ComBinlogDumpGtid<'static>, AllocError>
         ensures { IfOk result (λ copy. binlog_dump_gtid_view copy ≡ binlog_dump_gtid_view self.now) }
     {

@@ -35,8 +35,9 @@ pub struct BinlogRequest<'a> {
 }
 
 impl<'a> BinlogRequest<'a> {
-    /// The request of the replica with this id, from position 4, without flags and sets and with an empty name, not by
-    /// transactions.
+    /// The request of the replica with this id, from position 4.
+    ///
+    /// It has no flags and no sets, an empty name, and goes not by transactions.
     pub fn new(alloc: Global, server_id: u32) -> BinlogRequest<'a>
         ensures { request_view result ≡
             record {
@@ -59,7 +60,7 @@ impl<'a> BinlogRequest<'a> {
         }
     }
 
-    /// The same of the replica with this id.
+    /// The request of the replica with this id.
     pub fn with_server_id(mut self, server_id: u32) -> BinlogRequest<'a>
         ensures { request_view result ≡ record (request_view self.entry) { server_id = server_id } }
     {
@@ -67,7 +68,7 @@ impl<'a> BinlogRequest<'a> {
         self
     }
 
-    /// The same by transactions or not.
+    /// The request by transactions or not.
     pub fn with_use_gtid(mut self, use_gtid: bool) -> BinlogRequest<'a>
         ensures { request_view result ≡ record (request_view self.entry) { use_gtid = use_gtid } }
     {
@@ -75,7 +76,7 @@ impl<'a> BinlogRequest<'a> {
         self
     }
 
-    /// The same with these flags.
+    /// The request with these flags.
     pub fn with_flags(mut self, flags: BinlogDumpFlags) -> BinlogRequest<'a>
         ensures { request_view result ≡ record (request_view self.entry) { flags = flags.0 } }
     {
@@ -83,7 +84,7 @@ impl<'a> BinlogRequest<'a> {
         self
     }
 
-    /// The same with this file's name.
+    /// The request with this file's name.
     pub fn with_filename(mut self, filename: CowSlice<'a, u8>) -> BinlogRequest<'a>
         ensures { request_view result ≡ record (request_view self.entry) { filename = cow_slice_items filename.entry } }
     {
@@ -91,7 +92,7 @@ impl<'a> BinlogRequest<'a> {
         self
     }
 
-    /// The same from this position.
+    /// The request from this position.
     pub fn with_pos(mut self, pos: u64) -> BinlogRequest<'a>
         ensures { request_view result ≡ record (request_view self.entry) { pos = pos } }
     {
@@ -99,7 +100,7 @@ impl<'a> BinlogRequest<'a> {
         self
     }
 
-    /// The same with these sets in place of its own.
+    /// The request with these sets in place of its own.
     pub fn with_sids(mut self, sids: Vec<Sid<'a>>) -> BinlogRequest<'a>
         ensures { request_view result ≡ record (request_view self.entry) { sids = map sid_view sids.entry.items } }
     {
@@ -135,7 +136,10 @@ impl<'a> BinlogRequest<'a> {
         self.filename.as_slice()
     }
 
-    /// The file's name as text, where bytes that aren't UTF-8 are replaced. Refused for want of memory.
+    /// The file's name as text, where bytes that aren't UTF-8 are replaced.
+    ///
+    /// # Errors
+    /// - `Memory`.
     pub fn filename(&self, alloc: Global) -> Result<CowStr<'_>, WireError>
         ensures memory { IsOkUnless result wire.Memory }
         ensures value { IfOk result (λ text. cow_str_bytes text ≡
@@ -158,8 +162,10 @@ impl<'a> BinlogRequest<'a> {
         self.sids.as_slice()
     }
 
-    /// The packet that carries the request: by transactions all of it, else the low 32 bits of the
-    /// position, the name, and of the flags `BINLOG_DUMP_NON_BLOCK` alone.
+    /// The packet that carries the request.
+    ///
+    /// By transactions it carries all of it, else the low 32 bits of the position, the name, and of
+    /// the flags `BINLOG_DUMP_NON_BLOCK` alone.
     pub fn as_cmd(&self) -> Either<ComBinlogDump<'_>, ComBinlogDumpGtid<'_>>
         ensures { either_shown binlog_dump_view binlog_dump_gtid_view result ≡ packet_of (request_view self.now) }
     {
@@ -180,7 +186,10 @@ impl<'a> BinlogRequest<'a> {
         Either::Left(packet)
     }
 
-    /// A copy, which borrows nothing. Refused for want of memory.
+    /// A copy, which borrows nothing.
+    ///
+    /// # Errors
+    /// - `AllocError` for want of memory.
     pub fn clone(&self, alloc: Global) -> Result<BinlogRequest<'static>, AllocError>
         ensures { IfOk result (λ copy. request_view copy ≡ request_view self.now) }
     {

@@ -3,7 +3,9 @@
 ghost use Rattle.mysql_replication.specs.Statements.{AcknowledgementsReadBack, BinlogDumpsReadBack, GtidDumpsReadBack};
 ghost use Rattle.mysql_replication.specs.Statements.{RegistrationsReadBack, TableDumpsReadBack};
 
-/// A request for a table that was written is read again, whatever follows it, where its names have at most 255 bytes.
+/// A request for a table that was written is read again, whatever follows it.
+///
+/// Its names have to have at most 255 bytes.
 #[tactic(auto, using(crate::proofs::Back::table_dumps_read_back))]
 pub fn table_dumps_read_back()
     ensures { TableDumpsReadBack }
@@ -15,8 +17,9 @@ pub fn registrations_read_back()
     ensures { RegistrationsReadBack }
 {}
 
-/// A request by transactions that was written is read again, whatever follows it, where its name
-/// and its block have less than 2^32 bytes and its flags have names.
+/// A request by transactions that was written is read again, whatever follows it.
+///
+/// Its name and its block have to have less than 2^32 bytes, and its flags to have names.
 #[tactic(auto, using(crate::proofs::Back::gtid_dumps_read_back))]
 pub fn gtid_dumps_read_back()
     ensures { GtidDumpsReadBack }

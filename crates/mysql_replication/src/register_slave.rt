@@ -63,7 +63,7 @@ impl<'a> ComRegisterSlave<'a> {
         }
     }
 
-    /// The same with this name of its host.
+    /// The packet with this name of its host.
     pub fn with_hostname(mut self, hostname: CowSlice<'a, u8>) -> ComRegisterSlave<'a>
         ensures { register_slave_view result ≡
             record (register_slave_view self.entry) { hostname = cow_slice_items hostname.entry } }
@@ -72,7 +72,7 @@ impl<'a> ComRegisterSlave<'a> {
         self
     }
 
-    /// The same with this name of its user.
+    /// The packet with this name of its user.
     pub fn with_user(mut self, user: CowSlice<'a, u8>) -> ComRegisterSlave<'a>
         ensures { register_slave_view result ≡
             record (register_slave_view self.entry) { user = cow_slice_items user.entry } }
@@ -81,7 +81,7 @@ impl<'a> ComRegisterSlave<'a> {
         self
     }
 
-    /// The same with this password.
+    /// The packet with this password.
     pub fn with_password(mut self, password: CowSlice<'a, u8>) -> ComRegisterSlave<'a>
         ensures { register_slave_view result ≡
             record (register_slave_view self.entry) { password = cow_slice_items password.entry } }
@@ -90,7 +90,7 @@ impl<'a> ComRegisterSlave<'a> {
         self
     }
 
-    /// The same with this port.
+    /// The packet with this port.
     pub fn with_port(mut self, port: u16) -> ComRegisterSlave<'a>
         ensures { register_slave_view result ≡ record (register_slave_view self.entry) { port = port } }
     {
@@ -98,7 +98,7 @@ impl<'a> ComRegisterSlave<'a> {
         self
     }
 
-    /// The same with this rank, which servers ignore.
+    /// The packet with this rank, which servers ignore.
     pub fn with_replication_rank(mut self, replication_rank: u32) -> ComRegisterSlave<'a>
         ensures { register_slave_view result ≡
             record (register_slave_view self.entry) { replication_rank = replication_rank } }
@@ -107,7 +107,7 @@ impl<'a> ComRegisterSlave<'a> {
         self
     }
 
-    /// The same with this id of its master, usually 0.
+    /// The packet with this id of its master, usually 0.
     pub fn with_master_id(mut self, master_id: u32) -> ComRegisterSlave<'a>
         ensures { register_slave_view result ≡ record (register_slave_view self.entry) { master_id = master_id } }
     {
@@ -129,7 +129,10 @@ impl<'a> ComRegisterSlave<'a> {
         front_of(self.hostname.as_slice(), 255)
     }
 
-    /// The host's name as text, where bytes that aren't UTF-8 are replaced. Refused for want of memory.
+    /// The host's name as text, where bytes that aren't UTF-8 are replaced.
+    ///
+    /// # Errors
+    /// - `Memory`.
     pub fn hostname(&self, alloc: Global) -> Result<CowStr<'_>, WireError>
         ensures memory { IsOkUnless result wire.Memory }
         ensures value { IfOk result (λ text. cow_str_bytes text ≡
@@ -145,7 +148,10 @@ impl<'a> ComRegisterSlave<'a> {
         front_of(self.user.as_slice(), 255)
     }
 
-    /// The user's name as text, where bytes that aren't UTF-8 are replaced. Refused for want of memory.
+    /// The user's name as text, where bytes that aren't UTF-8 are replaced.
+    ///
+    /// # Errors
+    /// - `Memory`.
     pub fn user(&self, alloc: Global) -> Result<CowStr<'_>, WireError>
         ensures memory { IsOkUnless result wire.Memory }
         ensures value { IfOk result (λ text. cow_str_bytes text ≡
@@ -161,7 +167,10 @@ impl<'a> ComRegisterSlave<'a> {
         front_of(self.password.as_slice(), 255)
     }
 
-    /// The password as text, where bytes that aren't UTF-8 are replaced. Refused for want of memory.
+    /// The password as text, where bytes that aren't UTF-8 are replaced.
+    ///
+    /// # Errors
+    /// - `Memory`.
     pub fn password(&self, alloc: Global) -> Result<CowStr<'_>, WireError>
         ensures memory { IsOkUnless result wire.Memory }
         ensures value { IfOk result (λ text. cow_str_bytes text ≡
@@ -191,7 +200,10 @@ impl<'a> ComRegisterSlave<'a> {
         self.master_id
     }
 
-    /// A copy, which borrows nothing. Refused for want of memory.
+    /// A copy, which borrows nothing.
+    ///
+    /// # Errors
+    /// - `AllocError` for want of memory.
     pub fn clone(&self, alloc: Global) -> Result<ComRegisterSlave<'static>, AllocError>
         ensures { IfOk result (λ copy. register_slave_view copy ≡ register_slave_view self.now) }
     {

@@ -21,8 +21,9 @@ use mysql_fields::{
 use std::alloc::{AllocError, Global};
 use std::borrow::{CowSlice, CowStr};
 
-/// A replica's acknowledgement of an event that asked for one: the event's position in the binary
-/// log, and the file's name.
+/// A replica's acknowledgement of an event that asked for one.
+///
+/// It has the event's position in the binary log, and the file's name.
 ///
 /// MySQL: Internals Manual, "Semi-Sync ACK packet".
 #[derive(Drop)]
@@ -40,7 +41,7 @@ impl<'a> SemiSyncAckPacket<'a> {
         SemiSyncAckPacket { position, filename }
     }
 
-    /// The same with this position.
+    /// The acknowledgement with this position.
     pub fn with_position(mut self, position: u64) -> SemiSyncAckPacket<'a>
         ensures { semi_sync_ack_view result ≡ record (semi_sync_ack_view self.entry) { position = position } }
     {
@@ -48,7 +49,7 @@ impl<'a> SemiSyncAckPacket<'a> {
         self
     }
 
-    /// The same with this file's name.
+    /// The acknowledgement with this file's name.
     pub fn with_filename(mut self, filename: CowSlice<'a, u8>) -> SemiSyncAckPacket<'a>
         ensures { semi_sync_ack_view result ≡
             record (semi_sync_ack_view self.entry) { filename = cow_slice_items filename.entry } }
@@ -71,7 +72,10 @@ impl<'a> SemiSyncAckPacket<'a> {
         self.filename.as_slice()
     }
 
-    /// The file's name as text, where bytes that aren't UTF-8 are replaced. Refused for want of memory.
+    /// The file's name as text, where bytes that aren't UTF-8 are replaced.
+    ///
+    /// # Errors
+    /// - `Memory`.
     pub fn filename(&self, alloc: Global) -> Result<CowStr<'_>, WireError>
         ensures memory { IsOkUnless result wire.Memory }
         ensures value { IfOk result (λ text. cow_str_bytes text ≡

@@ -49,7 +49,10 @@ impl<'a> ComTableDump<'a> {
         front_of(self.database.as_slice(), 255)
     }
 
-    /// The database's name as text, where bytes that aren't UTF-8 are replaced. Refused for want of memory.
+    /// The database's name as text, where bytes that aren't UTF-8 are replaced.
+    ///
+    /// # Errors
+    /// - `Memory`.
     pub fn database(&self, alloc: Global) -> Result<CowStr<'_>, WireError>
         ensures memory { IsOkUnless result wire.Memory }
         ensures value { IfOk result (λ text. cow_str_bytes text ≡
@@ -65,7 +68,10 @@ impl<'a> ComTableDump<'a> {
         front_of(self.table.as_slice(), 255)
     }
 
-    /// The table's name as text, where bytes that aren't UTF-8 are replaced. Refused for want of memory.
+    /// The table's name as text, where bytes that aren't UTF-8 are replaced.
+    ///
+    /// # Errors
+    /// - `Memory`.
     pub fn table(&self, alloc: Global) -> Result<CowStr<'_>, WireError>
         ensures memory { IsOkUnless result wire.Memory }
         ensures value { IfOk result (λ text. cow_str_bytes text ≡
@@ -74,7 +80,10 @@ impl<'a> ComTableDump<'a> {
         lossy(alloc, self.table_raw())
     }
 
-    /// A copy, which borrows nothing. Refused for want of memory.
+    /// A copy, which borrows nothing.
+    ///
+    /// # Errors
+    /// - `AllocError` for want of memory.
     pub fn clone(&self, alloc: Global) -> Result<ComTableDump<'static>, AllocError>
         ensures { IfOk result (λ copy. table_dump_view copy ≡ table_dump_view self.now) }
     {

@@ -4,7 +4,7 @@ use Rattle.std.specs.Prelude.{map}
 use Rattle.std.proofs.lemmas.List.{append-nil}
 use Rattle.mysql_wire.specs.Stream.{Rest}
 use Rattle.mysql_columns.specs.Columns.{ColumnDefinition}
-use Rattle.mysql_packets.specs.Views.{prepare_ok_view, progress_report_view}
+use Rattle.mysql_server_packets.specs.Views.{prepare_ok_view, progress_report_view}
 use Rattle.mysql_replies.specs.declared.context.Context.{Context}
 use Rattle.mysql_replies.specs.declared.awaited.Awaited as code
 use Rattle.mysql_replies.specs.declared.awaited.Awaited.TheVariants as awaiting

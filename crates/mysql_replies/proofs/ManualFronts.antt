@@ -3,7 +3,7 @@ use Rattle.std.proofs.Common.{◌≡◌, ℕ, zero, suc, List, [], ◌∷◌, �
 use Rattle.std.proofs.lemmas.List.{append-nil}
 use Rattle.std.specs.Prelude.{Some, None}
 use Rattle.mysql_ok_packets.specs.OkPackets.{OkPacket, more_results_exist}
-use Rattle.mysql_packets.specs.Packets.{ServerError}
+use Rattle.mysql_server_packets.specs.Packets.{ServerError}
 use Rattle.mysql_columns.specs.Columns.{ColumnDefinition, column_at}
 use Rattle.mysql_replies.specs.declared.fault.ReplyFault.{ReplyFault}
 use Rattle.mysql_replies.specs.declared.context.Context.{Context}

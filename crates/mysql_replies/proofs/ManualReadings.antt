@@ -6,7 +6,7 @@ use Rattle.std.proofs.lemmas.Bool.{true≢false, eqb-true, ne_eqb, false_from_ne
 use Rattle.mysql_wire.specs.Forms.{lenenc_number_at}
 use Rattle.mysql_wire.specs.Wire.{Reading}
 use Rattle.mysql_ok_packets.specs.OkPackets.{ok_packet_at, old_eof_at, result_set_terminator_at}
-use Rattle.mysql_packets.specs.Packets.{error_at, prepare_ok_at}
+use Rattle.mysql_server_packets.specs.Packets.{error_at, prepare_ok_at}
 use Rattle.mysql_columns.specs.Columns.{ColumnDefinition, column_at}
 use Rattle.mysql_replies.specs.declared.fault.ReplyFault.{ReplyFault}
 use Rattle.mysql_replies.specs.declared.fault.ReplyFault.TheVariants.{BadColumn, BadOk, BadError, BadRow, BadTerminator, BadPrepare}

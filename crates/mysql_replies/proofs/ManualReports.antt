@@ -4,7 +4,7 @@ use Rattle.std.specs.Prelude.{Ok, Err, is_ok}
 use Rattle.std.proofs.lemmas.List.{take_all}
 use Rattle.std.proofs.lemmas.Bool.{true≢false, and_parts}
 use Rattle.mysql_wire.specs.Wire.{Reading}
-use Rattle.mysql_packets.specs.Packets.{ProgressReport, progress_report_at}
+use Rattle.mysql_server_packets.specs.Packets.{ProgressReport, progress_report_at}
 use Rattle.mysql_replies.specs.declared.context.Context.{Context}
 use Rattle.mysql_replies.specs.Grammar.{Payload, Ended, has_report_form, is_report}
 use Rattle.mysql_replies.specs.Reply.{reports, before_end}

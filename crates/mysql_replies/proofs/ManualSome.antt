@@ -1,7 +1,7 @@
 -- Of what the manual says the grammar makes what the manual calls it.
 use Rattle.std.proofs.Common.{◌≡◌, List, [], ◌∷◌, ◌++◌, true, false, refl, ap, sym, subst, ◌∙◌, inl, inr}
 use Rattle.std.proofs.lemmas.List.{append-nil}
-use Rattle.mysql_packets.specs.Packets.{ProgressReport, progress_report_at}
+use Rattle.mysql_server_packets.specs.Packets.{ProgressReport, progress_report_at}
 use Rattle.mysql_replies.specs.declared.context.Context.{Context}
 use Rattle.mysql_replies.specs.Grammar.{Payload, Outcome, Stands, Ended, Results, has_report_form, is_report, one_result}
 use Rattle.mysql_replies.specs.Grammar as grammar

@@ -14,7 +14,7 @@ use Rattle.mysql_replies.specs.declared.awaited.Listed.TheVariants as listed
 use Rattle.mysql_replies.specs.declared.awaited.Stepped.{Stepped}
 use Rattle.mysql_replies.specs.declared.awaited.Stepped.TheVariants.{Moved, Failed}
 use Rattle.mysql_replies.specs.Grammar.{Payload, Outcome, Part, Stands, Unexpected, ◌>>=◌, Stretch, Ending, Wrong, Results, last, more, unexpected, Line, RowLine, TerminatorLine, ErrorLine, Opening, begins_with, terminator_limit, terminator, or_fault, map_ok, row, has_report_form, as_part, next_payload, column, eof, columns, columns_end, column_group, line, after_rows, rows, result_set, prepared, prepared_columns, opening, after_opening, one_result}
-use Rattle.mysql_packets.specs.Packets.{error_at}
+use Rattle.mysql_server_packets.specs.Packets.{error_at}
 use Rattle.mysql_replies.specs.declared.fault.ReplyFault.TheVariants.{BadError}
 use Rattle.mysql_replies.specs.Reply.{Awaited, First, Rows, Nothing, rest_of}
 use Rattle.mysql_replies.specs.Views.{Refuses, awaited_view}

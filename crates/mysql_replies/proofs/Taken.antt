@@ -1,7 +1,7 @@
 -- How many payloads a part takes: what follows it is shorter by as many.
 use Rattle.std.proofs.Common.{ℕ, zero, suc, ◌+◌, ◌≤◌, List, [], ◌∷◌, ◌++◌, length, Bool, true, false, Result, Ok, Err, arith, if◌then◌else◌}
 use Rattle.mysql_rows.specs.Rows.{Row}
-use Rattle.mysql_packets.specs.Packets.{PrepareOk}
+use Rattle.mysql_server_packets.specs.Packets.{PrepareOk}
 use Rattle.mysql_columns.specs.Columns.{ColumnDefinition}
 use Rattle.mysql_replies.specs.Grammar.{deprecate_eof}
 use Rattle.mysql_replies.specs.declared.fault.ReplyFault.{ReplyFault}

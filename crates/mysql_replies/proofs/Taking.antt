@@ -4,7 +4,7 @@ use Rattle.std.specs.Prelude.{is_ok, OnOk, Vec, vec_len, vec_capacity}
 use Rattle.std.specs.declared.alloc.Global.{Global}
 use Rattle.mysql_replies.specs.declared.results.ReplyResult.{ReplyResult}
 use Rattle.std.proofs.lemmas.List.{append-nil}
-use Rattle.mysql_packets.specs.Packets.{ProgressReport, progress_report_at}
+use Rattle.mysql_server_packets.specs.Packets.{ProgressReport, progress_report_at}
 use Rattle.mysql_columns.specs.Columns.{ColumnDefinition}
 use Rattle.mysql_replies.specs.declared.context.Context.{Context}
 use Rattle.mysql_replies.specs.declared.fault.ReplyFault.{ReplyFault}
@@ -14,7 +14,7 @@ use Rattle.mysql_replies.specs.declared.awaited.Awaited.TheVariants as awaiting
 use Rattle.mysql_replies.specs.Grammar.{Payload, Outcome, Unexpected, Wrong, Results, last, unexpected, has_report_form, is_report, next_payload, columns, columns_end, column_group, rows, one_result}
 use Rattle.mysql_replies.specs.Reply.{FaultAt, report_of, Nothing, rest_of, Progressing, GoingOn, Answered, PayloadsDecide}
 use Rattle.mysql_wire.specs.Wire.{Reading}
-use Rattle.mysql_packets.specs.Views.{prepare_ok_view, progress_report_view}
+use Rattle.mysql_server_packets.specs.Views.{prepare_ok_view, progress_report_view}
 use Rattle.mysql_replies.specs.declared.fault.ReplyFault.TheVariants.{Memory}
 use Rattle.mysql_replies.specs.declared.awaited.Stepped.TheVariants.{Failed}
 use Rattle.mysql_replies.specs.declared.state.ReplyState.{ReplyState}

@@ -8,8 +8,8 @@ use Rattle.mysql_wire.specs.Wire.{Reading}
 use Rattle.mysql_wire.specs.Flags.{contains}
 use Rattle.mysql_ok_packets.specs.OkPackets.{OkPacket, ok_packet_at, old_eof_at, result_set_terminator_at}
 use Rattle.mysql_ok_packets.specs.OkPackets.{more_results_exist}
-pub use Rattle.mysql_packets.specs.Packets.{progress_obsolete}
-use Rattle.mysql_packets.specs.Packets.{PrepareOk, ServerError, error_at, progress_report_at, prepare_ok_at}
+pub use Rattle.mysql_server_packets.specs.Packets.{progress_obsolete}
+use Rattle.mysql_server_packets.specs.Packets.{PrepareOk, ServerError, error_at, progress_report_at, prepare_ok_at}
 use Rattle.mysql_columns.specs.Columns.{ColumnDefinition, column_at}
 use Rattle.mysql_rows.specs.Rows.{Row, as_row, text_row_at, binary_resultset_row_at}
 use Rattle.mysql_replies.specs.declared.context.ReplyKind.{ReplyKind}

@@ -13,8 +13,8 @@ use Rattle.mysql_wire.specs.Stream.Rest.{Empty}
 use Rattle.mysql_wire.specs.Wire.{Reading}
 use Rattle.mysql_ok_packets.specs.OkPackets.{OkPacket, ok_packet_at, old_eof_at, result_set_terminator_at}
 use Rattle.mysql_ok_packets.specs.OkPackets.{more_results_exist}
-use Rattle.mysql_packets.specs.Packets.{ServerError, PrepareOk, ProgressReport, error_at, progress_report_at}
-use Rattle.mysql_packets.specs.Packets.{prepare_ok_at}
+use Rattle.mysql_server_packets.specs.Packets.{ServerError, PrepareOk, ProgressReport, error_at, progress_report_at}
+use Rattle.mysql_server_packets.specs.Packets.{prepare_ok_at}
 use Rattle.mysql_columns.specs.Columns.{ColumnDefinition, column_at}
 pub use Rattle.mysql_rows.specs.Rows.{Row}
 use Rattle.mysql_rows.specs.Rows.{as_row, binary_resultset_row_at, text_row_at}

@@ -4,7 +4,7 @@
 use Rattle.std.specs.Prelude.{◌≡◌, ℕ, ◌+◌, ◌-◌, List, [], ◌∷◌, ◌++◌, length, take, false, Ok, Err, if◌then◌else◌}
 use Rattle.mysql_wire.specs.Wire.{Reading}
 use Rattle.mysql_rows.specs.Rows.{Row}
-use Rattle.mysql_packets.specs.Packets.{ProgressReport, PrepareOk, progress_report_at}
+use Rattle.mysql_server_packets.specs.Packets.{ProgressReport, PrepareOk, progress_report_at}
 use Rattle.mysql_columns.specs.Columns.{ColumnDefinition}
 use Rattle.mysql_replies.specs.declared.fault.ReplyFault.{ReplyFault}
 use Rattle.mysql_replies.specs.declared.fault.ReplyFault.TheVariants as faults

@@ -4,7 +4,7 @@
 use Rattle.std.specs.Prelude.{◌≡◌, ℕ, ◌<◌, ◌+◌, List, [], ◌∷◌, ◌++◌, length, map, Option, Some, None, Result, Err, Vec}
 use Rattle.std.specs.Prelude.{vec_len, vec_capacity}
 use Rattle.std.specs.declared.alloc.Global.{Global}
-use Rattle.mysql_packets.specs.Views.{progress_report_view}
+use Rattle.mysql_server_packets.specs.Views.{progress_report_view}
 use Rattle.mysql_wire.specs.Codec.{Codec, CanGoOn, IsBetween, held, packet_number}
 use Rattle.mysql_wire.specs.Incoming.{Incoming, codec_by}
 use Rattle.mysql_wire.specs.Stream.{Rest, IsRest, IsFault}

@@ -3,8 +3,8 @@
 use Rattle.std.specs.Prelude.{◌≡◌, ℕ, zero, suc, Bool, List, [], ◌∷◌, ◌++◌, length, true, false, nat_lt, ◌&&◌}
 use Rattle.std.specs.Prelude.{if◌then◌else◌, None, Result, Ok, Err}
 use Rattle.mysql_columns.specs.Columns.{ColumnDefinition}
-use Rattle.mysql_packets.specs.Packets.{PrepareOk}
-use Rattle.mysql_packets.specs.Views.{prepare_ok_view}
+use Rattle.mysql_server_packets.specs.Packets.{PrepareOk}
+use Rattle.mysql_server_packets.specs.Views.{prepare_ok_view}
 use Rattle.mysql_replies.specs.Grammar.{begins_with, deprecate_eof, terminator_limit}
 use Rattle.mysql_replies.specs.declared.awaited.Awaited.TheVariants as awaiting
 use Rattle.mysql_replies.specs.declared.context.Context.{Context}

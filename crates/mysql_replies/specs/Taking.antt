@@ -3,7 +3,7 @@
 use Rattle.std.specs.Prelude.{◌≡◌, ◌⊎◌, ℕ, List, [], ◌∷◌, ◌++◌, Some, None, Result, Err, OnOk, IfErr, IfSome}
 use Rattle.std.specs.List.{flat_map}
 use Rattle.mysql_columns.specs.Columns.{ColumnDefinition}
-use Rattle.mysql_packets.specs.Packets.{ProgressReport}
+use Rattle.mysql_server_packets.specs.Packets.{ProgressReport}
 use Rattle.mysql_rows.specs.Rows.{Row}
 use Rattle.mysql_wire.specs.Bytes.{AreBytes}
 use Rattle.mysql_replies.specs.declared.context.Context.{Context}

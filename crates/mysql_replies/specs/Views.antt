@@ -9,9 +9,9 @@ use Rattle.mysql_rows.specs.Rows as rows
 use Rattle.mysql_rows.specs.Views.{row_view, shared_columns}
 use Rattle.mysql_columns.specs.Columns.{ColumnDefinition}
 use Rattle.mysql_ok_packets.specs.Views.{ok_packet_view}
-use Rattle.mysql_packets.specs.declared.progress_report.ProgressReport.{ProgressReport as ProgressReportOf}
-use Rattle.mysql_packets.specs.Packets.{ProgressReport}
-use Rattle.mysql_packets.specs.Views.{local_infile_view, prepare_ok_view, progress_report_view, server_error_view}
+use Rattle.mysql_server_packets.specs.declared.progress_report.ProgressReport.{ProgressReport as ProgressReportOf}
+use Rattle.mysql_server_packets.specs.Packets.{ProgressReport}
+use Rattle.mysql_server_packets.specs.Views.{local_infile_view, prepare_ok_view, progress_report_view, server_error_view}
 use Rattle.mysql_columns.specs.Views.{column_view}
 use Rattle.mysql_replies.specs.declared.fault.ReplyFault.{ReplyFault}
 use Rattle.mysql_replies.specs.declared.fault.ReplyFault.TheVariants.{Memory}

@@ -4,7 +4,7 @@ use crate::fault::ReplyFault;
 use crate::open_rows::OpenRows;
 use crate::results::ReplyResult;
 use mysql_columns::Column;
-use mysql_packets::StmtPacket;
+use mysql_server_packets::StmtPacket;
 
 /// What is awaited.
 #[derive(Drop)]

@@ -14,7 +14,7 @@ ghost use Rattle.mysql_replies.specs.Views.{Refuses, outcome_view};
 use crate::fault::ReplyFault;
 use crate::results::ReplyResult;
 use mysql_columns::Column;
-use mysql_packets::OkPacket;
+use mysql_ok_packets::OkPacket;
 use mysql_row_refs::{LentRow, RowFormat, RowLender};
 use mysql_rows::Row;
 use std::alloc::{AllocError, Global};

@@ -2,8 +2,9 @@
 
 use crate::fault::ReplyFault;
 use mysql_columns::Column;
-use mysql_packets::{LocalInfilePacket, OkPacket, ProgressReport, ServerError, StmtPacket};
+use mysql_ok_packets::OkPacket;
 use mysql_rows::Row;
+use mysql_server_packets::{LocalInfilePacket, ProgressReport, ServerError, StmtPacket};
 use std::fmt;
 use std::rc::RcSlice;
 

@@ -3,8 +3,8 @@
 ghost use Rattle.std.specs.Prelude.{◌≡◌, ◌||◌, not, ℕ, ◌<◌, ◌+◌, ◌-◌, ◌^◌, List, [], ◌∷◌, ◌++◌, true, false, None};
 ghost use Rattle.std.specs.Prelude.{Some, vec_len, vec_capacity, ◌≤◌, ◌↔◌, IsTrue, length, map, OnOk, IfErr};
 ghost use Rattle.mysql_replies.specs.Grammar.{progress_obsolete};
-ghost use Rattle.mysql_packets.specs.Packets.{progress_report_at};
-ghost use Rattle.mysql_packets.specs.Views.{progress_report_view};
+ghost use Rattle.mysql_server_packets.specs.Packets.{progress_report_at};
+ghost use Rattle.mysql_server_packets.specs.Views.{progress_report_view};
 ghost use Rattle.mysql_wire.specs.Wire.{TellsPart};
 ghost use Rattle.mysql_replies.specs.declared.fault.ReplyFault.TheVariants.{BadError};
 ghost use Rattle.mysql_replies.specs.Grammar.{or_fault, has_report_form};
@@ -31,9 +31,9 @@ use crate::results::{Reply, ReplyEnd, ReplyResult};
 use crate::steps::{row_step, step};
 use bitflags::Flags;
 use mysql_const::CapabilityFlags;
-use mysql_packets::ProgressReport;
 use mysql_row_refs::{LentRow, RowFormat};
 use mysql_rows::Row;
+use mysql_server_packets::ProgressReport;
 use mysql_wire::{ParseBuf, ParseExt, WireError};
 use std::alloc::Global;
 use std::mem;
@@ -82,7 +82,7 @@ fn format_of(kind: ReplyKind) -> RowFormat
 }
 
 // A progress report behind the three bytes of its form, which borrows from the payload.
-#[tactic(auto, unfolding(mysql_packets::specs::Packets::progress_report_at))]
+#[tactic(auto, unfolding(mysql_server_packets::specs::Packets::progress_report_at))]
 fn report_of<'a>(alloc: Global, buf: &mut ParseBuf<'a>) -> Result<ProgressReport<'a>, WireError>
     ensures { TellsPart progress_report_view buf.new.0.now result (progress_report_at buf.old.0.now) }
 {

@@ -4,7 +4,7 @@ ghost use Rattle.std.specs.Prelude.{◌≡◌, ℕ, ◌<◌, List, map, length, 
 ghost use Rattle.std.specs.Prelude.{◌==◌, ◌||◌, ◌&&◌};
 ghost use Rattle.mysql_replies.specs.Grammar.{deprecate_eof};
 ghost use Rattle.mysql_ok_packets.specs.OkPackets.{more_results_exist};
-ghost use Rattle.mysql_packets.specs.Views.{prepare_ok_view};
+ghost use Rattle.mysql_server_packets.specs.Views.{prepare_ok_view};
 ghost use Rattle.mysql_replies.specs.Grammar.{has_report_form, one_result, rows};
 ghost use Rattle.mysql_replies.specs.Reply as reply;
 ghost use Rattle.mysql_replies.specs.Views.{awaited_view, column_views};
@@ -23,7 +23,7 @@ use crate::row_packets::row_packet;
 use mysql_columns::Column;
 use mysql_const::StatusFlags;
 use mysql_ok_packets::ok_packet::has_more_results;
-use mysql_packets::StmtPacket;
+use mysql_server_packets::StmtPacket;
 use std::alloc::Global;
 use std::rc::RcSlice;
 

@@ -7,7 +7,7 @@ use Rattle.mysql_buf.specs.Writing.{lenenc_int}
 use Rattle.mysql_columns.specs.Columns.{ColumnDefinition, column}
 use Rattle.mysql_ok_packets.specs.Written.{eof_bytes, ok_packet_bytes}
 use Rattle.mysql_ok_packets.specs.OkPackets.{OkPacket}
-use Rattle.mysql_packets.specs.Packets.{Error, Progress, ProgressReport, ServerError, err_packet, is_progress_code, local_infile, prepare_ok, progress_obsolete}
+use Rattle.mysql_server_packets.specs.Packets.{Error, Progress, ProgressReport, ServerError, err_packet, is_progress_code, local_infile, prepare_ok, progress_obsolete}
 use Rattle.mysql_replies.specs.declared.context.Context.{Context}
 use Rattle.mysql_replies.specs.Grammar.{begins_with, deprecate_eof, has_report_form}
 use Rattle.mysql_reply_rules.specs.Written.{eof_due, group_payloads, nothing_said, terminator_payload}
@@ -82,7 +82,7 @@ pub file_no_form : (c : Context) (name : List ℕ) → has_report_form c (local_
 unfolding local_infile
 file_no_form c name = no_form c (local_infile name) refl
 
-pub statement_no_form : (c : Context) (s : Rattle.mysql_packets.specs.Packets.PrepareOk) → has_report_form c (prepare_ok s) ≡ false
+pub statement_no_form : (c : Context) (s : Rattle.mysql_server_packets.specs.Packets.PrepareOk) → has_report_form c (prepare_ok s) ≡ false
 unfolding prepare_ok
 statement_no_form c s = no_form c (prepare_ok s) refl
 

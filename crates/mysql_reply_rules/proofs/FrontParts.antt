@@ -3,7 +3,7 @@ use Rattle.std.proofs.Common.{◌≡◌, ℕ, zero, suc, List, [], ◌∷◌, �
 use Rattle.std.proofs.lemmas.List.{append-nil, append_assoc}
 use Rattle.std.specs.Prelude.{Option, Some, None}
 use Rattle.mysql_ok_packets.specs.OkPackets.{OkPacket}
-use Rattle.mysql_packets.specs.Packets.{PrepareOk}
+use Rattle.mysql_server_packets.specs.Packets.{PrepareOk}
 use Rattle.mysql_columns.specs.Columns.{ColumnDefinition}
 use Rattle.mysql_rows.specs.Rows.{Row}
 use Rattle.mysql_replies.specs.declared.fault.ReplyFault.{ReplyFault}

@@ -1,6 +1,6 @@
 -- Fronts of the payloads of a whole reply are unfinished, and longer ones go on from shorter ones.
 use Rattle.std.proofs.Common.{◌≡◌, ℕ, ◌-◌, ◌<◌, List, [], ◌∷◌, ◌++◌, length, true, false, refl, ap, sym, subst, arith, ◌∙◌}
-use Rattle.mysql_packets.specs.Packets.{ProgressReport}
+use Rattle.mysql_server_packets.specs.Packets.{ProgressReport}
 use Rattle.std.proofs.lemmas.List.{append_assoc, take_all, length-append}
 use Rattle.mysql_wire.specs.Stream.{Rest, IsFault}
 use Rattle.mysql_wire.specs.Stream.Rest.{Empty, TooLarge, OutOfSync, Open as OpenRest}

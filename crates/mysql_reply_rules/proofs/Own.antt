@@ -5,7 +5,7 @@ use Rattle.std.specs.List.{AllByRecursion}
 use Rattle.std.proofs.lemmas.Bool.{and_parts}
 use Rattle.std.proofs.lemmas.List.{map-append}
 use Rattle.mysql_ok_packets.specs.Written.{as_ok}
-use Rattle.mysql_packets.specs.Packets.{ProgressReport, progress_obsolete}
+use Rattle.mysql_server_packets.specs.Packets.{ProgressReport, progress_obsolete}
 use Rattle.mysql_columns.specs.Columns.{ColumnDefinition}
 use Rattle.mysql_rows.specs.Rows.{Row}
 use Rattle.mysql_replies.specs.declared.context.Context.{Context}

@@ -14,7 +14,7 @@ use Rattle.mysql_wire.specs.Lists.{elements_at}
 use Rattle.mysql_cells.specs.Cells.{text_cell_at}
 use Rattle.mysql_cells.specs.declared.value.Value.{Value}
 use Rattle.mysql_field_lists.specs.NullBitmap.{bitmap_len, is_null_at}
-use Rattle.mysql_packets.specs.Packets.{PrepareOk, ServerError, error_at, error_code_at, is_progress_code, prepare_ok_at, prepare_ok_fields_at, progress_obsolete, protocol_41, server_error_at, state_part_at}
+use Rattle.mysql_server_packets.specs.Packets.{PrepareOk, ServerError, error_at, error_code_at, is_progress_code, prepare_ok_at, prepare_ok_fields_at, progress_obsolete, protocol_41, server_error_at, state_part_at}
 use Rattle.mysql_columns.specs.Columns.{ColumnDefinition}
 use Rattle.mysql_rows.specs.Rows.{Row, binary_cell_at, binary_cells_at, binary_resultset_row_at, binary_row_body_at, text_row_at, whole_row}
 use Rattle.mysql_replies.specs.declared.context.Context.{Context}

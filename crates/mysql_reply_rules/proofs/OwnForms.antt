@@ -10,7 +10,7 @@ use Rattle.mysql_cells.specs.declared.cell_form.CellForm.TheVariants.{Nothing, W
 use Rattle.mysql_cells.specs.declared.value.Value.{Value}
 use Rattle.mysql_cells.specs.declared.value.Value.TheVariants.{NULL, Bytes, Int, UInt, Float, Double, Date, Time}
 use Rattle.mysql_wire.specs.Stream.Rest.{Empty}
-use Rattle.mysql_packets.specs.Packets.{ProgressReport}
+use Rattle.mysql_server_packets.specs.Packets.{ProgressReport}
 use Rattle.mysql_columns.specs.Columns.{ColumnDefinition}
 use Rattle.mysql_rows.specs.Rows.{Row}
 use Rattle.mysql_rows.specs.Written.{binary_cell, binary_cells, binary_row, bits_bytes, cell_in, row_bitmap, some_cell, values_of}

@@ -25,7 +25,7 @@ use Rattle.mysql_cells.specs.declared.value.Value.{Value}
 use Rattle.mysql_ok_packets.specs.OkPackets.{OkPacket, more_results_exist, old_eof_at, result_set_terminator_at}
 use Rattle.mysql_ok_packets.specs.Statements.{EofPacketsAreTheirOwn, OkPacketsAreTheirOwn, TerminatorsAreTheirOwn}
 use Rattle.mysql_ok_packets.specs.Written.{IsWritable, as_eof, as_ok, as_terminator}
-use Rattle.mysql_packets.specs.Packets.{PrepareOk, ProgressReport, ServerError, StageProgress, error_at, error_code_at, progress_body_at, progress_report_at, protocol_41, server_error_at, sql_state_at, stage_progress_at, state_part_at}
+use Rattle.mysql_server_packets.specs.Packets.{PrepareOk, ProgressReport, ServerError, StageProgress, error_at, error_code_at, progress_body_at, progress_report_at, protocol_41, server_error_at, sql_state_at, stage_progress_at, state_part_at}
 use Rattle.mysql_columns.specs.Columns.{ColumnDefinition}
 use Rattle.mysql_rows.specs.Rows.{Row, binary_resultset_row_at, text_row_at, whole_row}
 use Rattle.mysql_rows.specs.Written.{as_binary, as_text, values_of}

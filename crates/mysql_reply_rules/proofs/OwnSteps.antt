@@ -4,7 +4,7 @@ use Rattle.std.specs.Prelude.{nat_le, nat_lt}
 use Rattle.std.specs.List.{AllByRecursion}
 use Rattle.std.proofs.lemmas.Bool.{le-ltb, ne_eqb}
 use Rattle.mysql_cells.specs.declared.value.Value.{Value}
-use Rattle.mysql_packets.specs.Packets.{ProgressReport}
+use Rattle.mysql_server_packets.specs.Packets.{ProgressReport}
 use Rattle.mysql_columns.specs.Columns.{ColumnDefinition}
 use Rattle.mysql_rows.specs.Rows.{Row}
 use Rattle.mysql_replies.specs.declared.context.Context.{Context}

@@ -9,8 +9,8 @@ use Rattle.mysql_field_constants.specs.ConstantLaws.{constant_at-back}
 use Rattle.mysql_ok_packets.specs.BackLaws.{eof-back, ok_packet-back, terminator-back}
 use Rattle.mysql_ok_packets.specs.OkPackets.{OkPacket, old_eof_at, result_set_terminator_at}
 use Rattle.mysql_ok_packets.specs.Written.{IsWritable, as_eof, as_ok, as_terminator, eof_bytes, is_named_status, ok_packet_bytes}
-use Rattle.mysql_packets.specs.PacketLaws.{prepare_ok_at-back, progress_body_at-back, server_error_at-back}
-use Rattle.mysql_packets.specs.Packets.{Error, HasState, IsPrepareOk, IsProgressReport, PrepareOk, Progress, ProgressReport, ServerError, err_packet, error_at, error_code_at, prepare_ok, prepare_ok_at, progress_body, progress_report_at, protocol_41, server_error}
+use Rattle.mysql_server_packets.specs.PacketLaws.{prepare_ok_at-back, progress_body_at-back, server_error_at-back}
+use Rattle.mysql_server_packets.specs.Packets.{Error, HasState, IsPrepareOk, IsProgressReport, PrepareOk, Progress, ProgressReport, ServerError, err_packet, error_at, error_code_at, prepare_ok, prepare_ok_at, progress_body, progress_report_at, protocol_41, server_error}
 use Rattle.mysql_replies.specs.declared.context.Context.{Context}
 use Rattle.mysql_replies.specs.Grammar.{begins_with, deprecate_eof}
 use Rattle.mysql_replies.specs.Manual.{IsCount, IsError, IsOk, IsTerminator, Reads}

@@ -3,7 +3,7 @@ use Rattle.std.proofs.Common.{◌≡◌, ℕ, ◌+◌, Bool, true, false, if◌t
 use Rattle.std.specs.List.{AllByRecursion, flat_map}
 use Rattle.std.proofs.lemmas.Grind.{flat_map-append}
 use Rattle.std.proofs.lemmas.List.Folds.{flat_map-map}
-use Rattle.mysql_packets.specs.Packets.{Progress, ProgressReport, err_packet, is_progress_code, progress_obsolete}
+use Rattle.mysql_server_packets.specs.Packets.{Progress, ProgressReport, err_packet, is_progress_code, progress_obsolete}
 use Rattle.mysql_wire.specs.Stream.{framings}
 use Rattle.mysql_wire.specs.Stream.Numbering.{OnFrom}
 use Rattle.mysql_rows.specs.Rows.{Row}

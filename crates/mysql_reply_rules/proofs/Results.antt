@@ -6,7 +6,7 @@ use Rattle.mysql_buf.specs.Writing.{lenenc_int}
 use Rattle.mysql_columns.specs.Columns.{ColumnDefinition}
 use Rattle.mysql_ok_packets.specs.OkPackets.{OkPacket, more_results_exist}
 use Rattle.mysql_ok_packets.specs.Written.{is_named_status}
-use Rattle.mysql_packets.specs.Packets.{IsPrepareOk, PrepareOk, ServerError, local_infile}
+use Rattle.mysql_server_packets.specs.Packets.{IsPrepareOk, PrepareOk, ServerError, local_infile}
 use Rattle.mysql_rows.specs.Rows.{Row}
 use Rattle.mysql_replies.specs.declared.context.Context.{Context}
 use Rattle.mysql_replies.specs.Grammar.{ErrorResult, FileResult, OkResult, Outcome, PreparedResult, RowsResult, is_prepare}

@@ -3,7 +3,7 @@ use Rattle.std.specs.Prelude.{◌≡◌, ℕ, ◌<◌, ◌^◌, List, length, Op
 use Rattle.std.specs.List.{AllByRecursion}
 use Rattle.mysql_cells.specs.AsSql.{FitsFields}
 use Rattle.mysql_ok_packets.specs.OkPackets.{OkPacket}
-use Rattle.mysql_packets.specs.Packets.{PrepareOk, ProgressReport, ServerError}
+use Rattle.mysql_server_packets.specs.Packets.{PrepareOk, ProgressReport, ServerError}
 use Rattle.mysql_columns.specs.Columns.{ColumnDefinition, IsColumn}
 use Rattle.mysql_ok_packets.specs.Written.{or_empty, or_zero}
 use Rattle.mysql_cells.specs.declared.value.Value.{Value}

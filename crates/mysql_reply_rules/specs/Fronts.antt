@@ -3,7 +3,7 @@
 -- "COM_STMT_PREPARE Response"; MariaDB: 'Progress report' of "ERR_Packet".
 use Rattle.std.specs.Prelude.{◌≡◌, ℕ, List, ◌∷◌, ◌++◌}
 use Rattle.mysql_wire.specs.Stream.{Rest, IsFault}
-use Rattle.mysql_packets.specs.Packets.{ProgressReport}
+use Rattle.mysql_server_packets.specs.Packets.{ProgressReport}
 use Rattle.mysql_replies.specs.declared.context.Context.{Context}
 use Rattle.mysql_replies.specs.Grammar.{Payload, Outcome}
 use Rattle.mysql_replies.specs.Reply.{Answer, IsReply, Whole, Unfinished}

@@ -4,7 +4,7 @@ use Rattle.std.specs.Prelude.{ℕ, ◌+◌, ◌==◌, ◌&&◌, List, [], ◌∷
 use Rattle.std.specs.Prelude.{is_some, Option, Some, None, option_map, if◌then◌else◌}
 use Rattle.mysql_cells.specs.declared.value.Value.{Value}
 use Rattle.mysql_ok_packets.specs.OkPackets.{OkPacket}
-use Rattle.mysql_packets.specs.Packets.{ProgressReport, is_progress_code}
+use Rattle.mysql_server_packets.specs.Packets.{ProgressReport, is_progress_code}
 use Rattle.mysql_columns.specs.Columns.{ColumnDefinition}
 use Rattle.mysql_replies.specs.declared.context.Context.{Context}
 use Rattle.mysql_replies.specs.Grammar.{Outcome, Payload, deprecate_eof, is_binary, is_prepare}

@@ -9,8 +9,8 @@ use Rattle.std.specs.Int.RustNames.{bit_and, bit_or}
 use Rattle.mysql_cells.specs.declared.value.Value.{Value}
 use Rattle.mysql_buf.specs.Writing.{lenenc_int}
 use Rattle.mysql_ok_packets.specs.OkPackets.{OkPacket}
-use Rattle.mysql_packets.specs.Packets.{Error, PrepareOk, Progress, ProgressReport, ServerError, err_packet}
-use Rattle.mysql_packets.specs.Packets.{local_infile, prepare_ok, progress_obsolete, protocol_41}
+use Rattle.mysql_server_packets.specs.Packets.{Error, PrepareOk, Progress, ProgressReport, ServerError, err_packet}
+use Rattle.mysql_server_packets.specs.Packets.{local_infile, prepare_ok, progress_obsolete, protocol_41}
 use Rattle.mysql_columns.specs.Columns.{ColumnDefinition, column}
 use Rattle.mysql_rows.specs.Rows.{Row, whole_row}
 use Rattle.mysql_replies.specs.declared.context.Context.{Context}

@@ -1,7 +1,7 @@
 -- The laws of writing.
 -- MySQL: Client/Server Protocol, "COM_QUERY Response" and "COM_STMT_PREPARE Response".
 use Rattle.std.specs.Prelude.{◌≡◌, ℕ, List, ◌∷◌, ◌++◌, None}
-use Rattle.mysql_packets.specs.Packets.{ProgressReport}
+use Rattle.mysql_server_packets.specs.Packets.{ProgressReport}
 use Rattle.mysql_replies.specs.declared.context.Context.{Context}
 use Rattle.mysql_replies.specs.Grammar.{Outcome}
 use Rattle.mysql_reply_rules.specs.Refusals.{end_cause}

@@ -4,7 +4,7 @@ use Rattle.std.specs.Prelude.{◌≡◌, ℕ, List, [], ◌++◌, Option, Some, 
 use Rattle.mysql_columns.specs.Columns.{ColumnDefinition}
 use Rattle.mysql_wire.specs.Stream.{framings}
 use Rattle.mysql_wire.specs.Stream.Numbering.{OnFrom}
-use Rattle.mysql_packets.specs.Packets.{ProgressReport}
+use Rattle.mysql_server_packets.specs.Packets.{ProgressReport}
 use Rattle.mysql_replies.specs.declared.context.Context.{Context}
 use Rattle.mysql_replies.specs.Grammar.{Outcome}
 use Rattle.mysql_replies.specs.Manual.{IsFramedReply}

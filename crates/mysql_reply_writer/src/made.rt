@@ -3,8 +3,8 @@
 ghost use Rattle.std.specs.Prelude.{◌≡◌, ◌++◌, IfErr, None, OnErr, OnOk, Some, if◌then◌else◌, length, min};
 ghost use Rattle.std.specs.Option.{option_map};
 ghost use Rattle.mysql_ok_packets.specs.Views.{ok_packet_view};
-ghost use Rattle.mysql_packets.specs.Packets.{Error, Progress, protocol_41, progress_obsolete};
-ghost use Rattle.mysql_packets.specs.Views.{err_packet_view, progress_report_view, server_error_view, sql_state_view};
+ghost use Rattle.mysql_server_packets.specs.Packets.{Error, Progress, protocol_41, progress_obsolete};
+ghost use Rattle.mysql_server_packets.specs.Views.{err_packet_view, progress_report_view, server_error_view, sql_state_view};
 ghost use Rattle.mysql_replies.specs.Grammar.{deprecate_eof, is_binary as is_binary_kind};
 ghost use Rattle.mysql_replies.specs.Views.{column_views};
 ghost use Rattle.mysql_ok_packets.specs.Written.{eof_bytes, ok_packet_bytes};
@@ -19,11 +19,11 @@ use crate::writer::OpenRows;
 use bitflags::Flags;
 use mysql_columns::Column;
 use mysql_const::{CapabilityFlags, StatusFlags};
-use mysql_ok_packets::{CommonOkPacket, OldEofPacket, ResultSetTerminator};
-use mysql_packets::{ErrPacket, OkPacket, ProgressReport, ServerError, SqlState};
+use mysql_ok_packets::{CommonOkPacket, OkPacket, OldEofPacket, ResultSetTerminator};
 use mysql_replies::ReplyKind;
 use mysql_reply_rules::ReplyRefusal;
 use mysql_rows::{Row, RowRefusal};
+use mysql_server_packets::{ErrPacket, ProgressReport, ServerError, SqlState};
 use std::alloc::AllocError;
 use std::borrow::CowSlice;
 

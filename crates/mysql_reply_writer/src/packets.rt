@@ -4,8 +4,8 @@ ghost use Rattle.std.specs.Prelude.{◌≡◌, ◌++◌, ◌-◌, ◌≤◌, ◌
 ghost use Rattle.mysql_reply_rules.specs.Refusals.{cells_cause_at, or_cause, too_large};
 ghost use Rattle.mysql_rows.specs.Views.{row_view, shared_columns};
 ghost use Rattle.mysql_buf.specs.Writing.{lenenc_int};
-ghost use Rattle.mysql_packets.specs.Packets.{prepare_ok};
-ghost use Rattle.mysql_packets.specs.Views.{prepare_ok_view};
+ghost use Rattle.mysql_server_packets.specs.Packets.{prepare_ok};
+ghost use Rattle.mysql_server_packets.specs.Views.{prepare_ok_view};
 ghost use Rattle.mysql_columns.specs.Columns.{column};
 ghost use Rattle.mysql_replies.specs.Views.{column_views};
 ghost use Rattle.mysql_reply_rules.specs.Fits.{CellsFit, ColumnsFit};
@@ -22,9 +22,9 @@ use mysql_buf::BufMutExt;
 use mysql_columns::Column;
 use mysql_const::{CapabilityFlags, MAX_PAYLOAD_LEN};
 use mysql_fields::MySerialize;
-use mysql_packets::StmtPacket;
 use mysql_reply_rules::ReplyRefusal;
 use mysql_rows::Row;
+use mysql_server_packets::StmtPacket;
 use mysql_wire::packet_to_chunks;
 use std::alloc::Global;
 

@@ -8,11 +8,11 @@ ghost use Rattle.mysql_reply_writer.specs.Replies.{Replies};
 
 use crate::whole::put_whole_reply;
 use mysql_const::CapabilityFlags;
-use mysql_packets::ProgressReport;
 use mysql_replies::laws::whole_bytes_are_framed_results;
 use mysql_replies::{ReplyKind, ReplyResult};
 use mysql_reply_rules::ReplyRefusal;
 use mysql_reply_rules::fronts::byte_fronts_are_unfinished;
+use mysql_server_packets::ProgressReport;
 use std::alloc::Global;
 
 /// Appends a server's reply to a command of this kind: the packets of these results one after

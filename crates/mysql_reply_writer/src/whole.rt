@@ -16,11 +16,12 @@ ghost use Rattle.mysql_reply_writer.specs.Writer.{AppendsReply, Refuses, Wrote, 
 use crate::writer::ReplyWriter;
 use mysql_columns::Column;
 use mysql_const::CapabilityFlags;
-use mysql_packets::{OkPacket, ProgressReport};
+use mysql_ok_packets::OkPacket;
 use mysql_replies::{ReplyKind, ReplyResult};
 use mysql_reply_rules::ReplyRefusal;
 use mysql_reply_rules::laws::written_replies_are_whole;
 use mysql_rows::Row;
+use mysql_server_packets::ProgressReport;
 use std::alloc::Global;
 use std::rc::RcSlice;
 

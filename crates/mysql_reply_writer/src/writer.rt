@@ -3,8 +3,8 @@
 ghost use Rattle.std.specs.Prelude.{◌≡◌, ◌==◌, ◌∷◌, [], IfErr, OnErr, OnOk, is_some, length, not};
 ghost use Rattle.mysql_columns.specs.Columns.{ColumnDefinition};
 ghost use Rattle.mysql_ok_packets.specs.Views.{ok_packet_view};
-ghost use Rattle.mysql_packets.specs.Views.{local_infile_view, prepare_ok_view, progress_report_view};
-ghost use Rattle.mysql_packets.specs.Views.{server_error_view};
+ghost use Rattle.mysql_server_packets.specs.Views.{local_infile_view, prepare_ok_view, progress_report_view};
+ghost use Rattle.mysql_server_packets.specs.Views.{server_error_view};
 ghost use Rattle.mysql_replies.specs.Grammar.{is_prepare};
 ghost use Rattle.mysql_replies.specs.Views.{column_views};
 ghost use Rattle.mysql_rows.specs.Views.{row_view, shared_columns};
@@ -22,11 +22,11 @@ use crate::made::{
 use crate::packets::Packets;
 use mysql_columns::Column;
 use mysql_const::CapabilityFlags;
-use mysql_ok_packets::has_named_status;
-use mysql_packets::{LocalInfilePacket, OkPacket, ProgressReport, ServerError, StmtPacket};
+use mysql_ok_packets::{OkPacket, has_named_status};
 use mysql_replies::{Context, ReplyKind};
 use mysql_reply_rules::ReplyRefusal;
 use mysql_rows::Row;
+use mysql_server_packets::{LocalInfilePacket, ProgressReport, ServerError, StmtPacket};
 use std::alloc::Global;
 use std::marker::Model;
 use std::mem;

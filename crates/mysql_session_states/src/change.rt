@@ -90,7 +90,10 @@ impl<'a> SessionStateChange<'a> {
         }
     }
 
-    /// The same change, which borrows nothing. Refused for want of memory.
+    /// The change in bytes of its own: it borrows nothing.
+    ///
+    /// # Errors
+    /// - `AllocError` for want of memory.
     pub fn into_owned(self, alloc: Global) -> Result<SessionStateChange<'static>, AllocError>
         ensures { IfOk result (λ same. change_view same ≡ change_view self.entry) }
     {
@@ -113,7 +116,10 @@ impl<'a> SessionStateChange<'a> {
         })
     }
 
-    /// A copy of the change, which borrows nothing. Refused for want of memory.
+    /// A copy of the change, which borrows nothing.
+    ///
+    /// # Errors
+    /// - `AllocError` for want of memory.
     pub fn clone(&self, alloc: Global) -> Result<SessionStateChange<'static>, AllocError>
         ensures { IfOk result (λ copy. change_view copy ≡ change_view self.now) }
     {

@@ -42,7 +42,10 @@ impl<'a> SessionStateInfo<'a> {
     }
 
     /// The state that tells this change: of its type, with the bytes that it is written as. An
-    /// unsupported change has no type, and no state. Refused for want of memory.
+    /// unsupported change has no type, and no state.
+    ///
+    /// # Errors
+    /// - `AllocError` for want of memory.
     pub fn of_change(
         alloc: Global,
         change: &SessionStateChange<'_>,
@@ -72,8 +75,11 @@ impl<'a> SessionStateInfo<'a> {
         self.data.as_slice()
     }
 
-    /// The change that the bytes tell; bytes that are left behind it are ignored. Refused by
-    /// `UnexpectedEof` where a text is cut off, and by `Memory`.
+    /// The change that the bytes tell; bytes that are left behind it are ignored.
+    ///
+    /// # Errors
+    /// - `UnexpectedEof` where a text is cut off.
+    /// - `Memory`.
     pub fn decode(&self, alloc: Global) -> Result<SessionStateChange<'_>, WireError>
         ensures { GivesValue change_view result
             (value_at (change_at (state_view self.now).data_type (state_view self.now).content)) }
@@ -81,7 +87,10 @@ impl<'a> SessionStateInfo<'a> {
         ParseBuf(self.data.as_slice()).parse(alloc, self.data_type)
     }
 
-    /// The same state, which borrows nothing. Refused for want of memory.
+    /// The state in bytes of its own: it borrows nothing.
+    ///
+    /// # Errors
+    /// - `AllocError` for want of memory.
     pub fn into_owned(self, alloc: Global) -> Result<SessionStateInfo<'static>, AllocError>
         ensures { IfOk result (λ same. state_view same ≡ state_view self.entry) }
     {
@@ -91,7 +100,10 @@ impl<'a> SessionStateInfo<'a> {
         })
     }
 
-    /// A copy of the state, which borrows nothing. Refused for want of memory.
+    /// A copy of the state, which borrows nothing.
+    ///
+    /// # Errors
+    /// - `AllocError` for want of memory.
     pub fn clone(&self, alloc: Global) -> Result<SessionStateInfo<'static>, AllocError>
         ensures { IfOk result (λ copy. state_view copy ≡ state_view self.now) }
     {
@@ -166,8 +178,11 @@ impl<'de> MyDeserialize<'de> for SessionStateInfo<'de> {
     }
 }
 
-/// The states that stand one after another in these bytes, to their end. Refused where one of them
-/// is, by the first one's refusal, and by `Memory`.
+/// The states that stand one after another in these bytes, to their end.
+///
+/// # Errors
+/// - That of the first state that is refused.
+/// - `Memory`.
 ///
 /// MySQL: Client/Server Protocol, "OK_Packet", 'Session State Information'.
 #[tactic(auto, using(crate::proofs::Back::states_eat))]

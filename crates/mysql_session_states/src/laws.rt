@@ -21,8 +21,9 @@ pub fn variables_read_back()
     ensures { VariablesReadBack }
 {}
 
-/// A change that was written is read again by its type: whatever follows it, or where nothing does
-/// if it stands to the end.
+/// A change that was written is read again by its type.
+///
+/// That holds whatever follows it, or where nothing does if it stands to the end.
 #[tactic(auto, using(crate::proofs::Back::changes_read_back))]
 pub fn changes_read_back()
     ensures { ChangesReadBack }

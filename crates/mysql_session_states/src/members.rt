@@ -40,7 +40,10 @@ impl<'a> Gtids<'a> {
         self.0.as_slice()
     }
 
-    /// The text as text, where bytes that aren't UTF-8 are replaced. Refused for want of memory.
+    /// The text as text, where bytes that aren't UTF-8 are replaced.
+    ///
+    /// # Errors
+    /// - `Memory`.
     pub fn as_str(&self, alloc: Global) -> Result<CowStr<'_>, WireError>
         ensures memory { IsOkUnless result wire.Memory }
         ensures value { IfOk result (λ text. cow_str_bytes text ≡ encode_utf8_all (lossy_chars (gtids_view self.now))) }
@@ -48,14 +51,20 @@ impl<'a> Gtids<'a> {
         lossy(alloc, self.0.as_slice())
     }
 
-    /// The same, which borrows nothing. Refused for want of memory.
+    /// The value in bytes of its own: it borrows nothing.
+    ///
+    /// # Errors
+    /// - `AllocError` for want of memory.
     pub fn into_owned(self, alloc: Global) -> Result<Gtids<'static>, AllocError>
         ensures { IfOk result (λ same. gtids_view same ≡ gtids_view self.entry) }
     {
         Ok(Gtids(owned(alloc, self.0)?))
     }
 
-    /// A copy, which borrows nothing. Refused for want of memory.
+    /// A copy, which borrows nothing.
+    ///
+    /// # Errors
+    /// - `AllocError` for want of memory.
     pub fn clone(&self, alloc: Global) -> Result<Gtids<'static>, AllocError>
         ensures { IfOk result (λ copy. gtids_view copy ≡ gtids_view self.now) }
     {
@@ -133,7 +142,10 @@ impl<'a> Schema<'a> {
         self.0.as_slice()
     }
 
-    /// The name as text, where bytes that aren't UTF-8 are replaced. Refused for want of memory.
+    /// The name as text, where bytes that aren't UTF-8 are replaced.
+    ///
+    /// # Errors
+    /// - `Memory`.
     pub fn as_str(&self, alloc: Global) -> Result<CowStr<'_>, WireError>
         ensures memory { IsOkUnless result wire.Memory }
         ensures value { IfOk result (λ text. cow_str_bytes text ≡
@@ -142,14 +154,20 @@ impl<'a> Schema<'a> {
         lossy(alloc, self.0.as_slice())
     }
 
-    /// The same, which borrows nothing. Refused for want of memory.
+    /// The value in bytes of its own: it borrows nothing.
+    ///
+    /// # Errors
+    /// - `AllocError` for want of memory.
     pub fn into_owned(self, alloc: Global) -> Result<Schema<'static>, AllocError>
         ensures { IfOk result (λ same. schema_view same ≡ schema_view self.entry) }
     {
         Ok(Schema(owned(alloc, self.0)?))
     }
 
-    /// A copy, which borrows nothing. Refused for want of memory.
+    /// A copy, which borrows nothing.
+    ///
+    /// # Errors
+    /// - `AllocError` for want of memory.
     pub fn clone(&self, alloc: Global) -> Result<Schema<'static>, AllocError>
         ensures { IfOk result (λ copy. schema_view copy ≡ schema_view self.now) }
     {
@@ -206,8 +224,9 @@ impl<'de> MyDeserialize<'de> for Schema<'de> {
     }
 }
 
-/// The statements that would begin a transaction as the session's next one is to be begun, each
-/// ended by a semicolon; none where nothing was set.
+/// The statements that would begin a transaction as the session's next one.
+///
+/// Each is ended by a semicolon; there are none where nothing was set.
 ///
 /// MySQL: Client/Server Protocol, "OK_Packet", 'Session State Information'
 /// (`SESSION_TRACK_TRANSACTION_CHARACTERISTICS`).
@@ -229,7 +248,10 @@ impl<'a> TransactionCharacteristics<'a> {
         self.0.as_slice()
     }
 
-    /// The statements as text, where bytes that aren't UTF-8 are replaced. Refused for want of memory.
+    /// The statements as text, where bytes that aren't UTF-8 are replaced.
+    ///
+    /// # Errors
+    /// - `Memory`.
     pub fn as_str(&self, alloc: Global) -> Result<CowStr<'_>, WireError>
         ensures memory { IsOkUnless result wire.Memory }
         ensures value { IfOk result (λ text. cow_str_bytes text ≡
@@ -238,7 +260,10 @@ impl<'a> TransactionCharacteristics<'a> {
         lossy(alloc, self.0.as_slice())
     }
 
-    /// The same, which borrows nothing. Refused for want of memory.
+    /// The value in bytes of its own: it borrows nothing.
+    ///
+    /// # Errors
+    /// - `AllocError` for want of memory.
     pub fn into_owned(
         self,
         alloc: Global,
@@ -248,7 +273,10 @@ impl<'a> TransactionCharacteristics<'a> {
         Ok(TransactionCharacteristics(owned(alloc, self.0)?))
     }
 
-    /// A copy, which borrows nothing. Refused for want of memory.
+    /// A copy, which borrows nothing.
+    ///
+    /// # Errors
+    /// - `AllocError` for want of memory.
     pub fn clone(&self, alloc: Global) -> Result<TransactionCharacteristics<'static>, AllocError>
         ensures { IfOk result (λ copy. characteristics_view copy ≡ characteristics_view self.now) }
     {
@@ -326,7 +354,10 @@ impl<'a> TransactionState<'a> {
         self.0.as_slice()
     }
 
-    /// The letters as text, where bytes that aren't UTF-8 are replaced. Refused for want of memory.
+    /// The letters as text, where bytes that aren't UTF-8 are replaced.
+    ///
+    /// # Errors
+    /// - `Memory`.
     pub fn as_str(&self, alloc: Global) -> Result<CowStr<'_>, WireError>
         ensures memory { IsOkUnless result wire.Memory }
         ensures value { IfOk result (λ text. cow_str_bytes text ≡
@@ -335,14 +366,20 @@ impl<'a> TransactionState<'a> {
         lossy(alloc, self.0.as_slice())
     }
 
-    /// The same, which borrows nothing. Refused for want of memory.
+    /// The value in bytes of its own: it borrows nothing.
+    ///
+    /// # Errors
+    /// - `AllocError` for want of memory.
     pub fn into_owned(self, alloc: Global) -> Result<TransactionState<'static>, AllocError>
         ensures { IfOk result (λ same. transaction_view same ≡ transaction_view self.entry) }
     {
         Ok(TransactionState(owned(alloc, self.0)?))
     }
 
-    /// A copy, which borrows nothing. Refused for want of memory.
+    /// A copy, which borrows nothing.
+    ///
+    /// # Errors
+    /// - `AllocError` for want of memory.
     pub fn clone(&self, alloc: Global) -> Result<TransactionState<'static>, AllocError>
         ensures { IfOk result (λ copy. transaction_view copy ≡ transaction_view self.now) }
     {
@@ -420,7 +457,10 @@ impl<'a> Unsupported<'a> {
         self.0.as_slice()
     }
 
-    /// The data as text, where bytes that aren't UTF-8 are replaced. Refused for want of memory.
+    /// The data as text, where bytes that aren't UTF-8 are replaced.
+    ///
+    /// # Errors
+    /// - `Memory`.
     pub fn as_str(&self, alloc: Global) -> Result<CowStr<'_>, WireError>
         ensures memory { IsOkUnless result wire.Memory }
         ensures value { IfOk result (λ text. cow_str_bytes text ≡
@@ -429,14 +469,20 @@ impl<'a> Unsupported<'a> {
         lossy(alloc, self.0.as_slice())
     }
 
-    /// The same, which borrows nothing. Refused for want of memory.
+    /// The value in bytes of its own: it borrows nothing.
+    ///
+    /// # Errors
+    /// - `AllocError` for want of memory.
     pub fn into_owned(self, alloc: Global) -> Result<Unsupported<'static>, AllocError>
         ensures { IfOk result (λ same. unsupported_view same ≡ unsupported_view self.entry) }
     {
         Ok(Unsupported(owned(alloc, self.0)?))
     }
 
-    /// A copy, which borrows nothing. Refused for want of memory.
+    /// A copy, which borrows nothing.
+    ///
+    /// # Errors
+    /// - `AllocError` for want of memory.
     pub fn clone(&self, alloc: Global) -> Result<Unsupported<'static>, AllocError>
         ensures { IfOk result (λ copy. unsupported_view copy ≡ unsupported_view self.now) }
     {

@@ -41,7 +41,10 @@ impl<'a> SystemVariable<'a> {
         self.name.as_slice()
     }
 
-    /// The name as text, where bytes that aren't UTF-8 are replaced. Refused for want of memory.
+    /// The name as text, where bytes that aren't UTF-8 are replaced.
+    ///
+    /// # Errors
+    /// - `Memory`.
     pub fn name_str(&self, alloc: Global) -> Result<CowStr<'_>, WireError>
         ensures memory { IsOkUnless result wire.Memory }
         ensures value { IfOk result (λ text. cow_str_bytes text ≡
@@ -57,7 +60,10 @@ impl<'a> SystemVariable<'a> {
         self.value.as_slice()
     }
 
-    /// The value as text, where bytes that aren't UTF-8 are replaced. Refused for want of memory.
+    /// The value as text, where bytes that aren't UTF-8 are replaced.
+    ///
+    /// # Errors
+    /// - `Memory`.
     pub fn value_str(&self, alloc: Global) -> Result<CowStr<'_>, WireError>
         ensures memory { IsOkUnless result wire.Memory }
         ensures value { IfOk result (λ text. cow_str_bytes text ≡
@@ -66,7 +72,10 @@ impl<'a> SystemVariable<'a> {
         lossy(alloc, self.value.as_slice())
     }
 
-    /// The same, which borrows nothing. Refused for want of memory.
+    /// The value in bytes of its own: it borrows nothing.
+    ///
+    /// # Errors
+    /// - `AllocError` for want of memory.
     pub fn into_owned<'b>(self, alloc: Global) -> Result<SystemVariable<'b>, AllocError>
         ensures { IfOk result (λ same. variable_view same ≡ variable_view self.entry) }
     {
@@ -75,7 +84,10 @@ impl<'a> SystemVariable<'a> {
         Ok(SystemVariable { name, value })
     }
 
-    /// A copy, which borrows nothing. Refused for want of memory.
+    /// A copy, which borrows nothing.
+    ///
+    /// # Errors
+    /// - `AllocError` for want of memory.
     pub fn clone<'b>(&self, alloc: Global) -> Result<SystemVariable<'b>, AllocError>
         ensures { IfOk result (λ copy. variable_view copy ≡ variable_view self.now) }
     {

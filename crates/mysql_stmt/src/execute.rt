@@ -46,8 +46,9 @@ impl ComStmtExecuteRequestBuilder {
         ComStmtExecuteRequestBuilder { stmt_id }
     }
 
-    /// Whether an execution with these values, at most 65535, that holds the cells of all of them
-    /// is longer than so many bytes. An execution without values has 10 bytes, and counts as one of
+    /// Whether an execution that holds the cells of all these values is longer than so many bytes.
+    ///
+    /// The values are at most 65535. An execution without values has 10 bytes, and counts as one of
     /// 11 here.
     ///
     /// MySQL: Client/Server Protocol, "COM_STMT_EXECUTE".
@@ -58,9 +59,14 @@ impl ComStmtExecuteRequestBuilder {
         is_longer(values, most)
     }
 
-    /// The execution with these values, at most 65535, and whether their byte strings have to be
-    /// sent before it as long data: where an execution that holds them exceeds the most bytes of
-    /// one chunk. Refused for want of memory.
+    /// The execution with these values, and whether their byte strings are sent before it as long
+    /// data.
+    ///
+    /// That is so where an execution that holds them exceeds the most bytes of one chunk. The
+    /// values are at most 65535.
+    ///
+    /// # Errors
+    /// - `AllocError` for want of memory.
     ///
     /// MySQL: Client/Server Protocol, "COM_STMT_EXECUTE" and "COM_STMT_SEND_LONG_DATA".
     pub fn build<'a>(
@@ -76,7 +82,7 @@ impl ComStmtExecuteRequestBuilder {
         self.build_from_refs(alloc, lent(alloc, params)?)
     }
 
-    /// The same of values that lie apart from each other.
+    /// [`build`](Self::build) of values that lie apart from each other.
     pub fn build_from_refs<'a>(
         self,
         alloc: Global,
@@ -111,9 +117,10 @@ fn lent<'a>(alloc: Global, values: &'a [Value]) -> Result<Vec<&'a Value>, AllocE
     Ok(lent)
 }
 
-/// The bytes of an execution with these values, at most 65535, that holds the cells of all of them,
-/// where it has at most so many. An execution without values has 10 bytes, and counts as one of 11
-/// here.
+/// The bytes of an execution that holds the cells of all these values, at most `most`.
+///
+/// None where it has more. The values are at most 65535. An execution without values has 10 bytes,
+/// and counts as one of 11 here.
 ///
 /// MySQL: Client/Server Protocol, "COM_STMT_EXECUTE".
 pub fn size_within<V: HasValue>(values: &[V], most: usize) -> Option<usize>
@@ -142,7 +149,8 @@ fn exact_cell_size(value: &Value) -> Option<u64>
     }
 }
 
-/// The same as [`size_within`], for senders that refuse floats: `None` also where a value is one.
+/// [`size_within`] for senders that refuse floats: `None` also where a value is one.
+///
 /// Both are found in one pass over the values.
 ///
 /// MySQL: Client/Server Protocol, "COM_STMT_EXECUTE".
@@ -194,7 +202,10 @@ impl<'a> ComStmtExecuteRequest<'a> {
         self.stmt_id
     }
 
-    /// A copy, of references to the same values. Refused for want of memory.
+    /// A copy, of references to the same values.
+    ///
+    /// # Errors
+    /// - `AllocError` for want of memory.
     pub fn clone(&self, alloc: Global) -> Result<ComStmtExecuteRequest<'a>, AllocError>
         ensures { IfOk result (λ copy. execution_view copy ≡ execution_view self.now) }
     {
@@ -448,9 +459,13 @@ fn put_parameters<V: HasValue>(
     put_cells(values, apart, out)
 }
 
-/// Appends the execution with these values, at most 65535, of the statement with this id: without
-/// the cells of byte strings where these are sent `apart`, as long data before it. Refused for want
-/// of memory.
+/// Appends the execution with these values of the statement with this id.
+///
+/// The values are at most 65535. The cells of byte strings are left out where these are sent
+/// `apart`, as long data before it.
+///
+/// # Errors
+/// - `AllocError` for want of memory.
 ///
 /// MySQL: Client/Server Protocol, "COM_STMT_EXECUTE".
 #[inline(always)]

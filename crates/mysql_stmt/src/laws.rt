@@ -17,14 +17,17 @@ pub fn resets_read_back()
     ensures { ResetsReadBack }
 {}
 
-/// The bitmap of an execution has a byte for each eight values, and a bit for each value that says whether it is NULL.
+/// The bitmap of an execution has a byte for each eight values.
+///
+/// A value's bit says whether it is NULL.
 #[tactic(auto, using(crate::proofs::Back::bitmaps_say_which_are_null))]
 pub fn bitmaps_say_which_are_null()
     ensures { BitmapsSayWhichAreNull }
 {}
 
-/// An execution that holds the cells of all its values has as many bytes as
-/// `ComStmtExecuteRequestBuilder::exceeds` counts, and one without values has 10.
+/// An execution with the cells of all its values has the bytes that `exceeds` counts.
+///
+/// That is `ComStmtExecuteRequestBuilder::exceeds`. One without values has 10.
 pub fn executions_have_sizes()
     ensures { ExecutionsHaveSizes }
 {

@@ -44,7 +44,10 @@ impl<'a> ComStmtSendLongData<'a> {
         }
     }
 
-    /// The same piece, which borrows nothing. Refused for want of memory.
+    /// The piece in bytes of its own: it borrows nothing.
+    ///
+    /// # Errors
+    /// - `AllocError` for want of memory.
     pub fn into_owned(self, alloc: Global) -> Result<ComStmtSendLongData<'static>, AllocError>
         ensures { IfOk result (λ same. long_data_view same ≡ long_data_view self.entry) }
     {
@@ -61,7 +64,10 @@ impl<'a> ComStmtSendLongData<'a> {
         })
     }
 
-    /// A copy, which borrows nothing. Refused for want of memory.
+    /// A copy, which borrows nothing.
+    ///
+    /// # Errors
+    /// - `AllocError` for want of memory.
     pub fn clone(&self, alloc: Global) -> Result<ComStmtSendLongData<'static>, AllocError>
         ensures { IfOk result (λ copy. long_data_view copy ≡ long_data_view self.now) }
     {

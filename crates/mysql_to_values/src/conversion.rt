@@ -25,7 +25,8 @@ pub trait ToValue {
     /// The value that this converts to.
     ///
     /// # Errors
-    /// `TooLong` for a duration of more than 2^32-1 days, `Memory`.
+    /// - `TooLong` for a duration of more than 2^32-1 days.
+    /// - `Memory`.
     fn to_value(&self, alloc: Global) -> Result<Value, ToValueError>
         ensures ok { IfOk result (λ value. as_value self.now ≡ Some value) }
         ensures err { IfErr result (λ e. (e ≡ to_value_error.Memory) ⊎

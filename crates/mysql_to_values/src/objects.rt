@@ -52,7 +52,11 @@ pub(crate) trait Elements {
     // the values that they convert to, in order
     ghost as_values: { Self → List (Option ValueOf) };
 
-    /// Appends the values. Refuses `TooLong` with the least place, `Memory`.
+    /// Appends the values.
+    ///
+    /// # Errors
+    /// - `TooLong` with the least place.
+    /// - `Memory`.
     fn push_to(&self, alloc: Global, values: &mut Vec<Value>) -> Result<(), SetError>
         ensures ok { OnOk result (map Some values.new.items ≡ map Some values.old.items ++ as_values self.now) }
         ensures err { IfErr result (λ e. (e ≡ set_error.Memory) ⊎

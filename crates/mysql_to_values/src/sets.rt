@@ -33,17 +33,18 @@ pub trait IntoParams: Sized + Drop {
     /// The set of the values.
     ///
     /// # Errors
-    /// `Redefined` with the first name that an earlier pair has, `TooLong` with the least place
-    /// whose value is too long, `Memory`.
+    /// - `Redefined` with the first name that an earlier pair has.
+    /// - `TooLong` with the least place whose value is too long.
+    /// - `Memory`.
     fn to_params(&self, alloc: Global) -> Result<Params, SetError>
         ensures ok { IfOk result (IsMadeOf (parts self.now)) }
         ensures none { OnOk result (set_cause (parts self.now) ≡ None) }
         ensures err { IfErr result (λ e. (e ≡ set_error.Memory) ⊎ (set_cause (parts self.now) ≡ Some e)) };
 
-    /// The set of the values, as `to_params`.
+    /// The set of the values, as `to_params` makes it.
     ///
     /// # Errors
-    /// As `to_params`.
+    /// - Those of `to_params`.
     final fn into_params(self, alloc: Global) -> Result<Params, SetError>
         ensures ok { IfOk result (IsMadeOf (parts self)) }
         ensures none { OnOk result (set_cause (parts self) ≡ None) }

@@ -217,11 +217,13 @@ pub fn bind_text_over<'a>(
     }
 }
 
-/// [`bind_text`] over the placeholders of the query, as [`places`] lists them, so that many sets
-/// need them found once. Safe for the servers that [`bind_text`] names.
+/// Appends the text of a query whose placeholders were found before, as [`bind_text`] does.
+///
+/// `places` are those that [`places`] lists, so that many sets need them found once. Safe for the
+/// servers that [`bind_text`] names.
 ///
 /// # Errors
-/// Those of [`bind_text`], in its order; nothing is appended then.
+/// - Those of [`bind_text`], in its order; nothing is appended then.
 pub fn bind_text_at(
     alloc: Global,
     query: &[u8],
@@ -244,22 +246,29 @@ pub fn bind_text_at(
     bind_text_over(query, places, &names, params, &mut values, out)
 }
 
-/// Appends the text of a query with the literals of a set's values in the places of its placeholders.
+/// Appends the text of a query with the literals of a set's values in the places of its
+/// placeholders.
 ///
 /// A placeholder is a question mark, or a colon and a name of `a` to `z`, `0` to `9` and `_` that
 /// begins with no digit; the set gives values by these names, without the colon. Names end at the
-/// first other byte: `:aB` is the placeholder `a` before a `B`. `:Name` is none: over `SELECT
-/// :Name` a set that names values is refused by `Params`.
+/// first other byte: `:aB` is the placeholder `a` before a `B`. `:Name` is none: over
+/// `SELECT :Name` a set that names values is refused by `Params`.
 ///
 /// **Safe for** a server that takes backslash escapes (NO_BACKSLASH_ESCAPES isn't in its SQL mode)
-/// over a connection in UTF-8. For
-/// any other a value may end its literal, and what stands behind the quote is read as SQL: send by execution there.
+/// over a connection in UTF-8. For any other a value may end its literal, and what stands behind
+/// the quote is read as SQL: send by execution there.
 ///
 /// An all-zero time is written without its sign.
 ///
 /// # Errors
-/// `Mixed`, `NotAlone` with the first such placeholder, `Params`, `WrongCount`, `Float` with the
-/// first such placeholder, `Memory`; nothing is appended then.
+/// - `Mixed`.
+/// - `NotAlone` with the first such placeholder.
+/// - `Params`.
+/// - `WrongCount`.
+/// - `Float` with the first such placeholder.
+/// - `Memory`.
+///
+/// Nothing is appended after an error.
 pub fn bind_text(
     alloc: Global,
     query: &[u8],

@@ -26,10 +26,13 @@ pub trait ContentExt {
     // the content that this is
     ghost content: { Self → ContentOf };
 
-    /// The value that the content is sent as: `NULL`, a number as `Int` where it fits, else as
-    /// `UInt`, bytes as `Bytes`. They are copied.
+    /// The value that the content is sent as; bytes are copied.
     ///
-    /// A number is from -2^63 to 2^64-1, as each that was read is. Refused for want of memory alone.
+    /// It is `NULL`, a number as `Int` where it fits, else as `UInt`, bytes as `Bytes`. A number is
+    /// from -2^63 to 2^64-1, as each that was read is.
+    ///
+    /// # Errors
+    /// - `AllocError` for want of memory.
     ///
     /// (MySQL Reference Manual, "Integer Types (Exact Value)".)
     fn to_value(&self, alloc: Global) -> Result<Value, AllocError>

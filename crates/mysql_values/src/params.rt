@@ -30,7 +30,10 @@ pub enum Params {
 pub struct MissingNamedParameterError(pub ByteString);
 
 impl MissingNamedParameterError {
-    /// A copy. Refused for want of memory.
+    /// A copy.
+    ///
+    /// # Errors
+    /// - `AllocError` for want of memory.
     pub fn clone(&self, alloc: Global) -> Result<MissingNamedParameterError, AllocError>
         ensures { IfOk result (λ copy. copy ≡ self.now) }
     {
@@ -61,7 +64,10 @@ pub enum ParamsError {
 }
 
 impl ParamsError {
-    /// A copy. Refused for want of memory.
+    /// A copy.
+    ///
+    /// # Errors
+    /// - `AllocError` for want of memory.
     pub fn clone(&self, alloc: Global) -> Result<ParamsError, AllocError>
         ensures { IfOk result (λ copy. copy ≡ self.now) }
     {
@@ -244,7 +250,10 @@ fn copies_of(
 }
 
 impl Params {
-    /// A copy of the set, which gives each query what the set gives it. Refused for want of memory.
+    /// A copy of the set, which gives each query what the set gives it.
+    ///
+    /// # Errors
+    /// - `AllocError` for want of memory.
     pub fn clone(&self, alloc: Global) -> Result<Params, AllocError>
         ensures { IfOk result (λ copy. (names : List (List ℕ)) → values_over names copy ≡ values_over names self.now) }
     {
@@ -263,8 +272,10 @@ impl Params {
     /// the query lacks are left aside.
     ///
     /// # Errors
-    /// `Missing` with the first name that has no entry; `Confusion` for names over a query without
-    /// names, and for a list of values over a query with names; `Memory`.
+    /// - `Missing` with the first name that has no entry.
+    /// - `Confusion` for names over a query without names, and for a list of values over a query
+    ///   with names.
+    /// - `Memory`.
     pub fn values_for<'a>(
         &'a self,
         alloc: Global,
@@ -280,11 +291,12 @@ impl Params {
         Ok(values)
     }
 
-    /// The values of [`Params::values_for`], listed in `values`, whose room is kept from set to
-    /// set; what it held leaves it.
+    /// Lists the values of [`Params::values_for`] in `values`, whose room is kept from set to set.
+    ///
+    /// What the list held leaves it.
     ///
     /// # Errors
-    /// Those of [`Params::values_for`]. What the list then holds isn't said.
+    /// - Those of [`Params::values_for`]. What the list then holds isn't said.
     pub fn list_values_for<'a>(
         &'a self,
         query: &ParsedNamedParams<'_>,
@@ -298,12 +310,15 @@ impl Params {
         list_values_over_names(self, query.params(), values)
     }
 
-    /// The values that the set gives a query with these names, in the order of its placeholders. An
-    /// empty list of names counts as none.
+    /// The values that the set gives a query with these names, in the order of its placeholders.
+    ///
+    /// An empty list of names counts as none.
     ///
     /// # Errors
-    /// `Missing` with the first name that has no entry; `Confusion` for names over a query without
-    /// names, and for a list of values over a query with names; `Memory`.
+    /// - `Missing` with the first name that has no entry.
+    /// - `Confusion` for names over a query without names, and for a list of values over a query
+    ///   with names.
+    /// - `Memory`.
     pub fn into_values(
         self,
         alloc: Global,
@@ -335,10 +350,13 @@ impl Params {
         }
     }
 
-    /// The set by place: a set by name as the list of the values of these names, any other set as it is.
+    /// The set by place: a set by name becomes the list of these names' values.
+    ///
+    /// Any other set stays as it is.
     ///
     /// # Errors
-    /// `Missing` with the first name that has no entry, `Memory`.
+    /// - `Missing` with the first name that has no entry.
+    /// - `Memory`.
     pub fn into_positional(
         self,
         alloc: Global,

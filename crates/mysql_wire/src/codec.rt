@@ -25,7 +25,7 @@ pub use chunk::{ChunkDecoder, ChunkInfo};
 pub use feed::{Packets, feed_all};
 pub use header::PartialHeader;
 pub use reader::PacketReader;
-pub use writing::packet_to_chunks;
+pub use writing::{frame_in_place, packet_header, packet_to_chunks};
 
 /// Why a codec refuses.
 #[derive(Debug, Drop, Error)]
@@ -160,11 +160,16 @@ impl PacketCodec {
         ensures { self.new ≡ self.old }
     {}
 
-    /// Appends the framing of `payload` to `dst`, its first chunk with the codec's number, which then
-    /// goes on after its last one.
+    /// Appends the framing of `payload` to `dst`, its first chunk with the codec's number.
     ///
-    /// Errors, in this order: `PacketTooLarge` where the payload is longer than the limit, `Memory`
-    /// where a growth of `dst` was refused. After an error `dst` and the codec are as they were.
+    /// The number then goes on after the last chunk.
+    ///
+    /// # Errors
+    /// - `PacketTooLarge` where the payload is longer than the limit.
+    /// - `Memory` where a growth of `dst` was refused.
+    ///
+    /// `dst` and the codec are as they were after an error.
+    ///
     /// (MySQL: Client/Server Protocol, "Protocol Basics: MySQL Packets".)
     pub fn encode<B: BufMut>(&mut self, payload: &[u8], dst: &mut B) -> Result<(), PacketCodecError>
         ensures ok { OnOk result ((B.written dst.new ≡ B.written dst.old ++ framing payload.now self.old.number)
@@ -185,20 +190,28 @@ impl PacketCodec {
         }
     }
 
-    /// Moves the bytes of the next packet's payload from the front of `src` to the end of `dst`, and
-    /// answers whether the payload stands whole in `dst`. `dst` has to be empty where a packet begins,
+    /// Moves the next packet's payload to the end of `dst`, and answers whether it stands whole
+    /// there.
+    ///
+    /// Its bytes are taken from the front of `src`. `dst` has to be empty where a packet begins,
     /// and else as the last call left it; after `true` the caller takes the payload and empties it.
     ///
-    /// `src` is any buffer that is read from the front: one that grows as bytes come, a piece of the
-    /// stream, or what was left of one piece followed by the next. After `false` fewer than 4 bytes are
-    /// left in it, the front of a header, and the next call has to be given them before what comes next.
+    /// `src` is any buffer that is read from the front: one that grows as bytes come, a piece of
+    /// the stream, or what was left of one piece followed by the next. After `false` fewer than 4
+    /// bytes are left in it, the front of a header, and the next call has to be given them before
+    /// what comes next.
     ///
-    /// Errors, in this order: `PacketTooLarge` once a chunk's header stands with which the packet would
-    /// pass the limit; `Memory` where a growth of `dst` was refused; `PacketsOutOfSync` once a chunk
-    /// stands whole that hasn't the number due. What `src` and `dst` hold after an error isn't said. The
-    /// codec has the number that it had before the call, and keeps to the error: each further call answers
-    /// the same and changes nothing.
-    /// (MySQL: Client/Server Protocol, "Protocol Basics: MySQL Packets", "Sending More Than 16Mb" and "Sequence ID".)
+    /// # Errors
+    /// - `PacketTooLarge` once a chunk's header stands with which the packet would pass the limit.
+    /// - `Memory` where a growth of `dst` was refused.
+    /// - `PacketsOutOfSync` once a chunk stands whole that hasn't the number due.
+    ///
+    /// What `src` and `dst` hold after an error isn't said. The codec has the number that it had
+    /// before the call, and keeps to the error: each further call answers the same and changes
+    /// nothing.
+    ///
+    /// (MySQL: Client/Server Protocol, "Protocol Basics: MySQL Packets", "Sending More Than 16Mb"
+    /// and "Sequence ID".)
     pub fn decode<B: Buf>(
         &mut self,
         src: &mut B,

@@ -11,14 +11,14 @@ use mysql_wire::{
     PacketReader, Packets, ParseBuf, ParseExt, PartialHeader, RawBytes, RawConst, RawFlags, RawInt,
     RawSeq, ReadMysqlExt, Readable, ReadsBack, Seq, SeqRepr, Skip, Text, U8Bytes, U32Bytes,
     UTF8_GENERAL_CI, UTF8MB4_GENERAL_CI, Unknown, VarLen, WireError, WriteMysqlExt, feed_all,
-    lenenc_int_len, lenenc_str_len, packet_to_chunks, read_varlen_uint, varlen_uint_size,
-    write_varlen_uint,
+    frame_in_place, lenenc_int_len, lenenc_str_len, packet_header, packet_to_chunks,
+    read_varlen_uint, varlen_uint_size, write_varlen_uint,
 };
 
 mod codec {
     use mysql_wire::codec::{
         ChunkDecoder, ChunkInfo, PacketCodec, PacketCodecError, PacketReader, Packets,
-        PartialHeader, feed_all, packet_to_chunks,
+        PartialHeader, feed_all, frame_in_place, packet_header, packet_to_chunks,
     };
 }
 

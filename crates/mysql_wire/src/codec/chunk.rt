@@ -77,13 +77,18 @@ pub enum ChunkDecoder {
 }
 
 impl ChunkDecoder {
-    /// Moves the payload bytes of the chunk at the front of `src` to the end of `dst`, once it stands
-    /// whole, and answers its number; before that it answers `None` and moves nothing.
+    /// Moves the payload of the chunk at the front of `src` to the end of `dst`.
     ///
-    /// `max_allowed_packet` is the most bytes that `dst` may hold afterwards. Where the chunk's header
-    /// stands and would pass it, or says another length than the `needed` of this decoder, the answer
-    /// is `PacketTooLarge`; where a growth of `dst` is refused, `Memory`. Both leave the decoder and the
-    /// buffers as they were.
+    /// Once the chunk stands whole the answer is its number; before that it is `None`, and nothing
+    /// moves. `max_allowed_packet` is the most bytes that `dst` may hold afterwards.
+    ///
+    /// # Errors
+    /// - `PacketTooLarge` where the chunk's header stands and would pass the limit, or says another
+    ///   length than the `needed` of this decoder.
+    /// - `Memory` where a growth of `dst` is refused.
+    ///
+    /// The decoder and the buffers are as they were after an error.
+    ///
     /// (MySQL: Client/Server Protocol, "Protocol Basics: MySQL Packets".)
     pub fn decode(
         &mut self,

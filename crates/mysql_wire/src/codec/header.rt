@@ -7,8 +7,9 @@ use bytes::Buf;
 use bytes::buf::Chain;
 use std::marker::Model;
 
-/// The bytes of a chunk's header of which fewer than four came: what [`PacketCodec::decode`] leaves
-/// of a piece of a stream, to be read before the next piece.
+/// The bytes of a chunk's header of which fewer than four came.
+///
+/// [`PacketCodec::decode`] leaves them of a piece of a stream, to be read before the next piece.
 /// (MySQL: Client/Server Protocol, "Protocol Basics: MySQL Packets".)
 ///
 /// [`PacketCodec::decode`]: super::PacketCodec::decode

@@ -89,7 +89,7 @@ fn decode_straight(
     Ok(false)
 }
 
-// The same behind the bytes of a header that are kept.
+// Reads a piece behind the bytes of a header that are kept.
 fn decode_behind(
     codec: &mut PacketCodec,
     header: &mut PartialHeader,
@@ -166,8 +166,10 @@ fn keep_unfinished(begun: bool, packet: &mut Vec<u8>)
 impl PacketReader {
     ghost use Rattle.mysql_wire.specs.contracts.codec.reader.PacketReader.{the_row};
 
-    /// A reader of a stream of which nothing came: the first chunk has this number, and
-    /// `max_allowed_packet` is the most payload bytes of one packet.
+    /// A reader of a stream of which nothing came.
+    ///
+    /// `number` is that of the first chunk, and `max_allowed_packet` the most payload bytes of one
+    /// packet.
     pub fn new(alloc: Global, number: u8, max_allowed_packet: usize) -> Self
         ensures { result ≡ incoming_at number max_allowed_packet }
     {
@@ -195,7 +197,7 @@ impl PacketReader {
         true
     }
 
-    // The same of a piece that ends within a header.
+    // Takes a piece that ends within a chunk's header, and answers whether it does; else nothing changes.
     #[inline(never)]
     fn take_header(&mut self, piece: &[u8]) -> bool
         ensures waits { OnTrue result (ReadsOn self.old piece.now false self.new []) }
@@ -265,16 +267,22 @@ impl PacketReader {
         }
     }
 
-    /// Reads on to the end of the next packet, and answers whether its payload stands whole; the
-    /// bytes that were used are taken from the front of `piece`. After `true`
-    /// [`PacketReader::payload`] has it until more is read, and the number goes on. After `false`
-    /// the piece is used up, and no payload stands whole in the bytes that came.
+    /// Reads on to the end of the next packet, and answers whether its payload stands whole.
     ///
-    /// Errors, in this order: `PacketTooLarge` once a chunk's header stands with which the packet
-    /// would pass the limit; `Memory` where a growth was refused; `PacketsOutOfSync` once a chunk
-    /// stands whole that hasn't the number due. The piece is as it was. Each further call answers
-    /// the same and changes nothing. (MySQL: Client/Server Protocol, "Protocol Basics: MySQL
-    /// Packets", "Sending More Than 16Mb" and "Sequence ID".)
+    /// The bytes that were used are taken from the front of `piece`. After `true`
+    /// [`PacketReader::payload`] has the payload until more is read, and the number goes on. After
+    /// `false` the piece is used up, and no payload stands whole in the bytes that came.
+    ///
+    /// # Errors
+    /// - `PacketTooLarge` once a chunk's header stands with which the packet would pass the limit.
+    /// - `Memory` where a growth was refused.
+    /// - `PacketsOutOfSync` once a chunk stands whole that hasn't the number due.
+    ///
+    /// The piece is as it was after an error, and each further call answers the same and changes
+    /// nothing.
+    ///
+    /// (MySQL: Client/Server Protocol, "Protocol Basics: MySQL Packets", "Sending More Than 16Mb"
+    /// and "Sequence ID".)
     pub fn advance(&mut self, piece: &mut &[u8]) -> Result<bool, PacketCodecError>
         ensures ok { IfOk result (λ whole. ReadsOn self.old piece.old.now whole self.new piece.new.now) }
         ensures whole { result ≡ Ok true → (self.new.bytes ≡ []) × (length piece.new.now < length piece.old.now) }
@@ -305,10 +313,11 @@ impl PacketReader {
         self.codec.set_seq_id(self.number);
     }
 
-    /// The payload of the next packet, read in place, where the packet is one chunk that stands
-    /// whole at the front of the piece and of which nothing came before. Its bytes are taken from
-    /// the front of `piece`, and the number goes on; no payload is kept. Else the answer is `None`,
-    /// nothing changes, and [`PacketReader::advance`] reads on.
+    /// The payload of the next packet, read in place where its one chunk stands whole in the piece.
+    ///
+    /// Nothing of the packet came before. Its bytes are taken from the front of `piece`, and the
+    /// number goes on; no payload is kept. Else the answer is `None`, nothing changes, and
+    /// [`PacketReader::advance`] reads on.
     ///
     ///     while let Some(payload) = reader.read_in_place(&mut rest) { .. }
     ///
@@ -336,11 +345,15 @@ impl PacketReader {
         Some(&all[4..4 + count])
     }
 
-    /// The payload of the next packet that stands whole, as [`PacketReader::advance`] finds it, or
-    /// `None` where the piece is used up.
+    /// The payload of the next packet that stands whole, or `None` where the piece is used up.
     ///
-    /// Errors as [`PacketReader::advance`] answers them.
-    /// (MySQL: Client/Server Protocol, "Protocol Basics: MySQL Packets", "Sending More Than 16Mb" and "Sequence ID".)
+    /// [`PacketReader::advance`] finds it.
+    ///
+    /// # Errors
+    /// - Those of [`PacketReader::advance`].
+    ///
+    /// (MySQL: Client/Server Protocol, "Protocol Basics: MySQL Packets", "Sending More Than 16Mb"
+    /// and "Sequence ID".)
     pub fn read(&mut self, piece: &mut &[u8]) -> Result<Option<&[u8]>, PacketCodecError>
         ensures* after { sem 𝓛 (Rests the_row self.entry
             (λ after. Reads self.old piece.old.now result after piece.new.now)) }
@@ -354,8 +367,10 @@ impl PacketReader {
         Ok(None)
     }
 
-    /// How many bytes are held of the packet that isn't whole: those that came, but for the headers
-    /// of its chunks, of which only one that doesn't stand whole is held.
+    /// How many bytes are held of the packet that isn't whole.
+    ///
+    /// They are those that came, but for the headers of its chunks, of which only one that doesn't
+    /// stand whole is held.
     pub fn kept(&self) -> usize
         ensures { result ≡ bytes_kept (length self.now.bytes) }
     {

@@ -1,5 +1,5 @@
 use Rattle.std.proofs.Common.{[], ◌∷◌, false, refl, ap}
-use Rattle.mysql_packets.specs.Views.{prepare_ok_view}
+use Rattle.mysql_server_packets.specs.Views.{prepare_ok_view}
 use Rattle.mysql_replies.specs.Grammar.{PreparedResult}
 use Rattle.mysql_replies.specs.Reply as reply
 use Rattle.mysql_replies.specs.Views.{column_views}

@@ -1,7 +1,7 @@
 use Rattle.std.proofs.Common.{[], ◌∷◌, refl, ap, sym, ◌∙◌, false, if◌then◌else◌}
 use Rattle.mysql_ok_packets.specs.OkPackets.{more_results_exist}
 use Rattle.mysql_ok_packets.specs.Views.{ok_packet_view}
-use Rattle.mysql_packets.specs.Views.{local_infile_view, prepare_ok_view, server_error_view}
+use Rattle.mysql_server_packets.specs.Views.{local_infile_view, prepare_ok_view, server_error_view}
 use Rattle.mysql_replies.specs.declared.awaited.Awaited.TheVariants as awaiting
 use Rattle.mysql_replies.specs.Grammar.{OkResult, ErrorResult, FileResult, one_result, opening}
 use Rattle.mysql_replies.specs.Reply as reply

@@ -1,7 +1,7 @@
 use Rattle.std.proofs.Common.{◌≡◌, [], ◌∷◌, ◌++◌, Some, None, Ok, refl, ap, sym, subst, ◌∙◌, false, if◌then◌else◌}
 use Rattle.mysql_ok_packets.specs.OkPackets.{more_results_exist}
 use Rattle.mysql_ok_packets.specs.Views.{ok_packet_view}
-use Rattle.mysql_packets.specs.Views.{server_error_view}
+use Rattle.mysql_server_packets.specs.Views.{server_error_view}
 use Rattle.mysql_replies.specs.declared.awaited.Awaited.TheVariants as awaiting
 use Rattle.mysql_replies.specs.declared.awaited.Listed.TheVariants as listed
 use Rattle.mysql_replies.specs.declared.awaited.Stepped.TheVariants.{Moved}

@@ -1,6 +1,6 @@
 use Rattle.std.proofs.Common.{[], ◌∷◌, map, refl, arith}
 use Rattle.std.proofs.lemmas.Result.{err_from_is_err_and}
-use Rattle.mysql_packets.specs.Views.{progress_report_view}
+use Rattle.mysql_server_packets.specs.Views.{progress_report_view}
 use Rattle.mysql_replies.specs.Views.{report_views}
 use Rattle.mysql_reply_rules.specs.Written.{ReportStep}
 use Rattle.mysql_reply_writer.proofs.Items.{next_item}

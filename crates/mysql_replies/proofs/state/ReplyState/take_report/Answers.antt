@@ -1,7 +1,7 @@
 use Rattle.std.proofs.Common.{◌≡◌, [], ◌∷◌, ◌++◌, Err, refl, sym, subst, ◌+◌}
 use Rattle.std.specs.Prelude.{map}
 use Rattle.std.proofs.lemmas.List.{map_push}
-use Rattle.mysql_packets.specs.Views.{progress_report_view}
+use Rattle.mysql_server_packets.specs.Views.{progress_report_view}
 use Rattle.mysql_replies.specs.Standings.{UnlessMemory, StateGoesOn}
 use Rattle.mysql_replies.proofs.Taking.{report_failed, report_went}
 use Rattle.mysql_replies.proofs.state.ReplyState.take_report.Goals as goal

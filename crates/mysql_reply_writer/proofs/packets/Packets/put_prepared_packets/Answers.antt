@@ -3,8 +3,8 @@ use Rattle.std.proofs.lemmas.List.{length-map}
 use Rattle.std.proofs.lemmas.Result.{err_from_is_err_and}
 use Rattle.mysql_columns.specs.Views.{column_view}
 use Rattle.mysql_columns.specs.declared.column.Column.{Column}
-use Rattle.mysql_packets.specs.Packets.{PrepareOk, prepare_ok}
-use Rattle.mysql_packets.specs.Views.{prepare_ok_view}
+use Rattle.mysql_server_packets.specs.Packets.{PrepareOk, prepare_ok}
+use Rattle.mysql_server_packets.specs.Views.{prepare_ok_view}
 use Rattle.mysql_replies.specs.Views.{column_views}
 use Rattle.mysql_reply_rules.specs.Written.{counting, group_payloads}
 use Rattle.mysql_reply_writer.specs.Puts.{Puts}

@@ -2,16 +2,16 @@
 -- Protocol, "ERR_Packet", "LOCAL INFILE Request" and "COM_STMT_PREPARE Response").
 use Rattle.std.specs.Prelude.{ℕ, List, option_map}
 use Rattle.std.specs.Cow.{cow_slice_items}
-use Rattle.mysql_packets.specs.declared.err_packet.ErrPacket.{ErrPacket as ErrPacketOf}
-use Rattle.mysql_packets.specs.declared.err_packet.ErrPacket.TheVariants as packets
-use Rattle.mysql_packets.specs.declared.local_infile.LocalInfilePacket.{LocalInfilePacket}
-use Rattle.mysql_packets.specs.declared.progress_report.ProgressReport.{ProgressReport as ProgressReportOf}
-use Rattle.mysql_packets.specs.declared.progress_report.StageProgress.{StageProgress as StageProgressOf}
-use Rattle.mysql_packets.specs.declared.server_error.ServerError.{ServerError as ServerErrorOf}
-use Rattle.mysql_packets.specs.declared.server_error.SqlState.{SqlState}
-use Rattle.mysql_packets.specs.declared.statement.StmtPacket.{StmtPacket}
-use Rattle.mysql_packets.specs.Packets.{Error, ErrPacket, PrepareOk, Progress, ProgressReport, ServerError}
-use Rattle.mysql_packets.specs.Packets.{StageProgress}
+use Rattle.mysql_server_packets.specs.declared.err_packet.ErrPacket.{ErrPacket as ErrPacketOf}
+use Rattle.mysql_server_packets.specs.declared.err_packet.ErrPacket.TheVariants as packets
+use Rattle.mysql_server_packets.specs.declared.local_infile.LocalInfilePacket.{LocalInfilePacket}
+use Rattle.mysql_server_packets.specs.declared.progress_report.ProgressReport.{ProgressReport as ProgressReportOf}
+use Rattle.mysql_server_packets.specs.declared.progress_report.StageProgress.{StageProgress as StageProgressOf}
+use Rattle.mysql_server_packets.specs.declared.server_error.ServerError.{ServerError as ServerErrorOf}
+use Rattle.mysql_server_packets.specs.declared.server_error.SqlState.{SqlState}
+use Rattle.mysql_server_packets.specs.declared.statement.StmtPacket.{StmtPacket}
+use Rattle.mysql_server_packets.specs.Packets.{Error, ErrPacket, PrepareOk, Progress, ProgressReport, ServerError}
+use Rattle.mysql_server_packets.specs.Packets.{StageProgress}
 
 abbrev pub sql_state_view : SqlState → List ℕ
 sql_state_view s = s.state

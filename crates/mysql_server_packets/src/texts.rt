@@ -3,7 +3,7 @@
 ghost use Rattle.std.specs.Prelude.{◌≡◌, IfOk, IsOkUnless};
 ghost use Rattle.std.specs.Cow.{cow_slice_items, cow_str_bytes};
 ghost use Rattle.mysql_fields.specs.declared.error.WireError.TheVariants as wire;
-ghost use Rattle.mysql_packets.specs.Texts.{lossy};
+ghost use Rattle.mysql_server_packets.specs.Texts.{lossy};
 
 use bstr::ByteSlice;
 use mysql_fields::WireError;

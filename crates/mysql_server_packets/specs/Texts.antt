@@ -3,7 +3,7 @@ use Rattle.std.specs.Prelude.{ℕ, ◌/◌, ◌%◌, List, ◌++◌, codes, Opti
 use Rattle.std.specs.Fmt.{decimal}
 use Rattle.std.specs.Str.{encode_utf8_all}
 use Rattle.bstr.specs.Utf8.{lossy_chars}
-use Rattle.mysql_packets.specs.Packets.{Error, ErrPacket, Progress, ProgressReport, ServerError}
+use Rattle.mysql_server_packets.specs.Packets.{Error, ErrPacket, Progress, ProgressReport, ServerError}
 
 -- Bytes as text, where those that aren't UTF-8 are replaced.
 abbrev pub lossy : List ℕ → List ℕ

@@ -3,11 +3,11 @@
 ghost use Rattle.std.specs.Prelude.{◌≡◌, IfOk, None, Some, false, not, true, ℕ};
 ghost use Rattle.mysql_fields.specs.Laws.{unsized};
 ghost use Rattle.mysql_fields.specs.Wire.{Tells, TellsPart};
-ghost use Rattle.mysql_packets.specs.Packets.{Error, ErrPacket as ErrPacketFields, Progress, err_body_at, err_packet};
-ghost use Rattle.mysql_packets.specs.Packets.{err_packet_at, error_at, error_code_at, holds_error, is_progress_code};
-ghost use Rattle.mysql_packets.specs.Packets.{protocol_41};
-ghost use Rattle.mysql_packets.specs.Texts.{err_packet_text};
-ghost use Rattle.mysql_packets.specs.Views.{err_packet_view, progress_report_view, server_error_view};
+ghost use Rattle.mysql_server_packets.specs.Packets.{Error, ErrPacket as ErrPacketFields, Progress, err_body_at, err_packet};
+ghost use Rattle.mysql_server_packets.specs.Packets.{err_packet_at, error_at, error_code_at, holds_error, is_progress_code};
+ghost use Rattle.mysql_server_packets.specs.Packets.{protocol_41};
+ghost use Rattle.mysql_server_packets.specs.Texts.{err_packet_text};
+ghost use Rattle.mysql_server_packets.specs.Views.{err_packet_view, progress_report_view, server_error_view};
 
 use crate::headers::ErrPacketHeader;
 use crate::progress_report::ProgressReport;
@@ -72,7 +72,10 @@ impl<'a> ErrPacket<'a> {
         }
     }
 
-    /// A copy, which borrows nothing. Refused for want of memory.
+    /// A copy, which borrows nothing.
+    ///
+    /// # Errors
+    /// - `AllocError` for want of memory.
     pub fn clone(&self, alloc: Global) -> Result<ErrPacket<'static>, AllocError>
         ensures { IfOk result (λ copy. err_packet_view copy ≡ err_packet_view self.now) }
     {
@@ -152,9 +155,16 @@ fn error_code(alloc: Global, rest: &mut ParseBuf) -> Result<u16, WireError>
     Ok(code)
 }
 
-/// The error of a packet that is no progress report, as where reports were not agreed on or this
-/// packet's form was seen. Refused by UnexpectedEof below three bytes, then by BadConstant for
-/// another first byte than ff, then as the error is; all bytes are then left.
+/// The error of a packet that is no progress report.
+///
+/// It is none where reports were not agreed on, or where this packet's form was seen.
+///
+/// # Errors
+/// - `UnexpectedEof` below three bytes.
+/// - `BadConstant` for another first byte than ff.
+/// - Those of the error itself.
+///
+/// All bytes are left after an error.
 ///
 /// MySQL: Client/Server Protocol, "ERR_Packet".
 #[tactic(auto, unfolding(crate::specs::Packets::error_at))]

@@ -2,9 +2,9 @@
 
 ghost use Rattle.std.specs.Prelude.{◌≡◌, Some, false};
 ghost use Rattle.mysql_fields.specs.Wire.{TellsPart};
-ghost use Rattle.mysql_packets.specs.PacketLaws.{prepare_ok_at-back, prepare_ok_at-sized};
-ghost use Rattle.mysql_packets.specs.Packets.{IsPrepareOk, PrepareOk, prepare_ok, prepare_ok_at, prepare_ok_fields_at};
-ghost use Rattle.mysql_packets.specs.Views.{prepare_ok_view};
+ghost use Rattle.mysql_server_packets.specs.PacketLaws.{prepare_ok_at-back, prepare_ok_at-sized};
+ghost use Rattle.mysql_server_packets.specs.Packets.{IsPrepareOk, PrepareOk, prepare_ok, prepare_ok_at, prepare_ok_fields_at};
+ghost use Rattle.mysql_server_packets.specs.Views.{prepare_ok_view};
 
 use crate::headers::StmtPacketStatus;
 use mysql_buf::ParseBuf;

@@ -5,12 +5,12 @@ ghost use Rattle.std.specs.Cow.{cow_slice_items, cow_str_bytes};
 ghost use Rattle.mysql_fields.specs.Laws.{unsized};
 ghost use Rattle.mysql_fields.specs.Wire.{TellsPart};
 ghost use Rattle.mysql_fields.specs.declared.error.WireError.TheVariants as wire;
-ghost use Rattle.mysql_packets.specs.PacketLaws.{server_error_at-back, sql_state_at-back, sql_state_at-sized};
-ghost use Rattle.mysql_packets.specs.Packets.{IsServerError, ServerError as ServerErrorFields, server_error};
-ghost use Rattle.mysql_packets.specs.Packets.{server_error_at, sql_state, sql_state_at, sql_state_fields_at};
-ghost use Rattle.mysql_packets.specs.Packets.{state_part, state_part_at};
-ghost use Rattle.mysql_packets.specs.Texts.{lossy, server_error_text};
-ghost use Rattle.mysql_packets.specs.Views.{server_error_view, sql_state_view};
+ghost use Rattle.mysql_server_packets.specs.PacketLaws.{server_error_at-back, sql_state_at-back, sql_state_at-sized};
+ghost use Rattle.mysql_server_packets.specs.Packets.{IsServerError, ServerError as ServerErrorFields, server_error};
+ghost use Rattle.mysql_server_packets.specs.Packets.{server_error_at, sql_state, sql_state_at, sql_state_fields_at};
+ghost use Rattle.mysql_server_packets.specs.Packets.{state_part, state_part_at};
+ghost use Rattle.mysql_server_packets.specs.Texts.{lossy, server_error_text};
+ghost use Rattle.mysql_server_packets.specs.Views.{server_error_view, sql_state_view};
 
 use crate::headers::SqlStateMarker;
 use crate::texts::{copy_of, lossy};
@@ -47,7 +47,10 @@ impl SqlState {
         self.state
     }
 
-    /// Its bytes as text, where those that aren't UTF-8 are replaced. Refused for want of memory.
+    /// Its bytes as text, where those that aren't UTF-8 are replaced.
+    ///
+    /// # Errors
+    /// - `Memory`.
     pub fn as_str(&self, alloc: Global) -> Result<CowStr<'_>, WireError>
         ensures memory { IsOkUnless result wire.Memory }
         ensures value { IfOk result (λ text. cow_str_bytes text ≡ lossy (sql_state_view self.now)) }
@@ -174,7 +177,10 @@ impl<'a> ServerError<'a> {
         self.message.as_slice()
     }
 
-    /// Its text, where bytes that aren't UTF-8 are replaced. Refused for want of memory.
+    /// Its text, where bytes that aren't UTF-8 are replaced.
+    ///
+    /// # Errors
+    /// - `Memory`.
     pub fn message_str(&self, alloc: Global) -> Result<CowStr<'_>, WireError>
         ensures memory { IsOkUnless result wire.Memory }
         ensures value { IfOk result (λ text. cow_str_bytes text ≡ lossy (server_error_view self.now).error_message) }
@@ -182,7 +188,10 @@ impl<'a> ServerError<'a> {
         lossy(alloc, self.message_ref())
     }
 
-    /// The same error, which borrows nothing. Refused for want of memory.
+    /// The error in bytes of its own: it borrows nothing.
+    ///
+    /// # Errors
+    /// - `AllocError` for want of memory.
     pub fn into_owned(self, alloc: Global) -> Result<ServerError<'static>, AllocError>
         ensures { IfOk result (λ owned. server_error_view owned ≡ server_error_view self.entry) }
     {
@@ -193,7 +202,10 @@ impl<'a> ServerError<'a> {
         })
     }
 
-    /// A copy, which borrows nothing. Refused for want of memory.
+    /// A copy, which borrows nothing.
+    ///
+    /// # Errors
+    /// - `AllocError` for want of memory.
     pub fn clone(&self, alloc: Global) -> Result<ServerError<'static>, AllocError>
         ensures { IfOk result (λ copy. server_error_view copy ≡ server_error_view self.now) }
     {

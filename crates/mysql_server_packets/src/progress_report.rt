@@ -5,11 +5,11 @@ ghost use Rattle.std.specs.Cow.{cow_slice_items, cow_str_bytes};
 ghost use Rattle.mysql_fields.specs.Laws.{unsized};
 ghost use Rattle.mysql_fields.specs.Wire.{TellsPart};
 ghost use Rattle.mysql_fields.specs.declared.error.WireError.TheVariants as wire;
-ghost use Rattle.mysql_packets.specs.PacketLaws.{progress_body_at-back};
-ghost use Rattle.mysql_packets.specs.Packets.{IsProgressReport, ProgressReport as ProgressReportFields, numbers_in};
-ghost use Rattle.mysql_packets.specs.Packets.{progress_body, progress_body_at, stage_progress, stage_progress_at};
-ghost use Rattle.mysql_packets.specs.Texts.{lossy, progress_report_text, share_text};
-ghost use Rattle.mysql_packets.specs.Views.{progress_report_view, stage_progress_view};
+ghost use Rattle.mysql_server_packets.specs.PacketLaws.{progress_body_at-back};
+ghost use Rattle.mysql_server_packets.specs.Packets.{IsProgressReport, ProgressReport as ProgressReportFields, numbers_in};
+ghost use Rattle.mysql_server_packets.specs.Packets.{progress_body, progress_body_at, stage_progress, stage_progress_at};
+ghost use Rattle.mysql_server_packets.specs.Texts.{lossy, progress_report_text, share_text};
+ghost use Rattle.mysql_server_packets.specs.Views.{progress_report_view, stage_progress_view};
 
 use crate::texts::{copy_of, lossy};
 use bstr::BStr;
@@ -34,8 +34,9 @@ pub struct ProgressReport<'a> {
 }
 
 impl<'a> ProgressReport<'a> {
-    /// A report of this stage of so many, which is so many thousandths of a percent done, with the
-    /// stage's name. Of the progress the low 24 bits are written.
+    /// A report of this stage of so many, with the stage's name.
+    ///
+    /// The progress is in thousandths of a percent, of which the low 24 bits are written.
     pub fn new(
         stage: u8,
         max_stage: u8,
@@ -87,7 +88,10 @@ impl<'a> ProgressReport<'a> {
         self.stage_info.as_slice()
     }
 
-    /// The stage's name, where bytes that aren't UTF-8 are replaced. Refused for want of memory.
+    /// The stage's name, where bytes that aren't UTF-8 are replaced.
+    ///
+    /// # Errors
+    /// - `Memory`.
     pub fn stage_info_str(&self, alloc: Global) -> Result<CowStr<'_>, WireError>
         ensures memory { IsOkUnless result wire.Memory }
         ensures value { IfOk result (λ text. cow_str_bytes text ≡ lossy (progress_report_view self.now).progress_info) }
@@ -95,7 +99,10 @@ impl<'a> ProgressReport<'a> {
         lossy(alloc, self.stage_info_ref())
     }
 
-    /// The same report, which borrows nothing. Refused for want of memory.
+    /// The report in bytes of its own: it borrows nothing.
+    ///
+    /// # Errors
+    /// - `AllocError` for want of memory.
     pub fn into_owned(self, alloc: Global) -> Result<ProgressReport<'static>, AllocError>
         ensures { IfOk result (λ owned. progress_report_view owned ≡ progress_report_view self.entry) }
     {
@@ -107,7 +114,10 @@ impl<'a> ProgressReport<'a> {
         })
     }
 
-    /// A copy, which borrows nothing. Refused for want of memory.
+    /// A copy, which borrows nothing.
+    ///
+    /// # Errors
+    /// - `AllocError` for want of memory.
     pub fn clone(&self, alloc: Global) -> Result<ProgressReport<'static>, AllocError>
         ensures { IfOk result (λ copy. progress_report_view copy ≡ progress_report_view self.now) }
     {

@@ -4,10 +4,10 @@ ghost use Rattle.std.specs.Prelude.{◌≡◌, [], IfOk, IsOkUnless, List, None,
 ghost use Rattle.std.specs.Cow.{cow_slice_items, cow_str_bytes};
 ghost use Rattle.mysql_fields.specs.Laws.{unsized};
 ghost use Rattle.mysql_fields.specs.declared.error.WireError.TheVariants as wire;
-ghost use Rattle.mysql_packets.specs.PacketLaws.{local_infile_at-back};
-ghost use Rattle.mysql_packets.specs.Packets.{local_infile, local_infile_at};
-ghost use Rattle.mysql_packets.specs.Texts.{lossy};
-ghost use Rattle.mysql_packets.specs.Views.{local_infile_view};
+ghost use Rattle.mysql_server_packets.specs.PacketLaws.{local_infile_at-back};
+ghost use Rattle.mysql_server_packets.specs.Packets.{local_infile, local_infile_at};
+ghost use Rattle.mysql_server_packets.specs.Texts.{lossy};
+ghost use Rattle.mysql_server_packets.specs.Views.{local_infile_view};
 
 use crate::headers::LocalInfileHeader;
 use crate::texts::{copy_of, lossy};
@@ -42,7 +42,10 @@ impl<'a> LocalInfilePacket<'a> {
         self.file_name.as_slice()
     }
 
-    /// The file's name, where bytes that aren't UTF-8 are replaced. Refused for want of memory.
+    /// The file's name, where bytes that aren't UTF-8 are replaced.
+    ///
+    /// # Errors
+    /// - `Memory`.
     pub fn file_name_str(&self, alloc: Global) -> Result<CowStr<'_>, WireError>
         ensures memory { IsOkUnless result wire.Memory }
         ensures value { IfOk result (λ text. cow_str_bytes text ≡ lossy (local_infile_view self.now)) }
@@ -50,7 +53,10 @@ impl<'a> LocalInfilePacket<'a> {
         lossy(alloc, self.file_name_ref())
     }
 
-    /// The same request, which borrows nothing. Refused for want of memory.
+    /// The request in bytes of its own: it borrows nothing.
+    ///
+    /// # Errors
+    /// - `AllocError` for want of memory.
     pub fn into_owned(self, alloc: Global) -> Result<LocalInfilePacket<'static>, AllocError>
         ensures { IfOk result (λ owned. local_infile_view owned ≡ local_infile_view self.entry) }
     {
@@ -59,7 +65,10 @@ impl<'a> LocalInfilePacket<'a> {
         })
     }
 
-    /// A copy, which borrows nothing. Refused for want of memory.
+    /// A copy, which borrows nothing.
+    ///
+    /// # Errors
+    /// - `AllocError` for want of memory.
     pub fn clone(&self, alloc: Global) -> Result<LocalInfilePacket<'static>, AllocError>
         ensures { IfOk result (λ copy. local_infile_view copy ≡ local_infile_view self.now) }
     {
