@@ -1,32 +1,35 @@
 //! Parameter sets as executions of a prepared statement.
 
-ghost use Rattle.std.specs.Prelude.{◌≡◌, ◌+◌, ◌-◌, ◌^◌, ◌++◌, ◌∷◌, ◌<◌, ◌≤◌, ℕ, [], IfErr, IfOk, IfSome, List, None};
-ghost use Rattle.std.specs.Prelude.{Ok, OnErr, OnOk, OnSome, Some, false, is_none, length, map, nat_lt, take};
-ghost use Rattle.byteorder.specs.Endian.{little_bytes};
+ghost use Rattle.std.specs.Prelude.{◌≡◌, ◌+◌, ◌-◌, ◌^◌, ◌++◌, ◌<◌, ◌≤◌, ℕ, IfErr, IfOk, IfSome, None};
+ghost use Rattle.std.specs.Prelude.{Ok, OnErr, OnOk, OnSome, Some, is_none, length, map, nat_lt, take};
 ghost use Rattle.mysql_stmt.specs.Executions.{execute_command};
-ghost use Rattle.mysql_cells.specs.Values.{first_float};
 ghost use Rattle.mysql_wire.specs.Framing.{framing};
 ghost use Rattle.mysql_wire.specs.Stream.{framings};
 ghost use Rattle.mysql_wire.specs.Stream.Numbering.{EachFromZero};
 ghost use Rattle.mysql_command_rules.specs.Cause.{set_cause};
 ghost use Rattle.mysql_command_rules.specs.Commands.{piece_of, pieces_from};
+ghost use Rattle.mysql_command_rules.specs.OneSet.{AppendsOne, RefusesOne};
 ghost use Rattle.mysql_command_rules.specs.Reading.{SentReadable};
 ghost use Rattle.mysql_command_rules.specs.Sending.{RefusesGiven};
 ghost use Rattle.mysql_command_rules.specs.Sets.{all_given, all_given_in_places, given_by};
 ghost use Rattle.mysql_command_rules.specs.declared.refusal.Refusal.TheVariants as refusals;
 ghost use Rattle.mysql_command_rules.specs.declared.road.Road.TheVariants as roads;
-ghost use Rattle.mysql_senders.specs.OneSet.{AppendsExecution, AppendsExecutions, AppendsMore, IsStatement};
-ghost use Rattle.mysql_senders.specs.OneSet.{RefusesMore, RefusesSet, RefusesSets, execution_payloads, whole_execution};
+ghost use Rattle.mysql_send_execute.specs.Executions.{AppendsExecution, AppendsMore, RefusesExecution};
+ghost use Rattle.mysql_send_execute.specs.Executions.{RefusesMore, execution_payloads, whole_execution};
 
-use crate::set_values::{check_values, list_values_for, values_fit, values_in_order};
-use crate::statement::{Statement, check_count, found_statement, put_prepare, statement_of};
+use crate::laws::further_sets_are_sent;
+use crate::set_values::{check_values, refused, values_fit, values_in_order};
+use crate::statement::{Statement, put_prepare};
 use mysql_command_rules::Refusal;
+use mysql_command_rules::in_turn::sent_in_turn;
 use mysql_const::MAX_PAYLOAD_LEN;
 use mysql_fields::MySerialize;
 use mysql_stmt::laws::executions_have_sizes;
 use mysql_stmt::{ComStmtSendLongData, HasValue, put_execution, size_within, size_without_floats};
+use mysql_values::laws::tokens_of_a_text;
+use mysql_values::params::list_values;
 use mysql_values::{Params, Value};
-use mysql_wire::packet_to_chunks;
+use mysql_wire::{packet_header, packet_to_chunks};
 use std::alloc::{AllocError, Global};
 use std::borrow::CowSlice;
 
@@ -130,17 +133,6 @@ fn put_long<V: HasValue>(
     put_buffered(id, values, apart, command, out)
 }
 
-/// The header of the only packet of a payload of so many bytes, numbered 0.
-///
-/// MySQL: Client/Server Protocol, "MySQL Packets".
-pub fn packet_header(size: u32) -> [u8; 4]
-    requires { size < 16777216 }
-    ensures { result ≡ little_bytes 3 size ++ 0 ∷ [] }
-{
-    let [a, b, c, _] = size.to_le_bytes();
-    [a, b, c, 0]
-}
-
 /// Appends an execution of so many bytes that one packet holds it. Refused for want of memory.
 fn put_short<V: HasValue>(
     id: u32,
@@ -157,7 +149,7 @@ fn put_short<V: HasValue>(
 {
     executions_have_sizes();
     out.reserve(size + 4)?;
-    out.extend_from_slice(&packet_header(size as u32))?;
+    out.extend_from_slice(&packet_header(0, size as u32))?;
     put_execution(id, values, false, out)
 }
 
@@ -255,10 +247,10 @@ fn put_checked<V: HasValue>(
 ) -> Result<(), Refusal>
     requires { places ≤ 65535 }
     ensures ok { OnOk result (AppendsExecution id (record { places = places; bytes = room }) set
-        (Ok (map V.value values.now)) out.old.items out.new.items) }
+        (map V.value values.now) out.old.items out.new.items) }
     ensures err { IfErr result
-        (RefusesSet (whole_execution id) (record { places = places; bytes = room }) set
-        (Ok (map V.value values.now))) }
+        (RefusesExecution id (record { places = places; bytes = room }) set
+        (map V.value values.now)) }
     ensures kept { take (length out.old.items) out.new.items ≡ out.old.items }
 {
     let size = size_or_cause(values, places, room, set)?;
@@ -279,10 +271,10 @@ fn put_values<V: HasValue>(
 ) -> Result<(), Refusal>
     requires { places ≤ 65535 }
     ensures ok { OnOk result (AppendsExecution id (record { places = places; bytes = room }) set
-        (Ok (map V.value values.now)) out.old.items out.new.items) }
+        (map V.value values.now) out.old.items out.new.items) }
     ensures err { IfErr result
-        (RefusesSet (whole_execution id) (record { places = places; bytes = room }) set
-        (Ok (map V.value values.now))) }
+        (RefusesExecution id (record { places = places; bytes = room }) set
+        (map V.value values.now)) }
     ensures kept { take (length out.old.items) out.new.items ≡ out.old.items }
 {
     let Some(size) = short_size(values, places, room) else {
@@ -292,43 +284,38 @@ fn put_values<V: HasValue>(
     Ok(put_short(id, values, size, out)?)
 }
 
-/// Appends the execution of one set, whose values are listed in place of what the list holds: one
-/// whose values lie otherwise than the placeholders.
+/// Appends the execution of the set of this number, whose values lie otherwise than the
+/// placeholders: they are listed in place of what the list holds.
 #[inline(never)]
 fn put_listed_set<'a>(
     statement: &Statement<'_>,
     set: usize,
     params: &'a Params,
-    room: usize,
+    limit: usize,
     values: &mut Vec<&'a Value>,
     command: &mut Vec<u8>,
     out: &mut Vec<u8>,
 ) -> Result<(), Refusal>
-    requires { statement.now.places ≤ 65535 }
-    ensures ok { OnOk result (AppendsExecution statement.now.id
-        (record { places = statement.now.places; bytes = room }) set
-        (given_by statement.now.parsed.names params.entry.now) out.old.items out.new.items) }
+    requires limit { 4 ≤ limit }
+    requires few { statement.now.places ≤ 65535 }
+    ensures ok { OnOk result
+        (AppendsOne roads.Execute statement.now.text statement.now.id limit set
+        (λ names. given_by names params.entry.now) out.old.items out.new.items) }
     ensures err { IfErr result
-        (RefusesSet (whole_execution statement.now.id)
-        (record { places = statement.now.places; bytes = room }) set
-        (given_by statement.now.parsed.names params.entry.now)) }
+        (RefusesOne roads.Execute statement.now.text statement.now.id limit set
+        (λ names. given_by names params.entry.now)) }
     ensures kept { take (length out.old.items) out.new.items ≡ out.old.items }
 {
-    list_values_for(statement, set, params, values)?;
-    put_values(
-        statement.id,
-        statement.places,
-        set,
-        values.as_slice(),
-        room,
-        command,
-        out,
-    )
+    let (id, places) = (statement.id(), statement.place_count());
+    if let Err(error) = list_values(params, statement.names(), values) {
+        return Err(refused(set, error));
+    }
+    put_values(id, places, set, values.as_slice(), limit - 4, command, out)
 }
 
 /// Appends the execution of the set of this number, framed and numbered from 0, to what stands: of
-/// a list as it lies; any other set's values are listed in place of what `values` holds. Payloads
-/// have at most `room` bytes. The lists `values` and `command` keep their room from set to set.
+/// a list as it lies; any other set's values are listed in place of what `values` holds. A payload
+/// has at most `limit - 4` bytes. The lists `values` and `command` keep their room from set to set.
 /// After a refusal what stood before stands in front of `out`.
 ///
 /// # Errors
@@ -336,63 +323,30 @@ fn put_listed_set<'a>(
 ///
 /// MySQL: Client/Server Protocol, "COM_STMT_SEND_LONG_DATA", "COM_STMT_EXECUTE".
 #[inline(always)]
-pub fn put_set<'a>(
+pub(crate) fn put_set<'a>(
     statement: &Statement<'_>,
     set: usize,
     params: &'a Params,
-    room: usize,
+    limit: usize,
     values: &mut Vec<&'a Value>,
     command: &mut Vec<u8>,
     out: &mut Vec<u8>,
 ) -> Result<(), Refusal>
-    requires { statement.now.places ≤ 65535 }
-    ensures ok { OnOk result (AppendsExecution statement.now.id
-        (record { places = statement.now.places; bytes = room }) set
-        (given_by statement.now.parsed.names params.entry.now) out.old.items out.new.items) }
+    requires limit { 4 ≤ limit }
+    requires few { statement.now.places ≤ 65535 }
+    ensures ok { OnOk result
+        (AppendsOne roads.Execute statement.now.text statement.now.id limit set
+        (λ names. given_by names params.entry.now) out.old.items out.new.items) }
     ensures err { IfErr result
-        (RefusesSet (whole_execution statement.now.id)
-        (record { places = statement.now.places; bytes = room }) set
-        (given_by statement.now.parsed.names params.entry.now)) }
+        (RefusesOne roads.Execute statement.now.text statement.now.id limit set
+        (λ names. given_by names params.entry.now)) }
     ensures kept { take (length out.old.items) out.new.items ≡ out.old.items }
 {
+    let (id, places) = (statement.id(), statement.place_count());
     match values_in_order(statement, params) {
-        Some(list) => put_values(
-            statement.id,
-            statement.places,
-            set,
-            list,
-            room,
-            command,
-            out,
-        ),
-        None => put_listed_set(statement, set, params, room, values, command, out),
+        Some(list) => put_values(id, places, set, list, limit - 4, command, out),
+        None => put_listed_set(statement, set, params, limit, values, command, out),
     }
-}
-
-/// Appends the execution of each set.
-fn put_sets(
-    alloc: Global,
-    statement: &Statement<'_>,
-    sets: &[Params],
-    room: usize,
-    out: &mut Vec<u8>,
-) -> Result<(), Refusal>
-    requires { statement.now.places ≤ 65535 }
-    ensures ok { OnOk result (AppendsExecutions statement.now.id
-        (record { places = statement.now.places; bytes = room })
-        (all_given sets.now statement.now.parsed.names) out.old.items out.new.items) }
-    ensures err { IfErr result
-        (RefusesSets (whole_execution statement.now.id)
-        (record { places = statement.now.places; bytes = room })
-        (all_given sets.now statement.now.parsed.names)) }
-    ensures kept { take (length out.old.items) out.new.items ≡ out.old.items }
-{
-    let mut values = Vec::new(alloc);
-    let mut command = Vec::new(alloc);
-    'sets: for (set, params) in sets.iter().enumerate() {
-        put_set(statement, set, params, room, &mut values, &mut command, out)?;
-    }
-    Ok(())
 }
 
 /// Appends the execution of each set of values, of which the first has the number `first`.
@@ -422,14 +376,20 @@ fn put_value_sets(
     Ok(())
 }
 
-/// The same as [`put_executions`] over the statement of the query, as
-/// [`statement_over`](crate::statement::statement_over) finds it.
+/// Appends the commands that carry parameter sets of a query to a server as executions of a
+/// prepared statement, each framed as packets that are numbered from 0: one prepare, also where
+/// there are no sets, and an execution of the statement for each set. An execution of more than
+/// 16777215 bytes is sent without its byte strings, each of which goes before it as long data in
+/// one piece. Sets and places count from 0; a payload has at most `limit - 4` bytes, as the limit
+/// counts a packet with its header, and so has an execution with all its values, also where they
+/// are sent apart. After a refusal what stood before stands in front of `out`.
 ///
 /// # Errors
-/// Those of [`put_executions`] but for `Mixed`, in its order.
+/// The first cause that holds, in the order of [`Refusal`]: `TooManyPlaces`, `PrepareTooLarge`; set
+/// by set `Params`, `WrongCount`, `Float`, `PacketTooLarge`; `Memory` where a growth was refused.
 ///
 /// MySQL: Client/Server Protocol, "COM_STMT_PREPARE", "COM_STMT_SEND_LONG_DATA", "COM_STMT_EXECUTE".
-pub fn put_executions_over(
+pub fn put_executions(
     alloc: Global,
     statement: &Statement<'_>,
     sets: &[Params],
@@ -437,82 +397,60 @@ pub fn put_executions_over(
     out: &mut Vec<u8>,
 ) -> Result<(), Refusal>
     requires { 4 ≤ limit }
-    // This holds of each query whose statement it is.
-    ensures ok { OnOk result ((query : List ℕ) →
-        IsStatement query statement.now.parsed statement.now.places →
-        SentReadable roads.Execute query (all_given sets.now) statement.now.id limit out.old.items
-        out.new.items) }
-    ensures err { IfErr result (λ refusal. (query : List ℕ) →
-        IsStatement query statement.now.parsed statement.now.places →
-        RefusesGiven roads.Execute query (all_given sets.now) statement.now.id limit refusal) }
+    ensures ok { OnOk result
+        (SentReadable roads.Execute statement.now.text (all_given sets.now) statement.now.id limit
+        out.old.items out.new.items) }
+    ensures err { IfErr result
+        (RefusesGiven roads.Execute statement.now.text (all_given sets.now) statement.now.id limit) }
     ensures kept { take (length out.old.items) out.new.items ≡ out.old.items }
 {
-    check_count(statement.places)?;
+    sent_in_turn();
     put_prepare(alloc, statement, limit - 4, out)?;
-    put_sets(alloc, statement, sets, limit - 4, out)
+    let (mut values, mut command) = (Vec::new(alloc), Vec::new(alloc));
+    'sets: for (set, params) in sets.iter().enumerate() {
+        put_set(statement, set, params, limit, &mut values, &mut command, out)?;
+    }
+    Ok(())
 }
 
-/// Appends the commands that carry parameter sets of a query to a server as executions of a
-/// prepared statement, each framed as packets that are numbered from 0: one prepare, also where
-/// there are no sets, and an execution of the statement `stmt_id` for each set. An execution of
-/// more than 16777215 bytes is sent without its byte strings, each of which goes before it as long
-/// data in one piece. Sets and places count from 0; a payload has at most `limit - 4` bytes, as the
-/// limit counts a packet with its header, and so has an execution with all its values, also where
-/// they are sent apart. After a refusal what stood before stands in front of `out`.
+/// Appends what [`put_executions`] appends of sets of values that stand in the order of the
+/// statement's placeholders.
 ///
 /// # Errors
-/// The first cause that holds, in the order of [`Refusal`]: `Mixed`, `TooManyPlaces`,
-/// `PrepareTooLarge`; set by set `Params`, `WrongCount`, `Float`, `PacketTooLarge`; `Memory` where
-/// a growth was refused.
-///
-/// MySQL: Client/Server Protocol, "COM_STMT_PREPARE", "COM_STMT_SEND_LONG_DATA", "COM_STMT_EXECUTE".
-pub fn put_executions(
-    alloc: Global,
-    query: &[u8],
-    sets: &[Params],
-    stmt_id: u32,
-    limit: usize,
-    out: &mut Vec<u8>,
-) -> Result<(), Refusal>
-    requires { 4 ≤ limit }
-    ensures ok { OnOk result (SentReadable roads.Execute query.now (all_given sets.now) stmt_id
-        limit out.old.items out.new.items) }
-    ensures err { IfErr result (RefusesGiven roads.Execute query.now (all_given sets.now) stmt_id limit) }
-    ensures kept { take (length out.old.items) out.new.items ≡ out.old.items }
-{
-    let statement = found_statement(alloc, query, stmt_id)?;
-    put_executions_over(alloc, &statement, sets, limit, out)
-}
-
-/// The same as [`put_executions`] over sets of values that stand in the order of the query's placeholders.
-///
-/// # Errors
-/// The first cause that holds, in the order of [`Refusal`]: `Mixed`, `TooManyPlaces`,
-/// `PrepareTooLarge`; set by set `WrongCount`, `Float`, `PacketTooLarge`; `Memory` where a growth
-/// was refused.
+/// The first cause that holds, in the order of [`Refusal`]: `TooManyPlaces`, `PrepareTooLarge`; set
+/// by set `WrongCount`, `Float`, `PacketTooLarge`; `Memory` where a growth was refused.
 ///
 /// MySQL: Client/Server Protocol, "COM_STMT_PREPARE", "COM_STMT_SEND_LONG_DATA", "COM_STMT_EXECUTE".
 pub fn put_executions_of_values(
     alloc: Global,
-    query: &[u8],
+    statement: &Statement<'_>,
     sets: &[Vec<Value>],
-    stmt_id: u32,
     limit: usize,
     out: &mut Vec<u8>,
 ) -> Result<(), Refusal>
     requires { 4 ≤ limit }
-    ensures ok { OnOk result (SentReadable roads.Execute query.now
-        (all_given_in_places (map (λ set. set.items) sets.now)) stmt_id limit out.old.items
-        out.new.items) }
+    ensures ok { OnOk result
+        (SentReadable roads.Execute statement.now.text
+        (all_given_in_places (map (λ set. set.items) sets.now)) statement.now.id limit
+        out.old.items out.new.items) }
     ensures err { IfErr result
-        (RefusesGiven roads.Execute query.now
-        (all_given_in_places (map (λ set. set.items) sets.now)) stmt_id limit) }
+        (RefusesGiven roads.Execute statement.now.text
+        (all_given_in_places (map (λ set. set.items) sets.now)) statement.now.id limit) }
     ensures kept { take (length out.old.items) out.new.items ≡ out.old.items }
 {
-    let statement = statement_of(alloc, query, stmt_id)?;
-    let room = limit - 4;
-    put_prepare(alloc, &statement, room, out)?;
-    put_value_sets(alloc, statement.id, statement.places, 0, sets, room, out)
+    sent_in_turn();
+    further_sets_are_sent();
+    tokens_of_a_text();
+    put_prepare(alloc, statement, limit - 4, out)?;
+    put_value_sets(
+        alloc,
+        statement.id(),
+        statement.place_count(),
+        0,
+        sets,
+        limit - 4,
+        out,
+    )
 }
 
 /// Appends the executions of further sets of values of the statement `stmt_id`, which was prepared

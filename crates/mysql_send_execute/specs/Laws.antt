@@ -7,7 +7,7 @@ use Rattle.mysql_values.specs.Value.{Value}
 use Rattle.mysql_command_rules.specs.declared.road.Road.TheVariants.{Execute}
 use Rattle.mysql_command_rules.specs.Reading.{SentReadable}
 use Rattle.mysql_command_rules.specs.Sets.{Given, all_given_in_places}
-use Rattle.mysql_senders.specs.OneSet.{AppendsMore, limits_of}
+use Rattle.mysql_send_execute.specs.Executions.{AppendsMore, limits_of}
 
 -- Executions of sets of values, numbered on from sets that were sent by execute and appended behind
 -- them, are sent with them.

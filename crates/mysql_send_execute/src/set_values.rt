@@ -8,7 +8,7 @@ ghost use Rattle.mysql_values.specs.Params.{values_over};
 ghost use Rattle.mysql_values.specs.Values.{content_of, first_float as float_at};
 ghost use Rattle.mysql_values.specs.declared.params.ParamsError.{ParamsError as ParamsErrorOf};
 ghost use Rattle.mysql_command_rules.specs.declared.refusal.Refusal.TheVariants as refusals;
-ghost use Rattle.mysql_senders.specs.OneSet.{refusal_of};
+ghost use Rattle.mysql_send_execute.specs.Executions.{refusal_of};
 
 use crate::statement::Statement;
 use mysql_command_rules::Refusal;
@@ -36,7 +36,7 @@ fn first_float<V: HasValue>(values: &[V]) -> Option<usize>
 }
 
 /// The refusal of a set that gives no values.
-fn refused(set: usize, error: ParamsError) -> Refusal
+pub fn refused(set: usize, error: ParamsError) -> Refusal
     ensures { result ≡ refusal_of set error }
 {
     match error {
@@ -50,57 +50,18 @@ fn refused(set: usize, error: ParamsError) -> Refusal
     }
 }
 
-/// The values of a set that is a list, where the statement has no names: they lie in the order of its placeholders.
+/// The values of a set that is a list, where the statement has no names: they lie in the order of
+/// its placeholders.
 #[inline(always)]
 pub fn values_in_order<'a>(statement: &Statement<'_>, params: &'a Params) -> Option<&'a [Value]>
     ensures { IfSome result (λ values. values_over statement.now.parsed.names params.entry.now ≡ Ok values.now) }
 {
     match params {
-        Params::Positional(values) if statement.parsed.params().is_empty() => {
+        Params::Positional(values) if statement.names().is_empty() => {
             Some(values.as_slice())
         }
         _ => None,
     }
-}
-
-/// Lists the values that a set gives the statement, in the order of its placeholders, in place of what the list holds.
-///
-/// # Errors
-/// `Params` with why the set gives none; `Memory` where a growth was refused.
-pub fn list_values_for<'a>(
-    statement: &Statement<'_>,
-    set: usize,
-    params: &'a Params,
-    values: &mut Vec<&'a Value>,
-) -> Result<(), Refusal>
-    ensures ok { OnOk result (values_over statement.now.parsed.names params.entry.now ≡
-        Ok (map (λ value. value.now) values.new.items)) }
-    ensures err { IfErr result (λ refusal. (refusal ≡ refusals.Memory) ⊎
-        ((e : ParamsErrorOf) × (values_over statement.now.parsed.names params.entry.now ≡ Err e) ×
-        (refusal ≡ refusal_of set e))) }
-{
-    match params.list_values_for(&statement.parsed, values) {
-        Ok(()) => Ok(()),
-        Err(error) => Err(refused(set, error)),
-    }
-}
-
-/// The values that a set gives the statement, in the order of its placeholders. Refuses as [`list_values_for`].
-pub fn values_for<'a>(
-    alloc: Global,
-    statement: &Statement<'_>,
-    set: usize,
-    params: &'a Params,
-) -> Result<Vec<&'a Value>, Refusal>
-    ensures ok { IfOk result (λ values. values_over statement.now.parsed.names params.entry.now ≡
-        Ok (map (λ value. value.now) values.items)) }
-    ensures err { IfErr result (λ refusal. (refusal ≡ refusals.Memory) ⊎
-        ((e : ParamsErrorOf) × (values_over statement.now.parsed.names params.entry.now ≡ Err e) ×
-        (refusal ≡ refusal_of set e))) }
-{
-    let mut values = Vec::new(alloc);
-    list_values_for(statement, set, params, &mut values)?;
-    Ok(values)
 }
 
 /// Checks that the values of the set of this number are as many as the placeholders, and none is a float.
