@@ -9,15 +9,19 @@ FACES = ['mysql_session', 'mysql_convert', 'mysql_values', 'mysql_packets', 'mys
 
 
 class Item:
-    """A public item: its kind, its name, its comment, its signature, and what stands in it."""
+    """A public item: its kind, its name, its comment, its signature, its contract, its file, and what stands in it."""
 
-    def __init__(self, kind, name, doc, signature, condition=False):
+    def __init__(self, kind, name, doc, signature, contract=(), path=None):
         self.kind, self.name, self.doc = kind, name, doc
-        self.signature, self.condition = signature, condition
+        self.signature, self.contract, self.path = signature, contract, path
         self.parts = []
 
+    def terms(self, word):
+        """The terms of its clauses that begin with `requires` or `ensures`."""
+        return [term for clause, term in self.contract if clause == word]
 
-ITEM = re.compile(r'pub (?:const )?(fn|struct|enum|trait|const|type) (\w+)')
+
+ITEM = re.compile(r'pub (?:const |extern "C" )?(fn|struct|enum|trait|const|type) (\w+)')
 METHOD = re.compile(r'(?:pub |final )?(?:const )?fn (\w+)')
 
 
@@ -25,25 +29,34 @@ def indent_of(line):
     return len(line) - len(line.lstrip(' '))
 
 
+CLAUSE = re.compile(r'(requires|ensures|ghost)\b')
+
+
 def signature_at(lines, at):
-    """The signature that begins there, in one line, and whether clauses behind it have a condition."""
-    parts, condition, clauses = [], False, False
+    """The signature that begins there, in one line, and the clauses behind it, each a word and its term."""
+    parts, clauses = [], []
     for line in lines[at:]:
         text = line.strip()
-        clauses |= re.match(r'(requires|ensures|ghost)\b', text) is not None
-        condition |= text.startswith('requires')
-        if text in ('{', '{}') or (clauses and text.endswith('};')):
+        if CLAUSE.match(text):
+            clauses.append([])
+        if text in ('{', '{}') or text.startswith('//'):
+            if text.startswith('//'):
+                continue
             break
-        if clauses or text.startswith('//'):
-            continue
-        parts.append(re.sub(r'\s*(\{\}?|;)$', '', text))
-        if text.endswith(('{', '{}', ';')):
+        (clauses[-1] if clauses else parts).append(text)
+        if text.endswith('};' if clauses else ('{', '{}', ';')):
             break
-    text = ' '.join(parts)
+    text = ' '.join(re.sub(r'\s*(\{\}?|;)$', '', part) for part in parts)
     text = re.sub(r',? where\b.*$', '', text)
     text = re.sub(r'([(<]) ', r'\1', text)
     text = re.sub(r',? ([)>])(?!=)', r'\1', re.sub(r' -> ', ' \0-> ', text)).replace('\0', '')
-    return re.sub(r'^(pub|final) ', '', text), condition
+    return re.sub(r'^(pub|final) ', '', text), [clause_of(' '.join(clause)) for clause in clauses]
+
+
+def clause_of(text):
+    """A clause as its word and its term, without a name."""
+    found = re.match(r'(\w+)[^{]*\{\s*(.*?)\s*\};?$', text)
+    return (found.group(1), found.group(2)) if found else (text.split(' ', 1)[0], text)
 
 
 def body_end(lines, at):
@@ -63,7 +76,7 @@ def documented(lines, first, last, wanted):
     for at in range(first, last):
         text = lines[at].strip()
         if text.startswith('///'):
-            doc.append(text[3:].strip())
+            doc.append(text[3:].removeprefix(' ').rstrip())
         elif text.startswith('#['):
             pass
         else:
@@ -94,15 +107,14 @@ def fields_and_variants(lines, item, first):
         item.parts.append(Item('part', found.group(1), doc, found.group(1) + rest))
 
 
-def methods(lines, first, public):
+def methods(lines, first, public, path):
     last = body_end(lines, first)
     def wanted(line):
         if indent_of(line) != 4 or (public and not line.startswith('    pub ')):
             return None
         return METHOD.match(line.strip())
     for at, found, doc in documented(lines, first + 1, last, wanted):
-        text, condition = signature_at(lines, at)
-        yield Item('fn', found.group(1), doc, text, condition)
+        yield Item('fn', found.group(1), doc, *signature_at(lines, at), path)
 
 
 class Module:
@@ -110,7 +122,7 @@ class Module:
 
     def __init__(self, path):
         self.items, self.uses, self.modules, self.doc = {}, [], {}, []
-        self.impls = []
+        self.impls, self.path = [], path
         lines = path.read_text().split('\n')
         self.doc = [line[3:].strip() for line in lines if line.startswith('//!')]
         folder = path.parent if path.name == 'lib.rt' else path.with_suffix('')
@@ -131,19 +143,18 @@ class Module:
             return
         found = ITEM.match(line)
         if found:
-            text, condition = signature_at(lines, at)
-            item = Item(found.group(1), found.group(2), doc, text, condition)
+            item = Item(found.group(1), found.group(2), doc, *signature_at(lines, at), self.path)
             self.items[item.name] = item
             if item.kind in ('struct', 'enum'):
                 fields_and_variants(lines, item, at)
             elif item.kind == 'trait':
-                item.parts += methods(lines, at, False)
+                item.parts += methods(lines, at, False, self.path)
             return
         if line.startswith('pub '):
             sys.exit(f'{folder}: tools/sources.py doesn\'t read: {line}')
         found = re.match(r'impl(?:<.*?>)? (\w+)(?:<.*>)?(?: where .*)? \{$', line)
         if found and ' for ' not in line:
-            self.impls.append((found.group(1), list(methods(lines, at, True))))
+            self.impls.append((found.group(1), list(methods(lines, at, True, self.path))))
         elif line.startswith('bitflag_items!'):
             end = body_end(lines, at)
             name = re.match(r'\s+impl (\w+)', lines[at + 1]).group(1)

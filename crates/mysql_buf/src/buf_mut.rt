@@ -14,6 +14,9 @@ use std::alloc::AllocError;
 /// refused for want of memory and leaves the buffer's bytes as they were; none is refused where
 /// the buffer has room.
 /// (MySQL: Client/Server Protocol, "Protocol Basics: Integer Types" and "String Types".)
+///
+/// Promise: each call appends exactly its bytes, or refuses only where room is missing and leaves
+/// the buffer as it was (`lenenc_int`).
 pub trait BufMutExt: BufMut {
     /// Appends a length-encoded number in its shortest spelling.
     /// (MySQL: Client/Server Protocol, "Protocol::LengthEncodedInteger".)

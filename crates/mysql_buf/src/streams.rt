@@ -15,9 +15,16 @@ use std::io::{ErrorKind, Read, Write};
 
 /// What every reader reads besides the numbers of `byteorder`.
 pub trait ReadMysqlExt: Read {
-    /// Reads a length-encoded number, in any of its spellings. Answers what the reader refuses
-    /// by, `UnexpectedEof` where the bytes end early, or `InvalidData` where the first byte is
-    /// `fb` or `ff`, which begins no number.
+    /// Reads a length-encoded number, in any of its spellings.
+    ///
+    /// Promise: the answer is what stands first, and a number that begins with fb or ff is refused
+    /// (`begun_lenenc_int_at`).
+    ///
+    /// # Errors
+    /// - Those of the reader.
+    /// - `UnexpectedEof` where the bytes end early.
+    /// - `InvalidData` where the first byte is `fb` or `ff`, which begins no number.
+    ///
     /// (MySQL: Client/Server Protocol, "Protocol::LengthEncodedInteger".)
     final fn read_lenenc_int(&mut self) -> io::Result<u64>
     where
@@ -38,6 +45,9 @@ pub trait ReadMysqlExt: Read {
     }
 
     /// Reads a length-encoded number and that many bytes, which take room only as they come.
+    ///
+    /// Promise: the answer is what stands first, and a text that begins with fb or ff is refused
+    /// (`begun_lenenc_str_at`).
     ///
     /// # Errors
     /// - Those of [`read_lenenc_int`](Self::read_lenenc_int).

@@ -34,6 +34,9 @@ pub fn varlen_uint_size(number: u64) -> usize
 ///
 /// The answer is `None` where the number is cut off; the buffer then stays as it was.
 ///
+/// Promise: the number that stands first is read in any of its spellings, and nothing is taken of
+/// one that is cut off (`varlen_at`).
+///
 /// (MySQL: Source Code Documentation, "mysql::serialization", "Variable-length integer".)
 #[tactic(auto, unfolding(crate::specs::Reading::first))]
 pub fn read_varlen_uint(buf: &mut ParseBuf<'_>) -> Option<u64>
@@ -65,6 +68,8 @@ fn read_short(first: u8, buf: &mut ParseBuf<'_>) -> Option<u64>
 }
 
 /// Appends a number of variable length in its shortest spelling.
+///
+/// Promise: exactly the shortest spelling is appended, or nothing (`varlen`).
 ///
 /// # Errors
 /// - `AllocError` for want of memory. The buffer's bytes are then as they were.

@@ -168,6 +168,9 @@ fn row_of(
 /// What follows the row is left. Behind the indicator 0 stands a cell; 1 (NULL), 2 (DEFAULT) and 3
 /// (IGNORE) have none, and are NULL.
 ///
+/// Promise: exactly the row that stands first is read, or the refusal of its first value that
+/// fails, which leaves all bytes (`bulk_row_at`).
+///
 /// # Errors
 /// At the first value that fails:
 /// - `UnexpectedEof` where it is cut off.

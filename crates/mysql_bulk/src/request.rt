@@ -45,6 +45,10 @@ impl ComStmtBulkExecuteRequest {
     /// isn't NULL, without a sign also where a later value of that type has none, and NULL where
     /// there is no such value.
     ///
+    /// Promise: the types are those of each column's first value that isn't NULL, without a sign
+    /// also where a later value of that type has none; it never refuses `RowTooLarge`
+    /// (`column_types_of`).
+    ///
     /// # Errors
     /// - `NoParams` where there are no rows.
     /// - `MixedArity` where not all have as many values as the first.

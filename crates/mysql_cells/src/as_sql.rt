@@ -110,6 +110,9 @@ impl Value {
     /// doubled, and no other byte is escaped. By the wrong one of both, or in a character set with
     /// a quote or a backslash among the bytes of a character, a value may end its literal.
     ///
+    /// Promise: exactly the stated text of the value is written, with backslash escapes a literal
+    /// of its content (`sql_of`, `SqlIsLiteral`).
+    ///
     /// # Errors
     /// - `Float` for a float.
     /// - `Memory`.

@@ -7,8 +7,8 @@ ghost use Rattle.mysql_cells.specs.declared.cell_form.CellForm.TheVariants as ce
 ghost use Rattle.mysql_fields.specs.declared.error.WireError.TheVariants as wire;
 ghost use Rattle.std.specs.Prelude.{◌≡◌, ◌≢◌, Err, IfNone, IfSome, Ok};
 
-use crate::cell_form::CellForm;
-use crate::cell_values::{date, form, time, whole1, whole2, whole4, whole8};
+use crate::cell_form::{CellForm, form};
+use crate::cell_values::{date_parts, time_parts, whole1, whole2, whole4, whole8};
 use crate::cell_writing::{date_size, put_date, put_time, time_size};
 use crate::value::Value;
 use mysql_buf::{BufMutExt, ParseBuf, lenenc_str_len};
@@ -25,14 +25,24 @@ fn plain_value(form: CellForm, unsigned: bool, buf: &mut ParseBuf) -> Option<Val
 {
     match form {
         CellForm::Nothing => Some(Value::NULL),
-        CellForm::Whole1 => Some(whole1(unsigned, buf.checked_eat_u8()?)),
-        CellForm::Whole2 => Some(whole2(unsigned, buf.checked_eat_u16_le()?)),
-        CellForm::Whole4 => Some(whole4(unsigned, buf.checked_eat_u32_le()?)),
+        CellForm::Whole1 => Some(Value::Int(whole1(unsigned, buf.checked_eat_u8()?))),
+        CellForm::Whole2 => Some(Value::Int(whole2(unsigned, buf.checked_eat_u16_le()?))),
+        CellForm::Whole4 => Some(Value::Int(whole4(unsigned, buf.checked_eat_u32_le()?))),
         CellForm::Whole8 => Some(whole8(unsigned, buf.checked_eat_u64_le()?)),
         CellForm::FloatBits => Some(Value::Float(buf.checked_eat_u32_le()?)),
         CellForm::DoubleBits => Some(Value::Double(buf.checked_eat_u64_le()?)),
-        CellForm::DateAndTime => Some(date(buf.checked_eat_u8_str()?)),
-        CellForm::Duration => Some(time(buf.checked_eat_u8_str()?)),
+        CellForm::DateAndTime => {
+            let (year, month, day, hour, minute, second, micros) = date_parts(
+                buf.checked_eat_u8_str()?,
+            );
+            Some(Value::Date(year, month, day, hour, minute, second, micros))
+        }
+        CellForm::Duration => {
+            let (negative, days, hours, minutes, seconds, micros) = time_parts(
+                buf.checked_eat_u8_str()?,
+            );
+            Some(Value::Time(negative, days, hours, minutes, seconds, micros))
+        }
         CellForm::Counted | CellForm::Without => None,
     }
 }
@@ -48,16 +58,16 @@ fn cell_value(
 {
     match form {
         CellForm::Counted => {
-            let held = there(buf.checked_eat_lenenc_str())?;
+            let held = or_eof(buf.checked_eat_lenenc_str())?;
             Ok(Value::Bytes(ByteString::copy(alloc, held)?))
         }
         CellForm::Without => Err(WireError::UnsupportedType),
-        _ => there(plain_value(form, unsigned, buf)),
+        _ => or_eof(plain_value(form, unsigned, buf)),
     }
 }
 
 /// What stands first, or the end of the bytes.
-fn there<T>(first: Option<T>) -> Result<T, WireError>
+fn or_eof<T>(first: Option<T>) -> Result<T, WireError>
     ensures { result ≡ or_end first }
 {
     first.ok_or(WireError::UnexpectedEof)
@@ -69,6 +79,9 @@ fn there<T>(first: Option<T>) -> Result<T, WireError>
 /// have no sign. A whole number comes as `Int` where it fits, else as `UInt`. An overlong length is
 /// read. Of a date or a time the fields that its length leaves out are 0, and bytes behind its last
 /// field are skipped.
+///
+/// Promise: exactly what stands first is read by the type and its sign, in spellings too that no
+/// writer chooses; a refusal leaves all bytes (`cell_at`).
 ///
 /// # Errors
 /// - `UnsupportedType` for a type without cells.
@@ -95,6 +108,8 @@ pub fn read_cell(
 
 /// Reads the cell of the text protocol that stands first: NULL or bytes.
 ///
+/// Promise: exactly what stands first is read; a refusal leaves all bytes (`text_cell_at`).
+///
 /// # Errors
 /// - `UnexpectedEof` where the bytes end before the cell does.
 /// - `BadLength` where the first one is ff.
@@ -116,7 +131,7 @@ pub fn read_text_cell(alloc: Global, buf: &mut ParseBuf) -> Result<Value, WireEr
         [255, ..] => Err(WireError::BadLength),
         _ => {
             let mut rest = *buf;
-            let held = there(rest.checked_eat_lenenc_str())?;
+            let held = or_eof(rest.checked_eat_lenenc_str())?;
             let value = Value::Bytes(ByteString::copy(alloc, held)?);
             *buf = rest;
             Ok(value)
@@ -151,6 +166,8 @@ impl MySerialize for Value {
 
 impl Value {
     /// How many bytes `serialize` writes.
+    ///
+    /// Promise: that is the length of the cell that is written (`bin_len`).
     pub fn bin_len(&self) -> u64
         ensures { result ≡ bin_len self.now }
     {

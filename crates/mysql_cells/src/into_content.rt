@@ -13,6 +13,9 @@ impl Value {
     ///
     /// An all-zero time is taken as positive, and a float means None. Bytes are moved, not copied.
     ///
+    /// Promise: the content is the value's meaning, an all-zero time without its sign
+    /// (`content_of`).
+    ///
     /// # Errors
     /// - `AllocError` for want of memory.
     ///

@@ -2,8 +2,8 @@
 #![tactic(auto)]
 
 pub mod as_sql;
-mod cell_form;
-mod cell_values;
+pub mod cell_form;
+pub mod cell_values;
 mod cell_writing;
 pub mod cells;
 mod date_text;
@@ -14,6 +14,7 @@ mod quoting;
 pub mod value;
 
 pub use as_sql::AsSqlError;
+pub use cell_form::CellForm;
 pub use cells::{read_cell, read_text_cell};
 pub use deserializer::{BinValue, TextValue, ValueDeserializer};
 pub use value::Value;

@@ -28,6 +28,9 @@ use std::borrow::CowStr;
 
 /// A column of a result set, or a parameter or a column of a prepared statement.
 ///
+/// Promise: `serialize` appends exactly the column's bytes; reading answers exactly what the layout
+/// gives of any bytes, or its refusal, which leaves all bytes (`column`, `column_at`).
+///
 /// MySQL: Client/Server Protocol, "Column Definition".
 #[derive(Debug, PartialEq, Eq, Drop)]
 pub struct Column {

@@ -27,6 +27,8 @@ pub trait Intermediate<T>: Sized {
     /// It is the value that was read where that was kept or moved, and else the one that its result
     /// converts to.
     ///
+    /// Promise: the value converts to the same again, and is `NULL` exactly where the first was.
+    ///
     /// # Errors
     /// - `TooLong` where that has no value, which no intermediate of this crate that was read
     ///   answers.
@@ -72,6 +74,8 @@ pub trait FromValue: Sized {
     ///
     /// An impl may spare the copy where it keeps nothing of it.
     ///
+    /// Promise: the result is that of converting a copy, or want of memory, which is outermost.
+    ///
     /// # Errors
     /// - `AllocError`, outermost, for want of memory alone.
     /// - `FromValueError` with a copy of the value, where it doesn't convert.
@@ -89,6 +93,9 @@ pub trait FromValue: Sized {
     }
 
     /// Converts a value.
+    ///
+    /// Promise: the result is the one that the type's definition says, of callers' impls too, or
+    /// the error holds the very value.
     ///
     /// # Errors
     /// - `FromValueError` with the value, where it doesn't convert.

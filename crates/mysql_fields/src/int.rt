@@ -24,6 +24,8 @@ use std::marker::PhantomData;
 
 /// A representation of whole numbers.
 /// (MySQL: Client/Server Protocol, "Protocol Basics: Integer Types".)
+///
+/// Promise: a number is written as its bytes, and read as exactly what stands there (`Tells`).
 pub trait IntRepr {
     /// The type of the numbers.
     type Primitive: Copy;

@@ -9,6 +9,9 @@ use std::alloc::{AllocError, Global};
 
 /// A value that is written as bytes.
 /// (MySQL: Client/Server Protocol, "Protocol Basics: Basic Data Types".)
+///
+/// Promise: what is appended is a function of the value, and nothing is where memory was refused
+/// (`Appends`).
 pub trait MySerialize {
     // the bytes that are written
     ghost written: { Self → List ℕ };
@@ -105,15 +108,24 @@ pub trait Readable: Sized {
 }
 
 /// A value that is read back from what was written, whatever follows it.
+///
+/// Promise: what is written is read back where the type's `IsReadBack` says so.
 pub trait ReadsBack: MySerialize + Readable {
     ghost reads_back: { (ctx : Self.Ctx) (x : Self) (rest : List ℕ) → Self.IsReadBack ctx x rest →
         Self.read_at ctx (Self.written x ++ rest) ≡ Ok (Self.kept x, rest) };
 }
 
 /// A value that is read from the front of a buffer.
+///
+/// Promise: reading answers exactly what the type's function gives of the bytes, the value and the
+/// rest or the refusal, and a refusal leaves all bytes (`Answers`).
 pub trait MyDeserialize<'de>: Readable {
-    /// Reads the value that stands first. A refused call leaves the buffer as it was; that memory
-    /// was refused is answered only by a type that asks for some.
+    /// Reads the value that stands first.
+    ///
+    /// # Errors
+    /// - Those of the type. `Memory` is answered only by a type that asks for some.
+    ///
+    /// The buffer is as it was after an error.
     fn deserialize(
         alloc: Global,
         ctx: Self::Ctx,
@@ -158,6 +170,9 @@ pub trait ParseExt<'a>: Sized {
     }
 
     /// Reads a value.
+    ///
+    /// Promise: what is answered is the type's own reading, or `UnexpectedEof` below its size, or
+    /// `Memory` of types that ask for memory (`Answers`).
     ///
     /// # Errors
     /// - `UnexpectedEof` where there are fewer bytes than its size.

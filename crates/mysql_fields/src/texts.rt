@@ -26,6 +26,8 @@ use std::marker::PhantomData;
 
 /// A representation of texts.
 /// (MySQL: Client/Server Protocol, "Protocol Basics: String Types".)
+///
+/// Promise: a text is written as its bytes, and read as exactly what stands there (`Tells`).
 pub trait BytesRepr {
     /// What has to be known before a text is read.
     type Ctx: Drop;

@@ -302,6 +302,9 @@ impl<'a> OkPacket<'a> {
 
     /// The changes of the session's state, in their order; none where there are none.
     ///
+    /// Promise: exactly the states that stand in the session state are answered, none where there
+    /// is none.
+    ///
     /// # Errors
     /// - `UnexpectedEof` where one is cut off, or `UnknownValue` for a type without a name,
     ///   whichever stands first.

@@ -83,6 +83,9 @@ impl<'a> OkPacket<'a> {
     /// `status` is written in place of the packet's own. Only a status whose bits all have names
     /// ([`has_named_status`](crate::has_named_status)) is read back.
     ///
+    /// Promise: exactly the bytes of the kind are appended, with the status that is handed in, or
+    /// nothing.
+    ///
     /// # Errors
     /// - `AllocError` for want of memory. The buffer is then as it was.
     ///

@@ -9,4 +9,5 @@ pub mod LiteralRuns
 pub mod LiteralViews
 pub mod Parsed
 pub mod PlaceKinds
-pub use Rattle.mysql_fields.specs.declared.error.WireError
+pub mod Query
+pub mod ParsedQuery

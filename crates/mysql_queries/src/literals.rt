@@ -3,10 +3,8 @@
 ghost use Rattle.mysql_queries.specs.LiteralRuns.{IsLiteralRun, begins_hex};
 ghost use Rattle.mysql_queries.specs.LiteralViews.{IsHeld, IsNoLiteral, literal_content};
 ghost use Rattle.mysql_queries.specs.Literals.{IsLiteral, lower};
-ghost use Rattle.mysql_fields.specs.declared.error.WireError.TheVariants as wire;
 ghost use Rattle.std.specs.Prelude.{
   ◌<◌,
-  IsOkUnless,
   OnErr,
   vec_capacity,
   ◌++◌,
@@ -30,7 +28,6 @@ ghost use Rattle.std.specs.Prelude.{
 use crate::hexadecimal::read_hex;
 use crate::numbers::read_number;
 use crate::strings::read_string;
-use mysql_fields::WireError;
 use std::alloc::AllocError;
 
 /// A literal that was read. Bytes lie in the buffer that was lent.
@@ -103,18 +100,21 @@ fn literal_len(text: &[u8], buf: &mut Vec<u8>) -> Result<Option<(Literal, usize)
     }
 }
 
-/// Reads the literal at the front of a text, and gives what follows it. What the buffer held goes,
-/// and a literal's bytes are put into it.
+/// Reads the literal at the front of a text, and gives what follows it.
 ///
-/// All that stands there of the literal's form is read: all digits, `0x` with all hexadecimal
-/// digits, a body in single quotes to its closing quote. None where that is no literal.
+/// What the buffer held goes, and a literal's bytes are put into it. All that stands there of the
+/// literal's form is read: all digits, `0x` with all hexadecimal digits, a body in single quotes to
+/// its closing quote. None where that is no literal.
+///
+/// Promise: the longest run of a literal's form is taken and its content answered, or that this run
+/// is no literal (`IsLiteralRun`, `IsNoLiteral`).
 ///
 /// # Errors
-/// `Memory`, only where the buffer has no room for as many bytes as the text.
+/// - `AllocError`, only where the buffer has no room for as many bytes as the text.
 pub fn read_literal<'a>(
     text: &'a [u8],
     buf: &mut Vec<u8>,
-) -> Result<Option<(Literal, &'a [u8])>, WireError>
+) -> Result<Option<(Literal, &'a [u8])>, AllocError>
     // What is read is all of its form that stands there, and spells the content.
     ensures found { IfOk result (λ found. IfSome found (λ x. (run : List ℕ) × (text.entry.now ≡ run ++ x.1.now)
         × IsLiteralRun run x.1.now × IsLiteral run (literal_content x.0 buf.new.items))) }
@@ -124,7 +124,6 @@ pub fn read_literal<'a>(
     ensures held { IfOk result (λ found. IfSome found (λ x. IsHeld x.0 buf.new.items)) }
     ensures empty { IfOk result (λ found. IfNone found (buf.new.items ≡ [])) }
     ensures refused { OnErr result (buf.new.items ≡ []) }
-    ensures memory { IsOkUnless result wire.Memory }
     ensures full { OnErr result (vec_capacity buf.old < length text.entry.now) }
 {
     let found = literal_len(text, buf);

@@ -66,6 +66,9 @@ impl<'a> Model for ParsedNamedParams<'a> {
 impl<'a> ParsedNamedParams<'a> {
     /// Parses a query.
     ///
+    /// Promise: the query has question marks for its names, which are listed in order; it is
+    /// refused exactly where both kinds occur (`IsParsed`).
+    ///
     /// # Errors
     /// - `Mixed` where both names and question marks occur.
     /// - `Memory`.
@@ -81,6 +84,9 @@ impl<'a> ParsedNamedParams<'a> {
     }
 
     /// Parses a query whose placeholders were found before.
+    ///
+    /// Promise: what [`parse`](Self::parse) promises, over places that are the query's
+    /// (`IsParsed`).
     ///
     /// # Errors
     /// - `Mixed` where both names and question marks occur.
@@ -143,7 +149,7 @@ impl<'a> ParsedNamedParams<'a> {
 }
 
 /// Copies of the names, which borrow nothing.
-fn copied_names(
+pub(crate) fn copied_names(
     alloc: Global,
     names: &[CowSlice<'_, u8>],
 ) -> Result<Vec<CowSlice<'static, u8>>, AllocError>
@@ -176,7 +182,11 @@ pub fn names_among<'a>(
 }
 
 /// The query with a question mark for each placeholder.
-fn with_marks(alloc: Global, query: &[u8], places: &[Place]) -> Result<Vec<u8>, AllocError>
+pub(crate) fn with_marks(
+    alloc: Global,
+    query: &[u8],
+    places: &[Place],
+) -> Result<Vec<u8>, AllocError>
     requires { HasPlaces query.now places.now }
     ensures { IfOk result (λ parsed. parsed.items ≡ join_with_byte question (slices_between query.now 0 places.now)) }
 {

@@ -85,6 +85,8 @@ fn place_of(query: &[u8], kind: TokenKind, start: usize, end: usize) -> Option<P
 ///
 /// Strings, quoted identifiers and comments hold none. What stands between `/*!` or `/*+` and its
 /// end is read as the query's own.
+///
+/// Promise: exactly the placeholders of the query are listed (`HasPlaces`).
 pub fn places(alloc: Global, query: &[u8]) -> Result<Vec<Place>, AllocError>
     ensures { IfOk result (λ v. HasPlaces query.now v.items) }
 {

@@ -5,23 +5,23 @@ ghost use Rattle.mysql_queries.specs.LiteralViews.{IsNoLiteral};
 ghost use Rattle.mysql_queries.specs.Literals.{IsLiteral};
 ghost use Rattle.mysql_queries.specs.Queries.{HasPlaces, Lexes, Slices};
 ghost use Rattle.mysql_queries.specs.declared.content.Content.{Content as ContentOf};
-ghost use Rattle.mysql_fields.specs.declared.error.WireError.TheVariants as wire;
 ghost use Rattle.std.specs.List.{AllByRecursion};
-ghost use Rattle.std.specs.Prelude.{◌++◌, ◌≡◌, IfNone, IfOk, IfSome, IsOkUnless, List, true, ℕ};
+ghost use Rattle.std.specs.Prelude.{◌++◌, ◌≡◌, IfNone, IfOk, IfSome, List, true, ℕ};
 
 use crate::byte_string::ByteString;
 use crate::content::Content;
 use crate::literals::{Literal, read_literal};
 use crate::placeholders::Place;
-use mysql_fields::WireError;
-use std::alloc::Global;
+use std::alloc::{AllocError, Global};
 
 /// The content of the literal at the front of a text, and what follows it; None where no literal stands there.
-fn read_content<'a>(alloc: Global, text: &'a [u8]) -> Result<Option<(Content, &'a [u8])>, WireError>
+fn read_content<'a>(
+    alloc: Global,
+    text: &'a [u8],
+) -> Result<Option<(Content, &'a [u8])>, AllocError>
     ensures found { IfOk result (λ found. IfSome found (λ x. (run : List ℕ) × (text.entry.now ≡ run ++ x.1.now)
         × IsLiteralRun run x.1.now × IsLiteral run x.0)) }
     ensures none { IfOk result (λ found. IfNone found (IsNoLiteral text.entry.now)) }
-    ensures memory { IsOkUnless result wire.Memory }
 {
     let mut buf = Vec::new(alloc);
     match read_literal(text, &mut buf)? {
@@ -40,14 +40,17 @@ fn read_content<'a>(alloc: Global, text: &'a [u8]) -> Result<Option<(Content, &'
 /// and each of them stands alone. None where the text is not the query's pieces with literals
 /// between them.
 ///
+/// Promise: the contents are those of the text over the query, by its pieces and by its tokens, and
+/// None says that no contents satisfy it (`Slices`, `Lexes`).
+///
 /// # Errors
-/// `Memory`.
+/// - `AllocError` for want of memory.
 pub fn read_text(
     alloc: Global,
     query: &[u8],
     places: &[Place],
     text: &[u8],
-) -> Result<Option<Vec<Content>>, WireError>
+) -> Result<Option<Vec<Content>>, AllocError>
     requires places { HasPlaces query.now places.now }
     requires alone { AllByRecursion (λ place. place.alone ≡ true) places.now }
     ensures sliced { IfOk result (λ found. IfSome found (λ contents. Slices query.now text.now contents.items)) }
@@ -55,7 +58,6 @@ pub fn read_text(
     ensures none { IfOk result
         (λ found. IfNone found ((contents : List ContentOf) → Slices query.now text.now contents →
         ⊥)) }
-    ensures memory { IsOkUnless result wire.Memory }
 {
     let mut contents = Vec::new(alloc);
     let mut at = 0;

@@ -159,6 +159,8 @@ fn error_code(alloc: Global, rest: &mut ParseBuf) -> Result<u16, WireError>
 ///
 /// It is none where reports were not agreed on, or where this packet's form was seen.
 ///
+/// Promise: a packet that is known to be no report is read as its layout says (`error_at`).
+///
 /// # Errors
 /// - `UnexpectedEof` below three bytes.
 /// - `BadConstant` for another first byte than ff.

@@ -127,6 +127,9 @@ impl<'de> MyDeserialize<'de> for SqlState {
 
 /// An error that the server reports. Its own bytes begin behind its code.
 ///
+/// Promise: it is written as its state, where it has one, and its message, and read by its code and
+/// whether the protocol has states; its shown text is stated (`server_error_at`).
+///
 /// MySQL: Client/Server Protocol, "ERR_Packet".
 #[derive(Debug, PartialEq, Drop)]
 pub struct ServerError<'a> {

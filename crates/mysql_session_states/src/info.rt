@@ -77,6 +77,9 @@ impl<'a> SessionStateInfo<'a> {
 
     /// The change that the bytes tell; bytes that are left behind it are ignored.
     ///
+    /// Promise: exactly the change is answered that the data tell by their type, whatever bytes are
+    /// left behind it (`change_at`).
+    ///
     /// # Errors
     /// - `UnexpectedEof` where a text is cut off.
     /// - `Memory`.
@@ -179,6 +182,9 @@ impl<'de> MyDeserialize<'de> for SessionStateInfo<'de> {
 }
 
 /// The states that stand one after another in these bytes, to their end.
+///
+/// Promise: exactly the states that stand one after another to the end are answered, or the refusal
+/// of the first that doesn't read.
 ///
 /// # Errors
 /// - That of the first state that is refused.

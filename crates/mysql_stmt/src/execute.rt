@@ -65,6 +65,9 @@ impl ComStmtExecuteRequestBuilder {
     /// That is so where an execution that holds them exceeds the most bytes of one chunk. The
     /// values are at most 65535.
     ///
+    /// Promise: the execution has the cells of all values but, exactly where it would exceed
+    /// 16777215 bytes, its byte strings (`execution_of`, `needs_long_data`).
+    ///
     /// # Errors
     /// - `AllocError` for want of memory.
     ///
@@ -121,6 +124,9 @@ fn lent<'a>(alloc: Global, values: &'a [Value]) -> Result<Vec<&'a Value>, AllocE
 ///
 /// None where it has more. The values are at most 65535. An execution without values has 10 bytes,
 /// and counts as one of 11 here.
+///
+/// Promise: the size is that of the whole execution, where it is at most the given number
+/// (`whole_size`).
 ///
 /// MySQL: Client/Server Protocol, "COM_STMT_EXECUTE".
 pub fn size_within<V: HasValue>(values: &[V], most: usize) -> Option<usize>
@@ -463,6 +469,10 @@ fn put_parameters<V: HasValue>(
 ///
 /// The values are at most 65535. The cells of byte strings are left out where these are sent
 /// `apart`, as long data before it.
+///
+/// Promise: the bytes are those of the execution that
+/// [`build`](ComStmtExecuteRequestBuilder::build) makes, in one pass over the values
+/// (`execution_of`).
 ///
 /// # Errors
 /// - `AllocError` for want of memory.

@@ -24,6 +24,9 @@ pub trait ToValue {
 
     /// The value that this converts to.
     ///
+    /// Promise: the value is the one that the type's definition says, of callers' impls too;
+    /// `TooLong` is answered exactly where there is none.
+    ///
     /// # Errors
     /// - `TooLong` for a duration of more than 2^32-1 days.
     /// - `Memory`.

@@ -26,6 +26,9 @@ use std::convert::AsSlice;
 /// makes the same set.
 ///
 /// The values are copied: `into_params` drops what it takes, `to_params` leaves it.
+///
+/// Promise: the set has each value in order or by its name; no pair is left out, and of two equal
+/// names none is kept (`set_cause`).
 pub trait IntoParams: Sized + Drop {
     // its values in order, or beside their names
     ghost parts: { Self → Parts };

@@ -222,6 +222,9 @@ pub fn bind_text_over<'a>(
 /// `places` are those that [`places`] lists, so that many sets need them found once. Safe for the
 /// servers that [`bind_text`] names.
 ///
+/// Promise: what [`bind_text`] promises, over places that are the query's (`IsBound`,
+/// `IsBindCause`).
+///
 /// # Errors
 /// - Those of [`bind_text`], in its order; nothing is appended then.
 pub fn bind_text_at(
@@ -259,6 +262,10 @@ pub fn bind_text_at(
 /// the quote is read as SQL: send by execution there.
 ///
 /// An all-zero time is written without its sign.
+///
+/// Promise: the text has the query's tokens with one literal in each place, and is read as the
+/// set's meaning; else it is refused exactly for its causes, the first one (`IsBound`, `Lexes`,
+/// `Slices`, `IsBindCause`).
 ///
 /// # Errors
 /// - `Mixed`.

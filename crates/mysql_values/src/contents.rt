@@ -31,6 +31,9 @@ pub trait ContentExt {
     /// It is `NULL`, a number as `Int` where it fits, else as `UInt`, bytes as `Bytes`. A number is
     /// from -2^63 to 2^64-1, as each that was read is.
     ///
+    /// Promise: the value is the one that the content is sent as; only memory is refused
+    /// (`content_value`).
+    ///
     /// # Errors
     /// - `AllocError` for want of memory.
     ///

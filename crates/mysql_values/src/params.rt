@@ -271,6 +271,9 @@ impl Params {
     /// A set by name looks up each name of the query, a name that occurs twice twice; names that
     /// the query lacks are left aside.
     ///
+    /// Promise: the values are those that the set gives the query, or its first error
+    /// (`values_over`).
+    ///
     /// # Errors
     /// - `Missing` with the first name that has no entry.
     /// - `Confusion` for names over a query without names, and for a list of values over a query
@@ -353,6 +356,9 @@ impl Params {
     /// The set by place: a set by name becomes the list of these names' values.
     ///
     /// Any other set stays as it is.
+    ///
+    /// Promise: the set gives by place what it gave these names, or the first name without a value
+    /// is named (`IsPositional`).
     ///
     /// # Errors
     /// - `Missing` with the first name that has no entry.

@@ -2,8 +2,7 @@
 
 use crate::support::{Asserting, copied};
 use mysql_values::{Literal, read_literal};
-use mysql_wire::WireError;
-use std::alloc::Global;
+use std::alloc::{AllocError, Global};
 use tests_support::{Assert, assert_bytes, assert_equal};
 
 /// Texts, the literal that stands first with what follows it, and the bytes that are then in the buffer.
@@ -44,7 +43,7 @@ const LITERALS: [(&[u8], Option<(Literal, &[u8])>, &[u8]); 17] = [
 fn literal_of<'a>(
     text: &'a [u8],
     buf: &mut Vec<u8>,
-) -> Result<Option<(Literal, &'a [u8])>, WireError> {
+) -> Result<Option<(Literal, &'a [u8])>, AllocError> {
     let answer = read_literal(text, buf);
     if answer.is_err() {
         return read_literal(text, buf);

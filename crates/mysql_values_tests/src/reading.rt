@@ -2,8 +2,7 @@
 
 use crate::support::{Asserting, Want, meets};
 use mysql_values::{Content, first_not_alone, places, read_text};
-use mysql_wire::WireError;
-use std::alloc::Global;
+use std::alloc::{AllocError, Global};
 use tests_support::{Assert, once_more};
 
 const QUERY: &[u8] = b"SELECT :a, :b";
@@ -25,10 +24,10 @@ const TEXTS: [(&[u8], Option<&[Want]>); 9] = [
 ];
 
 /// What a text is read as.
-fn read(alloc: Global, text: &[u8]) -> Result<Option<Vec<Content>>, WireError> {
+fn read(alloc: Global, text: &[u8]) -> Result<Option<Vec<Content>>, AllocError> {
     let found = places(alloc, QUERY)?;
     let answer = match first_not_alone(&found) {
-        Some(_) => Err(WireError::BadLength),
+        Some(_) => Err(AllocError),
         None => read_text(alloc, QUERY, &found, text),
     };
     drop(found);

@@ -164,6 +164,8 @@ impl PacketCodec {
     ///
     /// The number then goes on after the last chunk.
     ///
+    /// Promise: exactly the framing is appended; after a refusal all is as it was (`framing`).
+    ///
     /// # Errors
     /// - `PacketTooLarge` where the payload is longer than the limit.
     /// - `Memory` where a growth of `dst` was refused.
@@ -200,6 +202,9 @@ impl PacketCodec {
     /// the stream, or what was left of one piece followed by the next. After `false` fewer than 4
     /// bytes are left in it, the front of a header, and the next call has to be given them before
     /// what comes next.
+    ///
+    /// Promise: from any source, however it is cut, exactly the payloads whose framings follow each
+    /// other are handed out, then the fault of what follows (`Decodes`).
     ///
     /// # Errors
     /// - `PacketTooLarge` once a chunk's header stands with which the packet would pass the limit.

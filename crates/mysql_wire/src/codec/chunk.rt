@@ -82,6 +82,9 @@ impl ChunkDecoder {
     /// Once the chunk stands whole the answer is its number; before that it is `None`, and nothing
     /// moves. `max_allowed_packet` is the most bytes that `dst` may hold afterwards.
     ///
+    /// Promise: one chunk is taken whole or not at all; after a refusal all is as it was
+    /// (`LacksChunk`).
+    ///
     /// # Errors
     /// - `PacketTooLarge` where the chunk's header stands and would pass the limit, or says another
     ///   length than the `needed` of this decoder.

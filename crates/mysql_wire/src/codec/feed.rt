@@ -88,6 +88,9 @@ fn drain(
 /// `PacketsOutOfSync` as the stream's bytes have it; without one nothing or the front of a packet
 /// follows them. Where memory was refused the fault is `Memory`, and the payloads are the stream's first ones.
 /// (MySQL: Client/Server Protocol, "Protocol Basics: MySQL Packets", "Sending More Than 16Mb" and "Sequence ID".)
+///
+/// Promise: the payloads and the fault are those of the one split of the pieces' bytes
+/// (`IsAnswer`).
 pub fn feed_all(alloc: Global, codec: PacketCodec, pieces: &[&[u8]]) -> Packets
     requires { IsBetween codec }
     ensures { IsAnswer codec.limit (OnFrom codec.number) (flat_map (λ piece. piece.now) pieces.now)

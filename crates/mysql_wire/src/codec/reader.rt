@@ -219,6 +219,9 @@ impl PacketReader {
     /// after `false` nothing changed, and [`PacketReader::advance`] reads on, which does the same
     /// with any piece. It is the quick way where few bytes come at a time.
     ///
+    /// Promise: a piece is taken as `advance` takes it, or nothing changes; when it is left isn't
+    /// promised (`ReadsOn`).
+    ///
     /// (MySQL: Client/Server Protocol, "Protocol Basics: MySQL Packets".)
     #[inline(always)]
     pub fn take_within(&mut self, piece: &[u8]) -> bool
@@ -273,6 +276,9 @@ impl PacketReader {
     /// [`PacketReader::payload`] has the payload until more is read, and the number goes on. After
     /// `false` the piece is used up, and no payload stands whole in the bytes that came.
     ///
+    /// Promise: in pieces of any size the answers are those of one codec over all bytes that came,
+    /// and what is held after each call is stated whole (`ReadsOn`, `RefusesOn`).
+    ///
     /// # Errors
     /// - `PacketTooLarge` once a chunk's header stands with which the packet would pass the limit.
     /// - `Memory` where a growth was refused.
@@ -321,6 +327,10 @@ impl PacketReader {
     ///
     ///     while let Some(payload) = reader.read_in_place(&mut rest) { .. }
     ///
+    /// Promise: the payload is the one that `advance` would hand out, without a copy; None only
+    /// where no such chunk stands there, bytes of a packet came before, or the reader has refused
+    /// (`LacksFrontChunk`).
+    ///
     /// (MySQL: Client/Server Protocol, "Protocol Basics: MySQL Packets" and "Sequence ID".)
     pub fn read_in_place<'a>(&mut self, piece: &mut &'a [u8]) -> Option<&'a [u8]>
         ensures found { IfSome result
@@ -349,6 +359,9 @@ impl PacketReader {
     ///
     /// [`PacketReader::advance`] finds it.
     ///
+    /// Promise: the payload is the one that `advance` hands out, and each takes bytes of the piece,
+    /// so that a loop over a piece ends (`Reads`).
+    ///
     /// # Errors
     /// - Those of [`PacketReader::advance`].
     ///
@@ -371,6 +384,9 @@ impl PacketReader {
     ///
     /// They are those that came, but for the headers of its chunks, of which only one that doesn't
     /// stand whole is held.
+    ///
+    /// Promise: the count is stated in closed form: all that came of the packet but the headers of
+    /// chunks that stand whole (`bytes_kept`).
     pub fn kept(&self) -> usize
         ensures { result ≡ bytes_kept (length self.now.bytes) }
     {
@@ -392,7 +408,8 @@ impl PacketReader {
 
     /// Takes the payload that was handed out, without a copy; then none is.
     ///
-    /// Where memory was refused, all is as it was.
+    /// # Errors
+    /// - `AllocError` for want of memory. All is then as it was.
     pub fn take_payload(&mut self) -> Result<Vec<u8>, AllocError>
         ensures ok { IfOk result (λ payload. payload.items ≡ self.old.payload) }
         ensures taken { OnOk result (self.new ≡ record self.old { payload = [] }) }

@@ -37,6 +37,8 @@ fn put_chunk<B: BufMut>(number: u8, bytes: &[u8], dst: &mut B)
 /// payload of n bytes takes n / [`MAX_PAYLOAD_LEN`] + 1 chunks, so one that fills its chunks ends
 /// with an empty chunk.
 ///
+/// Promise: exactly the framing is appended, or nothing (`framing`).
+///
 /// # Errors
 /// - `AllocError` where a growth of `dst` was refused; `dst` then holds what it held.
 ///
@@ -81,15 +83,21 @@ fn frame_moved(
     packet_to_chunks(number, spare, out)
 }
 
-/// Frames the payload that was written to `out` behind four bytes of room for a header, which begin
-/// at `start`. Its first chunk gets this number; the answer is the number after its last chunk.
+/// Frames the payload behind four bytes of room for a header in `out`, which begin at `start`.
 ///
-/// A payload of fewer than [`MAX_PAYLOAD_LEN`] bytes stays where it is. A longer one is moved to
-/// `spare` and appended again; `spare` keeps its room from call to call, and what it holds
-/// afterwards isn't said.
+/// Its first chunk gets this number; the answer is the number after its last chunk. A payload of
+/// fewer than [`MAX_PAYLOAD_LEN`] bytes stays where it is. A longer one is moved to `spare` and
+/// appended again; `spare` keeps its room from call to call, and what it holds afterwards isn't
+/// said.
 ///
-/// The error is a growth that was refused; `out` then ends at `start`.
-/// (MySQL: Client/Server Protocol, "Protocol Basics: MySQL Packets", "Sending More Than 16Mb" and "Sequence ID".)
+/// Promise: `out` ends with exactly the framing of the payload, in place of the room and the
+/// payload (`framing`).
+///
+/// # Errors
+/// - `AllocError` where a growth was refused; `out` then ends at `start`.
+///
+/// (MySQL: Client/Server Protocol, "Protocol Basics: MySQL Packets", "Sending More Than 16Mb" and
+/// "Sequence ID".)
 #[inline(always)]
 pub fn frame_in_place(
     number: u8,

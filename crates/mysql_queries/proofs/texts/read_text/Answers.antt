@@ -1,5 +1,4 @@
-use Rattle.std.proofs.Common.{◌+◌, ◌++◌, drop, get_or, slice_range, refl, sym, ap, ◌∙◌, subst}
-use Rattle.std.proofs.lemmas.Result.{err_from_is_err_and}
+use Rattle.std.proofs.Common.{◌+◌, ◌++◌, drop, get_or, slice_range, sym, ap, ◌∙◌, subst}
 use Rattle.mysql_queries.specs.Queries.{Slices}
 use Rattle.std.specs.Cmp.Lexicographic.{same_text, other_text}
 use Rattle.mysql_queries.proofs.PlaceLists.{to_end}
@@ -66,9 +65,3 @@ returns-else-eq-clause-none c contents h =
 pub slice_bounds-strip_prefix-count : goal.slice_bounds-strip_prefix-count
 slice_bounds-strip_prefix-count c =
     (next_in_order c.args.query.now c.loop-place.at c.args.places.now c.loop-place.place-index c.loop-place-test.true c.loop-place.invariant.order).from
-
-pub returns-in_err-content-clause-memory : goal.returns-in_err-content-clause-memory
-returns-in_err-content-clause-memory c = let p = err_from_is_err_and c.from_residual.result c.from_residual.ensures.1 in rw (p.1, p.2) c.in_err-content.ensures.memory
-
-pub returns-in_err-push-clause-memory : goal.returns-in_err-push-clause-memory
-returns-in_err-push-clause-memory c = let p = err_from_is_err_and c.from_residual-in_err-push.result c.from_residual-in_err-push.ensures.1 in rw (p.1, p.2) refl

@@ -1,0 +1,25 @@
+use Rattle.std.proofs.Common.{◌≡◌, List, ◌∷◌, [], map, refl, sym, ap, ◌∙◌, length, arith, subst}
+use Rattle.std.specs.Cow.{cow_slice_items}
+use Rattle.mysql_queries.specs.Queries.{IsParsed}
+use Rattle.mysql_queries.specs.Query.{Query}
+use Rattle.mysql_queries.proofs.FirstBytes.{same_number}
+use Rattle.mysql_queries.proofs.QueryWritten.{marked, parsed_as_it_is, parsed_marked}
+use Rattle.mysql_queries.proofs.parsed_query.ParsedQuery.with_marks.Goals as goal
+
+none_left : {A : Type 0} → (xs : List A) → length xs ≡ 0 → xs ≡ []
+none_left [] h = refl
+none_left (x ∷ xs) h = absurd (omega (arith, h))
+
+pub returns-in-Borrowed : goal.returns-in-Borrowed
+returns-in-Borrowed c =
+    let empty = none_left c.self.inside.names.items (sym c.self.inside.names.ok.0 ∙ same_number _ 0 (sym c.if-is_empty.ensures)) in
+    let text = cow_slice_items c.self.inside.text in
+    subst (λ (q : Query). IsParsed q.text c.in-Borrowed.text.now) c.self.view_is
+    (subst (IsParsed text) (ap cow_slice_items c.in-Borrowed.is) (parsed_as_it_is text c.self.inside.places.items c.self.invariant.places (sym c.self.invariant.names ∙ ap (map cow_slice_items) empty)))
+
+pub returns : goal.returns
+returns c =
+    let text = cow_slice_items c.self.inside.text in
+    subst (λ (q : Query). IsParsed q.text c.in_ok-with_marks.field-0.items) c.self.view_is
+    (parsed_marked text c.in_ok-with_marks.field-0.items c.self.inside.places.items c.self.invariant.places
+    (c.in_ok-with_marks.ensures ∙ ap (λ t. marked t 0 c.deref.result.now) c.as_slice.ensures.value ∙ ap (marked text 0) c.deref.ensures.value))

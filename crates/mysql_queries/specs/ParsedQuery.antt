@@ -1,0 +1,19 @@
+-- What is found of a query's text when it is parsed.
+-- MySQL Reference Manual, "PREPARE Statement" (parameter markers).
+use Rattle.std.specs.Prelude.{◌≡◌, map}
+use Rattle.std.specs.Cow.{cow_slice_items}
+use Rattle.mysql_queries.specs.Parsed.{names_at}
+use Rattle.mysql_queries.specs.Queries.{HasPlaces, first_not_alone, is_mixed}
+use Rattle.mysql_queries.specs.Query.{Query}
+use Rattle.mysql_queries.specs.declared.parsed_query.ParsedQuery.TheInside.{Inside}
+
+-- its text and its placeholders
+abbrev pub query_of : Inside → Query
+query_of q = record { text = cow_slice_items q.text; places = q.places.items }
+
+-- the placeholders are those of the text, and the rest is what they say
+pub record IsFound (q : Inside) : Type 0 where
+  pub places : HasPlaces (cow_slice_items q.text) q.places.items
+  pub names : map cow_slice_items q.names.items ≡ names_at (cow_slice_items q.text) q.places.items
+  pub mixed : q.mixed ≡ is_mixed q.places.items
+  pub not_alone : q.not_alone ≡ first_not_alone q.places.items
