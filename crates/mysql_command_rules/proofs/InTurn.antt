@@ -1,5 +1,5 @@
 -- Sets that are sent one after another, each by packets of its own.
-use Rattle.std.proofs.Common.{◌≡◌, ◌×◌, ◌⊎◌, ℕ, ◌+◌, ◌-◌, ◌<◌, ◌≤◌, List, [], ◌∷◌, ◌++◌, length, map, take, drop, get_or, suc, Option, Some, None, Result, Ok, Err, refl, sym, ◌∙◌, ap, subst, arith, inl, inr, append_assoc, add-one, drop-cons, length-take, take-append-drop}
+use Rattle.std.proofs.Common.{◌≡◌, ◌⊎◌, ℕ, ◌+◌, ◌-◌, ◌<◌, ◌≤◌, List, [], ◌∷◌, ◌++◌, length, map, take, drop, get_or, suc, Option, Some, None, Result, Ok, Err, refl, sym, ◌∙◌, ap, subst, arith, inl, inr, append_assoc, add-one, drop-cons, length-take, take-append-drop}
 use Rattle.std.specs.Prelude.{slice_get}
 use Rattle.std.specs.List.{AllByRecursion, flat_map}
 use Rattle.std.specs.Option.{option_map, option_or}
@@ -135,19 +135,19 @@ refused road query sets id limit refusal tokens has this =
 
 module _ (once : OneTokens) (road : Road) (apart : IsApart road) (query : List ℕ) (sets : List (List ℕ) → List Given) (id limit number : ℕ) (given : List (List ℕ) → Given) (at : GivesAt sets number given)
     (old out : List ℕ) (s : SentReadable road query (first_sets number sets) id limit old out) where
-  statement : Statement
+  abbrev statement : Statement
   statement = statement_of query s.sends.tokens id
 
-  names : List (List ℕ)
+  abbrev names : List (List ℕ)
   names = names_of s.sends.tokens
 
-  cause : ℕ → Given → Option Refusal
+  abbrev cause : ℕ → Given → Option Refusal
   cause = set_cause (whole_command road statement) (place_count statement.query) (limit - 4)
 
-  before : List Given
+  abbrev before : List Given
   before = take number (sets names)
 
-  behind : List Given
+  abbrev behind : List Given
   behind = drop (number + 1) (sets names)
 
   inside : number < length (sets names)

@@ -16,9 +16,9 @@ use Rattle.mysql_command_rules.specs.Reading.{IsReadable}
 use Rattle.mysql_command_rules.specs.Sending.{SendsGiven}
 use Rattle.mysql_command_rules.specs.Sent.{SentPayload, as_execution, on_the_way, payloads_of, prepare_of, stream_of}
 use Rattle.mysql_command_rules.specs.Sets.{Given}
-use Rattle.mysql_senders.specs.Laws.{FurtherSetsAreSent}
-use Rattle.mysql_senders.specs.OneSet.{execution_payloads, whole_execution}
-use Rattle.mysql_senders.proofs.SentSets.{framings-append}
+use Rattle.mysql_send_execute.specs.Laws.{FurtherSetsAreSent}
+use Rattle.mysql_send_execute.specs.Executions.{execution_payloads, whole_execution}
+use Rattle.mysql_send_execute.proofs.Lists.{framings-append}
 
 -- ---- causes
 
@@ -54,15 +54,15 @@ all_append P (x ∷ xs) ys first second = (first.0, all_append P xs ys first.1 s
 payloads_append : (first second : List SentPayload) → payloads_of (first ++ second) ≡ payloads_of first ++ payloads_of second
 payloads_append first second = map-append (λ (s : SentPayload). s.payload) first second
 
-on_the_way_of : (pieces : List (List ℕ)) → payloads_of (map on_the_way pieces) ≡ pieces
+pub on_the_way_of : (pieces : List (List ℕ)) → payloads_of (map on_the_way pieces) ≡ pieces
 on_the_way_of [] = refl
 on_the_way_of (piece ∷ pieces) = ap (λ l. piece ∷ l) (on_the_way_of pieces)
 
-behind_pieces : (pieces : List (List ℕ)) (last : SentPayload) → payloads_of (map on_the_way pieces ++ last ∷ []) ≡ pieces ++ last.payload ∷ []
+pub behind_pieces : (pieces : List (List ℕ)) (last : SentPayload) → payloads_of (map on_the_way pieces ++ last ∷ []) ≡ pieces ++ last.payload ∷ []
 behind_pieces pieces last = payloads_append (map on_the_way pieces) (last ∷ []) ∙ ap (λ l. l ++ last.payload ∷ []) (on_the_way_of pieces)
 
 -- the payloads of sets as executions
-executions_of : (statement : Statement) (sets : List (List Value)) → payloads_of (flat_map (as_execution statement) sets) ≡ flat_map (execution_payloads statement.id) sets
+pub executions_of : (statement : Statement) (sets : List (List Value)) → payloads_of (flat_map (as_execution statement) sets) ≡ flat_map (execution_payloads statement.id) sets
 executions_of statement [] = refl
 executions_of statement (values ∷ sets) =
     payloads_append (as_execution statement values) (flat_map (as_execution statement) sets)

@@ -1,10 +1,6 @@
-pub mod Contents
-pub mod SentSets
-pub mod Texts
-pub mod Queries
+pub mod Lists
 pub mod Pieces
 pub mod PlainSizes
-pub mod StatementSets
-pub mod MadeSets
+pub mod Statements
 pub mod MoreSets
 pub mod FurtherSets

@@ -5,14 +5,17 @@ use Rattle.std.specs.Option.{option_or}
 use Rattle.std.proofs.lemmas.List.{append-nil, drop-map, drop_all, take-append-le, take_all}
 use Rattle.mysql_wire.specs.Stream.{framings}
 use Rattle.mysql_wire.specs.Stream.Numbering.{EachFromZero}
+use Rattle.mysql_values.specs.AsSql.{FitsFields}
 use Rattle.mysql_values.specs.Value.{Value}
 use Rattle.mysql_command_rules.specs.declared.refusal.Refusal.{Refusal}
 use Rattle.mysql_command_rules.specs.Cause.{first_of_sets, set_cause}
 use Rattle.mysql_command_rules.specs.Sets.{Given}
-use Rattle.mysql_senders.specs.OneSet.{AppendsExecution, AppendsExecutions, AppendsMore, Limits, RefusesMore, RefusesSet, execution_payloads, whole_execution}
-use Rattle.mysql_senders.proofs.Contents.{gives_one}
-use Rattle.mysql_senders.proofs.SentSets.{first_is, framings-append, front_length}
-use Rattle.mysql_senders.proofs.StatementSets.{Fit}
+use Rattle.mysql_send_execute.specs.Executions.{AppendsExecution, AppendsMore, Limits, RefusesExecution, RefusesMore, execution_payloads, whole_execution}
+use Rattle.mysql_send_execute.proofs.Lists.{first_is, framings-append, front_length}
+
+-- the values' numbers fit their fields
+abbrev pub Fit : List Value → Type 0
+Fit values = AllByRecursion (λ value. FitsFields value) values
 
 -- what a list of values gives
 abbrev given : List Value → Given
@@ -59,24 +62,21 @@ module _ (id : ℕ) (limits : Limits) (first : ℕ) (sets : List (List Value)) (
         ∙ ap (λ (number : ℕ). option_or (set_cause (whole_execution id) limits.places limits.bytes (first + i) (Ok set)) (causes_from id limits number (drop (i + 1) sets))) (omega arith)
 
     -- one more set was sent
-    pub sent_next : (new : List ℕ) → AppendsExecution id limits (first + i) (Ok set) out new → MoreSent id limits first sets old new (i + 1)
+    pub sent_next : (new : List ℕ) → AppendsExecution id limits (first + i) set out new → MoreSent id limits first sets old new (i + 1)
     sent_next new a =
-        let values : set ≡ a.appends.values = gives_one (Ok set) set a.appends.values refl a.appends.gives in
-        let none : set_cause (whole_execution id) limits.places limits.bytes (first + i) (Ok set) ≡ None = ap (λ g. set_cause (whole_execution id) limits.places limits.bytes (first + i) g) a.appends.gives ∙ a.appends.none in
-        let put : new ≡ out ++ framings (execution_payloads id set) EachFromZero = a.appends.appended ∙ ap (λ l. out ++ framings (execution_payloads id l) EachFromZero) (sym values) in
         record {
-          causes = sym (from_here ∙ ap (λ c. option_or c (causes_from id limits (first + (i + 1)) (drop (i + 1) sets))) none);
-          fit = λ each. s.fit (subst (λ (l : List (List Value)). AllByRecursion Fit l) (sym here) (subst Fit (sym values) a.fit, each));
-          bytes = ap (λ l. l ++ framed id (drop (i + 1) sets)) put
+          causes = sym (from_here ∙ ap (λ c. option_or c (causes_from id limits (first + (i + 1)) (drop (i + 1) sets))) a.none);
+          fit = λ each. s.fit (subst (λ (l : List (List Value)). AllByRecursion Fit l) (sym here) (a.fit, each));
+          bytes = ap (λ l. l ++ framed id (drop (i + 1) sets)) a.appended
               ∙ append_assoc out (framings (execution_payloads id set) EachFromZero) (framed id (drop (i + 1) sets))
               ∙ ap (λ l. out ++ l) (sym (framings-append (execution_payloads id set) (flat_map (execution_payloads id) (drop (i + 1) sets))))
               ∙ ap (λ l. out ++ framed id l) (sym here)
               ∙ s.bytes;
-          kept = ap (λ l. take (length old) l) put ∙ take-append-le (length old) out (framings (execution_payloads id set) EachFromZero) (front_length old out s.kept) ∙ s.kept;
+          kept = ap (λ l. take (length old) l) a.appended ∙ take-append-le (length old) out (framings (execution_payloads id set) EachFromZero) (front_length old out s.kept) ∙ s.kept;
         }
 
     -- a set is refused
-    pub refused_at : (refusal : Refusal) → RefusesSet (whole_execution id) limits (first + i) (Ok set) refusal → RefusesMore id limits first sets refusal
+    pub refused_at : (refusal : Refusal) → RefusesExecution id limits (first + i) set refusal → RefusesMore id limits first sets refusal
     refused_at refusal (inl memory) = inl memory
     refused_at refusal (inr this) = inr (from_here ∙ first_is _ (causes_from id limits (first + (i + 1)) (drop (i + 1) sets)) refusal this)
 
@@ -89,9 +89,3 @@ module _ (id : ℕ) (limits : Limits) (first : ℕ) (sets : List (List Value)) (
         fit = s.fit (subst (λ (l : List (List Value)). AllByRecursion Fit l) (sym left) tt);
         appended = sym (append-nil out) ∙ ap (λ l. out ++ framed id l) (sym left) ∙ s.bytes;
       }
-
--- ---- sets before which none stood
-
--- they are all that is given
-pub from_first : (id : ℕ) (limits : Limits) (sets : List (List Value)) (old new : List ℕ) → AppendsMore id limits 0 sets old new → AppendsExecutions id limits (map given sets) old new
-from_first id limits sets old new a = record { values = sets; gives = refl; none = a.none; fit = a.fit; appended = a.appended }

@@ -12,8 +12,8 @@ use Rattle.mysql_values.specs.Value.{Value}
 use Rattle.mysql_stmt.specs.Executions.{execute_command, needs_long_data, whole_size}
 use Rattle.mysql_stmt.specs.Statements.{ExecutionsHaveSizes}
 use Rattle.mysql_command_rules.specs.Commands.{piece_of, pieces_from, prepare_command}
-use Rattle.mysql_senders.specs.OneSet.{execution_payloads, whole_execution}
-use Rattle.mysql_senders.proofs.SentSets.{framings-append, front_length, next_set}
+use Rattle.mysql_send_execute.specs.Executions.{execution_payloads, whole_execution}
+use Rattle.mysql_send_execute.proofs.Lists.{framings-append, front_length, next_set}
 
 -- the pieces of the values before a place were sent: those from there on are left
 pub record PiecesSent {T : Type 0} (id : ℕ) (lent : T → Value) (values : List T) (old out : List ℕ) (i : ℕ) : Type 0 where
@@ -76,11 +76,6 @@ sent_whole id values old mid new whole same put =
     put ∙ ap (λ l. l ++ framing last 0) same ∙ ap (λ l. old ++ l) (sym (append-nil (framing last 0)))
     ∙ ap (λ b. old ++ framings ((if b then pieces_from id 0 values else []) ++ last ∷ []) EachFromZero) whole
 
--- what stood before a piece that is appended to what is kept
-pub kept_on : (old mid new : List ℕ) → take (length old) mid ≡ old → take (length mid) new ≡ mid → take (length old) new ≡ old
-kept_on old mid new first second =
-    sym (take-take (length old) (length mid) new (front_length old mid first)) ∙ ap (λ l. take (length old) l) second ∙ first
-
 -- values that are not empty are some
 pub not_empty : {T : Type 0} (values : List T) (empty : Bool) → empty ≡ (length values == 0) → empty ≡ false → 0 < length values
 not_empty [] empty is some = absurd (eqb-false 0 0 (sym is ∙ some) refl)
@@ -98,49 +93,6 @@ short_framing payload short =
     let none : length payload / 16777215 ≡ 0 = omega (arith, short) in
     let whole : take 16777215 payload ≡ payload = take_all 16777215 payload (omega (arith, short)) in
     sym (ap (λ n. chunks payload 0 (n + 1)) none ∙ append-nil (chunk 0 (take 16777215 payload)) ∙ ap (λ l. chunk 0 l) whole)
-
--- which stands behind its header
-pub headed : (payload header : List ℕ) (size : ℕ) → length payload ≡ size → size < 16777215 → header ≡ little_bytes 3 size ++ 0 ∷ [] → header ++ payload ≡ framing payload 0
-headed payload header size is short made =
-    ap (λ h. h ++ payload) (made ∙ ap (λ n. little_bytes 3 n ++ 0 ∷ []) (sym is)) ∙ append_assoc (little_bytes 3 (length payload)) (0 ∷ []) payload ∙ short_framing payload (omega (arith, is, short))
-
--- what stands where a header was put in the place of four bytes of a list
-headed_bytes : (start size : ℕ) (items header : List ℕ) → start + 4 ≤ length items → length (drop (start + 4) items) ≡ size → size < 16777215 → header ≡ little_bytes 3 size ++ 0 ∷ []
-    → take start items ++ (header ++ post_of start (start + 4 - start) items) ≡ take start items ++ framing (drop (start + 4) items) 0
-headed_bytes start size items header inside is short made =
-    ap (λ l. take start items ++ (header ++ l)) (Post-is start (start + 4) items (omega arith)) ∙ ap (λ l. take start items ++ l) (headed (drop (start + 4) items) header size is short made)
-
--- the same of the bytes that the list lent, and took back
-pub headed_in_place : (start size len : ℕ) (items lent header put : List ℕ) → start + 4 ≤ length items → len ≡ length items → lent ≡ items → put ≡ header → length header ≡ 4
-    → length (drop (start + 4) items) ≡ size → size < 16777215 → header ≡ little_bytes 3 size ++ 0 ∷ []
-    → take len (take start lent ++ (put ++ post_of start (start + 4 - start) lent) ++ drop (length (take start lent ++ (put ++ post_of start (start + 4 - start) lent))) items)
-    ≡ take start items ++ framing (drop (start + 4) items) 0
-headed_in_place start size len items lent header put inside all same copied four is short made =
-    let whole : List ℕ = take start lent ++ (put ++ post_of start (start + 4 - start) lent) in
-    let here : whole ≡ take start items ++ (header ++ post_of start (start + 4 - start) items) =
-    ap (λ l. take start l ++ (put ++ post_of start (start + 4 - start) l)) same ∙ ap (λ l. take start items ++ (l ++ post_of start (start + 4 - start) items)) copied in
-    let behind : post_of start (start + 4 - start) items ≡ drop (start + 4) items = Post-is start (start + 4) items (omega arith) in
-    let long : length whole ≡ len =
-    omega (
-      arith,
-      all,
-      inside,
-      four,
-      ap length here,
-      ap length behind,
-      length-append (take start items) (header ++ post_of start (start + 4 - start) items),
-      length-append header (post_of start (start + 4 - start) items),
-      length-take start items,
-      length-drop (start + 4) items,
-    ) in
-    take_at whole (drop (length whole) items) len long ∙ here ∙ headed_bytes start size items header inside is short made
-
--- a prepare that one packet holds, behind its header
-pub prepared_short : (parsed old mid more new header : List ℕ) (size : ℕ) → size ≡ length parsed + 1 → size < 16777215 → header ≡ little_bytes 3 size ++ 0 ∷ [] → mid ≡ old ++ header → more ≡ mid ++ 22 ∷ [] → new ≡ more ++ parsed
-    → new ≡ old ++ framing (prepare_command parsed) 0
-prepared_short parsed old mid more new header size is short made put command behind =
-    behind ∙ ap (λ l. l ++ parsed) (command ∙ ap (λ l. l ++ 22 ∷ []) put) ∙ append_assoc (old ++ header) (22 ∷ []) parsed ∙ append_assoc old header (22 ∷ parsed)
-    ∙ ap (λ l. old ++ l) (headed (22 ∷ parsed) header size (omega (arith, is)) short made)
 
 -- an execution that one packet holds, behind its header
 pub sent_short : ExecutionsHaveSizes → (id size : ℕ) {T : Type 0} (lent : T → Value) (values : List T) (old mid new header : List ℕ) → length (whole_execution id (map lent values)) ≡ size → size < 16777215

@@ -11,7 +11,7 @@ use Rattle.mysql_stmt.specs.Statements.{ExecutionsHaveSizes}
 use Rattle.mysql_command_rules.specs.declared.refusal.Refusal.{Refusal}
 use Rattle.mysql_command_rules.specs.declared.refusal.Refusal.TheVariants as refusals
 use Rattle.mysql_command_rules.specs.Cause.{cause_if, set_cause}
-use Rattle.mysql_senders.specs.OneSet.{whole_execution}
+use Rattle.mysql_send_execute.specs.Executions.{whole_execution}
 
 -- what one pass finds: no value is a float, and so many bytes, which are within the room
 abbrev pub FoundPlain : {T : Type 0} → (T → Value) → List T → ℕ → Option ℕ → Type 0

@@ -27,7 +27,7 @@ use mysql_fields::MySerialize;
 use mysql_stmt::laws::executions_have_sizes;
 use mysql_stmt::{ComStmtSendLongData, HasValue, put_execution, size_within, size_without_floats};
 use mysql_values::laws::tokens_of_a_text;
-use mysql_values::params::list_values;
+use mysql_values::params::list_values_over_names;
 use mysql_values::{Params, Value};
 use mysql_wire::{packet_header, packet_to_chunks};
 use std::alloc::{AllocError, Global};
@@ -307,7 +307,7 @@ fn put_listed_set<'a>(
     ensures kept { take (length out.old.items) out.new.items ≡ out.old.items }
 {
     let (id, places) = (statement.id(), statement.place_count());
-    if let Err(error) = list_values(params, statement.names(), values) {
+    if let Err(error) = list_values_over_names(params, statement.names(), values) {
         return Err(refused(set, error));
     }
     put_values(id, places, set, values.as_slice(), limit - 4, command, out)

@@ -17,12 +17,6 @@ use mysql_values::laws::fields_fit;
 use mysql_values::{Params, ParamsError, SetError, Value};
 use std::alloc::Global;
 
-fn is_float(value: &Value) -> bool
-    ensures { result ≡ is_none (content_of value.now) }
-{
-    matches!(value, Value::Float(_) | Value::Double(_))
-}
-
 /// The first value that is a float.
 fn first_float<V: HasValue>(values: &[V]) -> Option<usize>
     ensures { result ≡ float_at (map V.value values.now) }

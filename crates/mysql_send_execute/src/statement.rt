@@ -4,12 +4,12 @@ ghost use Rattle.std.specs.Cow.{cow_slice_items};
 ghost use Rattle.std.specs.Prelude.{◌≡◌, ◌<◌, ◌≤◌, ◌⊎◌, ℕ, IfErr, IfOk, List, OnErr, OnOk, false, length, map, take, true};
 ghost use Rattle.mysql_values.specs.Queries.{HasMixed, HasPlaces};
 ghost use Rattle.mysql_command_rules.specs.declared.refusal.Refusal.TheVariants as refusals;
-ghost use Rattle.mysql_send_execute.specs.Statement.{AppendsPrepare, RefusesPrepare};
+ghost use Rattle.mysql_send_execute.specs.Statement.{AppendsPrepare, IsStatement, RefusesPrepare};
 
 use mysql_command_rules::Refusal;
 use mysql_const::Command;
 use mysql_values::laws::tokens_of_a_text;
-use mysql_values::{ParsedQuery, Place};
+use mysql_queries::ParsedQuery;
 use mysql_wire::frame_in_place;
 use std::alloc::Global;
 use std::borrow::CowSlice;
@@ -79,7 +79,8 @@ impl<'q> Statement<'q> {
 
     /// How many placeholders it has.
     pub fn place_count(&self) -> usize
-        ensures { result ≡ self.now.places }
+        ensures count { result ≡ self.now.places }
+        ensures is { IsStatement self.now.text self.now.parsed self.now.places }
     {
         self.query.places().len()
     }
@@ -127,8 +128,8 @@ pub fn put_prepare(
     ensures err { IfErr result (RefusesPrepare statement.now.text statement.now.id room) }
     ensures kept { take (length out.old.items) out.new.items ≡ out.old.items }
 {
-    check_count(statement.place_count())?;
     let marked = statement.marked.as_slice();
+    check_count(statement.place_count())?;
     if marked.len() >= room {
         return Err(Refusal::PrepareTooLarge);
     }

@@ -1,5 +1,6 @@
 -- From a text that is bound to the query that is sent, and from why none is bound to the refusal.
 use Rattle.std.proofs.Common.{◌≡◌, ◌⊎◌, ℕ, ◌+◌, ◌-◌, ◌<◌, ◌≤◌, ◌==◌, Bool, true, false, nat_lt, List, [], ◌∷◌, ◌++◌, length, map, take, drop, Option, Some, None, Result, Ok, Err, refl, sym, ◌∙◌, ap, subst, inl, inr, if◌then◌else◌, unwrap_or, append_assoc, arith, length-drop, length-take}
+use Rattle.std.specs.Prelude.{IfErr, OnOk}
 use Rattle.std.proofs.lemmas.Bool.{le-ltb, lt-ltb}
 use Rattle.std.proofs.lemmas.List.{append-nil, take-take, take_at}
 use Rattle.std.proofs.Math.Seq.{drop-append-add}
@@ -13,6 +14,7 @@ use Rattle.mysql_values.specs.Value.{Value}
 use Rattle.mysql_values.specs.Values.{content_of, first_float, literal_of}
 use Rattle.mysql_values.specs.declared.params.Params.{Params}
 use Rattle.mysql_values.specs.declared.params.ParamsError.{ParamsError}
+use Rattle.mysql_values.specs.declared.params.SetError.{SetError}
 use Rattle.mysql_values.specs.declared.params.SetError.TheVariants as set_error
 use Rattle.mysql_values.specs.declared.bind.BindError.{BindError}
 use Rattle.mysql_values.specs.declared.bind.BindError.TheVariants as bind_error
@@ -30,18 +32,55 @@ use Rattle.mysql_command_rules.specs.declared.refusal.Refusal.TheVariants as ref
 use Rattle.mysql_command_rules.specs.declared.road.Road.TheVariants.{Text}
 use Rattle.mysql_command_rules.specs.Cause.{cause_if, places_cause, set_cause}
 use Rattle.mysql_command_rules.specs.Commands.{query_command}
-use Rattle.mysql_command_rules.specs.OneSet.{AppendsOne, RefusesOne, cause_of_set}
-use Rattle.mysql_command_rules.specs.Reading.{IsReadable}
+use Rattle.mysql_command_rules.specs.InTurn.{SentInTurn}
+use Rattle.mysql_command_rules.specs.MadeSets.{IsSetAt}
+use Rattle.mysql_command_rules.specs.OneSet.{AppendsOne, RefusesOne, cause_of_set, first_sets}
+use Rattle.mysql_command_rules.specs.Reading.{IsReadable, SentReadable}
+use Rattle.mysql_command_rules.specs.Sending.{RefusesGiven}
 use Rattle.mysql_command_rules.specs.Sent.{query_text_of, whole_command}
 use Rattle.mysql_command_rules.specs.Sets.{Given, given_by}
 use Rattle.mysql_send_text.specs.Refusing.{refusal_by}
 
+-- ---- what a call answers
+
+-- what holds of each number where a call answers
+pub where_ok : {E X : Type 0} (P : X → Type 0) (answer : Result (Unit {0}) E) (x : X) → OnOk answer ((x : X) → P x) → OnOk answer (P x)
+where_ok P (Ok done) x holds = holds x
+where_ok P (Err error) x holds = tt
+
+pub where_err : {E X : Type 0} (P : E → X → Type 0) (answer : Result (Unit {0}) E) (x : X) → IfErr answer (λ e. (x : X) → P e x) → IfErr answer (λ e. P e x)
+where_err P (Ok done) x holds = tt
+where_err P (Err error) x holds = holds x
+
+-- what holds where a set was put
+pub where_put : {E P : Type 0} (answer : Result (Unit {0}) E) → answer ≡ Ok tt → OnOk answer P → P
+where_put {P = P} answer was holds = subst (λ (r : Result (Unit {0}) _). OnOk r P) was holds
+
+-- ---- a set that is not made
+
+-- why no set is made is a refusal of all
+pub not_made : SentInTurn → (query : List ℕ) (sets : List (List ℕ) → List Given) (id limit number : ℕ) (old out : List ℕ) → SentReadable Text query (first_sets number sets) id limit old out
+    → (refusal : Refusal) → (refusal ≡ refusals.Memory) ⊎ ((error : SetError) × IsSetAt sets number (Err error) × (refusal ≡ refusals.Params number error)) → RefusesGiven Text query sets id limit refusal
+not_made law query sets id limit number old out s refusal (inl memory) = inl memory
+not_made law query sets id limit number old out s refusal (inr why) =
+    (law.refused_more Text tt query sets id limit number old out (λ names. Err why.0) why.1 s refusal (inr (s.sends.tokens, s.sends.has, ap Some (sym why.2)))).0
+
 -- ---- placeholders
 
 -- placeholders of both kinds are the first cause
-pub mixed_cause : (query : List ℕ) (places : List Place) → HasPlaces query places → true ≡ is_mixed places
+pub mixed_cause : (query : List ℕ) (places : List Place) → HasPlaces query places → is_mixed places ≡ true
     → (tokens : List (List ℕ)) × HasTokens query tokens × (places_cause (places_from query 0 tokens) ≡ Some refusals.Mixed)
-mixed_cause query places has mixed = (has.0, has.1, ap (λ p. places_cause p) (sym has.2) ∙ rw (sym mixed) refl)
+mixed_cause query places has mixed = (has.0, has.1, ap (λ p. places_cause p) (sym has.2) ∙ rw mixed refl)
+
+-- then one that doesn't stand alone
+pub not_alone_cause : (query : List ℕ) (places : List Place) (place : ℕ) → HasPlaces query places → is_mixed places ≡ false → first_not_alone places ≡ Some place
+    → (tokens : List (List ℕ)) × HasTokens query tokens × (places_cause (places_from query 0 tokens) ≡ Some (refusals.NotAlone place))
+not_alone_cause query places place has one apart = (has.0, has.1, ap (λ p. places_cause p) (sym has.2) ∙ rw (one, apart) refl)
+
+-- and else there is none
+pub no_cause : (query : List ℕ) (places : List Place) → HasPlaces query places → is_mixed places ≡ false → first_not_alone places ≡ None
+    → (tokens : List (List ℕ)) × HasTokens query tokens × (places_cause (places_from query 0 tokens) ≡ None)
+no_cause query places has one alone = (has.0, has.1, ap (λ p. places_cause p) (sym has.2) ∙ rw (one, alone) refl)
 
 -- ---- one set
 
@@ -50,8 +89,12 @@ gives_values : (names : List (List ℕ)) (params : Params) (values : List Value)
 gives_values names params values over = ap (λ (o : Result (List Value) ParamsError). result_map_both (λ values. values) (λ error. set_error.Params error) o) over
 
 -- an answer has one value
-one_value : {X E : Type 0} (x y : X) → Ok {E = E} x ≡ Ok y → x ≡ y
-one_value x y same = cc
+one_value : {X E : Type 0} (answer : Result X E) (x y : X) → answer ≡ Ok x → answer ≡ Ok y → x ≡ y
+one_value (Ok z) x y first second =
+    let one : z ≡ x = cc in
+    let other : z ≡ y = cc in
+    sym one ∙ other
+one_value (Err error) x y first second = cc
 
 -- the first of causes is one
 first_is : (first rest : Option Refusal) (refusal : Refusal) → first ≡ Some refusal → option_or first rest ≡ Some refusal
@@ -116,10 +159,11 @@ pub record BoundTo (query : List ℕ) (params : Params) (old new : List ℕ) : T
   pub meant : IsMeaning query params contents
   pub reads : TextReadsAs query text contents
 
-pub bound_to : (query : List ℕ) (params : Params) (old new : List ℕ) →
-    (text : List ℕ) × (contents : List Content) × (new ≡ old ++ text) × IsBound query params text × IsMeaning query params contents × Slices query text contents × Lexes query text contents →
+pub bound_to : (query text : List ℕ) → text ≡ query → (params : Params) (old new : List ℕ) →
+    (bound : List ℕ) × (contents : List Content) × (new ≡ old ++ bound) × IsBound text params bound × IsMeaning text params contents × Slices text bound contents × Lexes text bound contents →
     BoundTo query params old new
-bound_to query params old new b = record { text = b.0; appended = b.2; bound = b.3; contents = b.1; meant = b.4; reads = (b.5, b.6) }
+bound_to query text same params old new b =
+    subst (λ (q : List ℕ). BoundTo q params old new) same (record { text = b.0; appended = b.2; bound = b.3; contents = b.1; meant = b.4; reads = (b.5, b.6) })
 
 -- room for a header, and the command's byte
 abbrev pub room_and_command : List ℕ
@@ -127,7 +171,7 @@ room_and_command = 0 ∷ 0 ∷ 0 ∷ 0 ∷ 3 ∷ []
 
 module _ (slices : PiecesAreSlices) (once : OneTokens) (query : List ℕ) (places : List Place) (has : HasPlaces query places) (one : is_mixed places ≡ false) (alone : first_not_alone places ≡ None)
     (params : Params) (set limit id : ℕ) where
-  given : List (List ℕ) → Given
+  abbrev pub given : List (List ℕ) → Given
   given names = given_by names params
 
   -- the placeholders that were found are those of the tokens
@@ -147,7 +191,7 @@ module _ (slices : PiecesAreSlices) (once : OneTokens) (query : List ℕ) (place
       inr (b.0, b.1, set_refusal (whole_command Text (statement_of query b.0 id)) count (limit - 4) set (values_over (names_of b.0) params) error this)
 
   module _ (text : List ℕ) (b : IsBound query params text) where
-    command : List Value → List ℕ
+    abbrev command : List Value → List ℕ
     command = whole_command Text (statement_of query b.tokens id)
 
     -- the text that was bound is the text of the query with the set's values
@@ -199,7 +243,7 @@ module _ (slices : PiecesAreSlices) (once : OneTokens) (query : List ℕ) (place
     readable =
         let m : IsMeaning query params b.contents = b.meant in
         let over : values_over (names_of b.bound.tokens) params ≡ Ok m.values = ap (λ t. values_over (names_of t) params) (once query b.bound.tokens m.tokens b.bound.has m.has) ∙ m.over in
-        let same : m.values ≡ b.bound.values = one_value m.values b.bound.values (sym over ∙ b.bound.over) in
+        let same : m.values ≡ b.bound.values = one_value (values_over (names_of b.bound.tokens) params) m.values b.bound.values over b.bound.over in
         (
           b.contents,
           ap (λ v. map content_of v) (sym same) ∙ m.each,

@@ -9,7 +9,7 @@ ghost use Rattle.mysql_command_rules.specs.declared.road.Road.TheVariants as roa
 use crate::text_queries::{check_places, put_query};
 use mysql_command_rules::in_turn::{made_in_turn, sent_in_turn};
 use mysql_command_rules::{Refusal, SetMaker, made_set};
-use mysql_values::ParsedQuery;
+use mysql_queries::ParsedQuery;
 use std::alloc::Global;
 
 /// Appends what [`put_queries`](crate::put_queries) appends of sets of which each is made when its

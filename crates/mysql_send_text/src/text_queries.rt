@@ -14,7 +14,8 @@ use mysql_command_rules::in_turn::sent_in_turn;
 use mysql_const::Command;
 use mysql_values::bind::bind_text_over;
 use mysql_values::laws::{pieces_of_a_query, tokens_of_a_text};
-use mysql_values::{BindError, Params, ParsedQuery, SetError, Value};
+use mysql_queries::ParsedQuery;
+use mysql_values::{BindError, Params, SetError, Value};
 use mysql_wire::frame_in_place;
 use std::alloc::Global;
 
@@ -34,6 +35,8 @@ pub(crate) fn check_places(query: &ParsedQuery<'_>) -> Result<(), Refusal>
         RefusesGiven roads.Text query.now.text sets id limit refusal) }
 {
     sent_in_turn();
+    // That the placeholders are those of the text is what the proof takes of it.
+    let _places = query.places();
     if query.is_mixed() {
         return Err(Refusal::Mixed);
     }

@@ -8,7 +8,8 @@ ghost use Rattle.mysql_command_rules.specs.declared.road.Road.TheVariants as roa
 use crate::text_queries::{check_places, put_query};
 use mysql_command_rules::in_turn::{sent_in_turn, written_in_turn};
 use mysql_command_rules::{SendToError, flush, flush_set};
-use mysql_values::{Params, ParsedQuery};
+use mysql_queries::ParsedQuery;
+use mysql_values::Params;
 use std::alloc::Global;
 use std::io::Write;
 

@@ -2,10 +2,10 @@ use Rattle.std.proofs.Common.{◌++◌, ap, map, sym, ◌∙◌}
 use Rattle.std.proofs.lemmas.Bool.{le-ltb, lt-ltb}
 use Rattle.mysql_wire.specs.Framing.{framing}
 use Rattle.mysql_stmt.specs.Executions.{execute_command}
-use Rattle.mysql_senders.proofs.Pieces.{long_by_size, sent_apart, sent_whole}
-use Rattle.mysql_senders.proofs.SentSets.{on_ok}
-use Rattle.mysql_senders.proofs.executions.put_long.Goals as goal
-use Rattle.mysql_senders.proofs.executions.put_long.Goals.{then-apart+in_ok-put_pieces, else-apart}
+use Rattle.mysql_send_execute.proofs.Pieces.{long_by_size, sent_apart, sent_whole}
+use Rattle.mysql_send_execute.proofs.Lists.{on_ok}
+use Rattle.mysql_send_execute.proofs.executions.put_long.Goals as goal
+use Rattle.mysql_send_execute.proofs.executions.put_long.Goals.{then-apart+in_ok-put_pieces, else-apart}
 
 pub returns-clause-ok : goal.returns-clause-ok
 returns-clause-ok g c =

@@ -1,6 +1,6 @@
 use Rattle.std.proofs.Common.{arith}
-use Rattle.mysql_senders.proofs.Pieces.{all_pieces, next_piece, same_piece}
-use Rattle.mysql_senders.proofs.executions.put_pieces.Goals as goal
+use Rattle.mysql_send_execute.proofs.Pieces.{all_pieces, next_piece, same_piece}
+use Rattle.mysql_send_execute.proofs.executions.put_pieces.Goals as goal
 
 pub values-preserved : goal.values-preserved
 values-preserved g c =

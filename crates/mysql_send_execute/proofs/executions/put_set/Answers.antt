@@ -1,15 +1,25 @@
-use Rattle.std.specs.Prelude.{IfErr, OnOk}
-use Rattle.mysql_senders.specs.OneSet.{AppendsExecution, RefusesSet, whole_execution}
-use Rattle.mysql_command_rules.specs.Sets.{Given}
-use Rattle.mysql_senders.proofs.StatementSets.{over_list}
-use Rattle.mysql_senders.proofs.executions.put_set.Goals as goal
+use Rattle.std.proofs.Common.{map, ◌-◌}
+use Rattle.mysql_values.specs.Value.{Value}
+use Rattle.mysql_send_execute.specs.Executions.{AppendsExecution, RefusesExecution}
+use Rattle.mysql_send_execute.proofs.Lists.{on_err, on_ok}
+use Rattle.mysql_send_execute.proofs.Statements.{as_they_lie, one_execution, one_refused, said_over}
+use Rattle.mysql_send_execute.proofs.executions.put_set.Goals as goal
 
 pub returns-in-Some-clause-ok : goal.returns-in-Some-clause-ok
 returns-in-Some-clause-ok c =
-    over_list (λ (g : Given). OnOk c.put_values.result (AppendsExecution c.args.statement.now.id (record { places = c.args.statement.now.places; bytes = c.args.room }) c.args.set g c.args.out.now.items c.put_values.new.out.items))
-    c.args.statement.now.parsed.names c.args.params.now c.in-Some.list.now c.in-Some.ensures c.put_values.ensures.ok
+    let s = c.args.statement.now in
+    let values = map (λ (value : Value). value) c.in-Some.list.now in
+    on_ok c.put_values.result
+    (λ a. one_execution s.text s.parsed s.places c.place_count-places.ensures.is s.id c.args.limit c.args.set c.args.params.now values (as_they_lie _ c.in-Some.list.now c.in-Some.ensures)
+    c.args.out.now.items c.put_values.new.out.items
+    (said_over (λ id places. AppendsExecution id (record { places = places; bytes = c.args.limit - 4 }) c.args.set values c.args.out.now.items c.put_values.new.out.items) c.id-id.result s.id c.place_count-places.result s.places c.id-id.ensures c.place_count-places.ensures.count a))
+    c.put_values.ensures.ok
 
 pub returns-in-Some-clause-err : goal.returns-in-Some-clause-err
 returns-in-Some-clause-err c =
-    over_list (λ (g : Given). IfErr c.put_values.result (RefusesSet (whole_execution c.args.statement.now.id) (record { places = c.args.statement.now.places; bytes = c.args.room }) c.args.set g))
-    c.args.statement.now.parsed.names c.args.params.now c.in-Some.list.now c.in-Some.ensures c.put_values.ensures.err
+    let s = c.args.statement.now in
+    let values = map (λ (value : Value). value) c.in-Some.list.now in
+    on_err c.put_values.result
+    (λ refusal why. one_refused s.text s.parsed s.places c.place_count-places.ensures.is s.id c.args.limit c.args.set c.args.params.now values (as_they_lie _ c.in-Some.list.now c.in-Some.ensures)
+    refusal (said_over (λ id places. RefusesExecution id (record { places = places; bytes = c.args.limit - 4 }) c.args.set values refusal) c.id-id.result s.id c.place_count-places.result s.places c.id-id.ensures c.place_count-places.ensures.count why))
+    c.put_values.ensures.err

@@ -1,8 +1,8 @@
 use Rattle.std.proofs.Common.{◌++◌, ◌∙◌, ap, map, List, ℕ}
-use Rattle.mysql_stmt.proofs.Put.{where_appended}
-use Rattle.mysql_senders.specs.OneSet.{whole_execution}
-use Rattle.mysql_senders.proofs.Pieces.{sent_short}
-use Rattle.mysql_senders.proofs.executions.put_short.Goals as goal
+use Rattle.mysql_send_execute.proofs.Lists.{where_appended}
+use Rattle.mysql_send_execute.specs.Executions.{whole_execution}
+use Rattle.mysql_send_execute.proofs.Pieces.{sent_short}
+use Rattle.mysql_send_execute.proofs.executions.put_short.Goals as goal
 
 pub returns-clause-ok : goal.returns-clause-ok
 returns-clause-ok g c =

@@ -1,7 +1,7 @@
 use Rattle.std.proofs.Common.{arith}
-use Rattle.mysql_senders.proofs.Pieces.{not_empty}
-use Rattle.mysql_senders.proofs.PlainSizes.{plain_none, plain_short, plain_size}
-use Rattle.mysql_senders.proofs.executions.short_size.Goals as goal
+use Rattle.mysql_send_execute.proofs.Pieces.{not_empty}
+use Rattle.mysql_send_execute.proofs.PlainSizes.{plain_none, plain_short, plain_size}
+use Rattle.mysql_send_execute.proofs.executions.short_size.Goals as goal
 
 pub returns-clause-size : goal.returns-clause-size
 returns-clause-size g c =
