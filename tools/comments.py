@@ -3,6 +3,7 @@ import re
 import textwrap
 
 WIDTH = 100
+WORDS = 20  # of a comment's first sentence, code counting as one
 PROMISE = 'Promise: '
 NEXT_SENTENCE = re.compile(r'(?<=\.)\s+(?=[A-Z`(*\[\d])')
 
@@ -26,6 +27,10 @@ class Comment:
         if self.blocks and self.blocks[0][0] == 'text':
             self.first, *rest = NEXT_SENTENCE.split(self.blocks[0][1], maxsplit=1)
             self.blocks[:1] = [('text', text) for text in rest]
+
+    def is_long(self):
+        words = re.sub(r'`[^`]*`', 'code', self.first).split()
+        return len([word for word in words if re.search(r'\w', word)]) > WORDS
 
     def lines(self, margin=''):
         """All but the first sentence and the promise, as lines of a document."""

@@ -47,13 +47,15 @@ DEFINITIONS = definitions()
 
 
 def file_of(name, home):
-    """The file that defines a name that a crate's promise names: its own, or of those below it."""
-    paths = [path for path in DEFINITIONS.get(name, []) if path.relative_to(CRATES).parts[0] in below(home)]
-    own = [path for path in paths if path.relative_to(CRATES).parts[0] == home]
-    chosen = own or paths
-    if len(chosen) != 1:
-        sys.exit(f'{home}: a promise names `{name}`, which {len(chosen)} files define')
-    return chosen[0]
+    """The file that defines a name that a crate's promise names: its own, or of the highest of those below it."""
+    order = list(NEEDED)
+    found = {}
+    for path in DEFINITIONS.get(name, []):
+        found.setdefault(path.relative_to(CRATES).parts[0], []).append(path)
+    chosen = [one for one in [home, *reversed(order)] if one in found and one in below(home)][:1]
+    if not chosen or len(found[chosen[0]]) != 1:
+        sys.exit(f'{home}: a promise names `{name}`, which {len(found[chosen[0]]) if chosen else 0} files define')
+    return found[chosen[0]][0]
 
 
 def link(name, path, home):
@@ -67,6 +69,15 @@ def modules(module):
     yield module
     for _, (_, inner) in module.modules.items():
         yield from modules(inner)
+
+
+def public_items(home):
+    """Each public item of a crate, and each call, field and variant in it, with its name."""
+    for module in modules(crate(home)):
+        within = [(item.name, item.parts) for item in module.items.values()] + module.impls
+        yield from module.items.items()
+        for owner, parts in within:
+            yield from ((f'{owner}::{part.name}', part) for part in parts)
 
 
 def calls_of(home):

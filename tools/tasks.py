@@ -12,7 +12,8 @@ TASKS = {
         ('bring a stream into one form', ['recode', 'Recoder::feed']),
         ('read a whole reply', ['read_reply']),
         ('read a reply as its pieces come', ['ReplyReader::feed', 'ReplyReader::take_results', 'ReplyReader::finish']),
-        ('read rows without copies', ['ReplyReader::next_row']),
+        ('look into a row', ['RowExt::get_opt', 'RowExt::take_opt']),
+        ('read rows without copies', ['ReplyReader::next_row', 'RowRefExt::get_opt']),
         ('keep rows in few pieces of memory', ['StoredRows::push']),
         ('write a whole reply', ['write_reply']),
         ('write a reply step by step', ['ReplyWriter']),
@@ -37,7 +38,7 @@ TASKS = {
     'mysql_packets': [
         ('read and write a column', ['Column']),
         ('read a row', ['RowDeserializer']),
-        ('look into a row', ['Row', 'ColumnIndex']),
+        ('look into a row', ['Row', 'ColumnIndex', 'RowExt']),
         ('write a row', ['write_text_row', 'write_binary_row']),
         ('read an OK packet', ['OkPacketDeserializer']),
         ('read the changes of a session\'s state', ['OkPacket::session_state_info', 'SessionStateInfo::decode']),

@@ -7,8 +7,9 @@ use std::str;
 /// From how many bytes on equal ones are counted.
 const LONG: usize = 32;
 
-/// Writes bytes: a text in quotes where each is printable, else `x` and their digits; many equal
-/// ones as `N * ` and one.
+/// Writes bytes: a text in quotes where each is printable, else `x` and their digits.
+///
+/// Many equal ones are written as `N * ` and one.
 pub fn put_bytes(words: &mut String, bytes: &[u8]) -> Result<(), AllocError> {
     let mut shown = bytes;
     if let [first, rest @ ..] = bytes {

@@ -208,7 +208,9 @@ fn front_words(
     Ok(words)
 }
 
-/// Compares what a stream says with the lines of a row; where the last is `prefixes:`, what each front of it says too.
+/// Compares what a stream says with the lines of a row.
+///
+/// Where the last is `prefixes:`, it compares what each front of the stream says too.
 pub fn check(
     alloc: Global,
     reading: &Reading,

@@ -11,8 +11,10 @@ use mysql_session::{
 };
 use std::alloc::Global;
 
-/// What a reply is read and written by: the command's kind, the capabilities, the number of the
-/// first packet, and the limit of a packet.
+/// What a reply is read and written by.
+///
+/// That is the command's kind, the capabilities, the number of the first packet, and the limit of a
+/// packet.
 pub type Sides = (ReplyKind, CapabilityFlags, u8, usize);
 
 /// What stands before a reply that is written.
@@ -98,7 +100,9 @@ fn check_parts(
     }
 }
 
-/// The bytes that a reply is written as, or why it is not; part by part it is written in the same way.
+/// The bytes that a reply is written as, or why it is not.
+///
+/// Part by part it is written in the same way.
 pub fn written(
     alloc: Global,
     sides: Sides,
@@ -128,8 +132,9 @@ pub fn written(
     Ok(found)
 }
 
-/// Writes what a reply says that was read with packets of up to 32 MB, perhaps of another kind, and
-/// compares the bytes, or the refusal, at which nothing is appended.
+/// Writes what a reply says that was read with packets of up to 32 MB, and compares the bytes.
+///
+/// It may be written for another kind. A refusal is compared too, at which nothing is appended.
 pub fn check_written(
     alloc: Global,
     read_kind: ReplyKind,

@@ -1,11 +1,11 @@
 //! Rows of a reply that are looked at where they lie and let go.
 
-use mysql_session::{CapabilityFlags, LentRow, ReplyFault, ReplyKind, ReplyReader};
+use mysql_session::{CapabilityFlags, ReplyFault, ReplyKind, ReplyReader, RowRef, RowRefExt};
 use std::alloc::Global;
 use std::io::{Read, Write};
 
 /// Prints the name of a row, and its price in cents.
-fn say_row<W: Write>(row: LentRow, out: &mut W) -> anyhow::Result<()> {
+fn say_row<W: Write>(row: RowRef, out: &mut W) -> anyhow::Result<()> {
     match row.get_opt::<&str, _>("name") {
         Some(Ok(name)) => write!(out, "{name}, ")?,
         Some(Err(_value)) => write!(out, "(a name that is no text), ")?,

@@ -12,8 +12,10 @@ pub const SERVER: &[u8] =
     b"\x01\0\0\x01\x01\x16\0\0\x02\x03def\0\0\0\0\0\x0c\x3f\0\x01\0\0\0\x08\0\0\0\0\0\x05\0\0\x03\
     \xfe\0\0\x02\0\x02\0\0\x04\x016\x02\0\0\x05\x017\x01\0\0\x06\xfb\x05\0\0\x07\xfe\0\0\x02\0";
 
-/// Prints how many values the sets have that a client sends about `SELECT :a, :b`, and how many
-/// rows come back, as they pass in pieces of at most 16 bytes.
+/// Prints what passes between a client and a server, as it passes.
+///
+/// That is how many values the sets have that the client sends about `SELECT :a, :b`, and how many
+/// rows come back, in pieces of at most 16 bytes.
 pub fn proxy<C: Read, S: Read, W: Write>(
     alloc: Global,
     client: &mut C,

@@ -1,7 +1,7 @@
 //! Rows of a reply, read by the names of their columns.
 
 use crate::cents::Cents;
-use mysql_session::{CapabilityFlags, ReplyKind, ReplyReader, ReplyResult, Row};
+use mysql_session::{CapabilityFlags, ReplyKind, ReplyReader, ReplyResult, Row, RowExt};
 use std::alloc::Global;
 use std::io::{Read, Write};
 

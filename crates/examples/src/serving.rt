@@ -89,7 +89,9 @@ fn served(alloc: Global, mut client: &[u8]) -> anyhow::Result<Vec<u8>> {
     Ok(sent)
 }
 
-/// Prints how many bytes a server sends to a client that logs in and asks once, and how the answer to the query reads.
+/// Prints how many bytes a server sends to a client, and how the answer to its query reads.
+///
+/// The client logs in and asks once.
 pub fn serve<W: Write>(alloc: Global, out: &mut W) -> anyhow::Result<()> {
     let mut client = login_packet(alloc)?;
     packet_to_chunks(0, b"\x03SELECT number", &mut client)?;

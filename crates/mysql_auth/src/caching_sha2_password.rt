@@ -55,6 +55,8 @@ impl Readable for PublicKeyRequest {
 
 /// Refused by `UnexpectedEof` where there is no byte, then by `BadConstant`.
 impl<'de> MyDeserialize<'de> for PublicKeyRequest {
+    // Request for the public key:
+    //   int<1>  02
     fn deserialize(
         alloc: Global,
         _ctx: (),

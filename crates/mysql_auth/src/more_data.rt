@@ -1,4 +1,7 @@
-//! More data, and the server's public key.
+//! What a server sends further while a client logs in: data of the plugin, or its public key.
+//!
+//!     let more: AuthMoreData = ParseBuf(payload).parse(alloc, ())?;
+//!     let data = more.data();
 
 ghost use Rattle.std.specs.Prelude.{◌≡◌, IfOk, List, None, [], ℕ, IsOkUnless, false};
 ghost use Rattle.std.proofs.Common.{lit<};
@@ -23,6 +26,9 @@ use std::borrow::{CowSlice, CowStr};
 
 /// What a server sends to a plugin beside its first data.
 /// (MySQL: Client/Server Protocol, "Protocol::AuthMoreData".)
+///
+/// Promise: its bytes are a function of its data; any bytes are read exactly as its layout says,
+/// and what was written is read back where nothing follows (`headed`, `headed_at`).
 #[derive(Debug, PartialEq, Eq, Drop)]
 pub struct AuthMoreData<'a> {
     data: CowSlice<'a, u8>,
@@ -113,6 +119,9 @@ impl<'a> ReadsBack for AuthMoreData<'a> {
 /// Refused by `UnexpectedEof` where there is no byte, then by `BadConstant`.
 #[tactic(auto, unfolding(crate::specs::Packets::headed_at))]
 impl<'de> MyDeserialize<'de> for AuthMoreData<'de> {
+    // Protocol::AuthMoreData:
+    //   int<1>       header 01
+    //   string<EOF>  authentication method data
     fn deserialize(
         alloc: Global,
         _ctx: (),
@@ -128,6 +137,9 @@ impl<'de> MyDeserialize<'de> for AuthMoreData<'de> {
 
 /// The server's public key, by which a password is hidden.
 /// (MySQL: Client/Server Protocol, "Caching SHA-2 Authentication".)
+///
+/// Promise: its bytes are a function of its key; any bytes are read exactly as its layout says, and
+/// what was written is read back where nothing follows (`headed`, `headed_at`).
 #[derive(Debug, PartialEq, Eq, Drop)]
 pub struct PublicKeyResponse<'a> {
     rsa_key: CowSlice<'a, u8>,
@@ -210,6 +222,9 @@ impl<'a> ReadsBack for PublicKeyResponse<'a> {
 /// Refused by `UnexpectedEof` where there is no byte, then by `BadConstant`.
 #[tactic(auto, unfolding(crate::specs::Packets::headed_at))]
 impl<'de> MyDeserialize<'de> for PublicKeyResponse<'de> {
+    // Protocol::AuthMoreData with a key:
+    //   int<1>       header 01
+    //   string<EOF>  the server's public key
     fn deserialize(
         alloc: Global,
         _ctx: (),

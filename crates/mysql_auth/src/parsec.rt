@@ -8,6 +8,9 @@ ghost use Rattle.mysql_auth.specs.Plugins.{parsec_salt};
 /// The packet has 20 bytes, of which the first is `P` and the second a factor of at most 20; the
 /// iterations are 1024 times two to the factor. None of other bytes. (MariaDB: "Authentication
 /// Plugin - PARSEC".)
+///
+/// Promise: exactly the iterations and the salt of such a packet are answered, and None of any
+/// other (`parsec_salt`).
 pub fn parse_parsec_salt(packet: &[u8]) -> Option<(u32, &[u8; 18])>
     ensures { MatchOption result (parsec_salt packet.now ≡ None) (λ found. parsec_salt packet.now ≡
         Some (found.0, found.1.now)) }

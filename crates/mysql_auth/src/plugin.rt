@@ -1,4 +1,7 @@
-//! Authentication plugins.
+//! Authentication plugins, by the names that the packets of logging in carry.
+//!
+//!     let plugin = AuthPlugin::from_bytes(b"caching_sha2_password");
+//!     let name = plugin.as_bytes();
 
 ghost use Rattle.std.specs.Prelude.{◌≡◌, ◌++◌, ◌∷◌, [], IfOk, MatchOption, None, Ok, Some, ℕ, false};
 ghost use Rattle.mysql_auth.specs.Plugins.{Keeps, Plugin, plugin_name, plugin_named, plugin_at, with_data};
@@ -27,6 +30,9 @@ const PARSEC_PLUGIN_NAME: &[u8] = b"parsec";
 
 /// An authentication plugin.
 /// (MySQL: Client/Server Protocol, "Authentication Methods"; MariaDB: "Pluggable Authentication".)
+///
+/// Promise: a plugin has the name that it was made of, without a zero at its end (`plugin_named`,
+/// `plugin_name`).
 #[derive(Debug, PartialEq, Eq, Hash, Drop)]
 pub enum AuthPlugin<'a> {
     /// Old password authentication.

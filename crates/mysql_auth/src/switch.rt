@@ -1,4 +1,7 @@
-//! Requests for another plugin.
+//! Requests of a server to go on with another plugin.
+//!
+//!     let request: AuthSwitchRequest = ParseBuf(payload).parse(alloc, ())?;
+//!     let plugin = request.auth_plugin();
 
 ghost use Rattle.std.specs.Prelude.{◌≡◌, IfOk, None, Some, ℕ, false};
 ghost use Rattle.std.specs.Cow.{cow_slice_items};
@@ -74,6 +77,8 @@ impl Readable for OldAuthSwitchRequest {
 
 /// Refused by `UnexpectedEof` where there is no byte, then by `BadConstant`.
 impl<'de> MyDeserialize<'de> for OldAuthSwitchRequest {
+    // Protocol::OldAuthSwitchRequest:
+    //   int<1>  header fe
     fn deserialize(
         alloc: Global,
         _ctx: (),
@@ -86,6 +91,9 @@ impl<'de> MyDeserialize<'de> for OldAuthSwitchRequest {
 
 /// A server's request to go on with another plugin.
 /// (MySQL: Client/Server Protocol, "Protocol::AuthSwitchRequest".)
+///
+/// Promise: its bytes are a function of its fields, and any bytes are read exactly as its layout
+/// says, with the first refusal from the left (`switch`, `switch_at`).
 #[derive(Debug, PartialEq, Eq, Drop)]
 pub struct AuthSwitchRequest<'a> {
     auth_plugin: CowSlice<'a, u8>,
@@ -197,6 +205,10 @@ impl<'a> Readable for AuthSwitchRequest<'a> {
 /// where no zero ends the plugin's name.
 #[tactic(auto, unfolding(crate::specs::Packets::switch_at))]
 impl<'de> MyDeserialize<'de> for AuthSwitchRequest<'de> {
+    // Protocol::AuthSwitchRequest:
+    //   int<1>        header fe
+    //   string<NUL>   plugin name
+    //   string<EOF>   authentication plugin data
     fn deserialize(
         alloc: Global,
         _ctx: (),

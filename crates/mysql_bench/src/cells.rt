@@ -1,7 +1,7 @@
 //! Cells of rows, by number and by name.
 
 use crate::replies::{reply_of, rows_of};
-use mysql_session::{ColumnIndex, FromValue, Row};
+use mysql_session::{ColumnIndex, FromValue, Row, RowExt};
 use std::alloc::Global;
 
 /// The size of the pieces in which a reply comes.

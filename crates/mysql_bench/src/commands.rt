@@ -45,8 +45,9 @@ fn taken_sets(receiver: &mut Receiver, bytes: &[u8], size: usize) -> usize
     count
 }
 
-/// Reads a stream that comes in pieces of a size, a front and then a block so many times, and takes
-/// the sets behind each piece. Answers how many there are.
+/// Reads a stream that comes in pieces of a size, and takes the sets behind each piece.
+///
+/// The stream is a front and then a block so many times. Answers how many sets there are.
 #[unsafe(no_mangle)]
 pub extern "C" fn mysql_bench_receive_taken(
     alloc: Global,

@@ -31,8 +31,9 @@ fn sent(
     written
 }
 
-/// Sends the sets that the bytes hold by one query, so many by a call, and all of them so many
-/// times. Answers the bytes of one time.
+/// Sends the sets that the bytes hold by one query, so many by a call.
+///
+/// All of them are sent so many times. Answers the bytes of one time.
 #[unsafe(no_mangle)]
 pub extern "C" fn mysql_bench_send_kept(
     alloc: Global,
@@ -90,8 +91,9 @@ fn lists_of(
     Ok(sets)
 }
 
-/// Sends the sets that the bytes hold as executions of one query that was prepared before, each by
-/// a call, and all of them so many times. Answers the bytes of one time.
+/// Sends the sets that the bytes hold as executions of one query that was prepared before.
+///
+/// Each goes by a call, and all of them so many times. Answers the bytes of one time.
 #[unsafe(no_mangle)]
 pub extern "C" fn mysql_bench_send_more(
     alloc: Global,

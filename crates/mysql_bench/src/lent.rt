@@ -3,7 +3,7 @@
 ghost use Rattle.std.specs.Prelude.{◌<◌};
 
 use crate::replies::reader_of;
-use mysql_session::{LentRow, ReplyEnd, ReplyFault, ReplyReader, ValueRef};
+use mysql_session::{ReplyEnd, ReplyFault, ReplyReader, RowRef, ValueRef};
 use std::alloc::Global;
 
 /// What a cell comes to: of bytes how many, else the number itself.
@@ -18,7 +18,7 @@ fn amount_of(cell: Option<ValueRef<'_>>) -> usize {
 
 /// What the cells of a row come to, and 1 for the row.
 #[inline(always)]
-pub fn sum_of(row: &LentRow<'_, '_>) -> usize {
+pub fn sum_of(row: &RowRef<'_, '_>) -> usize {
     let mut sum: usize = 1;
     for index in 0..row.len() {
         sum = sum.wrapping_add(amount_of(row.as_ref(index)));

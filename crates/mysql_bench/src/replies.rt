@@ -90,8 +90,10 @@ fn taken_rows(reader: &mut ReplyReader, bytes: &[u8], size: usize) -> usize
     count
 }
 
-/// Reads a reply that comes in pieces of a size, a front and then a block so many times, and takes
-/// the results behind each piece. Answers how many rows there are, also where the reply goes on.
+/// Reads a reply that comes in pieces of a size, and takes the results behind each piece.
+///
+/// The reply is a front and then a block so many times. Answers how many rows there are, also where
+/// the reply goes on.
 #[unsafe(no_mangle)]
 pub extern "C" fn mysql_bench_read_reply_taken(
     alloc: Global,
@@ -114,8 +116,10 @@ pub extern "C" fn mysql_bench_read_reply_taken(
     }
 }
 
-/// Reads a reply with its rows in binary, and writes its results so many times, with the rows in
-/// binary or as text, into a buffer that is emptied before each. Answers the bytes of one time.
+/// Reads a reply with its rows in binary, and writes its results so many times.
+///
+/// The rows are written in binary or as text, into a buffer that is emptied before each. Answers
+/// the bytes of one time.
 #[unsafe(no_mangle)]
 pub extern "C" fn mysql_bench_write_reply(
     alloc: Global,

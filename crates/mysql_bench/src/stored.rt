@@ -4,13 +4,13 @@ ghost use Rattle.std.specs.Prelude.{◌<◌};
 
 use crate::lent::sum_of;
 use crate::replies::reader_of;
-use mysql_session::{LentRow, ReplyEnd, ReplyFault, ReplyReader, StoredRows};
+use mysql_session::{ReplyEnd, ReplyFault, ReplyReader, RowRef, StoredRows};
 use std::alloc::{AllocError, Global};
 
 /// Keeps a row behind the others, under the columns of the first one.
 fn keep(
     alloc: Global,
-    row: &LentRow<'_, '_>,
+    row: &RowRef<'_, '_>,
     stored: &mut Option<StoredRows>,
 ) -> Result<(), AllocError> {
     if stored.is_none() {

@@ -155,7 +155,7 @@ abbrev pub bulk_cause : List (List Value) → Option BulkExecuteRequestError
 bulk_cause [] = Some NoParams
 bulk_cause (row ∷ rows) = if have_length (length row) (row ∷ rows) then None else Some MixedArity
 
--- the same where so many types are handed in: sent ones have to be as many as the first row's values
+-- why rows can't be sent with so many types, which have to be as many as the first row's values where they are sent
 abbrev pub bulk_cause_with_types : ℕ → ℕ → List (List Value) → Option BulkExecuteRequestError
 bulk_cause_with_types flags types [] = Some NoParams
 bulk_cause_with_types flags types (row ∷ rows) =

@@ -47,7 +47,7 @@ impl BulkExecuteRequestError {
     }
 }
 
-// The same values again.
+// Copies of the values of a row.
 fn row_copy(alloc: Global, row: &[Value]) -> Result<Vec<Value>, AllocError>
     ensures { IfOk result (λ copy. copy.items ≡ row.now) }
 {

@@ -141,6 +141,9 @@ fn fields_from(alloc: Global, rest: &mut ParseBuf) -> Result<StmtBulkExecutePara
 /// MariaDB: Client/Server Protocol, "COM_STMT_BULK_EXECUTE".
 #[tactic(auto, unfolding(crate::specs::Reading::param_type_at))]
 impl<'de> MyDeserialize<'de> for StmtBulkExecuteParamType {
+    // A parameter's type:
+    //   int<1>  field type
+    //   int<1>  parameter flag: 0x80 for a number without a sign
     fn deserialize(
         alloc: Global,
         _ctx: (),

@@ -65,6 +65,9 @@ impl Readable for StmtBulkExecuteParamValue {
 /// MariaDB: Client/Server Protocol, "COM_STMT_BULK_EXECUTE".
 #[tactic(auto, unfolding(crate::specs::Reading::param_value_at))]
 impl<'de> MyDeserialize<'de> for StmtBulkExecuteParamValue {
+    // A parameter of a row:
+    //   int<1>  indicator: 0 none, 1 NULL, 2 DEFAULT, 3 IGNORE
+    //   byte<n> cell in the binary format, behind the indicator 0
     fn deserialize(
         alloc: Global,
         column: (ColumnType, ColumnFlags),

@@ -1,4 +1,7 @@
-//! Bulk executions of a prepared statement.
+//! Bulk executions of a prepared statement: one request with many rows of parameters.
+//!
+//!     let request = ComStmtBulkExecuteRequest::new(alloc, stmt_id, flags, rows)?;
+//!     request.serialize(&mut payload)?;
 
 ghost use Rattle.std.specs.Prelude.{◌≡◌, ◌≢◌, ◌⊎◌, ◌*◌, IfErr, IfOk, None, OnErr, Some, [], length, map, if◌then◌else◌};
 ghost use Rattle.std.specs.List.{flat_map};

@@ -1,4 +1,6 @@
-//! Bulk executions, as they are read.
+//! Reads bulk executions, by their own types or by those that are in force.
+//!
+//!     let request: ComStmtBulkExecuteRequest = ParseBuf(payload).parse(alloc, columns)?;
 
 ghost use Rattle.std.specs.Prelude.{◌≡◌, IfOk, None, length, map};
 ghost use Rattle.mysql_fields.specs.Laws.{unsized};
@@ -167,6 +169,16 @@ fn request_of(
 ///
 /// MariaDB: Client/Server Protocol, "COM_STMT_BULK_EXECUTE".
 impl<'de> MyDeserialize<'de> for ComStmtBulkExecuteRequest {
+    // COM_STMT_BULK_EXECUTE:
+    //   int<1>  header fa
+    //   int<4>  statement id
+    //   int<2>  bulk flags: 0x80 where types are sent
+    //   where types are sent, for each parameter:
+    //     int<1>  field type
+    //     int<1>  parameter flag
+    //   then, to the end, for each row and each parameter:
+    //     int<1>  indicator
+    //     byte<n> cell, behind the indicator 0
     fn deserialize(
         alloc: Global,
         columns: Vec<(ColumnType, ColumnFlags)>,

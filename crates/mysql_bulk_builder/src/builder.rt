@@ -1,4 +1,11 @@
-//! A builder of bulk execute requests.
+//! Builds bulk executions: rows go in one by one, and requests of as many as fit come out.
+//!
+//!     let mut builder = ComStmtBulkExecuteRequestBuilder::new(alloc, stmt_id, max_allowed_packet);
+//!     if let Some(row) = builder.add_row(row)? {
+//!         let request = builder.build()?; // of the rows before, which leave no room for this one
+//!         builder.add_row(row)?;
+//!     }
+//!     let last = builder.build()?;
 
 ghost use Rattle.std.specs.Prelude.{◌≡◌, ◌+◌, ◌*◌, ◌<◌, ◌≤◌, if◌then◌else◌, length, map, nat_eq, option_copied, ◌&&◌};
 ghost use Rattle.std.specs.Prelude.{MatchOption};
@@ -238,6 +245,10 @@ impl<'a> ComStmtBulkExecuteRequestBuilder<'a> {
     /// or where `usize::MAX` rows are held: build their request first, and then add it again. The
     /// first row taken sets how many values each row has, over builds too.
     ///
+    /// Promise: the row is taken exactly where it has the arity, fewer than `usize::MAX` rows are
+    /// held and there is room, given back where rows are held and there is none, and else refused;
+    /// a refused call changes nothing (`Adds`, `GivesBack`).
+    ///
     /// # Errors
     /// `MixedArity`; `RowTooLarge` with the row where no rows are held and it fits no request;
     /// `Memory`. They change nothing.
@@ -281,6 +292,9 @@ impl<'a> ComStmtBulkExecuteRequestBuilder<'a> {
 
     /// Adds the row of values that a set gives over the builder's names, as `add_row` does.
     ///
+    /// Promise: what `add_row` promises, of the values that the set gives over the builder's names;
+    /// `Params` where it gives none (`AddsGiven`).
+    ///
     /// # Errors
     /// `Params` where the set gives no values; then those of `add_row`. They change nothing.
     pub fn add_params(
@@ -301,6 +315,10 @@ impl<'a> ComStmtBulkExecuteRequestBuilder<'a> {
     }
 
     /// Builds the request of the rows held, and lets them go.
+    ///
+    /// Promise: the request has the rows held, with the types of their columns where none was built
+    /// before; the builder then holds none, and after a refusal it is as it was (`request_of`,
+    /// `after_build`).
     ///
     /// # Errors
     /// `NoParams` where no rows are held; `Memory`. They change nothing.

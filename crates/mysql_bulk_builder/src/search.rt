@@ -203,6 +203,9 @@ fn row_sizes(
 }
 
 /// Cuts rows into as few requests as there can be, each with types or without.
+///
+/// Promise: the cut is the tight one, and it is refused, but for want of memory, exactly by the
+/// least row that fits no request of its own (`HasNoTypedCut`).
 pub fn bulk_cut(
     alloc: Global,
     rows: &[&[&Value]],

@@ -61,6 +61,6 @@ AddsSet bytes parameters number old new =
     ⊎ ((number ≡ code_number Memory) × AreTheSame old new)
     ⊎ ((error : Code) × (number ≡ code_number error) × IsDescriptionCause bytes parameters error × AreTheSame old new)
 
--- the same of what the handle stands for
+-- a set is added to those that the handle stands for, or nothing changed
 abbrev pub AddsSetIn : List ℕ → List Parameter → ℕ → Object → ParameterSets → Type 0
 AddsSetIn bytes parameters number new old = IsSets new (AddsSet bytes parameters number old)

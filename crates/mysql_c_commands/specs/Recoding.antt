@@ -63,13 +63,13 @@ pub record RecodesBytes (piece : List ℕ) (old : Recoded) (before : List ℕ) (
   pub answer : AnswersBy new.refused number stop
   pub terms : (recoder_state new).terms ≡ (recoder_state old).terms
 
--- the same of what the handle of the bytes stands for
+-- a recoder takes a piece, with the bytes that a handle stands for
 abbrev pub RecodesTo : List ℕ → Recoded → Object → ℕ → ShownStop → Recoded → Object → Type 0
 RecodesTo piece old (object.Bytes before) number stop new out =
     IsBytes out (λ behind. RecodesBytes piece old before.items number stop new behind)
 RecodesTo piece old held number stop new out = Stays held number out × (new ≡ old)
 
--- the same of the recoder that the other handle stands for
+-- the recoder that the other handle stands for takes a piece
 abbrev pub RecodesFrom : List ℕ → Object → Object → ℕ → ShownStop → Object → Object → Type 0
 RecodesFrom piece (object.Recoder old) before number stop new out =
     IsRecoder new (λ r. RecodesTo piece old before number stop r out)
@@ -90,18 +90,18 @@ pub record EndsBytes (r : Recoded) (before : List ℕ) (number : ℕ) (stop : Sh
   pub kept : number ≢ 0 → behind ≡ before
   pub why : number ≢ 0 → IsEndRefused r number stop
 
--- the same of the recoder that an object is
+-- the recoder that an object is ends
 abbrev pub EndsObject : Object → List ℕ → ℕ → ShownStop → List ℕ → Type 0
 EndsObject (object.Recoder r) before number stop behind = EndsBytes r before number stop behind
 EndsObject held before number stop behind = (number ≡ code_number (misuse held)) × (behind ≡ before)
 
--- the same of what the handle of the bytes stands for; then the recoder is gone, and else it stays
+-- a recoder ends, with the bytes that a handle stands for; then it is gone, and else it stays
 abbrev pub EndsTo : Object → Object → ℕ → ShownStop → Object → Object → Type 0
 EndsTo ended (object.Bytes before) number stop new out = (new ≡ object.Empty) ×
     IsBytes out (λ behind. EndsObject ended before.items number stop behind)
 EndsTo ended held number stop new out = Stays held number out × (new ≡ ended)
 
--- the same of the recoder that the other handle stands for
+-- the recoder that the other handle stands for ends
 abbrev pub RecoderEnds : Object → Object → ℕ → ShownStop → Object → Object → Type 0
 RecoderEnds (object.Recoder r) before number stop new out = EndsTo (object.Recoder r) before number stop new out
 RecoderEnds held before number stop new out = Stays held number new × (out ≡ before)

@@ -74,13 +74,13 @@ pub record Sends (road : ℕ) (query : List ℕ) (sets : List Params) (id limit 
   pub kept : number ≢ 0 → new ≡ old
   pub why : number ≢ 0 → IsWhy road query sets id limit number place
 
--- the same of what the handle of the bytes stands for
+-- sets are delivered behind the bytes that a handle stands for, or these stay
 abbrev pub AppendsTo : ℕ → List ℕ → List Params → ℕ → ℕ → Object → ℕ → ShownPlace → Object → Type 0
 AppendsTo road query sets id limit (object.Bytes old) number place new =
     IsBytes new (λ bytes. Sends road query sets id limit old.items number place bytes)
 AppendsTo road query sets id limit held number place new = Stays held number new
 
--- the same of the parameter sets that the other handle stands for
+-- the parameter sets that the other handle stands for are delivered, or the bytes stay
 abbrev pub SendsFrom : ℕ → List ℕ → ℕ → ℕ → Object → Object → ℕ → ShownPlace → Object → Type 0
 SendsFrom road query id limit (object.Sets s) old number place new =
     AppendsTo road query s.sets.items id limit old number place new

@@ -15,7 +15,7 @@ use Rattle.mysql_c_handles.specs.Sets.{IsSets}
 abbrev pub HasNone : ParameterSets → Type 0
 HasNone s = (s.sets.items ≡ []) × (s.open.items ≡ [])
 
--- the same sets, and the same values of the next one
+-- equal sets, and equal values of the next one
 abbrev pub AreTheSame : ParameterSets → ParameterSets → Type 0
 AreTheSame old new = (new.sets.items ≡ old.sets.items) × (new.open.items ≡ old.open.items)
 
@@ -25,7 +25,7 @@ TakesValue value number old new =
     ((number ≡ code_number Done) × (new.sets.items ≡ old.sets.items) × (new.open.items ≡ old.open.items ++ value ∷ []))
     ⊎ ((number ≡ code_number Memory) × AreTheSame old new)
 
--- the same of what the handle stands for
+-- what taking a value does to the parameter sets that the handle stands for
 abbrev pub TakesValueIn : Value → ℕ → Object → ParameterSets → Type 0
 TakesValueIn value number new old = IsSets new (TakesValue value number old)
 
@@ -50,7 +50,7 @@ EndsSet number old new =
     (new.open.items ≡ []))
     ⊎ ((number ≡ code_number Memory) × AreTheSame old new)
 
--- the same of what the handle stands for
+-- what ending a set does to the parameter sets that the handle stands for
 abbrev pub EndsSetIn : ℕ → Object → ParameterSets → Type 0
 EndsSetIn number new old = IsSets new (EndsSet number old)
 

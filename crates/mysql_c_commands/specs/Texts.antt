@@ -64,13 +64,13 @@ pub record BindsText (query : List ℕ) (params : Params) (set : ℕ) (old : Lis
   pub kept : number ≢ 0 → new ≡ old
   pub why : number ≢ 0 → IsUnbound query params set number place
 
--- the same of what the handle of the bytes stands for
+-- the text of a set is appended to the bytes that a handle stands for, or these stay
 abbrev pub BindsTextTo : List ℕ → Params → ℕ → Object → ℕ → ShownPlace → Object → Type 0
 BindsTextTo query params set (object.Bytes old) number place new =
     IsBytes new (λ bytes. BindsText query params set old.items number place bytes)
 BindsTextTo query params set held number place new = Stays held number new
 
--- the same of a set that the other handle's object holds
+-- the text of a set that the other handle's object holds is appended, or the bytes stay
 abbrev pub BindsTextFrom : List ℕ → Object → ℕ → Object → ℕ → ShownPlace → Object → Type 0
 BindsTextFrom query held set old number place new =
     MatchOption (set_held held set) ((number ≡ code_number (unheld_code held)) ×
@@ -83,12 +83,12 @@ pub record PutsLiteral (value : Value) (old : List ℕ) (number : ℕ) (new : Li
       (λ text. ((number ≡ code_number Done) × (new ≡ old ++ text)) ⊎ ((number ≡ code_number Memory) × (new ≡ old)))
   pub literal : HasLiteral value
 
--- the same of what the handle of the bytes stands for
+-- the literal of a value is appended to the bytes that a handle stands for, or these stay
 abbrev pub PutsLiteralTo : Value → Object → ℕ → Object → Type 0
 PutsLiteralTo value (object.Bytes old) number new = IsBytes new (λ bytes. PutsLiteral value old.items number bytes)
 PutsLiteralTo value held number new = Stays held number new
 
--- the same of a value that the other handle's object holds
+-- the literal of a value that the other handle's object holds is appended, or the bytes stay
 abbrev pub PutsLiteralFrom : Object → ℕ → ℕ → Object → ℕ → Object → Type 0
 PutsLiteralFrom held set place old number new =
     MatchOption (value_held held set place) ((number ≡ code_number (unheld_code held)) ×

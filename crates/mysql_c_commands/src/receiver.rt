@@ -189,6 +189,9 @@ pub fn receiver_new(alloc: Global, handle: &mut Handle, query: &[u8], id: u32, l
 }
 
 /// Feeds a receiver with the next piece of its stream.
+///
+/// Promise: what is held decides, over the bytes to come, what was decided before over the piece
+/// and them (`IsFedBy`).
 pub fn receiver_feed(alloc: Global, handle: &mut Handle, piece: &[u8]) -> u32
     ensures { OfReceiver handle.old.object result handle.new.object (IsFedBy piece.now result handle.new.object) }
 {
@@ -204,6 +207,8 @@ pub fn receiver_feed(alloc: Global, handle: &mut Handle, piece: &[u8]) -> u32
 ///
 /// The handle stands for the audit of what was fed, and holds the sets that weren't let go. Of an
 /// audit it shows the same again.
+///
+/// Promise: the handle stands for the audit of what was fed, and its end is shown (`EndsAs`).
 pub fn receiver_end(alloc: Global, handle: &mut Handle, end: &mut ShownEnd) -> u32
     ensures { EndsAs handle.old.object result handle.new.object end.new }
 {
@@ -245,6 +250,9 @@ pub fn receiver_width(alloc: Global, handle: &mut Handle, set: usize, width: &mu
 }
 
 /// Shows the content at a place of the set of this number.
+///
+/// Promise: a number is shown as itself, and is out of range only where it fits 64 bits neither
+/// with a sign nor without (`Shows`).
 pub fn receiver_content(
     alloc: Global,
     handle: &mut Handle,
@@ -265,6 +273,8 @@ pub fn receiver_content(
 }
 
 /// Lets go of the sets that were read.
+///
+/// Promise: the sets that are let go leave what is to come as it was (`LetsGo`).
 pub fn receiver_clear(alloc: Global, handle: &mut Handle) -> u32
     ensures { OfReceiver handle.old.object result handle.new.object (LetsGo result handle.new.object) }
 {

@@ -220,6 +220,8 @@ pub fn recoder_new(alloc: Global, handle: &mut Handle, query: &[u8], id: u32, li
 ///
 /// They are those of the sets that are whole with the piece, before the first of all the prepare,
 /// and go to the bytes of another handle. Where it is refused it shows where, and the bytes stay.
+///
+/// Promise: what is appended is what `Recoder::feed` appends, or the bytes stay (`RecodesFrom`).
 pub fn recoder_feed(
     alloc: Global,
     handle: &mut Handle,
@@ -240,6 +242,8 @@ pub fn recoder_feed(
 /// Ends a recoder; the handle stands for nothing then, also where the end is refused.
 ///
 /// Where its stream carried no set the prepare is appended to the bytes of another handle.
+///
+/// Promise: what is appended is what `Recoder::finish` appends, or the bytes stay (`RecoderEnds`).
 pub fn recoder_end(
     alloc: Global,
     handle: &mut Handle,

@@ -168,6 +168,9 @@ fn append_sets(
 ///
 /// The number of the road is 0 for text, 1 for execute, 2 for bulk. Where the sets aren't sent it
 /// shows the set and the place that are refused, and the bytes stay.
+///
+/// Promise: what is appended delivers the sets, or nothing is appended, and the code and the place
+/// are those of the first cause (`SendsFrom`).
 pub fn send(
     alloc: Global,
     sets: &mut Handle,

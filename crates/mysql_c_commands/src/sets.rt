@@ -275,6 +275,10 @@ pub fn sets_end_set(alloc: Global, handle: &mut Handle) -> u32
 
 /// Puts one more set behind the whole ones: the values that an array describes, whose bytes lie in
 /// `bytes`. The values of the next set stay.
+///
+/// Promise: each parameter gives the value that its kind and its bytes describe, behind those
+/// before it, or nothing has changed and the code is that of the first that describes none
+/// (`AddsSetIn`).
 pub fn sets_add(alloc: Global, handle: &mut Handle, parameters: &[Parameter], bytes: &[u8]) -> u32
     ensures { OfSets handle.old.object result handle.new.object
         (AddsSetIn bytes.now parameters.now result handle.new.object) }

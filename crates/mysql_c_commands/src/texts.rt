@@ -170,6 +170,8 @@ fn put_literal_from(
 
 /// Appends the text of the set of this number over a query to the bytes of another handle. Where
 /// there is none it shows the set and the place that are refused, and the bytes stay.
+///
+/// Promise: the text of the set is one that reads back, or the bytes stay (`BindsTextFrom`).
 pub fn bind_text(
     alloc: Global,
     sets: &mut Handle,
@@ -192,6 +194,8 @@ pub fn bind_text(
 /// Appends the literal of a value to the bytes of another handle.
 ///
 /// The value is at a place of the set of this number.
+///
+/// Promise: the literal is the value's, or the bytes stay (`PutsLiteralFrom`).
 pub fn value_text(
     alloc: Global,
     sets: &mut Handle,

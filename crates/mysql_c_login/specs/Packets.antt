@@ -49,7 +49,7 @@ pub record IsReadOn (piece : List ℕ) (used : ℕ) (whole : Bool) (number : ℕ
   pub failed : number ≢ code_number code.Done → Fails old piece number new
   pub stays : IfSome old.refused (λ refusal. (number ≡ code_number (wire_code (error_of refusal))) × (new ≡ old))
 
--- the same of what the handle stands for
+-- what the reader that the handle stands for does with a piece
 abbrev pub IsReadOnIn : List ℕ → ℕ → Bool → ℕ → Object → Incoming → Type 0
 IsReadOnIn piece used whole number new old = IsPackets new (IsReadOn piece used whole number old)
 
@@ -64,7 +64,7 @@ Restarts number old new =
     ((number ≡ code_number code.Done) × (old.bytes ≡ []) × (new ≡ record old { number = 0 }))
     ⊎ ((number ≡ code_number code.Unfinished) × (old.bytes ≢ []) × (new ≡ old))
 
--- the same of what the handle stands for
+-- the next packet of the reader that the handle stands for begins at the number 0
 abbrev pub RestartsIn : ℕ → Object → Incoming → Type 0
 RestartsIn number new old = IsPackets new (Restarts number old)
 
@@ -77,6 +77,6 @@ Frames payload limit id next number old new =
     ⊎ ((number ≡ code_number (code.Stream fault.TooLarge)) × (limit < length payload) × (new ≡ old) × (next ≡ id))
     ⊎ ((number ≡ code_number code.Memory) × (length payload ≤ limit) × (new ≡ old) × (next ≡ id))
 
--- the same of what the handle stands for
+-- a framing stands behind the bytes that the handle stands for, or nothing changes
 abbrev pub FramesIn : List ℕ → ℕ → ℕ → ℕ → ℕ → Object → List ℕ → Type 0
 FramesIn payload limit id next number new old = IsBytes new (Frames payload limit id next number old)

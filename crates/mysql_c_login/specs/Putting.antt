@@ -10,7 +10,7 @@ abbrev pub Puts : List ℕ → Object → ℕ → Object → Type 0
 Puts added old number new = OfBytes old number new (Appends added number new) ⊎
     ((number ≡ code_number Memory) × (new ≡ old))
 
--- the same where it is allowed
+-- Bytes that have to be allowed stand behind those that the handle stands for, or nothing changes.
 abbrev pub PutsIf : Bool → List ℕ → Object → ℕ → Object → Type 0
 PutsIf true added old number new = Puts added old number new
 PutsIf false added old number new = (number ≡ code_number BadPacket) × (new ≡ old)

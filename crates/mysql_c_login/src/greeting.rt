@@ -69,6 +69,8 @@ fn show_greeting(packet: &HandshakePacket<'_>, payload: &[u8], greeting: &mut Sh
 }
 
 /// Reads the payload of a server's first packet.
+///
+/// Promise: the numbers and the lengths that are shown are those of the reading (`ReadsGreeting`).
 pub fn greeting_read(alloc: Global, payload: &[u8], greeting: &mut ShownGreeting) -> u32
     ensures { ReadsGreeting payload.now result greeting.new }
 {
@@ -144,6 +146,8 @@ fn packet_of<'a>(
 }
 
 /// Appends the payload of a server's first packet to the bytes that a handle stands for.
+///
+/// Promise: exactly the bytes of the greeting's layout are appended, or the bytes stay (`PutsIf`).
 pub fn greeting_put(
     alloc: Global,
     out: &mut Handle,

@@ -54,6 +54,8 @@ fn show_login(packet: &HandshakeResponse<'_>, login: &mut ShownLogin)
 }
 
 /// Reads the payload of a client's answer to a greeting.
+///
+/// Promise: the numbers and the lengths that are shown are those of the reading (`ReadsLogin`).
 pub fn login_read(alloc: Global, payload: &[u8], login: &mut ShownLogin) -> u32
     ensures { ReadsLogin payload.now result login.new }
 {
@@ -141,6 +143,8 @@ fn packet_of<'a>(
 }
 
 /// Appends the payload of a client's answer to a greeting to the bytes that a handle stands for.
+///
+/// Promise: exactly the bytes of the login's layout are appended, or the bytes stay (`PutsIf`).
 pub fn login_put(
     alloc: Global,
     out: &mut Handle,

@@ -132,6 +132,8 @@ pub fn packets_new(alloc: Global, handle: &mut Handle, first: u8, limit: usize) 
 
 /// Reads on to the end of the next packet. Tells how many bytes of the piece were used, and whether
 /// a payload stands whole then.
+///
+/// Promise: a piece is read on as `PacketReader` reads it (`IsReadOnIn`).
 pub fn packets_feed(
     alloc: Global,
     handle: &mut Handle,
@@ -182,6 +184,8 @@ pub fn packets_restart(alloc: Global, handle: &mut Handle) -> u32
 /// Appends a payload to the bytes that a handle stands for, framed in chunks.
 ///
 /// The first has this number, which goes on behind the last one.
+///
+/// Promise: exactly the payload's framing is appended, or the bytes stay (`FramesIn`).
 pub fn packet_put(
     alloc: Global,
     out: &mut Handle,

@@ -41,6 +41,8 @@ fn registration<'a>(
 }
 
 /// Appends to the bytes that a handle stands for what a replica says of itself.
+///
+/// Promise: exactly the bytes of the packet's layout are appended, or the bytes stay (`PutsIf`).
 pub fn register_replica_put(
     alloc: Global,
     out: &mut Handle,
@@ -68,6 +70,8 @@ pub fn register_replica_put(
 /// Appends the request for the binary log from a position of a file.
 ///
 /// It goes to the bytes that a handle stands for.
+///
+/// Promise: exactly the bytes of the packet's layout are appended, or the bytes stay (`Puts`).
 pub fn binlog_dump_put(
     alloc: Global,
     out: &mut Handle,
@@ -114,6 +118,9 @@ fn dump_by_sids<'a>(
 /// Appends the request for the binary log without the transactions that a text's sets name.
 ///
 /// It goes to the bytes that a handle stands for.
+///
+/// Promise: exactly the bytes of the packet's layout are appended, or the bytes stay
+/// (`PutsBySids`).
 pub fn binlog_dump_gtid_put(
     alloc: Global,
     out: &mut Handle,

@@ -235,6 +235,9 @@ pub fn reply_results(alloc: Global, handle: &mut Handle, count: &mut usize) -> u
 }
 
 /// Shows the result of this number. Its changes of the session's state are counted, which takes memory.
+///
+/// Promise: what is shown is the result's, and its struct holds nothing of what it held before
+/// (`ShowsOutcome`).
 pub fn reply_result(
     alloc: Global,
     handle: &mut Handle,
@@ -259,6 +262,9 @@ pub fn reply_result(
 /// The change is named by the number of its result and the position where it begins, which is 0 for
 /// the first change, and is moved on to the next one; behind the last, and where the bytes there
 /// are no change, it stays.
+///
+/// Promise: one change is shown and the position moved behind it: from 0 on they are those that are
+/// read all at once, in their order (`ShowsChangeIn`).
 pub fn reply_state(
     alloc: Global,
     handle: &mut Handle,
@@ -280,6 +286,8 @@ pub fn reply_state(
 }
 
 /// Shows the value in a cell, by the numbers of its result, its row and its column.
+///
+/// Promise: the value is that of the cell (`ShowsValue`).
 pub fn reply_cell(
     alloc: Global,
     handle: &mut Handle,

@@ -88,6 +88,8 @@ fn end(object: &mut Object, end: &mut ShownEnd) -> Code
 ///
 /// The kinds are 0 a query, 1 an execution, 2 a prepare. The reply's first chunk has the number
 /// `first`.
+///
+/// Promise: a number that names no kind makes no reader (`IsNewReply`).
 pub fn reply_new(
     alloc: Global,
     handle: &mut Handle,
@@ -113,6 +115,9 @@ pub fn reply_new(
 }
 
 /// Feeds a reader of a reply with the next bytes.
+///
+/// Promise: what is held decides, over the bytes to come, what was decided before over the piece
+/// and them (`IsReplyFedBy`).
 pub fn reply_feed(alloc: Global, handle: &mut Handle, piece: &[u8]) -> u32
     ensures { OfReply handle.old.object result handle.new.object (IsReplyFedBy piece.now result handle.new.object) }
 {
@@ -127,6 +132,8 @@ pub fn reply_feed(alloc: Global, handle: &mut Handle, piece: &[u8]) -> u32
 /// Takes the results that stand whole, and the rows so far of a result set that goes on.
 ///
 /// Those that were taken before are let go, and so are the progress reports that came.
+///
+/// Promise: the results are those that `ReplyReader::take_results` hands out (`OutcomesAreTaken`).
 pub fn reply_take(alloc: Global, handle: &mut Handle) -> u32
     ensures { OfReply handle.old.object result handle.new.object (OutcomesAreTaken result handle.new.object) }
 {
@@ -140,6 +147,9 @@ pub fn reply_take(alloc: Global, handle: &mut Handle) -> u32
 
 /// Ends a reply: the handle stands for what was read and not taken. Shows how the reply ends. Of an
 /// ended one it shows the same again.
+///
+/// Promise: the handle stands for what was read and not taken, and how the reply ends is shown
+/// (`RepliesEnd`).
 pub fn reply_end(alloc: Global, handle: &mut Handle, shown: &mut ShownEnd) -> u32
     ensures { RepliesEnd handle.old.object result handle.new.object shown.new }
 {

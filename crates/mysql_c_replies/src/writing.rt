@@ -164,6 +164,8 @@ fn end(object: &Object, spot: &mut ShownSpot) -> Code
 ///
 /// The kinds are 0 a query, 1 an execution, 2 a prepare. The reply's first chunk has the number
 /// `first`, and a payload has at most `limit` bytes.
+///
+/// Promise: a number that names no kind makes no writer (`IsNewWriter`).
 pub fn writer_new(
     alloc: Global,
     handle: &mut Handle,
@@ -277,6 +279,8 @@ pub fn writer_rows(
 }
 
 /// Writes a row: copies of the values of a set, by its number.
+///
+/// Promise: what is appended is the row's step, or the writer and the bytes stay (`WritesRowOf`).
 pub fn writer_row(
     alloc: Global,
     handle: &mut Handle,
@@ -341,6 +345,9 @@ pub fn writer_prepared(
 }
 
 /// Tells whether the reply that a writer wrote stands whole, and else why not.
+///
+/// Promise: the code says whether the reply that was written stands whole, and else why not
+/// (`EndsWriting`).
 pub fn writer_end(alloc: Global, handle: &mut Handle, spot: &mut ShownSpot) -> u32
     ensures kept { handle.new.object ≡ handle.old.object }
     ensures whole { EndsWriting handle.old.object result spot.new }

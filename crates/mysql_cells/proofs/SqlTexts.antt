@@ -16,7 +16,7 @@ use Rattle.mysql_cells.specs.AsSql.{FitsFields, SqlIsLiteral, EachSqlIsLiteral, 
 use Rattle.mysql_queries.specs.Laws.{WrittenIsRead}
 use Rattle.mysql_queries.specs.Literals.{AreDigits, IsLiteral, IsNumber, digits_value, is_digit, inside_content}
 use Rattle.mysql_queries.specs.Tokens.{Byte, IsInside, inside_bytes, single_quote, double_quote, backslash}
-use Rattle.mysql_cells.specs.Values.{bytes_sql, clock_text, date_text, day_text, digits_in, in_quotes, is_zero_time, micros_text, sql_of, time_text, without_zero_sign}
+use Rattle.mysql_cells.specs.Values.{bytes_sql, clock_text, date_text, day_text, digits_in, in_quotes, is_zero_time, micros_text, sql_of, time_text, with_zero_sign, without_zero_sign}
 use Rattle.mysql_queries.specs.Written.{hex_digit, in_hexadecimal, quoted}
 use Rattle.mysql_queries.specs.declared.content.Content.{Content}
 use Rattle.mysql_queries.specs.declared.content.Content.TheVariants as content
@@ -333,3 +333,18 @@ some_text None new h = absurd h
 
 pub put_is_utf8 : (m : Bool) (value : Value) (new : List ℕ) → FitsFields value → PutsSql (sql_of m value) [] new (Ok tt) → IsUtf8 new
 put_is_utf8 m value new h put = sql_is_utf8 m value new h (some_text (sql_of m value) new put)
+
+kept : (b : Bool) → b && true ≡ b
+kept true = refl
+kept false = refl
+
+-- where the sign of an all-zero time is kept, a value is as it is
+pub sign_kept : (value : Value) → with_zero_sign true value ≡ value
+sign_kept NULL = refl
+sign_kept (Bytes bytes) = refl
+sign_kept (Int z) = refl
+sign_kept (UInt n) = refl
+sign_kept (Float bits) = refl
+sign_kept (Double bits) = refl
+sign_kept (Date year month day hour minute second micros) = refl
+sign_kept (Time negative days hours minutes seconds micros) = ap (λ b. Time b days hours minutes seconds micros) (kept negative)

@@ -1,7 +1,8 @@
 -- The text of a value in a query, and what it means. MySQL Reference Manual, "Literal Values":
 -- "String Literals", "Numeric Literals", "Date and Time Literals", "Hexadecimal Literals", "NULL
 -- Values"; of the SQL mode NO_BACKSLASH_ESCAPES: "Server SQL Modes".
-use Rattle.std.specs.Prelude.{ℕ, pos, ◌+◌, ◌*◌, ◌-◌, ◌==◌, ◌&&◌, Bool, true, false, not, if◌then◌else◌, List, [], ◌∷◌}
+use Rattle.std.specs.Prelude.{ℕ, pos, ◌+◌, ◌*◌, ◌-◌, ◌==◌, ◌&&◌, ◌||◌, Bool, true, false, not, if◌then◌else◌, List, []}
+use Rattle.std.specs.Prelude.{◌∷◌}
 use Rattle.std.specs.Prelude.{◌++◌, length, replicate, flat_map, codes, is_none, Option, Some, None}
 use Rattle.std.specs.Fmt.{decimal, signed_decimal, sign_text}
 use Rattle.std.specs.List.{position_from}
@@ -52,17 +53,21 @@ abbrev pub time_text : Bool → ℕ → ℕ → ℕ → ℕ → ℕ → List ℕ
 time_text negative days hours minutes seconds micros = sign_text negative ++
     (clock_text 3 (days * 24 + hours) minutes seconds ++ micros_text micros)
 
+-- the value, an all-zero time taken as positive unless its sign is kept
+abbrev pub with_zero_sign : Bool → Value → Value
+with_zero_sign kept (Time negative days hours minutes seconds micros) =
+    Time (negative && (kept || not (is_zero_time days hours minutes seconds micros))) days hours minutes seconds micros
+with_zero_sign kept NULL = NULL
+with_zero_sign kept (Bytes bytes) = Bytes bytes
+with_zero_sign kept (Int z) = Int z
+with_zero_sign kept (UInt n) = UInt n
+with_zero_sign kept (Float bits) = Float bits
+with_zero_sign kept (Double bits) = Double bits
+with_zero_sign kept (Date year month day hour minute second micros) = Date year month day hour minute second micros
+
 -- the value with an all-zero time taken as positive
 abbrev pub without_zero_sign : Value → Value
-without_zero_sign (Time negative days hours minutes seconds micros) =
-    Time (negative && not (is_zero_time days hours minutes seconds micros)) days hours minutes seconds micros
-without_zero_sign NULL = NULL
-without_zero_sign (Bytes bytes) = Bytes bytes
-without_zero_sign (Int z) = Int z
-without_zero_sign (UInt n) = UInt n
-without_zero_sign (Float bits) = Float bits
-without_zero_sign (Double bits) = Double bits
-without_zero_sign (Date year month day hour minute second micros) = Date year month day hour minute second micros
+without_zero_sign value = with_zero_sign false value
 
 -- what such a value means
 abbrev pub plain_content : Value → Option Content

@@ -1,7 +1,7 @@
 //! The SQL text of a value.
 
 ghost use Rattle.mysql_cells.specs.AsSql.{EachSqlIsLiteral, HasLiteral, PutsSql, SqlIsLiteral};
-ghost use Rattle.mysql_cells.specs.Values.{literal_of, sql_of, without_zero_sign};
+ghost use Rattle.mysql_cells.specs.Values.{literal_of, sql_of, with_zero_sign};
 ghost use Rattle.mysql_cells.specs.declared.as_sql.AsSqlError.TheVariants as as_sql_error;
 ghost use Rattle.std.specs.Prelude.{◌≡◌, ◌++◌, ◌↔◌, Err, IfOk, IsSomeAnd, None, OnErr, OnOk, Some, string_bytes};
 
@@ -17,7 +17,7 @@ use thiserror::Error;
 #[derive(Clone, Copy, Debug, PartialEq, Eq, Error)]
 pub enum AsSqlError {
     /// The value is a float.
-    #[error("a float has no text here")]
+    #[error("a float has no text here: convert it to a text")]
     Float,
     #[error("out of memory")]
     Memory,
@@ -39,10 +39,42 @@ impl<T: Drop> From<AllocFailed<T>> for AsSqlError {
     }
 }
 
-/// Appends the SQL text of a value; a refusal may leave a part of it behind.
-fn put_value(out: &mut Vec<u8>, value: &Value, no_backslash_escape: bool) -> Result<(), AsSqlError>
-    ensures { PutsSql (sql_of no_backslash_escape value.now) out.old.items out.new.items result }
+/// With backslash escapes the SQL text of a value is a literal of what the value means.
+pub fn sql_text_is_a_literal()
+    ensures { EachSqlIsLiteral }
 {
+    content_of_a_spelling();
+}
+
+/// The SQL text of a value is a literal of what it means, and so is the literal that is bound for it.
+fn text_is_a_literal(value: &Value)
+    ensures plain { SqlIsLiteral value.now }
+    ensures literal { HasLiteral value.now }
+{
+    sql_text_is_a_literal();
+    fields_fit(value);
+}
+
+/// Appends the SQL text of a value, the sign of an all-zero time only where it is kept. A refusal
+/// may leave a part behind.
+///
+/// # Errors
+/// - `Float` for a float: nothing is appended then.
+/// - `Memory`
+///
+/// Follows the MySQL Reference Manual, "Literal Values".
+pub fn put_sql(
+    out: &mut Vec<u8>,
+    value: &Value,
+    no_backslash_escape: bool,
+    zero_sign: bool,
+) -> Result<(), AsSqlError>
+    ensures text { PutsSql (sql_of no_backslash_escape (with_zero_sign zero_sign value.now))
+        out.old.items out.new.items result }
+    ensures plain { SqlIsLiteral value.now }
+    ensures literal { HasLiteral value.now }
+{
+    text_is_a_literal(value);
     match value {
         Value::NULL => out.extend_from_slice(b"NULL")?,
         Value::Bytes(bytes) => put_bytes(out, bytes.as_slice(), no_backslash_escape)?,
@@ -53,17 +85,12 @@ fn put_value(out: &mut Vec<u8>, value: &Value, no_backslash_escape: bool) -> Res
             put_date(out, *year, *month, *day, *hour, *minute, *second, *micros)?
         }
         Value::Time(negative, days, hours, minutes, seconds, micros) => {
-            put_time(out, *negative, *days, *hours, *minutes, *seconds, *micros)?
+            let zero = is_zero_time(*days, *hours, *minutes, *seconds, *micros);
+            let signed = *negative && (zero_sign || !zero);
+            put_time(out, signed, *days, *hours, *minutes, *seconds, *micros)?
         }
     }
     Ok(())
-}
-
-/// With backslash escapes the SQL text of a value is a literal of what the value means.
-pub fn sql_text_is_a_literal()
-    ensures { EachSqlIsLiteral }
-{
-    content_of_a_spelling();
 }
 
 /// Appends the literal of a value: its SQL text with backslash escapes, an all-zero time without
@@ -82,18 +109,8 @@ pub fn push_literal(out: &mut Vec<u8>, value: &Value) -> Result<(), AsSqlError>
     ensures err { OnErr result (out.new.items ≡ out.old.items) }
     ensures literal { HasLiteral value.now }
 {
-    sql_text_is_a_literal();
-    fields_fit(value);
     let start = out.len();
-    let put = match value {
-        Value::Time(negative, days, hours, minutes, seconds, micros) => {
-            let signed = *negative && !is_zero_time(*days, *hours, *minutes, *seconds, *micros);
-            put_time(out, signed, *days, *hours, *minutes, *seconds, *micros).map_err(
-                AsSqlError::from,
-            )
-        }
-        _ => put_value(out, value, false),
-    };
+    let put = put_sql(out, value, false, false);
     if put.is_err() {
         out.truncate(start);
     }
@@ -123,10 +140,9 @@ impl Value {
         ensures float { (result ≡ Err AsSqlError.Float) ↔ (sql_of no_backslash_escape self.now ≡ None) }
         ensures literal { SqlIsLiteral self.now }
     {
-        sql_text_is_a_literal();
         fields_fit(self);
         let mut text = Vec::new(alloc);
-        put_value(&mut text, self, no_backslash_escape)?;
+        put_sql(&mut text, self, no_backslash_escape, true)?;
         Ok(unsafe { String::from_utf8_unchecked(text) })
     }
 }

@@ -2,11 +2,10 @@
 
 ghost use Rattle.mysql_cells.specs.AsSql.{FitsFields};
 ghost use Rattle.mysql_cells.specs.CellLaws.{CellLength, CellsReadBack, ReadBackMeansTheSame};
-ghost use Rattle.mysql_buf.specs.Bytes.{AreBytes};
 ghost use Rattle.std.specs.List.{AllByRecursion};
-ghost use Rattle.std.specs.Prelude.{◌<◌, ◌^◌, length};
 
 use crate::value::Value;
+use mysql_buf::laws::are_bytes;
 
 /// A cell has the length that `Value::bin_len` counts.
 pub fn cells_have_lengths()
@@ -22,16 +21,9 @@ pub fn cells_read_back()
     ensures content { ReadBackMeansTheSame }
 {}
 
-/// A slice holds bytes, fewer than 2^64.
-fn are_bytes(bytes: &[u8])
-    ensures bytes { AreBytes bytes.now }
-    ensures length { length bytes.now < 2 ^ 64 }
-{
-    let _first = bytes.first();
-    let _length = bytes.len();
-}
-
 /// Each number of a value fits its field.
+///
+/// It only reads: compiled with optimizations, nothing is left of it.
 pub fn fields_fit(value: &Value)
     ensures { FitsFields value.now }
 {
@@ -62,6 +54,8 @@ pub fn fields_fit(value: &Value)
 }
 
 /// Each number of each value fits its field.
+///
+/// It only reads: compiled with optimizations, nothing is left of its loop.
 pub fn all_fields_fit(values: &[Value])
     ensures { AllByRecursion (λ value. FitsFields value) values.now }
 {

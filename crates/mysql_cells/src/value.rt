@@ -1,6 +1,7 @@
 //! Values of the client/server protocol.
 
-ghost use Rattle.std.specs.Prelude.{◌≡◌, IfOk};
+ghost use Rattle.std.specs.Prelude.{◌≡◌, IfOk, is_none};
+ghost use Rattle.mysql_cells.specs.Values.{content_of};
 
 use mysql_queries::ByteString;
 use std::alloc::{AllocError, Global};
@@ -28,6 +29,13 @@ pub enum Value {
     Date(u16, u8, u8, u8, u8, u8, u32),
     /// Whether negative, days, hours, minutes, seconds, microseconds.
     Time(bool, u32, u8, u8, u8, u32),
+}
+
+/// Whether a value is a float, which has no content and no text in a query.
+pub fn is_float(value: &Value) -> bool
+    ensures { result ≡ is_none (content_of value.now) }
+{
+    matches!(value, Value::Float(_) | Value::Double(_))
 }
 
 impl Value {

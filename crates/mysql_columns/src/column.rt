@@ -1,9 +1,12 @@
-//! Column packets.
+//! Columns of result sets and of prepared statements: a type, names and flags, read and written.
+//!
+//!     let column: Column = ParseBuf(payload).parse(alloc, ())?;
+//!     let name = column.name_str(alloc)?;
+//!     let made = Column::new(alloc, ColumnType::MYSQL_TYPE_LONG).with_name(b"id")?;
 
 ghost use Rattle.std.specs.Prelude.{◌≡◌, [], IfOk, IsOkUnless, None, true};
 ghost use Rattle.std.specs.Cow.{cow_str_bytes};
-ghost use Rattle.std.specs.Str.{encode_utf8_all};
-ghost use Rattle.bstr.specs.Utf8.{lossy_chars};
+ghost use Rattle.mysql_fields.specs.Texts.{lossy_text};
 ghost use Rattle.mysql_fields.specs.Laws.{unsized};
 ghost use Rattle.mysql_fields.specs.Wire.{TellsPart};
 ghost use Rattle.mysql_fields.specs.declared.error.WireError.TheVariants as wire;
@@ -14,14 +17,13 @@ ghost use Rattle.mysql_columns.specs.Columns.{names_in};
 ghost use Rattle.mysql_columns.specs.Views.{column_view, fields_view, names_view};
 
 use crate::headers::{ColumnDefinitionCatalog, FixedLengthFieldsLen};
-use crate::texts::{LenencText, lossy, text_of};
 use bitflags::Flags;
 use mysql_buf::ParseBuf;
 use mysql_const::{ColumnFlags, ColumnType};
 use mysql_field_constants::{Const, Skip};
 use mysql_fields::{
-    LeU16, LeU32, MyDeserialize, MySerialize, ParseExt, RawInt, Readable, ReadsBack, WireError,
-    in_order,
+    LeU16, LeU32, LenEnc, MyDeserialize, MySerialize, ParseExt, RawBytes, RawInt, Readable,
+    ReadsBack, WireError, in_order, lossy_text, read_lenenc_text,
 };
 use std::alloc::{AllocError, Global};
 use std::borrow::CowStr;
@@ -182,9 +184,9 @@ impl Column {
     pub fn schema_str(&self, alloc: Global) -> Result<CowStr<'_>, WireError>
         ensures memory { IsOkUnless result wire.Memory }
         ensures value { IfOk result (λ text. cow_str_bytes text ≡
-            encode_utf8_all (lossy_chars (column_view self.now).schema)) }
+            lossy_text (column_view self.now).schema) }
     {
-        lossy(alloc, self.schema_ref())
+        lossy_text(alloc, self.schema_ref())
     }
 
     /// The name of its table in the query, as bytes.
@@ -201,9 +203,9 @@ impl Column {
     pub fn table_str(&self, alloc: Global) -> Result<CowStr<'_>, WireError>
         ensures memory { IsOkUnless result wire.Memory }
         ensures value { IfOk result (λ text. cow_str_bytes text ≡
-            encode_utf8_all (lossy_chars (column_view self.now).table)) }
+            lossy_text (column_view self.now).table) }
     {
-        lossy(alloc, self.table_ref())
+        lossy_text(alloc, self.table_ref())
     }
 
     /// The name of its table in the schema, as bytes.
@@ -220,9 +222,9 @@ impl Column {
     pub fn org_table_str(&self, alloc: Global) -> Result<CowStr<'_>, WireError>
         ensures memory { IsOkUnless result wire.Memory }
         ensures value { IfOk result (λ text. cow_str_bytes text ≡
-            encode_utf8_all (lossy_chars (column_view self.now).org_table)) }
+            lossy_text (column_view self.now).org_table) }
     {
-        lossy(alloc, self.org_table_ref())
+        lossy_text(alloc, self.org_table_ref())
     }
 
     /// Its name in the query, as bytes.
@@ -239,9 +241,9 @@ impl Column {
     pub fn name_str(&self, alloc: Global) -> Result<CowStr<'_>, WireError>
         ensures memory { IsOkUnless result wire.Memory }
         ensures value { IfOk result (λ text. cow_str_bytes text ≡
-            encode_utf8_all (lossy_chars (column_view self.now).name)) }
+            lossy_text (column_view self.now).name) }
     {
-        lossy(alloc, self.name_ref())
+        lossy_text(alloc, self.name_ref())
     }
 
     /// Its name in the table, as bytes.
@@ -258,9 +260,9 @@ impl Column {
     pub fn org_name_str(&self, alloc: Global) -> Result<CowStr<'_>, WireError>
         ensures memory { IsOkUnless result wire.Memory }
         ensures value { IfOk result (λ text. cow_str_bytes text ≡
-            encode_utf8_all (lossy_chars (column_view self.now).org_name)) }
+            lossy_text (column_view self.now).org_name) }
     {
-        lossy(alloc, self.org_name_ref())
+        lossy_text(alloc, self.org_name_ref())
     }
 
     /// The number of its character set's collation.
@@ -350,11 +352,11 @@ impl<'a> MySerialize for Names<'a> {
     ghost written = { λ n. column_names (names_view n) };
 
     fn serialize(&self, buf: &mut Vec<u8>) -> Result<(), AllocError> {
-        let schema = LenencText(self.schema);
-        let table = LenencText(self.table);
-        let org_table = LenencText(self.org_table);
-        let name = LenencText(self.name);
-        let org_name = LenencText(self.org_name);
+        let schema: RawBytes<LenEnc> = RawBytes::from(self.schema);
+        let table: RawBytes<LenEnc> = RawBytes::from(self.table);
+        let org_table: RawBytes<LenEnc> = RawBytes::from(self.org_table);
+        let name: RawBytes<LenEnc> = RawBytes::from(self.name);
+        let org_name: RawBytes<LenEnc> = RawBytes::from(self.org_name);
         in_order!(schema, table, org_table, name, org_name).serialize(buf)
     }
 }
@@ -363,11 +365,11 @@ impl<'a> MySerialize for Names<'a> {
 fn names_of<'a>(buf: &mut ParseBuf<'a>) -> Result<Names<'a>, WireError>
     ensures { TellsPart names_view buf.new.0.now result (column_names_at buf.old.0.now) }
 {
-    let schema = text_of(buf)?;
-    let table = text_of(buf)?;
-    let org_table = text_of(buf)?;
-    let name = text_of(buf)?;
-    let org_name = text_of(buf)?;
+    let schema = read_lenenc_text(buf)?;
+    let table = read_lenenc_text(buf)?;
+    let org_table = read_lenenc_text(buf)?;
+    let name = read_lenenc_text(buf)?;
+    let org_name = read_lenenc_text(buf)?;
     Ok(Names {
         schema,
         table,
@@ -503,6 +505,20 @@ impl ReadsBack for Column {
 /// MySQL: Client/Server Protocol, "Column Definition".
 #[tactic(auto, unfolding(crate::specs::Columns::column_at))]
 impl<'de> MyDeserialize<'de> for Column {
+    // Protocol::ColumnDefinition41:
+    //   string<lenenc>  catalog, always "def"
+    //   string<lenenc>  schema
+    //   string<lenenc>  table, its name in the query
+    //   string<lenenc>  org_table
+    //   string<lenenc>  name, that of the column in the query
+    //   string<lenenc>  org_name
+    //   int<lenenc>     length of fixed length fields, always 0c
+    //   int<2>          character_set
+    //   int<4>          column_length
+    //   int<1>          type
+    //   int<2>          flags
+    //   int<1>          decimals
+    //   int<2>          reserved
     fn deserialize(alloc: Global, _ctx: (), buf: &mut ParseBuf<'de>) -> Result<Column, WireError> {
         let mut rest = *buf;
         let _catalog: ColumnDefinitionCatalog = rest.parse(alloc, ())?;

@@ -4,7 +4,6 @@
 pub mod column;
 pub mod headers;
 pub mod laws;
-mod texts;
 
 pub use column::Column;
 pub use headers::{

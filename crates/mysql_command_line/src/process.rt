@@ -16,9 +16,10 @@ fn read_words<R: Env + Alloc<A = Global>>(rt: &R) -> io::Result<Vec<String>> {
     Ok(words)
 }
 
-/// Runs the program over a process, and answers its exit status: [`run`] over its words, its
-/// standard input and its standard output. Words that are no texts print `usage`, and where there
-/// is no memory for them `refused: Memory`.
+/// Runs the program over a process, and answers its exit status.
+///
+/// It is [`run`] over the process's words, its standard input and its standard output. Words that
+/// are no texts print `usage`, and where there is no memory for them `refused: Memory`.
 pub fn run_process<R: Env + Alloc<A = Global> + Input + Print>(rt: &R) -> ExitCode {
     let mut output = io::writer(rt);
     let status = match read_words(rt) {

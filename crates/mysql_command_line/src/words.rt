@@ -26,7 +26,7 @@ pub(crate) enum Task<'a> {
     Encode(Road, Statement<'a>),
     /// What a stream of commands says, line by line.
     Audit(Statement<'a>),
-    /// The same, as the stream comes.
+    /// What a stream of commands says, line by line, as the stream comes.
     Follow(Statement<'a>),
     /// A stream of commands as executions.
     Recode(Statement<'a>),

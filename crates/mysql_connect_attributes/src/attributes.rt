@@ -1,4 +1,7 @@
-//! The attributes of a connection.
+//! The attributes of a connection: texts by keys, such as the client's name and version.
+//!
+//!     let attributes = ConnectAttributes::from_texts(alloc, texts)?;
+//!     attributes.serialize(&mut payload)?;
 
 ghost use Rattle.std.specs.Prelude.{◌≡◌, IfOk, IfSome, List, None, [], length, map, IsOkUnless};
 ghost use Rattle.std.specs.Cow.{cow_slice_items};
@@ -29,6 +32,10 @@ use std::borrow::CowSlice;
 ///
 /// Reading is refused by `UnexpectedEof` where the total or the bytes that it counts are cut off,
 /// or where an attribute doesn't end within them, and by `Memory`.
+///
+/// Promise: each key that is read stands once, in its first place and with its last value; its
+/// bytes are a function of its pairs, and each direction stands by itself (`attributes`,
+/// `attributes_at`).
 #[derive(Debug, PartialEq, Eq, Drop)]
 pub struct ConnectAttributes<'a> {
     entries: IndexMap<RawBytes<'a, LenEnc>, RawBytes<'a, LenEnc>>,
@@ -274,6 +281,11 @@ impl<'a> Readable for ConnectAttributes<'a> {
 
 #[tactic(auto, unfolding(crate::specs::Attributes::attributes_at))]
 impl<'de> MyDeserialize<'de> for ConnectAttributes<'de> {
+    // Connection attributes of Protocol::HandshakeResponse41:
+    //   int<lenenc>  length of all keys and values
+    //   for each, to the end of these bytes:
+    //     string<lenenc>  key
+    //     string<lenenc>  value
     fn deserialize(
         alloc: Global,
         _ctx: (),

@@ -45,6 +45,8 @@ impl<'x, T: MySerialize> MySerialize for IfHeld<'x, T> {
 
 /// A part of a packet that is read where it stands there, and else takes no byte.
 ///
+/// Promise: the part is read exactly where it stands there, and else takes no byte (`if_there`).
+///
 /// # Errors
 /// - Those of the part's own reading.
 ///

@@ -9,7 +9,7 @@ pub mod errors;
 mod integers;
 pub mod intermediates;
 pub mod laws;
-mod numbers;
+pub mod numbers;
 mod texts;
 
 pub use conversion::{FromValue, Intermediate, from_value, from_value_opt, get_intermediate};

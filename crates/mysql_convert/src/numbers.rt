@@ -1,4 +1,4 @@
-//! Whole numbers that values hold.
+//! Whole numbers that values and texts hold, and the integer types that they are narrowed to.
 
 ghost use Rattle.std.specs.Prelude.{◌≡◌, ◌^◌, ◌≤◌, IfErr, IfNone, IfOk, IfSome, IsSomeAnd, Option, Some, None, length};
 ghost use Rattle.std.specs.Prelude.{pos, unsigned_abs, ℕ, ℤ};
@@ -25,7 +25,8 @@ pub struct Number {
 
 impl Number {
     /// A number with a sign.
-    fn of_signed(number: i64) -> Number
+    #[inline(always)]
+    pub fn of_signed(number: i64) -> Number
         ensures { signed result.negative result.magnitude ≡ number }
     {
         Number {
@@ -35,7 +36,8 @@ impl Number {
     }
 
     /// A number without a sign.
-    fn of_unsigned(number: u64) -> Number
+    #[inline(always)]
+    pub fn of_unsigned(number: u64) -> Number
         ensures { signed result.negative result.magnitude ≡ pos number }
     {
         Number {
@@ -45,6 +47,7 @@ impl Number {
     }
 
     /// The number as an `i128`, if it fits.
+    #[inline(always)]
     pub(crate) fn to_i128(self) -> Option<i128>
         ensures { result ≡ signed_in 128 (signed self.negative self.magnitude) }
     {
@@ -60,6 +63,7 @@ impl Number {
     }
 
     /// The number as a `u128`, if it fits.
+    #[inline(always)]
     pub(crate) fn to_u128(self) -> Option<u128>
         ensures { result ≡ unsigned_in 128 (signed self.negative self.magnitude) }
     {
@@ -202,9 +206,11 @@ fn value_number(value: &Value) -> Option<Number>
     }
 }
 
-/// The number of an integer type that a text holds.
+/// The number of an integer type that a text holds: an optional sign and digits.
+///
+/// (MySQL Reference Manual, "Numeric Literals".)
 #[inline(never)]
-fn text_integer<T: Integer>(text: &[u8]) -> Option<T>
+pub fn text_integer<T: Integer>(text: &[u8]) -> Option<T>
     ensures { result ≡ option_and_then T.narrowed (number_of_text text.now) }
 {
     T::narrow(text_number(text)?)

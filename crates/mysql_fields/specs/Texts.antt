@@ -3,6 +3,8 @@
 -- A reading takes bytes from the front: x.0 is what was read and x.1 the bytes left; the first refusal counts.
 use Rattle.std.specs.Prelude.{◌^◌, ◌-◌, ℕ, nat_lt, if◌then◌else◌, List, [], ◌∷◌, ◌++◌, length, replicate, take, Ok, Err}
 use Rattle.std.specs.List.{after_first, before_first, position_or_len}
+use Rattle.std.specs.Str.{encode_utf8_all}
+use Rattle.bstr.specs.Utf8.{lossy_chars}
 use Rattle.mysql_buf.specs.Reading.{is_zero, lenenc_str_at, then_at, u8_str_at, u32_str_at}
 use Rattle.mysql_buf.specs.Reading as buffer
 use Rattle.mysql_buf.specs.Varlen.{varlen, varlen_at}
@@ -52,3 +54,7 @@ fixed_text n text = take n (text ++ replicate n 0)
 
 abbrev pub fixed_text_at : ℕ → List ℕ → Reading (List ℕ)
 fixed_text_at n bytes = bytes_at n bytes
+
+-- bytes as text in UTF-8, where those that aren't are replaced
+abbrev pub lossy_text : List ℕ → List ℕ
+lossy_text bytes = encode_utf8_all (lossy_chars bytes)

@@ -2,12 +2,14 @@
 #![tactic(auto)]
 
 mod compared;
+mod copies;
 mod error;
 mod int;
 mod io;
 mod plain;
 mod texts;
 
+pub use crate::copies::{copy_bytes, lossy_text, own_bytes, read_lenenc_text};
 pub use crate::error::{InvalidLengthEncodedInteger, WireError};
 pub use crate::int::{
     IntRepr, LeI16, LeI24, LeI32, LeI56, LeI64, LeU16, LeU24, LeU32, LeU32LowerHalf,

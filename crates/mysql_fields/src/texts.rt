@@ -4,21 +4,20 @@ ghost use Rattle.std.specs.Prelude.{◌≡◌, ◌==◌, ◌-◌, ◌<◌, ◌^�
 ghost use Rattle.std.specs.Prelude.{false, length, ℕ, ⊤};
 ghost use Rattle.std.specs.Cow.{cow_slice_items, cow_str_bytes};
 ghost use Rattle.std.specs.List.{before_first};
-ghost use Rattle.std.specs.Str.{encode_utf8_all};
-ghost use Rattle.bstr.specs.Utf8.{lossy_chars};
 ghost use Rattle.mysql_buf.specs.Reading.{is_zero};
 ghost use Rattle.mysql_buf.specs.Writing.{front, lenenc_str, u8_str, u32_str};
 ghost use Rattle.mysql_fields.specs.Laws.{unsized};
 ghost use Rattle.mysql_fields.specs.TextLaws.{all-back, bare_at-back, fixed_text_at-back, fixed_text_at-sized};
 ghost use Rattle.mysql_fields.specs.TextLaws.{lenenc_text_at-back, null_text_at-back, u32_text_at-back};
 ghost use Rattle.mysql_fields.specs.TextLaws.{u8_text_at-back, varlen_text_at-back};
-ghost use Rattle.mysql_fields.specs.Texts.{bare_at, fixed_text, fixed_text_at, lenenc_text_at, null_text, null_text_at};
+ghost use Rattle.mysql_fields.specs.Texts.{bare_at, fixed_text, fixed_text_at, lenenc_text_at, lossy_text};
+ghost use Rattle.mysql_fields.specs.Texts.{null_text, null_text_at};
 ghost use Rattle.mysql_fields.specs.Texts.{u32_text_at, u8_text_at, varlen_text, varlen_text_at};
 ghost use Rattle.mysql_fields.specs.declared.error.WireError.TheVariants.{Memory};
 ghost use Rattle.mysql_fields.specs.Wire.{Appends, IsSized, Reading, Suffices, Tells};
 
+use crate::copies::{copy_bytes, lossy_text, own_bytes};
 use crate::{LenEnc, MyDeserialize, MySerialize, Readable, ReadsBack, VarLen, WireError};
-use bstr::ByteSlice;
 use mysql_buf::{BufMutExt, ParseBuf, front_of, read_varlen_uint, write_varlen_uint};
 use std::alloc::{AllocError, Global};
 use std::borrow::{CowSlice, CowStr};
@@ -122,9 +121,9 @@ impl<'a, T: BytesRepr> RawBytes<'a, T> {
     pub fn as_str(&self, alloc: Global) -> Result<CowStr<'_>, WireError>
         ensures memory { IfErr result (λ e. e ≡ Memory) }
         ensures text { IfOk result (λ text. cow_str_bytes text ≡
-            encode_utf8_all (lossy_chars (front (cow_slice_items self.now.0) T.MAX_LEN))) }
+            lossy_text (front (cow_slice_items self.now.0) T.MAX_LEN)) }
     {
-        Ok(self.as_bytes().to_str_lossy(alloc)?)
+        lossy_text(alloc, self.as_bytes())
     }
 
     /// The text in bytes of its own.
@@ -134,8 +133,7 @@ impl<'a, T: BytesRepr> RawBytes<'a, T> {
     pub fn into_owned(self, alloc: Global) -> Result<RawBytes<'static, T>, AllocError>
         ensures { IfOk result (λ owned. cow_slice_items owned.0 ≡ cow_slice_items self.entry.0) }
     {
-        let bytes = self.0.into_owned(alloc)?;
-        Ok(RawBytes(CowSlice::Owned(bytes), PhantomData))
+        Ok(RawBytes(own_bytes(alloc, self.0)?, PhantomData))
     }
 
     /// A copy of the text, which borrows nothing.
@@ -145,8 +143,7 @@ impl<'a, T: BytesRepr> RawBytes<'a, T> {
     pub fn clone(&self, alloc: Global) -> Result<RawBytes<'static, T>, AllocError>
         ensures { IfOk result (λ copy. cow_slice_items copy.0 ≡ cow_slice_items self.now.0) }
     {
-        let bytes = Vec::from_slice(alloc, self.0.as_slice())?;
-        Ok(RawBytes(CowSlice::Owned(bytes), PhantomData))
+        Ok(RawBytes(copy_bytes(alloc, self.0.as_slice())?, PhantomData))
     }
 }
 

@@ -72,6 +72,9 @@ impl ReadsBack for GnoInterval {
 
 #[tactic(auto, unfolding(crate::specs::Blocks::interval_at))]
 impl<'de> MyDeserialize<'de> for GnoInterval {
+    // An interval of a set:
+    //   int<8>  start
+    //   int<8>  end, the first number behind the interval
     fn deserialize(
         alloc: Global,
         _ctx: (),
@@ -263,6 +266,12 @@ impl<'a> Readable for Sid<'a> {
 ///
 /// MySQL: Client/Server Protocol, "COM_BINLOG_DUMP_GTID".
 impl<'de> MyDeserialize<'de> for Sid<'de> {
+    // A set of one source:
+    //   string[16]  SID, the source's UUID
+    //   int<8>      number of intervals
+    //   for each:
+    //     int<8>  start
+    //     int<8>  end
     fn deserialize(
         alloc: Global,
         _ctx: (),
@@ -278,6 +287,9 @@ impl<'de> MyDeserialize<'de> for Sid<'de> {
 /// Sets as the block of a request for the binary log: how many there are, and each in its turn.
 /// Where one of them has a tag the block is tagged, and each set has its tag after its length, 0
 /// where it has none.
+///
+/// Promise: it is written as exactly its bytes, read as exactly what stands there, and read back
+/// whatever follows where it has less than 2^32 bytes (`block_bytes`, `block_at`).
 ///
 /// MySQL: Client/Server Protocol, "COM_BINLOG_DUMP_GTID"; Source Code Documentation, "Gtid_set::encode".
 #[derive(Debug, PartialEq, Eq, Hash, Drop)]
@@ -456,6 +468,14 @@ fn sids_from<'de>(
 /// MySQL: Client/Server Protocol, "COM_BINLOG_DUMP_GTID"; Source Code Documentation, "Gtid_set::encode".
 #[tactic(auto, unfolding(crate::specs::Blocks::block_at))]
 impl<'de> MyDeserialize<'de> for SidBlock<'de> {
+    // The data of COM_BINLOG_DUMP_GTID:
+    //   int<8>  number of sets, in its low seven bytes; where its highest byte is 01 the sets have tags,
+    //           and their number is in its bytes 1 to 6
+    //   for each set:
+    //     string[16]  SID, the source's UUID
+    //     tag, in a block with tags: its length as a number of variable length, and its bytes
+    //     int<8>      number of intervals
+    //     int<8> start and int<8> end of each
     fn deserialize(
         alloc: Global,
         _ctx: (),

@@ -1,4 +1,6 @@
-//! Intervals of transaction numbers.
+//! Intervals of transaction numbers: from a start up to an end that is no part of it.
+//!
+//!     let interval = GnoInterval::check_and_new(1, 6)?;
 
 ghost use Rattle.std.specs.Prelude.{◌≡◌, MatchOption, None, Some};
 ghost use Rattle.mysql_gtid.specs.Intervals.{around_hyphen, ends_of, interval_between, interval_of, interval_text};

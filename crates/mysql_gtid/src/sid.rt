@@ -1,4 +1,7 @@
-//! Sets of global transaction identifiers of one source.
+//! Sets of global transaction identifiers of one source: its UUID, a tag, and intervals.
+//!
+//!     let sid = Sid::parse(alloc, "3e11fa47-71ca-11e1-9e33-c80aa9429562:1-5:7")?;
+//!     let intervals = sid.intervals();
 
 ghost use Rattle.std.specs.Prelude.{◌≡◌, ◌++◌, ◌∷◌, [], IfOk, IfErr, MatchOption, None, Some};
 ghost use Rattle.std.specs.List.{flat_map};
@@ -63,6 +66,9 @@ impl<'a> Sid<'a> {
     ///
     /// The intervals are `n` or `n-m`, and colons stand between all parts. A tag stands where what
     /// follows the UUID begins with no digit; numbers may begin with a plus.
+    ///
+    /// Promise: exactly the set is answered that the grammar of such texts gives, or its leftmost
+    /// fault (`sid_of`).
     ///
     /// # Errors
     /// What stands leftmost is refused:

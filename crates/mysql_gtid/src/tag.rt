@@ -1,4 +1,6 @@
-//! Tags of global transaction identifiers.
+//! Tags of global transaction identifiers: at most 32 letters, digits and underscores.
+//!
+//!     let tag = Tag::try_from("nightly")?;
 
 ghost use Rattle.std.specs.Prelude.{◌≡◌, IfOk, IfErr, MatchResult, Some, None, nat_eq, not, refl};
 ghost use Rattle.std.specs.Hash as fed;
@@ -121,6 +123,9 @@ impl<'a> Tag<'a> {
     pub const MAX_LEN: usize = 32;
 
     /// A tag of a text, which is moved and not copied.
+    ///
+    /// Promise: exactly the tags are taken, and each other text is refused by the first cause
+    /// (`tag_fault`).
     ///
     /// # Errors
     /// - `Empty`.

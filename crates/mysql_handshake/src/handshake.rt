@@ -1,4 +1,8 @@
-//! The initial handshake packet.
+//! The initial handshake packet: what a server says of itself when a connection is opened.
+//!
+//!     let greeting: HandshakePacket = ParseBuf(payload).parse(alloc, ())?;
+//!     let version = greeting.server_version_parsed();
+//!     let plugin = greeting.auth_plugin();
 
 ghost use Rattle.std.specs.Prelude.{[], ◌≡◌, ◌≤◌, IfOk, None, Ok, Some, length, IsOkUnless, false};
 ghost use Rattle.std.specs.Cow.{cow_slice_items, cow_str_bytes};
@@ -43,6 +47,10 @@ const SCRAMBLE_2_MAX_LEN: usize = 247;
 /// begins with.
 /// (MySQL: Client/Server Protocol, "Protocol::HandshakeV10"; MariaDB: "Connecting", 'Initial
 /// handshake packet'.)
+///
+/// Promise: its bytes are a function of its fields, and any bytes are read exactly as its layout
+/// says, with the first refusal from the left; each direction stands by itself (`handshake`,
+/// `handshake_at`).
 #[derive(Debug, PartialEq, Eq, Drop)]
 pub struct HandshakePacket<'a> {
     protocol_version: u8,
@@ -217,6 +225,9 @@ impl<'a> HandshakePacket<'a> {
 
     /// The version that the text begins with: three numbers of at most two, two and three digits,
     /// with dots between. A MariaDB server from 10 on may begin with 5.5.5.
+    ///
+    /// Promise: the version is the one that the server's text is by the definition, and None where
+    /// it is none (`IsVersion`).
     pub fn server_version_parsed(&self) -> Option<(u16, u16, u16)>
         ensures { IsTheOne (IsVersion (handshake_view self.now).server_version) result }
     {
@@ -325,6 +336,8 @@ impl<'a> HandshakePacket<'a> {
 
     /// The nonce: both scrambles, cut or padded with zeros to 20 bytes.
     ///
+    /// Promise: the nonce is the two scrambles as the definition joins them (`nonce_of`).
+    ///
     /// # Errors
     /// - `AllocError` for want of memory.
     pub fn nonce(&self, alloc: Global) -> Result<Vec<u8>, AllocError>
@@ -370,7 +383,7 @@ impl<'a> HandshakePacket<'a> {
         self.lent().into_owned(alloc)
     }
 
-    // The same packet, whose texts are lent.
+    // The packet with its texts borrowed from this one.
     fn lent(&self) -> HandshakePacket<'_>
         ensures { handshake_view result ≡ handshake_view self.now }
     {
@@ -491,7 +504,7 @@ impl<'a> Readable for HandshakePacket<'a> {
     }
 }
 
-// The first eight bytes.
+// Takes the first eight bytes.
 #[tactic(auto, unfolding(mysql_buf::specs::Reading::first))]
 fn eight_bytes(buf: &mut ParseBuf) -> Result<[u8; 8], WireError>
     ensures { Tells (λ bytes. bytes) buf.old.0.now buf.new.0.now result (bytes_at 8 buf.old.0.now) }
@@ -628,6 +641,22 @@ fn handshake_of<'a>(
 /// where a bit of the status has no name, and by `UnexpectedEof` where the second scramble is cut
 /// off.
 impl<'de> MyDeserialize<'de> for HandshakePacket<'de> {
+    // Protocol::HandshakeV10:
+    //   int<1>       protocol version
+    //   string<NUL>  server version
+    //   int<4>       thread id
+    //   string[8]    auth-plugin-data-part-1
+    //   int<1>       filler
+    //   int<2>       capability_flags_1, the lower half
+    //   int<1>       character_set
+    //   int<2>       status_flags
+    //   int<2>       capability_flags_2, the upper half
+    //   int<1>       auth_plugin_data_len
+    //   string[6]    reserved
+    //   int<4>       MariaDB's own capabilities
+    //   $length      auth-plugin-data-part-2, with CLIENT_SECURE_CONNECTION:
+    //                    max(13, auth_plugin_data_len - 8) bytes
+    //   string<NUL>  auth_plugin_name, with CLIENT_PLUGIN_AUTH; its zero may be missing
     fn deserialize(
         alloc: Global,
         _ctx: (),

@@ -1,4 +1,7 @@
-//! A client's answer to the handshake.
+//! A client's answer to the handshake: who logs in, by which plugin, to which database.
+//!
+//!     let answer: HandshakeResponse = ParseBuf(payload).parse(alloc, ())?;
+//!     let user = answer.user();
 
 ghost use Rattle.std.specs.Prelude.{◌≡◌, IfOk, None, map, option_map, IsOkUnless};
 ghost use Rattle.std.specs.Cow.{cow_slice_items};
@@ -41,6 +44,10 @@ use std::borrow::CowSlice;
 ///
 /// Reading is refused by `UnexpectedEof` where a part that the capabilities name is cut off, and by
 /// `Memory`. A plugin's name may end with the bytes.
+///
+/// Promise: its bytes are a function of its fields, and any bytes are read exactly as its layout
+/// says, with the first refusal from the left; each direction stands by itself (`response`,
+/// `response_at`).
 #[derive(Debug, PartialEq, Eq, Drop)]
 pub struct HandshakeResponse<'a> {
     request: SslRequest,
@@ -126,6 +133,9 @@ impl<'a> HandshakeResponse<'a> {
     /// a plugin and attributes are set where these are given, and else cleared. The collation is
     /// utf8mb4_general_ci (45) from version 5.5.3 on, else utf8mb3_general_ci (33). There are none
     /// of MariaDB's own capabilities.
+    ///
+    /// Promise: the capabilities are those that are handed in, with those of the parts set or
+    /// cleared (`marked_capabilities`).
     ///
     /// # Errors
     /// - `AllocError` for want of memory.
@@ -455,6 +465,22 @@ impl<'a> Readable for HandshakeResponse<'a> {
 }
 
 impl<'de> MyDeserialize<'de> for HandshakeResponse<'de> {
+    // Protocol::HandshakeResponse41:
+    //   int<4>       client_flag
+    //   int<4>       max_packet_size
+    //   int<1>       character_set
+    //   string[19]   filler
+    //   int<4>       MariaDB's own capabilities
+    //   string<NUL>  username
+    //   auth_response, by the capabilities:
+    //     string<lenenc>  with CLIENT_PLUGIN_AUTH_LENENC_CLIENT_DATA
+    //     int<1> length and so many bytes, with CLIENT_SECURE_CONNECTION
+    //     string<NUL>     else
+    //   string<NUL>  database, with CLIENT_CONNECT_WITH_DB
+    //   string<NUL>  client_plugin_name, with CLIENT_PLUGIN_AUTH; it may end with the packet
+    //   attributes, with CLIENT_CONNECT_ATTRS:
+    //     int<lenenc>  length of all keys and values
+    //     string<lenenc> key and string<lenenc> value, one after another
     fn deserialize(
         alloc: Global,
         _ctx: (),

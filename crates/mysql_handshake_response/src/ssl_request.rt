@@ -1,4 +1,7 @@
-//! The request for a secure connection.
+//! The request for a secure connection, which comes before the answer that logs in.
+//!
+//!     let request = SslRequest::new(capabilities, max_packet_size, character_set);
+//!     request.serialize(&mut payload)?;
 
 ghost use Rattle.std.specs.Prelude.{◌≡◌, Some, false};
 ghost use Rattle.mysql_fields.specs.Wire.{TellsPart};
@@ -20,6 +23,9 @@ use std::alloc::{AllocError, Global};
 /// "Connecting", "SSLRequest Packet".)
 ///
 /// Reading is refused by `UnexpectedEof` below 32 bytes. Bits that name no capability are dropped.
+///
+/// Promise: its bytes are a function of its fields, and any bytes are read exactly as its layout
+/// says, with the first refusal from the left (`ssl_request`, `ssl_request_at`).
 #[derive(Clone, Debug, PartialEq, Eq, Drop)]
 pub struct SslRequest {
     capabilities: CapabilityFlags,
@@ -157,6 +163,12 @@ impl ReadsBack for SslRequest {
 
 #[tactic(auto, using(crate::proofs::Rules::sizes))]
 impl<'de> MyDeserialize<'de> for SslRequest {
+    // Protocol::SSLRequest:
+    //   int<4>      client_flag
+    //   int<4>      max_packet_size
+    //   int<1>      character_set
+    //   string[19]  filler
+    //   int<4>      MariaDB's own capabilities
     fn deserialize(
         alloc: Global,
         _ctx: (),

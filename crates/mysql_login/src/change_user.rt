@@ -1,4 +1,8 @@
-//! The command that logs another user in.
+//! The command that logs another user in on an open connection.
+//!
+//!     let more = ComChangeUserMoreData::new(45).with_auth_plugin(Some(plugin));
+//!     let command = ComChangeUser::new().with_user(Some(name)).with_more_data(Some(more));
+//!     command.serialize(&mut payload)?;
 
 ghost use Rattle.std.specs.Prelude.{◌≡◌, [], IfOk, None, map, option_map};
 ghost use Rattle.std.specs.Cow.{cow_slice_items};
@@ -176,6 +180,12 @@ impl<'a> Readable for ComChangeUserMoreData<'a> {
 
 #[tactic(auto, unfolding(crate::specs::ChangedUsers::more_data_at))]
 impl<'de> MyDeserialize<'de> for ComChangeUserMoreData<'de> {
+    // COM_CHANGE_USER, behind the database:
+    //   int<2>       character set
+    //   string<NUL>  authentication plugin name, with CLIENT_PLUGIN_AUTH
+    //   attributes, with CLIENT_CONNECT_ATTRS:
+    //     int<lenenc>  length of all keys and values
+    //     string<lenenc> key and string<lenenc> value, one after another
     fn deserialize(
         alloc: Global,
         capabilities: CapabilityFlags,
@@ -203,6 +213,10 @@ impl<'de> MyDeserialize<'de> for ComChangeUserMoreData<'de> {
 /// Reading is refused by `BadConstant` where another command's number stands first, by `UnexpectedEof`
 /// where a part is cut off, and by `Memory`, in the order of the parts. Where no byte follows the
 /// database there is no more.
+///
+/// Promise: its bytes are a function of its fields, and any bytes are read exactly as its layout
+/// says, with the first refusal from the left; each direction stands by itself (`change_user`,
+/// `change_user_at`).
 #[derive(Debug, PartialEq, Eq, Drop)]
 pub struct ComChangeUser<'a> {
     user: RawBytes<'a, NullBytes>,
@@ -439,6 +453,13 @@ fn database_and_more<'de>(
 
 #[tactic(auto, unfolding(crate::specs::ChangedUsers::change_user_at))]
 impl<'de> MyDeserialize<'de> for ComChangeUser<'de> {
+    // COM_CHANGE_USER:
+    //   int<1>       command 11
+    //   string<NUL>  user
+    //   int<1>       length of auth-response
+    //   string<var>  auth-response
+    //   string<NUL>  database
+    //   ..           more data, where bytes follow
     fn deserialize(
         alloc: Global,
         capabilities: CapabilityFlags,

@@ -96,8 +96,9 @@ pub fn assert_writes<T: MySerialize + Drop>(
     assert_written_behind(assert, alloc, &value, bytes);
 }
 
-/// Asserts that a packet is written as these bytes, that they are read as a packet which is written
-/// as the same bytes, and that each prefix shorter than `len` is cut off.
+/// Asserts that a packet is written as these bytes, and read from them.
+///
+/// What is read is written as the same bytes, and each prefix shorter than `len` is cut off.
 pub fn assert_packet<'a, T: MySerialize + MyDeserialize<'a> + Readable<Ctx = ()> + Drop>(
     assert: &impl Assert,
     alloc: Global,

@@ -1,4 +1,7 @@
-//! Reading OK and EOF packets.
+//! Reads OK and EOF packets by their kind and the client's capabilities.
+//!
+//!     let read: OkPacketDeserializer<ResultSetTerminator> = ParseBuf(payload).parse(alloc, capabilities)?;
+//!     let packet = read.into_inner();
 
 ghost use Rattle.std.specs.Prelude.{◌≡◌, IfOk, None, false};
 ghost use Rattle.mysql_fields.specs.Laws.{unsized};
@@ -85,6 +88,9 @@ impl<'de, T: OkPacketKind> Readable for OkPacketDeserializer<'de, T> {
 ///
 /// MySQL: Client/Server Protocol, "OK_Packet" and "EOF_Packet".
 impl<'de, T: OkPacketKind> MyDeserialize<'de> for OkPacketDeserializer<'de, T> {
+    // OK_Packet or EOF_Packet:
+    //   int<1>  header: 00 for OK, fe for what ends rows or a stream
+    //   ..      what the kind has behind it (`parse_body`)
     fn deserialize(
         alloc: Global,
         capabilities: CapabilityFlags,

@@ -1,4 +1,4 @@
-//! The kinds of OK and EOF packets.
+//! The four kinds of OK and EOF packets: what stands behind the header of each, read and written.
 
 ghost use Rattle.std.specs.Prelude.{◌≡◌, List, Ok, [], ℕ};
 ghost use Rattle.mysql_fields.specs.Wire.{Appends, Reading, Tells};
@@ -86,6 +86,13 @@ impl OkPacketKind for CommonOkPacket {
 
     ghost reads_back = { ok_body-back };
 
+    // OK_Packet, behind its header:
+    //   int<lenenc>     affected_rows
+    //   int<lenenc>     last_insert_id
+    //   int<2>          status_flags
+    //   int<2>          warnings
+    //   string<lenenc>  info, where bytes follow
+    //   string<lenenc>  session state, with CLIENT_SESSION_TRACK and SERVER_SESSION_STATE_CHANGED in the status
     fn parse_body<'de>(
         alloc: Global,
         capabilities: CapabilityFlags,
@@ -129,6 +136,13 @@ impl OkPacketKind for ResultSetTerminator {
 
     ghost reads_back = { terminator_body-back };
 
+    // OK_Packet that ends rows, behind its header: the fields of an OK packet, of which the first two say nothing.
+    //   int<lenenc>     affected_rows
+    //   int<lenenc>     last_insert_id
+    //   int<2>          status_flags
+    //   int<2>          warnings
+    //   string<lenenc>  info, where bytes follow
+    //   string<lenenc>  session state, with CLIENT_SESSION_TRACK and SERVER_SESSION_STATE_CHANGED in the status
     fn parse_body<'de>(
         alloc: Global,
         capabilities: CapabilityFlags,
@@ -173,6 +187,9 @@ impl OkPacketKind for OldEofPacket {
 
     ghost reads_back = { λ _. eof_body-back };
 
+    // EOF_Packet, behind its header:
+    //   int<2>  warnings
+    //   int<2>  status_flags
     fn parse_body<'de>(
         alloc: Global,
         _capabilities: CapabilityFlags,

@@ -1,4 +1,7 @@
-//! OK packets.
+//! OK packets: how many rows a command changed, the last id, the server's state, and what it tells.
+//!
+//!     let packet = OkPacket::new(1, Some(7), status, 0, None, None);
+//!     packet.serialize_as::<CommonOkPacket>(capabilities, status, &mut payload)?;
 
 ghost use Rattle.std.specs.Prelude.{◌≡◌, IfOk, IsOkUnless, [], map, option_map};
 ghost use Rattle.std.specs.Cow.{cow_str_bytes};
@@ -44,6 +47,8 @@ pub fn has_more_results(status: StatusFlags) -> bool
 }
 
 /// Each bit of the status has a name. A packet with another bit is refused where it is read.
+///
+/// Promise: that is so exactly where reading takes the status (`is_named_status`).
 pub fn has_named_status(status: StatusFlags) -> bool
     ensures { result ≡ is_named_status status.0 }
 {

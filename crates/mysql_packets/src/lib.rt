@@ -21,6 +21,7 @@ pub use mysql_ok_packets::{
     CommonOkPacket, InvalidOkPacketHeader, NetworkStreamTerminator, OkPacket, OkPacketBody,
     OkPacketDeserializer, OkPacketKind, OldEofPacket, ResultSetTerminator, has_named_status,
 };
+pub use mysql_row_conversions::{RowExt, RowRefExt};
 pub use mysql_rows::{
     ColumnIndex, Row, RowDeserializer, RowRefusal, new_row, new_row_raw, write_binary_row,
     write_text_row,

@@ -18,11 +18,11 @@ mod given;
 #[cfg(test)]
 mod headers;
 #[cfg(test)]
-mod lent_rows;
-#[cfg(test)]
 mod memory;
 #[cfg(test)]
 mod ok_packets;
+#[cfg(test)]
+mod row_refs;
 #[cfg(test)]
 mod rows;
 #[cfg(test)]

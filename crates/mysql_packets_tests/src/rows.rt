@@ -7,7 +7,7 @@ use mysql_const::ColumnType;
 use mysql_convert::FromValueError;
 use mysql_field_lists::{ClientSide, ServerSide};
 use mysql_fields::{Binary, MyDeserialize, ParseExt, Readable, Text, WireError};
-use mysql_packets::Column;
+use mysql_packets::{Column, RowExt};
 use mysql_rows::{ColumnIndex, Row, RowDeserializer, new_row, new_row_raw};
 use mysql_values::ByteString;
 use std::alloc::{AllocError, Global};

@@ -1,14 +1,15 @@
-//! Rows that are kept, beside the same rows lent.
+//! Rows that are kept, beside the same rows read again.
 
-use crate::lent_rows::{NO_FLAG, TEXTS, WIDE_ROW, WIDTHS, columns_of, lent_text};
+use crate::row_refs::{NO_FLAG, TEXTS, WIDE_ROW, WIDTHS, columns_of, text_found};
 use crate::support::Asserting;
 use mysql_const::{ColumnFlags, ColumnType};
-use mysql_row_refs::{LentRow, RowFormat, RowLender, StoredRows, ValueRef};
+use mysql_packets::RowRefExt;
+use mysql_row_refs::{RowFormat, RowReader, RowRef, StoredRows, ValueRef};
 use std::alloc::{AllocError, Global};
 use tests_support::{Assert, assert_equal, once_more};
 
 /// Keeps a row. Where memory is refused nothing changes, and the row is kept once more.
-fn keep(assert: &impl Assert, stored: &mut StoredRows, row: &LentRow) {
+fn keep(assert: &impl Assert, stored: &mut StoredRows, row: &RowRef) {
     if row.len() != stored.columns_ref().len() {
         assert.holds(false);
         return;
@@ -24,12 +25,12 @@ fn keep(assert: &impl Assert, stored: &mut StoredRows, row: &LentRow) {
 /// Keeps each payload's row.
 fn keep_all(
     assert: &impl Assert,
-    lender: &mut RowLender,
+    reader: &mut RowReader,
     stored: &mut StoredRows,
     payloads: &[&[u8]],
 ) {
     for payload in payloads {
-        match lender.row(*payload) {
+        match reader.row(*payload) {
             Ok(row) => keep(assert, stored, &row),
             Err(_) => assert.holds(false),
         }
@@ -37,7 +38,7 @@ fn keep_all(
 }
 
 /// Asserts that two rows have the same cells.
-fn assert_same_cells(assert: &impl Assert, found: LentRow, wanted: LentRow) {
+fn assert_same_cells(assert: &impl Assert, found: RowRef, wanted: RowRef) {
     assert_equal(assert, found.len(), wanted.len());
     for index in 0..wanted.len() {
         assert.holds(found.as_ref(index) == wanted.as_ref(index));
@@ -47,14 +48,14 @@ fn assert_same_cells(assert: &impl Assert, found: LentRow, wanted: LentRow) {
 /// Asserts that the rows that are kept are those of the payloads, each looked at twice.
 fn assert_kept(
     assert: &impl Assert,
-    lender: &mut RowLender,
+    reader: &mut RowReader,
     stored: &StoredRows,
     payloads: &[&[u8]],
 ) {
     assert_equal(assert, stored.len(), payloads.len());
     assert_equal(assert, stored.is_empty(), payloads.is_empty());
     for (index, payload) in payloads.iter().enumerate() {
-        match (stored.row(index), stored.row(index), lender.row(*payload)) {
+        match (stored.row(index), stored.row(index), reader.row(*payload)) {
             (Some(found), Some(again), Ok(wanted)) => {
                 assert_same_cells(assert, found, wanted);
                 assert_same_cells(assert, again, wanted);
@@ -87,17 +88,17 @@ fn assert_stored(
     payloads: &[&[u8]],
 ) -> Result<(), AllocError> {
     let columns = columns_of(alloc, kinds)?;
-    let mut lender = RowLender::new(alloc, columns.clone()?, format)?;
+    let mut reader = RowReader::new(alloc, columns.clone()?, format)?;
     let mut stored = StoredRows::new(alloc, columns);
-    assert_kept(assert, &mut lender, &stored, &[]);
-    keep_all(assert, &mut lender, &mut stored, payloads);
-    assert_kept(assert, &mut lender, &stored, payloads);
+    assert_kept(assert, &mut reader, &stored, &[]);
+    keep_all(assert, &mut reader, &mut stored, payloads);
+    assert_kept(assert, &mut reader, &stored, payloads);
     assert_in_order(assert, &stored);
     stored.clear();
-    assert_kept(assert, &mut lender, &stored, &[]);
+    assert_kept(assert, &mut reader, &stored, &[]);
     assert_in_order(assert, &stored);
-    keep_all(assert, &mut lender, &mut stored, payloads);
-    assert_kept(assert, &mut lender, &stored, payloads);
+    keep_all(assert, &mut reader, &mut stored, payloads);
+    assert_kept(assert, &mut reader, &stored, payloads);
     Ok(())
 }
 
@@ -141,13 +142,13 @@ fn rows_without_cells(rt: HostRuntime) {
     once_more(&assert, first, second);
 }
 
-/// What keeps rows under the columns that a lent row shares; none where there is no row.
+/// What keeps rows under the columns that a row shares; none where there is no row.
 fn under_its_columns(
     alloc: Global,
-    lender: &mut RowLender,
+    reader: &mut RowReader,
     payload: &[u8],
 ) -> Result<Option<StoredRows>, AllocError> {
-    match lender.row(payload) {
+    match reader.row(payload) {
         Ok(row) => Ok(Some(StoredRows::new(alloc, row.columns()?))),
         Err(_) => Ok(None),
     }
@@ -156,21 +157,21 @@ fn under_its_columns(
 /// What stands in the columns of these names of each row.
 fn named(assert: &impl Assert, alloc: Global) -> Result<(), AllocError> {
     let columns = columns_of(alloc, &TEXTS)?;
-    let mut lender = RowLender::new(alloc, columns, RowFormat::Text)?;
-    let Some(mut stored) = under_its_columns(alloc, &mut lender, b"\x02hi\x01x\x017")? else {
+    let mut reader = RowReader::new(alloc, columns, RowFormat::Text)?;
+    let Some(mut stored) = under_its_columns(alloc, &mut reader, b"\x02hi\x01x\x017")? else {
         assert.holds(false);
         return Ok(());
     };
     keep_all(
         assert,
-        &mut lender,
+        &mut reader,
         &mut stored,
         &[b"\x02hi\x01x\x017", b"\x03abc\xfb\x0242"],
     );
     match (stored.row(0), stored.row(1)) {
         (Some(first), Some(second)) => {
-            assert.holds(lent_text(first.get_opt("a")) == b"hi".as_slice());
-            assert.holds(lent_text(second.get_opt("a")) == b"abc".as_slice());
+            assert.holds(text_found(first.get_opt("a")) == b"hi".as_slice());
+            assert.holds(text_found(second.get_opt("a")) == b"abc".as_slice());
             assert.holds(second.get("b") == Some(ValueRef::NULL));
             assert.holds(first.get_opt::<u64, usize>(2) == Some(Ok(7)));
             assert.holds(second.get_opt::<u64, usize>(2) == Some(Ok(42)));

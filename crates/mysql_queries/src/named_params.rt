@@ -16,7 +16,7 @@ use thiserror::Error;
 
 /// A query has both names and question marks as placeholders.
 #[derive(Clone, Copy, Debug, PartialEq, Eq, Hash, Error)]
-#[error("the query has both named and positional parameters")]
+#[error("the query has both named and positional parameters: use one kind")]
 pub struct MixedParamsError;
 
 /// Why a query is not parsed.

@@ -1,4 +1,7 @@
-//! The request for the binary log from a place.
+//! The request for the binary log from a place: a file, and a position in it.
+//!
+//!     let request = ComBinlogDump::new(server_id).with_pos(4).with_filename(name);
+//!     request.serialize(&mut payload)?;
 
 ghost use Rattle.std.specs.Prelude.{◌≡◌, [], IfOk, None, IsOkUnless, false};
 ghost use Rattle.std.specs.Cow.{cow_slice_items, cow_str_bytes};
@@ -25,6 +28,9 @@ use std::alloc::{AllocError, Global};
 use std::borrow::{CowSlice, CowStr};
 
 /// The request for the binary log from a position of a file; an empty name asks for the first file.
+///
+/// Promise: its bytes are a function of its fields, and any bytes are read exactly as its layout
+/// says, with the first refusal from the left (`binlog_dump`, `binlog_dump_at`).
 ///
 /// MySQL: Client/Server Protocol, "COM_BINLOG_DUMP".
 #[derive(Debug, PartialEq, Eq, Hash, Drop)]
@@ -204,6 +210,12 @@ fn fields_from<'de>(
 /// MySQL: Client/Server Protocol, "COM_BINLOG_DUMP".
 #[tactic(auto, unfolding(crate::specs::Packets::binlog_dump_at))]
 impl<'de> MyDeserialize<'de> for ComBinlogDump<'de> {
+    // COM_BINLOG_DUMP:
+    //   int<1>       command 12
+    //   int<4>       binlog-pos
+    //   int<2>       flags
+    //   int<4>       server-id
+    //   string<EOF>  binlog-filename
     fn deserialize(
         alloc: Global,
         _ctx: (),

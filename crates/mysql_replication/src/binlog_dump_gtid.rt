@@ -1,4 +1,7 @@
 //! The request for the binary log without the transactions that are known.
+//!
+//!     let request = ComBinlogDumpGtid::new(server_id).with_sid(alloc, sid)?;
+//!     request.serialize(&mut payload)?;
 
 ghost use Rattle.std.specs.Prelude.{◌≡◌, ◌^◌, ◌-◌, ◌++◌, ◌∷◌, [], Bool, IfOk, None, map, IsOkUnless};
 ghost use Rattle.std.specs.Cow.{cow_slice_items, cow_str_bytes};
@@ -33,6 +36,9 @@ use std::borrow::{CowSlice, CowStr};
 ///
 /// It has their sets, and a position of a file, of whose name at most 2^32 - 1 bytes are written.
 /// `BINLOG_THROUGH_GTID` is set exactly where there are sets.
+///
+/// Promise: its bytes are a function of its fields, and any bytes are read exactly as its layout
+/// says, with the first refusal from the left (`binlog_dump_gtid`, `binlog_dump_gtid_at`).
 ///
 /// MySQL: Client/Server Protocol, "COM_BINLOG_DUMP_GTID".
 #[derive(Debug, PartialEq, Eq, Hash, Drop)]
@@ -376,6 +382,15 @@ fn fields_from<'de>(
 /// MySQL: Client/Server Protocol, "COM_BINLOG_DUMP_GTID".
 #[tactic(auto, unfolding(crate::specs::Packets::binlog_dump_gtid_at))]
 impl<'de> MyDeserialize<'de> for ComBinlogDumpGtid<'de> {
+    // COM_BINLOG_DUMP_GTID:
+    //   int<1>       command 1e
+    //   int<2>       flags
+    //   int<4>       server-id
+    //   int<4>       binlog-filename-len
+    //   string<var>  binlog-filename
+    //   int<8>       binlog-pos
+    //   int<4>       data-size
+    //   string<var>  data: a block of sets of identifiers
     fn deserialize(
         alloc: Global,
         _ctx: (),

@@ -1,4 +1,7 @@
 //! A request for the binary log, whichever packet carries it.
+//!
+//!     let request = BinlogRequest::new(alloc, server_id).with_use_gtid(true).with_sids(sids);
+//!     let packet = request.as_cmd();
 
 ghost use Rattle.std.specs.Prelude.{◌≡◌, [], false, IfOk, map, IsOkUnless};
 ghost use Rattle.std.specs.Cow.{cow_slice_items, cow_str_bytes};
@@ -166,6 +169,8 @@ impl<'a> BinlogRequest<'a> {
     ///
     /// By transactions it carries all of it, else the low 32 bits of the position, the name, and of
     /// the flags `BINLOG_DUMP_NON_BLOCK` alone.
+    ///
+    /// Promise: the packet is exactly the one that the fields say (`packet_of`).
     pub fn as_cmd(&self) -> Either<ComBinlogDump<'_>, ComBinlogDumpGtid<'_>>
         ensures { either_shown binlog_dump_view binlog_dump_gtid_view result ≡ packet_of (request_view self.now) }
     {

@@ -1,4 +1,7 @@
-//! What a replica says of itself.
+//! What a replica says of itself before it asks for the binary log.
+//!
+//!     let packet = ComRegisterSlave::new(server_id).with_hostname(host).with_port(3306);
+//!     packet.serialize(&mut payload)?;
 
 ghost use Rattle.std.specs.Prelude.{◌≡◌, [], IfOk, None, IsOkUnless, false};
 ghost use Rattle.std.specs.Cow.{cow_slice_items, cow_str_bytes};
@@ -24,6 +27,9 @@ use std::alloc::{AllocError, Global};
 use std::borrow::{CowSlice, CowStr};
 
 /// What a replica says of itself before it asks for the binary log. Of each name at most 255 bytes are written.
+///
+/// Promise: its bytes are a function of its fields, and any bytes are read exactly as its layout
+/// says, with the first refusal from the left (`register_slave`, `register_slave_at`).
 ///
 /// MySQL: Client/Server Protocol, "COM_REGISTER_SLAVE".
 #[derive(Debug, PartialEq, Eq, Hash, Drop)]
@@ -367,6 +373,18 @@ fn fields_from<'de>(
 /// MySQL: Client/Server Protocol, "COM_REGISTER_SLAVE".
 #[tactic(auto, unfolding(crate::specs::Packets::register_slave_at))]
 impl<'de> MyDeserialize<'de> for ComRegisterSlave<'de> {
+    // COM_REGISTER_SLAVE:
+    //   int<1>       command 15
+    //   int<4>       server-id
+    //   int<1>       hostname length
+    //   string<var>  hostname
+    //   int<1>       user length
+    //   string<var>  user
+    //   int<1>       password length
+    //   string<var>  password
+    //   int<2>       port
+    //   int<4>       replication rank
+    //   int<4>       master-id
     fn deserialize(
         alloc: Global,
         _ctx: (),

@@ -1,4 +1,6 @@
-//! The acknowledgement of an event by a replica.
+//! The acknowledgement of an event by a replica: a position in the binary log, and the file.
+//!
+//!     SemiSyncAckPacket::new(position, filename).serialize(&mut payload)?;
 
 ghost use Rattle.std.specs.Prelude.{◌≡◌, [], IfOk, None, IsOkUnless, false};
 ghost use Rattle.std.specs.Cow.{cow_slice_items, cow_str_bytes};
@@ -24,6 +26,9 @@ use std::borrow::{CowSlice, CowStr};
 /// A replica's acknowledgement of an event that asked for one.
 ///
 /// It has the event's position in the binary log, and the file's name.
+///
+/// Promise: its bytes are a function of its fields, and any bytes are read exactly as its layout
+/// says, with the first refusal from the left (`semi_sync_ack`, `semi_sync_ack_at`).
 ///
 /// MySQL: Internals Manual, "Semi-Sync ACK packet".
 #[derive(Drop)]
@@ -147,6 +152,10 @@ fn fields_from<'de>(
 /// MySQL: Internals Manual, "Semi-Sync ACK packet".
 #[tactic(auto, unfolding(crate::specs::Packets::semi_sync_ack_at))]
 impl<'de> MyDeserialize<'de> for SemiSyncAckPacket<'de> {
+    // Semi-Sync ACK packet:
+    //   int<1>       magic number ef
+    //   int<8>       binlog position
+    //   string<EOF>  binlog filename
     fn deserialize(
         alloc: Global,
         _ctx: (),

@@ -1,4 +1,6 @@
-//! The request for a table.
+//! The request for a table, as replicas of old made it.
+//!
+//!     ComTableDump::new(database, table).serialize(&mut payload)?;
 
 ghost use Rattle.std.specs.Prelude.{◌≡◌, IfOk, None, IsOkUnless, false};
 ghost use Rattle.std.specs.Cow.{cow_slice_items, cow_str_bytes};
@@ -21,6 +23,9 @@ use std::alloc::{AllocError, Global};
 use std::borrow::{CowSlice, CowStr};
 
 /// The request for a table: the names of its database and of the table. Of each at most 255 bytes are written.
+///
+/// Promise: its bytes are a function of its fields, and any bytes are read exactly as its layout
+/// says, with the first refusal from the left (`table_dump`, `table_dump_at`).
 ///
 /// MySQL: Client/Server Protocol, "COM_TABLE_DUMP".
 #[derive(Debug, PartialEq, Eq, Hash, Drop)]
@@ -140,6 +145,12 @@ impl<'a> ReadsBack for ComTableDump<'a> {
 /// MySQL: Client/Server Protocol, "COM_TABLE_DUMP".
 #[tactic(auto, unfolding(crate::specs::Packets::table_dump_at))]
 impl<'de> MyDeserialize<'de> for ComTableDump<'de> {
+    // COM_TABLE_DUMP:
+    //   int<1>       command 13
+    //   int<1>       database length
+    //   string<var>  database
+    //   int<1>       table length
+    //   string<var>  table
     fn deserialize(
         alloc: Global,
         _ctx: (),

@@ -3,11 +3,11 @@ use Rattle.std.proofs.Common.{◌≡◌, ℕ, ◌+◌, ◌^◌, ◌<◌, ◌≤�
 use Rattle.std.specs.Prelude.{if◌then◌else◌, ◌==◌, OnOk, IfErr}
 use Rattle.std.proofs.lemmas.List.{append-nil}
 use Rattle.mysql_columns.specs.Columns.{ColumnDefinition}
-use Rattle.mysql_row_refs.specs.LentRows.{lent_view, row_of, with_none_left}
-use Rattle.mysql_row_refs.specs.declared.row.LentRow.{LentRow}
+use Rattle.mysql_row_refs.specs.RowRefs.{row_ref_view, row_of, with_none_left}
+use Rattle.mysql_row_refs.specs.declared.row_ref.RowRef.{RowRef}
 use Rattle.mysql_row_refs.specs.declared.errors.RowError.{RowError}
 use Rattle.mysql_row_refs.specs.declared.errors.RowError.TheVariants.{BytesLeft}
-use Rattle.mysql_row_refs.specs.declared.lender.RowLender.{RowLender}
+use Rattle.mysql_row_refs.specs.declared.reader.RowReader.{RowReader}
 use Rattle.mysql_rows.specs.Rows.{Row, as_row, binary_resultset_row_at, text_row_at}
 use Rattle.mysql_wire.specs.Wire.{Reading}
 use Rattle.mysql_wire.specs.Codec.{HandsOut, held, packet_number}
@@ -231,7 +231,7 @@ feeds_fails start next old new piece fault began wrong goes short = record {
 same_row : (a : code.Awaited) (payload : Payload) (x y : Row) → LendsAwaited a payload x → LendsAwaited a payload y → x ≡ y
 same_row (awaiting.Rows these) payload x y one two = same_row_by these.lender one two
   where
-    same_row_by : (lender : Option RowLender) → Lends lender payload x → Lends lender payload y → x ≡ y
+    same_row_by : (lender : Option RowReader) → Lends lender payload x → Lends lender payload y → x ≡ y
     same_row_by (Some it) one two = one.1 ∙ sym two.1
     same_row_by None one two = absurd one
 same_row awaiting.First payload x y one two = absurd one
@@ -274,8 +274,8 @@ lends_row start next old new piece rest place found behind lends began going =
     (subst (λ k. ReaderGoesOn (reader_state start old) behind.used (reader_state (keeping next k) new)) is behind.goes_on)
 
 -- What a reader does over a piece: its next row is lent, all of it is read, or a fault is met.
-pub next_lent : (start next : ReplyState) (old new : Incoming) (piece rest : List ℕ) (place : Place) (found : LentRow) → LendsBehind (reader_state start old) piece place next new rest → LendsAwaited next.awaited (payload_at place new) (lent_view found) → start.fault ≡ None → next.fault ≡ None → rows_listed (standing_of next) ≡ rows_listed (standing_of start) → LendsNext (reader_state start old) piece (Ok (Some found)) (reader_state next new) rest
-next_lent start next old new piece rest place found behind lends began going none = record { advances = lends_row start next old new piece rest place (lent_view found) behind lends began going; keeps_none = none }
+pub next_lent : (start next : ReplyState) (old new : Incoming) (piece rest : List ℕ) (place : Place) (found : RowRef) → LendsBehind (reader_state start old) piece place next new rest → LendsAwaited next.awaited (payload_at place new) (row_ref_view found) → start.fault ≡ None → next.fault ≡ None → rows_listed (standing_of next) ≡ rows_listed (standing_of start) → LendsNext (reader_state start old) piece (Ok (Some found)) (reader_state next new) rest
+next_lent start next old new piece rest place found behind lends began going none = record { advances = lends_row start next old new piece rest place (row_ref_view found) behind lends began going; keeps_none = none }
 
 pub next_none : (start next : ReplyState) (old new : Incoming) (piece rest : List ℕ) → rest ≡ [] → start.fault ≡ None → next.fault ≡ None → TakesAll (reader_state start old) ((reader_state start old).bytes ++ piece) (reader_state next new) → ReaderGoesOn (reader_state start old) piece (reader_state next new) → HasFoundNoFault (reader_state next new) → rows_listed (standing_of next) ≡ rows_listed (standing_of start) → LendsNext (reader_state start old) piece (Ok None) (reader_state next new) rest
 next_none start next old new piece rest used began going takes goes found none = record { advances = (feeds_all start next old new piece began going takes goes, found, used); keeps_none = none }

@@ -6,8 +6,8 @@ use Rattle.std.specs.List.{flat_map}
 use Rattle.mysql_columns.specs.Columns.{ColumnDefinition}
 use Rattle.mysql_server_packets.specs.Packets.{ProgressReport}
 use Rattle.mysql_rows.specs.Rows.{Row}
-use Rattle.mysql_row_refs.specs.LentRows.{lent_view}
-use Rattle.mysql_row_refs.specs.declared.row.LentRow.{LentRow}
+use Rattle.mysql_row_refs.specs.RowRefs.{row_ref_view}
+use Rattle.mysql_row_refs.specs.declared.row_ref.RowRef.{RowRef}
 use Rattle.mysql_wire.specs.Bytes.{AreBytes}
 use Rattle.mysql_replies.specs.declared.context.Context.{Context}
 use Rattle.mysql_replies.specs.declared.fault.ReplyFault.{ReplyFault}
@@ -44,13 +44,13 @@ pub record LendsRow (old : ReaderState) (piece : List ℕ) (row : Row) (new : Re
 
 -- What follows of a piece: its next row is lent; or it has no further row, and the reader was fed
 -- it and has found no fault, or met one.
-abbrev pub Advances : ReaderState → List ℕ → Result (Option LentRow) ReplyFault → ReaderState → List ℕ → Type 0
-Advances old piece (Ok (Some row)) new rest = LendsRow old piece (lent_view row) new rest
+abbrev pub Advances : ReaderState → List ℕ → Result (Option RowRef) ReplyFault → ReaderState → List ℕ → Type 0
+Advances old piece (Ok (Some row)) new rest = LendsRow old piece (row_ref_view row) new rest
 Advances old piece (Ok None) new rest = Feeds old new piece (Ok tt) × HasFoundNoFault new × (rest ≡ [])
 Advances old piece (Err fault) new rest = Feeds old new piece (Err fault) × (rest ≡ piece)
 
 -- The next row is lent, and no row is kept.
-pub record LendsNext (old : ReaderState) (piece : List ℕ) (r : Result (Option LentRow) ReplyFault)
+pub record LendsNext (old : ReaderState) (piece : List ℕ) (r : Result (Option RowRef) ReplyFault)
     (new : ReaderState) (rest : List ℕ) : Type 0 where
   pub advances : Advances old piece r new rest
   pub keeps_none : rows_listed new.standing ≡ rows_listed old.standing

@@ -5,11 +5,11 @@ use Rattle.std.specs.Prelude.{Err}
 use Rattle.mysql_columns.specs.Columns.{ColumnDefinition}
 use Rattle.mysql_rows.specs.Rows.{Row}
 use Rattle.mysql_rows.specs.Views.{shared_columns}
-use Rattle.mysql_row_refs.specs.LentRows.{HoldsRow, row_held, row_of}
+use Rattle.mysql_row_refs.specs.RowRefs.{HoldsRow, row_held, row_of}
 use Rattle.mysql_row_refs.specs.declared.errors.RowError.{RowError}
 use Rattle.mysql_row_refs.specs.declared.format.RowFormat.{RowFormat}
 use Rattle.mysql_row_refs.specs.declared.format.RowFormat.TheVariants.{Binary, Text}
-use Rattle.mysql_row_refs.specs.declared.lender.RowLender.{RowLender}
+use Rattle.mysql_row_refs.specs.declared.reader.RowReader.{RowReader}
 use Rattle.mysql_wire.specs.Incoming.{Incoming}
 use Rattle.mysql_replies.specs.declared.awaited.Awaited as code
 use Rattle.mysql_replies.specs.declared.awaited.Awaited.TheVariants as awaiting
@@ -38,17 +38,17 @@ or_bad_row (Ok row) = Ok row
 or_bad_row (Err error) = Err BadRow
 
 -- There is a lender, of rows under these columns in this format.
-abbrev pub IsLender : Option RowLender → RowFormat → List ColumnDefinition → Type 0
+abbrev pub IsLender : Option RowReader → RowFormat → List ColumnDefinition → Type 0
 IsLender (Some lender) format columns = (shared_columns lender.columns ≡ columns) × (lender.format ≡ format)
 IsLender None format columns = ⊥
 
 -- The lender holds this row of a payload.
-abbrev pub Lends : Option RowLender → Payload → Row → Type 0
+abbrev pub Lends : Option RowReader → Payload → Row → Type 0
 Lends (Some lender) payload row = HoldsRow lender payload × (row ≡ row_held lender payload)
 Lends None payload row = ⊥
 
 -- The lender holds the row that a payload is.
-pub record HasRead (lender : Option RowLender) (format : RowFormat)
+pub record HasRead (lender : Option RowReader) (format : RowFormat)
     (columns : List ColumnDefinition) (payload : Payload) : Type 0 where
   pub row : Row
   pub lends : Lends lender payload row

@@ -6,7 +6,7 @@ use Rattle.std.specs.declared.rc.RcSlice.{RcSlice}
 use Rattle.mysql_columns.specs.Columns.{ColumnDefinition}
 use Rattle.mysql_columns.specs.declared.column.Column.{Column}
 use Rattle.mysql_row_refs.specs.declared.format.RowFormat.{RowFormat}
-use Rattle.mysql_row_refs.specs.declared.lender.RowLender.{RowLender}
+use Rattle.mysql_row_refs.specs.declared.reader.RowReader.{RowReader}
 use Rattle.mysql_rows.specs.Rows as rows
 use Rattle.mysql_rows.specs.declared.row.Row.{Row}
 use Rattle.mysql_rows.specs.Views.{row_view, shared_columns}
@@ -15,7 +15,7 @@ use Rattle.mysql_rows.specs.Views.{row_view, shared_columns}
 pub record RowsSoFar : Type 0 where
   pub columns : List ColumnDefinition
   pub rows : List rows.Row
-  pub lender : Option RowLender
+  pub lender : Option RowReader
 
 abbrev pub rows_of : List Row → List rows.Row
 rows_of these = map row_view these
@@ -26,7 +26,7 @@ HasShare columns (Some share) these = shared_columns share ≡ shared_columns co
 HasShare columns None these = these ≡ []
 
 -- What lends rows lends them under the same columns, in this format.
-abbrev pub HasLender : RcSlice Column Global → RowFormat → Option RowLender → Type 0
+abbrev pub HasLender : RcSlice Column Global → RowFormat → Option RowReader → Type 0
 HasLender columns format lender =
     IfSome lender (λ it. (shared_columns it.columns ≡ shared_columns columns) ×
     (it.format ≡ format))

@@ -3,7 +3,7 @@
 ghost use Rattle.std.specs.Prelude.{◌≡◌, ◌++◌, ◌<◌, [], Err, IfErr, IfOk, MatchOption, None, Ok, OnOk, Some, length};
 ghost use Rattle.std.specs.Borrow.{sem};
 ghost use Rattle.std.specs.Io.BufRead.{Rests};
-ghost use Rattle.mysql_row_refs.specs.LentRows.{lent_view};
+ghost use Rattle.mysql_row_refs.specs.RowRefs.{row_ref_view};
 ghost use Rattle.mysql_rows.specs.Rows.{Row};
 ghost use Rattle.mysql_wire.specs.Incoming.{codec_by};
 ghost use Rattle.mysql_replies.specs.Holding.{ReaderGoesOn, StandsShort, TakesAll};
@@ -15,7 +15,7 @@ use crate::fault::ReplyFault;
 use crate::framing::{bytes_are_bytes, framing_laws};
 use crate::reader::{ReaderParts, ReplyReader, fault_from};
 use crate::state::ReplyState;
-use mysql_row_refs::LentRow;
+use mysql_row_refs::RowRef;
 use mysql_wire::PacketReader;
 use std::alloc::Global;
 
@@ -133,9 +133,9 @@ impl ReaderParts {
 
     // The row that was read last, lent by its payload, which lies there.
     #[inline(always)]
-    fn lent<'r, 'p: 'r>(&'r self, place: Place<'p>) -> LentRow<'r, 'r>
+    fn lent<'r, 'p: 'r>(&'r self, place: Place<'p>) -> RowRef<'r, 'r>
         requires { (row : Row) × LendsAwaited self.now.state.awaited (payload_at place self.now.packets) row }
-        ensures { LendsAwaited self.now.state.awaited (payload_at place.entry self.now.packets) (lent_view result) }
+        ensures { LendsAwaited self.now.state.awaited (payload_at place.entry self.now.packets) (row_ref_view result) }
     {
         match place {
             Place::InPiece(payload) => self.state.lent(payload),
@@ -171,7 +171,7 @@ impl ReplyReader {
     pub fn next_row<'r, 'p: 'r>(
         &'r mut self,
         rest: &mut &'p [u8],
-    ) -> Result<Option<LentRow<'r, 'r>>, ReplyFault>
+    ) -> Result<Option<RowRef<'r, 'r>>, ReplyFault>
         ensures* after { sem 𝓛 (Rests the_row self.entry
             (λ after. LendsNext self.old rest.old.now result after rest.new.now)) }
         ensures uses { IfOk result

@@ -2,7 +2,7 @@
 
 ghost use Rattle.std.specs.Prelude.{◌≡◌, ◌==◌, ◌<◌, [], ◌∷◌, ◌++◌, None, IfErr, IfSome, OnErr, OnOk, length};
 ghost use Rattle.std.specs.Prelude.{option_map};
-ghost use Rattle.mysql_row_refs.specs.LentRows.{lent_view, row_of};
+ghost use Rattle.mysql_row_refs.specs.RowRefs.{row_ref_view, row_of};
 ghost use Rattle.mysql_ok_packets.specs.Views.{ok_packet_view};
 ghost use Rattle.mysql_rows.specs.Rows.{Row as RowOf};
 ghost use Rattle.mysql_rows.specs.Views.{row_view, shared_columns};
@@ -15,7 +15,7 @@ use crate::fault::ReplyFault;
 use crate::results::ReplyResult;
 use mysql_columns::Column;
 use mysql_ok_packets::OkPacket;
-use mysql_row_refs::{LentRow, RowFormat, RowLender};
+use mysql_row_refs::{RowFormat, RowReader, RowRef};
 use mysql_rows::Row;
 use std::alloc::{AllocError, Global};
 use std::marker::Model;
@@ -31,7 +31,7 @@ pub struct OpenRows {
     share: Option<RcSlice<Column>>,
     rows: Vec<Row>,
     // There once a row was lent.
-    lender: Option<RowLender>,
+    lender: Option<RowReader>,
     // The format in which it lends.
     format: RowFormat,
 }
@@ -108,7 +108,7 @@ impl OpenRows {
         ensures rows { self.new ≡ record self.old { lender = self.new.lender } }
         ensures lender { OnOk result (IsLender self.new.lender format self.old.columns) }
     {
-        let lender = RowLender::new(alloc, self.columns.clone()?, format)?;
+        let lender = RowReader::new(alloc, self.columns.clone()?, format)?;
         self.lender = Some(lender);
         self.format = format;
         Ok(())
@@ -153,9 +153,9 @@ impl OpenRows {
 
     /// The row whose cells were read last, lent by its payload.
     #[inline(always)]
-    pub fn lent<'r, 'p>(&'r self, payload: &'p [u8]) -> LentRow<'r, 'p>
+    pub fn lent<'r, 'p>(&'r self, payload: &'p [u8]) -> RowRef<'r, 'p>
         requires { (row : RowOf) × Lends self.now.lender payload.now row }
-        ensures { Lends self.now.lender payload.now (lent_view result) }
+        ensures { Lends self.now.lender payload.now (row_ref_view result) }
     {
         let Some(lender) = &self.lender else {
             unreachable!()

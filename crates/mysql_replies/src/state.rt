@@ -11,7 +11,7 @@ ghost use Rattle.mysql_replies.specs.Grammar.{or_fault, has_report_form};
 ghost use Rattle.mysql_replies.specs.Reply.{fresh};
 ghost use Rattle.mysql_replies.specs.Reply as reply;
 ghost use Rattle.mysql_replies.specs.OpenRows.{rows_of};
-ghost use Rattle.mysql_row_refs.specs.LentRows.{lent_view};
+ghost use Rattle.mysql_row_refs.specs.RowRefs.{row_ref_view};
 ghost use Rattle.mysql_rows.specs.Rows.{Row as RowOf};
 ghost use Rattle.mysql_replies.specs.Lending.{rows_listed};
 ghost use Rattle.mysql_replies.specs.LentSteps.{IsNoRow, LendStep, LendsAwaited, format_of, passed_as};
@@ -31,7 +31,7 @@ use crate::results::{Reply, ReplyEnd, ReplyResult};
 use crate::steps::{row_step, step};
 use bitflags::Flags;
 use mysql_const::CapabilityFlags;
-use mysql_row_refs::{LentRow, RowFormat};
+use mysql_row_refs::{RowFormat, RowRef};
 use mysql_rows::Row;
 use mysql_server_packets::ProgressReport;
 use mysql_wire::{ParseBuf, ParseExt, WireError};
@@ -367,9 +367,9 @@ impl ReplyState {
 
     /// The row that was read last, lent by its payload.
     #[inline(always)]
-    pub fn lent<'r, 'p>(&'r self, payload: &'p [u8]) -> LentRow<'r, 'p>
+    pub fn lent<'r, 'p>(&'r self, payload: &'p [u8]) -> RowRef<'r, 'p>
         requires { (row : RowOf) × LendsAwaited self.now.awaited payload.now row }
-        ensures { LendsAwaited self.now.awaited payload.now (lent_view result) }
+        ensures { LendsAwaited self.now.awaited payload.now (row_ref_view result) }
     {
         match &self.awaited {
             Awaited::Rows(these) => these.lent(payload),

@@ -12,7 +12,7 @@ use Rattle.mysql_cells.specs.declared.value.Value.TheVariants.{NULL, Bytes}
 use Rattle.mysql_const.specs.ColumnTypes.{column_type_number}
 use Rattle.mysql_columns.specs.Columns.{ColumnDefinition}
 use Rattle.mysql_rows.specs.Rows.{binary_cell_at}
-use Rattle.mysql_row_refs.specs.Lent.{IsTail}
+use Rattle.mysql_row_refs.specs.Places.{IsTail}
 use Rattle.mysql_row_refs.proofs.Tails.{all_tail, dropped_tail, first_tail, lenenc_str_tail, u8_str_tail}
 
 same_rest : (p q : Value × List ℕ) → ◌≡◌ {A = Reading Value} (Ok p) (Ok q) → p.1 ≡ q.1

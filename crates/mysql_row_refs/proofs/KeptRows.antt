@@ -10,7 +10,7 @@ use Rattle.std.proofs.Math.Seq.{drop-append_seam, get_or-append_seam}
 use Rattle.std.specs.List.{list_all, range_with_len, slice_get, slice_range}
 use Rattle.mysql_columns.specs.Columns.{ColumnDefinition}
 use Rattle.mysql_rows.specs.Rows.{Row, whole_row}
-use Rattle.mysql_row_refs.specs.Lent.{held, is_inside}
+use Rattle.mysql_row_refs.specs.Places.{held, is_inside}
 use Rattle.mysql_row_refs.specs.StoredRows.{AreKept, IsKept, ResultSet, payload_of, payload_start, places_of, row_kept, rows_kept}
 use Rattle.mysql_row_refs.specs.declared.place.CellPlace.{CellPlace}
 

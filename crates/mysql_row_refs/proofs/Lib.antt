@@ -1,8 +1,6 @@
 pub mod CellTails
-pub mod Digits
 pub mod Forms
-pub mod LentCells
+pub mod PlacedCells
 pub mod RowSteps
 pub mod KeptRows
 pub mod Tails
-pub mod Utf8Texts

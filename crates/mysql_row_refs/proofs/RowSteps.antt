@@ -13,7 +13,7 @@ use Rattle.mysql_columns.specs.Views.{column_view}
 use Rattle.mysql_field_lists.specs.NullBitmap.{is_null_at}
 use Rattle.mysql_rows.specs.Rows.{binary_cell_at, binary_cells_at}
 use Rattle.mysql_rows.specs.Views.{column_views}
-use Rattle.mysql_row_refs.specs.Lent.{held, is_inside}
+use Rattle.mysql_row_refs.specs.Places.{held, is_inside}
 use Rattle.mysql_row_refs.specs.declared.place.CellPlace.{CellPlace}
 
 -- one place more

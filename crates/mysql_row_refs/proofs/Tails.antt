@@ -7,7 +7,7 @@ use Rattle.std.specs.Prelude.{nat_lt}
 use Rattle.mysql_buf.specs.FirstBytes.{first-enough, first-short, first-some}
 use Rattle.mysql_buf.specs.Reading.{bytes_at, first, lenenc_int_at, lenenc_str_at, little_at, then_at, u8_str_at}
 use Rattle.byteorder.specs.Endian.{little_number}
-use Rattle.mysql_row_refs.specs.Lent.{IsTail}
+use Rattle.mysql_row_refs.specs.Places.{IsTail}
 
 -- all bytes are the last ones
 pub all_tail : (bytes : List ℕ) → IsTail bytes bytes

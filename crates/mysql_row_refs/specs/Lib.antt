@@ -1,6 +1,5 @@
-pub mod Lent
-pub mod LentRows
+pub mod Places
+pub mod RowRefs
 pub mod Lines
-pub mod Ranges
 pub mod StoredIter
 pub mod StoredRows

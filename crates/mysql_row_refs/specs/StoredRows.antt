@@ -4,7 +4,7 @@ use Rattle.std.specs.Prelude.{◌≡◌, ℕ, ◌+◌, ◌*◌, ◌<◌, ◌≤�
 use Rattle.std.specs.List.{list_all, range_with_len}
 use Rattle.mysql_columns.specs.Columns.{ColumnDefinition}
 use Rattle.mysql_rows.specs.Rows.{Row, whole_row}
-use Rattle.mysql_row_refs.specs.Lent.{held, is_inside}
+use Rattle.mysql_row_refs.specs.Places.{held, is_inside}
 use Rattle.mysql_row_refs.specs.declared.place.CellPlace.{CellPlace}
 
 -- columns, and rows with a cell for each

@@ -1,15 +1,14 @@
-//! What is read of lent rows.
+//! What is read of rows by reference.
 
 ghost use Rattle.std.specs.Prelude.{◌≡◌, ◌==◌, IfOk, Some, length, slice_get};
 ghost use Rattle.std.specs.Option.{option_map};
 ghost use Rattle.mysql_rows.specs.Rows.{cell_at};
-ghost use Rattle.mysql_rows.specs.Views.{column_views, converted_or_value, shared_columns};
-ghost use Rattle.mysql_row_refs.specs.Lent.{value_of};
-ghost use Rattle.mysql_row_refs.specs.LentRows.{lent_answer, lent_view};
+ghost use Rattle.mysql_rows.specs.Views.{column_views, shared_columns};
+ghost use Rattle.mysql_row_refs.specs.Places.{value_of};
+ghost use Rattle.mysql_row_refs.specs.RowRefs.{row_ref_view};
 
-use crate::from_value_ref::FromValueRef;
 use crate::place::{CellPlace, value_at};
-use crate::row::LentRow;
+use crate::row_ref::RowRef;
 use crate::value_ref::ValueRef;
 use mysql_columns::Column;
 use mysql_rows::ColumnIndex;
@@ -27,40 +26,45 @@ fn place_at(places: &[CellPlace], index: usize) -> Option<CellPlace>
     }
 }
 
-impl<'r, 'p> LentRow<'r, 'p> {
+impl<'r, 'p> RowRef<'r, 'p> {
     /// How many cells there are: as many as columns.
     pub fn len(&self) -> usize
-        ensures cells { result ≡ length (lent_view self.now).cells }
-        ensures columns { result ≡ length (lent_view self.now).columns }
+        ensures cells { result ≡ length (row_ref_view self.now).cells }
+        ensures columns { result ≡ length (row_ref_view self.now).columns }
     {
         self.places.len()
     }
 
     /// Whether there are no cells.
     pub fn is_empty(&self) -> bool
-        ensures { result ≡ (length (lent_view self.now).cells == 0) }
+        ensures { result ≡ (length (row_ref_view self.now).cells == 0) }
     {
         self.places.is_empty()
     }
 
     /// The columns.
     pub fn columns_ref(&self) -> &'r [Column]
-        ensures { column_views result.now ≡ (lent_view self.now).columns }
+        ensures { column_views result.now ≡ (row_ref_view self.now).columns }
     {
         self.columns.as_slice()
     }
 
-    /// The same columns, shared, as a [`StoredRows`](crate::StoredRows) takes them. Refused for want of memory alone.
+    /// The columns, shared, as a [`StoredRows`](crate::StoredRows) takes them.
+    ///
+    /// # Errors
+    /// - `AllocError` for want of memory.
     pub fn columns(&self) -> Result<RcSlice<Column>, AllocError>
-        ensures { IfOk result (λ columns. shared_columns columns ≡ (lent_view self.now).columns) }
+        ensures { IfOk result (λ columns. shared_columns columns ≡ (row_ref_view self.now).columns) }
     {
         self.columns.clone()
     }
 
-    /// The value of the cell of this number, with its bytes lent by the payload; None where there is no such cell.
+    /// The value of the cell of this number; it borrows its bytes of the payload.
+    ///
+    /// None where there is no such cell.
     #[inline(always)]
     pub fn as_ref(&self, index: usize) -> Option<ValueRef<'p>>
-        ensures { option_map value_of result ≡ cell_at (lent_view self.now) (Some index) }
+        ensures { option_map value_of result ≡ cell_at (row_ref_view self.now) (Some index) }
     {
         match place_at(self.places, index) {
             Some(place) => Some(value_at(self.payload, place)),
@@ -68,35 +72,16 @@ impl<'r, 'p> LentRow<'r, 'p> {
         }
     }
 
-    /// The value of the cell that a number or a name names, with its bytes lent by the payload;
+    /// The value of the cell that a number or a name names; it borrows its bytes of the payload.
+    ///
     /// None where there is no such column.
     #[inline(always)]
     pub fn get<I: ColumnIndex>(&self, index: I) -> Option<ValueRef<'p>>
         ensures { option_map value_of result ≡
-            cell_at (lent_view self.now) (I.place index (lent_view self.now).columns) }
+            cell_at (row_ref_view self.now) (I.place index (row_ref_view self.now).columns) }
     {
         match index.idx(self.columns.as_slice()) {
             Some(number) => self.as_ref(number),
-            None => None,
-        }
-    }
-
-    /// The value in the cell that a number or a name names, converted to `T` where it lies; None
-    /// where there is no such column. Where the value doesn't convert the error is the value.
-    #[inline(always)]
-    pub fn get_opt<T: FromValueRef<'p>, I: ColumnIndex>(
-        &self,
-        index: I,
-    ) -> Option<Result<T, ValueRef<'p>>>
-        ensures { option_map (lent_answer T.shown) result ≡
-            option_map (converted_or_value T.converted)
-            (cell_at (lent_view self.now) (I.place index (lent_view self.now).columns)) }
-    {
-        match self.get(index) {
-            Some(value) => match T::from_value_ref(value) {
-                Some(x) => Some(Ok(x)),
-                None => Some(Err(value)),
-            },
             None => None,
         }
     }

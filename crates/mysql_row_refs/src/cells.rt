@@ -7,14 +7,15 @@ ghost use Rattle.mysql_fields.specs.Wire.{TellsPart, or_end};
 ghost use Rattle.mysql_fields.specs.declared.error.WireError.TheVariants as wire;
 ghost use Rattle.mysql_cells.specs.Cells.{column_cell_at, has_no_sign, text_cell_at, value_at};
 ghost use Rattle.mysql_columns.specs.Views.{column_view};
-ghost use Rattle.mysql_row_refs.specs.declared.cell_form.CellForm.TheVariants as cell_form;
-ghost use Rattle.mysql_row_refs.specs.Lent.{IsTail, bytes_read, form_view, held, is_inside};
+ghost use Rattle.mysql_cells.specs.declared.cell_form.CellForm.TheVariants as cell_form;
+ghost use Rattle.mysql_row_refs.specs.Places.{IsTail, bytes_read, held, is_inside};
 
-use crate::cell_form::{CellForm, form_of_type};
-use crate::cell_values::{whole1, whole2, whole4, whole8};
+use crate::cell_values::whole8;
 use crate::place::CellPlace;
 use bitflags::Flags;
 use mysql_buf::ParseBuf;
+use mysql_cells::cell_form::{CellForm, form_of_type};
+use mysql_cells::cell_values::{whole1, whole2, whole4};
 use mysql_columns::Column;
 use mysql_const::{ColumnFlags, ColumnType};
 use mysql_fields::WireError;
@@ -73,11 +74,11 @@ fn form_place(
     rest: &mut ParseBuf,
 ) -> Option<CellPlace>
     requires { IsTail payload.now rest.old.0.now }
-    ensures some { IfSome result (λ place. value_at (form_view form) unsigned rest.old.0.now ≡
+    ensures some { IfSome result (λ place. value_at form unsigned rest.old.0.now ≡
         Ok (held payload.now place, rest.new.0.now)) }
     ensures inside { IfSome result (λ place. is_inside payload.now place ≡ true) }
     ensures none { IfNone result (form ≢ cell_form.Without →
-        value_at (form_view form) unsigned rest.old.0.now ≡ Err wire.UnexpectedEof) }
+        value_at form unsigned rest.old.0.now ≡ Err wire.UnexpectedEof) }
 {
     match form {
         CellForm::Nothing => Some(CellPlace::Null),

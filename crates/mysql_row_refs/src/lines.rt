@@ -7,7 +7,7 @@ use mysql_const::MAX_PAYLOAD_LEN;
 
 /// Whether a payload begins with a byte.
 #[inline(always)]
-fn starts_with(payload: &[u8], byte: u8) -> bool
+pub fn starts_with(payload: &[u8], byte: u8) -> bool
     ensures { result ≡ begins_with byte payload.now }
 {
     match payload {
@@ -17,19 +17,25 @@ fn starts_with(payload: &[u8], byte: u8) -> bool
 }
 
 /// The length from which on a payload that begins with fe is a row.
+///
+/// With `CLIENT_DEPRECATE_EOF`, as `deprecates_eof` tells, that is the longest payload, else 9.
+///
+/// MySQL: Client/Server Protocol, "EOF_Packet" and "OK_Packet".
 #[inline(always)]
-fn limit_of_terminators(deprecates_eof: bool) -> usize
+pub fn limit_of_terminators(deprecates_eof: bool) -> usize
     ensures { result ≡ terminator_limit deprecates_eof }
 {
     if deprecates_eof { MAX_PAYLOAD_LEN } else { 9 }
 }
 
-/// Whether a payload in a row's place is a row: it is no error, which begins with ff, and no
-/// terminator, which begins with fe. With `CLIENT_DEPRECATE_EOF`, as `deprecates_eof` tells, that
-/// is an OK packet, which is shorter than the longest payload, and else an EOF packet of less than
-/// 9 bytes.
+/// Whether a payload in a row's place is a row.
 ///
-/// MySQL: Client/Server Protocol, "Text Resultset" and "Binary Protocol Resultset", "EOF_Packet" and "OK_Packet".
+/// Then it is no error, which begins with ff, and no terminator, which begins with fe. With
+/// `CLIENT_DEPRECATE_EOF`, as `deprecates_eof` tells, that is an OK packet, which is shorter than
+/// the longest payload, and else an EOF packet of less than 9 bytes.
+///
+/// MySQL: Client/Server Protocol, "Text Resultset" and "Binary Protocol Resultset", "EOF_Packet"
+/// and "OK_Packet".
 #[inline(always)]
 pub fn is_row(payload: &[u8], deprecates_eof: bool) -> bool
     ensures { result ≡ is_row_by_first deprecates_eof payload.now }

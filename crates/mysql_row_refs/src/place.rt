@@ -2,7 +2,7 @@
 
 ghost use Rattle.std.specs.Prelude.{◌≡◌, IsSome, drop, true};
 ghost use Rattle.mysql_buf.specs.Reading.{lenenc_str_at, u8_str_at};
-ghost use Rattle.mysql_row_refs.specs.Lent.{bytes_read, held, is_inside, value_of};
+ghost use Rattle.mysql_row_refs.specs.Places.{bytes_read, held, is_inside, value_of};
 
 use crate::cell_values::{date, time};
 use crate::value_ref::ValueRef;

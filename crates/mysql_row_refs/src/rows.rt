@@ -10,7 +10,7 @@ ghost use Rattle.mysql_cells.specs.Cells.{text_cell_at};
 ghost use Rattle.mysql_columns.specs.Views.{column_view};
 ghost use Rattle.mysql_rows.specs.Rows.{binary_cell_at, binary_cells_at, binary_resultset_row_at, binary_row_body_at};
 ghost use Rattle.mysql_rows.specs.Views.{column_views};
-ghost use Rattle.mysql_row_refs.specs.Lent.{IsTail, held, is_inside};
+ghost use Rattle.mysql_row_refs.specs.Places.{IsTail, held, is_inside};
 
 use crate::cells::{binary_place, text_place};
 use crate::place::CellPlace;

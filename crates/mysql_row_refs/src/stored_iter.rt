@@ -2,13 +2,13 @@
 
 ghost use Rattle.std.specs.Prelude.{◌≡◌};
 ghost use Rattle.std.specs.Iterator.{YieldsFirstBy, item_count};
-ghost use Rattle.mysql_row_refs.specs.LentRows.{lent_view};
+ghost use Rattle.mysql_row_refs.specs.RowRefs.{row_ref_view};
 ghost use Rattle.mysql_row_refs.specs.StoredIter.{rows_left};
 
-use crate::row::LentRow;
+use crate::row_ref::RowRef;
 use crate::stored::StoredRows;
 
-/// The rows that are kept, lent in order.
+/// The rows that are kept, in order.
 #[derive(Clone, Copy)]
 pub struct StoredIter<'r> {
     pub(crate) stored: &'r StoredRows,
@@ -17,7 +17,7 @@ pub struct StoredIter<'r> {
 }
 
 impl StoredRows {
-    /// The rows, lent in order. No memory is asked for.
+    /// The rows in order. No memory is asked for.
     pub fn iter(&self) -> StoredIter<'_>
         ensures { rows_left result ≡ self.now.rows }
     {
@@ -29,13 +29,13 @@ impl StoredRows {
 }
 
 impl<'r> Iterator for StoredIter<'r> {
-    type Item = LentRow<'r, 'r>;
+    type Item = RowRef<'r, 'r>;
 
-    ghost next_gives = { YieldsFirstBy lent_view rows_left };
+    ghost next_gives = { YieldsFirstBy row_ref_view rows_left };
 
     ghost remaining = { item_count rows_left };
 
-    fn next(&mut self) -> Option<LentRow<'r, 'r>> {
+    fn next(&mut self) -> Option<RowRef<'r, 'r>> {
         let stored = self.stored;
         if self.next >= stored.len() {
             return None;

@@ -1,15 +1,15 @@
-//! How rows are kept, and lent again.
+//! How rows are kept, and borrowed again.
 
 ghost use Rattle.std.specs.Prelude.{◌≡◌, ◌==◌, ◌+◌, ◌*◌, ◌<◌, ◌≤◌, ◌++◌, ◌∷◌, [], OnErr, OnOk, get_or, length};
 ghost use Rattle.std.specs.Prelude.{slice_get};
 ghost use Rattle.std.specs.Option.{option_map};
 ghost use Rattle.mysql_rows.specs.Views.{column_views, shared_columns};
-ghost use Rattle.mysql_row_refs.specs.LentRows.{lent_view};
+ghost use Rattle.mysql_row_refs.specs.RowRefs.{row_ref_view};
 ghost use Rattle.mysql_row_refs.specs.StoredRows.{AreKept, no_rows, payload_of, payload_start, places_of, row_kept};
 ghost use Rattle.mysql_row_refs.specs.StoredRows.{with_row};
 
 use crate::place::CellPlace;
-use crate::row::LentRow;
+use crate::row_ref::RowRef;
 use crate::stored::StoredRows;
 use mysql_columns::Column;
 use std::alloc::{AllocError, Global};
@@ -45,20 +45,20 @@ fn places_at<'r>(count: usize, places: &'r [CellPlace], index: usize) -> &'r [Ce
     &places[start..start + count]
 }
 
-/// The row of this number, lent by these lists.
+/// The row of this number, which borrows these lists.
 #[inline(always)]
-fn lent_at<'r>(
+fn row_at<'r>(
     columns: &'r RcSlice<Column>,
     payloads: &'r [u8],
     ends: &[usize],
     places: &'r [CellPlace],
     index: usize,
-) -> LentRow<'r, 'r>
+) -> RowRef<'r, 'r>
     requires index { index < length ends.now }
     requires kept { AreKept (length (shared_columns columns.now)) payloads.now ends.now places.now }
-    ensures { lent_view result ≡ row_kept (shared_columns columns.now) payloads.now ends.now places.now index }
+    ensures { row_ref_view result ≡ row_kept (shared_columns columns.now) payloads.now ends.now places.now index }
 {
-    LentRow {
+    RowRef {
         payload: payload_at(payloads, ends, index),
         columns,
         places: places_at(columns.len(), places, index),
@@ -101,13 +101,15 @@ impl StoredRows {
         }
     }
 
-    /// Keeps a row, behind the others, under these columns: it has to have as many. Refused for
-    /// want of memory alone, and then nothing changes.
+    /// Keeps a row, behind the others, under these columns: it has to have as many.
+    ///
+    /// # Errors
+    /// - `AllocError` for want of memory. Nothing changes then.
     ///
     /// MySQL: Client/Server Protocol, "Text Resultset Row" and "Binary Protocol Resultset Row".
-    pub fn push(&mut self, row: &LentRow) -> Result<(), AllocError>
-        requires { length (lent_view row.now).columns ≡ length self.old.columns }
-        ensures row { OnOk result (self.new ≡ with_row self.old (lent_view row.now)) }
+    pub fn push(&mut self, row: &RowRef) -> Result<(), AllocError>
+        requires { length (row_ref_view row.now).columns ≡ length self.old.columns }
+        ensures row { OnOk result (self.new ≡ with_row self.old (row_ref_view row.now)) }
         ensures err { OnErr result (self.new ≡ self.old) }
     {
         put_row(
@@ -153,16 +155,16 @@ impl StoredRows {
         self.places.clear();
     }
 
-    /// The row of this number, from 0 on, lent; None where there is no such row. No memory is asked for.
+    /// The row of this number, from 0 on; None where there is no such row. No memory is asked for.
     #[inline(always)]
     #[tactic(auto, using(crate::proofs::KeptRows::no_row, crate::proofs::KeptRows::row_found))]
-    pub fn row(&self, index: usize) -> Option<LentRow<'_, '_>>
-        ensures { option_map lent_view result ≡ slice_get self.now.rows index }
+    pub fn row(&self, index: usize) -> Option<RowRef<'_, '_>>
+        ensures { option_map row_ref_view result ≡ slice_get self.now.rows index }
     {
         if index >= self.payload_ends.len() {
             return None;
         }
-        Some(lent_at(
+        Some(row_at(
             &self.columns,
             self.payloads.as_slice(),
             self.payload_ends.as_slice(),

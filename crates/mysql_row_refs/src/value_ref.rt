@@ -1,13 +1,13 @@
-//! Values whose bytes are lent.
+//! Values that borrow their bytes.
 
 ghost use Rattle.std.specs.Prelude.{◌≡◌, IfOk};
-ghost use Rattle.mysql_row_refs.specs.Lent.{value_of};
+ghost use Rattle.mysql_row_refs.specs.Places.{value_of};
 
 use mysql_cells::Value;
 use mysql_queries::ByteString;
 use std::alloc::{AllocError, Global};
 
-/// What a cell of a payload holds, as [`Value`] tells it, with its bytes lent by the payload.
+/// What a cell of a payload holds, as [`Value`] tells it, but for its bytes, which it borrows.
 ///
 /// Two are equal where their values are, floats by their bits. No field is checked: a date may have month 13.
 ///
@@ -33,7 +33,10 @@ pub enum ValueRef<'p> {
 }
 
 impl ValueRef<'_> {
-    /// The value, with a copy of its bytes. Refused for want of memory alone.
+    /// The value, with a copy of its bytes.
+    ///
+    /// # Errors
+    /// - `AllocError` for want of memory.
     pub fn to_value(&self, alloc: Global) -> Result<Value, AllocError>
         ensures { IfOk result (λ value. value ≡ value_of self.now) }
     {

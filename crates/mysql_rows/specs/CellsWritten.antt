@@ -6,33 +6,15 @@ use Rattle.std.specs.Prelude.{map, flat_map, zip, Option, Some, None, Result, Ok
 use Rattle.std.specs.Option.{option_and_then}
 use Rattle.byteorder.specs.Endian.{little_bytes}
 use Rattle.mysql_cells.specs.Cells.{cell}
-use Rattle.mysql_cells.specs.declared.cell_form.CellForm.{CellForm}
-use Rattle.mysql_cells.specs.declared.cell_form.CellForm.TheVariants as cell_form
 use Rattle.mysql_cells.specs.Values.{date_text, is_null, is_zero_time, time_text}
 use Rattle.mysql_cells.specs.declared.value.Value.{Value}
 use Rattle.mysql_cells.specs.declared.value.Value.TheVariants.{Date, Time}
 use Rattle.mysql_columns.specs.Columns.{ColumnDefinition}
 use Rattle.mysql_rows.specs.declared.binary_cell.Cell.{Cell}
 use Rattle.mysql_rows.specs.declared.binary_cell.Cell.TheVariants.{Empty, One, Two, Four, Eight, Own}
-use Rattle.mysql_rows.specs.declared.binary_cell.Form.{Form}
-use Rattle.mysql_rows.specs.declared.binary_cell.Form.TheVariants as form
 use Rattle.mysql_rows.specs.declared.refusal.RowRefusal.{RowRefusal}
 use Rattle.mysql_rows.specs.declared.refusal.RowRefusal.TheVariants.{NoForm, Memory}
 use Rattle.mysql_rows.specs.Written.{cell_in, text_cell}
-
--- a form of cells, as the code names it
-abbrev pub form_view : Form → CellForm
-form_view form.Whole1 = cell_form.Whole1
-form_view form.Whole2 = cell_form.Whole2
-form_view form.Whole4 = cell_form.Whole4
-form_view form.Whole8 = cell_form.Whole8
-form_view form.FloatBits = cell_form.FloatBits
-form_view form.DoubleBits = cell_form.DoubleBits
-form_view form.Counted = cell_form.Counted
-form_view form.DateAndTime = cell_form.DateAndTime
-form_view form.Duration = cell_form.Duration
-form_view form.NoBytes = cell_form.Nothing
-form_view form.Without = cell_form.Without
 
 -- the bytes of a cell
 abbrev pub cell_bytes : Cell → List ℕ

@@ -13,35 +13,17 @@ ghost use Rattle.mysql_cells.specs.declared.cell_form.CellForm.TheVariants as ce
 ghost use Rattle.mysql_cells.specs.declared.value.Value.TheVariants.{Int};
 ghost use Rattle.mysql_rows.specs.Written.{binary_cell, cell_in, number_cell, some_cell, whole_number as number_of};
 ghost use Rattle.mysql_cells.specs.Values.{is_null};
-ghost use Rattle.mysql_rows.specs.CellsWritten.{cell_bytes, form_view, marked};
+ghost use Rattle.mysql_rows.specs.CellsWritten.{cell_bytes, marked};
 
 use crate::row_bitmap::mark;
 use crate::text_writing::put_text;
 use bitflags::Flags;
 use mysql_cells::Value;
+use mysql_cells::cell_form::{CellForm, form_of_type};
 use mysql_columns::Column;
-use mysql_const::{ColumnFlags, ColumnType};
+use mysql_const::ColumnFlags;
 use mysql_fields::MySerialize;
 use std::alloc::{AllocError, AllocFailed};
-
-/// The form of a type's cells.
-#[derive(Clone, Copy)]
-pub enum Form {
-    Whole1,
-    Whole2,
-    Whole4,
-    Whole8,
-    FloatBits,
-    DoubleBits,
-    /// Length-encoded bytes.
-    Counted,
-    DateAndTime,
-    Duration,
-    /// Of NULL alone.
-    NoBytes,
-    /// The type has no cells.
-    Without,
-}
 
 /// The bytes of a cell.
 #[derive(Clone, Copy)]
@@ -53,32 +35,6 @@ pub enum Cell<'a> {
     Eight(u64),
     /// The cell that the value has by its own type.
     Own(&'a Value),
-}
-
-/// The form of a type's cells.
-fn form_of(column_type: ColumnType) -> Form
-    ensures { form_view result ≡ form_by_type column_type }
-{
-    match column_type {
-        ColumnType::MYSQL_TYPE_TINY => Form::Whole1,
-        ColumnType::MYSQL_TYPE_SHORT | ColumnType::MYSQL_TYPE_YEAR => Form::Whole2,
-        ColumnType::MYSQL_TYPE_LONG | ColumnType::MYSQL_TYPE_INT24 => Form::Whole4,
-        ColumnType::MYSQL_TYPE_LONGLONG => Form::Whole8,
-        ColumnType::MYSQL_TYPE_FLOAT => Form::FloatBits,
-        ColumnType::MYSQL_TYPE_DOUBLE => Form::DoubleBits,
-        ColumnType::MYSQL_TYPE_DATE
-        | ColumnType::MYSQL_TYPE_DATETIME
-        | ColumnType::MYSQL_TYPE_TIMESTAMP => Form::DateAndTime,
-        ColumnType::MYSQL_TYPE_TIME => Form::Duration,
-        ColumnType::MYSQL_TYPE_NULL => Form::NoBytes,
-        ColumnType::MYSQL_TYPE_NEWDATE
-        | ColumnType::MYSQL_TYPE_TIMESTAMP2
-        | ColumnType::MYSQL_TYPE_DATETIME2
-        | ColumnType::MYSQL_TYPE_TIME2
-        | ColumnType::MYSQL_TYPE_TYPED_ARRAY
-        | ColumnType::MYSQL_TYPE_UNKNOWN => Form::Without,
-        _ => Form::Counted,
-    }
 }
 
 /// Whether a column's whole numbers have no sign.
@@ -110,7 +66,7 @@ fn in_one(unsigned: bool, number: i128) -> Option<u8>
     }
 }
 
-/// The same in two bytes.
+/// The number in two bytes, where it is in range.
 fn in_two(unsigned: bool, number: i128) -> Option<u16>
     ensures { option_map (little_bytes 2) result ≡ number_cell 2 w16 unsigned number }
 {
@@ -121,7 +77,7 @@ fn in_two(unsigned: bool, number: i128) -> Option<u16>
     }
 }
 
-/// The same in four bytes.
+/// The number in four bytes, where it is in range.
 fn in_four(unsigned: bool, number: i128) -> Option<u32>
     ensures { option_map (little_bytes 4) result ≡ number_cell 4 w32 unsigned number }
 {
@@ -132,7 +88,7 @@ fn in_four(unsigned: bool, number: i128) -> Option<u32>
     }
 }
 
-/// The same in eight bytes.
+/// The number in eight bytes, where it is in range.
 fn in_eight(unsigned: bool, number: i128) -> Option<u64>
     ensures { option_map (little_bytes 8) result ≡ number_cell 8 w64 unsigned number }
 {
@@ -144,19 +100,19 @@ fn in_eight(unsigned: bool, number: i128) -> Option<u64>
 }
 
 /// The cell of a value that isn't NULL, if it has one of this form.
-fn cell_of_some<'a>(form: Form, unsigned: bool, value: &'a Value) -> Option<Cell<'a>>
-    ensures { option_map cell_bytes result ≡ some_cell (form_view form) unsigned value.now }
+fn cell_of_some<'a>(form: CellForm, unsigned: bool, value: &'a Value) -> Option<Cell<'a>>
+    ensures { option_map cell_bytes result ≡ some_cell form unsigned value.now }
 {
     match (form, value) {
-        (Form::Whole1, _) => Some(Cell::One(in_one(unsigned, whole_number(value)?)?)),
-        (Form::Whole2, _) => Some(Cell::Two(in_two(unsigned, whole_number(value)?)?)),
-        (Form::Whole4, _) => Some(Cell::Four(in_four(unsigned, whole_number(value)?)?)),
-        (Form::Whole8, _) => Some(Cell::Eight(in_eight(unsigned, whole_number(value)?)?)),
-        (Form::FloatBits, Value::Float(_)) => Some(Cell::Own(value)),
-        (Form::DoubleBits, Value::Double(_)) => Some(Cell::Own(value)),
-        (Form::Counted, Value::Bytes(_)) => Some(Cell::Own(value)),
-        (Form::DateAndTime, Value::Date(..)) => Some(Cell::Own(value)),
-        (Form::Duration, Value::Time(..)) => Some(Cell::Own(value)),
+        (CellForm::Whole1, _) => Some(Cell::One(in_one(unsigned, whole_number(value)?)?)),
+        (CellForm::Whole2, _) => Some(Cell::Two(in_two(unsigned, whole_number(value)?)?)),
+        (CellForm::Whole4, _) => Some(Cell::Four(in_four(unsigned, whole_number(value)?)?)),
+        (CellForm::Whole8, _) => Some(Cell::Eight(in_eight(unsigned, whole_number(value)?)?)),
+        (CellForm::FloatBits, Value::Float(_)) => Some(Cell::Own(value)),
+        (CellForm::DoubleBits, Value::Double(_)) => Some(Cell::Own(value)),
+        (CellForm::Counted, Value::Bytes(_)) => Some(Cell::Own(value)),
+        (CellForm::DateAndTime, Value::Date(..)) => Some(Cell::Own(value)),
+        (CellForm::Duration, Value::Time(..)) => Some(Cell::Own(value)),
         _ => None,
     }
 }
@@ -169,7 +125,7 @@ pub fn cell_of<'a>(column: &Column, value: &'a Value) -> Option<Cell<'a>>
         return Some(Cell::Empty);
     }
     cell_of_some(
-        form_of(column.column_type()),
+        form_of_type(column.column_type()),
         has_no_sign(column.flags()),
         value,
     )
@@ -229,8 +185,8 @@ fn put_bytes(column: &Column, bytes: &[u8], out: &mut Vec<u8>) -> Result<(), Not
         cell_form.Counted) × (out.new.items ≡ out.old.items ++ lenenc_str bytes.now)) }
     ensures kept { OnErr result (out.new.items ≡ out.old.items) }
 {
-    match form_of(column.column_type()) {
-        Form::Counted => Ok(put_text(bytes, out)?),
+    match form_of_type(column.column_type()) {
+        CellForm::Counted => Ok(put_text(bytes, out)?),
         _ => Err(NotWritten),
     }
 }
@@ -248,7 +204,7 @@ fn put_eight(number: Option<u64>, out: &mut Vec<u8>) -> Result<(), NotWritten>
     }
 }
 
-/// The same of four bytes.
+/// Appends the four bytes of a number that is in range.
 #[inline(always)]
 fn put_four(number: Option<u32>, out: &mut Vec<u8>) -> Result<(), NotWritten>
     ensures ok { OnOk result (IsSomeAnd (option_map (little_bytes 4) number)
@@ -270,15 +226,16 @@ fn put_int(column: &Column, value: &Value, number: i64, out: &mut Vec<u8>) -> Re
     ensures kept { OnErr result (out.new.items ≡ out.old.items) }
 {
     let unsigned = has_no_sign(column.flags());
-    match form_of(column.column_type()) {
-        Form::Whole8 => put_eight(in_eight(unsigned, i128::from(number)), out),
-        Form::Whole4 => put_four(in_four(unsigned, i128::from(number)), out),
+    match form_of_type(column.column_type()) {
+        CellForm::Whole8 => put_eight(in_eight(unsigned, i128::from(number)), out),
+        CellForm::Whole4 => put_four(in_four(unsigned, i128::from(number)), out),
         _ => put_any(column, value, out),
     }
 }
 
-/// Appends the cell of the value at a place; NULL sets its bit in the bitmap that stands from
-/// `bitmap` on. The kinds that most values have come first.
+/// Appends the cell of the value at a place; NULL sets its bit in the bitmap.
+///
+/// The bitmap stands from `bitmap` on. The kinds that most values have come first.
 #[inline(always)]
 pub fn put_value(
     bitmap: usize,

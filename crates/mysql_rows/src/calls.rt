@@ -1,12 +1,12 @@
 //! What is done with rows.
 
-ghost use Rattle.std.specs.Prelude.{◌≡◌, ◌==◌, ◌<◌, IfOk, IfSome, IsSome, List, None, Option, Some, length, map, true};
-ghost use Rattle.std.specs.Option.{option_and_then, option_copied, option_map};
+ghost use Rattle.std.specs.Prelude.{◌≡◌, ◌==◌, ◌<◌, IfOk, IsSome, None, Option, Some, length, map, true};
+ghost use Rattle.std.specs.Option.{option_copied};
 ghost use Rattle.std.specs.Rc.{rc_slice_items};
 ghost use Rattle.mysql_rows.specs.Rows.{cell_at, column_named, is_whole, whole_row, with_cell, without_cell};
 ghost use Rattle.mysql_rows.specs.CellsWritten.{PutsRow};
 ghost use Rattle.mysql_rows.specs.Written.{binary_cause, binary_row, text_cause, text_row, values_of};
-ghost use Rattle.mysql_rows.specs.Views.{answer_view, column_views, converted_or_value, row_view, shared_columns};
+ghost use Rattle.mysql_rows.specs.Views.{column_views, row_view, shared_columns};
 
 use crate::column_index::ColumnIndex;
 use crate::refusal::RowRefusal;
@@ -14,13 +14,15 @@ use crate::row::Row;
 use crate::writing::{write_binary, write_text};
 use mysql_cells::Value;
 use mysql_columns::Column;
-use mysql_convert::{FromValue, FromValueError};
 use std::alloc::{AllocError, Global};
 use std::mem;
 use std::ops::Index;
 use std::rc::RcSlice;
 
-/// The row of these values, as many as there are columns. Refused for want of memory alone.
+/// The row of these values, as many as there are columns.
+///
+/// # Errors
+/// - `AllocError` for want of memory.
 pub fn new_row(
     alloc: Global,
     values: Vec<Value>,
@@ -74,7 +76,10 @@ impl Row {
         self.columns.as_slice()
     }
 
-    /// The same columns, shared. Refused for want of memory alone.
+    /// The columns, shared with the row.
+    ///
+    /// # Errors
+    /// - `AllocError` for want of memory.
     pub fn columns(&self) -> Result<RcSlice<Column>, AllocError>
         ensures { IfOk result (λ columns. shared_columns columns ≡ (row_view self.now).columns) }
     {
@@ -92,10 +97,12 @@ impl Row {
         }
     }
 
-    // The same by what names the column.
+    /// The value of the cell that a number or a name names.
+    ///
+    /// None where there is no such column, or its value was taken.
     #[inline(always)]
-    fn value_at<I: ColumnIndex>(&self, index: &I) -> Option<&Value>
-        ensures { option_copied result ≡ cell_at (row_view self.now) (I.place index.now (row_view self.now).columns) }
+    pub fn value_at<I: ColumnIndex>(&self, index: I) -> Option<&Value>
+        ensures { option_copied result ≡ cell_at (row_view self.now) (I.place index (row_view self.now).columns) }
     {
         match index.idx(self.columns.as_slice()) {
             Some(number) => self.as_ref(number),
@@ -103,96 +110,19 @@ impl Row {
         }
     }
 
-    // Takes a value out of its cell.
-    fn take_value<I: ColumnIndex>(&mut self, index: &I) -> Option<Value>
-        ensures value { result ≡ cell_at (row_view self.old) (I.place index.now (row_view self.old).columns) }
+    /// Takes the value out of the cell that a number or a name names.
+    ///
+    /// None where there is no such column, or its value was taken before.
+    pub fn take_value<I: ColumnIndex>(&mut self, index: I) -> Option<Value>
+        ensures value { result ≡ cell_at (row_view self.old) (I.place index (row_view self.old).columns) }
         ensures taken { row_view self.new ≡
-            without_cell (row_view self.old) (I.place index.now (row_view self.old).columns) }
+            without_cell (row_view self.old) (I.place index (row_view self.old).columns) }
     {
         let number = index.idx(self.columns.as_slice())?;
         if number < self.cells.len() {
             mem::replace(&mut self.cells[number], None)
         } else {
             None
-        }
-    }
-
-    /// A copy of the value in a cell, converted to `T`; None where there is no such column, or its
-    /// value was taken. Where the value doesn't convert the error holds it. Refused for want of
-    /// memory alone.
-    #[inline(always)]
-    pub fn get_opt<T: FromValue, I: ColumnIndex>(
-        &self,
-        alloc: Global,
-        index: I,
-    ) -> Result<Option<Result<T, FromValueError>>, AllocError>
-        ensures { IfOk result (λ answer. option_map (answer_view T.shown) answer ≡
-            option_map (converted_or_value T.converted)
-            (cell_at (row_view self.now) (I.place index (row_view self.now).columns))) }
-    {
-        match self.value_at(&index) {
-            Some(value) => Ok(Some(T::from_value_ref_opt(alloc, value)?)),
-            None => Ok(None),
-        }
-    }
-
-    /// A copy of the value in a cell, converted to `T`, where it converts, as
-    /// [`get_opt`](Self::get_opt) tells; None where there is no such column, or its value was
-    /// taken. Refused for want of memory alone.
-    #[inline(always)]
-    pub fn get<T: FromValue, I: ColumnIndex>(
-        &self,
-        alloc: Global,
-        index: I,
-    ) -> Result<Option<T>, AllocError>
-        requires { IfSome (cell_at (row_view self.now) (I.place index (row_view self.now).columns))
-            (λ value. IsSome (T.converted value)) }
-        ensures { IfOk result (λ answer. option_map T.shown answer ≡
-            option_and_then T.converted
-            (cell_at (row_view self.now) (I.place index (row_view self.now).columns))) }
-    {
-        match self.value_at(&index) {
-            Some(value) => match T::from_value_ref_opt(alloc, value)? {
-                Ok(x) => Ok(Some(x)),
-                Err(_) => unreachable!(),
-            },
-            None => Ok(None),
-        }
-    }
-
-    /// Takes the value out of a cell and converts it to `T`; None where there is no such column, or
-    /// its value was taken. Where the value doesn't convert it is taken all the same, and the error
-    /// holds it.
-    pub fn take_opt<T: FromValue, I: ColumnIndex>(
-        &mut self,
-        index: I,
-    ) -> Option<Result<T, FromValueError>>
-        ensures value { option_map (answer_view T.shown) result ≡
-            option_map (converted_or_value T.converted)
-            (cell_at (row_view self.old) (I.place index (row_view self.old).columns)) }
-        ensures taken { row_view self.new ≡
-            without_cell (row_view self.old) (I.place index (row_view self.old).columns) }
-    {
-        match self.take_value(&index) {
-            Some(value) => Some(T::from_value_opt(value)),
-            None => None,
-        }
-    }
-
-    /// Takes the value out of a cell and converts it to `T`, where it converts; None where there is
-    /// no such column, or its value was taken.
-    pub fn take<T: FromValue, I: ColumnIndex>(&mut self, index: I) -> Option<T>
-        requires { IfSome (cell_at (row_view self.old) (I.place index (row_view self.old).columns))
-            (λ value. IsSome (T.converted value)) }
-        ensures value { option_map T.shown result ≡
-            option_and_then T.converted
-            (cell_at (row_view self.old) (I.place index (row_view self.old).columns)) }
-        ensures taken { row_view self.new ≡
-            without_cell (row_view self.old) (I.place index (row_view self.old).columns) }
-    {
-        match self.take_value(&index) {
-            Some(value) => Some(T::from_value(value)),
-            None => None,
         }
     }
 
@@ -212,10 +142,17 @@ impl Row {
         self.cells
     }
 
-    /// Appends the text row of the cells' values, as [`write_text_row`](crate::write_text_row) does.
+    /// Appends the text row of the cells' values, as [`write_text_row`](crate::write_text_row)
+    /// does.
+    ///
+    /// Promise: exactly the row is appended, or it is refused by the least place whose cell has no
+    /// form there or was taken, and the buffer is as it was (`text_row`).
     ///
     /// # Errors
-    /// `NoForm` with the least place whose value was taken or is a float, then `Memory`. `out` is then as it was.
+    /// - `NoForm` with the least place whose value was taken or is a float.
+    /// - `Memory`.
+    ///
+    /// `out` is as it was after an error.
     ///
     /// MySQL: Client/Server Protocol, "Text Resultset Row".
     pub fn write_text(&self, out: &mut Vec<u8>) -> Result<(), RowRefusal>
@@ -225,14 +162,22 @@ impl Row {
         write_text(self.cells.as_slice(), out)
     }
 
-    /// Appends the binary row of the cells' values by these columns, as many as there are cells,
-    /// and not by the row's own; as [`write_binary_row`](crate::write_binary_row) does.
+    /// Appends the binary row of the cells' values by these columns, as many as there are cells.
+    ///
+    /// The row's own columns don't count; [`write_binary_row`](crate::write_binary_row) does the
+    /// same with values.
+    ///
+    /// Promise: exactly the row is appended, or it is refused by the least place whose cell has no
+    /// form there or was taken, and the buffer is as it was (`binary_row`).
     ///
     /// # Errors
-    /// `NoForm` with the least place whose value was taken or has no cell by its column, then
-    /// `Memory`. `out` is then as it was.
+    /// - `NoForm` with the least place whose value was taken or has no cell by its column.
+    /// - `Memory`.
     ///
-    /// MySQL: Client/Server Protocol, "Binary Protocol Resultset Row", "Null-Bitmap" and "Binary Protocol Value".
+    /// `out` is as it was after an error.
+    ///
+    /// MySQL: Client/Server Protocol, "Binary Protocol Resultset Row", "Null-Bitmap" and "Binary
+    /// Protocol Value".
     pub fn write_binary(&self, columns: &[Column], out: &mut Vec<u8>) -> Result<(), RowRefusal>
         requires { length columns.now ≡ length (row_view self.now).cells }
         ensures { PutsRow (binary_cause (column_views columns.now) (row_view self.now).cells)
@@ -242,7 +187,10 @@ impl Row {
         write_binary(columns, self.cells.as_slice(), out)
     }
 
-    /// The same row again: copies of its cells, under the columns that it shares. Refused for want of memory alone.
+    /// A copy of the row's cells, under the columns that it shares.
+    ///
+    /// # Errors
+    /// - `AllocError` for want of memory.
     pub fn clone(&self, alloc: Global) -> Result<Row, AllocError>
         ensures { IfOk result (λ copy. row_view copy ≡ row_view self.now) }
     {
@@ -251,7 +199,10 @@ impl Row {
         Ok(new_row_raw(cells, columns))
     }
 
-    /// The values of a row of which nothing was taken. Refused for want of memory alone.
+    /// The values of a row of which nothing was taken.
+    ///
+    /// # Errors
+    /// - `AllocError` for want of memory.
     pub fn unwrap(self, alloc: Global) -> Result<Vec<Value>, AllocError>
         requires { is_whole (row_view self) ≡ true }
         ensures { IfOk result (λ values. map Some values.items ≡ (row_view self).cells) }
@@ -293,7 +244,7 @@ impl Index<&str> for Row {
         (column_named name.now (row_view row).columns) ≡ Some value };
 
     fn index(&self, name: &str) -> &Value {
-        match self.value_at(&name) {
+        match self.value_at(name) {
             Some(value) => value,
             None => unreachable!(),
         }

@@ -8,6 +8,9 @@ ghost use Rattle.mysql_rows.specs.Views.{column_views};
 use mysql_columns::Column;
 
 /// What names a column of a row: its number, from 0 on, or its name in the query.
+///
+/// Promise: a number names itself below the number of columns, and a text the first column whose
+/// name in the query has its bytes.
 pub trait ColumnIndex: Drop {
     // which of these columns is named, if any is
     ghost place: { Self → List ColumnDefinition → Option ℕ };

@@ -22,9 +22,13 @@ use std::alloc::{AllocError, Global};
 use std::marker::PhantomData;
 use std::rc::RcSlice;
 
-/// A row that was read by the protocol `P`, `Text` or `Binary`. In the binary protocol the side `S`
-/// wrote it: a bitmap of a server has two bits before that of the first column, and one of a client
-/// none.
+/// A row that was read by the protocol `P`, `Text` or `Binary`.
+///
+/// In the binary protocol the side `S` wrote it: a bitmap of a server has two bits before that of
+/// the first column, and one of a client none.
+///
+/// Promise: exactly the row is read that the definitions read from any bytes, or their refusal is
+/// answered and all bytes are left (`text_row_at`, `binary_row_at`).
 #[derive(Drop)]
 #[derive_where(Debug, PartialEq)]
 pub struct RowDeserializer<S, P>(Row, PhantomData<(S, P)>);
@@ -37,7 +41,10 @@ impl<S, P> RowDeserializer<S, P> {
         self.0
     }
 
-    /// The same again. Refused for want of memory alone.
+    /// A copy of the row, with the same protocol and side.
+    ///
+    /// # Errors
+    /// - `AllocError` for want of memory.
     pub fn clone(&self, alloc: Global) -> Result<RowDeserializer<S, P>, AllocError>
         ensures { IfOk result (λ copy. row_view copy.0 ≡ row_view self.now.0) }
     {

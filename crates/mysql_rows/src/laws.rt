@@ -30,7 +30,9 @@ pub fn named_column_is_first()
     ensures { NamedColumnIsFirst }
 {}
 
-/// A text row of values that all have a text cell is read again, whatever follows it: each value as its text.
+/// A text row of values that all have a text cell is read again, each value as its text.
+///
+/// That holds whatever follows it.
 #[tactic(auto, using(crate::proofs::TextBack::text_rows_read_back))]
 pub fn text_rows_read_back()
     ensures { TextRowsReadBack }
@@ -42,16 +44,18 @@ pub fn read_text_rows_are_written()
     ensures { ReadTextRowsAreWritten }
 {}
 
-/// A text row never begins with ff, by which an error begins, and with fe, by which the end of rows
-/// begins, only where it has 2^24 bytes or more.
+/// A text row begins with ff never, and with fe only where it has 2^24 bytes or more.
+///
+/// An error begins with ff, and the end of rows with fe.
 #[tactic(auto, using(crate::proofs::TextBack::text_rows_begin))]
 pub fn text_rows_begin()
     ensures { TextRowsBegin }
 {}
 
-/// A binary row of values that all have a cell by their columns is read again, whatever follows it:
-/// each value as itself, but an unsigned number below 2^63 as `Int`, and an all-zero time as
-/// positive.
+/// A binary row of values that all have a cell by their columns is read again.
+///
+/// That holds whatever follows it: each value is read as itself, but an unsigned number below 2^63
+/// as `Int`, and an all-zero time as positive.
 pub fn binary_rows_read_back()
     ensures { BinaryRowsReadBack }
 {
@@ -64,8 +68,9 @@ pub fn binary_rows_begin()
     ensures { BinaryRowsBegin }
 {}
 
-/// The values of a binary row that was read have cells by their columns, and are read again as they
-/// are, but an all-zero time as positive.
+/// The values of a binary row that was read are read again as they are, once written.
+///
+/// They have cells by their columns; an all-zero time is read as positive.
 #[tactic(auto, using(crate::proofs::BinaryRead::read_binary_rows_are_written))]
 pub fn read_binary_rows_are_written()
     ensures { ReadBinaryRowsAreWritten }

@@ -9,7 +9,7 @@ use thiserror::Error;
 /// Why a row isn't written, in the order in which the causes are looked for.
 #[derive(Clone, Copy, Debug, PartialEq, Eq, Error)]
 pub enum RowRefusal {
-    /// The value of the cell of this number, the least one, was taken, or has no form in such a row.
+    /// The value of this cell, the least one, was taken or has no form in such a row.
     #[error("the cell {0} has no form in the row")]
     NoForm(usize),
     #[error("out of memory")]

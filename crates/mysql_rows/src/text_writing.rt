@@ -90,7 +90,7 @@ fn cell_room(value: &Value) -> Option<usize>
     }
 }
 
-/// The same of what is held.
+/// Bytes that are enough for the cell of what is held; None for a float, or where nothing is.
 fn held_room<C: Held>(cell: &C) -> Option<usize>
     ensures { is_none result ≡ is_none (option_and_then text_cell (C.held cell.now)) }
 {

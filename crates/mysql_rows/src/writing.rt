@@ -51,12 +51,19 @@ pub(crate) fn write_binary<C: Held>(
     }
 }
 
-/// Appends the text row of these values: NULL as fb, else the value's text after its length, of a
-/// number its digits, bytes and the texts of dates and times as they are. An all-zero time is
-/// written without its sign.
+/// Appends the text row of these values.
+///
+/// NULL is written as fb, else the value's text after its length: a number's digits, bytes and the
+/// texts of dates and times as they are. An all-zero time is written without its sign.
+///
+/// Promise: exactly the row is appended, or it is refused by the least place whose value has no
+/// form there, and the buffer is as it was (`text_row`).
 ///
 /// # Errors
-/// `NoForm` with the least place that holds a float, which has no text here, then `Memory`. `out` is then as it was.
+/// - `NoForm` with the least place that holds a float, which has no text here.
+/// - `Memory`.
+///
+/// `out` is as it was after an error.
 ///
 /// MySQL: Client/Server Protocol, "Text Resultset Row".
 pub fn write_text_row(values: &[Value], out: &mut Vec<u8>) -> Result<(), RowRefusal>
@@ -65,15 +72,23 @@ pub fn write_text_row(values: &[Value], out: &mut Vec<u8>) -> Result<(), RowRefu
     write_text(values, out)
 }
 
-/// Appends the binary row of these values, as many as there are columns: a zero, the bitmap of
-/// those that are NULL, and the cells of the others by their columns' types and flags. A whole
-/// number is written in as many bytes as its column's type has, where it is in range there; floats,
-/// bytes, dates and times in columns of such types; NULL in each column.
+/// Appends the binary row of these values, as many as there are columns.
+///
+/// It is a zero, the bitmap of those that are NULL, and the cells of the others by their columns'
+/// types and flags. A whole number is written in as many bytes as its column's type has, where it
+/// is in range there; floats, bytes, dates and times in columns of such types; NULL in each column.
+///
+/// Promise: exactly the row is appended, or it is refused by the least place whose value has no
+/// form there, and the buffer is as it was (`binary_row`).
 ///
 /// # Errors
-/// `NoForm` with the least place whose value has no cell by its column, then `Memory`. `out` is then as it was.
+/// - `NoForm` with the least place whose value has no cell by its column.
+/// - `Memory`.
 ///
-/// MySQL: Client/Server Protocol, "Binary Protocol Resultset Row", "Null-Bitmap" and "Binary Protocol Value".
+/// `out` is as it was after an error.
+///
+/// MySQL: Client/Server Protocol, "Binary Protocol Resultset Row", "Null-Bitmap" and "Binary
+/// Protocol Value".
 pub fn write_binary_row(
     columns: &[Column],
     values: &[Value],

@@ -11,6 +11,7 @@ ghost use Rattle.mysql_command_rules.specs.declared.refusal.Refusal.TheVariants 
 ghost use Rattle.mysql_send_execute.specs.Executions.{refusal_of};
 
 use crate::statement::Statement;
+use mysql_cells::value::is_float;
 use mysql_command_rules::Refusal;
 use mysql_stmt::HasValue;
 use mysql_values::laws::fields_fit;

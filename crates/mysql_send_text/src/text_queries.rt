@@ -12,7 +12,7 @@ ghost use Rattle.mysql_send_text.specs.Refusing.{refusal_by};
 use mysql_command_rules::Refusal;
 use mysql_command_rules::in_turn::sent_in_turn;
 use mysql_const::Command;
-use mysql_values::bind::bind_text_over;
+use mysql_values::bind::bind_text_onto;
 use mysql_values::laws::{pieces_of_a_query, tokens_of_a_text};
 use mysql_queries::ParsedQuery;
 use mysql_values::{BindError, Params, SetError, Value};
@@ -93,7 +93,7 @@ pub(crate) fn put_query<'a>(
     tokens_of_a_text();
     let start = out.len();
     out.extend_from_slice(&[0, 0, 0, 0, Command::COM_QUERY as u8])?;
-    let bound = bind_text_over(
+    let bound = bind_text_onto(
         query.text(),
         query.places(),
         query.names(),

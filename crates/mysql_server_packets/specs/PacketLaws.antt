@@ -12,10 +12,12 @@ use Rattle.mysql_fields.specs.TextLaws.{lenenc_text_at-back}
 use Rattle.mysql_field_constants.specs.ConstantLaws.{constant_at-back, constant_at-sized, skipped_at-back}
 use Rattle.mysql_field_constants.specs.ConstantLaws.{skipped_at-sized}
 use Rattle.mysql_field_constants.specs.Constants.{constant_at, skipped_at}
-use Rattle.mysql_server_packets.specs.Packets.{HasState, IsServerError, ServerError, server_error, server_error_at, state_part}
+use Rattle.mysql_server_packets.specs.Packets.{HasState, IsServerError, ServerError, server_error, server_error_at}
+use Rattle.mysql_server_packets.specs.Packets.{state_part}
 use Rattle.mysql_server_packets.specs.Packets.{state_part_at, IsPrepareOk, IsProgressReport, PrepareOk, ProgressReport}
 use Rattle.mysql_server_packets.specs.Packets.{StageProgress, local_infile, local_infile_at, numbers_in, prepare_ok}
-use Rattle.mysql_server_packets.specs.Packets.{prepare_ok_at, prepare_ok_fields_at, progress_body, progress_body_at, sql_state}
+use Rattle.mysql_server_packets.specs.Packets.{prepare_ok_at, prepare_ok_fields_at, progress_body, progress_body_at}
+use Rattle.mysql_server_packets.specs.Packets.{sql_state}
 use Rattle.mysql_server_packets.specs.Packets.{sql_state_at, sql_state_fields_at, stage_progress, stage_progress_at}
 
 sql_state_fields_at-eats : (bytes rest state : List ℕ) → sql_state_fields_at bytes ≡

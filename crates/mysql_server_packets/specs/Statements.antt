@@ -1,7 +1,8 @@
 -- The laws of the packets: what was written is read again.
 use Rattle.std.specs.Prelude.{◌≡◌, ℕ, List, [], ◌++◌, length, Bool, Ok}
 use Rattle.mysql_server_packets.specs.Packets.{IsServerError, ServerError, server_error, server_error_at, IsPrepareOk}
-use Rattle.mysql_server_packets.specs.Packets.{IsProgressReport, PrepareOk, ProgressReport, local_infile, local_infile_at}
+use Rattle.mysql_server_packets.specs.Packets.{IsProgressReport, PrepareOk, ProgressReport, local_infile}
+use Rattle.mysql_server_packets.specs.Packets.{local_infile_at}
 use Rattle.mysql_server_packets.specs.Packets.{prepare_ok, prepare_ok_at, progress_body, progress_body_at, sql_state}
 use Rattle.mysql_server_packets.specs.Packets.{sql_state_at}
 

@@ -1,10 +1,17 @@
-//! Error packets.
+//! Error packets: an error, or a progress report where these were agreed on.
+//!
+//!     let packet: ErrPacket = ParseBuf(payload).parse(alloc, capabilities)?;
+//!     if packet.is_error() {
+//!         let error = packet.server_error();
+//!     }
 
 ghost use Rattle.std.specs.Prelude.{◌≡◌, IfOk, None, Some, false, not, true, ℕ};
 ghost use Rattle.mysql_fields.specs.Laws.{unsized};
 ghost use Rattle.mysql_fields.specs.Wire.{Tells, TellsPart};
-ghost use Rattle.mysql_server_packets.specs.Packets.{Error, ErrPacket as ErrPacketFields, Progress, err_body_at, err_packet};
-ghost use Rattle.mysql_server_packets.specs.Packets.{err_packet_at, error_at, error_code_at, holds_error, is_progress_code};
+ghost use Rattle.mysql_server_packets.specs.Packets.{Error, ErrPacket as ErrPacketFields, Progress, err_body_at};
+ghost use Rattle.mysql_server_packets.specs.Packets.{err_packet};
+ghost use Rattle.mysql_server_packets.specs.Packets.{err_packet_at, error_at, error_code_at, holds_error};
+ghost use Rattle.mysql_server_packets.specs.Packets.{is_progress_code};
 ghost use Rattle.mysql_server_packets.specs.Packets.{protocol_41};
 ghost use Rattle.mysql_server_packets.specs.Texts.{err_packet_text};
 ghost use Rattle.mysql_server_packets.specs.Views.{err_packet_view, progress_report_view, server_error_view};
@@ -22,6 +29,9 @@ use std::alloc::{AllocError, Global};
 use std::fmt;
 
 /// An error packet, which holds an error or a progress report.
+///
+/// Promise: it is an error or a report by the capabilities that both sides agreed on, and any bytes
+/// are read exactly as its layout says (`err_packet`, `err_packet_at`).
 ///
 /// MySQL: Client/Server Protocol, "ERR_Packet".
 #[derive(Debug, PartialEq, Drop)]
@@ -209,6 +219,11 @@ fn body_of<'de>(
 /// MySQL: Client/Server Protocol, "ERR_Packet"; MariaDB: 'Progress report' of "ERR_Packet".
 #[tactic(auto, unfolding(crate::specs::Packets::err_packet_at))]
 impl<'de> MyDeserialize<'de> for ErrPacket<'de> {
+    // ERR_Packet:
+    //   int<1>  header ff
+    //   int<2>  error code
+    //   ..      a progress report, where reports were agreed on and the code is ffff
+    //   ..      an error, else
     fn deserialize(
         alloc: Global,
         capabilities: CapabilityFlags,

@@ -1,4 +1,7 @@
-//! Requests for files.
+//! Requests for files: the server asks a client for a file of its own.
+//!
+//!     let request: LocalInfilePacket = ParseBuf(payload).parse(alloc, ())?;
+//!     let name = request.file_name_ref();
 
 ghost use Rattle.std.specs.Prelude.{◌≡◌, [], IfOk, IsOkUnless, List, None, false, ℕ};
 ghost use Rattle.std.specs.Cow.{cow_slice_items, cow_str_bytes};
@@ -20,6 +23,9 @@ use std::alloc::{AllocError, Global};
 use std::borrow::{CowSlice, CowStr};
 
 /// The server's request for a file of the client.
+///
+/// Promise: its bytes are a function of its fields, and any bytes are read exactly as its layout
+/// says, with the first refusal from the left (`local_infile`, `local_infile_at`).
 ///
 /// MySQL: Client/Server Protocol, "LOCAL INFILE Request".
 #[derive(Debug, PartialEq, Eq, Drop)]
@@ -125,6 +131,9 @@ impl<'a> ReadsBack for LocalInfilePacket<'a> {
 /// MySQL: Client/Server Protocol, "LOCAL INFILE Request".
 #[tactic(auto, unfolding(crate::specs::Packets::local_infile_at))]
 impl<'de> MyDeserialize<'de> for LocalInfilePacket<'de> {
+    // LOCAL INFILE Request:
+    //   int<1>       header fb
+    //   string<EOF>  filename
     fn deserialize(
         alloc: Global,
         _ctx: (),

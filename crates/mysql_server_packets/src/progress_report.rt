@@ -1,4 +1,6 @@
-//! Progress reports.
+//! Progress reports: how far a long command has come, as MariaDB tells it.
+//!
+//!     let report = ProgressReport::new(1, 2, 50000, CowSlice::Borrowed(b"copying"));
 
 ghost use Rattle.std.specs.Prelude.{◌≡◌, IfOk, IsOkUnless, None, Some, false};
 ghost use Rattle.std.specs.Cow.{cow_slice_items, cow_str_bytes};
@@ -6,8 +8,10 @@ ghost use Rattle.mysql_fields.specs.Laws.{unsized};
 ghost use Rattle.mysql_fields.specs.Wire.{TellsPart};
 ghost use Rattle.mysql_fields.specs.declared.error.WireError.TheVariants as wire;
 ghost use Rattle.mysql_server_packets.specs.PacketLaws.{progress_body_at-back};
-ghost use Rattle.mysql_server_packets.specs.Packets.{IsProgressReport, ProgressReport as ProgressReportFields, numbers_in};
-ghost use Rattle.mysql_server_packets.specs.Packets.{progress_body, progress_body_at, stage_progress, stage_progress_at};
+ghost use Rattle.mysql_server_packets.specs.Packets.{IsProgressReport, ProgressReport as ProgressReportFields};
+ghost use Rattle.mysql_server_packets.specs.Packets.{numbers_in};
+ghost use Rattle.mysql_server_packets.specs.Packets.{progress_body, progress_body_at, stage_progress};
+ghost use Rattle.mysql_server_packets.specs.Packets.{stage_progress_at};
 ghost use Rattle.mysql_server_packets.specs.Texts.{lossy, progress_report_text, share_text};
 ghost use Rattle.mysql_server_packets.specs.Views.{progress_report_view, stage_progress_view};
 
@@ -23,6 +27,10 @@ use std::borrow::{CowSlice, CowStr};
 use std::fmt;
 
 /// A progress report: how far a long command has come. Its own bytes begin behind the code of its packet.
+///
+/// Promise: its bytes are a function of its fields, and any bytes are read exactly as its layout
+/// says, with the first refusal from the left; its shown text has percents with two decimals,
+/// further ones cut off (`progress_body`, `progress_body_at`).
 ///
 /// MariaDB: Client/Server Protocol, "ERR_Packet", 'Progress report'.
 #[derive(Debug, PartialEq, Eq, Drop)]
@@ -231,6 +239,12 @@ impl<'a> ReadsBack for ProgressReport<'a> {
 /// MariaDB: Client/Server Protocol, "ERR_Packet", 'Progress report'.
 #[tactic(auto, unfolding(crate::specs::Packets::progress_body_at))]
 impl<'de> MyDeserialize<'de> for ProgressReport<'de> {
+    // Progress report of an ERR_Packet, behind the code ffff:
+    //   int<1>          number of strings
+    //   int<1>          stage
+    //   int<1>          max_stage
+    //   int<3>          progress, in thousandths of a percent
+    //   string<lenenc>  stage_info
     fn deserialize(
         alloc: Global,
         _ctx: (),

@@ -1,4 +1,7 @@
-//! Errors that a server reports.
+//! Errors that a server reports: a code, an SQL state and a message.
+//!
+//!     let state = Some(SqlState::new(*b"42S02"));
+//!     let error = ServerError::new(1146, state, CowSlice::Borrowed(b"no such table"));
 
 ghost use Rattle.std.specs.Prelude.{◌≡◌, [], IfOk, IsOkUnless, List, None, Some, false, length, option_map, ℕ};
 ghost use Rattle.std.specs.Cow.{cow_slice_items, cow_str_bytes};
@@ -113,6 +116,9 @@ fn sql_state_of(alloc: Global, rest: &mut ParseBuf) -> Result<SqlState, WireErro
 /// MySQL: Client/Server Protocol, "ERR_Packet".
 #[tactic(auto, using(crate::proofs::Rules::sizes))]
 impl<'de> MyDeserialize<'de> for SqlState {
+    // ERR_Packet, with CLIENT_PROTOCOL_41:
+    //   string<1>  sql_state_marker "#"
+    //   string<5>  sql_state
     fn deserialize(
         alloc: Global,
         _ctx: (),
@@ -300,6 +306,10 @@ fn state_of(
 /// MySQL: Client/Server Protocol, "ERR_Packet".
 #[tactic(auto, unfolding(crate::specs::Packets::server_error_at))]
 impl<'de> MyDeserialize<'de> for ServerError<'de> {
+    // ERR_Packet, behind its code:
+    //   string<1>    sql_state_marker "#", with CLIENT_PROTOCOL_41
+    //   string<5>    sql_state, with CLIENT_PROTOCOL_41
+    //   string<EOF>  error_message
     fn deserialize(
         alloc: Global,
         ctx: (u16, bool),

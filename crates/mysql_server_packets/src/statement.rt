@@ -1,9 +1,13 @@
-//! Statement packets.
+//! Statement packets: the first packet of the answer to a prepare.
+//!
+//!     let packet: StmtPacket = ParseBuf(payload).parse(alloc, ())?;
+//!     let id = packet.statement_id();
 
 ghost use Rattle.std.specs.Prelude.{◌≡◌, Some, false};
 ghost use Rattle.mysql_fields.specs.Wire.{TellsPart};
 ghost use Rattle.mysql_server_packets.specs.PacketLaws.{prepare_ok_at-back, prepare_ok_at-sized};
-ghost use Rattle.mysql_server_packets.specs.Packets.{IsPrepareOk, PrepareOk, prepare_ok, prepare_ok_at, prepare_ok_fields_at};
+ghost use Rattle.mysql_server_packets.specs.Packets.{IsPrepareOk, PrepareOk, prepare_ok, prepare_ok_at};
+ghost use Rattle.mysql_server_packets.specs.Packets.{prepare_ok_fields_at};
 ghost use Rattle.mysql_server_packets.specs.Views.{prepare_ok_view};
 
 use crate::headers::StmtPacketStatus;
@@ -16,6 +20,9 @@ use mysql_fields::{
 use std::alloc::{AllocError, Global};
 
 /// A prepared statement: the first packet of the answer to COM_STMT_PREPARE.
+///
+/// Promise: its bytes are a function of its fields, and any bytes are read exactly as its layout
+/// says, with the first refusal from the left (`prepare_ok`, `prepare_ok_at`).
 ///
 /// MySQL: Client/Server Protocol, "COM_STMT_PREPARE Response".
 #[derive(Clone, Copy, Debug, PartialEq, Eq, Hash)]
@@ -165,6 +172,13 @@ impl ReadsBack for StmtPacket {
 /// MySQL: Client/Server Protocol, "COM_STMT_PREPARE Response".
 #[tactic(auto, using(crate::proofs::Rules::sizes))]
 impl<'de> MyDeserialize<'de> for StmtPacket {
+    // COM_STMT_PREPARE_OK:
+    //   int<1>  status 00
+    //   int<4>  statement_id
+    //   int<2>  num_columns
+    //   int<2>  num_params
+    //   int<1>  reserved_1
+    //   int<2>  warning_count
     fn deserialize(
         alloc: Global,
         _ctx: (),

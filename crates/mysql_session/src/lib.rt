@@ -23,8 +23,10 @@ pub use mysql_replies::{
     Reply, ReplyEnd, ReplyFault, ReplyKind, ReplyReader, ReplyResult, read_reply,
 };
 pub use mysql_reply_writer::{ReplyRefusal, ReplyWriter, write_reply};
+pub use mysql_row_conversions::{FromValueRef, RowExt, RowRefExt};
 pub use mysql_row_refs::{
-    FromValueRef, LentRow, RowError, RowFormat, RowLender, StoredRows, ValueRef,
+    RowError, RowFormat, RowReader, RowReader as RowLender, RowRef, RowRef as LentRow, StoredRows,
+    ValueRef,
 };
 pub use mysql_rows::{ColumnIndex, Row};
 pub use mysql_set_writer::SendToError;

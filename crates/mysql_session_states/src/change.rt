@@ -1,4 +1,9 @@
-//! Changes of a session's state.
+//! Changes of a session's state, by the type that a state names.
+//!
+//!     match state.decode(alloc)? {
+//!         SessionStateChange::Schema(schema) => ..,
+//!         _ => ..,
+//!     }
 
 ghost use Rattle.std.specs.Prelude.{◌≡◌, IfOk, None, map};
 ghost use Rattle.std.specs.List.{flat_map};
@@ -202,6 +207,13 @@ impl<'a> ReadsBack for SessionStateChange<'a> {
 /// MySQL: Client/Server Protocol, "OK_Packet", 'Session State Information'.
 #[tactic(auto, using(crate::proofs::Back::variables_eat), unfolding(crate::specs::SessionStates::change_at))]
 impl<'de> MyDeserialize<'de> for SessionStateChange<'de> {
+    // The data of a change, by its type:
+    //   SESSION_TRACK_SYSTEM_VARIABLES             pairs of string<lenenc> name and string<lenenc> value, to the end
+    //   SESSION_TRACK_SCHEMA                       string<lenenc> name of the schema
+    //   SESSION_TRACK_STATE_CHANGE                 string<lenenc> "1" or "0"
+    //   SESSION_TRACK_GTIDS                        string<EOF>
+    //   SESSION_TRACK_TRANSACTION_CHARACTERISTICS  string<lenenc> statements
+    //   SESSION_TRACK_TRANSACTION_STATE            string<lenenc> eight letters
     fn deserialize(
         alloc: Global,
         data_type: SessionStateType,

@@ -1,4 +1,8 @@
-//! The states of a session, as they stand in an OK packet.
+//! The states of a session, as they stand in an OK packet: each a type and the data of its change.
+//!
+//!     for state in states_of(alloc, bytes)?.iter() {
+//!         let change = state.decode(alloc)?;
+//!     }
 
 ghost use Rattle.std.specs.Prelude.{◌≡◌, IfOk, None, [], false, map, option_map};
 ghost use Rattle.std.specs.Cow.{cow_slice_items};
@@ -22,6 +26,9 @@ use std::alloc::{AllocError, Global};
 use std::borrow::CowSlice;
 
 /// The type of a change of a session's state, and the bytes that tell it.
+///
+/// Promise: its bytes are a function of its type and data, and any bytes are read exactly as its
+/// layout says (`state`, `state_at`).
 ///
 /// MySQL: Client/Server Protocol, "OK_Packet", 'Session State Information'.
 #[derive(Debug, PartialEq, Eq, Drop)]
@@ -165,6 +172,9 @@ impl<'a> ReadsBack for SessionStateInfo<'a> {
 /// MySQL: Client/Server Protocol, "OK_Packet", 'Session State Information'.
 #[tactic(auto, unfolding(crate::specs::SessionStates::state_at))]
 impl<'de> MyDeserialize<'de> for SessionStateInfo<'de> {
+    // Session State Information:
+    //   int<1>          type
+    //   string<lenenc>  data
     fn deserialize(
         alloc: Global,
         _ctx: (),

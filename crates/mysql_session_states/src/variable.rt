@@ -142,6 +142,9 @@ impl<'a> ReadsBack for SystemVariable<'a> {
 /// Refused by `UnexpectedEof` where the name or the value is cut off.
 #[tactic(auto, unfolding(crate::specs::SessionStates::variable_at))]
 impl<'de> MyDeserialize<'de> for SystemVariable<'de> {
+    // SESSION_TRACK_SYSTEM_VARIABLES:
+    //   string<lenenc>  name
+    //   string<lenenc>  value
     fn deserialize(
         _alloc: Global,
         _ctx: (),

@@ -73,7 +73,9 @@ pub fn are_sets(sets: &[Vec<Content>], wanted: &[WantedSet]) -> bool {
     true
 }
 
-/// The bytes of a stream's first payloads, so many of them, with their headers; None where fewer stand whole in it.
+/// The bytes of a stream's first payloads, so many of them, with their headers.
+///
+/// None where fewer stand whole in it.
 pub fn front_of(stream: &[u8], payloads: u64) -> Option<&[u8]> {
     let mut rest = stream;
     let mut left = payloads;

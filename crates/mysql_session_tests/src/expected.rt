@@ -24,7 +24,7 @@ pub enum Expected {
     Ok(u64, StatusFlags),
     /// How many columns there are, each a LONGLONG, the rows, and the server's status behind them.
     Rows(usize, &'static [Cells], Option<StatusFlags>),
-    /// The same of rows of numbers.
+    /// How many columns there are, each a LONGLONG, the rows of numbers, and the server's status.
     NumberRows(usize, &'static [Numbers], Option<StatusFlags>),
     /// The statement's id, how many parameters it has, and how many columns, each a LONGLONG.
     Prepared(u32, usize, usize),
@@ -373,8 +373,10 @@ fn assert_reads_cut(assert: &impl Assert, alloc: Global, reading: Reading<'_>) {
     }
 }
 
-/// Asserts what the bytes of a reply say: in one piece, byte by byte, and where they are few cut in
-/// two at each place. They are read once more where memory was refused.
+/// Asserts what the bytes of a reply say, in one piece and cut in two at each place.
+///
+/// They come byte by byte too, and are read once more where memory was refused; they are cut in two
+/// where they are few.
 pub fn assert_reads(
     assert: &impl Assert,
     alloc: Global,

@@ -5,7 +5,7 @@ use crate::expected::Start;
 use crate::support::Asserting;
 use mysql_rows::Row as RowOf;
 use mysql_session::{
-    CapabilityFlags, LentRow, Reply, ReplyEnd, ReplyFault, ReplyKind, ReplyReader, ReplyResult,
+    CapabilityFlags, Reply, ReplyEnd, ReplyFault, ReplyKind, ReplyReader, ReplyResult, RowRef,
     Value, ValueRef, read_reply,
 };
 use std::alloc::Global;
@@ -22,7 +22,7 @@ fn is_value(lent: ValueRef, wanted: &Value) -> bool {
 }
 
 /// Whether a lent row is this one.
-fn is_row(lent: LentRow, wanted: &RowOf) -> bool {
+fn is_row(lent: RowRef, wanted: &RowOf) -> bool {
     for i in 0..wanted.len() {
         match (lent.as_ref(i), wanted.as_ref(i)) {
             (Some(found), Some(value)) => {
@@ -58,7 +58,7 @@ fn count_rows(results: &[ReplyResult]) -> usize {
 }
 
 /// Whether a lent row is the one of this number among all rows of these results.
-fn is_row_at(lent: LentRow, results: &[ReplyResult], number: usize) -> bool {
+fn is_row_at(lent: RowRef, results: &[ReplyResult], number: usize) -> bool {
     let mut left = number;
     for result in results {
         let rows = rows_of(result);

@@ -298,8 +298,9 @@ fn assert_refused_by_kept(assert: &impl Assert, alloc: Global, sending: Sending,
     assert.holds(out.as_slice() == b"front".as_slice());
 }
 
-/// Asserts that each of these sets are refused for this cause, also by a query that is kept, and
-/// that nothing is appended.
+/// Asserts that each of these sets is refused for this cause, and that nothing is appended.
+///
+/// A query that is kept has to refuse them too.
 pub fn assert_refusals(assert: &impl Assert, alloc: Global, rows: &[(Sending, Cause)]) {
     for (sending, cause) in rows {
         assert_refused(assert, alloc, *sending, *cause);

@@ -1,4 +1,9 @@
-//! Executions of prepared statements.
+//! Executions of prepared statements: the values in the binary format, and those that go as long
+//! data.
+//!
+//!     let builder = ComStmtExecuteRequestBuilder::new(stmt_id);
+//!     let (request, apart) = builder.build(alloc, &values)?;
+//!     request.serialize(&mut payload)?;
 
 ghost use Rattle.std.specs.Prelude.{◌≡◌, ◌++◌, ◌∷◌, ◌<◌, ◌≤◌, IfOk, None, OnOk, Some, SomeIff, flat_map, if◌then◌else◌};
 ghost use Rattle.std.specs.Prelude.{is_none, length, map, nat_lt, take};
@@ -50,6 +55,9 @@ impl ComStmtExecuteRequestBuilder {
     ///
     /// The values are at most 65535. An execution without values has 10 bytes, and counts as one of
     /// 11 here.
+    ///
+    /// Promise: that is so exactly where the whole execution, as it is counted, has more bytes
+    /// (`whole_size`).
     ///
     /// MySQL: Client/Server Protocol, "COM_STMT_EXECUTE".
     pub fn exceeds(values: &[&Value], most: usize) -> bool
@@ -340,7 +348,7 @@ fn put_text(text: &[u8], buf: &mut Vec<u8>) -> Result<(), AllocError>
     Ok(())
 }
 
-// The same of one whose length has two bytes behind its mark.
+// Appends a byte string whose length has two bytes behind its mark.
 #[inline(always)]
 fn put_marked_text(text: &[u8], buf: &mut Vec<u8>) -> Result<(), AllocError>
     requires least { 250 < length text.now }
@@ -356,7 +364,7 @@ fn put_marked_text(text: &[u8], buf: &mut Vec<u8>) -> Result<(), AllocError>
     Ok(())
 }
 
-// The same of one that isn't short, by a call that copies it.
+// Appends a byte string that isn't short, by a call that copies it.
 #[inline(never)]
 fn put_long_text(text: &[u8], buf: &mut Vec<u8>) -> Result<(), AllocError>
     ensures { Appends result buf.old.items buf.new.items (lenenc_str text.now) }
@@ -404,7 +412,7 @@ fn put_cell(value: &Value, apart: bool, buf: &mut Vec<u8>) -> Result<(), AllocEr
     }
 }
 
-// The cells of values.
+// Appends the cells of values.
 #[inline(always)]
 fn put_cells<V: HasValue>(values: &[V], apart: bool, buf: &mut Vec<u8>) -> Result<(), AllocError>
     ensures { Appends result buf.old.items buf.new.items

@@ -1,4 +1,7 @@
-//! Long data: a parameter's bytes in pieces.
+//! Long data: a piece of a parameter's bytes, sent before the execution that takes it.
+//!
+//!     let piece = ComStmtSendLongData::new(stmt_id, 0, CowSlice::Borrowed(bytes));
+//!     piece.serialize(&mut payload)?;
 
 ghost use Rattle.std.specs.Prelude.{◌≡◌, IfOk};
 ghost use Rattle.std.specs.Cow.{cow_slice_items};
@@ -12,6 +15,9 @@ use std::borrow::CowSlice;
 
 /// A piece of a parameter of a prepared statement, sent before the statement is executed. Pieces
 /// for one place are joined.
+///
+/// Promise: its bytes are a function of its fields, and are appended whole or not at all
+/// (`long_data`).
 ///
 /// MySQL: Client/Server Protocol, "COM_STMT_SEND_LONG_DATA".
 #[derive(Debug, PartialEq, Eq, Drop)]

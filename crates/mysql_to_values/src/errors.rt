@@ -10,7 +10,7 @@ use thiserror::Error;
 #[derive(Clone, Copy, Debug, PartialEq, Eq, Hash, Error)]
 pub enum ToValueError {
     /// A duration of more than 2^32-1 days.
-    #[error("too long for a value")]
+    #[error("too long for a value: a time has at most 4294967295 days")]
     TooLong,
     #[error("out of memory")]
     Memory,

@@ -35,6 +35,9 @@ pub trait IntoParams: Sized + Drop {
 
     /// The set of the values.
     ///
+    /// Promise: the set has each value in order or by its name, or it is refused for `Redefined`
+    /// before `TooLong` (`IsMadeOf`, `set_cause`).
+    ///
     /// # Errors
     /// - `Redefined` with the first name that an earlier pair has.
     /// - `TooLong` with the least place whose value is too long.

@@ -1,10 +1,12 @@
 -- Writing a text of a query piece by piece and literal by literal.
-use Rattle.std.proofs.Common.{◌≡◌, ℕ, zero, suc, ◌+◌, ◌≤◌, ◌<◌, Bool, true, false, List, [], ◌∷◌, ◌++◌, length, take, drop, get_or, map, slice_range, refl, sym, ap, ◌∙◌, append_assoc, append-nil, arith, subst, Some, None, is_none}
+use Rattle.std.proofs.Common.{◌≡◌, ℕ, zero, suc, ◌+◌, ◌≤◌, ◌<◌, Bool, true, false, List, [], ◌∷◌, ◌++◌, length, take, drop, get_or, map, slice_range, refl, sym, ap, ◌∙◌, append_assoc, append-nil, arith, subst, Option, Ok, Err, Some, None, is_none, take-append-drop, take_all}
 use Rattle.std.specs.List.{AllByRecursion, position_from}
 use Rattle.std.proofs.lemmas.List.{map-append, take_at}
 use Rattle.mysql_queries.specs.Queries.{AreLiterals, InOrder, interleaved, slices_between}
 use Rattle.mysql_cells.specs.Values.{content_of, literal_of}
-use Rattle.mysql_cells.specs.AsSql.{HasLiteral}
+use Rattle.mysql_cells.specs.AsSql.{HasLiteral, PutsSql}
+use Rattle.mysql_cells.specs.declared.as_sql.AsSqlError.{AsSqlError}
+use Rattle.mysql_cells.specs.declared.as_sql.AsSqlError.TheVariants as as_sql_error
 use Rattle.mysql_values.specs.Binding.{IsFilled}
 use Rattle.mysql_queries.specs.declared.content.Content.{Content}
 use Rattle.mysql_cells.specs.declared.value.Value.{Value}
@@ -106,6 +108,28 @@ written_front {before} w piece next n = ap (take (length before)) (n ∙ ap (λ 
 
 pub written_still : {query : List ℕ} {places : List Place} {values : List Value} {at : ℕ} {left : List Place} {k : ℕ} {before after : List ℕ} → WrittenTo query places values at left k before after → (next : List ℕ) → next ≡ after → take (length before) next ≡ before
 written_still {after} w next n = written_front w [] next (n ∙ sym (append-nil after))
+
+-- the same where a refusal left a part behind
+pub written_kept : {query : List ℕ} {places : List Place} {values : List Value} {at : ℕ} {left : List Place} {k : ℕ} {before after : List ℕ} → WrittenTo query places values at left k before after → (piece mid next : List ℕ) → mid ≡ after ++ piece
+    → take (length mid) next ≡ mid → take (length before) next ≡ before
+written_kept {before} w piece mid next m t =
+    let e : mid ≡ before ++ (w.written ++ piece) = m ∙ ap (λ y. y ++ piece) w.appended ∙ append_assoc before w.written piece in
+    let n : next ≡ before ++ ((w.written ++ piece) ++ drop (length mid) next) =
+    sym (take-append-drop (length mid) next) ∙ ap (λ y. y ++ drop (length mid) next) (t ∙ e) ∙ append_assoc before (w.written ++ piece) (drop (length mid) next) in
+    ap (take (length before)) n ∙ take_at before ((w.written ++ piece) ++ drop (length mid) next) (length before) refl
+
+-- what appending a value's text says
+pub text_put : (sql : Option (List ℕ)) (old new : List ℕ) → PutsSql sql old new (Ok tt) → (text : List ℕ) × (sql ≡ Some text) × (new ≡ old ++ text)
+text_put None old new h = absurd h
+text_put (Some text) old new h = (text, refl, h)
+
+pub no_text_put : (sql : Option (List ℕ)) (old new : List ℕ) (e : AsSqlError) → PutsSql sql old new (Err e) → e ≡ as_sql_error.Float → sql ≡ None
+no_text_put None old new e h f = refl
+no_text_put (Some text) old new e h f = absurd (let k : as_sql_error.Memory ≡ as_sql_error.Float = sym h.0 ∙ f in cc)
+
+pub put_kept : (sql : Option (List ℕ)) (old new : List ℕ) (e : AsSqlError) → PutsSql sql old new (Err e) → take (length old) new ≡ old
+put_kept None old new e h = ap (take (length old)) h.1 ∙ take_all (length old) old (omega arith)
+put_kept (Some text) old new e h = h.1
 
 -- a value with a literal has a content
 has_content : (value : Value) (text : List ℕ) → literal_of value ≡ Some text → (content : Content) × (content_of value ≡ Some content)

@@ -1,6 +1,6 @@
 -- The values that contents are sent as.
 -- MySQL Reference Manual, "Integer Types (Exact Value)", "Numeric Literals".
-use Rattle.std.specs.Prelude.{ℕ, ℤ, pos, negsuc, suc, ◌^◌, ◌<◌, nat_lt, ◌∷◌, if◌then◌else◌}
+use Rattle.std.specs.Prelude.{ℤ, pos, negsuc, suc, ◌^◌, ◌<◌, nat_lt, ◌∷◌, if◌then◌else◌}
 use Rattle.std.specs.Fmt.{decimal}
 use Rattle.mysql_queries.specs.declared.content.Content.{Content}
 use Rattle.mysql_queries.specs.declared.content.Content.TheVariants as content

@@ -8,6 +8,7 @@ pub use Rattle.mysql_queries.specs.Laws
 pub use Rattle.mysql_queries.specs.LiteralRuns
 pub use Rattle.mysql_queries.specs.LiteralViews
 pub use Rattle.mysql_queries.specs.Parsed
+pub use Rattle.mysql_queries.specs.Query
 pub use Rattle.mysql_queries.specs.declared.content.Content
 pub use Rattle.mysql_queries.specs.declared.literals.Literal
 pub use Rattle.mysql_queries.specs.declared.named_params.NamedParamsError

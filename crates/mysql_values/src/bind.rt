@@ -1,12 +1,10 @@
 //! A query's text with literals in the places of its placeholders.
 
-ghost use Rattle.mysql_cells.specs.AsSql.{HasLiteral};
-ghost use Rattle.mysql_values.specs.Binding.{IsBindCause, IsBound, IsFilled, bind_cause, bind_error_of, given_cause};
-ghost use Rattle.mysql_values.specs.Params.{IsMeaning, values_over};
+ghost use Rattle.mysql_values.specs.Binding.{IsBindCause, IsBound, bind_cause, bind_error_of};
+ghost use Rattle.mysql_values.specs.Params.{IsMeaning};
 ghost use Rattle.mysql_queries.specs.Parsed.{names_at};
 ghost use Rattle.mysql_queries.specs.Queries.{HasPlaces, Lexes, Slices, first_not_alone as first_apart};
 ghost use Rattle.mysql_queries.specs.Queries.{is_mixed as has_both_kinds};
-ghost use Rattle.mysql_cells.specs.Values.{first_float, literal_of};
 ghost use Rattle.mysql_queries.specs.declared.content.Content.{Content};
 ghost use Rattle.mysql_values.specs.declared.params.ParamsError.{ParamsError as ParamsErrorOf};
 ghost use Rattle.mysql_cells.specs.declared.value.Value.{Value as ValueOf};
@@ -37,9 +35,10 @@ ghost use Rattle.mysql_values.specs.declared.bind.BindError.TheVariants as bind_
 
 use crate::params::{Params, ParamsError, list_values_over_names};
 use mysql_cells::Value;
-use mysql_cells::as_sql::{AsSqlError, push_literal};
+use mysql_cells::as_sql::{AsSqlError, put_sql};
 use mysql_queries::laws::{filled_text_is_read, pieces_of_a_query};
 pub use mysql_queries::named_params::names_among;
+pub use mysql_queries::parsed_query::ParsedQuery;
 use mysql_queries::{Place, first_not_alone, is_mixed, places};
 use std::alloc::{AllocError, AllocFailed, Global};
 use std::borrow::CowSlice;
@@ -49,10 +48,10 @@ use thiserror::Error;
 #[derive(Debug, PartialEq, Eq, Hash, Drop, Error)]
 pub enum BindError {
     /// The query has both kinds of placeholder.
-    #[error("the query has both named and positional parameters")]
+    #[error("the query has both named and positional parameters: use one kind")]
     Mixed,
     /// The first placeholder that does not stand alone, counted from 0.
-    #[error("placeholder {0} does not stand alone")]
+    #[error("placeholder {0} does not stand alone: put blanks around it")]
     NotAlone(usize),
     /// The set gives the query no values. This is never `Memory`.
     #[error(transparent)]
@@ -61,7 +60,7 @@ pub enum BindError {
     #[error("the values are not as many as the placeholders")]
     WrongCount,
     /// The first placeholder whose value is a float, counted from 0.
-    #[error("the value of placeholder {0} is a float")]
+    #[error("the value of placeholder {0} is a float: give it as a text")]
     Float(usize),
     #[error("out of memory")]
     Memory,
@@ -113,65 +112,51 @@ fn check_places(places: &[Place]) -> Result<(), BindError>
     }
 }
 
-/// Lists the values for so many placeholders, in place of what the list holds. Refuses `Params`, then `WrongCount`.
-fn list_values<'a>(
-    count: usize,
+/// [`bind_text_over`] without cutting `out` back: a refusal may leave a part of the text behind.
+///
+/// # Errors
+/// - `Params`.
+/// - `WrongCount`.
+/// - `Float` with the first such placeholder.
+/// - `Memory`.
+///
+/// What stood before stands in front of `out`.
+pub fn bind_text_onto<'a>(
+    query: &[u8],
+    places: &[Place],
     names: &[CowSlice<'_, u8>],
     params: &'a Params,
     values: &mut Vec<&'a Value>,
-) -> Result<(), BindError>
-    ensures over { OnOk result (values_over (map cow_slice_items names.now) params.entry.now ≡
-        Ok (map (λ value. value.now) values.new.items)) }
-    ensures count { OnOk result (length values.new.items ≡ count) }
-    ensures err { IfErr result (λ e. (e ≡ bind_error.Memory) ⊎
-        (given_cause count (values_over (map cow_slice_items names.now) params.entry.now) ≡ Some e)) }
-{
-    list_values_over_names(params, names, values)?;
-    if values.len() == count {
-        Ok(())
-    } else {
-        Err(BindError::WrongCount)
-    }
-}
-
-/// Appends the literal of the value at a placeholder.
-fn put_literal(out: &mut Vec<u8>, value: &Value, place: usize) -> Result<(), BindError>
-    ensures ok { OnOk result (IsSomeAnd (literal_of value.now) (λ text. out.new.items ≡ out.old.items ++ text)) }
-    ensures err { IfErr result (λ e. (e ≡ bind_error.Memory) ⊎
-        ((e ≡ bind_error.Float place) × (literal_of value.now ≡ None))) }
-    ensures kept { OnErr result (out.new.items ≡ out.old.items) }
-    ensures literal { HasLiteral value.now }
-{
-    match push_literal(out, value) {
-        Ok(()) => Ok(()),
-        Err(AsSqlError::Float) => Err(BindError::Float(place)),
-        Err(AsSqlError::Memory) => Err(BindError::Memory),
-    }
-}
-
-/// Appends the query's pieces with the values' literals between. Refuses `Float`; a refusal may leave a part behind.
-fn put_text(
     out: &mut Vec<u8>,
-    query: &[u8],
-    places: &[Place],
-    values: &[&Value],
 ) -> Result<(), BindError>
     requires places { HasPlaces query.now places.now }
-    requires count { length values.now ≡ length places.now }
-    ensures ok { OnOk result ((text : List ℕ) × (out.new.items ≡ out.old.items ++ text) ×
-        IsFilled query.now places.now (map (λ value. value.now) values.now) text) }
-    ensures err { IfErr result (λ e. (e ≡ bind_error.Memory) ⊎
-        ((place : ℕ) × (e ≡ bind_error.Float place) ×
-        (first_float (map (λ value. value.now) values.now) ≡ Some place))) }
+    requires one_kind { has_both_kinds places.now ≡ false }
+    requires alone { first_apart places.now ≡ None }
+    requires names { map cow_slice_items names.now ≡ names_at query.now places.now }
+    // What is appended is the text of the set over the query, and reads as the set's meaning in both ways.
+    ensures ok { OnOk result ((text : List ℕ) × (contents : List Content) ×
+        (out.new.items ≡ out.old.items ++ text) × IsBound query.now params.entry.now text
+        × IsMeaning query.now params.entry.now contents × Slices query.now text contents ×
+        Lexes query.now text contents) }
+    ensures err { IfErr result (λ e. (e ≡ bind_error.Memory) ⊎ IsBindCause query.now params.entry.now e) }
     ensures kept { take (length out.old.items) out.new.items ≡ out.old.items }
 {
     pieces_of_a_query();
+    filled_text_is_read();
+    list_values_over_names(params, names, values)?;
+    if values.len() != places.len() {
+        return Err(BindError::WrongCount);
+    }
+    let listed = values.as_slice();
     let mut at = 0;
     for i in 0..places.len() {
         let place = places[i];
         out.extend_from_slice(&query[at..place.start])?;
-        put_literal(out, values[i], i)?;
-        at = place.end;
+        match put_sql(out, listed[i], false, false) {
+            Ok(()) => at = place.end,
+            Err(AsSqlError::Float) => return Err(BindError::Float(i)),
+            Err(AsSqlError::Memory) => return Err(BindError::Memory),
+        }
     }
     out.extend_from_slice(&query[at..])?;
     Ok(())
@@ -204,17 +189,12 @@ pub fn bind_text_over<'a>(
     ensures err { IfErr result (λ e. (e ≡ bind_error.Memory) ⊎ IsBindCause query.now params.entry.now e) }
     ensures kept { OnErr result (out.new.items ≡ out.old.items) }
 {
-    pieces_of_a_query();
-    filled_text_is_read();
-    list_values(places.len(), names, params, values)?;
     let start = out.len();
-    match put_text(out, query, places, values) {
-        Ok(()) => Ok(()),
-        Err(e) => {
-            out.truncate(start);
-            Err(e)
-        }
+    let bound = bind_text_onto(query, places, names, params, values, out);
+    if bound.is_err() {
+        out.truncate(start);
     }
+    bound
 }
 
 /// Appends the text of a query whose placeholders were found before, as [`bind_text`] does.

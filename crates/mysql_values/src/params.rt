@@ -45,10 +45,10 @@ impl MissingNamedParameterError {
 #[derive(Clone, Copy, Debug, PartialEq, Eq, Hash, Error)]
 pub enum ParamsConfusionError {
     /// Names for a query that has none.
-    #[error("named parameters for a query without names")]
+    #[error("named parameters for a query without names: give the values in order")]
     NamedParamsForPositionalQuery,
     /// A list of values for a query with names.
-    #[error("positional parameters for a query with names")]
+    #[error("positional parameters for a query with names: name each value")]
     PositionalParamsForNamedQuery,
 }
 
@@ -104,7 +104,7 @@ pub enum SetError {
     #[error("the named parameter {name} is given twice", name = .0.as_slice().escape_ascii())]
     Redefined(ByteString),
     /// The least place whose value is too long.
-    #[error("the value at place {0} is too long")]
+    #[error("the value at place {0} is too long: a time has at most 4294967295 days")]
     TooLong(usize),
     #[error("out of memory")]
     Memory,
@@ -158,20 +158,23 @@ fn look_up<'a, N: AsSlice<u8>>(
     Ok(())
 }
 
-/// Lists the values themselves, in place of what the list holds.
-fn lend<'a>(values: &'a [Value], lent: &mut Vec<&'a Value>) -> Result<(), AllocError>
-    ensures { OnOk result (map (λ value. value.now) lent.new.items ≡ values.entry.now) }
+/// Lists the values by reference, in place of what the list holds.
+fn list_references<'a>(values: &'a [Value], listed: &mut Vec<&'a Value>) -> Result<(), AllocError>
+    ensures { OnOk result (map (λ value. value.now) listed.new.items ≡ values.entry.now) }
 {
-    lent.clear();
-    lent.reserve(values.len())?;
+    listed.clear();
+    listed.reserve(values.len())?;
     for value in values {
-        lent.push_reserved(value);
+        listed.push_reserved(value);
     }
     Ok(())
 }
 
 /// Lists the values that a set gives a query with these names, in place of what the list holds.
-pub(crate) fn list_values_over_names<'a, N: AsSlice<u8>>(
+///
+/// # Errors
+/// Those of [`Params::values_for`]. What the list then holds isn't said.
+pub fn list_values_over_names<'a, N: AsSlice<u8>>(
     params: &'a Params,
     names: &[N],
     values: &mut Vec<&'a Value>,
@@ -188,7 +191,7 @@ pub(crate) fn list_values_over_names<'a, N: AsSlice<u8>>(
         }
         Params::Positional(given) => {
             if names.is_empty() {
-                Ok(lend(given, values)?)
+                Ok(list_references(given, values)?)
             } else {
                 Err(ParamsError::Confusion(ParamsConfusionError::PositionalParamsForNamedQuery))
             }
@@ -201,22 +204,6 @@ pub(crate) fn list_values_over_names<'a, N: AsSlice<u8>>(
             }
         }
     }
-}
-
-/// The values that a set gives a query with these names.
-pub(crate) fn values_over_names<'a, N: AsSlice<u8>>(
-    alloc: Global,
-    params: &'a Params,
-    names: &[N],
-) -> Result<Vec<&'a Value>, ParamsError>
-    ensures ok { IfOk result (λ values. values_over (map N.items names.now) params.entry.now ≡
-        Ok (map (λ value. value.now) values.items)) }
-    ensures err { IfErr result (λ e. (e ≡ params_error.Memory) ⊎
-        (values_over (map N.items names.now) params.entry.now ≡ Err e)) }
-{
-    let mut values = Vec::new(alloc);
-    list_values_over_names(params, names, &mut values)?;
-    Ok(values)
 }
 
 /// Copies of the values.

@@ -150,7 +150,7 @@ pub fn assert_fed(
     assert.holds(first || feed(assert, alloc, codec, pieces, wanted));
 }
 
-/// The same of a short stream that comes byte by byte.
+/// Asserts what is read of a short stream that comes byte by byte.
 pub fn assert_fed_by_bytes(
     assert: &impl Assert,
     alloc: Global,

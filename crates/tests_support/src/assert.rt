@@ -44,8 +44,9 @@ pub fn once_more<T: Drop, E: Drop>(
     }
 }
 
-/// Asserts what a call answered; or, where that is what stands for refused memory, what the same
-/// call answered once more.
+/// Asserts what a call answered, at its second try where memory was refused.
+///
+/// `refused` is what stands for refused memory, and `second` what the same call answered once more.
 pub fn assert_answer<T: PartialEq + Debug + Drop>(
     assert: &impl Assert,
     first: T,

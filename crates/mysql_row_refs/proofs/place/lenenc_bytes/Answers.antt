@@ -1,6 +1,6 @@
 use Rattle.std.proofs.Common.{ap, sym, ◌∙◌}
 use Rattle.std.specs.Option.{is_some}
-use Rattle.mysql_row_refs.specs.Lent.{bytes_read}
+use Rattle.mysql_row_refs.specs.Places.{bytes_read}
 use Rattle.mysql_row_refs.proofs.Tails.{short_lenenc}
 use Rattle.mysql_row_refs.proofs.place.lenenc_bytes.Goals as goal
 

@@ -5,7 +5,7 @@ use Rattle.mysql_field_lists.specs.NullBitmap.{is_null_at}
 use Rattle.mysql_field_lists.specs.NullBits.{bits_left}
 use Rattle.mysql_rows.specs.Rows.{binary_cells_at}
 use Rattle.mysql_rows.specs.Views.{column_views}
-use Rattle.mysql_row_refs.specs.Lent.{IsTail, held, is_inside}
+use Rattle.mysql_row_refs.specs.Places.{IsTail, held, is_inside}
 use Rattle.mysql_row_refs.proofs.RowSteps.{cells_from}
 use Rattle.mysql_row_refs.proofs.rows.binary_places.Given as goal
 

@@ -3,7 +3,7 @@ use Rattle.std.proofs.lemmas.Result.{err_from_is_err_and}
 use Rattle.mysql_field_lists.specs.ElementLaws.{is_done}
 use Rattle.mysql_field_lists.specs.Lists.{elements_at}
 use Rattle.mysql_cells.specs.Cells.{text_cell_at}
-use Rattle.mysql_row_refs.specs.Lent.{held}
+use Rattle.mysql_row_refs.specs.Places.{held}
 use Rattle.mysql_row_refs.proofs.CellTails.{text_tail}
 use Rattle.mysql_row_refs.proofs.RowSteps.{inside_more, one_longer, text_ends, text_goes_on}
 use Rattle.mysql_row_refs.proofs.Tails.{tail_of_tail}

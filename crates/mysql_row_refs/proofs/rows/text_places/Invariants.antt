@@ -3,7 +3,7 @@ use Rattle.std.specs.List.{list_all}
 use Rattle.mysql_field_lists.specs.ElementLaws.{with_front}
 use Rattle.mysql_field_lists.specs.Lists.{elements_at}
 use Rattle.mysql_cells.specs.Cells.{text_cell_at}
-use Rattle.mysql_row_refs.specs.Lent.{IsTail, held, is_inside}
+use Rattle.mysql_row_refs.specs.Places.{IsTail, held, is_inside}
 use Rattle.mysql_row_refs.proofs.rows.text_places.Given as goal
 
 abbrev pub invariant-loop : goal.invariant-loop

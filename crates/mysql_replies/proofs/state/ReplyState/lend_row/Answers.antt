@@ -2,7 +2,7 @@ use Rattle.std.proofs.Common.{Err, refl, ap, sym, subst}
 use Rattle.std.specs.Prelude.{◌+◌}
 use Rattle.mysql_replies.specs.declared.awaited.Awaited.TheVariants as awaiting
 use Rattle.mysql_replies.specs.declared.state.ReplyState.{ReplyState}
-use Rattle.mysql_row_refs.specs.LentRows.{row_of}
+use Rattle.mysql_row_refs.specs.RowRefs.{row_of}
 use Rattle.mysql_replies.specs.LentSteps.{HasRead, LendStep, or_bad_row}
 use Rattle.mysql_replies.specs.Views.{Refuses}
 use Rattle.mysql_replies.proofs.LentSteps.{row_lent, row_unread}

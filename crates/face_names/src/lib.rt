@@ -1,0 +1,11 @@
+//! What a user of each face can name, a module for each.
+//! Written by `tools/faces` from the sources.
+#![tactic(auto)]
+
+mod buf_face;
+mod convert_face;
+mod login_face;
+mod packets_face;
+mod session_face;
+mod values_face;
+mod wire_face;

@@ -1,0 +1,42 @@
+//! What a user of `mysql_login` can name: each item that the face passes on, by each of its paths.
+//! Written by `tools/faces` from the sources. A name that the face doesn't pass on is refused here.
+
+use mysql_login::{
+    AuthMoreData, AuthMoreDataHeader, AuthPlugin, AuthPluginData, AuthSwitchRequest,
+    AuthSwitchRequestHeader, BinlogDumpFlags, BinlogRequest, CapabilityFlags, ComBinlogDump,
+    ComBinlogDumpGtid, ComBinlogDumpGtidHeader, ComBinlogDumpHeader, ComChangeUser,
+    ComChangeUserHeader, ComChangeUserMoreData, ComRegisterSlave, ComRegisterSlaveHeader,
+    ComTableDump, ComTableDumpHeader, ConnectAttributes, Either, Flags, GnoInterval,
+    HandshakePacket, HandshakeResponse, InvalidAuthMoreDataHeader, InvalidAuthSwitchRequestHeader,
+    InvalidComBinlogDumpGtidHeader, InvalidComBinlogDumpHeader, InvalidComChangeUserHeader,
+    InvalidComRegisterSlaveHeader, InvalidComTableDumpHeader, InvalidPublicKeyRequest,
+    InvalidPublicKeyResponse, InvalidSemiSyncAckPacketPacketHeader, InvalidTag,
+    MariadbCapabilities, MyDeserialize, MySerialize, OldAuthSwitchRequest, ParseBuf, ParseExt,
+    PublicKeyRequest, PublicKeyRequestHeader, PublicKeyResponse, PublicKeyResponseHeader, Readable,
+    SemiSyncAckPacket, SemiSyncAckPacketPacketHeader, Sid, SidBlock, SidError, SslRequest,
+    StatusFlags, Tag, UUID_LEN, UnknownBinlogDumpFlags, WireError, parse_parsec_salt,
+};
+
+mod laws {
+    use mysql_login::laws::ssl_requests_read_back;
+
+    mod gtid {
+        use mysql_login::laws::gtid::{
+            parsed_sets_are_equal_by_their_texts, parsed_sets_read_back,
+            sets_are_equal_by_their_parts, tags_are_equal_by_their_texts,
+            tags_are_ordered_by_their_bytes,
+        };
+    }
+
+    mod replication {
+        use mysql_login::laws::replication::{
+            acknowledgements_read_back, binlog_dumps_read_back, gtid_dumps_read_back,
+            registrations_read_back, table_dumps_read_back,
+        };
+    }
+}
+
+// The faces below: one item each, since each has a list of its own.
+mod wire_face {
+    use mysql_login::mysql_wire::BareBytes;
+}

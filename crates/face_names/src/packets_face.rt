@@ -1,0 +1,69 @@
+//! What a user of `mysql_packets` can name: each item that the face passes on, by each of its paths.
+//! Written by `tools/faces` from the sources. A name that the face doesn't pass on is refused here.
+
+use mysql_packets::{
+    BitmapBytes, BulkExecuteRequestBuilderError, BulkExecuteRequestError, BulkRequests, Catalog,
+    Column, ColumnDefinitionCatalog, ColumnIndex, ComStmtBulkExecuteHeader,
+    ComStmtBulkExecuteRequest, ComStmtBulkExecuteRequestBuilder, ComStmtClose, ComStmtCloseHeader,
+    ComStmtExecuteHeader, ComStmtExecuteRequest, ComStmtExecuteRequestBuilder, ComStmtReset,
+    ComStmtResetHeader, ComStmtSendLongData, ComStmtSendLongDataHeader, CommonOkPacket, ErrPacket,
+    ErrPacketHeader, FixedLengthFieldsLen, Gtids, InvalidCatalog, InvalidComStmtBulkExecuteHeader,
+    InvalidComStmtCloseHeader, InvalidComStmtExecuteHeader, InvalidComStmtResetHeader,
+    InvalidComStmtSendLongDataHeader, InvalidErrPacketHeader, InvalidFixedLengthFieldsLen,
+    InvalidIterationCount, InvalidLocalInfileHeader, InvalidOkPacketHeader, InvalidSqlStateMarker,
+    InvalidStmtPacketStatus, IterationCount, LocalInfileHeader, LocalInfilePacket,
+    NetworkStreamTerminator, NullBitmap, NullBits, OkPacket, OkPacketBody, OkPacketDeserializer,
+    OkPacketKind, OldEofPacket, ProgressReport, ResultSetTerminator, Row, RowDeserializer, RowExt,
+    RowRefExt, RowRefusal, Schema, ServerError, SessionStateChange, SessionStateInfo, SqlState,
+    SqlStateMarker, StmtBulkExecuteParamType, StmtBulkExecuteParamValue,
+    StmtBulkExecuteParamValues, StmtPacket, StmtPacketStatus, SystemVariable,
+    TransactionCharacteristics, TransactionState, Unsupported, has_named_status, new_row,
+    new_row_raw, put_states, read_bulk_row, write_binary_row, write_text_row,
+};
+
+mod err_packet {
+    use mysql_packets::err_packet::{ErrPacket, server_error_of};
+}
+
+mod headers {
+    use mysql_packets::headers::{
+        ErrPacketHeader, InvalidErrPacketHeader, InvalidLocalInfileHeader, InvalidSqlStateMarker,
+        InvalidStmtPacketStatus, LocalInfileHeader, SqlStateMarker, StmtPacketStatus,
+    };
+}
+
+mod laws {
+    use mysql_packets::laws::{
+        errors_read_back, file_requests_read_back, reports_read_back, statements_read_back,
+        states_read_back,
+    };
+}
+
+mod local_infile {
+    use mysql_packets::local_infile::LocalInfilePacket;
+}
+
+mod progress_report {
+    use mysql_packets::progress_report::ProgressReport;
+}
+
+mod server_error {
+    use mysql_packets::server_error::{ServerError, SqlState};
+}
+
+mod statement {
+    use mysql_packets::statement::StmtPacket;
+}
+
+// The faces below: one item each, since each has a list of its own.
+mod convert_face {
+    use mysql_packets::mysql_convert::FromValue;
+
+    mod values_face {
+        use mysql_packets::mysql_convert::mysql_values::AsSqlError;
+
+        mod wire_face {
+            use mysql_packets::mysql_convert::mysql_values::mysql_wire::BareBytes;
+        }
+    }
+}

@@ -1,0 +1,37 @@
+//! What a user of `mysql_values` can name: each item that the face passes on, by each of its paths.
+//! Written by `tools/faces` from the sources. A name that the face doesn't pass on is refused here.
+
+use mysql_values::{
+    AsSqlError, BinValue, BindError, ByteString, ClientSide, Content, ContentExt, Literal,
+    MissingNamedParameterError, MixedParamsError, NamedParamsError, Params, ParamsConfusionError,
+    ParamsError, ParsedNamedParams, Place, SerializationSide, ServerSide, SetError, TextValue,
+    Value, ValueDeserializer, bind_text, bind_text_at, first_not_alone, is_mixed, places,
+    read_cell, read_literal, read_text, read_text_cell,
+};
+
+mod bind {
+    use mysql_values::bind::{
+        BindError, ParsedQuery, bind_text, bind_text_at, bind_text_onto, bind_text_over,
+        names_among,
+    };
+}
+
+mod laws {
+    use mysql_values::laws::{
+        all_fields_fit, cells_have_lengths, cells_read_back, content_of_a_spelling, fields_fit,
+        filled_text_is_read, one_reading, pieces_of_a_query, sql_text_is_a_literal,
+        texts_are_decided, tokens_of_a_text,
+    };
+}
+
+mod params {
+    use mysql_values::params::{
+        MissingNamedParameterError, Params, ParamsConfusionError, ParamsError, SetError,
+        list_values_over_names,
+    };
+}
+
+// The faces below: one item each, since each has a list of its own.
+mod wire_face {
+    use mysql_values::mysql_wire::BareBytes;
+}
