@@ -15,7 +15,6 @@ use Rattle.mysql_stmt.specs.Executions.{execute_command, needs_long_data}
 use Rattle.mysql_command_rules.specs.declared.refusal.Refusal.{Refusal}
 use Rattle.mysql_command_rules.specs.declared.refusal.Refusal.TheVariants as refusals
 use Rattle.mysql_command_rules.specs.Commands.{pieces_from}
-use Rattle.mysql_command_rules.specs.Sets.{Given}
 use Rattle.mysql_command_rules.specs.Cause.{first_of_sets, set_cause}
 
 -- the refusal of a set that gives no values
@@ -55,11 +54,6 @@ pub record AppendsExecution (id : ℕ) (limits : Limits) (set : ℕ) (values : L
 abbrev pub RefusesExecution : ℕ → Limits → ℕ → List Value → Refusal → Type 0
 RefusesExecution id limits set values refusal = (refusal ≡ refusals.Memory) ⊎
     (set_cause (whole_execution id) limits.places limits.bytes set (Ok values) ≡ Some refusal)
-
--- Memory, or the first cause that speaks against one of the sets
-abbrev pub RefusesSets : (List Value → List ℕ) → Limits → List Given → Refusal → Type 0
-RefusesSets command limits given refusal = (refusal ≡ refusals.Memory) ⊎
-    (first_of_sets (set_cause command limits.places limits.bytes) 0 given ≡ Some refusal)
 
 -- the executions of sets of values are appended, of which the first has this number: nothing speaks
 -- against any, and the numbers of all values fit their fields

@@ -343,7 +343,7 @@ pub(crate) fn put_set<'a>(
     ensures kept { take (length out.old.items) out.new.items ≡ out.old.items }
 {
     let (id, places) = (statement.id(), statement.place_count());
-    match values_in_order(statement, params) {
+    match values_in_order(statement.names(), params) {
         Some(list) => put_values(id, places, set, list, limit - 4, command, out),
         None => put_listed_set(statement, set, params, limit, values, command, out),
     }

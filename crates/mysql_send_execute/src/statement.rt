@@ -70,6 +70,21 @@ impl<'q> Statement<'q> {
         &self.query
     }
 
+    /// The text of its query, in which not both names and question marks occur.
+    pub fn text(&self) -> &[u8]
+        ensures text { result.now ≡ self.now.text }
+        ensures is { IsStatement self.now.text self.now.parsed self.now.places }
+    {
+        self.query.text()
+    }
+
+    /// The text with a question mark for each placeholder.
+    pub fn marked(&self) -> &[u8]
+        ensures { result.now ≡ self.now.parsed.query }
+    {
+        self.marked.as_slice()
+    }
+
     /// The names of its placeholders, in order.
     pub fn names(&self) -> &[CowSlice<'q, u8>]
         ensures { map cow_slice_items result.now ≡ self.now.parsed.names }

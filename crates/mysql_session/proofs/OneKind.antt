@@ -24,7 +24,7 @@ use Rattle.mysql_command_rules.specs.Commands.{prepare_command}
 use Rattle.mysql_command_rules.specs.Sending.{RefusesGiven}
 use Rattle.mysql_command_rules.specs.Sent.{whole_command}
 use Rattle.mysql_command_rules.specs.Sets.{Given, values_of}
-use Rattle.mysql_senders.specs.OneSet.{IsStatement}
+use Rattle.mysql_send_execute.specs.Statement.{IsStatement}
 
 -- a cause, if any, is not that both kinds occur
 abbrev NotMixed : Option Refusal → Type 0

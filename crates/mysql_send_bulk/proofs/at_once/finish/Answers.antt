@@ -4,21 +4,21 @@ use Rattle.mysql_send_bulk.specs.BulkSets.{front_bytes}
 use Rattle.mysql_send_bulk.proofs.AtOnce.{before_request, behind_header, filled_in}
 use Rattle.mysql_send_bulk.proofs.at_once.finish.Goals as goal
 
-pub frame_from-requires : goal.frame_from-requires
-frame_from-requires c =
+pub frame_in_place-requires : goal.frame_in_place-requires
+frame_in_place-requires c =
     behind_header c.args.start (7 + 2 * length c.args.firsts.now) (front_bytes c.args.id true (row_in c.args.firsts.now)) c.args.out.now.items c.write_front.new.out.items (omega (arith, c.requires)) c.in_ok-write_front.ensures.ok
 
-pub returns-in_err-frame_from-clause-kept : goal.returns-in_err-frame_from-clause-kept
-returns-in_err-frame_from-clause-kept c =
-    c.frame_from.ensures.kept
+pub returns-in_err-frame_in_place-clause-kept : goal.returns-in_err-frame_in_place-clause-kept
+returns-in_err-frame_in_place-clause-kept c =
+    c.frame_in_place.ensures.kept
     ∙ before_request c.args.start (7 + 2 * length c.args.firsts.now) (front_bytes c.args.id true (row_in c.args.firsts.now)) c.args.out.now.items c.write_front.new.out.items (omega (arith, c.requires)) c.in_ok-write_front.ensures.ok
 
 pub returns-clause-kept : goal.returns-clause-kept
 returns-clause-kept c =
-    c.frame_from.ensures.kept
+    c.frame_in_place.ensures.kept
     ∙ before_request c.args.start (7 + 2 * length c.args.firsts.now) (front_bytes c.args.id true (row_in c.args.firsts.now)) c.args.out.now.items c.write_front.new.out.items (omega (arith, c.requires)) c.in_ok-write_front.ensures.ok
 
 pub returns-clause-ok : goal.returns-clause-ok
 returns-clause-ok c = λ yes.
     filled_in c.args.start (7 + 2 * length c.args.firsts.now) (front_bytes c.args.id true (row_in c.args.firsts.now)) c.args.out.now.items c.write_front.new.out.items (omega (arith, c.requires)) c.in_ok-write_front.ensures.ok
-    (11 + 2 * length c.args.firsts.now) c.frame_from.new.out.items (omega arith) c.in_ok-frame_from.ensures.ok
+    (11 + 2 * length c.args.firsts.now) c.frame_in_place.new.out.items (omega arith) c.in_ok-frame_in_place.ensures.ok

@@ -5,7 +5,7 @@ use Rattle.mysql_command_rules.specs.declared.road.Road.TheVariants.{Bulk}
 use Rattle.mysql_command_rules.specs.Reading.{SentReadable}
 use Rattle.mysql_command_rules.specs.Sending.{RefusesGiven}
 use Rattle.mysql_command_rules.specs.Sets.{all_given}
-use Rattle.mysql_set_writer.specs.Writing.{FailsWithin, Writes}
+use Rattle.mysql_command_rules.specs.Writing.{FailsWithin, Writes}
 use Rattle.mysql_session.specs.Kept.{KeptQuery}
 use Rattle.mysql_session.proofs.query.Query.send_requests_to.Goals as goal
 

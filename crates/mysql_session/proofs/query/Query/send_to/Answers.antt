@@ -1,6 +1,6 @@
 use Rattle.std.proofs.Common.{◌<◌, ◌^◌, arith, subst}
 use Rattle.mysql_session.specs.Kept.{KeptQuery}
-use Rattle.mysql_session.proofs.Handing.{delivers_to}
+use Rattle.mysql_session.proofs.WritingTo.{delivers_to}
 use Rattle.mysql_session.proofs.OnAnswers.{on_ok}
 use Rattle.mysql_session.proofs.query.Query.send_to.Goals as goal
 

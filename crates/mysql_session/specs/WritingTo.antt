@@ -16,10 +16,10 @@ use Rattle.mysql_command_rules.specs.Reading.{SentReadable}
 use Rattle.mysql_command_rules.specs.Sending.{RefusesGiven}
 use Rattle.mysql_command_rules.specs.Sent.{payloads_of, sets_of}
 use Rattle.mysql_command_rules.specs.Sets.{Given, all_given}
-use Rattle.mysql_set_writer.specs.Lots.{TakesFront}
-use Rattle.mysql_set_writer.specs.Writing.{FailsWithin, Stops}
-use Rattle.mysql_set_writer.specs.declared.error.SendToError.{SendToError}
-use Rattle.mysql_set_writer.specs.declared.error.SendToError.TheVariants.{Refused, Io}
+use Rattle.mysql_command_rules.specs.Buffering.{TakesFront}
+use Rattle.mysql_command_rules.specs.Writing.{FailsWithin, Stops}
+use Rattle.mysql_command_rules.specs.declared.send_to_error.SendToError.{SendToError}
+use Rattle.mysql_command_rules.specs.declared.send_to_error.SendToError.TheVariants.{Refused, Io}
 use Rattle.mysql_session.specs.Delivery.{Delivers}
 
 -- Sets that give this for the query's names are delivered to a writer: it takes a stream that carries them, so that no

@@ -25,10 +25,10 @@ use Rattle.mysql_command_rules.specs.Sent.{SentPayload, payloads_of, sets_of, st
 use Rattle.mysql_command_rules.specs.Sets.{Given, all_given}
 use Rattle.mysql_command_rules.proofs.Held.{one_contents}
 use Rattle.mysql_command_rules.proofs.Statements.{query_is}
-use Rattle.mysql_set_writer.specs.declared.error.SendToError.TheVariants.{Io}
-use Rattle.mysql_set_writer.specs.Writing.{FailsAmong, FailsWithin, Writes}
+use Rattle.mysql_command_rules.specs.declared.send_to_error.SendToError.TheVariants.{Io}
+use Rattle.mysql_command_rules.specs.Writing.{FailsAmong, FailsWithin, Writes}
 use Rattle.mysql_session.specs.Delivery.{Delivers}
-use Rattle.mysql_session.specs.Handing.{DeliversTo, FailedWritersAreRead, FrontReads, StopsSending, TakesReadable}
+use Rattle.mysql_session.specs.WritingTo.{DeliversTo, FailedWritersAreRead, FrontReads, StopsSending, TakesReadable}
 use Rattle.mysql_session.specs.Laws.{ReadableSetsAreDelivered}
 
 pub delivers_to : ReadableSetsAreDelivered → (road : Road) (query : List ℕ) (sets : List (List ℕ) → List Given) (id limit : ℕ) (old new : Option (List ℕ)) → id < 2 ^ 32 → 4 ≤ limit → Writes road query sets id limit old new
