@@ -40,27 +40,6 @@ use Rattle.mysql_send_execute.specs.Statement.{AppendsPrepare, IsStatement, Refu
 use Rattle.mysql_send_execute.proofs.FurtherSets.{behind_pieces}
 use Rattle.mysql_send_execute.proofs.Lists.{first_is}
 
--- ---- a query as a statement
-
--- what is found of a query with placeholders of one kind is its statement
-pub is_statement : OneTokens → (query : List ℕ) (places : List Place) (marked : List ℕ) (names : List (List ℕ)) → (has : HasPlaces query places) → is_mixed places ≡ false
-    → (tokens : List (List ℕ)) × HasTokens query tokens × (names ≡ names_of tokens)
-    → (marks : (tokens : List (List ℕ)) × HasTokens query tokens × (marked ≡ join_with_byte question (pieces_of tokens)))
-    → IsStatement query (record { query = marked; names = names }) (length places)
-is_statement once query places marked names has one named marks = record {
-  tokens = has.0;
-  has = has.1;
-  query_is = marks.2 ∙ ap (λ t. join_with_byte question (pieces_of t)) (once query marks.0 has.0 marks.1 has.1);
-  names_are = named.2 ∙ ap names_of (once query named.0 has.0 named.1 has.1);
-  count = ap length has.2;
-  one_kind = ap is_mixed (sym has.2) ∙ one;
-}
-
--- a query with placeholders of both kinds is not prepared
-pub mixed_refused : (query : List ℕ) (places : List Place) (id room : ℕ) → HasPlaces query places → is_mixed places ≡ true → RefusesPrepare query id room refusals.Mixed
-mixed_refused query places id room has mixed =
-    inr (has.0, has.1, first_is (cause_if (is_mixed (places_from query 0 has.0)) refusals.Mixed) _ refusals.Mixed (ap (λ b. cause_if b refusals.Mixed) (ap is_mixed (sym has.2) ∙ mixed)))
-
 -- ---- its prepare
 
 -- where nothing speaks against it

@@ -3,10 +3,14 @@
 ghost use Rattle.std.specs.Cow.{cow_slice_items};
 ghost use Rattle.std.specs.Prelude.{◌≡◌, ◌<◌, ◌≤◌, ◌⊎◌, ℕ, IfErr, IfOk, List, OnErr, OnOk, false, length, map, take, true};
 ghost use Rattle.mysql_values.specs.Queries.{HasMixed, HasPlaces};
+ghost use Rattle.mysql_command_rules.specs.Sending.{RefusesGiven};
+ghost use Rattle.mysql_command_rules.specs.Sets.{Given};
 ghost use Rattle.mysql_command_rules.specs.declared.refusal.Refusal.TheVariants as refusals;
+ghost use Rattle.mysql_command_rules.specs.declared.road.Road.TheVariants as roads;
 ghost use Rattle.mysql_send_execute.specs.Statement.{AppendsPrepare, IsStatement, RefusesPrepare};
 
 use mysql_command_rules::Refusal;
+use mysql_command_rules::in_turn::sent_in_turn;
 use mysql_const::Command;
 use mysql_values::laws::tokens_of_a_text;
 use mysql_queries::ParsedQuery;
@@ -50,8 +54,13 @@ impl<'q> Statement<'q> {
         ensures mixed { IfErr result (λ refusal. (refusal ≡ refusals.Memory) ⊎
             ((refusal ≡ refusals.Mixed) × HasMixed text.entry.now true)) }
         ensures err { IfErr result (λ refusal. (room : ℕ) → RefusesPrepare text.entry.now id room refusal) }
+        // So its sets are refused, whichever they are.
+        ensures refused { IfErr result (λ refusal. (sets : List (List ℕ) → List Given) (limit : ℕ) →
+            RefusesGiven roads.Execute text.entry.now sets id limit refusal ×
+            RefusesGiven roads.Bulk text.entry.now sets id limit refusal) }
     {
         tokens_of_a_text();
+        sent_in_turn();
         let query = ParsedQuery::new(alloc, text)?;
         if query.is_mixed() {
             return Err(Refusal::Mixed);

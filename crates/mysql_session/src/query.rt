@@ -155,7 +155,8 @@ impl<'q> Query<'q> {
     {
         readable_sets_are_delivered();
         tokens_of_a_text();
-        let _id = self.statement.id();
+        // That the id is below 2^32, and the text of one kind, the proof takes of these.
+        let (_id, _text) = (self.statement.id(), self.text());
         let sent = self.send_sets(alloc, sets, road, limit, out);
         are_bytes(out);
         sent
