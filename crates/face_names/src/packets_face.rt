@@ -15,7 +15,7 @@ use mysql_packets::{
     NetworkStreamTerminator, NullBitmap, NullBits, OkPacket, OkPacketBody, OkPacketDeserializer,
     OkPacketKind, OldEofPacket, ProgressReport, ResultSetTerminator, Row, RowDeserializer, RowExt,
     RowRefExt, RowRefusal, Schema, ServerError, SessionStateChange, SessionStateInfo, SqlState,
-    SqlStateMarker, StmtBulkExecuteParamType, StmtBulkExecuteParamValue,
+    SqlStateMarker, StatementAlone, StmtBulkExecuteParamType, StmtBulkExecuteParamValue,
     StmtBulkExecuteParamValues, StmtPacket, StmtPacketStatus, SystemVariable,
     TransactionCharacteristics, TransactionState, Unsupported, has_named_status, new_row,
     new_row_raw, put_states, read_bulk_row, write_binary_row, write_text_row,

@@ -6,8 +6,7 @@
 ghost use Rattle.std.specs.Prelude.{◌≡◌, IfOk, List, None, [], ℕ, IsOkUnless, false};
 ghost use Rattle.std.proofs.Common.{lit<};
 ghost use Rattle.std.specs.Cow.{cow_slice_items, cow_str_bytes};
-ghost use Rattle.std.specs.Str.{encode_utf8_all};
-ghost use Rattle.bstr.specs.Utf8.{lossy_chars};
+ghost use Rattle.mysql_fields.specs.Texts.{lossy_text};
 ghost use Rattle.mysql_auth.specs.PacketLaws.{headed_at-back};
 ghost use Rattle.mysql_auth.specs.Packets.{headed, headed_at};
 ghost use Rattle.mysql_auth.specs.Views.{key_view, more_data_view};
@@ -15,11 +14,10 @@ ghost use Rattle.mysql_fields.specs.Laws.{unsized};
 ghost use Rattle.mysql_fields.specs.declared.error.WireError.TheVariants as wire;
 
 use crate::headers::{AuthMoreDataHeader, PublicKeyResponseHeader};
-use bstr::ByteSlice;
 use mysql_buf::ParseBuf;
 use mysql_fields::{
     EofBytes, MyDeserialize, MySerialize, ParseExt, RawBytes, Readable, ReadsBack, WireError,
-    in_order,
+    copy_bytes, in_order, lossy_text, own_bytes,
 };
 use std::alloc::{AllocError, Global};
 use std::borrow::{CowSlice, CowStr};
@@ -57,7 +55,7 @@ impl<'a> AuthMoreData<'a> {
         ensures { IfOk result (λ owned. more_data_view owned ≡ more_data_view self.entry) }
     {
         Ok(AuthMoreData {
-            data: CowSlice::Owned(self.data.into_owned(alloc)?),
+            data: own_bytes(alloc, self.data)?,
         })
     }
 
@@ -69,7 +67,7 @@ impl<'a> AuthMoreData<'a> {
         ensures { IfOk result (λ copy. more_data_view copy ≡ more_data_view self.now) }
     {
         Ok(AuthMoreData {
-            data: CowSlice::Owned(Vec::from_slice(alloc, self.data.as_slice())?),
+            data: copy_bytes(alloc, self.data.as_slice())?,
         })
     }
 }
@@ -159,9 +157,9 @@ impl<'a> PublicKeyResponse<'a> {
     /// - `Memory`.
     pub fn rsa_key(&self, alloc: Global) -> Result<CowStr<'_>, WireError>
         ensures memory { IsOkUnless result wire.Memory }
-        ensures value { IfOk result (λ text. cow_str_bytes text ≡ encode_utf8_all (lossy_chars (key_view self.now))) }
+        ensures value { IfOk result (λ text. cow_str_bytes text ≡ lossy_text (key_view self.now)) }
     {
-        Ok(self.rsa_key.as_slice().to_str_lossy(alloc)?)
+        lossy_text(alloc, self.rsa_key.as_slice())
     }
 
     /// A copy of the packet, which borrows nothing.
@@ -172,7 +170,7 @@ impl<'a> PublicKeyResponse<'a> {
         ensures { IfOk result (λ copy. key_view copy ≡ key_view self.now) }
     {
         Ok(PublicKeyResponse {
-            rsa_key: CowSlice::Owned(Vec::from_slice(alloc, self.rsa_key.as_slice())?),
+            rsa_key: copy_bytes(alloc, self.rsa_key.as_slice())?,
         })
     }
 }

@@ -12,7 +12,7 @@ ghost use Rattle.mysql_fields.specs.Laws.{unsized};
 use crate::parsec::parse_parsec_salt;
 use crate::zero::{put_with_zero, without_zero};
 use mysql_buf::ParseBuf;
-use mysql_fields::{MyDeserialize, MySerialize, Readable, WireError};
+use mysql_fields::{MyDeserialize, MySerialize, Readable, WireError, own_bytes};
 use std::alloc::{AllocError, Global};
 use std::borrow::CowSlice;
 
@@ -140,9 +140,7 @@ impl<'a> AuthPlugin<'a> {
                 iterations,
                 ext_salt,
             },
-            AuthPlugin::Other(name) => {
-                AuthPlugin::Other(CowSlice::Owned(name.into_owned(alloc)?))
-            }
+            AuthPlugin::Other(name) => { AuthPlugin::Other(own_bytes(alloc, name)?) }
         })
     }
 

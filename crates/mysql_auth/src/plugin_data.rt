@@ -5,7 +5,7 @@ ghost use Rattle.mysql_auth.specs.PluginData.{data_bytes, data_written};
 ghost use Rattle.mysql_auth.specs.Views.{data_view};
 
 use crate::zero::put_with_zero;
-use mysql_fields::MySerialize;
+use mysql_fields::{MySerialize, copy_bytes, own_bytes};
 use std::alloc::{AllocError, Global};
 use std::borrow::CowSlice;
 
@@ -55,9 +55,7 @@ impl<'a> AuthPluginData<'a> {
             AuthPluginData::Sha2(bytes) => AuthPluginData::Sha2(bytes),
             AuthPluginData::Ed25519(bytes) => AuthPluginData::Ed25519(bytes),
             AuthPluginData::Parsec(bytes) => AuthPluginData::Parsec(bytes),
-            AuthPluginData::Clear(bytes) => {
-                AuthPluginData::Clear(CowSlice::Owned(bytes.into_owned(alloc)?))
-            }
+            AuthPluginData::Clear(bytes) => { AuthPluginData::Clear(own_bytes(alloc, bytes)?) }
         })
     }
 
@@ -74,10 +72,10 @@ impl<'a> AuthPluginData<'a> {
             AuthPluginData::Sha2(bytes) => AuthPluginData::Sha2(*bytes),
             AuthPluginData::Ed25519(bytes) => AuthPluginData::Ed25519(*bytes),
             AuthPluginData::Parsec(bytes) => AuthPluginData::Parsec(*bytes),
-            AuthPluginData::Clear(bytes) => AuthPluginData::Clear(CowSlice::Owned(Vec::from_slice(
+            AuthPluginData::Clear(bytes) => AuthPluginData::Clear(copy_bytes(
                 alloc,
                 bytes.as_slice(),
-            )?)),
+            )?),
         })
     }
 }

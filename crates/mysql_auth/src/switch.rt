@@ -19,7 +19,7 @@ use crate::zero::without_zero;
 use mysql_buf::ParseBuf;
 use mysql_fields::{
     EofBytes, MyDeserialize, MySerialize, NullBytes, ParseExt, RawBytes, Readable, WireError,
-    in_order,
+    copy_bytes, in_order, own_bytes,
 };
 use std::alloc::{AllocError, Global};
 use std::borrow::CowSlice;
@@ -141,8 +141,8 @@ impl<'a> AuthSwitchRequest<'a> {
         ensures { IfOk result (λ owned. switch_view owned ≡ switch_view self.entry) }
     {
         Ok(AuthSwitchRequest {
-            auth_plugin: CowSlice::Owned(self.auth_plugin.into_owned(alloc)?),
-            plugin_data: CowSlice::Owned(self.plugin_data.into_owned(alloc)?),
+            auth_plugin: own_bytes(alloc, self.auth_plugin)?,
+            plugin_data: own_bytes(alloc, self.plugin_data)?,
         })
     }
 
@@ -154,8 +154,8 @@ impl<'a> AuthSwitchRequest<'a> {
         ensures { IfOk result (λ copy. switch_view copy ≡ switch_view self.now) }
     {
         Ok(AuthSwitchRequest {
-            auth_plugin: CowSlice::Owned(Vec::from_slice(alloc, self.auth_plugin.as_slice())?),
-            plugin_data: CowSlice::Owned(Vec::from_slice(alloc, self.plugin_data.as_slice())?),
+            auth_plugin: copy_bytes(alloc, self.auth_plugin.as_slice())?,
+            plugin_data: copy_bytes(alloc, self.plugin_data.as_slice())?,
         })
     }
 }

@@ -250,8 +250,11 @@ impl<'a> ComStmtBulkExecuteRequestBuilder<'a> {
     /// a refused call changes nothing (`Adds`, `GivesBack`).
     ///
     /// # Errors
-    /// `MixedArity`; `RowTooLarge` with the row where no rows are held and it fits no request;
-    /// `Memory`. They change nothing.
+    /// - `MixedArity`.
+    /// - `RowTooLarge` with the row where no rows are held and it fits no request.
+    /// - `Memory`.
+    ///
+    /// Nothing changes after an error.
     pub fn add_row(
         &mut self,
         row: Vec<Value>,
@@ -296,7 +299,10 @@ impl<'a> ComStmtBulkExecuteRequestBuilder<'a> {
     /// `Params` where it gives none (`AddsGiven`).
     ///
     /// # Errors
-    /// `Params` where the set gives no values; then those of `add_row`. They change nothing.
+    /// - `Params` where the set gives no values.
+    /// - Those of `add_row`.
+    ///
+    /// Nothing changes after an error.
     pub fn add_params(
         &mut self,
         params: Params,
@@ -321,7 +327,10 @@ impl<'a> ComStmtBulkExecuteRequestBuilder<'a> {
     /// `after_build`).
     ///
     /// # Errors
-    /// `NoParams` where no rows are held; `Memory`. They change nothing.
+    /// - `NoParams` where no rows are held.
+    /// - `Memory`.
+    ///
+    /// Nothing changes after an error.
     pub fn build(&mut self) -> Result<ComStmtBulkExecuteRequest, BulkExecuteRequestError>
         ensures built { IfOk result (λ request. bulk_view request ≡ execution_of (request_of self.old)) }
         ensures some { OnOk result (self.old.rows ≢ []) }

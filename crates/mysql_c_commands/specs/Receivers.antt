@@ -36,14 +36,14 @@ OfReceiver held number new Says = Stays held number new
 -- a receiver that was fed nothing, of a stream about this query
 pub record IsNew (query : List ℕ) (id limit : ℕ) (r : Received) : Type 0 where
   pub fresh : receiver_state r ≡ fresh_receiver
-  pub about : IsAbout r.conversation query id
+  pub about : IsAbout r.statement query id
   pub limit_is : r.limit ≡ limit
 
 -- What a receiver holds after it was fed a piece.
 pub record IsFed (old : Received) (piece : List ℕ) (new : Received) : Type 0 where
-  pub feeds : Feeds old.conversation old.limit (receiver_state old) piece (receiver_state new)
-  pub no_fault : new.fault ≡ None → HasFoundNoFault new.conversation new.limit (receiver_state new)
-  pub same_stream : new.conversation ≡ old.conversation
+  pub feeds : Feeds old.statement old.limit (receiver_state old) piece (receiver_state new)
+  pub no_fault : new.fault ≡ None → HasFoundNoFault new.statement new.limit (receiver_state new)
+  pub same_stream : new.statement ≡ old.statement
   pub same_limit : new.limit ≡ old.limit
 
 -- A receiver was fed, and the number is that of the fault that it holds.
@@ -54,11 +54,11 @@ IsFedBy piece number new old = IsReceiver new (λ r. IsFed old piece r × (numbe
 abbrev pub LetsGo : ℕ → Object → Received → Type 0
 LetsGo number new old =
     (number ≡ 0) × (new ≡ object.Receiver (record old { sets = [] }))
-    × HandsOut old.conversation old.limit (receiver_state old) old.sets (receiver_state (record old { sets = [] }))
+    × HandsOut old.statement old.limit (receiver_state old) old.sets (receiver_state (record old { sets = [] }))
 
 -- the audit of what a receiver was fed
 abbrev pub IsAuditOf : Received → Audit → Type 0
-IsAuditOf r a = ReceiverDecides r.conversation r.limit (receiver_state r) [] (audit_of a)
+IsAuditOf r a = ReceiverDecides r.statement r.limit (receiver_state r) [] (audit_of a)
 
 -- A receiver becomes the audit of what it was fed, and any other object stays.
 abbrev pub IsAudited : Object → Object → Type 0

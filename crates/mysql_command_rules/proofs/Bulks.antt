@@ -6,6 +6,7 @@ use Rattle.std.specs.Option.{option_or}
 use Rattle.std.proofs.lemmas.Bool.{eqb-true, eqb-false, ne_eqb, leb-true, ltb-true, lt-ltb, or_cases, not-true}
 use Rattle.byteorder.specs.Endian.{little_bytes}
 use Rattle.mysql_wire.specs.Bytes.{AreBytes}
+use Rattle.mysql_const.specs.FlagSets.{contains}
 use Rattle.mysql_buf.specs.NumberLaws.{little-reads_back}
 use Rattle.mysql_wire.specs.Wire.{◌>>=◌}
 use Rattle.mysql_values.specs.Content.{Content}
@@ -15,7 +16,7 @@ use Rattle.mysql_receive.specs.declared.fault.StreamFault.TheVariants.{NotPrepar
 use Rattle.mysql_receive.specs.declared.param_type.ParamType.{ParamType}
 use Rattle.mysql_receive.specs.Fields.{must}
 use Rattle.mysql_receive.specs.Query.{Statement, place_count}
-use Rattle.mysql_receive.specs.Layout.{Types, BulkHead, id_at, types_at, bulk_head}
+use Rattle.mysql_receive.specs.Layout.{Types, BulkHead, are_bulk_flags, id_at, send_types_to_server, types_at, bulk_head}
 use Rattle.mysql_receive.specs.InForce.{StatementState, is_waiting}
 use Rattle.mysql_receive.specs.Reading.{Set, content_at, types_in_force, column_at, columns_at, row_at, RowsAt, bulk_rows, BulkReadsAs}
 use Rattle.mysql_command_rules.specs.Manual as manual
@@ -154,7 +155,7 @@ rows_there (row ∷ rows) left bytes some same joined = omega arith
 
 -- ---- the head
 
-flag_cases : (f : ℕ) → (f == 0 || f == 64 || f == 128 || f == 192) ≡ true → (f ≡ 0) ⊎ ((f ≡ 64) ⊎ ((f ≡ 128) ⊎ (f ≡ 192)))
+flag_cases : (f : ℕ) → are_bulk_flags f ≡ true → (f ≡ 0) ⊎ ((f ≡ 64) ⊎ ((f ≡ 128) ⊎ (f ≡ 192)))
 flag_cases f test = elim (or_cases (f == 0 || f == 64 || f == 128) (f == 192) test) [
   | inr d ↦ inr (inr (inr (eqb-true f 192 d)))
   | inl abc ↦ elim (or_cases (f == 0 || f == 64) (f == 128) abc) [
@@ -178,7 +179,7 @@ found head = Ok head
 -- behind the flags
 abbrev behind_flags : Statement → ℕ → List ℕ → Result BulkHead StreamFault
 behind_flags c f rest =
-    if nat_lt f 128 then found (record { own = None; rows = rest })
+    if not (contains f send_types_to_server) then found (record { own = None; rows = rest })
     else (types_at BadBulk (place_count c.query) rest >>= λ types. found (record { own = Some types.0; rows = types.1 }))
 
 old_bound : (c : Statement) (body rest : List ℕ) (head : BulkHead) (results : Bool) → body ≡ little_bytes 4 c.id ++ (little_bytes 2 (if results then 64 else 0) ++ rest) →
@@ -206,7 +207,7 @@ bound_taken : (c : Statement) (body : List ℕ) (head : BulkHead) → AreBytes b
 unfolding bulk_head
 bound_taken c body head are e =
     let a = bind_ok (id_at c body) _ head e in
-    let b = number_behind BadBulk BadBulk 2 (λ n. n == 0 || n == 64 || n == 128 || n == 192) a.0 (λ flags. behind_flags c flags.0 flags.1) head a.2 in
+    let b = number_behind BadBulk BadBulk 2 are_bulk_flags a.0 (λ flags. behind_flags c flags.0 flags.1) head a.2 in
     let id = id_taken c body a.0 are a.1 in
     let flags = little_taken 2 a.0 b.0 (bytes_behind (little_bytes 4 c.id) a.0 body id.joined are) b.1 in
     let joined : body ≡ little_bytes 4 c.id ++ (little_bytes 2 b.0.0 ++ b.0.1) = id.joined ∙ ap (λ (l : List ℕ). little_bytes 4 c.id ++ l) flags.1 in

@@ -1,14 +1,14 @@
 -- Values that were sent are carried by what was appended.
-use Rattle.std.proofs.Common.{◌≡◌, ℕ, ◌-◌, ◌^◌, ◌<◌, ◌≤◌, List, [], length, map, None, Ok, refl, sym, ◌∙◌, ap, subst, arith, inr, length-append}
+use Rattle.std.proofs.Common.{◌≡◌, ℕ, ◌-◌, ◌^◌, ◌<◌, ◌≤◌, List, [], length, map, None, Ok, refl, sym, ◌∙◌, ap, subst, arith, length-append}
 use Rattle.std.specs.List.{AllByRecursion, AllZip, flat_map}
 use Rattle.std.proofs.lemmas.List.{append-nil, length-map}
-use Rattle.std.proofs.lemmas.Slice.Zip.{AllZip-long}
 use Rattle.mysql_wire.specs.Framing.{chunks}
 use Rattle.mysql_wire.specs.Stream.{IsSplit, framings}
 use Rattle.mysql_wire.specs.Stream.Rest.{Empty}
 use Rattle.mysql_wire.specs.Stream.Numbering.{EachFromZero}
 use Rattle.mysql_values.specs.Value.{Value}
 use Rattle.mysql_receive.specs.declared.audit.End.TheVariants.{Whole}
+use Rattle.mysql_receive.specs.Audit as audit
 use Rattle.mysql_receive.specs.Audit.{Audited}
 use Rattle.mysql_receive.specs.Query.{Statement, statement_of}
 use Rattle.mysql_receive.specs.Reading.{Set}
@@ -60,17 +60,18 @@ reads_each text execute bulk road query sets id limit old new small room q =
     let none = no_cause road query sets id limit old new q.sends in
     law_of text execute bulk road query q.sends.tokens id limit q.sends.values q.sends.sent q.sends.has small room none q.sends.are_sent q.readable
 
--- as many lists of sets as payloads
-pub as_many : (sent : List SentPayload) (reads : List (List Set)) → AllZip (λ payload sets. HaveContents payload.sets sets) sent reads → length reads ≡ length (payloads_of sent)
-as_many sent reads each = AllZip-long (λ payload sets. HaveContents payload.sets sets) sent reads each ∙ sym (length-map sent (λ s. s.payload))
-
 -- the audit of payloads that read each
 audited : (c : Statement) (limit : ℕ) (sent : List SentPayload) → (reads : ReadsEach c limit sent) → length sent < 2 ^ 64
     → Audited c limit (framings (payloads_of sent) EachFromZero) (record { sets = flat_map (λ sets. sets) reads.reads; ending = Whole })
 audited c limit sent reads few = (
   record { payloads = payloads_of sent; rest_bytes = []; rest = Empty },
   splits limit (payloads_of sent) reads.within,
-  record { reads = reads.reads; each = reads.each few; sets = refl; ending = inr (as_many sent reads.reads reads.contents, rw reads.ends refl) },
+  record {
+    reads = reads.reads;
+    each = record { front = payloads_of sent; left = []; cut = sym (append-nil (payloads_of sent)); each = reads.each few };
+    sets = refl;
+    ending = audit.all_read (rw reads.ends refl);
+  },
 )
 
 pub carried : SentPayloadsRead Text → SentPayloadsRead Execute → SentPayloadsRead Bulk → SentValuesAreCarried

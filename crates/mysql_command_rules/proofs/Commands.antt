@@ -13,21 +13,21 @@ use Rattle.mysql_buf.specs.NumberLaws.{little-reads_back}
 use Rattle.mysql_receive.specs.declared.fault.StreamFault.TheVariants.{NotPrepared, WrongId, BadPlace}
 use Rattle.mysql_receive.specs.Fields.{must}
 use Rattle.mysql_receive.specs.Query.{IsQuery, Statement, place_count}
-use Rattle.mysql_receive.specs.Layout.{Piece, command_by, id_at, piece_at}
-use Rattle.mysql_receive.specs.InForce.{StatementState, nothing_yet, state_after}
-use Rattle.mysql_receive.specs.Reading.{Set, CommandReadsAs, PayloadReadsAs, prepared_piece, long_data_at, statement_alone_at}
+use Rattle.mysql_receive.specs.Layout.{PlaceData, command_by, id_at, place_data_at}
+use Rattle.mysql_receive.specs.InForce.{StatementState, nothing_yet, after, freshly_prepared, with_types, with_data, without_data, more_data}
+use Rattle.mysql_receive.specs.Reading.{Set, CommandReadsAs, PayloadReadsAs, prepared_data, long_data_at, statement_alone_at}
 use Rattle.mysql_command_rules.specs.Manual as manual
-use Rattle.mysql_command_rules.specs.Manual.{with_marks, IsPrepared, IsCommand, freshly_prepared, with_types, with_data, without_data, more_data}
+use Rattle.mysql_command_rules.specs.Manual.{with_marks, IsPrepared, IsCommand}
 use Rattle.mysql_command_rules.proofs.Binds.{bind_ok, must_ok, number_behind}
 use Rattle.mysql_command_rules.proofs.Numbers.{bytes_behind, little_taken}
 use Rattle.mysql_command_rules.proofs.Executes.{id_taken, id_given, execute_taken, execute_given}
-use Rattle.mysql_command_rules.proofs.Leaving.{behind_query, behind_prepare, behind_data, behind_execute, behind_bulk, behind_reset, behind_close, is_not_waiting, none_waits}
+use Rattle.mysql_command_rules.proofs.Leaving.{behind_prepare, behind_data, behind_execute, behind_bulk, is_not_waiting, none_waits}
 use Rattle.mysql_command_rules.proofs.Bulks.{bulk_taken, bulk_given}
 use Rattle.mysql_command_rules.proofs.Fillings.{QueryLaws, filled_of, text_of, marks_are}
 
 -- ---- long data
 
-record HasPiece (c : Statement) (s : StatementState) (body : List ℕ) : Type 0 where
+record HasData (c : Statement) (s : StatementState) (body : List ℕ) : Type 0 where
   prepared : IsPrepared c s
   place : ℕ
   bytes : List ℕ
@@ -35,10 +35,10 @@ record HasPiece (c : Statement) (s : StatementState) (body : List ℕ) : Type 0 
   fits : place < 2 ^ 16
   joined : body ≡ little_bytes 4 c.id ++ (little_bytes 2 place ++ bytes)
 
-piece_taken : (c : Statement) (s : StatementState) (body : List ℕ) (piece : Piece) → AreBytes body → s.prepared ≡ true → piece_at c body ≡ Ok piece → HasPiece c s body
-piece_taken c s body piece are prepared e =
-    let a = bind_ok (id_at c body) _ piece e in
-    let b = number_behind BadPlace BadPlace 2 (λ n. nat_lt n (place_count c.query)) a.0 (λ place. Ok (record { place = place.0; bytes = place.1 })) piece a.2 in
+data_taken : (c : Statement) (s : StatementState) (body : List ℕ) (sent : PlaceData) → AreBytes body → s.prepared ≡ true → place_data_at c body ≡ Ok sent → HasData c s body
+data_taken c s body sent are prepared e =
+    let a = bind_ok (id_at c body) _ sent e in
+    let b = number_behind BadPlace BadPlace 2 (λ n. nat_lt n (place_count c.query)) a.0 (λ place. Ok (record { place = place.0; bytes = place.1 })) sent a.2 in
     let id = id_taken c body a.0 are a.1 in
     let place = little_taken 2 a.0 b.0 (bytes_behind (little_bytes 4 c.id) a.0 body id.joined are) b.1 in
     record {
@@ -50,24 +50,24 @@ piece_taken c s body piece are prepared e =
       joined = id.joined ∙ ap (λ (l : List ℕ). little_bytes 4 c.id ++ l) place.1;
     }
 
-long_data_taken : (c : Statement) (s : StatementState) (body : List ℕ) (sets : List Set) → AreBytes body → long_data_at c s body ≡ Ok sets → HasPiece c s body × (sets ≡ [])
-unfolding long_data_at prepared_piece
+long_data_taken : (c : Statement) (s : StatementState) (body : List ℕ) (sets : List Set) → AreBytes body → long_data_at c s body ≡ Ok sets → HasData c s body × (sets ≡ [])
+unfolding long_data_at prepared_data
 long_data_taken c s body sets are e =
-    let a = bind_ok (prepared_piece c s body) _ sets e in
+    let a = bind_ok (prepared_data c s body) _ sets e in
     let b = bind_ok (must NotPrepared s.prepared) _ a.0 a.1 in
-    (piece_taken c s body a.0 are (must_ok NotPrepared s.prepared b.0 b.1) b.2, cc)
+    (data_taken c s body a.0 are (must_ok NotPrepared s.prepared b.0 b.1) b.2, cc)
 
-piece_given : (c : Statement) (place : ℕ) (bytes : List ℕ) → c.id < 2 ^ 32 → place < place_count c.query → place < 2 ^ 16 →
-    piece_at c (little_bytes 4 c.id ++ (little_bytes 2 place ++ bytes)) ≡ Ok (record { place = place; bytes = bytes })
-piece_given c place bytes lt known fits =
+data_given : (c : Statement) (place : ℕ) (bytes : List ℕ) → c.id < 2 ^ 32 → place < place_count c.query → place < 2 ^ 16 →
+    place_data_at c (little_bytes 4 c.id ++ (little_bytes 2 place ++ bytes)) ≡ Ok (record { place = place; bytes = bytes })
+data_given c place bytes lt known fits =
     rw (id_given c (little_bytes 2 place ++ bytes) lt, little-reads_back 2 place bytes fits, lt-ltb place (place_count c.query) known) refl
 
 long_data_given : (c : Statement) (s : StatementState) (place : ℕ) (bytes : List ℕ) → IsPrepared c s → place < place_count c.query → place < 2 ^ 16 →
     long_data_at c s (little_bytes 4 c.id ++ (little_bytes 2 place ++ bytes)) ≡ Ok []
-unfolding long_data_at prepared_piece
+unfolding long_data_at prepared_data
 long_data_given c s place bytes is known fits =
     let prepared = is.prepared in
-    rw (prepared, piece_given c place bytes is.id known fits) refl
+    rw (prepared, data_given c place bytes is.id known fits) refl
 
 -- ---- reset and close
 
@@ -94,14 +94,14 @@ alone_given c s is = let prepared = is.prepared in rw (prepared, id_given c [] i
 -- ---- each command that is laid out reads, and leaves in force what it says
 
 pub each_reads : QueryLaws → (c : Statement) (s : StatementState) (payload : List ℕ) (sets : List Set) (behind : StatementState) → IsQuery c.query → IsCommand c s payload sets behind →
-    PayloadReadsAs c s payload sets × (state_after c s (payload ∷ []) ≡ behind)
-each_reads laws c s payload sets behind is (manual.query text {set = set} filled) = ((filled.alone, (set, text_of laws c.query text set is filled, refl)), behind_query c s text)
+    PayloadReadsAs c s payload sets × (after c s payload ≡ behind)
+each_reads laws c s payload sets behind is (manual.query text {set = set} filled) = ((filled.alone, (set, text_of laws c.query text set is filled, refl)), refl)
 each_reads laws c s payload sets behind is (manual.prepare few) =
     let same = sym (marks_are laws c.query is) in
     ((same, few, refl), behind_prepare c s (with_marks c.query) same)
 each_reads laws c s payload sets behind is (manual.long_data place bytes prepared known fits) = (
   long_data_given c s place bytes prepared known fits,
-  behind_data c s (little_bytes 4 c.id ++ (little_bytes 2 place ++ bytes)) (record { place = place; bytes = bytes }) (piece_given c place bytes prepared.id known fits),
+  behind_data c s (little_bytes 4 c.id ++ (little_bytes 2 place ++ bytes)) (record { place = place; bytes = bytes }) (data_given c place bytes prepared.id known fits),
 )
 each_reads laws c s payload sets behind is (manual.execute parameters {set = set} {types = types} prepared are) =
     let h = execute_given c s parameters set types prepared are in (
@@ -111,8 +111,8 @@ each_reads laws c s payload sets behind is (manual.execute parameters {set = set
 each_reads laws c s payload sets behind is (manual.bulk bound rows {types = types} {sets = held} prepared waits there some are all) =
     let h = bulk_given c s bound rows types held prepared (is_not_waiting c s waits) there some are all in
     (h.reads, behind_bulk c s (little_bytes 4 c.id ++ (bound ++ concat rows)) (record { own = h.own; rows = h.head.0 }) (Some types) h.head.1 h.types_count)
-each_reads laws c s payload sets behind is (manual.reset prepared) = (alone_given c s prepared, behind_reset c s (little_bytes 4 c.id))
-each_reads laws c s payload sets behind is (manual.close prepared) = (alone_given c s prepared, behind_close c s (little_bytes 4 c.id))
+each_reads laws c s payload sets behind is (manual.reset prepared) = (alone_given c s prepared, refl)
+each_reads laws c s payload sets behind is (manual.close prepared) = (alone_given c s prepared, refl)
 
 -- ---- and no other payload
 
@@ -131,10 +131,10 @@ module _ (laws : QueryLaws) (c : Statement) (s : StatementState) (is : IsQuery c
 
   long_data_laid : (body : List ℕ) (sets : List Set) → AreBytes body → long_data_at c s body ≡ Ok sets → Laid c s (command_number COM_STMT_SEND_LONG_DATA ∷ body) sets
   long_data_laid body sets are h =
-      let (piece, none) = long_data_taken c s body sets are h in
+      let (sent, none) = long_data_taken c s body sets are h in
       subst (λ (xs : List Set). Laid c s (command_number COM_STMT_SEND_LONG_DATA ∷ body) xs) (sym none)
-      (subst (λ (l : List ℕ). Laid c s (command_number COM_STMT_SEND_LONG_DATA ∷ l) []) (sym piece.joined)
-      (with_data s (more_data s.pieces piece.place piece.bytes), manual.long_data piece.place piece.bytes piece.prepared piece.known piece.fits))
+      (subst (λ (l : List ℕ). Laid c s (command_number COM_STMT_SEND_LONG_DATA ∷ l) []) (sym sent.joined)
+      (with_data s (more_data s.long_data sent.place sent.bytes), manual.long_data sent.place sent.bytes sent.prepared sent.known sent.fits))
 
   execute_laid : (body : List ℕ) (sets : List Set) → AreBytes body → CommandReadsAs c s (command_by (Some COM_STMT_EXECUTE)) body sets → Laid c s (command_number COM_STMT_EXECUTE ∷ body) sets
   execute_laid body sets are h =
@@ -177,7 +177,7 @@ module _ (laws : QueryLaws) (c : Statement) (s : StatementState) (is : IsQuery c
   payload_laid table [] sets are h = absurd h
   payload_laid table (b ∷ body) sets are h = laid table b body sets (command_named b) refl (bytes_behind (b ∷ []) body (b ∷ body) refl are) h
 
-  pub only_reads : IsTable command_number command_named → (payload : List ℕ) (sets : List Set) → AreBytes payload → PayloadReadsAs c s payload sets → IsCommand c s payload sets (state_after c s (payload ∷ []))
+  pub only_reads : IsTable command_number command_named → (payload : List ℕ) (sets : List Set) → AreBytes payload → PayloadReadsAs c s payload sets → IsCommand c s payload sets (after c s payload)
   only_reads table payload sets are h =
       let (behind, command) = payload_laid table payload sets are h in
       subst (λ (t : StatementState). IsCommand c s payload sets t) (sym (each_reads laws c s payload sets behind is command).1) command

@@ -20,7 +20,7 @@ use Rattle.mysql_command_rules.specs.Reading.{FrontsRead, HaveContents}
 use Rattle.mysql_command_rules.specs.Sending.{HasFewest}
 use Rattle.mysql_command_rules.specs.Sent.{AreSent, SentPayload, as_requests, payloads_of, sets_of, whole_command}
 use Rattle.mysql_command_rules.specs.Sets.{values_of}
-use Rattle.mysql_command_rules.proofs.Carried.{as_many, few_sent, no_cause, reads_each}
+use Rattle.mysql_command_rules.proofs.Carried.{few_sent, no_cause, reads_each}
 use Rattle.mysql_command_rules.proofs.Contents.{all_counted, neither}
 use Rattle.mysql_command_rules.proofs.Statements.{query_is}
 use Rattle.mysql_command_rules.proofs.Held.{contents_in_a_row, first_zip}
@@ -48,7 +48,7 @@ fronts once law query tokens id limit sent has reads few front back audit joined
     let statement : Statement = statement_of query tokens id in
     let same : is.0 ≡ tokens = once query is.0 tokens is.1 has in
     let all : List (List Set) = reads.reads in
-    let found = law statement limit (payloads_of sent) all front back audit (query_is query tokens id has) reads.within joined (reads.each few) (as_many sent all reads.contents) (subst (λ (t : List (List ℕ)). Audited (statement_of query t id) limit front audit) same is.2) in
+    let found = law statement limit (payloads_of sent) all front back audit (query_is query tokens id has) reads.within joined (reads.each few) (subst (λ (t : List (List ℕ)). Audited (statement_of query t id) limit front audit) same is.2) in
     let whole : HaveContents (sets_of (take found.0 sent)) (flat_map (λ sets. sets) (take found.0 all)) =
     contents_in_a_row (take found.0 sent) (take found.0 all) (first_zip (λ payload sets. HaveContents payload.sets sets) found.0 sent all reads.contents) in
     (found.0, found.1, whole ∙ ap (λ l. map (map Some) l) (sym found.2), found.3)

@@ -221,31 +221,31 @@ abbrev SomeParameters : Statement → StatementState → List ℕ → Set → Ty
 SomeParameters c s rest set = (types : Option Types) × AreParameters c s rest set types
 
 parameters_taken : (c : Statement) (s : StatementState) (rest : List ℕ) (head : ExecuteHead) (types : Types) (set : Set) → AreBytes rest →
-    binding_of c rest ≡ Ok head → types_in_force c s head.own ≡ Ok types → set_at s.pieces head.nulls 0 types head.cells ≡ Ok set → SomeParameters c s rest set
+    binding_of c rest ≡ Ok head → types_in_force c s head.own ≡ Ok types → set_at s.long_data head.nulls 0 types head.cells ≡ Ok set → SomeParameters c s rest set
 unfolding set_at
 parameters_taken c s rest head types set are is_head are_types is_set = by (cases_Bool (place_count c.query == 0))
   where
     none : (place_count c.query == 0) ≡ true → (left : List ℕ) → left ≡ rest → types ≡ [] → head.cells ≡ left → SomeParameters c s rest set
     none no_place [] same empty cells =
-        let e : set_at s.pieces head.nulls 0 [] [] ≡ Ok set =
-        ap (λ (l : List ℕ). set_at s.pieces head.nulls 0 [] l) (sym cells) ∙ ap (λ (ts : Types). set_at s.pieces head.nulls 0 ts head.cells) (sym empty) ∙ is_set in
+        let e : set_at s.long_data head.nulls 0 [] [] ≡ Ok set =
+        ap (λ (l : List ℕ). set_at s.long_data head.nulls 0 [] l) (sym cells) ∙ ap (λ (ts : Types). set_at s.long_data head.nulls 0 ts head.cells) (sym empty) ∙ is_set in
         let nothing : [] ≡ set = cc in
         subst (λ (x : Set). SomeParameters c s rest x) nothing (subst (λ (l : List ℕ). SomeParameters c s l []) same (s.types, without (eqb-true (place_count c.query) 0 no_place)))
     none no_place (b ∷ left) same empty cells =
-        let e : set_at s.pieces head.nulls 0 [] (b ∷ left) ≡ Ok set =
-        ap (λ (l : List ℕ). set_at s.pieces head.nulls 0 [] l) (sym cells) ∙ ap (λ (ts : Types). set_at s.pieces head.nulls 0 ts head.cells) (sym empty) ∙ is_set in
+        let e : set_at s.long_data head.nulls 0 [] (b ∷ left) ≡ Ok set =
+        ap (λ (l : List ℕ). set_at s.long_data head.nulls 0 [] l) (sym cells) ∙ ap (λ (ts : Types). set_at s.long_data head.nulls 0 ts head.cells) (sym empty) ∙ is_set in
         absurd cc
 
     some : (place_count c.query == 0) ≡ false → HasBinding c rest head → SomeParameters c s rest set
     some there h =
         let back : AreBytes head.cells = bytes_behind (head.nulls ++ h.bound) head.cells rest (h.joined ∙ sym (append_assoc head.nulls h.bound head.cells)) are in
-        let places = places_taken s.pieces head.nulls 0 types head.cells set back is_set in
+        let places = places_taken s.long_data head.nulls 0 types head.cells set back is_set in
         let not_zero = eqb-false (place_count c.query) 0 there in
         subst (λ (l : List ℕ). SomeParameters c s l set) (sym (h.joined ∙ ap (λ (l : List ℕ). head.nulls ++ (h.bound ++ l)) places.1)) (
           Some types,
           with_places head.nulls h.bound places.0 (omega (arith, not_zero)) h.bitmap (h.is s types (counted_types c s head.own types there are_types))
-              (beside_same (from_place s.pieces head.nulls 0) (λ place. IsParameter (s.pieces place) (is_null_at 0 head.nulls place)) types places.0 set
-              (λ place t part held is. said_at s.pieces head.nulls (0 + place) place t part held (omega arith) is) places.2),
+              (beside_same (from_place s.long_data head.nulls 0) (λ place. IsParameter (s.long_data place) (is_null_at 0 head.nulls place)) types places.0 set
+              (λ place t part held is. said_at s.long_data head.nulls (0 + place) place t part held (omega arith) is) places.2),
         )
 
     by : (((place_count c.query == 0) ≡ true) ⊎ ((place_count c.query == 0) ≡ false)) → SomeParameters c s rest set
@@ -325,9 +325,9 @@ execute_given c s parameters set types is (without no_place) =
 execute_given c s parameters set behind is (with_places bitmap bound cells {types = types} there len are all) =
     let no_zero : (place_count c.query == 0) ≡ false = ne_eqb (place_count c.query) 0 (λ e. omega (arith, there, e)) in
     let head = bound_given c s bitmap bound (concat cells) types len are in
-    let places = places_given s.pieces bitmap 0 types cells set
-    (beside_same (λ place. IsParameter (s.pieces place) (is_null_at 0 bitmap place)) (from_place s.pieces bitmap 0) types cells set
-    (λ place t part held h. said_at s.pieces bitmap place (0 + place) t part held (omega arith) h) all) in
+    let places = places_given s.long_data bitmap 0 types cells set
+    (beside_same (λ place. IsParameter (s.long_data place) (is_null_at 0 bitmap place)) (from_place s.long_data bitmap 0) types cells set
+    (λ place t part held h. said_at s.long_data bitmap place (0 + place) t part held (omega arith) h) all) in
     let prepared = is.prepared in
     let rest = bitmap ++ (bound ++ concat cells) in
     record {

@@ -206,21 +206,21 @@ unfolding head_of
 head_cells apart [] = refl
 head_cells apart (value ∷ values) = refl
 
-module _ (law : WrittenCellsAreHeld) (c : Statement) (s : StatementState) (apart : Bool) (id : ℕ) (values : List Value) (contents : List Content) (prepared : s.prepared ≡ true) (waits : Wait s.pieces 0 apart values)
+module _ (law : WrittenCellsAreHeld) (c : Statement) (s : StatementState) (apart : Bool) (id : ℕ) (values : List Value) (contents : List Content) (prepared : s.prepared ≡ true) (waits : Wait s.long_data 0 apart values)
     (small : id < 2 ^ 32) (same : c.id ≡ id) (count : place_count c.query ≡ length values) (fit : AllByRecursion (λ value. FitsFields value) values) (each : map content_of values ≡ map Some contents) where
   -- the body of an execution reads as what its values hold
   body_reads : execute_at c s (little_bytes 4 id ++ 0 ∷ (little_bytes 4 1 ++ carried apart values)) ≡ Ok contents
   unfolding execute_at
   body_reads =
       let body : List ℕ = little_bytes 4 id ++ 0 ∷ (little_bytes 4 1 ++ carried apart values) in
-      bind_from (must NotPrepared s.prepared) (λ known. execute_head c body >>= λ head. types_in_force c s head.own >>= λ types. set_at s.pieces head.nulls 0 types head.cells) 0 (Ok contents)
+      bind_from (must NotPrepared s.prepared) (λ known. execute_head c body >>= λ head. types_in_force c s head.own >>= λ types. set_at s.long_data head.nulls 0 types head.cells) 0 (Ok contents)
       (ap (λ b. must NotPrepared b) prepared)
-      (bind_from (execute_head c body) (λ head. types_in_force c s head.own >>= λ types. set_at s.pieces head.nulls 0 types head.cells) (head_of apart values) (Ok contents)
+      (bind_from (execute_head c body) (λ head. types_in_force c s head.own >>= λ types. set_at s.long_data head.nulls 0 types head.cells) (head_of apart values) (Ok contents)
       (head_reads c id apart values small same count)
-      (bind_from (types_in_force c s (head_of apart values).own) (λ types. set_at s.pieces (head_of apart values).nulls 0 types (head_of apart values).cells) (map type_of values) (Ok contents)
+      (bind_from (types_in_force c s (head_of apart values).own) (λ types. set_at s.long_data (head_of apart values).nulls 0 types (head_of apart values).cells) (map type_of values) (Ok contents)
       (types_found c s apart values count)
-      (ap (λ l. set_at s.pieces (head_of apart values).nulls 0 (map type_of values) l) (head_cells apart values)
-      ∙ set_reads law apart s.pieces (head_of apart values).nulls 0 values contents waits fit each (head_bits apart values))))
+      (ap (λ l. set_at s.long_data (head_of apart values).nulls 0 (map type_of values) l) (head_cells apart values)
+      ∙ set_reads law apart s.long_data (head_of apart values).nulls 0 values contents waits fit each (head_bits apart values))))
 
   -- where what is sent apart waits, an execution reads as what its values hold
   pub execution_reads : PayloadReadsAs c s (execute_command id values apart) (contents ∷ [])

@@ -1,9 +1,6 @@
 -- Byte strings that are sent as long data wait for their places.
 use Rattle.std.proofs.Common.{◌≡◌, ◌≢◌, ℕ, ◌+◌, ◌^◌, ◌<◌, ◌≤◌, ◌==◌, true, List, [], ◌∷◌, ◌++◌, length, map, nat_lt, Option, Some, None, Result, Ok, refl, ◌∙◌, ap, arith}
-use Rattle.std.specs.Prelude.{if◌then◌else◌}
-use Rattle.std.specs.List.{cons_option}
-use Rattle.std.specs.Option.{option_and_then, option_to_list}
-use Rattle.std.specs.Result.{result_ok}
+use Rattle.std.specs.Prelude.{if◌then◌else◌, unwrap_or}
 use Rattle.std.proofs.lemmas.Bool.{eq-eqb, lt-ltb, ne_eqb}
 use Rattle.std.proofs.lemmas.List.{append-nil}
 use Rattle.byteorder.specs.Endian.{little_bytes}
@@ -16,16 +13,15 @@ use Rattle.mysql_stmt.specs.Commands.{long_data}
 use Rattle.mysql_receive.specs.declared.fault.StreamFault.{StreamFault}
 use Rattle.mysql_receive.specs.declared.fault.StreamFault.TheVariants.{BadPlace, NotPrepared}
 use Rattle.mysql_receive.specs.Fields.{number_or, must}
-use Rattle.mysql_receive.specs.InForce.{StatementState, joined, state_after}
-use Rattle.mysql_receive.specs.Layout.{Piece, id_at, piece_at}
+use Rattle.mysql_receive.specs.InForce.{StatementState, after, more_data, state_after, with_sent}
+use Rattle.mysql_receive.specs.Layout.{PlaceData, id_at, place_data_at}
 use Rattle.mysql_receive.specs.Query.{Statement, place_count}
-use Rattle.mysql_receive.specs.Reading.{PayloadReadsAs, long_data_at, prepared_piece}
+use Rattle.mysql_receive.specs.Reading.{PayloadReadsAs, long_data_at, prepared_data}
 use Rattle.mysql_command_rules.specs.Commands.{pieces_from}
-use Rattle.mysql_command_rules.specs.Sent.{SentPayload, on_the_way}
+use Rattle.mysql_command_rules.specs.Sent.{SentPayload, on_the_way, payloads_of}
 use Rattle.mysql_command_rules.proofs.Executions.{Wait}
 use Rattle.mysql_command_rules.proofs.FieldsRead.{bind_from, id_front, number_front}
 use Rattle.mysql_command_rules.proofs.ReadEach.{ReadFrom}
-use Rattle.mysql_command_rules.proofs.States.{behind}
 
 -- ---- a piece
 
@@ -43,7 +39,7 @@ unfolding piece body_of long_data
 piece_is id place bytes = ap (λ l. command_number COM_STMT_SEND_LONG_DATA ∷ (little_bytes 4 id ++ (little_bytes 2 place ++ l))) (append-nil bytes)
 
 -- what stands behind the first byte is read as the place and the bytes
-piece_read : (c : Statement) (id place : ℕ) (bytes : List ℕ) → id < 2 ^ 32 → c.id ≡ id → place < 65536 → place < place_count c.query → piece_at c (body_of id place bytes) ≡ Ok (record { place = place; bytes = bytes })
+piece_read : (c : Statement) (id place : ℕ) (bytes : List ℕ) → id < 2 ^ 32 → c.id ≡ id → place < 65536 → place < place_count c.query → place_data_at c (body_of id place bytes) ≡ Ok (record { place = place; bytes = bytes })
 unfolding body_of
 piece_read c id place bytes small same low inside =
     bind_from (id_at c (little_bytes 4 id ++ (little_bytes 2 place ++ bytes)))
@@ -55,82 +51,73 @@ piece_read c id place bytes small same low inside =
 
 -- ---- what waits behind a piece
 
--- what waits for a place behind a piece: what waited, and behind it the piece's bytes, where they are this place's
-with_piece : Option (List ℕ) → ℕ → Result Piece StreamFault → Option (List ℕ)
-with_piece waited place read = joined (option_to_list waited ++ cons_option (option_and_then (λ piece. if piece.place == place then Some piece.bytes else None) (result_ok read)) [])
+-- what is in force behind a piece for a place
+data_behind : (c : Statement) (s : StatementState) (body : List ℕ) (place k : ℕ) (bytes : List ℕ) → place_data_at c body ≡ Ok (record { place = place; bytes = bytes })
+    → (after c s (command_number COM_STMT_SEND_LONG_DATA ∷ body)).long_data k ≡ more_data s.long_data place bytes k
+data_behind c s body place k bytes read = ap (λ (r : Result PlaceData StreamFault). (with_sent s r).long_data k) read
 
--- what is in force behind a piece for a place is what waits behind it
-pieces_behind : (c : Statement) (s : StatementState) (body : List ℕ) (place : ℕ) → (state_after c s ((command_number COM_STMT_SEND_LONG_DATA ∷ body) ∷ [])).pieces place ≡ with_piece (s.pieces place) place (piece_at c body)
-unfolding with_piece
-pieces_behind c s body place = refl
-
--- nothing behind what waited leaves it as it was
-one_part : (waited : Option (List ℕ)) → joined (option_to_list waited ++ []) ≡ waited
-one_part None = refl
-one_part (Some bytes) = ap (λ l. Some l) (append-nil bytes)
+prepared_behind : (c : Statement) (s : StatementState) (body : List ℕ) (place : ℕ) (bytes : List ℕ) → place_data_at c body ≡ Ok (record { place = place; bytes = bytes })
+    → (after c s (command_number COM_STMT_SEND_LONG_DATA ∷ body)).prepared ≡ s.prepared
+prepared_behind c s body place bytes read = ap (λ (r : Result PlaceData StreamFault). (with_sent s r).prepared) read
 
 -- a piece of another place leaves what waited
-kept_by : (waited : Option (List ℕ)) (place k : ℕ) (bytes : List ℕ) → place ≢ k → with_piece waited k (Ok (record { place = place; bytes = bytes })) ≡ waited
-unfolding with_piece
-kept_by waited place k bytes other = ap (λ b. joined (option_to_list waited ++ cons_option (if b then Some bytes else None) [])) (ne_eqb place k other) ∙ one_part waited
+kept_by : (waiting : ℕ → Option (List ℕ)) (place k : ℕ) (bytes : List ℕ) → place ≢ k → more_data waiting place bytes k ≡ waiting k
+kept_by waiting place k bytes other = ap (λ b. if b then Some (unwrap_or (waiting k) [] ++ bytes) else waiting k) (ne_eqb place k other)
 
 -- where nothing waited, the bytes of a piece of this place wait
-waits_by : (waited : Option (List ℕ)) (place : ℕ) (bytes : List ℕ) → waited ≡ None → with_piece waited place (Ok (record { place = place; bytes = bytes })) ≡ Some bytes
-unfolding with_piece
-waits_by waited place bytes none =
-    ap (λ o. joined (option_to_list o ++ cons_option (if place == place then Some bytes else None) [])) none
-    ∙ ap (λ b. joined (cons_option (if b then Some bytes else None) [])) (eq-eqb place place refl)
-    ∙ ap (λ l. Some l) (append-nil bytes)
+waits_by : (waiting : ℕ → Option (List ℕ)) (place : ℕ) (bytes : List ℕ) → waiting place ≡ None → more_data waiting place bytes place ≡ Some bytes
+waits_by waiting place bytes none =
+    ap (λ b. if b then Some (unwrap_or (waiting place) [] ++ bytes) else waiting place) (eq-eqb place place refl) ∙ ap (λ (o : Option (List ℕ)). Some (unwrap_or o [] ++ bytes)) none
 
 -- a piece reads as no set, and its bytes wait for its place
 record AfterPiece (c : Statement) (s : StatementState) (place : ℕ) (bytes payload : List ℕ) : Type 0 where
   reads : PayloadReadsAs c s payload []
-  prepared : (state_after c s (payload ∷ [])).prepared ≡ true
-  kept : (k : ℕ) → place ≢ k → (state_after c s (payload ∷ [])).pieces k ≡ s.pieces k
-  waits : s.pieces place ≡ None → (state_after c s (payload ∷ [])).pieces place ≡ Some bytes
+  prepared : (after c s payload).prepared ≡ true
+  kept : (k : ℕ) → place ≢ k → (after c s payload).long_data k ≡ s.long_data k
+  waits : s.long_data place ≡ None → (after c s payload).long_data place ≡ Some bytes
 
 -- ---- pieces
 
 -- pieces read as no set, and so much waits behind them for each of the values, as before for the places before theirs
 pub record AfterPieces (c : Statement) (s : StatementState) (place : ℕ) (values : List Value) (sent : List SentPayload) : Type 0 where
   pub reads : ReadFrom c s sent
-  pub prepared : (behind c s sent).prepared ≡ true
-  pub kept : (k : ℕ) → k < place → (behind c s sent).pieces k ≡ s.pieces k
-  pub waits : Wait (behind c s sent).pieces place true values
+  pub prepared : (state_after c s (payloads_of sent)).prepared ≡ true
+  pub kept : (k : ℕ) → k < place → (state_after c s (payloads_of sent)).long_data k ≡ s.long_data k
+  pub waits : Wait (state_after c s (payloads_of sent)).long_data place true values
 
 module _ (c : Statement) (id : ℕ) (small : id < 2 ^ 32) (same : c.id ≡ id) where
   -- what stands behind the first byte reads as no set
   body_reads : (s : StatementState) (place : ℕ) (bytes : List ℕ) → s.prepared ≡ true → place < 65536 → place < place_count c.query → long_data_at c s (body_of id place bytes) ≡ Ok []
-  unfolding long_data_at prepared_piece
+  unfolding long_data_at prepared_data
   body_reads s place bytes prepared low inside =
-      let read : piece_at c (body_of id place bytes) ≡ Ok (record { place = place; bytes = bytes }) = piece_read c id place bytes small same low inside in
-      bind_from (must NotPrepared s.prepared >>= λ known. piece_at c (body_of id place bytes)) (λ piece. Ok []) (record { place = place; bytes = bytes }) (Ok [])
-      (bind_from (must NotPrepared s.prepared) (λ known. piece_at c (body_of id place bytes)) 0 (Ok (record { place = place; bytes = bytes })) (ap (λ b. must NotPrepared b) prepared) read) refl
+      let read : place_data_at c (body_of id place bytes) ≡ Ok (record { place = place; bytes = bytes }) = piece_read c id place bytes small same low inside in
+      bind_from (must NotPrepared s.prepared >>= λ known. place_data_at c (body_of id place bytes)) (λ piece. Ok []) (record { place = place; bytes = bytes }) (Ok [])
+      (bind_from (must NotPrepared s.prepared) (λ known. place_data_at c (body_of id place bytes)) 0 (Ok (record { place = place; bytes = bytes })) (ap (λ b. must NotPrepared b) prepared) read) refl
 
   -- a piece by its bytes
   plain_piece : (s : StatementState) (place : ℕ) (bytes : List ℕ) → s.prepared ≡ true → place < 65536 → place < place_count c.query
       → AfterPiece c s place bytes (command_number COM_STMT_SEND_LONG_DATA ∷ body_of id place bytes)
   plain_piece s place bytes prepared low inside =
-      let read : piece_at c (body_of id place bytes) ≡ Ok (record { place = place; bytes = bytes }) = piece_read c id place bytes small same low inside in
+      let read : place_data_at c (body_of id place bytes) ≡ Ok (record { place = place; bytes = bytes }) = piece_read c id place bytes small same low inside in
       record {
         reads = body_reads s place bytes prepared low inside;
-        prepared = prepared;
-        kept = λ k other. pieces_behind c s (body_of id place bytes) k ∙ ap (λ r. with_piece (s.pieces k) k r) read ∙ kept_by (s.pieces k) place k bytes other;
-        waits = λ none. pieces_behind c s (body_of id place bytes) place ∙ ap (λ r. with_piece (s.pieces place) place r) read ∙ waits_by (s.pieces place) place bytes none;
+        prepared = prepared_behind c s (body_of id place bytes) place bytes read ∙ prepared;
+        kept = λ k other. data_behind c s (body_of id place bytes) place k bytes read ∙ kept_by s.long_data place k bytes other;
+        waits = λ none. data_behind c s (body_of id place bytes) place place bytes read ∙ waits_by s.long_data place bytes none;
       }
 
   -- a piece of a place that the query has
-  after_piece : (s : StatementState) (place : ℕ) (bytes : List ℕ) → s.prepared ≡ true → place < 65536 → place < place_count c.query → AfterPiece c s place bytes (piece id place bytes)
-  after_piece s place bytes prepared low inside = rw (piece_is id place bytes) (plain_piece s place bytes prepared low inside)
+  after_long_data : (s : StatementState) (place : ℕ) (bytes : List ℕ) → s.prepared ≡ true → place < 65536 → place < place_count c.query → AfterPiece c s place bytes (piece id place bytes)
+  after_long_data s place bytes prepared low inside = rw (piece_is id place bytes) (plain_piece s place bytes prepared low inside)
 
   -- behind a piece for each byte string, from a state in which nothing waits for the places of the values
-  pub after_pieces : (s : StatementState) (place : ℕ) (values : List Value) → s.prepared ≡ true → ((k : ℕ) → place ≤ k → s.pieces k ≡ None) → place + length values ≤ 65536 → place + length values ≤ place_count c.query
+  pub after_pieces : (s : StatementState) (place : ℕ) (values : List Value) → s.prepared ≡ true → ((k : ℕ) → place ≤ k → s.long_data k ≡ None) → place + length values ≤ 65536 → place + length values ≤ place_count c.query
       → AfterPieces c s place values (map on_the_way (pieces_from id place values))
   unfolding pieces_from piece
   after_pieces s place [] prepared none low inside = record { reads = tt; prepared = prepared; kept = λ k below. refl; waits = tt }
   after_pieces s place (Bytes bytes ∷ values) prepared none low inside =
-      let t : StatementState = state_after c s (piece id place bytes ∷ []) in
-      let first : AfterPiece c s place bytes (piece id place bytes) = after_piece s place bytes prepared (omega arith) (omega arith) in
+      let t : StatementState = after c s (piece id place bytes) in
+      let first : AfterPiece c s place bytes (piece id place bytes) = after_long_data s place bytes prepared (omega arith) (omega arith) in
       let later : AfterPieces c t (place + 1) values (map on_the_way (pieces_from id (place + 1) values)) =
       after_pieces t (place + 1) values first.prepared (λ k above. first.kept k (omega arith) ∙ none k (omega arith)) (omega arith) (omega arith) in
       record {

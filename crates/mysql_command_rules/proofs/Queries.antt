@@ -7,7 +7,6 @@ use Rattle.mysql_values.specs.Place.{Place}
 use Rattle.mysql_values.specs.Queries.{first_not_alone, is_mixed}
 use Rattle.mysql_values.specs.Value.{Value}
 use Rattle.mysql_receive.specs.InForce.{StatementState, nothing_yet, state_after}
-use Rattle.mysql_receive.specs.Laws.{LookingBackGoesOn}
 use Rattle.mysql_receive.specs.Query.{Query, Statement, all_alone, place_count, statement_of}
 use Rattle.mysql_receive.specs.Reading.{Set, TextReadsAs}
 use Rattle.mysql_command_rules.specs.declared.refusal.Refusal.TheVariants as refusals
@@ -55,20 +54,16 @@ reads_from : (statement : Statement) (alone : IsTrue (all_alone statement.query)
     → (s : StatementState) → ReadFrom statement s (flat_map (as_text statement) sets)
 reads_from statement alone [] readable s = tt
 reads_from statement alone (values ∷ sets) readable s =
-    ((alone, (_, as_held statement.query values readable.0, refl)), reads_from statement alone sets readable.1 (state_after statement s (whole_command Text statement values ∷ [])))
+    ((alone, (_, as_held statement.query values readable.0, refl)), reads_from statement alone sets readable.1 s)
 
--- behind queries no piece waits
-none_waits : LookingBackGoesOn → (statement : Statement) (sets : List (List Value)) (s : StatementState) → ((place : ℕ) → s.pieces place ≡ None)
-    → (place : ℕ) → (state_after statement s (payloads_of (flat_map (as_text statement) sets))).pieces place ≡ None
-none_waits goes_on statement [] s none place = rw (none place) refl
-none_waits goes_on statement (values ∷ sets) s none place =
-    let here : (place : ℕ) → (state_after statement s (whole_command Text statement values ∷ [])).pieces place ≡ None = λ place. rw (none place) refl in
-    ap (λ (t : StatementState). t.pieces place) (goes_on statement s (whole_command Text statement values ∷ []) (payloads_of (flat_map (as_text statement) sets)))
-    ∙ none_waits goes_on statement sets (state_after statement s (whole_command Text statement values ∷ [])) here place
+-- queries leave in force what was
+nothing_changes : (statement : Statement) (s : StatementState) (sets : List (List Value)) → state_after statement s (payloads_of (flat_map (as_text statement) sets)) ≡ s
+nothing_changes statement s [] = refl
+nothing_changes statement s (values ∷ sets) = nothing_changes statement s sets
 
 -- what is sent of sets without a cause reads as these sets
-pub queries_read : LookingBackGoesOn → SentPayloadsRead Text
-queries_read goes_on query tokens id limit values sent has small room none is readable =
+pub queries_read : SentPayloadsRead Text
+queries_read query tokens id limit values sent has small room none is readable =
     let statement : Statement = statement_of query tokens id in
     let sets : Option _ = first_of_sets (set_cause (whole_command Text statement) (place_count statement.query) (limit - 4)) 0 (map Ok values) in
     let parts = neither (places_cause statement.query.places) (option_or sets None) none in
@@ -77,7 +72,7 @@ queries_read goes_on query tokens id limit values sent has small room none is re
     let reads : ReadsHeld statement limit queries = record {
       within = subst (λ (l : List (List ℕ)). AllByRecursion (λ payload. length payload ≤ limit) l) (sym (payloads_are statement values))
           (within_limit limit (map (whole_command Text statement) values) (short_each (whole_command Text statement) (place_count statement.query) (limit - 4) 0 values sets_none.0));
-      each = read_each goes_on statement nothing_yet queries (reads_from statement (places_alone statement.query.places parts.0) values readable nothing_yet);
-      ends = not_waiting statement (state_after statement nothing_yet (payloads_of queries)) (none_waits goes_on statement values nothing_yet (λ place. refl));
+      each = read_each statement nothing_yet queries (reads_from statement (places_alone statement.query.places parts.0) values readable nothing_yet);
+      ends = not_waiting statement (state_after statement nothing_yet (payloads_of queries)) (λ place. ap (λ (t : StatementState). t.long_data place) (nothing_changes statement nothing_yet values));
     } in
     reads_contents Text statement (limit - 4) values sent is (whole_command Text statement) (place_count statement.query) (limit - 4) sets_none.0 statement limit (subst (λ l. ReadsHeld statement limit l) (sym is) reads)

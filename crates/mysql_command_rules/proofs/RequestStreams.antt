@@ -2,7 +2,7 @@
 use Rattle.std.proofs.Common.{◌≡◌, ℕ, zero, suc, ◌+◌, ◌-◌, ◌^◌, ◌<◌, ◌≤◌, ◌==◌, List, [], ◌∷◌, ◌++◌, length, get_or, map, Option, None, Some, Ok, refl, sym, ◌∙◌, ap, subst, arith}
 use Rattle.std.specs.Prelude.{sum_by}
 use Rattle.std.specs.List.{AllByRecursion}
-use Rattle.std.specs.Option.{option_map, option_or, option_to_list}
+use Rattle.std.specs.Option.{option_map, option_or}
 use Rattle.std.proofs.lemmas.List.Sums.{sum_by-cons}
 use Rattle.mysql_values.specs.AsSql.{FitsFields}
 use Rattle.mysql_values.specs.CellLaws.{CellLength}
@@ -12,8 +12,8 @@ use Rattle.mysql_bulk_builder.specs.Causes.{mixed_kinds, row_too_large}
 use Rattle.mysql_bulk_builder.specs.Cut.{Row, rows_of, rows_size}
 use Rattle.mysql_bulk_builder.specs.InForce.{TypesInForceServe, TypesServe, covered, in_force, in_force_from}
 use Rattle.mysql_bulk_builder.specs.TypedCut.{IsTightTyped, IsTightTypedPart, Part, PartFits, Typed, TypedCutFits, Typing, Untyped, placed, placed_from}
-use Rattle.mysql_receive.specs.InForce.{StatementState, joined, nothing_yet, state_after}
-use Rattle.mysql_receive.specs.Laws.{LookingBackGoesOn, WrittenCellsAreHeld}
+use Rattle.mysql_receive.specs.InForce.{StatementState, after, nothing_yet, state_after}
+use Rattle.mysql_receive.specs.Laws.{WrittenCellsAreHeld}
 use Rattle.mysql_receive.specs.Query.{Statement, place_count, statement_of}
 use Rattle.mysql_command_rules.specs.declared.refusal.Refusal.{Refusal}
 use Rattle.mysql_command_rules.specs.declared.refusal.Refusal.TheVariants as refusals
@@ -103,28 +103,28 @@ module _ (room id columns : ℕ) (rows : List Row) where
   short_requests sizes start (part ∷ cut) fits =
       (subst (λ (n : ℕ). n ≤ room) (sym (sizes id columns rows start part.typing part.count)) (fits_by start part.typing part.count fits.0), short_requests sizes (start + part.count) cut fits.1)
 
-  module _ (goes_on : LookingBackGoesOn) (law : WrittenCellsAreHeld) (c : Statement) (small : id < 2 ^ 32) (same : c.id ≡ id) (places : place_count c.query ≡ columns) (some : 0 < columns)
+  module _ (law : WrittenCellsAreHeld) (c : Statement) (small : id < 2 ^ 32) (same : c.id ≡ id) (places : place_count c.query ≡ columns) (some : 0 < columns)
       (arity : (k : ℕ) → k < length rows → length (get_or rows k []) ≡ columns) (all : (k : ℕ) → k < length rows → AllByRecursion IsHeld (get_or rows k [])) where
-    -- payloads that read from here on, and leave no pieces
+    -- payloads that read from here on, and leave no long data
     abbrev ReadsOn : StatementState → List SentPayload → Type 0
-    ReadsOn s sent = ReadFrom c s sent × ((k : ℕ) → (state_after c s (payloads_of sent)).pieces k ≡ None)
+    ReadsOn s sent = ReadFrom c s sent × ((k : ℕ) → (state_after c s (payloads_of sent)).long_data k ≡ None)
 
-    -- the requests of parts by which no row is left over read, and leave no pieces
+    -- the requests of parts by which no row is left over read, and leave no long data
     requests_go : (start before : ℕ) (cut : List Part) (s : StatementState) → IsInForce columns rows s start before → AllByRecursion (λ part. 0 < part.count) cut → start + sum_by (λ part. part.count) cut ≡ length rows →
         AllFit (placed_from start cut) → AllByRecursion (TypesServe rows) (in_force_from start before cut) → ReadsOn s (requests_from start cut)
-    requests_go start before [] s in_force any ends fits serve = (tt, λ k. ap (λ o. joined (option_to_list o ++ [])) (in_force.none k))
+    requests_go start before [] s in_force any ends fits serve = (tt, in_force.none)
     requests_go start before (part ∷ cut) s in_force any ends fits serve =
         let more = sum_by-cons (λ (part : Part). part.count) part cut in
         let payload : List ℕ = bulk_request id columns rows start part.typing part.count in
         let here = request_goes law c id columns rows small same places some arity all part.typing room s start part.count before in_force any.0 (omega (arith, more, ends)) fits.0 serve.0 in
-        let next = requests_go (start + part.count) (covered part.typing (start + part.count) before) cut (state_after c s (payload ∷ [])) here.1 any.1 (omega (arith, more, ends)) fits.1 serve.1 in (
+        let next = requests_go (start + part.count) (covered part.typing (start + part.count) before) cut (after c s payload) here.1 any.1 (omega (arith, more, ends)) fits.1 serve.1 in (
           (here.0, next.0),
-          λ k. ap (λ (t : StatementState). t.pieces k) (goes_on c s (payload ∷ []) (payloads_of (requests_from (start + part.count) cut))) ∙ next.1 k,
+          next.1,
         )
 
 -- what is sent of sets without a cause reads as these sets
-pub requests_read : LookingBackGoesOn → WrittenCellsAreHeld → CellLength → TypesInForceServe → SentPayloadsRead Bulk
-requests_read goes_on law lengths serves query tokens id limit values sent has small room none are_sent readable =
+pub requests_read : WrittenCellsAreHeld → CellLength → TypesInForceServe → SentPayloadsRead Bulk
+requests_read law lengths serves query tokens id limit values sent has small room none are_sent readable =
     let statement : Statement = statement_of query tokens id in
     let columns : ℕ = place_count statement.query in
     let parsed : List ℕ = statement.query.parsed in
@@ -141,14 +141,13 @@ requests_read goes_on law lengths serves query tokens id limit values sent has s
     let tight : IsTightTyped (limit - 4) columns values cut = are_sent.1 in
     let fits : TypedCutFits (limit - 4) columns values cut = all_fit (limit - 4) id columns values (placed cut) tight.parts_tight in
     let serve : AllByRecursion (TypesServe values) (in_force cut) = serves (limit - 4) columns values cut (λ k inside. (rows k inside).0) mixed fits in
-    let fresh : FreshlyPrepared (state_after statement nothing_yet (prepare_command parsed ∷ [])) = prepare_leaves statement nothing_yet parsed refl in
-    let goes = requests_go (limit - 4) id columns values goes_on law statement small refl refl (some_places columns prepare_none.1) (λ k inside. (rows k inside).0) (λ k inside. (rows k inside).1)
-    0 0 cut (state_after statement nothing_yet (prepare_command parsed ∷ [])) (record { prepared = fresh.prepared; none = fresh.pieces; types = λ later. absurd (omega (arith, later)) }) tight.is_cut.0 (omega (arith, tight.is_cut.1)) fits serve in
+    let fresh : FreshlyPrepared (after statement nothing_yet (prepare_command parsed)) = prepare_leaves statement nothing_yet parsed refl in
+    let goes = requests_go (limit - 4) id columns values law statement small refl refl (some_places columns prepare_none.1) (λ k inside. (rows k inside).0) (λ k inside. (rows k inside).1)
+    0 0 cut (after statement nothing_yet (prepare_command parsed)) (record { prepared = fresh.prepared; none = fresh.long_data; types = λ later. absurd (omega (arith, later)) }) tight.is_cut.0 (omega (arith, tight.is_cut.1)) fits serve in
     let all_sent : List SentPayload = prepare_of statement ∷ as_requests statement values cut in
     let reads : ReadsHeld statement limit all_sent = record {
       within = within_limit limit (payloads_of all_sent) (prepare.short, short_requests (limit - 4) id columns values (requests_have_their_size lengths) 0 cut fits);
-      each = read_each goes_on statement nothing_yet all_sent (prepare_reads statement nothing_yet parsed refl prepare.few, goes.0);
-      ends = not_waiting statement (state_after statement nothing_yet (payloads_of all_sent))
-          (λ k. ap (λ (t : StatementState). t.pieces k) (goes_on statement nothing_yet (prepare_command parsed ∷ []) (payloads_of (as_requests statement values cut))) ∙ goes.1 k);
+      each = read_each statement nothing_yet all_sent (prepare_reads statement nothing_yet parsed refl prepare.few, goes.0);
+      ends = not_waiting statement (state_after statement nothing_yet (payloads_of all_sent)) goes.1;
     } in
     reads_contents Bulk statement (limit - 4) values sent are_sent (whole_command Bulk statement) columns (limit - 4) sets_none.0 statement limit (subst (λ l. ReadsHeld statement limit l) (sym are_sent.2) reads)

@@ -1,12 +1,13 @@
 -- One bulk request read back, and what it leaves in force.
 use Rattle.std.proofs.Common.{◌≡◌, ℕ, zero, suc, ◌+◌, ◌^◌, ◌<◌, ◌≤◌, ◌==◌, true, false, List, [], ◌∷◌, ◌++◌, length, get_or, map, take, drop, Option, None, Some, Result, Ok, refl, sym, ◌∙◌, ap, subst, arith, nat_lt, length-take, length-drop}
-use Rattle.std.specs.Prelude.{if◌then◌else◌, ◌||◌, unwrap_or}
+use Rattle.std.specs.Prelude.{if◌then◌else◌, not, ◌||◌}
 use Rattle.std.specs.List.{AllByRecursion, flat_map, range_with_len}
-use Rattle.std.specs.Option.{option_and_then, option_map, option_or, option_to_list}
+use Rattle.std.specs.Option.{option_and_then, option_or}
 use Rattle.std.specs.Result.{result_ok}
 use Rattle.std.proofs.lemmas.Bool.{lt-ltb, ne_eqb}
 use Rattle.std.proofs.lemmas.List.{append-nil, get_or-drop, get_or-take}
 use Rattle.byteorder.specs.Endian.{little_bytes}
+use Rattle.mysql_const.specs.FlagSets.{contains}
 use Rattle.mysql_wire.specs.Wire.{◌>>=◌}
 use Rattle.mysql_values.specs.Value.{Value}
 use Rattle.mysql_values.specs.Value.TheVariants.{NULL, Bytes, Int, UInt, Float, Double, Date, Time}
@@ -19,9 +20,9 @@ use Rattle.mysql_receive.specs.declared.fault.StreamFault.{StreamFault}
 use Rattle.mysql_receive.specs.declared.fault.StreamFault.TheVariants.{BadBulk, BadType}
 use Rattle.mysql_receive.specs.declared.param_type.ParamType.{ParamType}
 use Rattle.mysql_receive.specs.Fields.{must}
-use Rattle.mysql_receive.specs.InForce.{StatementState, is_waiting, joined, last_said, said_by, speaks_of_types, state_after}
+use Rattle.mysql_receive.specs.InForce.{StatementState, after, is_waiting}
 use Rattle.mysql_receive.specs.Laws.{WrittenCellsAreHeld}
-use Rattle.mysql_receive.specs.Layout.{BulkHead, Types, bulk_head, is_type, type_at, types_at}
+use Rattle.mysql_receive.specs.Layout.{BulkHead, Types, are_bulk_flags, bulk_head, is_type, send_types_to_server, type_at, types_at}
 use Rattle.mysql_receive.specs.Query.{Statement, place_count}
 use Rattle.mysql_receive.specs.Reading.{PayloadReadsAs, RowsAt, bulk_rows, types_in_force}
 use Rattle.mysql_command_rules.specs.Commands.{bulk_request}
@@ -65,7 +66,7 @@ types_front f from (suc columns) rest =
 module _ (c : Statement) (id : ℕ) (small : id < 2 ^ 32) (same : c.id ≡ id) where
   -- behind the id and flags
   head_from : (flags : ℕ) (rest : List ℕ) (y : Result BulkHead StreamFault) → flags < 256 ^ 2 →
-      (must BadBulk (flags == 0 || flags == 64 || flags == 128 || flags == 192) >>= λ known. if nat_lt flags 128 then Ok (record { own = None; rows = rest })
+      (must BadBulk (are_bulk_flags flags) >>= λ known. if not (contains flags send_types_to_server) then Ok (record { own = None; rows = rest })
       else (types_at BadBulk (place_count c.query) rest >>= λ types. Ok (record { own = Some types.0; rows = types.1 }))) ≡ y →
       bulk_head c (little_bytes 4 id ++ (little_bytes 2 flags ++ rest)) ≡ y
   unfolding bulk_head
@@ -85,21 +86,9 @@ module _ (c : Statement) (id : ℕ) (small : id < 2 ^ 32) (same : c.id ≡ id) w
 
 -- ---- what is in force
 
--- what one payload says, else what was before
-one_said : {A : Type 0} (says : List ℕ → Option A) (before : A) (payload : List ℕ) (word : Option A) → says payload ≡ word → last_said says before (payload ∷ []) ≡ unwrap_or word before
-one_said says before payload None is = rw is refl
-one_said says before payload (Some word) is = rw is refl
-
 -- the types that a request with this head leaves
-types_after : (c : Statement) (s : StatementState) (body : List ℕ) (head : BulkHead) → bulk_head c body ≡ Ok head → (state_after c s ((250 ∷ body) ∷ [])).types ≡ unwrap_or (option_map (λ types. Some types) head.own) s.types
-types_after c s body head is =
-    one_said (said_by (speaks_of_types c)) s.types (250 ∷ body) (option_map (λ types. Some types) head.own)
-    (ap (λ r. option_map (λ types. Some types) (option_and_then (λ (head : BulkHead). head.own) (result_ok r))) is)
-
--- a payload's own types, else those before it
-either_way : (own before : Option Types) → unwrap_or (option_map (λ types. Some types) own) before ≡ option_or own before
-either_way None before = refl
-either_way (Some types) before = refl
+types_after : (c : Statement) (s : StatementState) (body : List ℕ) (head : BulkHead) → bulk_head c body ≡ Ok head → (after c s (250 ∷ body)).types ≡ option_or head.own s.types
+types_after c s body head is = ap (λ (r : Result BulkHead StreamFault). option_or (option_and_then (λ (head : BulkHead). head.own) (result_ok r)) s.types) is
 
 -- the types of columns by the first values in some first rows
 abbrev pub types_of : ℕ → List Row → ℕ → Types
@@ -108,7 +97,7 @@ types_of columns rows first = types_by (λ column. first_in_column column (take 
 -- the statement is prepared, no piece waits, and behind the first request the types are those of some first rows
 pub record IsInForce (columns : ℕ) (rows : List Row) (s : StatementState) (start before : ℕ) : Type 0 where
   pub prepared : s.prepared ≡ true
-  pub none : (k : ℕ) → s.pieces k ≡ None
+  pub none : (k : ℕ) → s.long_data k ≡ None
   pub types : 0 < start → s.types ≡ Some (types_of columns rows before)
 
 -- ---- rows of a part
@@ -170,7 +159,7 @@ module _ (law : WrittenCellsAreHeld) (c : Statement) (id columns : ℕ) (rows : 
   -- a payload reads as the rows of a part, and leaves the types of so many first rows in force
   abbrev Goes : StatementState → List ℕ → ℕ → ℕ → ℕ → Type 0
   Goes s payload start count covers =
-      PayloadReadsAs c s payload (map (map held) (rows_of rows start count)) × IsInForce columns rows (state_after c s (payload ∷ [])) (start + count) covers
+      PayloadReadsAs c s payload (map (map held) (rows_of rows start count)) × IsInForce columns rows (after c s payload) (start + count) covers
 
   -- a request with these types of its own, or none
   body_goes : (s : StatementState) (body : List ℕ) (start count before covers : ℕ) (own : Option Types) → IsInForce columns rows s start before → 0 < count → start + count ≤ length rows → TypesServe rows (record { start = start; count = count; covers = covers }) →
@@ -194,8 +183,8 @@ module _ (law : WrittenCellsAreHeld) (c : Statement) (id columns : ℕ) (rows : 
         },
         record {
           prepared = in_force.prepared;
-          none = λ k. ap (λ o. joined (option_to_list o ++ [])) (in_force.none k);
-          types = λ later. types_after c s body (record { own = own; rows = rows_bytes part ++ [] }) is ∙ either_way own s.types ∙ found;
+          none = in_force.none;
+          types = λ later. types_after c s body (record { own = own; rows = rows_bytes part ++ [] }) is ∙ found;
         },
       )
 

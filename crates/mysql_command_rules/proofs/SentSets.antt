@@ -8,7 +8,7 @@ use Rattle.std.proofs.Math.Seq.{take-add}
 use Rattle.mysql_values.specs.Value.{Value}
 use Rattle.mysql_bulk_builder.specs.Cut.{rows_of}
 use Rattle.mysql_bulk_builder.specs.TypedCut.{Part, placed_from}
-use Rattle.mysql_receive.specs.Audit.{Read}
+use Rattle.mysql_receive.specs.Audit.{Reads}
 use Rattle.mysql_receive.specs.InForce.{is_waiting, nothing_yet, state_after}
 use Rattle.mysql_receive.specs.Query.{Statement, place_count}
 use Rattle.mysql_stmt.specs.Executions.{execute_command, needs_long_data}
@@ -57,10 +57,10 @@ sets_are Bulk statement room sets sent is =
     ∙ ap (λ n. take n sets) is.1.is_cut.1
     ∙ take_all (length sets) sets (omega arith)
 
--- payloads within the limit that read as what their sets hold, and behind which no piece waits
+-- payloads within the limit that read as what their sets hold, and behind which no long data wait
 pub record ReadsHeld (c : Statement) (limit : ℕ) (sent : List SentPayload) : Type 0 where
   pub within : AllByRecursion (λ payload. length payload ≤ limit) (payloads_of sent)
-  pub each : length sent < 2 ^ 64 → Read c nothing_yet 0 (payloads_of sent) (contents_of sent)
+  pub each : length sent < 2 ^ 64 → Reads c nothing_yet 0 (payloads_of sent) (contents_of sent)
   pub ends : is_waiting c (state_after c nothing_yet (payloads_of sent)) ≡ false
 
 -- where they are what is sent of sets that are no cause, they read as the contents of these

@@ -16,14 +16,14 @@ use Rattle.byteorder.specs.Endian.{little_bytes}
 use Rattle.mysql_receive.specs.declared.audit.End.{End}
 use Rattle.mysql_receive.specs.declared.audit.End.TheVariants.{Fault, WaitingPieces, UnfinishedPacket, Whole}
 use Rattle.mysql_receive.specs.Query.{IsQuery, Statement}
-use Rattle.mysql_receive.specs.InForce.{StatementState, nothing_yet, state_after, is_waiting}
-use Rattle.mysql_receive.specs.Reading.{Set, PayloadReadsAs}
-use Rattle.mysql_receive.specs.Laws.{LookingBackGoesOn}
-use Rattle.mysql_receive.specs.Audit.{Audit, Audited, Ends, end_by_rest}
+use Rattle.mysql_receive.specs.InForce.{StatementState, nothing_yet, after, state_after, is_waiting}
+use Rattle.mysql_receive.specs.Reading.{Set}
+use Rattle.mysql_receive.specs.Audit as audit
+use Rattle.mysql_receive.specs.Audit.{Audit, Audited, Ends, Reads, end_by_rest}
 use Rattle.mysql_command_rules.specs.Manual.{AreCommands, none, next, IsFramed}
 use Rattle.mysql_command_rules.proofs.Numbers.{bytes_behind}
 use Rattle.mysql_command_rules.proofs.Fillings.{QueryLaws}
-use Rattle.mysql_command_rules.proofs.Leaving.{behind_none, is_not_waiting, none_waits}
+use Rattle.mysql_command_rules.proofs.Leaving.{is_not_waiting, none_waits}
 use Rattle.mysql_command_rules.proofs.Commands.{each_reads, only_reads}
 
 -- ---- the bytes of a payload stand in its framing
@@ -106,60 +106,44 @@ whole_by rest count c s whole = by rest (is_waiting c s) refl whole
 
 -- ---- commands one after another
 
--- each payload reads by what those before it leave in force
-abbrev EachReads : Statement → StatementState → List (List ℕ) → List (List Set) → Type 0
-EachReads c s payloads reads = (i : ℕ) → i < length payloads → PayloadReadsAs c (state_after c s (take i payloads)) (slice_index_or payloads i []) (slice_index_or reads i [])
-
 -- commands, as they read
-record CommandsRead (c : Statement) (s : StatementState) (payloads : List (List ℕ)) (sets : List Set) (last : StatementState) : Type 0 where
+record CommandsRead (c : Statement) (s : StatementState) (n : ℕ) (payloads : List (List ℕ)) (sets : List Set) (last : StatementState) : Type 0 where
   reads : List (List Set)
-  count : length reads ≡ length payloads
-  each : EachReads c s payloads reads
+  each : Reads c s n payloads reads
   joined : sets ≡ flat_map (λ sets. sets) reads
   leaves : state_after c s payloads ≡ last
 
-module _ (laws : QueryLaws) (goes_on : LookingBackGoesOn) (c : Statement) (is : IsQuery c.query) where
-  commands_read : (s : StatementState) (payloads : List (List ℕ)) (sets : List Set) (last : StatementState) → AreCommands c s payloads sets last → CommandsRead c s payloads sets last
-  commands_read s payloads sets last none = record { reads = []; count = refl; each = λ i below. absurd (omega (arith, below)); joined = refl; leaves = behind_none c s }
-  commands_read s all sets last (next {between = between} {payload = payload} {payloads = payloads} held more command commands) =
+module _ (laws : QueryLaws) (c : Statement) (is : IsQuery c.query) where
+  commands_read : (s : StatementState) (n : ℕ) (payloads : List (List ℕ)) (sets : List Set) (last : StatementState) → n + length payloads < 2 ^ 64 → AreCommands c s payloads sets last → CommandsRead c s n payloads sets last
+  commands_read s n payloads sets last few none = record { reads = []; each = audit.nothing; joined = refl; leaves = refl }
+  commands_read s n all sets last few (next {between = between} {payload = payload} {payloads = payloads} held more command commands) =
       let first = each_reads laws c s payload held between is command in
-      let others = commands_read between payloads more last commands in
+      let others = commands_read between (n + 1) payloads more last (omega (arith, few)) commands in
       record {
         reads = held ∷ others.reads;
-        count = omega (arith, others.count);
-        each = at first.0 first.1 others.reads others.each;
+        each = audit.next (omega (arith, few), first.0) (subst (λ (t : StatementState). Reads c t (n + 1) payloads others.reads) (sym first.1) others.each);
         joined = ap (λ (xs : List Set). held ++ xs) others.joined;
-        leaves = moved first.1 payloads ∙ others.leaves;
+        leaves = ap (λ (t : StatementState). state_after c t payloads) first.1 ∙ others.leaves;
       }
-    where
-      moved : state_after c s (payload ∷ []) ≡ between → (ys : List (List ℕ)) → state_after c s (payload ∷ ys) ≡ state_after c between ys
-      moved leaves ys = goes_on c s (payload ∷ []) ys ∙ ap (λ (t : StatementState). state_after c t ys) leaves
 
-      at : PayloadReadsAs c s payload held → state_after c s (payload ∷ []) ≡ between → (reads : List (List Set)) → EachReads c between payloads reads → EachReads c s (payload ∷ payloads) (held ∷ reads)
-      at here leaves reads each zero below = subst (λ (t : StatementState). PayloadReadsAs c t payload held) (sym (behind_none c s)) here
-      at here leaves reads each (suc i) below =
-          subst (λ (t : StatementState). PayloadReadsAs c t (slice_index_or payloads i []) (slice_index_or reads i [])) (sym (moved leaves (take i payloads))) (each i (omega (arith, below)))
+  read_commands : (table : IsTable command_number command_named) (s : StatementState) (n : ℕ) (payloads : List (List ℕ)) (reads : List (List Set)) → ((i : ℕ) → AreBytes (slice_index_or payloads i [])) →
+      Reads c s n payloads reads → AreCommands c s payloads (flat_map (λ sets. sets) reads) (state_after c s payloads)
+  read_commands table s n payloads reads are audit.nothing = none
+  read_commands table s n payloads reads are (audit.next {payload = p} {payloads = ps} {sets = held} {reads = rs} here others) =
+      next held (flat_map (λ sets. sets) rs) (only_reads laws c s is table p held (are 0) here.1) (read_commands table (after c s p) (n + 1) ps rs (λ i. are (suc i)) others)
 
-  read_commands : (table : IsTable command_number command_named) (s : StatementState) (payloads : List (List ℕ)) (reads : List (List Set)) → ((i : ℕ) → AreBytes (slice_index_or payloads i [])) →
-      length reads ≡ length payloads → EachReads c s payloads reads → AreCommands c s payloads (flat_map (λ sets. sets) reads) (state_after c s payloads)
-  read_commands table s [] [] are count each = subst (λ (t : StatementState). AreCommands c s [] [] t) (sym (behind_none c s)) none
-  read_commands table s [] (held ∷ reads) are count each = absurd (omega (arith, count))
-  read_commands table s (payload ∷ payloads) [] are count each = absurd (omega (arith, count))
-  read_commands table s (payload ∷ payloads) (held ∷ reads) are count each =
-      let here : PayloadReadsAs c s payload held = subst (λ (t : StatementState). PayloadReadsAs c t payload held) (behind_none c s) (each 0 (omega arith)) in
-      let others : EachReads c (state_after c s (payload ∷ [])) payloads reads =
-      λ i below. subst (λ (t : StatementState). PayloadReadsAs c t (slice_index_or payloads i []) (slice_index_or reads i [])) (goes_on c s (payload ∷ []) (take i payloads)) (each (suc i) (omega (arith, below))) in
-      subst (λ (t : StatementState). AreCommands c s (payload ∷ payloads) (held ++ flat_map (λ sets. sets) reads) t) (sym (goes_on c s (payload ∷ []) payloads))
-      (next held (flat_map (λ sets. sets) reads) (only_reads laws c s is table payload held (are 0) here)
-      (read_commands table (state_after c s (payload ∷ [])) payloads reads (λ i. are (suc i)) (omega (arith, count)) others))
+-- the last of payloads that read isn't too late to be numbered
+reads_few : (c : Statement) (s : StatementState) (n : ℕ) (payloads : List (List ℕ)) (reads : List (List Set)) → n < 2 ^ 64 → Reads c s n payloads reads → n + length payloads < 2 ^ 64
+reads_few c s n payloads reads few audit.nothing = omega (arith, few)
+reads_few c s n payloads reads few (audit.next {payload = p} {payloads = ps} {reads = rs} here others) = omega (arith, reads_few c (after c s p) (n + 1) ps rs (omega (arith, here.0)) others)
 
 -- ---- whole streams
 
-module _ (laws : QueryLaws) (goes_on : LookingBackGoesOn) (told : RestsAreTold) (c : Statement) (limit : ℕ) (is : IsQuery c.query) where
+module _ (laws : QueryLaws) (told : RestsAreTold) (c : Statement) (limit : ℕ) (is : IsQuery c.query) where
   pub each_framed : (bytes : List ℕ) (sets : List Set) → IsFramed c limit bytes sets → Audited c limit bytes (record { sets = sets; ending = Whole })
   each_framed bytes sets framed =
-      let read = commands_read laws goes_on c is nothing_yet framed.payloads sets framed.last framed.commands in
-      let none : is_waiting c (state_after c nothing_yet framed.payloads) ≡ false = ap (λ (t : StatementState). is_waiting c t) read.leaves ∙ is_not_waiting c framed.last framed.none_waits in (
+      let read = commands_read laws c is nothing_yet 0 framed.payloads sets framed.last (omega (arith, framed.few)) framed.commands in
+      let waits : is_waiting c (state_after c nothing_yet framed.payloads) ≡ false = ap (λ (t : StatementState). is_waiting c t) read.leaves ∙ is_not_waiting c framed.last framed.none_waits in (
         record { payloads = framed.payloads; rest_bytes = []; rest = Empty },
         record {
           joined = framed.framed ∙ sym (append-nil (framings framed.payloads EachFromZero));
@@ -168,38 +152,30 @@ module _ (laws : QueryLaws) (goes_on : LookingBackGoesOn) (told : RestsAreTold) 
         },
         record {
           reads = read.reads;
-          each = record {
-            within = omega (arith, read.count);
-            each = λ i below. let inside : i < length framed.payloads = omega (arith, below, read.count) in (early i inside, read.each i inside);
-          };
+          each = record { front = framed.payloads; left = []; cut = sym (append-nil framed.payloads); each = read.each };
           sets = read.joined;
-          ending = inr (read.count, sym (ap (λ (b : Bool). if b then WaitingPieces else Whole) none));
+          ending = audit.all_read (sym (ap (λ (b : Bool). if b then WaitingPieces else Whole) waits));
         },
       )
-    where
-      early : (i : ℕ) → i < length framed.payloads → 0 + length (take i framed.payloads) < 2 ^ 64 - 1
-      early i below = omega (arith, below, framed.few, length-take-le i framed.payloads (omega (arith, below)))
 
-  pub only_framed : IsTable command_number command_named → (bytes : List ℕ) (audit : Audit) → AreBytes bytes → Audited c limit bytes audit → audit.ending ≡ Whole → IsFramed c limit bytes audit.sets
-  only_framed table bytes audit are (split, splits, audits) whole = by audits.ending
+  pub only_framed : IsTable command_number command_named → (bytes : List ℕ) (a : Audit) → AreBytes bytes → Audited c limit bytes a → a.ending ≡ Whole → IsFramed c limit bytes a.sets
+  only_framed table bytes a are (split, splits, audits) whole = by audits.each.left audits.each.cut audits.ending
     where
-      few : (n : ℕ) → ((i : ℕ) → i < n → 0 + length (take i split.payloads) < 2 ^ 64 - 1) → n ≡ length split.payloads → length split.payloads < 2 ^ 64
-      few zero each all = omega (arith, all)
-      few (suc n) each all = omega (arith, all, each n (omega arith), length-take-le n split.payloads (omega (arith, all)))
-
-      by : Ends c nothing_yet 0 split.payloads split.rest (length audits.reads) audit.ending → IsFramed c limit bytes audit.sets
-      by (inl fault) = absurd (subst IsWhole (sym whole ∙ fault.3) tt)
-      by (inr all) =
-          let ends = whole_by split.rest (0 + length audits.reads) c (state_after c nothing_yet split.payloads) (subst IsWhole (sym whole ∙ all.1) tt) in
-          let left = no_bytes told limit (first_number (after_all split.payloads EachFromZero)) split.rest_bytes split.rest splits.ends ends.empty in
-          let commands = read_commands laws goes_on c is table nothing_yet split.payloads audits.reads (payloads_bytes split.payloads split.rest_bytes bytes splits.joined are) all.0
-          (λ i below. (audits.each.each i (omega (arith, below, all.0))).1) in
+      by : (left : List (List ℕ)) → split.payloads ≡ audits.each.front ++ left → Ends c (state_after c nothing_yet audits.each.front) (0 + length audits.reads) split.rest a.ending left → IsFramed c limit bytes a.sets
+      by left cut (audit.faulty f k as_fault) = absurd (subst IsWhole (sym whole ∙ as_fault) tt)
+      by left cut (audit.all_read end_is) =
+          let all : audits.each.front ≡ split.payloads = sym (cut ∙ append-nil audits.each.front) in
+          let each : Reads c nothing_yet 0 split.payloads audits.reads = subst (λ (l : List (List ℕ)). Reads c nothing_yet 0 l audits.reads) all audits.each.each in
+          let ends = whole_by split.rest (0 + length audits.reads) c (state_after c nothing_yet audits.each.front) (subst IsWhole (sym whole ∙ end_is) tt) in
+          let empty = no_bytes told limit (first_number (after_all split.payloads EachFromZero)) split.rest_bytes split.rest splits.ends ends.empty in
+          let commands = read_commands laws c is table nothing_yet 0 split.payloads audits.reads (payloads_bytes split.payloads split.rest_bytes bytes splits.joined are) each in
           record {
             payloads = split.payloads;
             last = state_after c nothing_yet split.payloads;
             commands = subst (λ (xs : List Set). AreCommands c nothing_yet split.payloads xs (state_after c nothing_yet split.payloads)) (sym audits.sets) commands;
-            few = few (length audits.reads) (λ i below. (audits.each.each i below).0) all.0;
+            few = omega (arith, reads_few c nothing_yet 0 split.payloads audits.reads (omega arith) each);
             within = splits.within;
-            framed = splits.joined ∙ ap (λ (l : List ℕ). framings split.payloads EachFromZero ++ l) left ∙ append-nil (framings split.payloads EachFromZero);
-            none_waits = none_waits c (state_after c nothing_yet split.payloads) ends.no_wait;
+            framed = splits.joined ∙ ap (λ (l : List ℕ). framings split.payloads EachFromZero ++ l) empty ∙ append-nil (framings split.payloads EachFromZero);
+            none_waits = none_waits c (state_after c nothing_yet split.payloads)
+                (ap (λ (l : List (List ℕ)). is_waiting c (state_after c nothing_yet l)) (sym all) ∙ ends.no_wait);
           }

@@ -10,6 +10,7 @@ use Rattle.mysql_values.specs.Place.{Place}
 use Rattle.mysql_values.specs.Queries.{first_not_alone, is_mixed}
 use Rattle.mysql_values.specs.Binding.{values_cause}
 use Rattle.mysql_bulk_builder.specs.Causes.{first_some, mixed_kinds, row_too_large}
+pub use Rattle.mysql_receive.specs.Query.{max_places}
 use Rattle.mysql_receive.specs.Query.{Query, Statement, place_count}
 use Rattle.mysql_command_rules.specs.declared.refusal.Refusal.{Refusal}
 use Rattle.mysql_command_rules.specs.declared.refusal.Refusal.TheVariants as refusal
@@ -41,10 +42,6 @@ first_of_sets cause number (given ∷ sets) = option_or (cause number given) (fi
 abbrev pub places_cause : List Place → Option Refusal
 places_cause places = option_or (cause_if (is_mixed places) refusal.Mixed)
     (option_map (λ place. refusal.NotAlone place) (first_not_alone places))
-
--- the most placeholders that a statement can have
-abbrev pub max_places : ℕ
-max_places = 65535
 
 -- what speaks against preparing a query: both kinds of placeholder occur, they are too many, the prepare is too long
 abbrev pub prepare_cause : Query → ℕ → Option Refusal

@@ -7,7 +7,7 @@ use Rattle.mysql_values.specs.declared.params.Params.{Params}
 use Rattle.mysql_values.specs.Params.{IsMeaning}
 use Rattle.mysql_values.specs.Tokens.{HasTokens}
 use Rattle.mysql_receive.specs.declared.audit.End.TheVariants.{Whole}
-use Rattle.mysql_receive.specs.Audit.{AuditOf, IsAbout, Read}
+use Rattle.mysql_receive.specs.Audit.{AuditOf, IsAbout, Reads}
 use Rattle.mysql_receive.specs.InForce.{is_waiting, nothing_yet, state_after}
 use Rattle.mysql_receive.specs.Query.{Statement, statement_of}
 use Rattle.mysql_receive.specs.Reading.{Set}
@@ -23,12 +23,12 @@ use Rattle.mysql_command_rules.specs.Reading.{SentReadable, StreamReadsAs}
 
 -- What is sent reads, payload by payload, as the contents of the sets that stand whole with each,
 -- and no piece waits behind it.
-pub record ReadsEach (c : Statement) (limit : ℕ) (sent : List SentPayload) : Type 0 where
+pub record ReadsEach (statement : Statement) (limit : ℕ) (sent : List SentPayload) : Type 0 where
   pub within : AllByRecursion (λ payload. length payload ≤ limit) (payloads_of sent)
   pub reads : List (List Set)
   pub contents : AllZip (λ payload sets. HaveContents payload.sets sets) sent reads
-  pub each : length sent < 2 ^ 64 → Read c nothing_yet 0 (payloads_of sent) reads
-  pub ends : is_waiting c (state_after c nothing_yet (payloads_of sent)) ≡ false
+  pub each : length sent < 2 ^ 64 → Reads statement nothing_yet 0 (payloads_of sent) reads
+  pub ends : is_waiting statement (state_after statement nothing_yet (payloads_of sent)) ≡ false
 
 -- What is sent of sets without a cause that can be read back reads as these sets, by each road.
 abbrev pub SentPayloadsRead : Road → Type 0
@@ -66,7 +66,8 @@ SentValuesAreCarried =
 
 -- A query and an id have one statement.
 abbrev pub OneStatement : Type 0
-OneStatement = (query : List ℕ) (id : ℕ) (c d : Statement) → IsAbout c query id → IsAbout d query id → c ≡ d
+OneStatement = (query : List ℕ) (id : ℕ) (statement other : Statement) →
+    IsAbout statement query id → IsAbout other query id → statement ≡ other
 
 -- Sets that were sent, in fewer than 2 ^ 64 bytes, are read back, each front of their stream reads
 -- as the sets that stand whole in it, and by bulk no requests could be fewer.

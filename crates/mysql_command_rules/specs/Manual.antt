@@ -1,7 +1,6 @@
 -- Commands in the manual's words: which payloads are a command, which parameter sets it carries and
--- what it leaves in force. `mysql_receive` reads any payload from left to right and looks back for
--- what is in force; here whole payloads are put together from their parts, and each command says
--- what it changes. That both say the same is the law. MySQL: Client/Server Protocol, "COM_QUERY",
+-- what it leaves in force. `mysql_receive` reads any payload from left to right; here whole payloads
+-- are put together from their parts. That both say the same is the law. MySQL: Client/Server Protocol, "COM_QUERY",
 -- "COM_STMT_PREPARE", "COM_STMT_EXECUTE", "COM_STMT_SEND_LONG_DATA", "COM_STMT_RESET",
 -- "COM_STMT_CLOSE" and "Null-Bitmap"; MariaDB: "COM_STMT_BULK_EXECUTE".
 use Rattle.std.specs.Prelude.{◌≡◌, ℕ, ◌+◌, ◌/◌, ◌<◌, ◌≤◌, ◌^◌, Bool, true, false, List, [], ◌∷◌, ◌++◌, length, map}
@@ -21,9 +20,10 @@ use Rattle.mysql_values.specs.Tokens.{question}
 use Rattle.mysql_wire.specs.Stream.{framings}
 use Rattle.mysql_wire.specs.Stream.Numbering.{EachFromZero}
 use Rattle.mysql_receive.specs.declared.param_type.ParamType.{ParamType}
-use Rattle.mysql_receive.specs.Query.{Query, Statement, all_alone, place_count}
+use Rattle.mysql_receive.specs.Query.{Query, Statement, all_alone, max_places, place_count}
 use Rattle.mysql_receive.specs.Layout.{Types, is_type}
-use Rattle.mysql_receive.specs.InForce.{StatementState, nothing_yet}
+use Rattle.mysql_receive.specs.InForce.{StatementState, nothing_yet, freshly_prepared, more_data, with_data, with_types}
+use Rattle.mysql_receive.specs.InForce.{without_data}
 use Rattle.mysql_receive.specs.Reading.{Set}
 use Rattle.mysql_command_rules.specs.Cells.{IsContent}
 
@@ -89,27 +89,29 @@ IsParameter None true t cell held = (cell ≡ []) × (held ≡ content.Null)
 IsParameter None false t cell held = IsContent t cell held
 
 -- new_params_bind_flag, and the types that count: behind a 1 the payload's own, behind a 0 those in force
-pub data AreBound (c : Statement) (s : StatementState) : List ℕ → Types → Type 0 where
-  anew : (types : Types) → AreTypes (place_count c.query) types → AreBound c s (1 ∷ type_bytes types) types
-  kept : (types : Types) → s.types ≡ Some types → AreBound c s (0 ∷ []) types
+pub data AreBound (statement : Statement) (state : StatementState) : List ℕ → Types → Type 0 where
+  anew : (types : Types) → AreTypes (place_count statement.query) types →
+      AreBound statement state (1 ∷ type_bytes types) types
+  kept : (types : Types) → state.types ≡ Some types → AreBound statement state (0 ∷ []) types
 
 -- The parameters of an execute, and the types in force behind it: no byte where the query has no
 -- placeholder; else the null bitmap, the types, and a cell for each place.
-pub data AreParameters (c : Statement) (s : StatementState) : List ℕ → Set → Option Types → Type 0 where
-  without : place_count c.query ≡ 0 → AreParameters c s [] [] s.types
-  with_places : (bitmap bound : List ℕ) (cells : List (List ℕ)) {types : Types} {set : Set} → 0 < place_count c.query →
-      length bitmap ≡ (place_count c.query + 7) / 8 → AreBound c s bound types →
-      SideBySide (λ place. IsParameter (s.pieces place) (is_null_at 0 bitmap place)) types cells set →
-      AreParameters c s (bitmap ++ (bound ++ concat cells)) set (Some types)
+pub data AreParameters (statement : Statement) (state : StatementState) : List ℕ → Set → Option Types → Type 0 where
+  without : place_count statement.query ≡ 0 → AreParameters statement state [] [] state.types
+  with_places : (bitmap bound : List ℕ) (cells : List (List ℕ)) {types : Types} {set : Set} →
+      0 < place_count statement.query →
+      length bitmap ≡ (place_count statement.query + 7) / 8 → AreBound statement state bound types →
+      SideBySide (λ place. IsParameter (state.long_data place) (is_null_at 0 bitmap place)) types cells set →
+      AreParameters statement state (bitmap ++ (bound ++ concat cells)) set (Some types)
 
 -- COM_STMT_BULK_EXECUTE
 
 -- bulk_flags, 128 for types that are sent and 64 for results of each row, and the types that count
-pub data AreBulkBound (c : Statement) (s : StatementState) : List ℕ → Types → Type 0 where
-  anew : (results : Bool) (types : Types) → AreTypes (place_count c.query) types →
-      AreBulkBound c s (little_bytes 2 (if results then 192 else 128) ++ type_bytes types) types
-  kept : (results : Bool) (types : Types) → s.types ≡ Some types →
-      AreBulkBound c s (little_bytes 2 (if results then 64 else 0)) types
+pub data AreBulkBound (statement : Statement) (state : StatementState) : List ℕ → Types → Type 0 where
+  anew : (results : Bool) (types : Types) → AreTypes (place_count statement.query) types →
+      AreBulkBound statement state (little_bytes 2 (if results then 192 else 128) ++ type_bytes types) types
+  kept : (results : Bool) (types : Types) → state.types ≡ Some types →
+      AreBulkBound statement state (little_bytes 2 (if results then 64 else 0)) types
 
 -- a column: the indicator 1 for NULL, or the indicator 0 and a cell
 pub data IsColumn (t : ParamType) : List ℕ → Content → Type 0 where
@@ -126,79 +128,68 @@ pub record IsRow (types : Types) (row : List ℕ) (set : Set) : Type 0 where
 -- WHAT IS IN FORCE
 
 -- the statement is prepared, and its id has four bytes
-pub record IsPrepared (c : Statement) (s : StatementState) : Type 0 where
-  pub prepared : s.prepared ≡ true
-  pub id : c.id < 2 ^ 32
+pub record IsPrepared (statement : Statement) (state : StatementState) : Type 0 where
+  pub prepared : state.prepared ≡ true
+  pub id : statement.id < 2 ^ 32
 
 -- no data waits for any place
 abbrev pub NoneWaits : Statement → StatementState → Type 0
-NoneWaits c s = (place : ℕ) → place < place_count c.query → s.pieces place ≡ None
-
--- behind a prepare: no types, and no data that waits
-abbrev pub freshly_prepared : StatementState
-freshly_prepared = record { prepared = true; types = None; pieces = λ place. None }
-
--- with these types, and with this data
-abbrev pub with_types : StatementState → Option Types → StatementState
-with_types s types = record { prepared = s.prepared; types = types; pieces = s.pieces }
-
-abbrev pub with_data : StatementState → (ℕ → Option (List ℕ)) → StatementState
-with_data s pieces = record { prepared = s.prepared; types = s.types; pieces = pieces }
-
--- without any data that waits
-abbrev pub without_data : StatementState → StatementState
-without_data s = with_data s (λ place. None)
-
--- data for a place goes behind what waits for it
-abbrev pub more_data : (ℕ → Option (List ℕ)) → ℕ → List ℕ → ℕ → Option (List ℕ)
-more_data pieces place bytes other =
-    if place == other then Some (unwrap_or (pieces other) [] ++ bytes) else pieces other
+NoneWaits statement state = (place : ℕ) → place < place_count statement.query → state.long_data place ≡ None
 
 -- COMMANDS
 
 -- A command by what is in force before it, the sets that it carries, and what is in force behind
 -- it. But for a query and a prepare, it names the prepared statement, by its id in four bytes.
-pub data IsCommand (c : Statement) (s : StatementState) : List ℕ → List Set → StatementState → Type 0 where
+pub data IsCommand (statement : Statement) (state : StatementState) : List ℕ → List Set → StatementState → Type 0 where
   -- COM_QUERY: the text
-  query : (text : List ℕ) {set : Set} → IsFilled c.query text set →
-      IsCommand c s (command_number COM_QUERY ∷ text) (set ∷ []) s
-  -- COM_STMT_PREPARE: the query with a question mark for each placeholder, of which there are at most 65535
-  prepare : place_count c.query ≤ 65535 →
-      IsCommand c s (command_number COM_STMT_PREPARE ∷ with_marks c.query) [] freshly_prepared
+  query : (text : List ℕ) {set : Set} → IsFilled statement.query text set →
+      IsCommand statement state (command_number COM_QUERY ∷ text) (set ∷ []) state
+  -- COM_STMT_PREPARE: the query with a question mark for each placeholder, of which there are no
+  -- more than can be counted
+  prepare : place_count statement.query ≤ max_places →
+      IsCommand statement state (command_number COM_STMT_PREPARE ∷ with_marks statement.query) [] freshly_prepared
   -- COM_STMT_SEND_LONG_DATA: a placeholder's number in two bytes, and data for it
-  long_data : (place : ℕ) (bytes : List ℕ) → IsPrepared c s → place < place_count c.query → place < 2 ^ 16 →
-      IsCommand c s (command_number COM_STMT_SEND_LONG_DATA ∷ little_bytes 4 c.id ++ little_bytes 2 place ++ bytes) []
-      (with_data s (more_data s.pieces place bytes))
+  long_data : (place : ℕ) (bytes : List ℕ) → IsPrepared statement state →
+      place < place_count statement.query → place < 2 ^ 16 →
+      IsCommand statement state (command_number COM_STMT_SEND_LONG_DATA ∷
+      little_bytes 4 statement.id ++ little_bytes 2 place ++ bytes) []
+      (with_data state (more_data state.long_data place bytes))
   -- COM_STMT_EXECUTE: no cursor, an iteration count of 1, and the parameters, which use up the data
-  execute : (parameters : List ℕ) {set : Set} {types : Option Types} → IsPrepared c s →
-      AreParameters c s parameters set types →
-      IsCommand c s (command_number COM_STMT_EXECUTE ∷ little_bytes 4 c.id ++ 0 ∷
+  execute : (parameters : List ℕ) {set : Set} {types : Option Types} → IsPrepared statement state →
+      AreParameters statement state parameters set types →
+      IsCommand statement state (command_number COM_STMT_EXECUTE ∷ little_bytes 4 statement.id ++ 0 ∷
       little_bytes 4 1 ++ parameters) (set ∷ [])
-      (without_data (with_types s types))
+      (without_data (with_types state types))
   -- COM_STMT_BULK_EXECUTE: flags and types, and rows, at least one; no data waits
-  bulk : (bound : List ℕ) (rows : List (List ℕ)) {types : Types} {sets : List Set} → IsPrepared c s → NoneWaits c s →
-      0 < place_count c.query → 0 < length rows → AreBulkBound c s bound types → AllZip (IsRow types) rows sets →
-      IsCommand c s (command_number COM_STMT_BULK_EXECUTE ∷ little_bytes 4 c.id ++ bound ++
-      concat rows) sets (with_types s (Some types))
+  bulk : (bound : List ℕ) (rows : List (List ℕ)) {types : Types} {sets : List Set} →
+      IsPrepared statement state → NoneWaits statement state →
+      0 < place_count statement.query → 0 < length rows → AreBulkBound statement state bound types →
+      AllZip (IsRow types) rows sets →
+      IsCommand statement state (command_number COM_STMT_BULK_EXECUTE ∷ little_bytes 4 statement.id ++ bound ++
+      concat rows) sets (with_types state (Some types))
   -- COM_STMT_RESET: the data is dropped
-  reset : IsPrepared c s → IsCommand c s (command_number COM_STMT_RESET ∷ little_bytes 4 c.id) [] (without_data s)
+  reset : IsPrepared statement state →
+      IsCommand statement state (command_number COM_STMT_RESET ∷ little_bytes 4 statement.id) []
+      (without_data state)
   -- COM_STMT_CLOSE: the statement is prepared no longer
-  close : IsPrepared c s → IsCommand c s (command_number COM_STMT_CLOSE ∷ little_bytes 4 c.id) [] nothing_yet
+  close : IsPrepared statement state →
+      IsCommand statement state (command_number COM_STMT_CLOSE ∷ little_bytes 4 statement.id) []
+      nothing_yet
 
 -- Commands one after another, the sets that they carry, and what is in force behind the last.
-pub data AreCommands (c : Statement) : StatementState → List (List ℕ) → List Set → StatementState → Type 0 where
-  none : {s : StatementState} → AreCommands c s [] [] s
-  next : {s between last : StatementState} {payload : List ℕ} {payloads : List (List ℕ)} (sets more : List Set) →
-      IsCommand c s payload sets between → AreCommands c between payloads more last →
-      AreCommands c s (payload ∷ payloads) (sets ++ more) last
+pub data AreCommands (statement : Statement) : StatementState → List (List ℕ) → List Set → StatementState → Type 0 where
+  none : {state : StatementState} → AreCommands statement state [] [] state
+  next : {state between last : StatementState} {payload : List ℕ} {payloads : List (List ℕ)} (sets more : List Set) →
+      IsCommand statement state payload sets between → AreCommands statement between payloads more last →
+      AreCommands statement state (payload ∷ payloads) (sets ++ more) last
 
 -- A whole stream: the framings of commands one after another, fewer than 2^64 and each within the
 -- limit, and no data waits at the end.
-pub record IsFramed (c : Statement) (limit : ℕ) (bytes : List ℕ) (sets : List Set) : Type 0 where
+pub record IsFramed (statement : Statement) (limit : ℕ) (bytes : List ℕ) (sets : List Set) : Type 0 where
   pub payloads : List (List ℕ)
   pub last : StatementState
-  pub commands : AreCommands c nothing_yet payloads sets last
+  pub commands : AreCommands statement nothing_yet payloads sets last
   pub few : length payloads < 2 ^ 64
   pub within : AllByRecursion (λ payload. length payload ≤ limit) payloads
   pub framed : bytes ≡ framings payloads EachFromZero
-  pub none_waits : NoneWaits c last
+  pub none_waits : NoneWaits statement last

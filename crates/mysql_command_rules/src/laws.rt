@@ -6,23 +6,18 @@ ghost use Rattle.mysql_command_rules.specs.Laws.{SentStreamsJoin, SentValuesAreC
 ghost use Rattle.mysql_command_rules.specs.declared.road.Road.TheVariants as roads;
 
 use mysql_bulk_builder::laws::{tight_typed_has_fewest, types_in_force_serve};
-use mysql_receive::laws::{
-    fronts_read_on, looking_back_goes_on, whole_streams_join, written_cells_are_held,
-};
+use mysql_receive::laws::{fronts_read_on, whole_streams_join, written_cells_are_held};
 use mysql_values::laws::{cells_have_lengths, tokens_of_a_text};
 
 /// Text queries read as the sets whose values they carry.
 pub fn queries_read()
     ensures { SentPayloadsRead roads.Text }
-{
-    looking_back_goes_on();
-}
+{}
 
 /// A prepare and executions, with long data before those that need it, read as the sets whose values they carry.
 pub fn executions_read()
     ensures { SentPayloadsRead roads.Execute }
 {
-    looking_back_goes_on();
     written_cells_are_held();
 }
 
@@ -44,7 +39,6 @@ pub fn sent_payloads_fit()
 pub fn requests_read()
     ensures { SentPayloadsRead roads.Bulk }
 {
-    looking_back_goes_on();
     written_cells_are_held();
     cells_have_lengths();
     types_in_force_serve();

@@ -5,7 +5,6 @@ ghost use Rattle.mysql_command_rules.specs.ManualLaws.{EachLaidOutCommandReads, 
 ghost use Rattle.mysql_command_rules.specs.ManualLaws.{OnlyFramedStreamsAreWhole, OnlyLaidOutCommandsRead};
 
 use mysql_const::laws::names_are_read_back;
-use mysql_receive::laws::looking_back_goes_on;
 use mysql_values::laws::{one_reading, pieces_of_a_query, tokens_of_a_text};
 use mysql_wire::laws::reader_laws;
 
@@ -17,7 +16,6 @@ pub fn commands_are_laid_out()
     ensures some { EachLaidOutCommandReads }
     ensures only { OnlyLaidOutCommandsRead }
 {
-    looking_back_goes_on();
     names_are_read_back();
     one_reading();
     pieces_of_a_query();
@@ -46,7 +44,6 @@ pub fn whole_streams_are_framed_commands()
     ensures only { OnlyFramedStreamsAreWhole }
 {
     reader_laws();
-    looking_back_goes_on();
     names_are_read_back();
     one_reading();
     pieces_of_a_query();

@@ -3,8 +3,7 @@
 use Rattle.std.specs.Prelude.{List, String, map, ℕ}
 use Rattle.std.specs.Cow.{cow_slice_items}
 use Rattle.std.specs.String.{string_bytes}
-use Rattle.std.specs.Str.{encode_utf8_all}
-use Rattle.bstr.specs.Utf8.{lossy_chars}
+use Rattle.mysql_fields.specs.Texts.{lossy_text}
 use Rattle.mysql_fields.specs.declared.texts.RawBytes.{RawBytes}
 use Rattle.mysql_connect_attributes.specs.Attributes.{Attribute}
 use Rattle.mysql_connect_attributes.specs.declared.attributes.ConnectAttributes.{ConnectAttributes}
@@ -20,10 +19,6 @@ attributes_view all = map shown_attribute all.entries.entries
 -- the bytes of two texts
 abbrev pub text_attribute : {Z : Type 0} → String Z × String Z → Attribute
 text_attribute e = (string_bytes e.0, string_bytes e.1)
-
--- bytes as text, where bytes that aren't UTF-8 are replaced
-abbrev pub lossy_text : List ℕ → List ℕ
-lossy_text bytes = encode_utf8_all (lossy_chars bytes)
 
 -- an attribute as texts
 abbrev pub lossy_attribute : Attribute → Attribute

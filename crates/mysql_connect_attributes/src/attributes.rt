@@ -10,7 +10,8 @@ ghost use Rattle.std.specs.String.{string_bytes};
 ghost use Rattle.mysql_connect_attributes.specs.Attributes.{Attribute, attribute, attribute_at, attributes};
 ghost use Rattle.mysql_connect_attributes.specs.Attributes.{attributes_at, kept_attributes_at, with_attribute};
 ghost use Rattle.mysql_connect_attributes.specs.Attributes.{with_last_values};
-ghost use Rattle.mysql_connect_attributes.specs.AttributeViews.{attributes_view, lossy_attribute, lossy_text};
+ghost use Rattle.mysql_connect_attributes.specs.AttributeViews.{attributes_view, lossy_attribute};
+ghost use Rattle.mysql_fields.specs.Texts.{lossy_text};
 ghost use Rattle.mysql_connect_attributes.specs.AttributeViews.{shown_attribute, text_attribute};
 ghost use Rattle.mysql_fields.specs.Laws.{unsized};
 ghost use Rattle.mysql_fields.specs.Wire.{Appends, GivesPart, TellsPart};
@@ -194,7 +195,7 @@ pub fn copied_pair<T: BytesRepr, U: BytesRepr>(
 }
 
 // Bytes as text, where bytes that aren't UTF-8 are replaced.
-fn lossy(alloc: Global, bytes: &[u8]) -> Result<String, AllocError>
+fn lossy_string(alloc: Global, bytes: &[u8]) -> Result<String, AllocError>
     ensures { IfOk result (λ text. string_bytes text ≡ lossy_text bytes.now) }
 {
     bytes.to_str_lossy(alloc)?.into_owned(alloc)
@@ -224,8 +225,8 @@ fn put_lossy(
         with_attribute (map text_attribute texts.old.entries)
         (lossy_attribute (key.now, value.now))) }
 {
-    let key = lossy(alloc, key)?;
-    let value = lossy(alloc, value)?;
+    let key = lossy_string(alloc, key)?;
+    let value = lossy_string(alloc, value)?;
     put_text(texts, key, value)
 }
 

@@ -18,7 +18,7 @@ abbrev pub GivesPart : {X Y : Type 0} → (X → Y) → List ℕ → Result X Wi
 GivesPart view new (Ok x) reading = reading ≡ Ok (view x, new)
 GivesPart view new (Err e) reading = Refuses e reading
 
--- the same of a call that asks for no memory: its refusal is the reading's
+-- a call that asks for no memory gave what reading gives, the value seen by view and what is left; or its refusal
 abbrev pub TellsPart : {X Y : Type 0} → (X → Y) → List ℕ → Result X WireError → Reading Y → Type 0
 TellsPart view new (Ok x) reading = reading ≡ Ok (view x, new)
 TellsPart view new (Err e) reading = reading ≡ Err e
@@ -28,7 +28,8 @@ abbrev pub Gives : {X Y : Type 0} → (X → Y) → List ℕ → List ℕ → Re
 Gives view old new (Ok x) reading = reading ≡ Ok (view x, new)
 Gives view old new (Err e) reading = Refuses e reading × (new ≡ old)
 
--- the same of a call that asks for no memory: its refusal is the reading's
+-- a call that asks for no memory gave what reading gives: the value, seen by view, and what is left; or its refusal,
+-- and all is left
 abbrev pub Tells : {X Y : Type 0} → (X → Y) → List ℕ → List ℕ → Result X WireError → Reading Y → Type 0
 Tells view old new (Ok x) reading = reading ≡ Ok (view x, new)
 Tells view old new (Err e) reading = (reading ≡ Err e) × (new ≡ old)
@@ -38,7 +39,7 @@ abbrev pub Answers : {X Y : Type 0} → Bool → (X → Y) → List ℕ → List
 Answers true view old new result reading = Gives view old new result reading
 Answers false view old new result reading = Tells view old new result reading
 
--- the same of a part
+-- the one or the other of a part of a packet, by whether the call may ask for memory
 abbrev pub AnswersPart : {X Y : Type 0} → Bool → (X → Y) → List ℕ → Result X WireError → Reading Y → Type 0
 AnswersPart true view new result reading = GivesPart view new result reading
 AnswersPart false view new result reading = TellsPart view new result reading

@@ -14,7 +14,7 @@ abbrev pub Gives : {X Y : Type 0} → (X → Y) → Result X SidError → Result
 Gives view (Ok x) read = read ≡ Ok (view x)
 Gives view (Err e) read = Refuses e read
 
--- The same of a function that takes no memory.
+-- What a function that takes no memory answered, seen by view, is what reading gives.
 abbrev pub Answers : {X Y : Type 0} → (X → Y) → Result X SidError → Result Y SidError → Type 0
 Answers view (Ok x) read = read ≡ Ok (view x)
 Answers view (Err e) read = read ≡ Err e

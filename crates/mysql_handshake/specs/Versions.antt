@@ -37,7 +37,7 @@ pub record BeginsWith (text : List ℕ) (version : ℕ × ℕ × ℕ) (rest : Li
 abbrev pub IsVersion : List ℕ → ℕ × ℕ × ℕ → Type 0
 IsVersion text version = (rest : List ℕ) × BeginsWith text version rest
 
--- the same, and MariaDB's name behind it
+-- this version is what a text begins with, and MariaDB's name stands behind it
 abbrev pub IsMarked : List ℕ → ℕ × ℕ × ℕ → Type 0
 IsMarked text version = (rest : List ℕ) × BeginsWith text version (codes "-MariaDB" ++ rest)
 

@@ -7,8 +7,7 @@
 ghost use Rattle.std.specs.Prelude.{[], ◌≡◌, ◌≤◌, IfOk, None, Ok, Some, length, IsOkUnless, false};
 ghost use Rattle.std.specs.Cow.{cow_slice_items, cow_str_bytes};
 ghost use Rattle.std.specs.Option.{option_map};
-ghost use Rattle.std.specs.Str.{encode_utf8_all};
-ghost use Rattle.bstr.specs.Utf8.{lossy_chars};
+ghost use Rattle.mysql_fields.specs.Texts.{lossy_text};
 ghost use Rattle.mysql_auth.specs.Plugins.{plugin_named, without_zero};
 ghost use Rattle.mysql_auth.specs.Views.{plugin_view};
 ghost use Rattle.mysql_buf.specs.Writing.{front};
@@ -28,14 +27,13 @@ ghost use Rattle.mysql_fields.specs.declared.error.WireError.TheVariants as wire
 
 use crate::versions::{mariadb_version, version_of};
 use bitflags::Flags;
-use bstr::ByteSlice;
 use mysql_auth::{AuthPlugin, without_zero};
 use mysql_buf::{ParseBuf, front_of};
 use mysql_const::{CapabilityFlags, MariadbCapabilities, StatusFlags};
 use mysql_field_constants::{Const, Either, RawFlags, Skip};
 use mysql_fields::{
     BareBytes, EofBytes, LeU16, LeU32, LeU32LowerHalf, LeU32UpperHalf, MyDeserialize, MySerialize,
-    NullBytes, ParseExt, RawBytes, RawInt, Readable, WireError, in_order,
+    NullBytes, ParseExt, RawBytes, RawInt, Readable, WireError, in_order, lossy_text, own_bytes,
 };
 use std::alloc::{AllocError, Global};
 use std::borrow::{CowSlice, CowStr};
@@ -123,7 +121,7 @@ fn owned_text(
 {
     match text {
         None => Ok(None),
-        Some(text) => Ok(Some(CowSlice::Owned(text.into_owned(alloc)?))),
+        Some(text) => Ok(Some(own_bytes(alloc, text)?)),
     }
 }
 
@@ -218,9 +216,9 @@ impl<'a> HandshakePacket<'a> {
     pub fn server_version_str(&self, alloc: Global) -> Result<CowStr<'_>, WireError>
         ensures memory { IsOkUnless result wire.Memory }
         ensures value { IfOk result (λ text. cow_str_bytes text ≡
-            encode_utf8_all (lossy_chars (handshake_view self.now).server_version)) }
+            lossy_text (handshake_view self.now).server_version) }
     {
-        Ok(self.server_version_ref().to_str_lossy(alloc)?)
+        lossy_text(alloc, self.server_version_ref())
     }
 
     /// The version that the text begins with: three numbers of at most two, two and three digits,
@@ -313,12 +311,12 @@ impl<'a> HandshakePacket<'a> {
     pub fn auth_plugin_name_str(&self, alloc: Global) -> Result<Option<CowStr<'_>>, WireError>
         ensures memory { IsOkUnless result wire.Memory }
         ensures value { IfOk result (λ text. option_map cow_str_bytes text ≡
-            option_map (λ name. encode_utf8_all (lossy_chars name))
+            option_map lossy_text
             (handshake_view self.now).auth_plugin_name) }
     {
         match &self.auth_plugin_name {
             None => Ok(None),
-            Some(name) => Ok(Some(name.as_slice().to_str_lossy(alloc)?)),
+            Some(name) => Ok(Some(lossy_text(alloc, name.as_slice())?)),
         }
     }
 
@@ -360,7 +358,7 @@ impl<'a> HandshakePacket<'a> {
     {
         Ok(HandshakePacket {
             protocol_version: self.protocol_version,
-            server_version: CowSlice::Owned(self.server_version.into_owned(alloc)?),
+            server_version: own_bytes(alloc, self.server_version)?,
             connection_id: self.connection_id,
             scramble_1: self.scramble_1,
             capabilities: self.capabilities,

@@ -2,8 +2,6 @@
 -- MySQL: Client/Server Protocol, "OK_Packet" and "EOF_Packet".
 -- A reading takes bytes from the front: x.0 is what was read and x.1 the bytes left; the first refusal counts.
 use Rattle.std.specs.Prelude.{ℕ, zero, suc, List, [], ◌∷◌, Bool, Option, Some, None, Ok, ◌==◌, if◌then◌else◌}
-use Rattle.std.specs.Str.{encode_utf8_all}
-use Rattle.bstr.specs.Utf8.{lossy_chars}
 use Rattle.mysql_fields.specs.Forms.{bytes_at, lenenc_number_at, fixed_number_at}
 use Rattle.mysql_fields.specs.Wire.{Reading, ◌>>=◌}
 use Rattle.mysql_fields.specs.Texts.{lenenc_text_at}
@@ -130,7 +128,3 @@ old_eof_at bytes = packet_at 254 (λ _ rest. old_eof_body_at rest) 0 bytes
 abbrev pub all_states_at : Option (List ℕ) → Reading (List State)
 all_states_at None = Ok ([], [])
 all_states_at (Some bytes) = states_at bytes
-
--- Bytes as text, where those that aren't UTF-8 are replaced.
-abbrev pub lossy_text : List ℕ → List ℕ
-lossy_text bytes = encode_utf8_all (lossy_chars bytes)

@@ -11,7 +11,7 @@ use bitflags::Flags;
 use mysql_buf::ParseBuf;
 use mysql_const::{CapabilityFlags, StatusFlags};
 use mysql_field_constants::Const;
-use mysql_fields::{LeU16, ParseExt, RawInt, WireError};
+use mysql_fields::{LeU16, ParseExt, RawInt, WireError, read_lenenc_text};
 use std::alloc::Global;
 
 /// What stands behind the header of an OK or EOF packet. It borrows its bytes from the packet.
@@ -41,16 +41,6 @@ pub(crate) fn has_session_state(status: StatusFlags) -> bool
     status.contains(StatusFlags::SERVER_SESSION_STATE_CHANGED)
 }
 
-// The text that stands first, after its length. Refused by UnexpectedEof.
-fn text_of<'a>(buf: &mut ParseBuf<'a>) -> Result<&'a [u8], WireError>
-    ensures { TellsPart (λ text. text.now) buf.new.0.now result (lenenc_text_at buf.old.0.now) }
-{
-    match buf.checked_eat_lenenc_str() {
-        Some(text) => Ok(text),
-        None => Err(WireError::UnexpectedEof),
-    }
-}
-
 // The info and the session state of an OK packet.
 #[tactic(auto, unfolding(crate::specs::OkPackets::info_at))]
 fn info_of<'a>(
@@ -64,9 +54,9 @@ fn info_of<'a>(
         return Ok((&[], &[]));
     };
     if tracks_session(capabilities) {
-        let info = text_of(buf)?;
+        let info = read_lenenc_text(buf)?;
         if has_session_state(status) {
-            let state = text_of(buf)?;
+            let state = read_lenenc_text(buf)?;
             return Ok((info, state));
         }
         return Ok((info, &[]));
@@ -74,7 +64,7 @@ fn info_of<'a>(
     if *first == 0 {
         return Ok((&[], &[]));
     }
-    let info = text_of(buf)?;
+    let info = read_lenenc_text(buf)?;
     Ok((info, &[]))
 }
 

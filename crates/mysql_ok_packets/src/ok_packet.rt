@@ -8,17 +8,17 @@ ghost use Rattle.std.specs.Cow.{cow_str_bytes};
 ghost use Rattle.mysql_fields.specs.Wire.{GivesPart};
 ghost use Rattle.mysql_fields.specs.declared.error.WireError.TheVariants as wire;
 ghost use Rattle.mysql_session_states.specs.Views.{state_view};
-ghost use Rattle.mysql_ok_packets.specs.OkPackets.{all_states_at, lossy_text, more_results_exist, unless_empty};
+ghost use Rattle.mysql_ok_packets.specs.OkPackets.{all_states_at, more_results_exist, unless_empty};
+ghost use Rattle.mysql_fields.specs.Texts.{lossy_text};
 ghost use Rattle.mysql_ok_packets.specs.OkPackets.{unless_zero};
 ghost use Rattle.mysql_ok_packets.specs.Views.{IsPacketOf, body_view, bytes_view, ok_packet_view};
 ghost use Rattle.mysql_ok_packets.specs.Written.{is_named_status, or_empty, or_zero};
 
 use crate::body::OkPacketBody;
 use bitflags::Flags;
-use bstr::ByteSlice;
 use mysql_const::StatusFlags;
 use mysql_field_constants::ConstValue;
-use mysql_fields::WireError;
+use mysql_fields::{WireError, copy_bytes, lossy_text, own_bytes};
 use mysql_session_states::{SessionStateInfo, states_of};
 use std::alloc::{AllocError, Global};
 use std::borrow::{CowSlice, CowStr};
@@ -116,7 +116,7 @@ fn owned<'b>(
     ensures { IfOk result (λ same. bytes_view same ≡ bytes_view bytes.entry) }
 {
     match bytes {
-        Some(bytes) => Ok(Some(CowSlice::Owned(bytes.into_owned(alloc)?))),
+        Some(bytes) => Ok(Some(own_bytes(alloc, bytes)?)),
         None => Ok(None),
     }
 }
@@ -129,7 +129,7 @@ fn copy_of<'b>(
     ensures { IfOk result (λ copy. bytes_view copy ≡ bytes_view bytes.now) }
 {
     match bytes {
-        Some(bytes) => Ok(Some(CowSlice::Owned(Vec::from_slice(alloc, bytes.as_slice())?))),
+        Some(bytes) => Ok(Some(copy_bytes(alloc, bytes.as_slice())?)),
         None => Ok(None),
     }
 }
@@ -293,7 +293,7 @@ impl<'a> OkPacket<'a> {
             option_map lossy_text (ok_packet_view self.now).info) }
     {
         match &self.info {
-            Some(info) => Ok(Some(info.as_slice().to_str_lossy(alloc)?)),
+            Some(info) => Ok(Some(lossy_text(alloc, info.as_slice())?)),
             None => Ok(None),
         }
     }

@@ -41,5 +41,5 @@ pub use mysql_stmt::{
     ComStmtExecuteRequestBuilder, ComStmtReset, ComStmtResetHeader, ComStmtSendLongData,
     ComStmtSendLongDataHeader, InvalidComStmtCloseHeader, InvalidComStmtExecuteHeader,
     InvalidComStmtResetHeader, InvalidComStmtSendLongDataHeader, InvalidIterationCount,
-    IterationCount,
+    IterationCount, StatementAlone,
 };

@@ -8,7 +8,7 @@ use Rattle.mysql_values.specs.Queries.{Slices}
 use Rattle.mysql_receive.proofs.Readable.{IsReadable}
 use Rattle.mysql_receive.specs.Layout.{Command, command_of, Types}
 use Rattle.mysql_receive.specs.Layout as layout
-use Rattle.mysql_receive.specs.InForce.{StatementState, state_after}
+use Rattle.mysql_receive.specs.InForce.{StatementState}
 use Rattle.mysql_receive.specs.Reading.{TextReadsAs, Set, execute_at, bulk_rows, BulkReadsAs, BulkFaulty, RowsAt, FaultyRow, long_data_at, statement_alone_at, CommandReadsAs, CommandFaulty, PayloadReadsAs, PayloadFaulty, ReadsAs, Faulty}
 use Rattle.mysql_receive.specs.Laws.{IsJudged}
 use Rattle.mysql_receive.proofs.Rows.{rows_or, rows_one, rows_not_both, fault_one as row_fault_one}
@@ -50,7 +50,7 @@ module _ (c : Statement) (s : StatementState) (readable : IsReadable c.query) wh
     where
       decided : (((contents : Set) × TextReadsAs c.query.text body contents) ⊎ ((contents : Set) → Slices c.query.text body contents → ⊥)) → ((sets : List Set) × CommandReadsAs c s layout.Text body sets) ⊎ ((f : StreamFault) × CommandFaulty c s layout.Text body f)
       decided (inl h) = inl (h.0 ∷ [], (holds, (h.0, h.1, refl)))
-      decided (inr fails) = inr (TextMismatch, inr (holds, fails, refl))
+      decided (inr fails) = inr (TextMismatch, inr (holds, (λ contents h. fails contents h.0), refl))
 
   prepare_or : (body : List ℕ) → ((body ≡ c.query.parsed) ⊎ (body ≢ c.query.parsed)) → ((65535 < place_count c.query) ⊎ (place_count c.query ≤ 65535)) → ((sets : List Set) × CommandReadsAs c s layout.Prepare body sets) ⊎ ((f : StreamFault) × CommandFaulty c s layout.Prepare body f)
   prepare_or body (inr fails) few = inr (PrepareMismatch, inl (fails, refl))
@@ -98,7 +98,7 @@ module _ (c : Statement) (s : StatementState) (readable : IsReadable c.query) wh
 
   not_both : (command : Command) (body : List ℕ) (sets : List Set) (f : StreamFault) → CommandReadsAs c s command body sets → CommandFaulty c s command body f → ⊥
   not_both layout.Text body sets f h (inl fails) = let a : all_alone ≡ true = h.0 in let b : all_alone ≡ false = fails.0 in cc
-  not_both layout.Text body sets f h (inr fails) = fails.1 h.1.0 h.1.1.0
+  not_both layout.Text body sets f h (inr fails) = fails.1 h.1.0 h.1.1
   not_both layout.Prepare body sets f h (inl fails) = fails.0 h.0
   not_both layout.Prepare body sets f h (inr fails) = omega (arith, h.1, fails.1)
   not_both layout.LongData body sets f h fails = no_answer_twice (long_data_at c s body) sets f h fails
@@ -150,29 +150,27 @@ module _ (c : Statement) (s : StatementState) (readable : IsReadable c.query) wh
   payload_fault_one [] f g p q = p ∙ sym q
   payload_fault_one (b ∷ body) f g p q = fault_one (command_of b) body f g p q
 
-module _ (c : Statement) (s : StatementState) (first : ℕ) (earlier : List (List ℕ)) (payload : List ℕ) (readable : IsReadable c.query) where
-  now : StatementState
-  now = state_after c s earlier
-
-  either : ((first + length earlier < 2 ^ 64 - 1) ⊎ (2 ^ 64 - 1 ≤ first + length earlier)) → (((sets : List Set) × PayloadReadsAs c (state_after c s earlier) payload sets) ⊎ ((f : StreamFault) × PayloadFaulty c (state_after c s earlier) payload f)) → ((sets : List Set) × ReadsAs c s first earlier payload sets) ⊎ ((f : StreamFault) × Faulty c s first earlier payload f)
+module _ (c : Statement) (s : StatementState) (number : ℕ) (payload : List ℕ) (readable : IsReadable c.query) where
+  either : ((number < 2 ^ 64 - 1) ⊎ (2 ^ 64 - 1 ≤ number)) → (((sets : List Set) × PayloadReadsAs c s payload sets) ⊎ ((f : StreamFault) × PayloadFaulty c s payload f))
+      → ((sets : List Set) × ReadsAs c s number payload sets) ⊎ ((f : StreamFault) × Faulty c s number payload f)
   either (inr last) h = inr (TooLarge, inl (last, refl))
   either (inl small) (inl h) = inl (h.0, (small, h.1))
   either (inl small) (inr h) = inr (h.0, inr (small, h.1))
 
-  both_wrong : (sets : List Set) (f : StreamFault) → ReadsAs c s first earlier payload sets → Faulty c s first earlier payload f → ⊥
+  both_wrong : (sets : List Set) (f : StreamFault) → ReadsAs c s number payload sets → Faulty c s number payload f → ⊥
   both_wrong sets f h (inl fails) = omega (arith, h.0, fails.0)
-  both_wrong sets f h (inr fails) = payload_not_both c (state_after c s earlier) readable payload sets f h.1 fails.1
+  both_wrong sets f h (inr fails) = payload_not_both c s readable payload sets f h.1 fails.1
 
-  fault_same : (f g : StreamFault) → Faulty c s first earlier payload f → Faulty c s first earlier payload g → f ≡ g
+  fault_same : (f g : StreamFault) → Faulty c s number payload f → Faulty c s number payload g → f ≡ g
   fault_same f g (inl p) (inl q) = p.1 ∙ sym q.1
   fault_same f g (inl p) (inr q) = absurd (omega (arith, p.0, q.0))
   fault_same f g (inr p) (inl q) = absurd (omega (arith, p.0, q.0))
-  fault_same f g (inr p) (inr q) = payload_fault_one c (state_after c s earlier) readable payload f g p.1 q.1
+  fault_same f g (inr p) (inr q) = payload_fault_one c s readable payload f g p.1 q.1
 
-  pub is_judged : IsJudged c s first earlier payload
+  pub is_judged : IsJudged c s number payload
   is_judged = record {
-    judged = either (cases_lt (first + length earlier) (2 ^ 64 - 1)) (payload_or c (state_after c s earlier) readable payload);
+    judged = either (cases_lt number (2 ^ 64 - 1)) (payload_or c s readable payload);
     not_both = both_wrong;
-    sets_one = λ xs ys p q. payload_sets_one c (state_after c s earlier) readable payload xs ys p.1 q.1;
+    sets_one = λ xs ys p q. payload_sets_one c s readable payload xs ys p.1 q.1;
     fault_one = fault_same;
   }

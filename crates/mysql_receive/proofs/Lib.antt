@@ -8,7 +8,7 @@ pub mod Feeding
 pub mod Binds
 pub mod Loops
 pub mod Rows
-pub mod Pieces
+pub mod LongData
 pub mod Stepping
 pub mod Progressing
 pub mod Receiving

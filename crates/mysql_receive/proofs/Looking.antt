@@ -1,4 +1,4 @@
--- Looking back over two lists of payloads is looking back over the second from what is in force behind the first.
+-- What is in force behind payloads, one after another, is what is found by looking back over them.
 use Rattle.std.proofs.Common.{◌≡◌, ℕ, Bool, true, false, cond, List, [], ◌∷◌, ◌++◌, Option, Some, None, refl, sym, ap, ◌∙◌, append_assoc}
 use Rattle.std.specs.Prelude.{◌||◌, unwrap_or}
 use Rattle.std.specs.List.{list_any, filter_map, flat_map, last_or, cons_option, All, AllByRecursion}
@@ -8,7 +8,10 @@ use Rattle.std.proofs.lemmas.List.Concat.{flat_map-append}
 use Rattle.std.proofs.lemmas.List.{append-nil}
 use Rattle.mysql_receive.specs.Layout.{Types}
 use Rattle.mysql_receive.specs.Query.{Statement}
-use Rattle.mysql_receive.specs.InForce.{StatementState, said_by, last_said, speaks_of_prepared, speaks_of_types, speaks_of_place, is_end, since, joined, waiting_for, state_after}
+use Rattle.mysql_receive.specs.InForce.{StatementState, after, state_after}
+use Rattle.mysql_receive.specs.LookingBack.{said_by, last_said, speaks_of_prepared, speaks_of_types, speaks_of_place, is_end, since, joined, waiting_for, looking_back}
+use Rattle.mysql_receive.specs.Laws.{LastWordCounts}
+use Rattle.mysql_receive.proofs.Stepping.{back_once}
 
 last_or-append : {A : Type 0} (o : Option A) (xs ys : List A) → last_or o (xs ++ ys) ≡ last_or (last_or o xs) ys
 last_or-append o [] ys = refl
@@ -65,7 +68,7 @@ since-append_none {A = A} p (x ∷ xs) ys h =
     cases true l e = e
     cases false l e = refl
 
--- ---- pieces
+-- ---- long data
 
 joined-append : (ps qs : List (List ℕ)) → joined (option_to_list (joined ps) ++ qs) ≡ joined (ps ++ qs)
 joined-append [] qs = refl
@@ -95,20 +98,33 @@ waiting_for-append c before xs ys place = by_cases (list_any is_end ys) refl
         ∙ sym (ap (λ b. joined (option_to_list (cond b None (waiting_for c before xs place)) ++ data_of (since is_end ys))) h
         ∙ ap (λ l. joined (option_to_list (waiting_for c before xs place) ++ data_of l)) (since-none is_end ys h))
 
-pub state_after_append : (c : Statement) (s : StatementState) (xs ys : List (List ℕ)) → state_after c s (xs ++ ys) ≡ state_after c (state_after c s xs) ys
-state_after_append c s xs ys = λ i. record {
+looking_back_append : (c : Statement) (s : StatementState) (xs ys : List (List ℕ)) → looking_back c s (xs ++ ys) ≡ looking_back c (looking_back c s xs) ys
+looking_back_append c s xs ys = λ i. record {
   prepared = last_said-append (said_by (speaks_of_prepared c)) s.prepared xs ys i;
   types = last_said-append (said_by (speaks_of_types c)) s.types xs ys i;
-  pieces = λ place. waiting_for-append c (s.pieces place) xs ys place i;
+  long_data = λ place. waiting_for-append c (s.long_data place) xs ys place i;
 }
 
 -- before any payload what held before is in force
-pub state_after_nil : (c : Statement) (s : StatementState) → state_after c s [] ≡ s
-state_after_nil c s = λ i. record { prepared = s.prepared; types = s.types; pieces = λ place. one (s.pieces place) i }
+looking_back_nil : (c : Statement) (s : StatementState) → looking_back c s [] ≡ s
+looking_back_nil c s = λ i. record { prepared = s.prepared; types = s.types; long_data = λ place. one (s.long_data place) i }
   where
     one : (o : Option (List ℕ)) → joined (option_to_list o ++ []) ≡ o
     one None = refl
     one (Some x) = ap (λ l. Some l) (append-nil x)
+
+-- what is in force is what is found by looking back
+looks_back : (c : Statement) (s : StatementState) (payloads : List (List ℕ)) → state_after c s payloads ≡ looking_back c s payloads
+looks_back c s [] = sym (looking_back_nil c s)
+looks_back c s (payload ∷ payloads) =
+    looks_back c (after c s payload) payloads
+    ∙ ap (λ (t : StatementState). looking_back c t payloads) (sym (back_once c s payload))
+    ∙ sym (looking_back_append c s (payload ∷ []) payloads)
+
+-- behind two lists it is what is in force behind the second, from the first on
+pub state_after_append : (c : Statement) (s : StatementState) (xs ys : List (List ℕ)) → state_after c s (xs ++ ys) ≡ state_after c (state_after c s xs) ys
+state_after_append c s [] ys = refl
+state_after_append c s (x ∷ xs) ys = state_after_append c (after c s x) xs ys
 
 -- ---- the last word
 
@@ -120,8 +136,11 @@ last_seam : {A : Type 0} (o : Option A) (xs : List A) (y : A) → last_or o (xs 
 last_seam o [] y = refl
 last_seam o (x ∷ xs) y = last_seam (Some x) xs y
 
-pub last_word : (says : List ℕ → Option (Option Types)) (before word : Option Types) (earlier later : List (List ℕ)) (payload : List ℕ) → says payload ≡ Some word → All (λ other. says other ≡ None) later → last_said says before (earlier ++ payload ∷ later) ≡ word
+last_word : (says : List ℕ → Option (Option Types)) (before word : Option Types) (earlier later : List (List ℕ)) (payload : List ℕ) → says payload ≡ Some word → All (λ other. says other ≡ None) later → last_said says before (earlier ++ payload ∷ later) ≡ word
 last_word says before word earlier later payload e none =
     let tail : filter_map says (payload ∷ later) ≡ word ∷ [] = ap (λ o. cons_option o (filter_map says later)) e ∙ ap (λ l. word ∷ l) (silent says later (recursion_from_All (λ other. says other ≡ None) later none)) in
     let all : filter_map says (earlier ++ payload ∷ later) ≡ filter_map says earlier ++ word ∷ [] = filter_map-append says earlier (payload ∷ later) ∙ ap (λ (l : List (Option Types)). filter_map says earlier ++ l) tail in
     ap (λ l. unwrap_or (last_or None l) before) all ∙ ap (λ o. unwrap_or o before) (last_seam None (filter_map says earlier) word)
+
+pub last_word_counts : LastWordCounts
+last_word_counts = record { word = last_word; back = looks_back }

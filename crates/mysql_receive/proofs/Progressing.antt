@@ -20,34 +20,31 @@ use Rattle.mysql_receive.specs.declared.refusal.Refusal.{Refusal}
 use Rattle.mysql_receive.specs.declared.refusal.Refusal.TheVariants as refusal
 use Rattle.mysql_receive.specs.declared.progress.Progress.{Progress}
 use Rattle.mysql_receive.specs.Query.{Statement}
-use Rattle.mysql_receive.specs.InForce.{StatementState, state_after}
-use Rattle.mysql_receive.specs.Reading.{Set, ReadsAs, Faulty, PayloadReadsAs, PayloadFaulty}
-use Rattle.mysql_receive.specs.Audit.{Read}
+use Rattle.mysql_receive.specs.InForce.{StatementState, after as behind_one, state_after}
+use Rattle.mysql_receive.specs.Reading.{Set, ReadsAs, Faulty}
+use Rattle.mysql_receive.specs.Audit.{Reads, nothing}
 use Rattle.mysql_receive.specs.Views.{state_of, sets_of, PayloadJudged}
 use Rattle.mysql_receive.specs.GoingOn.{ReceiverState, Fed, fault_of_rest}
+use Rattle.mysql_receive.specs.GoingOn as going
 use Rattle.mysql_receive.specs.Steps.{ReadOne, OneBy}
 use Rattle.mysql_receive.specs.Parts.{state_of_parts, fault_by, refusal_by, IsOpen}
-use Rattle.mysql_receive.proofs.Looking.{state_after_nil, state_after_append}
-use Rattle.mysql_receive.proofs.Auditing.{read_append, one_read, read_longer, faulty_from}
+use Rattle.mysql_receive.proofs.Looking.{state_after_append}
+use Rattle.mysql_receive.proofs.Auditing.{reads_length, reads_append, one_read, all_reads}
 use Rattle.mysql_receive.proofs.Splits.{some_split, bytes_behind, each_stays}
 
-pub reads_first : (c : Statement) (s : StatementState) (n : ℕ) (payload : List ℕ) (sets : List Set) → n < 2 ^ 64 - 1 → PayloadReadsAs c s payload sets → ReadsAs c s n [] payload sets
-reads_first c s n payload sets few h = (omega arith, subst (λ (st : StatementState). PayloadReadsAs c st payload sets) (sym (state_after_nil c s)) h)
-
-pub fails_first : (c : Statement) (old new : Progress) (payload : List ℕ) (r : Refusal) → old.count < 2 ^ 64 - 1 → PayloadJudged c (state_of old.statement) payload (Err r) → OneBy c old payload new (Err r)
+pub fails_first : (c : Statement) (old new : Progress) (payload : List ℕ) (r : Refusal) → old.count < 2 ^ 64 - 1 → PayloadJudged c (state_of old.state) payload (Err r) → OneBy c old payload new (Err r)
 fails_first c old new payload refusal.Memory few h = tt
-fails_first c old new payload (refusal.Fault f) few h = inr (omega arith, subst (λ (st : StatementState). PayloadFaulty c st payload f) (sym (state_after_nil c (state_of old.statement))) h)
+fails_first c old new payload (refusal.Fault f) few h = inr (few, h)
 
 -- so many payloads of the bytes were handed out, and they were read
 pub record Behind (c : Statement) (limit : ℕ) (old : Progress) (bytes : List ℕ) (codec : Codec) (src packet : List ℕ) (now : Progress) : Type 0 where
   pub payloads : List (List ℕ)
   pub taken : HasRead limit EachFromZero bytes payloads codec src packet
   pub reads : List (List Set)
-  pub each : Read c (state_of old.statement) old.count payloads reads
-  pub all : length reads ≡ length payloads
+  pub each : Reads c (state_of old.state) old.count payloads reads
   pub sets : sets_of now.sets.items ≡ sets_of old.sets.items ++ flat_map (λ sets. sets) reads
   pub count : now.count ≡ old.count + length reads
-  pub statement : state_of now.statement ≡ state_after c (state_of old.statement) payloads
+  pub state : state_of now.state ≡ state_after c (state_of old.state) payloads
 
 module _ (wire : ReaderLaws) (c : Statement) (limit : ℕ) (old : Progress) (bytes : List ℕ) where
   pub behind_none : (codec : Codec) (src packet : List ℕ) → HasRead limit EachFromZero bytes [] codec src packet → Behind c limit old bytes codec src packet old
@@ -56,20 +53,23 @@ module _ (wire : ReaderLaws) (c : Statement) (limit : ℕ) (old : Progress) (byt
         payloads = [];
         taken = h;
         reads = [];
-        each = record { within = omega arith; each = λ i lt. absurd (omega arith) };
-        all = refl;
+        each = nothing;
         sets = sym (append-nil (sets_of old.sets.items));
         count = omega arith;
-        statement = sym (state_after_nil c (state_of old.statement));
+        state = refl;
       }
+
+  -- the number of the next payload
+  next_number : (codec : Codec) (src packet : List ℕ) (mid : Progress) (b : Behind c limit old bytes codec src packet mid) → mid.count ≡ old.count + length b.payloads
+  next_number codec src packet mid b = b.count ∙ ap (λ (n : ℕ). old.count + n) (reads_length c (state_of old.state) old.count b.payloads b.reads b.each)
 
   -- the next payload reads
   next_read : (codec : Codec) (src packet payload : List ℕ) (mid new : Progress) (b : Behind c limit old bytes codec src packet mid) (one : ReadOne c mid payload new)
-      → Read c (state_after c (state_of old.statement) b.payloads) (old.count + length b.payloads) (payload ∷ []) (one.sets ∷ [])
+      → Reads c (state_after c (state_of old.state) b.payloads) (old.count + length b.payloads) (payload ∷ []) (one.sets ∷ [])
   next_read codec src packet payload mid new b one =
-      one_read c (state_after c (state_of old.statement) b.payloads) (old.count + length b.payloads) payload one.sets
-      (subst (λ (k : ℕ). ReadsAs c (state_after c (state_of old.statement) b.payloads) k [] payload one.sets) (omega (arith, b.count, b.all))
-      (subst (λ (st : StatementState). ReadsAs c st mid.count [] payload one.sets) b.statement one.reads))
+      one_read c (state_after c (state_of old.state) b.payloads) (old.count + length b.payloads) payload one.sets
+      (subst (λ (k : ℕ). ReadsAs c (state_after c (state_of old.state) b.payloads) k payload one.sets) (next_number codec src packet mid b)
+      (subst (λ (st : StatementState). ReadsAs c st mid.count payload one.sets) b.state one.reads))
 
   pub behind_more : (codec : Codec) (src packet : List ℕ) (next : Codec) (after payload : List ℕ) (mid new : Progress) → Behind c limit old bytes codec src packet mid → HandsOut codec src packet next after payload → ReadOne c mid payload new
       → Behind c limit old bytes (record next { number = 0 }) after [] new
@@ -78,13 +78,12 @@ module _ (wire : ReaderLaws) (c : Statement) (limit : ℕ) (old : Progress) (byt
         payloads = b.payloads ++ payload ∷ [];
         taken = (wire.takes limit bytes b.payloads codec next src packet after payload h).1 b.taken;
         reads = b.reads ++ one.sets ∷ [];
-        each = read_append c (state_of old.statement) old.count b.payloads (payload ∷ []) b.reads (one.sets ∷ []) b.each b.all (next_read codec src packet payload mid new b one);
-        all = omega (arith, b.all, length-append b.reads (one.sets ∷ []), length-append b.payloads (payload ∷ []));
+        each = reads_append c (state_of old.state) old.count b.payloads (payload ∷ []) b.reads (one.sets ∷ []) b.each (next_read codec src packet payload mid new b one);
         sets = one.more ∙ ap (λ (l : List Set). l ++ one.sets) b.sets ∙ append_assoc (sets_of old.sets.items) (flat_map (λ sets. sets) b.reads) one.sets
             ∙ ap (λ (l : List Set). sets_of old.sets.items ++ l) (ap (λ (l : List Set). flat_map (λ sets. sets) b.reads ++ l) (sym (append-nil one.sets)) ∙ sym (flat_map-append (λ sets. sets) b.reads (one.sets ∷ [])));
         count = omega (arith, one.count, b.count, length-append b.reads (one.sets ∷ []));
-        statement = one.statement ∙ ap (λ (st : StatementState). state_after c st (payload ∷ [])) b.statement
-            ∙ sym (state_after_append c (state_of old.statement) b.payloads (payload ∷ []));
+        state = one.state ∙ ap (λ (st : StatementState). behind_one c st payload) b.state
+            ∙ sym (state_after_append c (state_of old.state) b.payloads (payload ∷ []));
       }
 
   -- the same of a reader whose number was set to 0
@@ -125,10 +124,10 @@ module _ (wire : ReaderLaws) (c : Statement) (limit : ℕ) (old : Progress) (byt
         split = record { payloads = b.payloads; rest_bytes = held (codec_by r) (r.bytes ++ piece) []; rest = w.rest };
         is_split = here (codec_by r) (r.bytes ++ piece) [] now b w.rest w.is_rest;
         reads = b.reads;
-        each = b.each;
+        each = all_reads c (state_of old.state) old.count b.payloads b.reads b.each;
         sets = b.sets;
         count = b.count;
-        stops = inr (inr (b.all, no_fault_of w.rest w.no_fault, λ _. (sym left, b.statement)));
+        stopped = going.all_read (no_fault_of w.rest w.no_fault) (λ _. (sym left, b.state));
       }
 
   pub waits_open : (r new : Incoming) (piece rest : List ℕ) (now : Progress) → AreBytes bytes → r.number ≡ 0 → Behind c limit old bytes (codec_by r) (r.bytes ++ piece) [] now → ReadsOn r piece false new rest →
@@ -156,10 +155,10 @@ module _ (wire : ReaderLaws) (c : Statement) (limit : ℕ) (old : Progress) (byt
         split = s.0;
         is_split = s.1;
         reads = b.reads;
-        each = subst (λ (l : List (List ℕ)). Read c (state_of old.statement) old.count l b.reads) (sym f.1) (read_longer c (state_of old.statement) old.count b.payloads f.0 b.reads b.each);
+        each = record { front = b.payloads; left = f.0; cut = f.1; each = b.each };
         sets = sets ∙ b.sets;
         count = count ∙ b.count;
-        stops = inr (inl refl);
+        stopped = going.memory refl;
       }
 
   -- the codec refuses
@@ -174,20 +173,20 @@ module _ (wire : ReaderLaws) (c : Statement) (limit : ℕ) (old : Progress) (byt
             split = record { payloads = b.payloads; rest_bytes = held codec src packet; rest = TooLargeRest };
             is_split = here codec src packet now b TooLargeRest due;
             reads = b.reads;
-            each = b.each;
+            each = all_reads c (state_of old.state) old.count b.payloads b.reads b.each;
             sets = b.sets;
             count = b.count;
-            stops = inr (inr (b.all, refl, λ e. absurd cc));
+            stopped = going.all_read refl (λ e. absurd cc);
           }
       by codec_refusal.OutOfSync due =
           record {
             split = record { payloads = b.payloads; rest_bytes = held codec src packet; rest = OutOfSyncRest };
             is_split = here codec src packet now b OutOfSyncRest due;
             reads = b.reads;
-            each = b.each;
+            each = all_reads c (state_of old.state) old.count b.payloads b.reads b.each;
             sets = b.sets;
             count = b.count;
-            stops = inr (inr (b.all, refl, λ e. absurd cc));
+            stopped = going.all_read refl (λ e. absurd cc);
           }
       by codec_refusal.Memory due = memory_fed codec src packet partial now now are b refl refl
 
@@ -201,29 +200,17 @@ module _ (wire : ReaderLaws) (c : Statement) (limit : ℕ) (old : Progress) (byt
       let taken = (wire.takes limit bytes b.payloads codec next src packet after payload h).1 b.taken in
       let found = wire.come_first limit EachFromZero (b.payloads ++ payload ∷ []) bytes (held (record next { number = 0 }) after []) s.0 taken.within taken.joined s.1 in
       let is : s.0.payloads ≡ b.payloads ++ (payload ∷ found.0) = found.1 ∙ append_assoc b.payloads (payload ∷ []) found.0 in
-      let moved : Faulty c (state_after c (state_of old.statement) b.payloads) (old.count + length b.payloads) [] payload f =
-      subst (λ (k : ℕ). Faulty c (state_after c (state_of old.statement) b.payloads) k [] payload f) (omega (arith, b.count, b.all))
-      (subst (λ (st : StatementState). Faulty c st mid.count [] payload f) b.statement one) in
-      let here_it_is : Faulty c (state_of old.statement) old.count b.payloads payload f =
-      subst (λ (l : List (List ℕ)). Faulty c (state_of old.statement) old.count l payload f) (append-nil b.payloads)
-      (faulty_from c (state_of old.statement) old.count b.payloads [] payload f moved) in
-      let front : take (length b.reads) s.0.payloads ≡ b.payloads = ap (λ (n : ℕ). take n s.0.payloads) b.all ∙ ap (λ (l : List (List ℕ)). take (length b.payloads) l) is ∙ take-append_seam b.payloads (payload ∷ found.0) in
-      let at : get_or s.0.payloads (length b.reads) [] ≡ payload =
-      ap (λ (l : List (List ℕ)). get_or l (length b.reads) []) is ∙ ap (λ (n : ℕ). get_or (b.payloads ++ (payload ∷ found.0)) n []) (b.all ∙ omega arith) ∙ get_or-append-add b.payloads (payload ∷ found.0) 0 [] in
+      let here_it_is : Faulty c (state_after c (state_of old.state) b.payloads) now.count payload f =
+      subst (λ (k : ℕ). Faulty c (state_after c (state_of old.state) b.payloads) k payload f) (sym count)
+      (subst (λ (st : StatementState). Faulty c st mid.count payload f) b.state one) in
       record {
         split = s.0;
         is_split = s.1;
         reads = b.reads;
-        each = subst (λ (l : List (List ℕ)). Read c (state_of old.statement) old.count l b.reads) (sym is) (read_longer c (state_of old.statement) old.count b.payloads (payload ∷ found.0) b.reads b.each);
+        each = record { front = b.payloads; left = payload ∷ found.0; cut = is; each = b.each };
         sets = sets ∙ b.sets;
         count = count ∙ b.count;
-        stops = inl (
-          f,
-          omega (arith, ap length is, b.all, length-append b.payloads (payload ∷ found.0)),
-          subst (λ (p : List ℕ). Faulty c (state_of old.statement) old.count (take (length b.reads) s.0.payloads) p f) (sym at)
-              (subst (λ (l : List (List ℕ)). Faulty c (state_of old.statement) old.count l payload f) (sym front) here_it_is),
-          refl,
-        );
+        stopped = going.fault f here_it_is refl;
       }
 
 -- a piece comes behind what is held
@@ -232,4 +219,4 @@ piece_reads wire r piece o = wire.feeds r.limit EachFromZero r.bytes [] (codec_b
 
 -- what was held before the piece and the piece are one list of bytes
 pub piece_fed : (c : Statement) (limit : ℕ) (old : Progress) (bytes piece : List ℕ) (new : ReceiverState) → Fed c limit (state_of_parts old [] None) (bytes ++ piece) new → Fed c limit (state_of_parts old bytes None) piece new
-piece_fed c limit old bytes piece new h = record { split = h.split; is_split = h.is_split; reads = h.reads; each = h.each; sets = h.sets; count = h.count; stops = h.stops }
+piece_fed c limit old bytes piece new h = record { split = h.split; is_split = h.is_split; reads = h.reads; each = h.each; sets = h.sets; count = h.count; stopped = h.stopped }

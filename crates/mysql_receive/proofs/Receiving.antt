@@ -22,31 +22,33 @@ use Rattle.mysql_receive.specs.declared.audit.End.TheVariants as ends
 use Rattle.mysql_receive.specs.declared.receiver.Receiver.TheInside.{Inside}
 use Rattle.mysql_receive.specs.Query.{Statement}
 use Rattle.mysql_receive.specs.InForce.{StatementState, is_waiting, state_after, nothing_yet}
-use Rattle.mysql_receive.specs.Audit.{Audit, Audited, OutOfMemory, IsNoFault, end_by_rest}
-use Rattle.mysql_receive.specs.GoingOn.{ReceiverState, fresh_receiver, ReceiverDecidesBy, ReceiverDecides, ReceiverGoesOn, HasFoundNoFault, Fed, Stops, TakesAll, RunsShort, fault_of_rest}
+use Rattle.mysql_receive.specs.GoingOn as going
+use Rattle.mysql_receive.specs.Audit as audits
+use Rattle.mysql_receive.specs.Audit.{Audit, Reads, nothing, Audited, OutOfMemory, IsNoFault, end_by_rest}
+use Rattle.mysql_receive.specs.GoingOn.{ReceiverState, fresh_receiver, ReceiverDecidesBy, ReceiverDecides, ReceiverGoesOn, HasFoundNoFault, Fed, WhyStopped, TakesAll, RunsShort, fault_of_rest}
 use Rattle.mysql_receive.specs.Taking.{Feeds}
-use Rattle.mysql_receive.specs.Views.{statement_view, piece_kept, state_of, sets_of}
+use Rattle.mysql_receive.specs.Views.{statement_view, data_waiting, state_of, sets_of}
 use Rattle.mysql_receive.specs.Receiving.{IsMemory, answer_by}
 use Rattle.mysql_receive.specs.Parts.{IsOpen, state_of_parts, end_by}
-use Rattle.mysql_receive.specs.Received.{Received, piece_in, receiver_state}
-use Rattle.mysql_receive.specs.Inside.{pieces_of, received_of, IsKept}
-use Rattle.mysql_receive.proofs.Looking.{state_after_nil}
+use Rattle.mysql_receive.specs.Received.{Received, data_in, receiver_state}
+use Rattle.mysql_receive.specs.Inside.{long_data_of, received_of, IsKept}
+use Rattle.mysql_receive.proofs.Auditing.{all_reads, reads_length}
 use Rattle.mysql_receive.proofs.Splits.{bytes_append}
 use Rattle.mysql_receive.proofs.Feeding.{goes_on, takes_append, short_append, none_found, none_taken, start_decides}
 
-kept_pieces : (xs : List (Option (Vec ℕ))) (k : ℕ) → piece_in (pieces_of xs) k ≡ piece_kept xs k
-kept_pieces [] zero = refl
-kept_pieces [] (suc k) = refl
-kept_pieces (x ∷ xs) zero = refl
-kept_pieces (x ∷ xs) (suc k) = kept_pieces xs k
+kept_data : (xs : List (Option (Vec ℕ))) (k : ℕ) → data_in (long_data_of xs) k ≡ data_waiting xs k
+kept_data [] zero = refl
+kept_data [] (suc k) = refl
+kept_data (x ∷ xs) zero = refl
+kept_data (x ∷ xs) (suc k) = kept_data xs k
 
 pub receiver_state_is : (r : Inside) → receiver_state (received_of r) ≡ state_of_parts r.progress r.packets.bytes r.fault
 receiver_state_is r = λ i. record {
   count = r.progress.count;
-  statement = record {
-    prepared = r.progress.statement.prepared;
-    types = (state_of r.progress.statement).types;
-    pieces = λ place. kept_pieces r.progress.statement.pieces.items place i;
+  state = record {
+    prepared = r.progress.state.prepared;
+    types = (state_of r.progress.state).types;
+    long_data = λ place. kept_data r.progress.state.long_data.items place i;
   };
   partial = r.packets.bytes;
   sets = sets_of r.progress.sets.items;
@@ -69,11 +71,11 @@ start_open wire r limit e = subst IsOpen (sym e) (record {
   is_rest = (wire.rests limit 0).0;
 })
 
-pub holds_start : (pieces : Vec (Option (Vec ℕ))) (sets : Vec (Vec Content)) (partial : List ℕ) → pieces.items ≡ [] → sets.items ≡ [] → partial ≡ []
-    → state_of_parts (record { statement = record { prepared = false; types = None; pieces = pieces }; sets = sets; count = 0 }) partial None ≡ fresh_receiver
-holds_start pieces sets partial p s h = λ i. record {
+pub holds_start : (waiting : Vec (Option (Vec ℕ))) (sets : Vec (Vec Content)) (partial : List ℕ) → waiting.items ≡ [] → sets.items ≡ [] → partial ≡ []
+    → state_of_parts (record { state = record { prepared = false; types = None; long_data = waiting }; sets = sets; count = 0 }) partial None ≡ fresh_receiver
+holds_start waiting sets partial p s h = λ i. record {
   count = 0;
-  statement = record { prepared = false; types = None; pieces = piece_kept (p i) };
+  state = record { prepared = false; types = None; long_data = data_waiting (p i) };
   partial = h i;
   sets = sets_of (s i);
   fault = None;
@@ -96,67 +98,69 @@ pub on_by : {P : Type 0} (o : Option StreamFault) → (o ≡ Some Memory → P) 
 on_by o h e = h (memory_is o e)
 
 -- a fault that is held stays
-pub stays_on : (v : Received) (piece : List ℕ) (f : StreamFault) → v.fault ≡ Some f → ReceiverGoesOn v.conversation v.limit (receiver_state v) piece (receiver_state v)
+pub stays_on : (v : Received) (piece : List ℕ) (f : StreamFault) → v.fault ≡ Some f → ReceiverGoesOn v.statement v.limit (receiver_state v) piece (receiver_state v)
 stays_on v piece f e z a more d =
-    subst (λ (o : Option StreamFault). ReceiverDecidesBy v.conversation v.limit (receiver_state v) o (piece ++ z) a) (sym e)
-    (subst (λ (o : Option StreamFault). ReceiverDecidesBy v.conversation v.limit (receiver_state v) o z a) e d)
+    subst (λ (o : Option StreamFault). ReceiverDecidesBy v.statement v.limit (receiver_state v) o (piece ++ z) a) (sym e)
+    (subst (λ (o : Option StreamFault). ReceiverDecidesBy v.statement v.limit (receiver_state v) o z a) e d)
 
 -- ---- a piece, by what is held before and after it
 
 module _ (r new : Inside) (v : Received) (piece : List ℕ) (o : Option StreamFault) (view : received_of r ≡ v) (is : new.fault ≡ o) where
   -- what is held of the two
   by_views : (P : Statement → ℕ → ReceiverState → ReceiverState → Type 0) → r.fault ≡ None
-      → P (statement_view r.conversation) r.packets.limit (state_of_parts r.progress r.packets.bytes None) (state_of_parts new.progress new.packets.bytes o) → P v.conversation v.limit (receiver_state v) (receiver_state (received_of new))
+      → P (statement_view r.statement) r.packets.limit (state_of_parts r.progress r.packets.bytes None) (state_of_parts new.progress new.packets.bytes o) → P v.statement v.limit (receiver_state v) (receiver_state (received_of new))
   by_views P none h =
       let e : receiver_state (received_of r) ≡ state_of_parts r.progress r.packets.bytes None = receiver_state_is r ∙ ap (λ (f : Option StreamFault). state_of_parts r.progress r.packets.bytes f) none in
       let d : receiver_state (received_of new) ≡ state_of_parts new.progress new.packets.bytes o = receiver_state_is new ∙ ap (λ (f : Option StreamFault). state_of_parts new.progress new.packets.bytes f) is in
-      subst (λ (x : Received). P x.conversation x.limit (receiver_state x) (receiver_state (received_of new))) view
-      (subst (λ (x : ReceiverState). P (statement_view r.conversation) r.packets.limit x (receiver_state (received_of new))) (sym e)
-      (subst (λ (x : ReceiverState). P (statement_view r.conversation) r.packets.limit (state_of_parts r.progress r.packets.bytes None) x) (sym d) h))
+      subst (λ (x : Received). P x.statement x.limit (receiver_state x) (receiver_state (received_of new))) view
+      (subst (λ (x : ReceiverState). P (statement_view r.statement) r.packets.limit x (receiver_state (received_of new))) (sym e)
+      (subst (λ (x : ReceiverState). P (statement_view r.statement) r.packets.limit (state_of_parts r.progress r.packets.bytes None) x) (sym d) h))
 
   pub fed_feed : ReaderLaws → IsKept r → r.fault ≡ None → AreBytes piece → (o ≡ Some Memory → ⊥)
-      → Fed (statement_view r.conversation) r.packets.limit (state_of_parts r.progress r.packets.bytes None) piece (state_of_parts new.progress new.packets.bytes o)
-      → ReceiverGoesOn v.conversation v.limit (receiver_state v) piece (receiver_state (received_of new))
+      → Fed (statement_view r.statement) r.packets.limit (state_of_parts r.progress r.packets.bytes None) piece (state_of_parts new.progress new.packets.bytes o)
+      → ReceiverGoesOn v.statement v.limit (receiver_state v) piece (receiver_state (received_of new))
   fed_feed wire kept none are no_memory fed =
       by_views (λ c limit old after. ReceiverGoesOn c limit old piece after) none
-      (goes_on wire (statement_view r.conversation) r.packets.limit (state_of_parts r.progress r.packets.bytes None) (state_of_parts new.progress new.packets.bytes o) piece
+      (goes_on wire (statement_view r.statement) r.packets.limit (state_of_parts r.progress r.packets.bytes None) (state_of_parts new.progress new.packets.bytes o) piece
       (bytes_append r.packets.bytes piece (kept.stays none).bytes are) refl fed no_memory)
 
   pub fed_short : r.fault ≡ None → o ≡ Some Memory
-      → Fed (statement_view r.conversation) r.packets.limit (state_of_parts r.progress r.packets.bytes None) piece (state_of_parts new.progress new.packets.bytes o)
-      → RunsShort v.conversation v.limit (receiver_state v) piece (receiver_state (received_of new))
+      → Fed (statement_view r.statement) r.packets.limit (state_of_parts r.progress r.packets.bytes None) piece (state_of_parts new.progress new.packets.bytes o)
+      → RunsShort v.statement v.limit (receiver_state v) piece (receiver_state (received_of new))
   fed_short none memory fed =
-      by_views (λ c limit old after. RunsShort c limit old piece after) none (short_by (statement_view r.conversation) r.packets.limit _ piece _ memory fed)
+      by_views (λ c limit old after. RunsShort c limit old piece after) none (short_by (statement_view r.statement) r.packets.limit _ piece _ memory fed)
 
 -- a piece without a fault
 takes_by : (c : Statement) (limit : ℕ) (old : ReceiverState) (piece : List ℕ) (new : ReceiverState) → new.fault ≡ None → Fed c limit old piece new → TakesAll c limit old piece new
-takes_by c limit old piece new none fed = by fed.stops
+takes_by c limit old piece new none fed = by fed.each.left fed.each.cut fed.stopped
   where
-    by : Stops c old fed.split (length fed.reads) new → TakesAll c limit old piece new
-    by (inl k) = absurd (let f = sym none ∙ k.3 in cc)
-    by (inr (inl k)) = absurd (let f = sym none ∙ k in cc)
-    by (inr (inr k)) = record {
-      split = fed.split;
-      is_split = fed.is_split;
-      no_fault = sym k.1 ∙ none;
-      partial = (k.2 none).0;
-      count = fed.count ∙ ap (λ (n : ℕ). old.count + n) k.0;
-      reads = fed.reads;
-      each = fed.each;
-      all = k.0;
-      sets = fed.sets;
-      statement = (k.2 none).1;
-    }
+    by : (left : List (List ℕ)) → fed.split.payloads ≡ fed.each.front ++ left → WhyStopped c (state_after c old.state fed.each.front) fed.split new left → TakesAll c limit old piece new
+    by left cut (going.fault f h is) = absurd (let g = sym none ∙ is in cc)
+    by left cut (going.memory is) = absurd (let g = sym none ∙ is in cc)
+    by left cut (going.all_read is rests) =
+        let all : fed.split.payloads ≡ fed.each.front = cut ∙ append-nil fed.each.front in
+        let long : length fed.reads ≡ length fed.split.payloads = reads_length c old.state old.count fed.each.front fed.reads fed.each.each ∙ ap length (sym all) in
+        record {
+          split = fed.split;
+          is_split = fed.is_split;
+          no_fault = sym is ∙ none;
+          partial = (rests none).0;
+          count = fed.count ∙ ap (λ (n : ℕ). old.count + n) long;
+          reads = fed.reads;
+          each = subst (λ (l : List (List ℕ)). Reads c old.state old.count l fed.reads) (sym all) fed.each.each;
+          sets = fed.sets;
+          state = (rests none).1 ∙ ap (λ (l : List (List ℕ)). state_after c old.state l) (sym all);
+        }
 
 pub fed_takes : (r new : Inside) (v : Received) (piece : List ℕ) → received_of r ≡ v → new.fault ≡ None → r.fault ≡ None
-    → Fed (statement_view r.conversation) r.packets.limit (state_of_parts r.progress r.packets.bytes None) piece (state_of_parts new.progress new.packets.bytes None)
-    → TakesAll v.conversation v.limit (receiver_state v) piece (receiver_state (received_of new))
+    → Fed (statement_view r.statement) r.packets.limit (state_of_parts r.progress r.packets.bytes None) piece (state_of_parts new.progress new.packets.bytes None)
+    → TakesAll v.statement v.limit (receiver_state v) piece (receiver_state (received_of new))
 fed_takes r new v piece view is none fed =
-    by_views r new v piece None view is (λ c limit old after. TakesAll c limit old piece after) none (takes_by (statement_view r.conversation) r.packets.limit _ piece _ refl fed)
+    by_views r new v piece None view is (λ c limit old after. TakesAll c limit old piece after) none (takes_by (statement_view r.statement) r.packets.limit _ piece _ refl fed)
 
 -- a piece without a fault leaves none to be found
-pub found_none : ReaderLaws → (r : Inside) → r.fault ≡ None → IsOpen r.packets → HasFoundNoFault (statement_view r.conversation) r.packets.limit (receiver_state (received_of r))
-found_none wire r none open_now = none_found wire (statement_view r.conversation) r.packets.limit (receiver_state (received_of r)) open_now.rest none open_now.bytes open_now.no_fault open_now.is_rest
+pub found_none : ReaderLaws → (r : Inside) → r.fault ≡ None → IsOpen r.packets → HasFoundNoFault (statement_view r.statement) r.packets.limit (receiver_state (received_of r))
+found_none wire r none open_now = none_found wire (statement_view r.statement) r.packets.limit (receiver_state (received_of r)) open_now.rest none open_now.bytes open_now.no_fault open_now.is_rest
 
 -- ---- the end
 
@@ -190,27 +194,26 @@ decides_now : ReaderLaws → (c : Statement) (r : Inside) → IsKept r → (begu
 decides_now wire c r kept begun b ending is (Some f) e = (refl, is ∙ ap (λ (o : Option StreamFault). end_by c (state_of_parts r.progress [] r.fault) begun o) e)
 decides_now wire c r kept begun b ending is None e =
     let k = kept.stays e in
-    let s : StatementState = state_of r.progress.statement in
+    let s : StatementState = state_of r.progress.state in
     let n : ℕ = r.progress.count in
     let split : Split = record { payloads = []; rest_bytes = r.packets.bytes; rest = k.rest } in
     let is_split : IsSplit r.packets.limit EachFromZero (r.packets.bytes ++ []) split = record { joined = append-nil r.packets.bytes; within = tt; ends = k.is_rest } in
-    let last : ending ≡ end_by_rest c (state_after c s []) (n + 0) k.rest =
+    let last : ending ≡ end_by_rest c s (n + 0) k.rest =
     is ∙ ap (λ (o : Option StreamFault). end_by c (state_of_parts r.progress [] r.fault) begun o) e
-    ∙ ends_now wire c s (n + 0) r.packets.limit k.rest begun r.packets.bytes k.no_fault k.is_rest (told_begun (length r.packets.bytes == 0) begun b)
-    ∙ ap (λ (x : StatementState). end_by_rest c x (n + 0) k.rest) (sym (state_after_nil c s)) in (
+    ∙ ends_now wire c s (n + 0) r.packets.limit k.rest begun r.packets.bytes k.no_fault k.is_rest (told_begun (length r.packets.bytes == 0) begun b) in (
       split,
       [],
       is_split,
       sym (append-nil (sets_of r.progress.sets.items)),
-      record { reads = []; each = record { within = omega arith; each = λ i lt. absurd (omega arith) }; sets = refl; ending = inr (refl, last) },
+      record { reads = []; each = all_reads c s n [] [] nothing; sets = refl; ending = audits.all_read last },
     )
 
-pub finished : ReaderLaws → (r : Inside) (v : Received) (begun : Bool) (ending : End) → received_of r ≡ v → IsKept r → begun ≡ not (length r.packets.bytes == 0) → ending ≡ end_by (statement_view r.conversation) (state_of_parts r.progress [] r.fault) begun r.fault
-    → ReceiverDecides v.conversation v.limit (receiver_state v) [] (record { sets = sets_of r.progress.sets.items; ending = ending })
+pub finished : ReaderLaws → (r : Inside) (v : Received) (begun : Bool) (ending : End) → received_of r ≡ v → IsKept r → begun ≡ not (length r.packets.bytes == 0) → ending ≡ end_by (statement_view r.statement) (state_of_parts r.progress [] r.fault) begun r.fault
+    → ReceiverDecides v.statement v.limit (receiver_state v) [] (record { sets = sets_of r.progress.sets.items; ending = ending })
 finished wire r v begun ending view kept b is =
-    let c = statement_view r.conversation in
+    let c = statement_view r.statement in
     let a : Audit = record { sets = sets_of r.progress.sets.items; ending = ending } in
-    subst (λ (x : Received). ReceiverDecides x.conversation x.limit (receiver_state x) [] a) view
+    subst (λ (x : Received). ReceiverDecides x.statement x.limit (receiver_state x) [] a) view
     (subst (λ (h : ReceiverState). ReceiverDecides c r.packets.limit h [] a) (sym (receiver_state_is r)) (decides_now wire c r kept begun b ending is r.fault refl))
 
 -- ---- all pieces
@@ -254,10 +257,9 @@ takes_nothing wire c limit = record {
   partial = refl;
   count = refl;
   reads = [];
-  each = record { within = omega arith; each = λ i lt. absurd (omega arith) };
-  all = refl;
+  each = nothing;
   sets = refl;
-  statement = sym (state_after_nil c nothing_yet);
+  state = refl;
 }
 
 pub so_far_nothing : ReaderLaws → (c : Statement) (limit : ℕ) → SoFar c limit [] fresh_receiver
@@ -367,34 +369,34 @@ module _ (wire : ReaderLaws) (c : Statement) (limit : ℕ) (pieces : List (List 
       (start_decides c limit (concat pieces) a).0 (subst (λ (l : List ℕ). ReceiverDecides c limit fresh_receiver l a) (append-nil (concat pieces)) (on [] a no_bytes d))
 
 -- the answer over all pieces
-pub memory_over : ReaderLaws → (v : Received) (limit : ℕ) (fed all : List (List ℕ)) (a : Audit) → v.limit ≡ limit → fed ≡ all → SoFar v.conversation v.limit fed (receiver_state v) → ReceiverDecides v.conversation v.limit (receiver_state v) [] a
-    → IsMemory a.ending → OutOfMemory v.conversation limit all a
+pub memory_over : ReaderLaws → (v : Received) (limit : ℕ) (fed all : List (List ℕ)) (a : Audit) → v.limit ≡ limit → fed ≡ all → SoFar v.statement v.limit fed (receiver_state v) → ReceiverDecides v.statement v.limit (receiver_state v) [] a
+    → IsMemory a.ending → OutOfMemory v.statement limit all a
 memory_over wire v limit fed all a l e h d m =
-    subst (λ (n : ℕ). OutOfMemory v.conversation n all a) l
-    (subst (λ (pieces : List (List ℕ)). OutOfMemory v.conversation v.limit pieces a) e (memory_so_far wire v.conversation v.limit fed (receiver_state v) a h d m))
+    subst (λ (n : ℕ). OutOfMemory v.statement n all a) l
+    (subst (λ (pieces : List (List ℕ)). OutOfMemory v.statement v.limit pieces a) e (memory_so_far wire v.statement v.limit fed (receiver_state v) a h d m))
 
-pub audit_over : ReaderLaws → (v : Received) (limit : ℕ) (fed : List (List ℕ)) (all : List ℕ) (a : Audit) → v.limit ≡ limit → concat fed ≡ all → SoFar v.conversation v.limit fed (receiver_state v) → ReceiverDecides v.conversation v.limit (receiver_state v) [] a
-    → (IsMemory a.ending → ⊥) → Audited v.conversation limit all a
+pub audit_over : ReaderLaws → (v : Received) (limit : ℕ) (fed : List (List ℕ)) (all : List ℕ) (a : Audit) → v.limit ≡ limit → concat fed ≡ all → SoFar v.statement v.limit fed (receiver_state v) → ReceiverDecides v.statement v.limit (receiver_state v) [] a
+    → (IsMemory a.ending → ⊥) → Audited v.statement limit all a
 audit_over wire v limit fed all a l e h d none =
-    subst (λ (n : ℕ). Audited v.conversation n all a) l
-    (subst (λ (bytes : List ℕ). Audited v.conversation v.limit bytes a) e (audit_so_far wire v.conversation v.limit fed (receiver_state v) a h d none))
+    subst (λ (n : ℕ). Audited v.statement n all a) l
+    (subst (λ (bytes : List ℕ). Audited v.statement v.limit bytes a) e (audit_so_far wire v.statement v.limit fed (receiver_state v) a h d none))
 
 -- what a feed says, as one record
 pub feeds_of : (mid new : Received) (piece : List ℕ) (result : Result (Unit {0}) StreamFault) → result ≡ answer_by new.fault
-    → ((result ≡ Err Memory → ⊥) → ReceiverGoesOn mid.conversation mid.limit (receiver_state mid) piece (receiver_state new)) → (mid.fault ≡ None → result ≡ Err Memory → RunsShort mid.conversation mid.limit (receiver_state mid) piece (receiver_state new))
-    → OnOk result (TakesAll mid.conversation mid.limit (receiver_state mid) piece (receiver_state new)) → IfSome mid.fault (λ fault. (result ≡ Err fault) × (new ≡ mid))
-    → Feeds mid.conversation mid.limit (receiver_state mid) piece (receiver_state new)
+    → ((result ≡ Err Memory → ⊥) → ReceiverGoesOn mid.statement mid.limit (receiver_state mid) piece (receiver_state new)) → (mid.fault ≡ None → result ≡ Err Memory → RunsShort mid.statement mid.limit (receiver_state mid) piece (receiver_state new))
+    → OnOk result (TakesAll mid.statement mid.limit (receiver_state mid) piece (receiver_state new)) → IfSome mid.fault (λ fault. (result ≡ Err fault) × (new ≡ mid))
+    → Feeds mid.statement mid.limit (receiver_state mid) piece (receiver_state new)
 feeds_of mid new piece result answer on short takes stays = record {
   goes_on = λ never. on (λ e. never (memory_is new.fault (sym answer ∙ e)));
   short = λ none e. short none (answer ∙ ap answer_by e);
-  takes = λ none. subst (λ (r : Result (Unit {0}) StreamFault). OnOk r (TakesAll mid.conversation mid.limit (receiver_state mid) piece (receiver_state new))) (answer ∙ ap answer_by none) takes;
+  takes = λ none. subst (λ (r : Result (Unit {0}) StreamFault). OnOk r (TakesAll mid.statement mid.limit (receiver_state mid) piece (receiver_state new))) (answer ∙ ap answer_by none) takes;
   stays = λ f e. ap receiver_state (subst (λ (o : Option StreamFault). IfSome o (λ fault. (result ≡ Err fault) × (new ≡ mid))) e stays).1;
 }
 
 -- one piece more
-pub received_next : ReaderLaws → (mid new : Received) (front : List (List ℕ)) (piece : List ℕ) (next : List (List ℕ)) → new.conversation ≡ mid.conversation → new.limit ≡ mid.limit → AreBytes piece → next ≡ front ++ piece ∷ []
-    → SoFar mid.conversation mid.limit front (receiver_state mid) → Feeds mid.conversation mid.limit (receiver_state mid) piece (receiver_state new) → SoFar new.conversation new.limit next (receiver_state new)
+pub received_next : ReaderLaws → (mid new : Received) (front : List (List ℕ)) (piece : List ℕ) (next : List (List ℕ)) → new.statement ≡ mid.statement → new.limit ≡ mid.limit → AreBytes piece → next ≡ front ++ piece ∷ []
+    → SoFar mid.statement mid.limit front (receiver_state mid) → Feeds mid.statement mid.limit (receiver_state mid) piece (receiver_state new) → SoFar new.statement new.limit next (receiver_state new)
 received_next wire mid new front piece next c l are e p q =
-    subst (λ (pieces : List (List ℕ)). SoFar new.conversation new.limit pieces (receiver_state new)) (sym e)
-    (subst (λ (n : ℕ). SoFar new.conversation n (front ++ piece ∷ []) (receiver_state new)) (sym l)
-    (subst (λ (k : Statement). SoFar k mid.limit (front ++ piece ∷ []) (receiver_state new)) (sym c) (so_far_next wire mid.conversation mid.limit (receiver_state mid) (receiver_state new) front piece are p q)))
+    subst (λ (pieces : List (List ℕ)). SoFar new.statement new.limit pieces (receiver_state new)) (sym e)
+    (subst (λ (n : ℕ). SoFar new.statement n (front ++ piece ∷ []) (receiver_state new)) (sym l)
+    (subst (λ (k : Statement). SoFar k mid.limit (front ++ piece ∷ []) (receiver_state new)) (sym c) (so_far_next wire mid.statement mid.limit (receiver_state mid) (receiver_state new) front piece are p q)))

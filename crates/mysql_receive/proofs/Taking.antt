@@ -57,9 +57,8 @@ module _ (c : Statement) (limit : ℕ) (taken : List Set) where
       count = h.count;
       reads = h.reads;
       each = h.each;
-      all = h.all;
       sets = sets_more h.reads h.sets;
-      statement = h.statement;
+      state = h.state;
     }
 
     short_more : RunsShort c limit old piece new → RunsShort c limit (put_back taken old) piece (put_back taken new)
@@ -105,8 +104,8 @@ takes_of r v result none view e empty = (
   (λ i. record (received_of r) { sets = sets_of (empty i) }) ∙ ap (λ (x : Received). record x { sets = [] }) view,
 )
 
-pub hand_out_of : (old new : Received) (taken : List Set) → taken ≡ old.sets → new ≡ record old { sets = [] } → HandsOut old.conversation old.limit (receiver_state old) taken (receiver_state new)
-hand_out_of old new taken e left = hand_out old.conversation old.limit (receiver_state old) (receiver_state new) taken (e, ap receiver_state left)
+pub hand_out_of : (old new : Received) (taken : List Set) → taken ≡ old.sets → new ≡ record old { sets = [] } → HandsOut old.statement old.limit (receiver_state old) taken (receiver_state new)
+hand_out_of old new taken e left = hand_out old.statement old.limit (receiver_state old) (receiver_state new) taken (e, ap receiver_state left)
 
 -- ---- feeds and takes
 

@@ -1,6 +1,6 @@
 -- What a receiver holds in place of the bytes that it was fed, and what that decides over the bytes still to come.
 -- MySQL: Client/Server Protocol, "MySQL Packets" and "Command Phase".
-use Rattle.std.specs.Prelude.{◌≡◌, ℕ, ◌+◌, ◌<◌, ◌⊎◌, List, [], ◌++◌, length, take, slice_index_or, Option, Some, None}
+use Rattle.std.specs.Prelude.{◌≡◌, ℕ, ◌+◌, List, [], ◌∷◌, ◌++◌, length, Option, Some, None}
 use Rattle.std.specs.List.{flat_map}
 use Rattle.mysql_receive.specs.declared.fault.StreamFault.{StreamFault}
 use Rattle.mysql_receive.specs.declared.fault.StreamFault.TheVariants.{Memory, TooLarge, OutOfSync}
@@ -12,42 +12,44 @@ use Rattle.mysql_wire.specs.Stream.{Rest, Split, IsSplit}
 use Rattle.mysql_wire.specs.Stream.Rest.{Empty as EmptyRest, TooLarge as TooLargeRest, OutOfSync as OutOfSyncRest}
 use Rattle.mysql_wire.specs.Stream.Rest.{Open as OpenRest}
 use Rattle.mysql_wire.specs.Stream.Numbering.{EachFromZero}
-use Rattle.mysql_receive.specs.Audit.{Audit, Audits, Read, IsNoFault}
+use Rattle.mysql_receive.specs.Audit.{Audit, Audits, FrontReads, Reads, IsNoFault}
 use Rattle.mysql_receive.specs.declared.audit.End.TheVariants as ends
 
 -- the payloads read, what is in force behind them, the bytes of the packet that isn't whole, the sets so far, the fault
 pub record ReceiverState : Type 0 where
   pub count : ℕ
-  pub statement : StatementState
+  pub state : StatementState
   pub partial : List ℕ
   pub sets : List Set
   pub fault : Option StreamFault
 
 -- what a receiver holds when it is new
 abbrev pub fresh_receiver : ReceiverState
-fresh_receiver = record { count = 0; statement = nothing_yet; partial = []; sets = []; fault = None }
+fresh_receiver = record { count = 0; state = nothing_yet; partial = []; sets = []; fault = None }
 
 -- The audit that is decided over the bytes still to come: that of the fault, else the sets so far and the audit of the
 -- open bytes with those to come, by what is in force.
 abbrev pub ReceiverDecidesBy : Statement → ℕ → ReceiverState → Option StreamFault → List ℕ → Audit → Type 0
-ReceiverDecidesBy c limit state (Some f) z a = (a.sets ≡ state.sets) × (a.ending ≡ ends.Fault state.count f)
-ReceiverDecidesBy c limit state None z a =
-    (split : Split) × (sets : List Set) × IsSplit limit EachFromZero (state.partial ++ z) split
-    × (a.sets ≡ state.sets ++ sets) ×
-    Audits c state.statement state.count split.payloads split.rest
+ReceiverDecidesBy statement limit held (Some f) z a =
+    (a.sets ≡ held.sets) × (a.ending ≡ ends.Fault held.count f)
+ReceiverDecidesBy statement limit held None z a =
+    (split : Split) × (sets : List Set) × IsSplit limit EachFromZero (held.partial ++ z) split
+    × (a.sets ≡ held.sets ++ sets) ×
+    Audits statement held.state held.count split.payloads split.rest
     (record { sets = sets; ending = a.ending })
 
 abbrev pub ReceiverDecides : Statement → ℕ → ReceiverState → List ℕ → Audit → Type 0
-ReceiverDecides c limit state z a = ReceiverDecidesBy c limit state state.fault z a
+ReceiverDecides statement limit held z a = ReceiverDecidesBy statement limit held held.fault z a
 
 -- Over no more bytes it decides an end that is no fault.
 abbrev pub HasFoundNoFault : Statement → ℕ → ReceiverState → Type 0
-HasFoundNoFault c limit state = (a : Audit) → ReceiverDecides c limit state [] a → IsNoFault a.ending
+HasFoundNoFault statement limit held =
+    (a : Audit) → ReceiverDecides statement limit held [] a → IsNoFault a.ending
 
 -- What the one decides over bytes still to come, the other decides over the piece and them.
 abbrev pub ReceiverGoesOn : Statement → ℕ → ReceiverState → List ℕ → ReceiverState → Type 0
-ReceiverGoesOn c limit old piece new = (z : List ℕ) (a : Audit) → AreBytes z →
-    ReceiverDecides c limit new z a → ReceiverDecides c limit old (piece ++ z) a
+ReceiverGoesOn statement limit old piece new = (z : List ℕ) (a : Audit) → AreBytes z →
+    ReceiverDecides statement limit new z a → ReceiverDecides statement limit old (piece ++ z) a
 
 -- how a rest decides the fault: none, where bytes to come can still make it whole
 abbrev pub fault_of_rest : Rest → Option StreamFault
@@ -56,33 +58,36 @@ fault_of_rest OpenRest = None
 fault_of_rest TooLargeRest = Some TooLarge
 fault_of_rest OutOfSyncRest = Some OutOfSync
 
--- why a reading of payloads ended behind the first of them: by the fault of the next, for want of
--- memory, or all are read and the rest decides
-abbrev pub Stops : Statement → ReceiverState → Split → ℕ → ReceiverState → Type 0
-Stops c old split n new =
-    ((f : StreamFault) × (n < length split.payloads) ×
-    Faulty c old.statement old.count (take n split.payloads)
-    (slice_index_or split.payloads n []) f × (new.fault ≡ Some f))
-    ⊎ (new.fault ≡ Some Memory)
-    ⊎ ((n ≡ length split.payloads) × (new.fault ≡ fault_of_rest split.rest)
-    × (new.fault ≡ None → (new.partial ≡ split.rest_bytes) ×
-    (new.statement ≡ state_after c old.statement split.payloads)))
+-- Why a reading of payloads stopped, where these are left, this is in force and so many were read.
+pub data WhyStopped (statement : Statement) (state : StatementState) (split : Split)
+    (new : ReceiverState) : List (List ℕ) → Type 0 where
+  -- the first that is left is refused
+  fault : {payload : List ℕ} {payloads : List (List ℕ)} (f : StreamFault) →
+      Faulty statement state new.count payload f → new.fault ≡ Some f →
+      WhyStopped statement state split new (payload ∷ payloads)
+  -- memory ran out
+  memory : {left : List (List ℕ)} → new.fault ≡ Some Memory → WhyStopped statement state split new left
+  -- none is left, and the rest decides
+  all_read : new.fault ≡ fault_of_rest split.rest →
+      (new.fault ≡ None → (new.partial ≡ split.rest_bytes) × (new.state ≡ state)) →
+      WhyStopped statement state split new []
 
 -- What is held after a piece, where no fault was held before it: the sets of the payloads that were
 -- read, and why no more.
-pub record Fed (c : Statement) (limit : ℕ) (old : ReceiverState) (piece : List ℕ) (new : ReceiverState) : Type 0 where
+pub record Fed (statement : Statement) (limit : ℕ) (old : ReceiverState) (piece : List ℕ)
+    (new : ReceiverState) : Type 0 where
   pub split : Split
   pub is_split : IsSplit limit EachFromZero (old.partial ++ piece) split
   pub reads : List (List Set)
-  pub each : Read c old.statement old.count split.payloads reads
+  pub each : FrontReads statement old.state old.count split.payloads reads
   pub sets : new.sets ≡ old.sets ++ flat_map (λ sets. sets) reads
   pub count : new.count ≡ old.count + length reads
-  pub stops : Stops c old split (length reads) new
+  pub stopped : WhyStopped statement (state_after statement old.state each.front) split new each.left
 
 -- Each payload that stands whole in what was held of a packet followed by the piece was read; what
 -- is held then is their sets behind those before, what is in force behind them, what is left of the
 -- bytes, and no fault.
-pub record TakesAll (c : Statement) (limit : ℕ) (old : ReceiverState) (piece : List ℕ)
+pub record TakesAll (statement : Statement) (limit : ℕ) (old : ReceiverState) (piece : List ℕ)
     (new : ReceiverState) : Type 0 where
   pub split : Split
   pub is_split : IsSplit limit EachFromZero (old.partial ++ piece) split
@@ -90,20 +95,19 @@ pub record TakesAll (c : Statement) (limit : ℕ) (old : ReceiverState) (piece :
   pub partial : new.partial ≡ split.rest_bytes
   pub count : new.count ≡ old.count + length split.payloads
   pub reads : List (List Set)
-  pub each : Read c old.statement old.count split.payloads reads
-  pub all : length reads ≡ length split.payloads
+  pub each : Reads statement old.state old.count split.payloads reads
   pub sets : new.sets ≡ old.sets ++ flat_map (λ sets. sets) reads
-  pub statement : new.statement ≡ state_after c old.statement split.payloads
+  pub state : new.state ≡ state_after statement old.state split.payloads
 
 -- Memory ran out over the piece: what is held then has the sets of the payloads read before and of
 -- the first payloads of what was held of a packet followed by the piece, however many were read,
 -- and their number.
-pub record RunsShort (c : Statement) (limit : ℕ) (old : ReceiverState) (piece : List ℕ)
+pub record RunsShort (statement : Statement) (limit : ℕ) (old : ReceiverState) (piece : List ℕ)
     (new : ReceiverState) : Type 0 where
   pub split : Split
   pub is_split : IsSplit limit EachFromZero (old.partial ++ piece) split
   pub reads : List (List Set)
-  pub each : Read c old.statement old.count split.payloads reads
+  pub each : FrontReads statement old.state old.count split.payloads reads
   pub sets : new.sets ≡ old.sets ++ flat_map (λ sets. sets) reads
   pub count : new.count ≡ old.count + length reads
   pub fault : new.fault ≡ Some Memory

@@ -1,99 +1,83 @@
--- What is in force after some payloads, found by looking back over them from their end: the last payload that
--- speaks of a thing decides, and where none does, what held before them.
--- MySQL: Client/Server Protocol, "COM_STMT_EXECUTE" (new_params_bind_flag) and "COM_STMT_SEND_LONG_DATA".
-use Rattle.std.specs.Prelude.{ℕ, Bool, true, false, List, [], ◌∷◌, ◌++◌, Option, Some, None, ◌==◌, if◌then◌else◌}
-use Rattle.std.specs.Prelude.{unwrap_or, is_some, bytes_eq}
-use Rattle.std.specs.List.{list_any, filter_map, flat_map, last_or, range_with_len}
-use Rattle.std.specs.Option.{option_and_then, option_map, option_to_list}
+-- What is in force at a payload, and what each command leaves in force.
+-- MySQL: Client/Server Protocol, "COM_STMT_PREPARE", "COM_STMT_EXECUTE" (new_params_bind_flag),
+-- "COM_STMT_SEND_LONG_DATA", "COM_STMT_RESET", "COM_STMT_CLOSE"; MariaDB: "COM_STMT_BULK_EXECUTE".
+use Rattle.std.specs.Prelude.{ℕ, Bool, true, false, List, [], ◌∷◌, ◌++◌, Option, Some, None, Result, Ok, Err}
+use Rattle.std.specs.Prelude.{◌==◌, ◌||◌, if◌then◌else◌, unwrap_or, is_some, bytes_eq}
+use Rattle.std.specs.List.{list_any, range_with_len}
+use Rattle.std.specs.Option.{option_and_then, option_or}
 use Rattle.std.specs.Result.{result_ok}
-use Rattle.mysql_receive.specs.Layout.{Command, command_of, Types, piece_at, execute_head, bulk_head}
+use Rattle.mysql_receive.specs.declared.fault.StreamFault.{StreamFault}
+use Rattle.mysql_receive.specs.Layout.{Command, command_of, PlaceData, Types, place_data_at, execute_head, bulk_head}
 use Rattle.mysql_receive.specs.Layout as layout
 use Rattle.mysql_receive.specs.Query.{Statement, place_count}
 
--- what is in force at a payload
+-- whether the statement is prepared, the types that were sent last, the long data that waits for each place
 pub record StatementState : Type 0 where
   pub prepared : Bool
   pub types : Option Types
-  pub pieces : ℕ → Option (List ℕ)
+  pub long_data : ℕ → Option (List ℕ)
 
--- at the start nothing is
+-- at the start, and behind a close
 abbrev pub nothing_yet : StatementState
-nothing_yet = record { prepared = false; types = None; pieces = λ place. None }
+nothing_yet = record { prepared = false; types = None; long_data = λ place. None }
 
--- the payload's command and body, where it has any byte
-abbrev pub said_by : {A : Type 0} → (Command → List ℕ → Option A) → List ℕ → Option A
-said_by speaks [] = None
-said_by speaks (b ∷ body) = speaks (command_of b) body
+-- behind a prepare: no types, and no data that waits
+abbrev pub freshly_prepared : StatementState
+freshly_prepared = record { prepared = true; types = None; long_data = λ place. None }
 
--- what the last payload says that says anything, else what was before
-abbrev pub last_said : {A : Type 0} → (List ℕ → Option A) → A → List (List ℕ) → A
-last_said says before payloads = unwrap_or (last_or None (filter_map says payloads)) before
+-- with these types, and with this data
+abbrev pub with_types : StatementState → Option Types → StatementState
+with_types state types = record { prepared = state.prepared; types = types; long_data = state.long_data }
 
--- the prepare of the statement's query says that it is prepared, a close that it isn't, and no
--- other payload speaks of it
-abbrev pub speaks_of_prepared : Statement → Command → List ℕ → Option Bool
-speaks_of_prepared c layout.Prepare body = if bytes_eq body c.query.parsed then Some true else None
-speaks_of_prepared c layout.Close body = Some false
-speaks_of_prepared c _ body = None
+abbrev pub with_data : StatementState → (ℕ → Option (List ℕ)) → StatementState
+with_data state waiting = record { prepared = state.prepared; types = state.types; long_data = waiting }
+
+-- without any data that waits
+abbrev pub without_data : StatementState → StatementState
+without_data state = with_data state (λ place. None)
+
+-- data for a place goes behind what waits for it
+abbrev pub more_data : (ℕ → Option (List ℕ)) → ℕ → List ℕ → ℕ → Option (List ℕ)
+more_data waiting place bytes other =
+    if place == other then Some (unwrap_or (waiting other) [] ++ bytes) else waiting other
+
+-- with the data that a command sends, where it sends any
+abbrev pub with_sent : StatementState → Result PlaceData StreamFault → StatementState
+with_sent state (Ok sent) = with_data state (more_data state.long_data sent.place sent.bytes)
+with_sent state (Err fault) = state
 
 -- the types that an execute carries, and those that a bulk does
 abbrev pub execute_types : Statement → List ℕ → Option Types
-execute_types c body = option_and_then (λ head. head.own) (result_ok (execute_head c body))
+execute_types statement body = option_and_then (λ head. head.own) (result_ok (execute_head statement body))
 
 abbrev pub bulk_types : Statement → List ℕ → Option Types
-bulk_types c body = option_and_then (λ head. head.own) (result_ok (bulk_head c body))
+bulk_types statement body = option_and_then (λ head. head.own) (result_ok (bulk_head statement body))
 
--- a prepare and a close say that there are no types; a typed execute or bulk says its own
-abbrev pub speaks_of_types : Statement → Command → List ℕ → Option (Option Types)
-speaks_of_types c layout.Prepare body = Some None
-speaks_of_types c layout.Execute body = option_map (λ types. Some types) (execute_types c body)
-speaks_of_types c layout.Bulk body = option_map (λ types. Some types) (bulk_types c body)
-speaks_of_types c layout.Close body = Some None
-speaks_of_types c _ body = None
+-- What is in force behind a command. A prepare of another query is a fault, and makes nothing prepared.
+abbrev pub after_command : Statement → StatementState → Command → List ℕ → StatementState
+after_command statement state layout.Text body = state
+after_command statement state layout.Prepare body =
+    record freshly_prepared { prepared = bytes_eq body statement.query.parsed || state.prepared }
+after_command statement state layout.LongData body = with_sent state (place_data_at statement body)
+after_command statement state layout.Execute body =
+    without_data (with_types state (option_or (execute_types statement body) state.types))
+after_command statement state layout.Bulk body =
+    with_types state (option_or (bulk_types statement body) state.types)
+after_command statement state layout.Reset body = without_data state
+after_command statement state layout.Close body = nothing_yet
+after_command statement state layout.Other body = state
 
--- a prepare, an execute, a reset and a close end the pieces that wait
-abbrev pub ends_pieces : Command → List ℕ → Option Bool
-ends_pieces layout.Prepare body = Some true
-ends_pieces layout.Execute body = Some true
-ends_pieces layout.Reset body = Some true
-ends_pieces layout.Close body = Some true
-ends_pieces _ body = None
+-- behind a payload, and behind several, one after another
+abbrev pub after : Statement → StatementState → List ℕ → StatementState
+after statement state [] = state
+after statement state (b ∷ body) = after_command statement state (command_of b) body
 
-abbrev pub is_end : List ℕ → Bool
-is_end payload = is_some (said_by ends_pieces payload)
-
--- the data of a piece for this place
-abbrev pub speaks_of_place : Statement → ℕ → Command → List ℕ → Option (List ℕ)
-speaks_of_place c place layout.LongData body =
-    option_and_then (λ piece. if piece.place == place then Some piece.bytes else None)
-    (result_ok (piece_at c body))
-speaks_of_place c place _ body = None
-
--- the elements after the last that passes the test, all of them where none does
-abbrev pub since : {A : Type 0} → (A → Bool) → List A → List A
-since test [] = []
-since test (x ∷ xs) = if list_any test (x ∷ xs) then since test xs else x ∷ xs
-
--- the parts in a row, where there is one
-abbrev pub joined : List (List ℕ) → Option (List ℕ)
-joined [] = None
-joined (x ∷ xs) = Some (flat_map (λ part. part) (x ∷ xs))
-
--- what waits for a place: what waited before, unless an end came, and the data since the last end, in a row
-abbrev pub waiting_for : Statement → Option (List ℕ) → List (List ℕ) → ℕ → Option (List ℕ)
-waiting_for c before payloads place =
-    joined (option_to_list (if list_any is_end payloads then None else before) ++
-    filter_map (said_by (speaks_of_place c place)) (since is_end payloads))
-
--- what is in force after these payloads
 abbrev pub state_after : Statement → StatementState → List (List ℕ) → StatementState
-state_after c s payloads =
-    record {
-      prepared = last_said (said_by (speaks_of_prepared c)) s.prepared payloads;
-      types = last_said (said_by (speaks_of_types c)) s.types payloads;
-      pieces = λ place. waiting_for c (s.pieces place) payloads place;
-    }
+state_after statement state [] = state
+state_after statement state (payload ∷ payloads) =
+    state_after statement (after statement state payload) payloads
 
--- whether pieces wait for any place
+-- whether long data waits for any place
 abbrev pub is_waiting : Statement → StatementState → Bool
-is_waiting c s = list_any (λ place. is_some (s.pieces place)) (range_with_len 0 (place_count c.query))
+is_waiting statement state =
+    list_any (λ place. is_some (state.long_data place)) (range_with_len 0 (place_count statement.query))

@@ -4,12 +4,13 @@
 -- reading takes bytes from the front: x.0 is what was read and x.1 the bytes left; the first
 -- refusal counts.
 use Rattle.std.specs.Prelude.{ℕ, zero, suc, ◌+◌, ◌/◌, Bool, List, [], ◌∷◌, Option, Some, None, Result, Ok, is_some}
-use Rattle.std.specs.Prelude.{nat_lt, nat_le, ◌==◌, ◌||◌, if◌then◌else◌}
+use Rattle.std.specs.Prelude.{nat_lt, nat_le, not, ◌==◌, ◌||◌, if◌then◌else◌}
 use Rattle.mysql_receive.specs.declared.fault.StreamFault.{StreamFault}
 use Rattle.mysql_receive.specs.declared.fault.StreamFault.TheVariants.{WrongId, BadExecute, BadType, BadPlace, BadBulk}
 use Rattle.mysql_receive.specs.declared.param_type.ParamType.{ParamType}
 use Rattle.mysql_const.specs.ColumnTypes.{column_type_named}
 use Rattle.mysql_const.specs.Commands.{command_named}
+use Rattle.mysql_const.specs.FlagSets.{contains}
 use Rattle.mysql_const.specs.declared.command.Command.{Command as Name}
 use Rattle.mysql_const.specs.declared.command.Command.TheVariants.{COM_QUERY, COM_STMT_PREPARE, COM_STMT_SEND_LONG_DATA}
 use Rattle.mysql_const.specs.declared.command.Command.TheVariants.{COM_STMT_EXECUTE, COM_STMT_BULK_EXECUTE}
@@ -53,21 +54,25 @@ Types = List ParamType
 
 -- the statement's id in four bytes
 abbrev pub id_at : Statement → List ℕ → Result (List ℕ) StreamFault
-id_at c bytes = do
+id_at statement bytes = do
   id ← number_or WrongId 4 bytes
-  must WrongId (id.0 == c.id)
+  must WrongId (id.0 == statement.id)
   Ok id.1
 
--- a pair of a type and a flag
+-- the flag of a type: its numbers have no sign
+abbrev pub unsigned_flag : ℕ
+unsigned_flag = 0x80
+
+-- a type and its flag, a byte each
 abbrev pub type_at : StreamFault → List ℕ → Result (ParamType × List ℕ) StreamFault
 type_at short bytes = do
   t ← number_or short 1 bytes
   must BadType (is_type t.0)
   flags ← number_or short 1 t.1
-  must BadType (flags.0 == 0 || flags.0 == 128)
-  Ok (record { number = t.0; unsigned = flags.0 == 128 }, flags.1)
+  must BadType (flags.0 == 0 || flags.0 == unsigned_flag)
+  Ok (record { number = t.0; unsigned = flags.0 == unsigned_flag }, flags.1)
 
--- n pairs
+-- n types, one after another
 unfoldable pub types_at : StreamFault → ℕ → List ℕ → Result (Types × List ℕ) StreamFault
 types_at short zero bytes = Ok ([], bytes)
 types_at short (suc n) bytes = do
@@ -75,17 +80,17 @@ types_at short (suc n) bytes = do
   others ← types_at short n first.1
   Ok (first.0 ∷ others.0, others.1)
 
--- a piece of a place's bytes
-pub record Piece : Type 0 where
+-- long data for a place
+pub record PlaceData : Type 0 where
   pub place : ℕ
   pub bytes : List ℕ
 
 -- the body of a long data command: the id, a place, bytes to the end
-abbrev pub piece_at : Statement → List ℕ → Result Piece StreamFault
-piece_at c body = do
-  rest ← id_at c body
+abbrev pub place_data_at : Statement → List ℕ → Result PlaceData StreamFault
+place_data_at statement body = do
+  rest ← id_at statement body
   place ← number_or BadPlace 2 rest
-  must BadPlace (nat_lt place.0 (place_count c.query))
+  must BadPlace (nat_lt place.0 (place_count statement.query))
   Ok (record { place = place.0; bytes = place.1 })
 
 -- what stands before an execute's cells: the null bitmap, and the types where it carries them
@@ -105,29 +110,47 @@ binding_at n bytes = do
         types ← types_at BadExecute n bound.1
         Ok (record { nulls = nulls.0; own = Some types.0; cells = types.1 })
 
--- the id, no cursor, a count of 1, and with places the binding
+-- the flags of an execute: it opens no cursor (CURSOR_TYPE_NO_CURSOR)
+abbrev pub no_cursor : ℕ
+no_cursor = 0
+
+-- the id, no cursor, an iteration count of 1, and with places the binding
 unfoldable pub execute_head : Statement → List ℕ → Result ExecuteHead StreamFault
-execute_head c body = do
-  rest ← id_at c body
+execute_head statement body = do
+  rest ← id_at statement body
   cursor ← number_or BadExecute 1 rest
-  must BadExecute (cursor.0 == 0)
+  must BadExecute (cursor.0 == no_cursor)
   count ← number_or BadExecute 4 cursor.1
   must BadExecute (count.0 == 1)
-  if place_count c.query == 0 then Ok (record { nulls = []; own = None; cells = count.1 })
-      else binding_at (place_count c.query) count.1
+  if place_count statement.query == 0 then Ok (record { nulls = []; own = None; cells = count.1 })
+      else binding_at (place_count statement.query) count.1
 
 -- what stands before a bulk's rows: the types where it carries them
 pub record BulkHead : Type 0 where
   pub own : Option Types
   pub rows : List ℕ
 
--- the id, the flags, and behind the flag 128 the types
+-- the flags of a bulk: SEND_UNIT_RESULTS and SEND_TYPES_TO_SERVER
+abbrev pub send_unit_results : ℕ
+send_unit_results = 0x40
+
+abbrev pub send_types_to_server : ℕ
+send_types_to_server = 0x80
+
+-- none of the two, either or both, and no other
+abbrev pub are_bulk_flags : ℕ → Bool
+are_bulk_flags flags =
+    flags == 0 || flags == send_unit_results || flags == send_types_to_server
+    || flags == send_unit_results + send_types_to_server
+
+-- The id, the flags, and the types where they are sent. (`mysql_bulk` reads the same layout, but
+-- takes the indicators DEFAULT and IGNORE in its rows, which have no content here.)
 unfoldable pub bulk_head : Statement → List ℕ → Result BulkHead StreamFault
-bulk_head c body = do
-  rest ← id_at c body
+bulk_head statement body = do
+  rest ← id_at statement body
   flags ← number_or BadBulk 2 rest
-  must BadBulk (flags.0 == 0 || flags.0 == 64 || flags.0 == 128 || flags.0 == 192)
-  if nat_lt flags.0 128 then Ok (record { own = None; rows = flags.1 })
+  must BadBulk (are_bulk_flags flags.0)
+  if not (contains flags.0 send_types_to_server) then Ok (record { own = None; rows = flags.1 })
       else do
-        types ← types_at BadBulk (place_count c.query) flags.1
+        types ← types_at BadBulk (place_count statement.query) flags.1
         Ok (record { own = Some types.0; rows = types.1 })

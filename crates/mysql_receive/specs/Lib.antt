@@ -2,6 +2,7 @@ pub mod Fields
 pub mod Query
 pub mod Layout
 pub mod InForce
+pub mod LookingBack
 pub mod Reading
 pub mod Audit
 pub mod GoingOn

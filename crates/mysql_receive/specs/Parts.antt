@@ -51,15 +51,15 @@ abbrev pub state_of_parts : Progress → List ℕ → Option StreamFault → Rec
 state_of_parts p partial fault =
     record {
       count = p.count;
-      statement = state_of p.statement;
+      state = state_of p.state;
       partial = partial;
       sets =
           sets_of p.sets.items;
       fault = fault;
     }
 
--- the end as things stand: the fault, else by the pieces that wait and by whether a packet was begun
+-- the end as things stand: the fault, else by whether long data waits and whether a packet was begun
 abbrev pub end_by : Statement → ReceiverState → Bool → Option StreamFault → End
-end_by c h begun (Some f) = ends.Fault h.count f
-end_by c h begun None = if is_waiting c h.statement then ends.WaitingPieces else if begun then
+end_by statement held begun (Some f) = ends.Fault held.count f
+end_by statement held begun None = if is_waiting statement held.state then ends.WaitingPieces else if begun then
     ends.UnfinishedPacket else ends.Whole

@@ -35,6 +35,10 @@ pub record IsQuery (query : Query) : Type 0 where
   pub parsed : IsParsed query.text query.parsed
   pub places : HasPlaces query.text query.places
 
+-- the most placeholders that a statement can have: they are counted in two bytes
+abbrev pub max_places : ℕ
+max_places = 65535
+
 -- how many placeholders it has
 abbrev pub place_count : Query → ℕ
 place_count query = length query.places

@@ -24,10 +24,11 @@ use Rattle.mysql_wire.specs.WireError.TheVariants.{UnsupportedType}
 use Rattle.mysql_receive.specs.declared.param_type.ParamType.{ParamType}
 use Rattle.mysql_receive.specs.Fields.{◌>>◌, must, number_or}
 use Rattle.mysql_wire.specs.Wire.{◌>>=◌}
-use Rattle.mysql_receive.specs.Query.{Statement, all_alone, place_count}
-use Rattle.mysql_receive.specs.Layout.{Command, command_of, Types, Piece, piece_at, id_at, execute_head, bulk_head}
+use Rattle.mysql_receive.specs.Query.{Statement, all_alone, max_places, place_count}
+use Rattle.mysql_receive.specs.Layout.{Command, command_of, Types, PlaceData, place_data_at, id_at, execute_head}
+use Rattle.mysql_receive.specs.Layout.{bulk_head}
 use Rattle.mysql_receive.specs.Layout as layout
-use Rattle.mysql_receive.specs.InForce.{StatementState, state_after, is_waiting}
+use Rattle.mysql_receive.specs.InForce.{StatementState, is_waiting}
 
 -- one parameter set of the query: what each place holds
 abbrev pub Set : Type 0
@@ -52,10 +53,11 @@ content_at short t bytes = do
 
 -- the types that count: a payload's own, else those in force. Without places there are none
 abbrev pub types_in_force : Statement → StatementState → Option Types → Result Types StreamFault
-types_in_force c s own = if place_count c.query == 0 then Ok [] else ok_or (option_or own s.types) NoTypes
+types_in_force statement state own =
+    if place_count statement.query == 0 then Ok [] else ok_or (option_or own state.types) NoTypes
 
--- what a place of an execute holds: its pieces; else nothing, where its bit is set; else the
--- content of the cell that stands first
+-- what a place of an execute holds: the long data that waits for it; else NULL, where its bit is
+-- set; else the content of the cell that stands first
 abbrev pub parameter_at : Option (List ℕ) → Bool → ParamType → List ℕ → Result (Content × List ℕ) StreamFault
 parameter_at (Some data_bytes) null t bytes = Ok (content.Bytes data_bytes, bytes)
 parameter_at None true t bytes = Ok (content.Null, bytes)
@@ -63,20 +65,20 @@ parameter_at None false t bytes = content_at BadExecute t bytes
 
 -- what the places from this one on hold, place by place, and no byte after them
 unfoldable pub set_at : (ℕ → Option (List ℕ)) → List ℕ → ℕ → Types → List ℕ → Result Set StreamFault
-set_at pieces nulls place [] [] = Ok []
-set_at pieces nulls place [] (b ∷ bytes) = Err BadExecute
-set_at pieces nulls place (t ∷ types) bytes = do
-  first ← parameter_at (pieces place) (is_null_at 0 nulls place) t bytes
-  others ← set_at pieces nulls (place + 1) types first.1
+set_at waiting nulls place [] [] = Ok []
+set_at waiting nulls place [] (b ∷ bytes) = Err BadExecute
+set_at waiting nulls place (t ∷ types) bytes = do
+  first ← parameter_at (waiting place) (is_null_at 0 nulls place) t bytes
+  others ← set_at waiting nulls (place + 1) types first.1
   Ok (first.0 ∷ others)
 
 -- an execute, as one set
 unfoldable pub execute_at : Statement → StatementState → List ℕ → Result Set StreamFault
-execute_at c s body = do
-  must NotPrepared s.prepared
-  head ← execute_head c body
-  types ← types_in_force c s head.own
-  set_at s.pieces head.nulls 0 types head.cells
+execute_at statement state body = do
+  must NotPrepared state.prepared
+  head ← execute_head statement body
+  types ← types_in_force statement state head.own
+  set_at state.long_data head.nulls 0 types head.cells
 
 -- a column of a row: an indicator, 0 and a cell or 1 for nothing
 abbrev pub column_at : ParamType → List ℕ → Result (Content × List ℕ) StreamFault
@@ -115,97 +117,102 @@ pub record FaultyRow (types : Types) (bytes : List ℕ) (f : StreamFault) : Type
 
 -- what stands before a bulk's rows: the types that count, and the bytes of the rows, at least one
 unfoldable pub bulk_rows : Statement → StatementState → List ℕ → Result (Types × List ℕ) StreamFault
-bulk_rows c s body = do
-  must NotPrepared s.prepared
-  must PiecesBeforeBulk (not (is_waiting c s))
-  must BadBulk (nat_lt 0 (place_count c.query))
-  head ← bulk_head c body
-  types ← types_in_force c s head.own
+bulk_rows statement state body = do
+  must NotPrepared state.prepared
+  must PiecesBeforeBulk (not (is_waiting statement state))
+  must BadBulk (nat_lt 0 (place_count statement.query))
+  head ← bulk_head statement body
+  types ← types_in_force statement state head.own
   must NoRows (nat_lt 0 (length head.rows))
   Ok (types, head.rows)
 
 -- a bulk reads as its rows, to the end of its bytes
-pub record BulkReadsAs (c : Statement) (s : StatementState) (body : List ℕ) (sets : List Set) : Type 0 where
+pub record BulkReadsAs (statement : Statement) (state : StatementState) (body : List ℕ) (sets : List Set) : Type 0 where
   pub types : Types
   pub bytes : List ℕ
-  pub found : bulk_rows c s body ≡ Ok (types, bytes)
+  pub found : bulk_rows statement state body ≡ Ok (types, bytes)
   pub rows : RowsAt types bytes sets []
 
 -- its fault is that of what stands before the rows, else that of the first row that doesn't read
 abbrev pub BulkFaulty : Statement → StatementState → List ℕ → StreamFault → Type 0
-BulkFaulty c s body f =
-    (bulk_rows c s body ≡ Err f)
-    ⊎ ((types : Types) × (bytes : List ℕ) × (bulk_rows c s body ≡ Ok (types, bytes)) × FaultyRow types bytes f)
+BulkFaulty statement state body f =
+    (bulk_rows statement state body ≡ Err f)
+    ⊎ ((types : Types) × (bytes : List ℕ) × (bulk_rows statement state body ≡ Ok (types, bytes)) ×
+    FaultyRow types bytes f)
 
--- the piece of a long data command
-unfoldable pub prepared_piece : Statement → StatementState → List ℕ → Result Piece StreamFault
-prepared_piece c s body = do
-  must NotPrepared s.prepared
-  piece_at c body
+-- the data that a long data command sends
+unfoldable pub prepared_data : Statement → StatementState → List ℕ → Result PlaceData StreamFault
+prepared_data statement state body = do
+  must NotPrepared state.prepared
+  place_data_at statement body
 
 -- long data, as no set
 unfoldable pub long_data_at : Statement → StatementState → List ℕ → Result (List Set) StreamFault
-long_data_at c s body = do
-  piece ← prepared_piece c s body
+long_data_at statement state body = do
+  sent ← prepared_data statement state body
   Ok []
 
 -- a reset and a close: the id and nothing behind it, as no set
 unfoldable pub statement_alone_at : Statement → StatementState → List ℕ → Result (List Set) StreamFault
-statement_alone_at c s body = do
-  must NotPrepared s.prepared
-  rest ← id_at c body
+statement_alone_at statement state body = do
+  must NotPrepared state.prepared
+  rest ← id_at statement body
   must WrongId (length rest == 0)
   Ok []
 
 -- A text reads as these contents over a query: it is the query's pieces with a literal of each
--- content between, and its tokens are those of the query and of the literals.
+-- content between, and its tokens are those of the query and of the literals. Where each place
+-- stands alone, the two are one.
 abbrev pub TextReadsAs : List ℕ → List ℕ → Set → Type 0
 TextReadsAs query text contents = Slices query text contents × Lexes query text contents
 
 -- The body of a command reads as these sets. A text is one set where each place stands alone.
 abbrev pub CommandReadsAs : Statement → StatementState → Command → List ℕ → List Set → Type 0
-CommandReadsAs c s layout.Text body sets = IsTrue (all_alone c.query) ×
-    ((contents : Set) × TextReadsAs c.query.text body contents × (sets ≡ contents ∷ []))
-CommandReadsAs c s layout.Prepare body sets = (body ≡ c.query.parsed) × (place_count c.query ≤ 65535) × (sets ≡ [])
-CommandReadsAs c s layout.LongData body sets = long_data_at c s body ≡ Ok sets
-CommandReadsAs c s layout.Execute body sets = (set : Set) × (execute_at c s body ≡ Ok set) × (sets ≡ set ∷ [])
-CommandReadsAs c s layout.Bulk body sets = BulkReadsAs c s body sets
-CommandReadsAs c s layout.Reset body sets = statement_alone_at c s body ≡ Ok sets
-CommandReadsAs c s layout.Close body sets = statement_alone_at c s body ≡ Ok sets
-CommandReadsAs c s layout.Other body sets = ⊥
+CommandReadsAs statement state layout.Text body sets = IsTrue (all_alone statement.query) ×
+    ((contents : Set) × TextReadsAs statement.query.text body contents × (sets ≡ contents ∷ []))
+CommandReadsAs statement state layout.Prepare body sets = (body ≡ statement.query.parsed) ×
+    (place_count statement.query ≤ max_places) × (sets ≡ [])
+CommandReadsAs statement state layout.LongData body sets = long_data_at statement state body ≡ Ok sets
+CommandReadsAs statement state layout.Execute body sets = (set : Set) ×
+    (execute_at statement state body ≡ Ok set) × (sets ≡ set ∷ [])
+CommandReadsAs statement state layout.Bulk body sets = BulkReadsAs statement state body sets
+CommandReadsAs statement state layout.Reset body sets = statement_alone_at statement state body ≡ Ok sets
+CommandReadsAs statement state layout.Close body sets = statement_alone_at statement state body ≡ Ok sets
+CommandReadsAs statement state layout.Other body sets = ⊥
 
 -- This is the body's first fault from the left.
 abbrev pub CommandFaulty : Statement → StatementState → Command → List ℕ → StreamFault → Type 0
-CommandFaulty c s layout.Text body f =
-    (IsFalse (all_alone c.query) × (f ≡ NotAlone))
-    ⊎ (IsTrue (all_alone c.query) × ((contents : Set) → Slices c.query.text body contents → ⊥) × (f ≡ TextMismatch))
-CommandFaulty c s layout.Prepare body f =
-    ((body ≢ c.query.parsed) × (f ≡ PrepareMismatch))
-    ⊎ ((body ≡ c.query.parsed) × (65535 < place_count c.query) × (f ≡ TooManyPlaces))
-CommandFaulty c s layout.LongData body f = long_data_at c s body ≡ Err f
-CommandFaulty c s layout.Execute body f = execute_at c s body ≡ Err f
-CommandFaulty c s layout.Bulk body f = BulkFaulty c s body f
-CommandFaulty c s layout.Reset body f = statement_alone_at c s body ≡ Err f
-CommandFaulty c s layout.Close body f = statement_alone_at c s body ≡ Err f
-CommandFaulty c s layout.Other body f = f ≡ OtherCommand
+CommandFaulty statement state layout.Text body f =
+    (IsFalse (all_alone statement.query) × (f ≡ NotAlone))
+    ⊎ (IsTrue (all_alone statement.query) ×
+    ((contents : Set) → TextReadsAs statement.query.text body contents → ⊥) × (f ≡ TextMismatch))
+CommandFaulty statement state layout.Prepare body f =
+    ((body ≢ statement.query.parsed) × (f ≡ PrepareMismatch))
+    ⊎ ((body ≡ statement.query.parsed) × (max_places < place_count statement.query) × (f ≡ TooManyPlaces))
+CommandFaulty statement state layout.LongData body f = long_data_at statement state body ≡ Err f
+CommandFaulty statement state layout.Execute body f = execute_at statement state body ≡ Err f
+CommandFaulty statement state layout.Bulk body f = BulkFaulty statement state body f
+CommandFaulty statement state layout.Reset body f = statement_alone_at statement state body ≡ Err f
+CommandFaulty statement state layout.Close body f = statement_alone_at statement state body ≡ Err f
+CommandFaulty statement state layout.Other body f = f ≡ OtherCommand
 
 -- a payload reads as these sets where this is in force
 abbrev pub PayloadReadsAs : Statement → StatementState → List ℕ → List Set → Type 0
-PayloadReadsAs c s [] sets = ⊥
-PayloadReadsAs c s (b ∷ body) sets = CommandReadsAs c s (command_of b) body sets
+PayloadReadsAs statement state [] sets = ⊥
+PayloadReadsAs statement state (b ∷ body) sets = CommandReadsAs statement state (command_of b) body sets
 
 -- a payload is refused by this fault
 abbrev pub PayloadFaulty : Statement → StatementState → List ℕ → StreamFault → Type 0
-PayloadFaulty c s [] f = f ≡ EmptyCommand
-PayloadFaulty c s (b ∷ body) f = CommandFaulty c s (command_of b) body f
+PayloadFaulty statement state [] f = f ≡ EmptyCommand
+PayloadFaulty statement state (b ∷ body) f = CommandFaulty statement state (command_of b) body f
 
--- The payload after these earlier ones reads as these sets, or has this fault. Numbering goes on from first; the
--- payload that would have the number 2 ^ 64 - 1 is too large whatever it holds.
-abbrev pub ReadsAs : Statement → StatementState → ℕ → List (List ℕ) → List ℕ → List Set → Type 0
-ReadsAs c s first earlier payload sets = (first + length earlier < 2 ^ 64 - 1) ×
-    PayloadReadsAs c (state_after c s earlier) payload sets
+-- The payload of this number reads as these sets, or has this fault. The payload that would have
+-- the number 2 ^ 64 - 1 is too large whatever it holds.
+abbrev pub ReadsAs : Statement → StatementState → ℕ → List ℕ → List Set → Type 0
+ReadsAs statement state number payload sets =
+    (number < 2 ^ 64 - 1) × PayloadReadsAs statement state payload sets
 
-abbrev pub Faulty : Statement → StatementState → ℕ → List (List ℕ) → List ℕ → StreamFault → Type 0
-Faulty c s first earlier payload f =
-    ((2 ^ 64 - 1 ≤ first + length earlier) × (f ≡ TooLarge))
-    ⊎ ((first + length earlier < 2 ^ 64 - 1) × PayloadFaulty c (state_after c s earlier) payload f)
+abbrev pub Faulty : Statement → StatementState → ℕ → List ℕ → StreamFault → Type 0
+Faulty statement state number payload f =
+    ((2 ^ 64 - 1 ≤ number) × (f ≡ TooLarge))
+    ⊎ ((number < 2 ^ 64 - 1) × PayloadFaulty statement state payload f)

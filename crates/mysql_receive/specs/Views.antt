@@ -16,9 +16,9 @@ use Rattle.mysql_receive.specs.declared.statement.Statement.{Statement as CodeSt
 use Rattle.mysql_receive.specs.declared.statement.StatementState.{StatementState as CodeState}
 use Rattle.mysql_receive.specs.declared.layout.ExecuteHead.{ExecuteHead as CodeExecuteHead}
 use Rattle.mysql_receive.specs.declared.layout.BulkHead.{BulkHead as CodeBulkHead}
-use Rattle.mysql_receive.specs.declared.layout.Piece.{Piece as CodePiece}
+use Rattle.mysql_receive.specs.declared.layout.PlaceData.{PlaceData as CodePlaceData}
 use Rattle.mysql_wire.specs.Wire.{◌>>=◌}
-use Rattle.mysql_receive.specs.Layout.{Command, Types, ExecuteHead, BulkHead, Piece}
+use Rattle.mysql_receive.specs.Layout.{Command, Types, ExecuteHead, BulkHead, PlaceData}
 use Rattle.mysql_receive.specs.Query.{Statement}
 use Rattle.mysql_receive.specs.InForce.{StatementState}
 use Rattle.mysql_receive.specs.Reading.{Set, CommandReadsAs, CommandFaulty, PayloadReadsAs, PayloadFaulty}
@@ -51,21 +51,27 @@ execute_head_of kept h = record { nulls = h.nulls.now; own = types_carried kept 
 abbrev pub bulk_head_of : Option Types → CodeBulkHead → BulkHead
 bulk_head_of kept h = record { own = types_carried kept h.own; rows = h.rows.now }
 
-abbrev pub piece_of : CodePiece → Piece
-piece_of p = record { place = p.place; bytes = p.bytes.now }
+abbrev pub place_data_of : CodePlaceData → PlaceData
+place_data_of sent = record { place = sent.place; bytes = sent.bytes.now }
 
 abbrev pub statement_view : CodeStatement → Statement
-statement_view c = record {
+statement_view statement = record {
   query =
-      record { text = c.query.items; parsed = c.parsed.items; places = c.places.items };
-  id = c.id;
+      record { text = statement.query.items; parsed = statement.parsed.items; places = statement.places.items };
+  id = statement.id;
 }
 
-abbrev pub piece_kept : List (Option (Vec ℕ)) → ℕ → Option (List ℕ)
-piece_kept pieces place = option_and_then (λ piece. option_map (λ bytes. bytes.items) piece) (slice_get pieces place)
+abbrev pub data_waiting : List (Option (Vec ℕ)) → ℕ → Option (List ℕ)
+data_waiting waiting place =
+    option_and_then (λ found. option_map (λ bytes. bytes.items) found) (slice_get waiting place)
 
 abbrev pub state_of : CodeState → StatementState
-state_of s = record { prepared = s.prepared; types = types_kept s.types; pieces = piece_kept s.pieces.items }
+state_of state = record {
+  prepared = state.prepared;
+  types = types_kept state.types;
+  long_data =
+      data_waiting state.long_data.items;
+}
 
 -- what a function returned, seen by a view, is what reading gives, unless memory ran out
 abbrev pub Fails : {Y : Type 0} → Refusal → Result Y StreamFault → Type 0
@@ -85,8 +91,10 @@ Finds view (Err (refusal.Fault f)) Reads IsFaulty = IsFaulty f
 
 -- what a command was found to be: the sets that it reads as, or its fault
 abbrev pub Judged : Statement → StatementState → Command → List ℕ → Result Carried Refusal → Type 0
-Judged c s command body result =
-    Finds sets_carried result (CommandReadsAs c s command body) (CommandFaulty c s command body)
+Judged statement state command body result =
+    Finds sets_carried result (CommandReadsAs statement state command body) (CommandFaulty statement state command body)
 
 abbrev pub PayloadJudged : Statement → StatementState → List ℕ → Result Carried Refusal → Type 0
-PayloadJudged c s payload result = Finds sets_carried result (PayloadReadsAs c s payload) (PayloadFaulty c s payload)
+PayloadJudged statement state payload result =
+    Finds sets_carried result (PayloadReadsAs statement state payload)
+    (PayloadFaulty statement state payload)

@@ -25,7 +25,7 @@ fn is_float(number: u8) -> bool
 }
 
 /// The value of the cell that stands first. Where bytes are missing it is the fault `short`.
-fn cell_value(
+fn read_value(
     alloc: Global,
     short: StreamFault,
     kind: ParamType,
@@ -45,7 +45,7 @@ fn cell_value(
 /// The content of eight bytes that stand first, as a whole number.
 #[inline(always)]
 #[tactic(auto, unfolding(crate::specs::Reading::content_at, mysql_cells::specs::Cells::cell_at))]
-fn number_content(
+fn read_number(
     short: StreamFault,
     unsigned: bool,
     bytes: &[u8],
@@ -68,7 +68,7 @@ fn number_content(
 /// The content of length-encoded bytes that stand first.
 #[inline(always)]
 #[tactic(auto, unfolding(crate::specs::Reading::content_at, mysql_cells::specs::Cells::cell_at))]
-fn text_content(
+fn read_counted(
     alloc: Global,
     short: StreamFault,
     bytes: &[u8],
@@ -87,7 +87,7 @@ fn text_content(
 /// The content of the cell that stands first, of any type.
 #[inline(never)]
 #[tactic(auto, unfolding(crate::specs::Reading::content_at))]
-fn any_content(
+fn read_any(
     alloc: Global,
     short: StreamFault,
     kind: ParamType,
@@ -98,7 +98,7 @@ fn any_content(
     if is_float(kind.number) {
         return Err(Refusal::Fault(StreamFault::Float));
     }
-    let (value, rest) = cell_value(alloc, short, kind, bytes)?;
+    let (value, rest) = read_value(alloc, short, kind, bytes)?;
     match value.into_content(alloc)? {
         Some(content) => Ok((content, rest)),
         None => Err(Refusal::Fault(StreamFault::Float)),
@@ -107,7 +107,7 @@ fn any_content(
 
 /// The content of the cell that stands first. The types that most values are sent by come first.
 #[inline(always)]
-pub fn cell_content(
+pub fn read_content(
     alloc: Global,
     short: StreamFault,
     kind: ParamType,
@@ -116,8 +116,8 @@ pub fn cell_content(
     ensures { Gives (λ x. (x.0, x.1.now)) result (content_at short kind bytes.now) }
 {
     match kind.number {
-        LONGLONG => number_content(short, kind.unsigned, bytes),
-        VAR_STRING => text_content(alloc, short, bytes),
-        _ => any_content(alloc, short, kind, bytes),
+        LONGLONG => read_number(short, kind.unsigned, bytes),
+        VAR_STRING => read_counted(alloc, short, bytes),
+        _ => read_any(alloc, short, kind, bytes),
     }
 }

@@ -11,7 +11,7 @@ use mysql_const::ColumnType;
 use mysql_wire::ParseBuf;
 
 /// The first bytes, and the rest.
-pub fn front(fault: StreamFault, n: usize, bytes: &[u8]) -> Result<(&[u8], &[u8]), Refusal>
+pub fn read_bytes(fault: StreamFault, n: usize, bytes: &[u8]) -> Result<(&[u8], &[u8]), Refusal>
     ensures { Gives (λ x. (x.0.now, x.1.now)) result (bytes_or fault n bytes.now) }
 {
     let mut buf = ParseBuf(bytes);
@@ -22,7 +22,7 @@ pub fn front(fault: StreamFault, n: usize, bytes: &[u8]) -> Result<(&[u8], &[u8]
 }
 
 /// The number in the first byte, and the rest.
-pub fn number1(fault: StreamFault, bytes: &[u8]) -> Result<(u8, &[u8]), Refusal>
+pub fn read_u8(fault: StreamFault, bytes: &[u8]) -> Result<(u8, &[u8]), Refusal>
     ensures { Gives (λ x. (x.0, x.1.now)) result (number_or fault 1 bytes.now) }
 {
     let mut buf = ParseBuf(bytes);
@@ -33,7 +33,7 @@ pub fn number1(fault: StreamFault, bytes: &[u8]) -> Result<(u8, &[u8]), Refusal>
 }
 
 /// The number in the first two bytes, and the rest.
-pub fn number2(fault: StreamFault, bytes: &[u8]) -> Result<(u16, &[u8]), Refusal>
+pub fn read_u16(fault: StreamFault, bytes: &[u8]) -> Result<(u16, &[u8]), Refusal>
     ensures { Gives (λ x. (x.0, x.1.now)) result (number_or fault 2 bytes.now) }
 {
     let mut buf = ParseBuf(bytes);
@@ -44,7 +44,7 @@ pub fn number2(fault: StreamFault, bytes: &[u8]) -> Result<(u16, &[u8]), Refusal
 }
 
 /// The number in the first four bytes, and the rest.
-pub fn number4(fault: StreamFault, bytes: &[u8]) -> Result<(u32, &[u8]), Refusal>
+pub fn read_u32(fault: StreamFault, bytes: &[u8]) -> Result<(u32, &[u8]), Refusal>
     ensures { Gives (λ x. (x.0, x.1.now)) result (number_or fault 4 bytes.now) }
 {
     let mut buf = ParseBuf(bytes);

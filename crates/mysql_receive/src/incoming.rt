@@ -31,13 +31,13 @@ fn refusal_of(error: PacketCodecError) -> Refusal
 fn read_payloads(
     packets: &mut PacketReader,
     alloc: Global,
-    conversation: &Statement,
+    statement: &Statement,
     progress: &mut Progress,
     piece: &[u8],
 ) -> Result<(), Refusal>
-    requires query { IsQuery (statement_view conversation.now).query }
+    requires query { IsQuery (statement_view statement.now).query }
     requires open { IsOpen packets.old }
-    ensures fed { Fed (statement_view conversation.now) packets.old.limit
+    ensures fed { Fed (statement_view statement.now) packets.old.limit
         (state_of_parts progress.old packets.old.bytes None) piece.now
         (state_of_parts progress.new packets.new.bytes (fault_by result)) }
     ensures open { OnOk result (IsOpen packets.new) }
@@ -48,14 +48,14 @@ fn read_payloads(
     let mut rest = piece;
     'packets: loop {
         if let Some(payload) = packets.read_in_place(&mut rest) {
-            progress.read_one(alloc, conversation, payload)?;
+            progress.read_one(alloc, statement, payload)?;
             packets.reset_seq_id();
             continue 'packets;
         }
         match packets.advance(&mut rest) {
             Ok(false) => return Ok(()),
             Ok(true) => {
-                progress.read_one(alloc, conversation, packets.payload())?;
+                progress.read_one(alloc, statement, packets.payload())?;
                 packets.reset_seq_id();
             }
             Err(error) => return Err(refusal_of(error)),
@@ -68,13 +68,13 @@ fn read_payloads(
 pub fn read_piece(
     packets: &mut PacketReader,
     alloc: Global,
-    conversation: &Statement,
+    statement: &Statement,
     progress: &mut Progress,
     piece: &[u8],
 ) -> Result<(), Refusal>
-    requires query { IsQuery (statement_view conversation.now).query }
+    requires query { IsQuery (statement_view statement.now).query }
     requires open { IsOpen packets.old }
-    ensures fed { Fed (statement_view conversation.now) packets.old.limit
+    ensures fed { Fed (statement_view statement.now) packets.old.limit
         (state_of_parts progress.old packets.old.bytes None) piece.now
         (state_of_parts progress.new packets.new.bytes (fault_by result)) }
     ensures open { OnOk result (IsOpen packets.new) }
@@ -85,5 +85,5 @@ pub fn read_piece(
     if packets.take_within(piece) {
         return Ok(());
     }
-    read_payloads(packets, alloc, conversation, progress, piece)
+    read_payloads(packets, alloc, statement, progress, piece)
 }

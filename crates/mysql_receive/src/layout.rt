@@ -3,19 +3,33 @@
 ghost use Rattle.std.specs.Prelude.{◌≡◌, ℕ, ◌+◌, ◌/◌, ◌<◌, ◌^◌, Option, Some, None, IfOk, IfSome, Ok, OnOk, map};
 ghost use Rattle.std.specs.Prelude.{length};
 ghost use Rattle.std.specs.Option.{option_map};
-ghost use Rattle.mysql_receive.specs.Layout.{type_at, types_at, id_at, piece_at, binding_at, execute_head, bulk_head};
+ghost use Rattle.mysql_receive.specs.Layout.{type_at, types_at, id_at, place_data_at, binding_at, execute_head};
+ghost use Rattle.mysql_receive.specs.Layout.{bulk_head};
+ghost use Rattle.mysql_receive.specs.Layout.{are_bulk_flags as are_flags};
 ghost use Rattle.mysql_receive.specs.Query.{place_count};
 ghost use Rattle.mysql_receive.specs.declared.fault.StreamFault.{StreamFault};
-ghost use Rattle.mysql_receive.specs.Views.{Gives, statement_view, execute_head_of, bulk_head_of, piece_of};
+ghost use Rattle.mysql_receive.specs.Views.{Gives, statement_view, execute_head_of, bulk_head_of, place_data_of};
 ghost use Rattle.mysql_receive.specs.Views.{types_carried, types_kept, some_types};
 
 use crate::fault::StreamFault;
-use crate::fields::{front, is_type_number, number1, number2, number4};
+use crate::fields::{is_type_number, read_bytes, read_u8, read_u16, read_u32};
 use crate::param_type::{OwnTypes, ParamType};
 use crate::refusal::Refusal;
 use crate::statement::Statement;
 use mysql_wire::ParseBuf;
 use std::alloc::Global;
+
+/// The flag of a type whose numbers have no sign.
+const UNSIGNED: u8 = 0x80;
+
+/// The flags of an execute that opens no cursor.
+const NO_CURSOR: u8 = 0;
+
+/// The flag of a bulk that asks for a result for each row.
+const SEND_UNIT_RESULTS: u16 = 0x40;
+
+/// The flag of a bulk that carries types.
+const SEND_TYPES_TO_SERVER: u16 = 0x80;
 
 /// What stands before an execute's cells.
 #[derive(Drop)]
@@ -32,23 +46,23 @@ pub struct BulkHead<'a> {
     pub rows: &'a [u8],
 }
 
-/// A piece of a place's bytes.
+/// Long data for a place.
 #[derive(Drop)]
-pub struct Piece<'a> {
+pub struct PlaceData<'a> {
     pub place: u16,
     pub bytes: &'a [u8],
 }
 
-/// A pair of a type and a flag.
-pub fn type_pair(short: StreamFault, bytes: &[u8]) -> Result<(ParamType, &[u8]), Refusal>
+/// Reads a type and its flag.
+pub fn read_type(short: StreamFault, bytes: &[u8]) -> Result<(ParamType, &[u8]), Refusal>
     ensures { Gives (λ x. (x.0, x.1.now)) result (type_at short bytes.now) }
 {
-    let (number, rest) = number1(short, bytes)?;
+    let (number, rest) = read_u8(short, bytes)?;
     if !is_type_number(number) {
         return Err(Refusal::Fault(StreamFault::BadType));
     }
-    let (flags, rest) = number1(short, rest)?;
-    let unsigned = flags == 128;
+    let (flags, rest) = read_u8(short, rest)?;
+    let unsigned = flags == UNSIGNED;
     if unsigned || flags == 0 {
         Ok((ParamType { number, unsigned }, rest))
     } else {
@@ -56,8 +70,8 @@ pub fn type_pair(short: StreamFault, bytes: &[u8]) -> Result<(ParamType, &[u8]),
     }
 }
 
-/// Pairs of a type and a flag.
-pub fn types(
+/// Reads so many types, one after another.
+pub fn read_types(
     alloc: Global,
     short: StreamFault,
     count: usize,
@@ -68,22 +82,22 @@ pub fn types(
     let mut types = Vec::new(alloc);
     let mut rest = bytes;
     for _ in 0..count {
-        let (next, after) = type_pair(short, rest)?;
+        let (next, after) = read_type(short, rest)?;
         types.push(next)?;
         rest = after;
     }
     Ok((types, rest))
 }
 
-/// What follows the pair of a type in force, where the bytes begin with it.
+/// What follows a type in force, where the bytes begin with it.
 #[inline(always)]
-fn behind_pair(kept: ParamType, bytes: &[u8]) -> Option<&[u8]>
+fn skip_kept_type(kept: ParamType, bytes: &[u8]) -> Option<&[u8]>
     ensures { IfSome result (λ rest. (short : StreamFault) → type_at short bytes.now ≡ Ok (kept, rest.now)) }
 {
     let mut buf = ParseBuf(bytes);
     let number = buf.checked_eat_u8()?;
     let flags = buf.checked_eat_u8()?;
-    let unsigned = flags == 128;
+    let unsigned = flags == UNSIGNED;
     let kind = ParamType { number, unsigned };
     if kind == kept && (unsigned || flags == 0) && is_type_number(number) {
         Some(buf.0)
@@ -92,20 +106,20 @@ fn behind_pair(kept: ParamType, bytes: &[u8]) -> Option<&[u8]>
     }
 }
 
-/// What follows the pairs of the types in force, where the bytes begin with them.
-fn behind_kept<'a>(kept: &[ParamType], bytes: &'a [u8]) -> Option<&'a [u8]>
+/// What follows the types in force, where the bytes begin with them.
+fn skip_kept_types<'a>(kept: &[ParamType], bytes: &'a [u8]) -> Option<&'a [u8]>
     ensures { IfSome result (λ rest. (short : StreamFault) →
         types_at short (length kept.now) bytes.now ≡ Ok (kept.now, rest.now)) }
 {
     let mut rest = bytes;
     for kind in kept {
-        rest = behind_pair(*kind, rest)?;
+        rest = skip_kept_type(*kind, rest)?;
     }
     Some(rest)
 }
 
-/// Pairs of a type and a flag, of which no list is made where they are those in force.
-fn own_types<'a>(
+/// Reads the types of a command; no list is made of them where they are those in force.
+fn read_own_types<'a>(
     alloc: Global,
     short: StreamFault,
     count: usize,
@@ -117,35 +131,41 @@ fn own_types<'a>(
 {
     if let Some(kept) = kept {
         if kept.len() == count {
-            if let Some(rest) = behind_kept(kept, bytes) {
+            if let Some(rest) = skip_kept_types(kept, bytes) {
                 return Ok((OwnTypes::Kept, rest));
             }
         }
     }
-    let (anew, rest) = types(alloc, short, count, bytes)?;
+    let (anew, rest) = read_types(alloc, short, count, bytes)?;
     Ok((OwnTypes::Anew(anew), rest))
 }
 
-/// The statement's id.
-pub fn id<'a>(conversation: &Statement, bytes: &'a [u8]) -> Result<&'a [u8], Refusal>
-    ensures { Gives (λ x. x.now) result (id_at (statement_view conversation.now) bytes.now) }
+/// Reads the statement's id, and answers the bytes behind it.
+pub fn check_id<'a>(statement: &Statement, bytes: &'a [u8]) -> Result<&'a [u8], Refusal>
+    ensures { Gives (λ x. x.now) result (id_at (statement_view statement.now) bytes.now) }
 {
-    let (id, rest) = number4(StreamFault::WrongId, bytes)?;
-    if id == conversation.id {
+    let (id, rest) = read_u32(StreamFault::WrongId, bytes)?;
+    if id == statement.id {
         Ok(rest)
     } else {
         Err(Refusal::Fault(StreamFault::WrongId))
     }
 }
 
-/// The body of a long data command.
-pub fn long_data<'a>(conversation: &Statement, body: &'a [u8]) -> Result<Piece<'a>, Refusal>
-    ensures { Gives piece_of result (piece_at (statement_view conversation.now) body.now) }
+/// Reads the body of a long data command:
+///
+/// ```text
+/// int<4>      statement_id
+/// int<2>      param_id: the place
+/// string<EOF> data
+/// ```
+pub fn read_long_data<'a>(statement: &Statement, body: &'a [u8]) -> Result<PlaceData<'a>, Refusal>
+    ensures { Gives place_data_of result (place_data_at (statement_view statement.now) body.now) }
 {
-    let rest = id(conversation, body)?;
-    let (place, bytes) = number2(StreamFault::BadPlace, rest)?;
-    if (place as usize) < conversation.places.len() {
-        Ok(Piece { place, bytes })
+    let rest = check_id(statement, body)?;
+    let (place, bytes) = read_u16(StreamFault::BadPlace, rest)?;
+    if (place as usize) < statement.places.len() {
+        Ok(PlaceData { place, bytes })
     } else {
         Err(Refusal::Fault(StreamFault::BadPlace))
     }
@@ -159,7 +179,7 @@ fn bitmap_len(places: usize) -> usize
 }
 
 #[tactic(auto, unfolding(crate::specs::Layout::binding_at))]
-fn binding<'a>(
+fn read_binding<'a>(
     alloc: Global,
     places: usize,
     kept: &Option<Vec<ParamType>>,
@@ -167,8 +187,8 @@ fn binding<'a>(
 ) -> Result<ExecuteHead<'a>, Refusal>
     ensures { Gives (execute_head_of (types_kept kept.now)) result (binding_at places bytes.now) }
 {
-    let (nulls, rest) = front(StreamFault::BadExecute, bitmap_len(places), bytes)?;
-    let (bound, rest) = number1(StreamFault::BadExecute, rest)?;
+    let (nulls, rest) = read_bytes(StreamFault::BadExecute, bitmap_len(places), bytes)?;
+    let (bound, rest) = read_u8(StreamFault::BadExecute, rest)?;
     if bound > 1 {
         return Err(Refusal::Fault(StreamFault::BadExecute));
     }
@@ -179,31 +199,40 @@ fn binding<'a>(
             cells: rest,
         });
     }
-    let (own, cells) = own_types(alloc, StreamFault::BadExecute, places, kept, rest)?;
+    let (own, cells) = read_own_types(alloc, StreamFault::BadExecute, places, kept, rest)?;
     Ok(ExecuteHead { nulls, own, cells })
 }
 
-/// What stands before an execute's cells.
+/// Reads what stands before an execute's cells:
+///
+/// ```text
+/// int<4>       statement_id
+/// int<1>       flags: CURSOR_TYPE_NO_CURSOR
+/// int<4>       iteration_count: 1
+/// binary<var>  null_bitmap, where there are parameters, and what follows
+/// int<1>       new_params_bind_flag
+/// binary<var>  parameter_type and a flag byte, for each parameter, behind a flag of 1
+/// ```
 #[tactic(auto, unfolding(crate::specs::Layout::execute_head))]
-pub fn execute_front<'a>(
+pub fn read_execute_head<'a>(
     alloc: Global,
-    conversation: &Statement,
+    statement: &Statement,
     kept: &Option<Vec<ParamType>>,
     body: &'a [u8],
 ) -> Result<ExecuteHead<'a>, Refusal>
     ensures { Gives (execute_head_of (types_kept kept.now)) result
-        (execute_head (statement_view conversation.now) body.now) }
+        (execute_head (statement_view statement.now) body.now) }
 {
-    let rest = id(conversation, body)?;
-    let (cursor, rest) = number1(StreamFault::BadExecute, rest)?;
-    if cursor != 0 {
+    let rest = check_id(statement, body)?;
+    let (cursor, rest) = read_u8(StreamFault::BadExecute, rest)?;
+    if cursor != NO_CURSOR {
         return Err(Refusal::Fault(StreamFault::BadExecute));
     }
-    let (count, rest) = number4(StreamFault::BadExecute, rest)?;
+    let (count, rest) = read_u32(StreamFault::BadExecute, rest)?;
     if count != 1 {
         return Err(Refusal::Fault(StreamFault::BadExecute));
     }
-    let places = conversation.places.len();
+    let places = statement.places.len();
     if places == 0 {
         return Ok(ExecuteHead {
             nulls: &[],
@@ -211,34 +240,50 @@ pub fn execute_front<'a>(
             cells: rest,
         });
     }
-    binding(alloc, places, kept, rest)
+    read_binding(alloc, places, kept, rest)
 }
 
-/// What stands before a bulk's rows.
+/// Whether a bulk has these flags: none, either or both of the two.
+fn are_bulk_flags(flags: u16) -> bool
+    ensures { result ≡ are_flags flags }
+{
+    flags == 0
+        || flags == SEND_UNIT_RESULTS
+        || flags == SEND_TYPES_TO_SERVER
+        || flags == SEND_UNIT_RESULTS + SEND_TYPES_TO_SERVER
+}
+
+/// Reads what stands before a bulk's rows:
+///
+/// ```text
+/// int<4>       statement_id
+/// int<2>       bulk_flags: SEND_UNIT_RESULTS, SEND_TYPES_TO_SERVER
+/// binary<var>  parameter type and a flag byte, for each parameter, where types are sent
+/// ```
 #[tactic(auto, unfolding(crate::specs::Layout::bulk_head))]
-pub fn bulk_front<'a>(
+pub fn read_bulk_head<'a>(
     alloc: Global,
-    conversation: &Statement,
+    statement: &Statement,
     kept: &Option<Vec<ParamType>>,
     body: &'a [u8],
 ) -> Result<BulkHead<'a>, Refusal>
-    ensures { Gives (bulk_head_of (types_kept kept.now)) result (bulk_head (statement_view conversation.now) body.now) }
+    ensures { Gives (bulk_head_of (types_kept kept.now)) result (bulk_head (statement_view statement.now) body.now) }
 {
-    let rest = id(conversation, body)?;
-    let (flags, rest) = number2(StreamFault::BadBulk, rest)?;
-    if !matches!(flags, 0 | 64 | 128 | 192) {
+    let rest = check_id(statement, body)?;
+    let (flags, rest) = read_u16(StreamFault::BadBulk, rest)?;
+    if !are_bulk_flags(flags) {
         return Err(Refusal::Fault(StreamFault::BadBulk));
     }
-    if flags < 128 {
+    if flags & SEND_TYPES_TO_SERVER != SEND_TYPES_TO_SERVER {
         return Ok(BulkHead {
             own: OwnTypes::Without,
             rows: rest,
         });
     }
-    let (own, rows) = own_types(
+    let (own, rows) = read_own_types(
         alloc,
         StreamFault::BadBulk,
-        conversation.places.len(),
+        statement.places.len(),
         kept,
         rest,
     )?;

@@ -14,7 +14,7 @@ use std::alloc::Global;
 /// What was read so far, and what is in force behind it.
 #[derive(Drop)]
 pub struct Progress {
-    pub statement: StatementState,
+    pub state: StatementState,
     pub sets: Vec<Vec<Content>>,
     pub count: u64,
 }
@@ -26,18 +26,18 @@ impl Progress {
     pub fn read_one(
         &mut self,
         alloc: Global,
-        conversation: &Statement,
+        statement: &Statement,
         payload: &[u8],
     ) -> Result<(), Refusal>
-        requires { IsQuery (statement_view conversation.now).query }
-        ensures by { OneBy (statement_view conversation.now) self.old payload.now self.new result }
+        requires { IsQuery (statement_view statement.now).query }
+        ensures by { OneBy (statement_view statement.now) self.old payload.now self.new result }
         ensures sets { OnErr result (sets_of self.new.sets.items ≡ sets_of self.old.sets.items) }
         ensures count { OnErr result (self.new.count ≡ self.old.count) }
     {
         if self.count == u64::MAX {
             return Err(Refusal::Fault(StreamFault::TooLarge));
         }
-        let more = step(alloc, conversation, &mut self.statement, payload)?;
+        let more = step(alloc, statement, &mut self.state, payload)?;
         more.append_to(&mut self.sets)?;
         self.count += 1;
         Ok(())

@@ -8,13 +8,13 @@ ghost use Rattle.mysql_receive.specs.Query.{place_count};
 ghost use Rattle.mysql_receive.specs.InForce.{is_waiting, execute_types, bulk_types};
 ghost use Rattle.mysql_receive.specs.Reading.{types_in_force, parameter_at, set_at, execute_at, column_at, columns_at};
 ghost use Rattle.mysql_receive.specs.Reading.{row_at, RowsAt, FaultyRow, BulkReadsAs, BulkFaulty};
-ghost use Rattle.mysql_receive.specs.Views.{Gives, Finds, sets_of, types_carried, types_kept, piece_kept};
+ghost use Rattle.mysql_receive.specs.Views.{Gives, Finds, sets_of, types_carried, types_kept, data_waiting};
 ghost use Rattle.mysql_receive.specs.Views.{statement_view, state_of};
 
-use crate::cells::cell_content;
+use crate::cells::read_content;
 use crate::fault::StreamFault;
-use crate::fields::number1;
-use crate::layout::{BulkHead, ExecuteHead, bulk_front, execute_front};
+use crate::fields::read_u8;
+use crate::layout::{BulkHead, ExecuteHead, read_bulk_head, read_execute_head};
 use crate::param_type::{OwnTypes, ParamType};
 use crate::refusal::Refusal;
 use crate::statement::{Statement, StatementState};
@@ -23,21 +23,21 @@ use mysql_values::{ByteString, Content};
 use std::alloc::Global;
 
 /// The types that count.
-fn counting<'a>(
-    conversation: &Statement,
-    statement: &'a StatementState,
+fn find_types<'a>(
+    statement: &Statement,
+    state: &'a StatementState,
     own: &'a OwnTypes,
 ) -> Result<&'a [ParamType], Refusal>
     ensures { Gives (λ x. x.now) result
-        (types_in_force (statement_view conversation.now) (state_of statement.now)
-        (types_carried (types_kept statement.now.types) own.now)) }
+        (types_in_force (statement_view statement.now) (state_of state.now)
+        (types_carried (types_kept state.now.types) own.now)) }
 {
-    if conversation.places.len() == 0 {
+    if statement.places.len() == 0 {
         return Ok(&[]);
     }
     match own {
         OwnTypes::Anew(types) => Ok(types.as_slice()),
-        OwnTypes::Kept | OwnTypes::Without => match &statement.types {
+        OwnTypes::Kept | OwnTypes::Without => match &state.types {
             Some(types) => Ok(types.as_slice()),
             None => Err(Refusal::Fault(StreamFault::NoTypes)),
         },
@@ -47,24 +47,24 @@ fn counting<'a>(
 /// What a place of an execute holds.
 #[tactic(auto, unfolding(crate::specs::Reading::content_at))]
 #[inline(always)]
-fn parameter<'a>(
+fn read_parameter<'a>(
     alloc: Global,
-    statement: &StatementState,
+    state: &StatementState,
     place: usize,
     is_null: bool,
     kind: ParamType,
     bytes: &'a [u8],
 ) -> Result<(Content, &'a [u8]), Refusal>
     ensures { Gives (λ x. (x.0, x.1.now)) result
-        (parameter_at (piece_kept statement.now.pieces.items place) is_null kind bytes.now) }
+        (parameter_at (data_waiting state.now.long_data.items place) is_null kind bytes.now) }
 {
-    if let Some(Some(piece)) = statement.pieces.get(place) {
-        return Ok((Content::Bytes(ByteString::copy(alloc, piece)?), bytes));
+    if let Some(Some(data)) = state.long_data.get(place) {
+        return Ok((Content::Bytes(ByteString::copy(alloc, data)?), bytes));
     }
     if is_null {
         return Ok((Content::Null, bytes));
     }
-    cell_content(alloc, StreamFault::BadExecute, kind, bytes)
+    read_content(alloc, StreamFault::BadExecute, kind, bytes)
 }
 
 /// How many of so many places have a bit in the bitmap.
@@ -85,15 +85,15 @@ fn next_bit(bits: &mut NullBits<'_>) -> bool
 }
 
 /// What all places hold.
-fn whole_set(
+fn read_set(
     alloc: Global,
-    statement: &StatementState,
+    state: &StatementState,
     nulls: &[u8],
     types: &[ParamType],
     cells: &[u8],
 ) -> Result<Vec<Content>, Refusal>
     ensures { Gives (λ x. x.items) result
-        (set_at (piece_kept statement.now.pieces.items) nulls.now 0 types.now cells.now) }
+        (set_at (data_waiting state.now.long_data.items) nulls.now 0 types.now cells.now) }
 {
     let mut set = Vec::with_capacity(alloc, types.len())?;
     let mut rest = cells;
@@ -101,7 +101,7 @@ fn whole_set(
     let mut bits = bitmap.iter(bit_count(nulls, types.len()));
     for (place, kind) in types.iter().enumerate() {
         let is_null = next_bit(&mut bits);
-        let (next, after) = parameter(alloc, statement, place, is_null, *kind, rest)?;
+        let (next, after) = read_parameter(alloc, state, place, is_null, *kind, rest)?;
         set.push_reserved(next);
         rest = after;
     }
@@ -112,7 +112,7 @@ fn whole_set(
 }
 
 /// Columns of a row, one after another.
-fn columns<'a>(
+fn read_columns<'a>(
     alloc: Global,
     types: &[ParamType],
     bytes: &'a [u8],
@@ -122,7 +122,7 @@ fn columns<'a>(
     let mut set = Vec::with_capacity(alloc, types.len())?;
     let mut rest = bytes;
     for kind in types {
-        let (next, after) = column(alloc, *kind, rest)?;
+        let (next, after) = read_column(alloc, *kind, rest)?;
         set.push_reserved(next);
         rest = after;
     }
@@ -130,23 +130,23 @@ fn columns<'a>(
 }
 
 /// A column of a row: an indicator, and a cell or nothing.
-fn column<'a>(
+fn read_column<'a>(
     alloc: Global,
     kind: ParamType,
     bytes: &'a [u8],
 ) -> Result<(Content, &'a [u8]), Refusal>
     ensures { Gives (λ x. (x.0, x.1.now)) result (column_at kind bytes.now) }
 {
-    let (indicator, rest) = number1(StreamFault::BadBulk, bytes)?;
+    let (indicator, rest) = read_u8(StreamFault::BadBulk, bytes)?;
     match indicator {
-        0 => cell_content(alloc, StreamFault::BadBulk, kind, rest),
+        0 => read_content(alloc, StreamFault::BadBulk, kind, rest),
         1 => Ok((Content::Null, rest)),
         _ => Err(Refusal::Fault(StreamFault::Indicator)),
     }
 }
 
 /// A row of a bulk: a column for each type, at least one.
-fn row<'a>(
+fn read_row<'a>(
     alloc: Global,
     types: &[ParamType],
     bytes: &'a [u8],
@@ -155,19 +155,19 @@ fn row<'a>(
 {
     match types {
         [] => Err(Refusal::Fault(StreamFault::BadBulk)),
-        [_, ..] => columns(alloc, types, bytes),
+        [_, ..] => read_columns(alloc, types, bytes),
     }
 }
 
 /// Rows to the end of the bytes.
-fn rows(alloc: Global, types: &[ParamType], bytes: &[u8]) -> Result<Vec<Vec<Content>>, Refusal>
+fn read_rows(alloc: Global, types: &[ParamType], bytes: &[u8]) -> Result<Vec<Vec<Content>>, Refusal>
     ensures { Finds (λ x. sets_of x.items) result (λ sets. RowsAt types.now bytes.now sets [])
         (FaultyRow types.now bytes.now) }
 {
     let mut sets = Vec::new(alloc);
     let mut rest = bytes;
     while !rest.is_empty() {
-        let (set, after) = row(alloc, types, rest)?;
+        let (set, after) = read_row(alloc, types, rest)?;
         sets.push(set)?;
         rest = after;
     }
@@ -176,23 +176,23 @@ fn rows(alloc: Global, types: &[ParamType], bytes: &[u8]) -> Result<Vec<Vec<Cont
 
 /// An execute, as one set.
 #[tactic(auto, unfolding(crate::specs::Reading::execute_at))]
-pub fn execute(
+pub fn read_execute(
     alloc: Global,
-    conversation: &Statement,
-    statement: &StatementState,
+    statement: &Statement,
+    state: &StatementState,
     body: &[u8],
 ) -> Result<(Vec<Content>, OwnTypes), Refusal>
     ensures set { Gives (λ x. x.0.items) result
-        (execute_at (statement_view conversation.now) (state_of statement.now) body.now) }
-    ensures own { IfOk result (λ x. types_carried (types_kept statement.now.types) x.1 ≡
-        execute_types (statement_view conversation.now) body.now) }
+        (execute_at (statement_view statement.now) (state_of state.now) body.now) }
+    ensures own { IfOk result (λ x. types_carried (types_kept state.now.types) x.1 ≡
+        execute_types (statement_view statement.now) body.now) }
 {
-    if !statement.prepared {
+    if !state.prepared {
         return Err(Refusal::Fault(StreamFault::NotPrepared));
     }
-    let head = execute_front(alloc, conversation, &statement.types, body)?;
-    let types = counting(conversation, statement, &head.own)?;
-    let set = whole_set(alloc, statement, head.nulls, types, head.cells)?;
+    let head = read_execute_head(alloc, statement, &state.types, body)?;
+    let types = find_types(statement, state, &head.own)?;
+    let set = read_set(alloc, state, head.nulls, types, head.cells)?;
     let ExecuteHead {
         nulls: _,
         own,
@@ -203,55 +203,55 @@ pub fn execute(
 
 /// A bulk, as its rows.
 #[tactic(auto, unfolding(crate::specs::Reading::bulk_rows))]
-pub fn bulk(
+pub fn read_bulk(
     alloc: Global,
-    conversation: &Statement,
-    statement: &StatementState,
+    statement: &Statement,
+    state: &StatementState,
     body: &[u8],
 ) -> Result<(Vec<Vec<Content>>, OwnTypes), Refusal>
     ensures sets { Finds (λ x. sets_of x.0.items) result
-        (BulkReadsAs (statement_view conversation.now) (state_of statement.now) body.now)
-        (BulkFaulty (statement_view conversation.now) (state_of statement.now) body.now) }
-    ensures own { IfOk result (λ x. types_carried (types_kept statement.now.types) x.1 ≡
-        bulk_types (statement_view conversation.now) body.now) }
+        (BulkReadsAs (statement_view statement.now) (state_of state.now) body.now)
+        (BulkFaulty (statement_view statement.now) (state_of state.now) body.now) }
+    ensures own { IfOk result (λ x. types_carried (types_kept state.now.types) x.1 ≡
+        bulk_types (statement_view statement.now) body.now) }
 {
-    if !statement.prepared {
+    if !state.prepared {
         return Err(Refusal::Fault(StreamFault::NotPrepared));
     }
-    if waits(conversation, statement) {
+    if has_waiting_data(statement, state) {
         return Err(Refusal::Fault(StreamFault::PiecesBeforeBulk));
     }
-    if conversation.places.len() == 0 {
+    if statement.places.len() == 0 {
         return Err(Refusal::Fault(StreamFault::BadBulk));
     }
-    let head = bulk_front(alloc, conversation, &statement.types, body)?;
-    let types = counting(conversation, statement, &head.own)?;
+    let head = read_bulk_head(alloc, statement, &state.types, body)?;
+    let types = find_types(statement, state, &head.own)?;
     if head.rows.is_empty() {
         return Err(Refusal::Fault(StreamFault::NoRows));
     }
-    let sets = rows(alloc, types, head.rows)?;
+    let sets = read_rows(alloc, types, head.rows)?;
     let BulkHead { own, rows: _ } = head;
     Ok((sets, own))
 }
 
-/// Whether pieces wait for any place.
-pub fn waits(conversation: &Statement, statement: &StatementState) -> bool
-    ensures { result ≡ is_waiting (statement_view conversation.now) (state_of statement.now) }
+/// Whether long data waits for any place.
+pub fn has_waiting_data(statement: &Statement, state: &StatementState) -> bool
+    ensures { result ≡ is_waiting (statement_view statement.now) (state_of state.now) }
 {
-    for place in 0..conversation.places.len() {
-        if has_pieces(statement, place) {
+    for place in 0..statement.places.len() {
+        if has_data_for(state, place) {
             return true;
         }
     }
     false
 }
 
-/// Whether pieces wait for the place.
-fn has_pieces(statement: &StatementState, place: usize) -> bool
-    ensures { result ≡ is_some (piece_kept statement.now.pieces.items place) }
+/// Whether long data waits for the place.
+fn has_data_for(state: &StatementState, place: usize) -> bool
+    ensures { result ≡ is_some (data_waiting state.now.long_data.items place) }
 {
-    match statement.pieces.get(place) {
-        Some(piece) => piece.is_some(),
+    match state.long_data.get(place) {
+        Some(data) => data.is_some(),
         None => false,
     }
 }

@@ -20,7 +20,7 @@ use crate::audit::{Audit, End};
 use crate::fault::StreamFault;
 use crate::incoming::read_piece;
 use crate::progress::Progress;
-use crate::reading::waits;
+use crate::reading::has_waiting_data;
 use crate::refusal::Refusal;
 use crate::statement::{Statement, StatementState};
 use mysql_values::laws::tokens_of_a_text;
@@ -80,7 +80,7 @@ fn parsed<'a>(
 }
 
 /// The statement of a query, with this id.
-fn conversation(alloc: Global, query: &[u8], stmt_id: u32) -> Result<Statement, ReceiverError>
+fn make_statement(alloc: Global, query: &[u8], stmt_id: u32) -> Result<Statement, ReceiverError>
     ensures query { IfOk result (λ c. IsQuery (statement_view c).query) }
     ensures about { IfOk result (λ c. IsAbout (statement_view c) query.now stmt_id) }
     ensures one_kind { OnOk result (HasMixed query.now false) }
@@ -127,7 +127,7 @@ fn copied_statement(
 #[derive(Drop)]
 pub struct Receiver {
     alloc: Global,
-    conversation: Statement,
+    statement: Statement,
     packets: PacketReader,
     progress: Progress,
     fault: Option<StreamFault>,
@@ -157,17 +157,17 @@ fn fault_of(refusal: Refusal) -> StreamFault
 
 /// How a stream ends as things stand.
 fn end_now(
-    conversation: &Statement,
+    statement: &Statement,
     progress: &Progress,
     begun: bool,
     fault: Option<StreamFault>,
 ) -> End
-    ensures { result ≡ end_by (statement_view conversation.now) (state_of_parts progress.now [] fault) begun fault }
+    ensures { result ≡ end_by (statement_view statement.now) (state_of_parts progress.now [] fault) begun fault }
 {
     if let Some(fault) = fault {
         return End::Fault(progress.count, fault);
     }
-    if waits(conversation, &progress.statement) {
+    if has_waiting_data(statement, &progress.state) {
         return End::WaitingPieces;
     }
     if begun {
@@ -193,14 +193,14 @@ impl Receiver {
     ) -> Result<Receiver, ReceiverError>
         requires { 4 ≤ limit }
         ensures fresh { IfOk result (λ r. receiver_state r ≡ fresh_receiver) }
-        ensures about { IfOk result (λ r. IsAbout r.conversation query.now stmt_id) }
+        ensures about { IfOk result (λ r. IsAbout r.statement query.now stmt_id) }
         ensures limit { IfOk result (λ r. r.limit ≡ limit) }
         ensures one_kind { OnOk result (HasMixed query.now false) }
         ensures mixed { IfErr result (λ e. (e ≡ receiver_error.Memory) ⊎
             ((e ≡ receiver_error.Mixed) × HasMixed query.now true)) }
     {
-        let conversation = conversation(alloc, query, stmt_id)?;
-        Ok(Receiver::over(alloc, conversation, limit))
+        let statement = make_statement(alloc, query, stmt_id)?;
+        Ok(Receiver::over(alloc, statement, limit))
     }
 
     /// [`Receiver::new`] over what was found of the query before: its placeholders, as
@@ -219,30 +219,30 @@ impl Receiver {
         requires places { HasPlaces query.now places.now }
         requires one_kind { HasMixed query.now false }
         ensures fresh { IfOk result (λ r. receiver_state r ≡ fresh_receiver) }
-        ensures about { IfOk result (λ r. IsAbout r.conversation query.now stmt_id) }
+        ensures about { IfOk result (λ r. IsAbout r.statement query.now stmt_id) }
         ensures limit { IfOk result (λ r. r.limit ≡ limit) }
     {
-        let conversation = copied_statement(alloc, query, parsed, places, stmt_id)?;
-        Ok(Receiver::over(alloc, conversation, limit))
+        let statement = copied_statement(alloc, query, parsed, places, stmt_id)?;
+        Ok(Receiver::over(alloc, statement, limit))
     }
 
     /// A receiver that was fed nothing.
-    fn over(alloc: Global, conversation: Statement, limit: usize) -> Receiver
-        requires { IsQuery (statement_view conversation).query }
+    fn over(alloc: Global, statement: Statement, limit: usize) -> Receiver
+        requires { IsQuery (statement_view statement).query }
         ensures fresh { receiver_state result ≡ fresh_receiver }
-        ensures conversation { result.conversation ≡ statement_view conversation }
+        ensures statement { result.statement ≡ statement_view statement }
         ensures limit { result.limit ≡ limit }
     {
         reader_laws();
         Receiver {
             alloc,
-            conversation,
+            statement,
             packets: PacketReader::new(alloc, 0, limit),
             progress: Progress {
-                statement: StatementState {
+                state: StatementState {
                     prepared: false,
                     types: None,
-                    pieces: Vec::new(alloc),
+                    long_data: Vec::new(alloc),
                 },
                 sets: Vec::new(alloc),
                 count: 0,
@@ -265,20 +265,20 @@ impl Receiver {
     /// Follows the MySQL Client/Server Protocol, "MySQL Packets" and "Command Phase".
     pub fn feed(&mut self, piece: &[u8]) -> Result<(), StreamFault>
         ensures goes_on { result ≢ Err Memory →
-            ReceiverGoesOn self.old.conversation self.old.limit (receiver_state self.old) piece.now
+            ReceiverGoesOn self.old.statement self.old.limit (receiver_state self.old) piece.now
             (receiver_state self.new) }
         ensures short { self.old.fault ≡ None → result ≡ Err Memory →
-            RunsShort self.old.conversation self.old.limit (receiver_state self.old) piece.now
+            RunsShort self.old.statement self.old.limit (receiver_state self.old) piece.now
             (receiver_state self.new) }
         ensures takes { OnOk result
-            (TakesAll self.old.conversation self.old.limit (receiver_state self.old) piece.now
+            (TakesAll self.old.statement self.old.limit (receiver_state self.old) piece.now
             (receiver_state self.new)) }
         ensures no_fault { OnOk result
-            (HasFoundNoFault self.new.conversation self.new.limit (receiver_state self.new)) }
+            (HasFoundNoFault self.new.statement self.new.limit (receiver_state self.new)) }
         ensures stays { IfSome self.old.fault (λ fault. (result ≡ Err fault) × (self.new ≡ self.old)) }
         ensures answer { result ≡ answer_by self.new.fault }
         ensures bytes { OnOk result (AreBytes self.new.partial) }
-        ensures conversation { self.new.conversation ≡ self.old.conversation }
+        ensures statement { self.new.statement ≡ self.old.statement }
         ensures limit { self.new.limit ≡ self.old.limit }
     {
         reader_laws();
@@ -288,7 +288,7 @@ impl Receiver {
         match read_piece(
             &mut self.packets,
             self.alloc,
-            &self.conversation,
+            &self.statement,
             &mut self.progress,
             piece,
         ) {
@@ -342,7 +342,7 @@ impl Receiver {
     ///
     /// Follows the MySQL Client/Server Protocol, "Command Phase".
     pub fn take_sets(&mut self) -> Vec<Vec<Content>>
-        ensures hands_out { HandsOut self.old.conversation self.old.limit (receiver_state self.old)
+        ensures hands_out { HandsOut self.old.statement self.old.limit (receiver_state self.old)
             (sets_of result.items) (receiver_state self.new) }
         ensures sets { sets_of result.items ≡ self.old.sets }
         ensures left { self.new ≡ record self.old { sets = [] } }
@@ -358,24 +358,24 @@ impl Receiver {
     /// stream's first payloads, as many as its end counts: at least those that stood whole before
     /// the `feed` that answered it.
     pub fn finish(self) -> Audit
-        ensures { ReceiverDecides self.conversation self.limit (receiver_state self) [] (audit_of result) }
+        ensures { ReceiverDecides self.statement self.limit (receiver_state self) [] (audit_of result) }
     {
         reader_laws();
         let end = end_now(
-            &self.conversation,
+            &self.statement,
             &self.progress,
             self.packets.is_begun(),
             self.fault,
         );
         let Receiver {
             alloc: _,
-            conversation: _,
+            statement: _,
             packets: _,
             progress,
             fault: _,
         } = self;
         let Progress {
-            statement: _,
+            state: _,
             sets,
             count: _,
         } = progress;

@@ -17,5 +17,5 @@ pub struct Statement {
 pub struct StatementState {
     pub prepared: bool,
     pub types: Option<Vec<ParamType>>,
-    pub pieces: Vec<Option<Vec<u8>>>,
+    pub long_data: Vec<Option<Vec<u8>>>,
 }

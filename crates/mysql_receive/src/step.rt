@@ -2,20 +2,21 @@
 
 ghost use Rattle.std.specs.Prelude.{◌≡◌, ℕ, ◌+◌, ◌<◌, ◌^◌, List, [], ◌∷◌, Option, Some, None, Ok, IfOk, OnOk, OnErr};
 ghost use Rattle.std.specs.Prelude.{length, vec_len};
+ghost use Rattle.std.specs.Option.{option_or};
 ghost use Rattle.mysql_receive.specs.Query.{IsQuery, all_alone as is_all_alone};
 ghost use Rattle.mysql_receive.specs.Layout.{Prepare, Text, Execute, Bulk, LongData, Reset, Close, command_of};
-ghost use Rattle.mysql_receive.specs.InForce.{StatementState as InForce, state_after, execute_types, bulk_types};
-ghost use Rattle.mysql_receive.specs.Steps.{prepared_anew, after_execute, after_bulk, after_piece, after_reset, closed};
-ghost use Rattle.mysql_receive.specs.Steps.{with_piece};
-ghost use Rattle.mysql_receive.specs.Reading.{prepared_piece, statement_alone_at};
-ghost use Rattle.mysql_receive.specs.Views.{Gives, piece_of, Judged, PayloadJudged, types_carried, types_kept};
-ghost use Rattle.mysql_receive.specs.Views.{statement_view, state_of, piece_kept};
+ghost use Rattle.mysql_receive.specs.InForce.{StatementState as InForce, after, after_command, freshly_prepared};
+ghost use Rattle.mysql_receive.specs.InForce.{nothing_yet, more_data, with_data, with_types, without_data};
+ghost use Rattle.mysql_receive.specs.InForce.{bulk_types, execute_types};
+ghost use Rattle.mysql_receive.specs.Reading.{prepared_data, statement_alone_at};
+ghost use Rattle.mysql_receive.specs.Views.{Gives, place_data_of, Judged, PayloadJudged, types_carried, types_kept};
+ghost use Rattle.mysql_receive.specs.Views.{statement_view, state_of, data_waiting};
 
 use crate::carried::Carried;
 use crate::fault::StreamFault;
-use crate::layout::{Piece, id, long_data};
+use crate::layout::{PlaceData, check_id, read_long_data};
 use crate::param_type::OwnTypes;
-use crate::reading::{bulk, execute};
+use crate::reading::{read_bulk, read_execute};
 use crate::refusal::Refusal;
 use crate::statement::{Statement, StatementState};
 use mysql_const::Command;
@@ -23,44 +24,47 @@ use mysql_values::read_text;
 use std::alloc::{AllocError, Global};
 
 impl StatementState {
-    /// Behind a prepare.
+    /// What is in force behind a prepare.
     pub fn prepare(&mut self)
-        ensures { state_of self.new ≡ prepared_anew }
+        ensures { state_of self.new ≡ freshly_prepared }
     {
         self.prepared = true;
         self.types = None;
-        self.pieces.clear();
+        self.long_data.clear();
     }
 
-    /// Behind an execute that carries these types, those in force, or none.
+    /// What is in force behind an execute that carries these types, those in force, or none.
     pub fn execute(&mut self, own: OwnTypes)
         ensures { state_of self.new ≡
-            after_execute (state_of self.old) (types_carried (types_kept self.old.types) own) }
+            without_data (with_types (state_of self.old)
+            (option_or (types_carried (types_kept self.old.types) own) (types_kept self.old.types))) }
     {
         if let OwnTypes::Anew(types) = own {
             self.types = Some(types);
         }
-        self.pieces.clear();
+        self.long_data.clear();
     }
 
-    /// Behind a reset.
+    /// What is in force behind a reset.
     pub fn reset(&mut self)
-        ensures { state_of self.new ≡ after_reset (state_of self.old) }
+        ensures { state_of self.new ≡ without_data (state_of self.old) }
     {
-        self.pieces.clear();
+        self.long_data.clear();
     }
 
-    /// Behind a close.
+    /// What is in force behind a close.
     pub fn close(&mut self)
-        ensures { state_of self.new ≡ closed }
+        ensures { state_of self.new ≡ nothing_yet }
     {
         self.prepare();
         self.prepared = false;
     }
 
-    /// Behind a bulk that carries these types, those in force, or none.
-    pub fn bulk(&mut self, own: OwnTypes)
-        ensures { state_of self.new ≡ after_bulk (state_of self.old) (types_carried (types_kept self.old.types) own) }
+    /// What is in force behind a bulk that carries these types, those in force, or none.
+    pub fn execute_bulk(&mut self, own: OwnTypes)
+        ensures { state_of self.new ≡
+            with_types (state_of self.old)
+            (option_or (types_carried (types_kept self.old.types) own) (types_kept self.old.types)) }
     {
         if let OwnTypes::Anew(types) = own {
             self.types = Some(types);
@@ -69,78 +73,84 @@ impl StatementState {
 }
 
 /// Whether each place stands alone.
-fn all_alone(conversation: &Statement) -> bool
-    ensures { result ≡ is_all_alone (statement_view conversation.now).query }
+fn all_alone(statement: &Statement) -> bool
+    ensures { result ≡ is_all_alone (statement_view statement.now).query }
 {
-    conversation.places.iter().all(|place| place.alone)
+    statement.places.iter().all(|place| place.alone)
 }
 
 /// A text.
-fn text(alloc: Global, conversation: &Statement, body: &[u8]) -> Result<Carried, Refusal>
-    requires { IsQuery (statement_view conversation.now).query }
-    ensures { (s : InForce) → Judged (statement_view conversation.now) s Text body.now result }
+fn read_text_query(alloc: Global, statement: &Statement, body: &[u8]) -> Result<Carried, Refusal>
+    requires { IsQuery (statement_view statement.now).query }
+    ensures { (s : InForce) → Judged (statement_view statement.now) s Text body.now result }
 {
-    if !all_alone(conversation) {
+    if !all_alone(statement) {
         return Err(Refusal::Fault(StreamFault::NotAlone));
     }
-    match read_text(alloc, &conversation.query, &conversation.places, body)? {
+    match read_text(alloc, &statement.query, &statement.places, body)? {
         Some(set) => Ok(Carried::One(set)),
         None => Err(Refusal::Fault(StreamFault::TextMismatch)),
     }
 }
 
 /// A prepare.
-fn prepare(conversation: &Statement, body: &[u8]) -> Result<Carried, Refusal>
-    ensures { (s : InForce) → Judged (statement_view conversation.now) s Prepare body.now result }
+fn check_prepare(statement: &Statement, body: &[u8]) -> Result<Carried, Refusal>
+    ensures { (s : InForce) → Judged (statement_view statement.now) s Prepare body.now result }
 {
-    if body != conversation.parsed.as_slice() {
+    if body != statement.parsed.as_slice() {
         return Err(Refusal::Fault(StreamFault::PrepareMismatch));
     }
-    if conversation.places.len() > 65535 {
+    if statement.places.len() > 65535 {
         return Err(Refusal::Fault(StreamFault::TooManyPlaces));
     }
     Ok(Carried::Nothing)
 }
 
 impl StatementState {
-    /// Behind a piece.
-    pub fn add_piece(&mut self, alloc: Global, place: usize, bytes: &[u8]) -> Result<(), AllocError>
+    /// What is in force behind data for a place.
+    pub fn add_long_data(
+        &mut self,
+        alloc: Global,
+        place: usize,
+        bytes: &[u8],
+    ) -> Result<(), AllocError>
         requires { place < 2 ^ 32 }
         ensures ok { OnOk result (state_of self.new ≡
-            after_piece (state_of self.old) (record { place = place; bytes = bytes.now })) }
+            with_data (state_of self.old) (more_data (state_of self.old).long_data place bytes.now)) }
         ensures err { OnErr result (state_of self.new ≡ state_of self.old) }
     {
-        reach(&mut self.pieces, place)?;
-        append(alloc, &mut self.pieces, place, bytes)
+        extend_to(&mut self.long_data, place)?;
+        append_data(alloc, &mut self.long_data, place, bytes)
     }
 }
 
 /// Makes the list reach a place, by places where nothing waits.
-fn reach(pieces: &mut Vec<Option<Vec<u8>>>, place: usize) -> Result<(), AllocError>
+fn extend_to(long_data: &mut Vec<Option<Vec<u8>>>, place: usize) -> Result<(), AllocError>
     requires { place < 2 ^ 32 }
-    ensures same { piece_kept pieces.new.items ≡ piece_kept pieces.old.items }
-    ensures long { OnOk result (place < length pieces.new.items) }
+    ensures same { data_waiting long_data.new.items ≡ data_waiting long_data.old.items }
+    ensures long { OnOk result (place < length long_data.new.items) }
 {
-    while pieces.len() <= place {
-        pieces.push(None)?;
+    while long_data.len() <= place {
+        long_data.push(None)?;
     }
     Ok(())
 }
 
 /// Appends to what waits for a place.
-fn append(
+fn append_data(
     alloc: Global,
-    pieces: &mut Vec<Option<Vec<u8>>>,
+    long_data: &mut Vec<Option<Vec<u8>>>,
     place: usize,
     bytes: &[u8],
 ) -> Result<(), AllocError>
-    requires { place < length pieces.old.items }
-    ensures ok { OnOk result (piece_kept pieces.new.items ≡ with_piece (piece_kept pieces.old.items) place bytes.now) }
-    ensures err { OnErr result (piece_kept pieces.new.items ≡ piece_kept pieces.old.items) }
+    requires { place < length long_data.old.items }
+    ensures ok { OnOk result (data_waiting long_data.new.items ≡
+        more_data (data_waiting long_data.old.items) place bytes.now) }
+    ensures err { OnErr result (data_waiting long_data.new.items ≡ data_waiting long_data.old.items) }
 {
-    let waiting = &mut pieces[place];
+    let waiting = &mut long_data[place];
     match waiting {
-        Some(piece) => piece.extend_from_slice(bytes),
+        Some(data) => data.extend_from_slice(bytes),
         None => {
             *waiting = Some(Vec::from_slice(alloc, bytes)?);
             Ok(())
@@ -150,105 +160,98 @@ fn append(
 
 /// Reads a prepare. A refusal changes nothing, here and below.
 fn on_prepare(
-    conversation: &Statement,
-    statement: &mut StatementState,
+    statement: &Statement,
+    state: &mut StatementState,
     body: &[u8],
 ) -> Result<Carried, Refusal>
-    ensures judged { Judged (statement_view conversation.now) (state_of statement.old) Prepare body.now result }
-    ensures ok { OnOk result (state_of statement.new ≡
-        state_after (statement_view conversation.now) (state_of statement.old) ((22 ∷ body.now) ∷
-        [])) }
-    ensures err { OnErr result (state_of statement.new ≡ state_of statement.old) }
+    ensures judged { Judged (statement_view statement.now) (state_of state.old) Prepare body.now result }
+    ensures ok { OnOk result (state_of state.new ≡
+        after_command (statement_view statement.now) (state_of state.old) Prepare body.now) }
+    ensures err { OnErr result (state_of state.new ≡ state_of state.old) }
 {
-    let sets = prepare(conversation, body)?;
-    statement.prepare();
+    let sets = check_prepare(statement, body)?;
+    state.prepare();
     Ok(sets)
 }
 
 /// Reads an execute.
 fn on_execute(
     alloc: Global,
-    conversation: &Statement,
-    statement: &mut StatementState,
+    statement: &Statement,
+    state: &mut StatementState,
     body: &[u8],
 ) -> Result<Carried, Refusal>
-    ensures judged { Judged (statement_view conversation.now) (state_of statement.old) Execute body.now result }
-    ensures ok { OnOk result (state_of statement.new ≡
-        after_execute (state_of statement.old)
-        (execute_types (statement_view conversation.now) body.now)) }
-    ensures err { OnErr result (state_of statement.new ≡ state_of statement.old) }
+    ensures judged { Judged (statement_view statement.now) (state_of state.old) Execute body.now result }
+    ensures ok { OnOk result (state_of state.new ≡
+        after_command (statement_view statement.now) (state_of state.old) Execute body.now) }
+    ensures err { OnErr result (state_of state.new ≡ state_of state.old) }
 {
-    let (set, own) = execute(alloc, conversation, statement, body)?;
-    statement.execute(own);
+    let (set, own) = read_execute(alloc, statement, state, body)?;
+    state.execute(own);
     Ok(Carried::One(set))
 }
 
 /// Reads a bulk.
 fn on_bulk(
     alloc: Global,
-    conversation: &Statement,
-    statement: &mut StatementState,
+    statement: &Statement,
+    state: &mut StatementState,
     body: &[u8],
 ) -> Result<Carried, Refusal>
-    ensures judged { Judged (statement_view conversation.now) (state_of statement.old) Bulk body.now result }
-    ensures ok { OnOk result (state_of statement.new ≡
-        after_bulk (state_of statement.old) (bulk_types (statement_view conversation.now) body.now)) }
-    ensures err { OnErr result (state_of statement.new ≡ state_of statement.old) }
+    ensures judged { Judged (statement_view statement.now) (state_of state.old) Bulk body.now result }
+    ensures ok { OnOk result (state_of state.new ≡
+        after_command (statement_view statement.now) (state_of state.old) Bulk body.now) }
+    ensures err { OnErr result (state_of state.new ≡ state_of state.old) }
 {
-    let (sets, own) = bulk(alloc, conversation, statement, body)?;
-    statement.bulk(own);
+    let (sets, own) = read_bulk(alloc, statement, state, body)?;
+    state.execute_bulk(own);
     Ok(Carried::Many(sets))
 }
 
 /// Reads the body of a long data command.
-#[tactic(auto, unfolding(crate::specs::Reading::prepared_piece))]
-fn expected_piece<'a>(
-    conversation: &Statement,
-    statement: &StatementState,
+#[tactic(auto, unfolding(crate::specs::Reading::prepared_data))]
+fn read_prepared_data<'a>(
+    statement: &Statement,
+    state: &StatementState,
     body: &'a [u8],
-) -> Result<Piece<'a>, Refusal>
-    ensures { Gives piece_of result
-        (prepared_piece (statement_view conversation.now) (state_of statement.now) body.now) }
+) -> Result<PlaceData<'a>, Refusal>
+    ensures { Gives place_data_of result
+        (prepared_data (statement_view statement.now) (state_of state.now) body.now) }
 {
-    if !statement.prepared {
+    if !state.prepared {
         return Err(Refusal::Fault(StreamFault::NotPrepared));
     }
-    long_data(conversation, body)
+    read_long_data(statement, body)
 }
 
 /// Reads a long data command.
-#[tactic(auto, unfolding(crate::specs::Reading::prepared_piece, crate::specs::Reading::long_data_at))]
+#[tactic(auto, unfolding(crate::specs::Reading::prepared_data, crate::specs::Reading::long_data_at))]
 fn on_long_data(
     alloc: Global,
-    conversation: &Statement,
-    statement: &mut StatementState,
+    statement: &Statement,
+    state: &mut StatementState,
     body: &[u8],
 ) -> Result<Carried, Refusal>
-    ensures judged { Judged (statement_view conversation.now) (state_of statement.old) LongData body.now result }
-    ensures ok { OnOk result (state_of statement.new ≡
-        state_after (statement_view conversation.now) (state_of statement.old) ((24 ∷ body.now) ∷
-        [])) }
-    ensures err { OnErr result (state_of statement.new ≡ state_of statement.old) }
+    ensures judged { Judged (statement_view statement.now) (state_of state.old) LongData body.now result }
+    ensures ok { OnOk result (state_of state.new ≡
+        after_command (statement_view statement.now) (state_of state.old) LongData body.now) }
+    ensures err { OnErr result (state_of state.new ≡ state_of state.old) }
 {
-    let Piece { place, bytes } = expected_piece(conversation, statement, body)?;
-    statement.add_piece(alloc, place as usize, bytes)?;
+    let PlaceData { place, bytes } = read_prepared_data(statement, state, body)?;
+    state.add_long_data(alloc, place as usize, bytes)?;
     Ok(Carried::Nothing)
 }
 
 /// Reads the body of a reset or a close.
 #[tactic(auto, unfolding(crate::specs::Reading::statement_alone_at))]
-fn statement_alone(
-    conversation: &Statement,
-    statement: &StatementState,
-    body: &[u8],
-) -> Result<(), Refusal>
+fn check_id_alone(statement: &Statement, state: &StatementState, body: &[u8]) -> Result<(), Refusal>
     ensures { Gives (λ _. []) result
-        (statement_alone_at (statement_view conversation.now) (state_of statement.now) body.now) }
+        (statement_alone_at (statement_view statement.now) (state_of state.now) body.now) }
 {
-    if !statement.prepared {
+    if !state.prepared {
         return Err(Refusal::Fault(StreamFault::NotPrepared));
     }
-    let rest = id(conversation, body)?;
+    let rest = check_id(statement, body)?;
     if !rest.is_empty() {
         return Err(Refusal::Fault(StreamFault::WrongId));
     }
@@ -257,35 +260,33 @@ fn statement_alone(
 
 /// Reads a reset.
 fn on_reset(
-    conversation: &Statement,
-    statement: &mut StatementState,
+    statement: &Statement,
+    state: &mut StatementState,
     body: &[u8],
 ) -> Result<Carried, Refusal>
-    ensures judged { Judged (statement_view conversation.now) (state_of statement.old) Reset body.now result }
-    ensures ok { OnOk result (state_of statement.new ≡
-        state_after (statement_view conversation.now) (state_of statement.old) ((26 ∷ body.now) ∷
-        [])) }
-    ensures err { OnErr result (state_of statement.new ≡ state_of statement.old) }
+    ensures judged { Judged (statement_view statement.now) (state_of state.old) Reset body.now result }
+    ensures ok { OnOk result (state_of state.new ≡
+        after_command (statement_view statement.now) (state_of state.old) Reset body.now) }
+    ensures err { OnErr result (state_of state.new ≡ state_of state.old) }
 {
-    statement_alone(conversation, statement, body)?;
-    statement.reset();
+    check_id_alone(statement, state, body)?;
+    state.reset();
     Ok(Carried::Nothing)
 }
 
 /// Reads a close.
 fn on_close(
-    conversation: &Statement,
-    statement: &mut StatementState,
+    statement: &Statement,
+    state: &mut StatementState,
     body: &[u8],
 ) -> Result<Carried, Refusal>
-    ensures judged { Judged (statement_view conversation.now) (state_of statement.old) Close body.now result }
-    ensures ok { OnOk result (state_of statement.new ≡
-        state_after (statement_view conversation.now) (state_of statement.old) ((25 ∷ body.now) ∷
-        [])) }
-    ensures err { OnErr result (state_of statement.new ≡ state_of statement.old) }
+    ensures judged { Judged (statement_view statement.now) (state_of state.old) Close body.now result }
+    ensures ok { OnOk result (state_of state.new ≡
+        after_command (statement_view statement.now) (state_of state.old) Close body.now) }
+    ensures err { OnErr result (state_of state.new ≡ state_of state.old) }
 {
-    statement_alone(conversation, statement, body)?;
-    statement.close();
+    check_id_alone(statement, state, body)?;
+    state.close();
     Ok(Carried::Nothing)
 }
 
@@ -307,27 +308,26 @@ const COM_STMT_BULK_EXECUTE: u8 = Command::COM_STMT_BULK_EXECUTE as u8;
 /// Reads the body of a command.
 fn on_command(
     alloc: Global,
-    conversation: &Statement,
-    statement: &mut StatementState,
+    statement: &Statement,
+    state: &mut StatementState,
     command: u8,
     body: &[u8],
 ) -> Result<Carried, Refusal>
-    requires { IsQuery (statement_view conversation.now).query }
-    ensures judged { Judged (statement_view conversation.now) (state_of statement.old)
+    requires { IsQuery (statement_view statement.now).query }
+    ensures judged { Judged (statement_view statement.now) (state_of state.old)
         (command_of command) body.now result }
-    ensures ok { OnOk result (state_of statement.new ≡
-        state_after (statement_view conversation.now) (state_of statement.old)
-        ((command ∷ body.now) ∷ [])) }
-    ensures err { OnErr result (state_of statement.new ≡ state_of statement.old) }
+    ensures ok { OnOk result (state_of state.new ≡
+        after_command (statement_view statement.now) (state_of state.old) (command_of command) body.now) }
+    ensures err { OnErr result (state_of state.new ≡ state_of state.old) }
 {
     match command {
-        COM_QUERY => text(alloc, conversation, body),
-        COM_STMT_PREPARE => on_prepare(conversation, statement, body),
-        COM_STMT_EXECUTE => on_execute(alloc, conversation, statement, body),
-        COM_STMT_SEND_LONG_DATA => on_long_data(alloc, conversation, statement, body),
-        COM_STMT_BULK_EXECUTE => on_bulk(alloc, conversation, statement, body),
-        COM_STMT_RESET => on_reset(conversation, statement, body),
-        COM_STMT_CLOSE => on_close(conversation, statement, body),
+        COM_QUERY => read_text_query(alloc, statement, body),
+        COM_STMT_PREPARE => on_prepare(statement, state, body),
+        COM_STMT_EXECUTE => on_execute(alloc, statement, state, body),
+        COM_STMT_SEND_LONG_DATA => on_long_data(alloc, statement, state, body),
+        COM_STMT_BULK_EXECUTE => on_bulk(alloc, statement, state, body),
+        COM_STMT_RESET => on_reset(statement, state, body),
+        COM_STMT_CLOSE => on_close(statement, state, body),
         _ => Err(Refusal::Fault(StreamFault::OtherCommand)),
     }
 }
@@ -335,18 +335,18 @@ fn on_command(
 /// Reads one payload, and what is in force becomes that behind it. A refusal changes nothing.
 pub fn step(
     alloc: Global,
-    conversation: &Statement,
-    statement: &mut StatementState,
+    statement: &Statement,
+    state: &mut StatementState,
     payload: &[u8],
 ) -> Result<Carried, Refusal>
-    requires { IsQuery (statement_view conversation.now).query }
-    ensures judged { PayloadJudged (statement_view conversation.now) (state_of statement.old) payload.now result }
-    ensures ok { OnOk result (state_of statement.new ≡
-        state_after (statement_view conversation.now) (state_of statement.old) (payload.now ∷ [])) }
-    ensures err { OnErr result (state_of statement.new ≡ state_of statement.old) }
+    requires { IsQuery (statement_view statement.now).query }
+    ensures judged { PayloadJudged (statement_view statement.now) (state_of state.old) payload.now result }
+    ensures ok { OnOk result (state_of state.new ≡
+        after (statement_view statement.now) (state_of state.old) payload.now) }
+    ensures err { OnErr result (state_of state.new ≡ state_of state.old) }
 {
     match payload {
         [] => Err(Refusal::Fault(StreamFault::EmptyCommand)),
-        [command, body @ ..] => on_command(alloc, conversation, statement, *command, body),
+        [command, body @ ..] => on_command(alloc, statement, state, *command, body),
     }
 }

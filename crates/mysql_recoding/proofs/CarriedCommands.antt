@@ -18,7 +18,7 @@ use Rattle.mysql_receive.specs.Query.{Statement, place_count}
 use Rattle.mysql_receive.specs.Layout.{BulkHead, Command, Types, bulk_head, command_of, execute_head, id_at}
 use Rattle.mysql_receive.specs.Layout as layout
 use Rattle.mysql_receive.specs.InForce.{StatementState, is_waiting}
-use Rattle.mysql_receive.specs.Reading.{BulkReadsAs, CommandReadsAs, PayloadReadsAs, RowsAt, Set, TextReadsAs, bulk_rows, column_at, columns_at, execute_at, long_data_at, parameter_at, prepared_piece, row_at, set_at, statement_alone_at, types_in_force}
+use Rattle.mysql_receive.specs.Reading.{BulkReadsAs, CommandReadsAs, PayloadReadsAs, RowsAt, Set, TextReadsAs, bulk_rows, column_at, columns_at, execute_at, long_data_at, parameter_at, prepared_data, row_at, set_at, statement_alone_at, types_in_force}
 use Rattle.mysql_recoding.specs.Laws.{IsCarried}
 use Rattle.mysql_recoding.proofs.ByteLists.{bytes_tail}
 use Rattle.mysql_recoding.proofs.CarriedCells.{Leaves, bind_ok, column_carried, content_carried, leaves, ok_same, read, some_is}
@@ -67,11 +67,11 @@ types_counted c s own types counts is e = by (place_count c.query == 0) refl e
 execute_carried : (c : Statement) (s : StatementState) (body : List ℕ) (set : Set) → IsInForce c s → AreBytes body → execute_at c s body ≡ Ok set → Fills (place_count c.query) set
 unfolding execute_at
 execute_carried c s body set is h e =
-    let a = bind_ok (must NotPrepared s.prepared) (λ _. execute_head c body >>= λ head. types_in_force c s head.own >>= λ types. set_at s.pieces head.nulls 0 types head.cells) set e in
-    let b = bind_ok (execute_head c body) (λ head. types_in_force c s head.own >>= λ types. set_at s.pieces head.nulls 0 types head.cells) set a.2 in
-    let d = bind_ok (types_in_force c s b.0.own) (λ types. set_at s.pieces b.0.nulls 0 types b.0.cells) set b.2 in
+    let a = bind_ok (must NotPrepared s.prepared) (λ _. execute_head c body >>= λ head. types_in_force c s head.own >>= λ types. set_at s.long_data head.nulls 0 types head.cells) set e in
+    let b = bind_ok (execute_head c body) (λ head. types_in_force c s head.own >>= λ types. set_at s.long_data head.nulls 0 types head.cells) set a.2 in
+    let d = bind_ok (types_in_force c s b.0.own) (λ types. set_at s.long_data b.0.nulls 0 types b.0.cells) set b.2 in
     let head = execute_is_head c body b.0 h b.1 in
-    let carried = set_carried s.pieces b.0.nulls 0 d.0 b.0.cells set is.pieces head.rest_bytes d.2 in
+    let carried = set_carried s.long_data b.0.nulls 0 d.0 b.0.cells set is.long_data head.rest_bytes d.2 in
     (carried.0 ∙ types_counted c s b.0.own d.0 head.own_count is d.1, carried.1)
 
 -- ---- a bulk
@@ -124,7 +124,7 @@ bulk_carried c s body sets is h reads =
 
 data_without_sets : (c : Statement) (s : StatementState) (body : List ℕ) (sets : List Set) → long_data_at c s body ≡ Ok sets → AllByRecursion (Fills (place_count c.query)) sets
 unfolding long_data_at
-data_without_sets c s body sets e = no_sets (place_count c.query) sets (bind_ok (prepared_piece c s body) (λ piece. Ok []) sets e).2
+data_without_sets c s body sets e = no_sets (place_count c.query) sets (bind_ok (prepared_data c s body) (λ piece. Ok []) sets e).2
 
 alone_without_sets : (c : Statement) (s : StatementState) (body : List ℕ) (sets : List Set) → statement_alone_at c s body ≡ Ok sets → AllByRecursion (Fills (place_count c.query)) sets
 unfolding statement_alone_at

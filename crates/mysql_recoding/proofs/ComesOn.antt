@@ -47,10 +47,10 @@ left prepare (set ∷ sets) = []
 -- a stream of these bytes was recoded so far: it carries these sets, and this was appended
 record Sofar (terms : Terms) (prepare bytes : List ℕ) (sets : List Set) (appended : List ℕ) (r : RecoderState) : Type 0 where
   terms_are : r.terms ≡ terms
-  decides : (z : List ℕ) (audit : Audit) → AreBytes z → Decides terms r.received z audit → Audited terms.conversation terms.limit (bytes ++ z) (with_sets sets audit)
+  decides : (z : List ℕ) (audit : Audit) → AreBytes z → Decides terms r.received z audit → Audited terms.statement terms.limit (bytes ++ z) (with_sets sets audit)
   none : sets_cause terms 0 sets ≡ None
   count : r.count ≡ length sets
-  appended_is : appended ≡ front terms.conversation.id prepare sets
+  appended_is : appended ≡ front terms.statement.id prepare sets
   prepare_is : r.prepare ≡ left prepare sets
   none_held : r.received.sets ≡ []
   no_fault : r.received.fault ≡ None
@@ -59,14 +59,14 @@ record Sofar (terms : Terms) (prepare bytes : List ℕ) (sets : List Set) (appen
 
 -- ---- one piece
 
-fronts_join : (id : ℕ) (prepare : List ℕ) (sets more : List Set) (r : RecoderState) → r.terms.conversation.id ≡ id → r.prepare ≡ left prepare sets
+fronts_join : (id : ℕ) (prepare : List ℕ) (sets more : List Set) (r : RecoderState) → r.terms.statement.id ≡ id → r.prepare ≡ left prepare sets
     → front id prepare sets ++ appended_of r more ≡ front id prepare (sets ++ more)
 fronts_join id prepare [] [] r same is = refl
-fronts_join id prepare [] (set ∷ more) r same is = ap (λ l. l ++ executions r.terms.conversation.id (set ∷ more)) is ∙ ap (λ (n : ℕ). prepare ++ executions n (set ∷ more)) same
+fronts_join id prepare [] (set ∷ more) r same is = ap (λ l. l ++ executions r.terms.statement.id (set ∷ more)) is ∙ ap (λ (n : ℕ). prepare ++ executions n (set ∷ more)) same
 fronts_join id prepare (set ∷ sets) [] r same is =
     append-nil (prepare ++ executions id (set ∷ sets)) ∙ ap (λ (l : List Set). prepare ++ executions id (set ∷ l)) (sym (append-nil sets))
 fronts_join id prepare (set ∷ sets) (other ∷ more) r same is =
-    ap (λ l. (prepare ++ executions id (set ∷ sets)) ++ (l ++ executions r.terms.conversation.id (other ∷ more))) is
+    ap (λ l. (prepare ++ executions id (set ∷ sets)) ++ (l ++ executions r.terms.statement.id (other ∷ more))) is
     ∙ ap (λ (n : ℕ). (prepare ++ executions id (set ∷ sets)) ++ executions n (other ∷ more)) same
     ∙ append_assoc prepare (executions id (set ∷ sets)) (executions id (other ∷ more))
     ∙ ap (λ l. prepare ++ l) (sym (executions_joined id (set ∷ sets) (other ∷ more)))
@@ -79,9 +79,9 @@ left_join prepare (set ∷ sets) (other ∷ more) r is = refl
 
 causes_join : (terms : Terms) (sets more : List Set) → sets_cause terms 0 sets ≡ None → sets_cause terms 0 (sets ++ more) ≡ sets_cause terms (length sets) more
 causes_join terms sets more none =
-    cause_joined terms.conversation.id terms.places terms.limit 0 sets more
-    ∙ ap (λ (c : Option Refusal). option_or c (executions_cause terms.conversation.id terms.places terms.limit (0 + length sets) more)) none
-    ∙ ap (λ (n : ℕ). executions_cause terms.conversation.id terms.places terms.limit n more) (omega arith)
+    cause_joined terms.statement.id terms.places terms.limit 0 sets more
+    ∙ ap (λ (c : Option Refusal). option_or c (executions_cause terms.statement.id terms.places terms.limit (0 + length sets) more)) none
+    ∙ ap (λ (n : ℕ). executions_cause terms.statement.id terms.places terms.limit n more) (omega arith)
 
 -- one more piece was recoded
 one_more : (terms : Terms) (prepare bytes : List ℕ) (sets : List Set) (appended : List ℕ) (old new : RecoderState) (piece first : List ℕ) → Sofar terms prepare bytes sets appended old
@@ -89,19 +89,19 @@ one_more : (terms : Terms) (prepare bytes : List ℕ) (sets : List Set) (appende
 one_more terms prepare bytes sets appended old new piece first s are same p = record {
   terms_are = same;
   decides = λ z audit z_bytes decided.
-      let all : Audited terms.conversation terms.limit (bytes ++ (piece ++ z)) (with_sets sets (with_sets p.sets audit)) =
+      let all : Audited terms.statement terms.limit (bytes ++ (piece ++ z)) (with_sets sets (with_sets p.sets audit)) =
       s.decides (piece ++ z) (with_sets p.sets audit) (bytes_append piece z are z_bytes) (p.goes_on z audit z_bytes decided) in
-      subst (λ (l : List ℕ). Audited terms.conversation terms.limit l (with_sets (sets ++ p.sets) audit)) (sym (append_assoc bytes piece z))
-      (subst (λ (l : List Set). Audited terms.conversation terms.limit (bytes ++ (piece ++ z)) (record { sets = l; ending = audit.ending })) (sym (append_assoc sets p.sets audit.sets)) all);
+      subst (λ (l : List ℕ). Audited terms.statement terms.limit l (with_sets (sets ++ p.sets) audit)) (sym (append_assoc bytes piece z))
+      (subst (λ (l : List Set). Audited terms.statement terms.limit (bytes ++ (piece ++ z)) (record { sets = l; ending = audit.ending })) (sym (append_assoc sets p.sets audit.sets)) all);
   none = causes_join terms sets p.sets s.none ∙ ap (λ (n : ℕ). sets_cause terms n p.sets) (sym s.count) ∙ p.none;
   count = p.count ∙ ap (λ (n : ℕ). n + length p.sets) s.count ∙ sym (length-append sets p.sets);
   appended_is = ap (λ l. appended ++ l) p.appended_is ∙ ap (λ l. l ++ appended_of old p.sets) s.appended_is
-      ∙ fronts_join terms.conversation.id prepare sets p.sets old (ap (λ (t : Terms). t.conversation.id) s.terms_are) s.prepare_is;
+      ∙ fronts_join terms.statement.id prepare sets p.sets old (ap (λ (t : Terms). t.statement.id) s.terms_are) s.prepare_is;
   prepare_is = p.prepare ∙ left_join prepare sets p.sets old s.prepare_is;
   none_held = p.none_held;
   no_fault = p.no_fault;
-  rest = rest_behind terms.conversation terms.limit old.received (with_taken new.received p.sets) piece p.takes;
-  partial = bytes_left terms.conversation terms.limit old.received (with_taken new.received p.sets) piece p.takes s.partial are;
+  rest = rest_behind terms.statement terms.limit old.received (with_taken new.received p.sets) piece p.takes;
+  partial = bytes_left terms.statement terms.limit old.received (with_taken new.received p.sets) piece p.takes s.partial are;
 }
 
 -- all pieces were
@@ -130,7 +130,7 @@ at_start : StartDecidesTheAudit → RestsAreTold → (query : List ℕ) (id limi
 at_start start_decides told query id limit start n = record {
   terms_are = refl;
   decides = λ z audit z_bytes decided.
-      (start_decides start.terms.conversation start.terms.limit z audit).0 (subst (λ (state : ReceiverState). Decides start.terms state z audit) n.received decided);
+      (start_decides start.terms.statement start.terms.limit z audit).0 (subst (λ (state : ReceiverState). Decides start.terms state z audit) n.received decided);
   none = refl;
   count = n.count;
   appended_is = refl;
@@ -155,11 +155,11 @@ all_of_it statement (set ∷ sets) = append-nil _ ∙ sym (canonical_parts state
 module _ (one_split : HasOneSplit) (one_audit : ThereIsOneAudit) (query : List ℕ) (id limit : ℕ) (start now : RecoderState) (n : IsNewRecoder query id limit start) (bytes appended : List ℕ) (are : AreBytes bytes)
     (sets : List Set) (s : Sofar start.terms (framing (prepare_command (statement_of query n.tokens id).query.parsed) 0) bytes sets appended now) where
   -- the recoder's statement has the id
-  id_is : start.terms.conversation.id ≡ id
+  id_is : start.terms.statement.id ≡ id
   id_is = ap (λ (statement : Statement). statement.id) n.about.2
 
   -- what was said over the recoder's terms is said over the query's
-  over_query : (P : ℕ → ℕ → ℕ → Type 0) → P start.terms.conversation.id start.terms.places start.terms.limit → P id (length (places_from query 0 n.tokens)) limit
+  over_query : (P : ℕ → ℕ → ℕ → Type 0) → P start.terms.statement.id start.terms.places start.terms.limit → P id (length (places_from query 0 n.tokens)) limit
   over_query P holds =
       subst (λ (l : ℕ). P id (length (places_from query 0 n.tokens)) l) n.limit_is
       (subst (λ (places : ℕ). P id places start.terms.limit) n.places
@@ -168,14 +168,14 @@ module _ (one_split : HasOneSplit) (one_audit : ThereIsOneAudit) (query : List �
   -- what the stream says, with bytes behind it
   says : (z : List ℕ) (audit : Audit) → AreBytes z → Decides start.terms now.received z audit → AuditOf query id limit (bytes ++ z) (with_sets sets audit)
   says z audit z_bytes decided =
-      let all : Audited start.terms.conversation limit (bytes ++ z) (with_sets sets audit) =
-      subst (λ (l : ℕ). Audited start.terms.conversation l (bytes ++ z) (with_sets sets audit)) n.limit_is (s.decides z audit z_bytes decided) in
+      let all : Audited start.terms.statement limit (bytes ++ z) (with_sets sets audit) =
+      subst (λ (l : ℕ). Audited start.terms.statement l (bytes ++ z) (with_sets sets audit)) n.limit_is (s.decides z audit z_bytes decided) in
       (n.about.0, n.about.1, subst (λ (c : Statement). Audited c limit (bytes ++ z) (with_sets sets audit)) n.about.2 all)
 
   -- and without
   says_here : (audit : Audit) → Decides start.terms now.received [] audit → AuditOf query id limit bytes (record { sets = sets; ending = audit.ending })
   says_here audit decided =
-      let none : audit.sets ≡ [] = no_sets one_split start.terms.conversation start.terms.limit now.received audit s.rest s.partial s.no_fault s.none_held decided in
+      let none : audit.sets ≡ [] = no_sets one_split start.terms.statement start.terms.limit now.received audit s.rest s.partial s.no_fault s.none_held decided in
       let all : AuditOf query id limit bytes (with_sets sets audit) = subst (λ (l : List ℕ). AuditOf query id limit l (with_sets sets audit)) (append-nil bytes) (says [] audit no_bytes decided) in
       subst (λ (l : List Set). AuditOf query id limit bytes (record { sets = l; ending = audit.ending })) (ap (λ l. sets ++ l) none ∙ append-nil sets) all
 
@@ -183,7 +183,7 @@ module _ (one_split : HasOneSplit) (one_audit : ThereIsOneAudit) (query : List �
   cause_on : (more : List Set) → cause_of Execute (statement_of query n.tokens id) limit (map Ok (values_of_sets (sets ++ more))) ≡ sets_cause start.terms now.count more
   cause_on more =
       let here : executions_cause id (length (places_from query 0 n.tokens)) limit 0 (sets ++ more) ≡ sets_cause start.terms now.count more =
-      sym (over_query (λ i places l. executions_cause start.terms.conversation.id start.terms.places start.terms.limit 0 (sets ++ more) ≡ executions_cause i places l 0 (sets ++ more)) refl)
+      sym (over_query (λ i places l. executions_cause start.terms.statement.id start.terms.places start.terms.limit 0 (sets ++ more) ≡ executions_cause i places l 0 (sets ++ more)) refl)
       ∙ causes_join start.terms sets more s.none ∙ ap (λ (k : ℕ). sets_cause start.terms k more) (sym s.count) in
       ap (λ (c : Option Refusal). first_some (c ∷ executions_cause id (length (places_from query 0 n.tokens)) limit 0 (sets ++ more) ∷ None ∷ [])) n.none
       ∙ or_none (executions_cause id (length (places_from query 0 n.tokens)) limit 0 (sets ++ more)) ∙ here
@@ -241,9 +241,9 @@ module _ (one_split : HasOneSplit) (one_audit : ThereIsOneAudit) (query : List �
 
   recodes_here : (pieces : List (List ℕ)) → bytes ≡ concat pieces → RecodesTheSame query id limit pieces appended now
   recodes_here pieces joined =
-      let is_query : IsQuery start.terms.conversation.query = subst (λ (c : Statement). IsQuery c.query) (sym n.about.2) (query_is query n.about.0 id n.about.1) in
-      let some : Decision start.terms.conversation start.terms.limit now.received [] =
-      some_decision one_split one_audit start.terms.conversation start.terms.limit now.received [] is_query s.partial no_bytes s.no_fault in
+      let is_query : IsQuery start.terms.statement.query = subst (λ (c : Statement). IsQuery c.query) (sym n.about.2) (query_is query n.about.0 id n.about.1) in
+      let some : Decision start.terms.statement start.terms.limit now.received [] =
+      some_decision one_split one_audit start.terms.statement start.terms.limit now.received [] is_query s.partial no_bytes s.no_fault in
       record {
         tokens = n.tokens;
         has = n.has;

@@ -1,5 +1,5 @@
 -- What a receiver without a fault decides of bytes still to come.
-use Rattle.std.proofs.Common.{◌≡◌, ℕ, ◌≤◌, List, [], ◌∷◌, ◌++◌, length, None, refl, sym, ◌∙◌, ap, subst, arith}
+use Rattle.std.proofs.Common.{◌≡◌, ℕ, List, [], ◌∷◌, ◌++◌, None, refl, sym, ◌∙◌, ap, subst}
 use Rattle.std.specs.List.{flat_map}
 use Rattle.std.proofs.lemmas.List.{append-nil}
 use Rattle.mysql_wire.specs.Bytes.{AreBytes}
@@ -8,7 +8,8 @@ use Rattle.mysql_wire.specs.Laws.{HasOneSplit}
 use Rattle.mysql_wire.specs.Stream.{IsRest, IsSplit, Numbering, Rest, Split, after_all, first_number}
 use Rattle.mysql_wire.specs.Stream.Rest.{Empty}
 use Rattle.mysql_wire.specs.Stream.Numbering.{EachFromZero}
-use Rattle.mysql_receive.specs.Audit.{Audit}
+use Rattle.mysql_receive.specs.Audit.{Audit, Reads, nothing, next}
+use Rattle.mysql_receive.specs.InForce.{StatementState}
 use Rattle.mysql_receive.specs.GoingOn.{ReceiverDecides, ReceiverDecidesBy, ReceiverState, TakesAll}
 use Rattle.mysql_receive.specs.Laws.{ThereIsOneAudit}
 use Rattle.mysql_receive.specs.Query.{IsQuery, Statement}
@@ -27,7 +28,7 @@ pub some_decision : HasOneSplit → ThereIsOneAudit → (c : Statement) (limit :
 some_decision one_split one_audit c limit state z query partial bytes none =
     let found = one_split limit EachFromZero (state.partial ++ z) (bytes_append state.partial z partial bytes) in
     let split : Split = found.0 in
-    let judged = one_audit c state.statement state.count split.payloads split.rest query in
+    let judged = one_audit c state.state state.count split.payloads split.rest query in
     let audit : Audit = record { sets = state.sets ++ judged.0.sets; ending = judged.0.ending } in
     record {
       audit = audit;
@@ -65,9 +66,9 @@ bytes_left c limit old new piece takes partial bytes =
     let all : AreBytes (_ ++ takes.split.rest_bytes) = subst AreBytes takes.is_split.joined (bytes_append old.partial piece partial bytes) in
     subst AreBytes (sym takes.partial) (bytes_behind _ takes.split.rest_bytes all)
 
-no_reads : (reads : List (List Set)) → length reads ≤ 0 → flat_map (λ (sets : List Set). sets) reads ≡ []
-no_reads [] none = refl
-no_reads (sets ∷ reads) none = absurd (omega (arith, none))
+no_reads : (c : Statement) (s : StatementState) (n : ℕ) (front left : List (List ℕ)) (reads : List (List Set)) → [] ≡ front ++ left → Reads c s n front reads → flat_map (λ (sets : List Set). sets) reads ≡ []
+no_reads c s n front left reads e nothing = refl
+no_reads c s n front left reads e (next h others) = absurd cc
 
 -- so no sets are decided of no bytes
 pub no_sets : HasOneSplit → (c : Statement) (limit : ℕ) (state : ReceiverState) (audit : Audit) → AtRest limit state.partial → AreBytes state.partial → state.fault ≡ None → state.sets ≡ []
@@ -77,5 +78,6 @@ no_sets one_split c limit state audit rest partial none held decided =
     let found = one_split limit EachFromZero state.partial partial in
     let is : IsSplit limit EachFromZero state.partial by.0 = subst (λ (l : List ℕ). IsSplit limit EachFromZero l by.0) (append-nil state.partial) by.2 in
     let same : by.0 ≡ record { payloads = []; rest_bytes = state.partial; rest = rest.rest } = found.2 by.0 is ∙ sym (found.2 _ rest.is) in
-    let few : length by.4.reads ≤ 0 = subst (λ (s : Split). length by.4.reads ≤ length s.payloads) same by.4.each.within in
-    by.3 ∙ ap (λ l. l ++ by.1) held ∙ by.4.sets ∙ no_reads by.4.reads few
+    let first = by.4.each in
+    let cut : [] ≡ first.front ++ first.left = sym (ap (λ (s : Split). s.payloads) same) ∙ first.cut in
+    by.3 ∙ ap (λ l. l ++ by.1) held ∙ by.4.sets ∙ no_reads c state.state state.count first.front first.left by.4.reads cut first.each

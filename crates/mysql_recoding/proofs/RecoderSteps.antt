@@ -27,10 +27,10 @@ use Rattle.mysql_recoding.proofs.MoreSets.{cause_joined}
 -- ---- one piece
 
 -- a recoder whose receiver read a piece recodes by the same terms
-terms_same : (old : Recoded) (to : Received) → to.conversation ≡ old.receiver.conversation → to.limit ≡ old.receiver.limit → (recoder_state (record old { receiver = to })).terms ≡ (recoder_state old).terms
-terms_same old to conversation limit =
-    ap (λ (c : Statement). record { conversation = c; limit = to.limit; places = old.places }) conversation
-    ∙ ap (λ (l : ℕ). record { conversation = old.receiver.conversation; limit = l; places = old.places }) limit
+terms_same : (old : Recoded) (to : Received) → to.statement ≡ old.receiver.statement → to.limit ≡ old.receiver.limit → (recoder_state (record old { receiver = to })).terms ≡ (recoder_state old).terms
+terms_same old to statement limit =
+    ap (λ (c : Statement). record { statement = c; limit = to.limit; places = old.places }) statement
+    ∙ ap (λ (l : ℕ). record { statement = old.receiver.statement; limit = l; places = old.places }) limit
 
 module _ (old : Recoded) (to : Received) (piece : List ℕ) (sets : List Set) where
   -- what is decided behind the piece was decided before it
@@ -39,17 +39,17 @@ module _ (old : Recoded) (to : Received) (piece : List ℕ) (sets : List Set) wh
   decided_before error r z audit bytes decided = r.goes_on z audit bytes decided
 
   -- the piece was recoded
-  pub recoded : ReadsPiece old.receiver piece sets None to → (between new : Recoded) (before behind : List ℕ) → between ≡ record old { receiver = to } → to.conversation ≡ old.receiver.conversation → to.limit ≡ old.receiver.limit
+  pub recoded : ReadsPiece old.receiver piece sets None to → (between new : Recoded) (before behind : List ℕ) → between ≡ record old { receiver = to } → to.statement ≡ old.receiver.statement → to.limit ≡ old.receiver.limit
       → PutsSets between sets before behind new → (appended : List ℕ) × (behind ≡ before ++ appended) × RecodesPiece (recoder_state old).terms (recoder_state old) piece appended (recoder_state new)
-  recoded r between new before behind is conversation limit puts =
+  recoded r between new before behind is statement limit puts =
       let p : PutsSets (record old { receiver = to }) sets before behind new = subst (λ (b : Recoded). PutsSets b sets before behind new) is puts in
       let received : receiver_state new.receiver ≡ receiver_state to = ap (λ (n : Recoded). receiver_state n.receiver) p.held in
-      let terms : (recoder_state (record old { receiver = to })).terms ≡ (recoder_state old).terms = terms_same old to conversation limit in (
+      let terms : (recoder_state (record old { receiver = to })).terms ≡ (recoder_state old).terms = terms_same old to statement limit in (
         appended_of (recoder_state old) sets,
-        p.appended ∙ ap (λ l. before ++ l) (appended_same conversation sets),
+        p.appended ∙ ap (λ l. before ++ l) (appended_same statement sets),
         record {
           sets = sets;
-          takes = subst (λ (state : ReceiverState). TakesAll old.receiver.conversation old.receiver.limit (receiver_state old.receiver) piece (with_taken state sets)) (sym received) r.ends.2;
+          takes = subst (λ (state : ReceiverState). TakesAll old.receiver.statement old.receiver.limit (receiver_state old.receiver) piece (with_taken state sets)) (sym received) r.ends.2;
           goes_on = λ z audit bytes decided. decided_before None r z audit bytes (subst (λ (state : ReceiverState). Decides (recoder_state old).terms state z audit) received decided);
           none = subst (λ (t : Terms). sets_cause t old.count sets ≡ None) terms p.none;
           appended_is = refl;
@@ -60,9 +60,9 @@ module _ (old : Recoded) (to : Received) (piece : List ℕ) (sets : List Set) wh
         },
       )
     where
-      appended_same : to.conversation ≡ old.receiver.conversation → (l : List Set) → appended_of (recoder_state (record old { receiver = to })) l ≡ appended_of (recoder_state old) l
-      appended_same conversation [] = refl
-      appended_same conversation (set ∷ l) = ap (λ (c : Statement). old.prepare ++ executions c.id (set ∷ l)) conversation
+      appended_same : to.statement ≡ old.receiver.statement → (l : List Set) → appended_of (recoder_state (record old { receiver = to })) l ≡ appended_of (recoder_state old) l
+      appended_same statement [] = refl
+      appended_same statement (set ∷ l) = ap (λ (c : Statement). old.prepare ++ executions c.id (set ∷ l)) statement
 
       left_is : (l : List Set) → prepare_behind (recoder_state (record old { receiver = to })) l ≡ prepare_behind (recoder_state old) l
       left_is [] = refl
@@ -72,25 +72,25 @@ module _ (old : Recoded) (to : Received) (piece : List ℕ) (sets : List Set) wh
   at_fault : (error : RecodeError) → ReadsPiece old.receiver piece sets (Some error) to → (z : List ℕ) → (audit : Audit) × Decides (recoder_state old).terms (receiver_state to) z audit
   at_fault error r z =
       let audit : Audit = record { sets = []; ending = ends.Fault to.count r.ends.0 } in
-      (audit, subst (λ (fault : Option StreamFault). ReceiverDecidesBy old.receiver.conversation old.receiver.limit (receiver_state to) fault z audit) (sym r.ends.1) (sym r.none_held, refl))
+      (audit, subst (λ (fault : Option StreamFault). ReceiverDecidesBy old.receiver.statement old.receiver.limit (receiver_state to) fault z audit) (sym r.ends.1) (sym r.none_held, refl))
 
   -- something is decided behind a piece, whatever comes
-  decided_behind : HasOneSplit → ThereIsOneAudit → IsQuery old.receiver.conversation.query → (error : Option RecodeError) → ReadsPiece old.receiver piece sets error to → (z : List ℕ) → AreBytes z
+  decided_behind : HasOneSplit → ThereIsOneAudit → IsQuery old.receiver.statement.query → (error : Option RecodeError) → ReadsPiece old.receiver piece sets error to → (z : List ℕ) → AreBytes z
       → (audit : Audit) × Decides (recoder_state old).terms (receiver_state to) z audit
   decided_behind one_split one_audit query None r z bytes =
-      let found : Decision old.receiver.conversation old.receiver.limit (receiver_state to) z =
-      some_decision one_split one_audit old.receiver.conversation old.receiver.limit (receiver_state to) z query r.ends.1 bytes r.ends.0 in
+      let found : Decision old.receiver.statement old.receiver.limit (receiver_state to) z =
+      some_decision one_split one_audit old.receiver.statement old.receiver.limit (receiver_state to) z query r.ends.1 bytes r.ends.0 in
       (found.audit, found.decided)
   decided_behind one_split one_audit query (Some error) r z bytes = at_fault error r z
 
   -- a set is refused
-  pub set_refused : HasOneSplit → ThereIsOneAudit → IsQuery old.receiver.conversation.query → to.conversation ≡ old.receiver.conversation → to.limit ≡ old.receiver.limit
+  pub set_refused : HasOneSplit → ThereIsOneAudit → IsQuery old.receiver.statement.query → to.statement ≡ old.receiver.statement → to.limit ≡ old.receiver.limit
       → (fault : Option RecodeError) → ReadsPiece old.receiver piece sets fault to → (error : RecodeError)
       → (error ≡ errors.Memory) ⊎ (option_map error_for (sets_cause (recoder_state (record old { receiver = to })).terms old.count sets) ≡ Some error) → RefusesPiece (recoder_state old) piece error
-  set_refused one_split one_audit query conversation limit fault r error (inl memory) = inl memory
-  set_refused one_split one_audit query conversation limit fault r error (inr this) =
+  set_refused one_split one_audit query statement limit fault r error (inl memory) = inl memory
+  set_refused one_split one_audit query statement limit fault r error (inr this) =
       let first : option_map error_for (sets_cause (recoder_state old).terms old.count sets) ≡ Some error =
-      subst (λ (t : Terms). option_map error_for (sets_cause t old.count sets) ≡ Some error) (terms_same old to conversation limit) this in
+      subst (λ (t : Terms). option_map error_for (sets_cause t old.count sets) ≡ Some error) (terms_same old to statement limit) this in
       inr (λ z bytes.
       let found = decided_behind one_split one_audit query fault r z bytes in
       (with_sets sets found.0, decided_before fault r z found.0 bytes found.1, speaks first found.0))
@@ -98,16 +98,16 @@ module _ (old : Recoded) (to : Received) (piece : List ℕ) (sets : List Set) wh
       speaks : option_map error_for (sets_cause (recoder_state old).terms old.count sets) ≡ Some error → (audit : Audit) → cause_from (recoder_state old) (with_sets sets audit) ≡ Some error
       speaks first audit =
           ap (λ (c : Option Refusal). option_or (option_map error_for c) (option_or (ending_cause audit.ending) None))
-          (cause_joined old.receiver.conversation.id old.places old.receiver.limit old.count sets audit.sets)
+          (cause_joined old.receiver.statement.id old.places old.receiver.limit old.count sets audit.sets)
           ∙ first_speaks (sets_cause (recoder_state old).terms old.count sets) _ (option_or (ending_cause audit.ending) None) error first
 
   -- the fault is refused
-  pub fault_refused : to.conversation ≡ old.receiver.conversation → to.limit ≡ old.receiver.limit → (fault : Option RecodeError) (error : RecodeError) → fault ≡ Some error
+  pub fault_refused : to.statement ≡ old.receiver.statement → to.limit ≡ old.receiver.limit → (fault : Option RecodeError) (error : RecodeError) → fault ≡ Some error
       → ReadsPiece old.receiver piece sets fault to → sets_cause (recoder_state (record old { receiver = to })).terms old.count sets ≡ None → RefusesPiece (recoder_state old) piece error
   unfolding at_fault
-  fault_refused conversation limit fault error is read none =
+  fault_refused statement limit fault error is read none =
       let r : ReadsPiece old.receiver piece sets (Some error) to = subst (λ (f : Option RecodeError). ReadsPiece old.receiver piece sets f to) is read in
-      let free : sets_cause (recoder_state old).terms old.count sets ≡ None = subst (λ (t : Terms). sets_cause t old.count sets ≡ None) (terms_same old to conversation limit) none in
+      let free : sets_cause (recoder_state old).terms old.count sets ≡ None = subst (λ (t : Terms). sets_cause t old.count sets ≡ None) (terms_same old to statement limit) none in
       let ends_so : cause_from (recoder_state old) (with_sets sets (record { sets = []; ending = ends.Fault to.count r.ends.0 })) ≡ Some error =
       ap (λ (l : List Set). option_or (option_map error_for (sets_cause (recoder_state old).terms old.count l)) (Some (errors.Stream to.count r.ends.0))) (append-nil sets)
       ∙ ap (λ (c : Option Refusal). option_or (option_map error_for c) (Some (errors.Stream to.count r.ends.0))) free

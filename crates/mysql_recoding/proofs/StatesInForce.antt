@@ -1,8 +1,8 @@
--- What is in force behind payloads of bytes: a type for each placeholder, and pieces that are bytes.
+-- What is in force behind payloads of bytes: a type for each placeholder, and long data that are bytes.
 use Rattle.std.proofs.Common.{◌≡◌, ℕ, zero, suc, ◌+◌, ◌/◌, Bool, true, false, List, [], ◌∷◌, ◌++◌, length, Option, Some, None, Result, Ok, Err, if◌then◌else◌, refl, ap, subst}
-use Rattle.std.specs.Prelude.{◌==◌, ◌||◌, nat_le, nat_lt, unwrap_or}
-use Rattle.std.specs.List.{AllByRecursion, cons_option, filter_map, flat_map, last_or, list_any}
-use Rattle.std.specs.Option.{option_and_then, option_map, option_to_list}
+use Rattle.std.specs.Prelude.{◌==◌, ◌||◌, nat_le, nat_lt, not, unwrap_or}
+use Rattle.std.specs.Int.RustNames.{bit_and}
+use Rattle.std.specs.Option.{option_and_then, option_or}
 use Rattle.std.specs.Result.{result_ok}
 use Rattle.mysql_wire.specs.Bytes.{AreBytes}
 use Rattle.mysql_wire.specs.Reading as buffer
@@ -12,10 +12,10 @@ use Rattle.mysql_receive.specs.declared.fault.StreamFault.TheVariants.{BadBulk, 
 use Rattle.mysql_receive.specs.declared.param_type.ParamType.{ParamType}
 use Rattle.mysql_receive.specs.Fields.{bytes_or, number_or, must}
 use Rattle.mysql_receive.specs.Query.{Statement, place_count}
-use Rattle.mysql_receive.specs.Layout.{BulkHead, Command, ExecuteHead, Piece, Types, binding_at, bulk_head, command_of, execute_head, id_at, is_type, piece_at, type_at, types_at}
+use Rattle.mysql_receive.specs.Layout.{BulkHead, Command, ExecuteHead, PlaceData, Types, are_bulk_flags, binding_at, bulk_head, command_of, execute_head, id_at, is_type, place_data_at, send_types_to_server, type_at, types_at}
 use Rattle.mysql_receive.specs.Layout as layout
-use Rattle.mysql_receive.specs.InForce.{StatementState, is_end, joined, nothing_yet, said_by, since, speaks_of_place, speaks_of_types, state_after, waiting_for}
-use Rattle.mysql_recoding.proofs.ByteLists.{bytes_flat_map, bytes_tail}
+use Rattle.mysql_receive.specs.InForce.{StatementState, after, after_command, bulk_types, execute_types, more_data, nothing_yet, with_sent}
+use Rattle.mysql_recoding.proofs.ByteLists.{bytes_append, bytes_tail}
 use Rattle.mysql_recoding.proofs.CarriedCells.{Leaves, bind_ok, bytes_leave, leaves, number_leaves, ok_same, read, some_is, some_same}
 
 -- ---- fields
@@ -119,19 +119,23 @@ execute_is_head c body head h e =
         (record { own_count = none_own (place_count c.query); rest_bytes = k })
     by false rest k f = binding_head (place_count c.query) rest head k f
 
+-- no types are sent
+abbrev untyped : ℕ → Bool
+untyped flags = not (bit_and flags send_types_to_server == send_types_to_server)
+
 pub bulk_is_head : (c : Statement) (body : List ℕ) (head : BulkHead) → AreBytes body → bulk_head c body ≡ Ok head → IsHead (place_count c.query) head.own head.rows
 unfolding bulk_head
 bulk_is_head c body head h e =
     let a = bind_ok (id_at c body) (λ rest. number_or BadBulk 2 rest >>= λ flags. flagged flags) head e in
     let b = bind_ok (number_or BadBulk 2 a.0) (λ flags. flagged flags) head a.2 in
-    let d = bind_ok (must BadBulk (b.0.0 == 0 || b.0.0 == 64 || b.0.0 == 128 || b.0.0 == 192)) (λ _. typed (nat_lt b.0.0 128) b.0.1) head b.2 in
-    by (nat_lt b.0.0 128) b.0.1 (number_rest BadBulk 2 a.0 b.0 (id_rest c body a.0 h a.1) b.1) d.2
+    let d = bind_ok (must BadBulk (are_bulk_flags b.0.0)) (λ _. typed (untyped b.0.0) b.0.1) head b.2 in
+    by (untyped b.0.0) b.0.1 (number_rest BadBulk 2 a.0 b.0 (id_rest c body a.0 h a.1) b.1) d.2
   where
     typed : Bool → List ℕ → Result BulkHead StreamFault
     typed none rest = if none then Ok (record { own = None; rows = rest }) else (types_at BadBulk (place_count c.query) rest >>= λ types. Ok (record { own = Some types.0; rows = types.1 }))
 
     flagged : ℕ × List ℕ → Result BulkHead StreamFault
-    flagged flags = must BadBulk (flags.0 == 0 || flags.0 == 64 || flags.0 == 128 || flags.0 == 192) >>= λ _. typed (nat_lt flags.0 128) flags.1
+    flagged flags = must BadBulk (are_bulk_flags flags.0) >>= λ _. typed (untyped flags.0) flags.1
 
     by : (none : Bool) (rest : List ℕ) → AreBytes rest → typed none rest ≡ Ok head → IsHead (place_count c.query) head.own head.rows
     by true rest k f =
@@ -143,124 +147,67 @@ bulk_is_head c body head h e =
         subst (λ (x : BulkHead). IsHead (place_count c.query) x.own x.rows) (ok_same {F = StreamFault} (record { own = Some a.0.0; rows = a.0.1 }) head a.2)
         (record { own_count = some_own (place_count c.query) a.0.0 b.0; rest_bytes = b.1 })
 
--- ---- what payloads say
+-- ---- types and long data behind a command
 
--- the types that an execute or a bulk says
-said_types : {Head : Type 0} (n : ℕ) (own : Head → Option Types) (r : Result Head StreamFault) (word : Option Types) → ((head : Head) → r ≡ Ok head → OwnCount n (own head))
-    → option_map (λ types. Some types) (option_and_then own (result_ok r)) ≡ Some word → OwnCount n word
-said_types n own (Err f) word each e = absurd cc
-said_types n own (Ok head) word each e = by (own head) (each head refl) e
-  where
-    by : (types : Option Types) → OwnCount n types → option_map (λ x. Some x) types ≡ Some word → OwnCount n word
-    by None k f = absurd cc
-    by (Some types) k f = subst (OwnCount n) (some_same (Some types) word f) k
+-- those of a head, where it has any
+head_types : {Head : Type 0} (n : ℕ) (own : Head → Option Types) (r : Result Head StreamFault) → ((head : Head) → r ≡ Ok head → OwnCount n (own head)) → OwnCount n (option_and_then own (result_ok r))
+head_types n own (Err f) each = none_own n
+head_types n own (Ok head) each = each head refl
 
-types_said : (c : Statement) (k : Command) (body : List ℕ) (word : Option Types) → AreBytes body → speaks_of_types c k body ≡ Some word → OwnCount (place_count c.query) word
-types_said c layout.Text body word h e = absurd cc
-types_said c layout.Prepare body word h e = subst (OwnCount (place_count c.query)) (some_same None word e) (none_own (place_count c.query))
-types_said c layout.LongData body word h e = absurd cc
-types_said c layout.Execute body word h e = said_types (place_count c.query) (λ head. head.own) (execute_head c body) word (λ head f. (execute_is_head c body head h f).own_count) e
-types_said c layout.Bulk body word h e = said_types (place_count c.query) (λ head. head.own) (bulk_head c body) word (λ head f. (bulk_is_head c body head h f).own_count) e
-types_said c layout.Reset body word h e = absurd cc
-types_said c layout.Close body word h e = subst (OwnCount (place_count c.query)) (some_same None word e) (none_own (place_count c.query))
-types_said c layout.Other body word h e = absurd cc
+-- and else those before
+own_or : (n : ℕ) (own before : Option Types) → OwnCount n own → OwnCount n before → OwnCount n (option_or own before)
+own_or n None before h k = k
+own_or n (Some types) before h k = h
 
--- the data of a piece are bytes
-piece_bytes : (c : Statement) (body : List ℕ) (piece : Piece) → AreBytes body → piece_at c body ≡ Ok piece → AreBytes piece.bytes
-piece_bytes c body piece h e =
-    let a = bind_ok (id_at c body) (λ rest. number_or BadPlace 2 rest >>= λ place. must BadPlace (nat_lt place.0 (place_count c.query)) >>= λ _. Ok (record { place = place.0; bytes = place.1 })) piece e in
-    let b = bind_ok (number_or BadPlace 2 a.0) (λ place. must BadPlace (nat_lt place.0 (place_count c.query)) >>= λ _. Ok (record { place = place.0; bytes = place.1 })) piece a.2 in
+-- the data that are sent are bytes
+sent_bytes : (c : Statement) (body : List ℕ) (sent : PlaceData) → AreBytes body → place_data_at c body ≡ Ok sent → AreBytes sent.bytes
+sent_bytes c body sent h e =
+    let a = bind_ok (id_at c body) (λ rest. number_or BadPlace 2 rest >>= λ place. must BadPlace (nat_lt place.0 (place_count c.query)) >>= λ _. Ok (record { place = place.0; bytes = place.1 })) sent e in
+    let b = bind_ok (number_or BadPlace 2 a.0) (λ place. must BadPlace (nat_lt place.0 (place_count c.query)) >>= λ _. Ok (record { place = place.0; bytes = place.1 })) sent a.2 in
     let d = bind_ok (must BadPlace (nat_lt b.0.0 (place_count c.query))) (λ _. Ok (record { place = b.0.0; bytes = b.0.1 })) piece b.2 in
-    subst (λ (x : Piece). AreBytes x.bytes) (ok_same {F = StreamFault} (record { place = b.0.0; bytes = b.0.1 }) piece d.2) (number_rest BadPlace 2 a.0 b.0 (id_rest c body a.0 h a.1) b.1)
+    subst (λ (x : PlaceData). AreBytes x.bytes) (ok_same {F = StreamFault} (record { place = b.0.0; bytes = b.0.1 }) sent d.2) (number_rest BadPlace 2 a.0 b.0 (id_rest c body a.0 h a.1) b.1)
 
-piece_said : (c : Statement) (place : ℕ) (k : Command) (body data_bytes : List ℕ) → AreBytes body → speaks_of_place c place k body ≡ Some data_bytes → AreBytes data_bytes
-piece_said c place layout.Text body data_bytes h e = absurd cc
-piece_said c place layout.Prepare body data_bytes h e = absurd cc
-piece_said c place layout.LongData body data_bytes h e = by (piece_at c body) refl e
+-- what waits for each place are bytes
+abbrev WaitAsBytes : (ℕ → Option (List ℕ)) → Type 0
+WaitAsBytes waiting = (place : ℕ) (data_bytes : List ℕ) → waiting place ≡ Some data_bytes → AreBytes data_bytes
+
+more_waits : (waiting : ℕ → Option (List ℕ)) (place : ℕ) (bytes : List ℕ) → AreBytes bytes → WaitAsBytes waiting → WaitAsBytes (more_data waiting place bytes)
+more_waits waiting place bytes are wait other data_bytes e = by (place == other) (waiting other) (wait other) e
   where
-    of_place : (t : Bool) (piece : Piece) → AreBytes piece.bytes → (if t then Some piece.bytes else None) ≡ Some data_bytes → AreBytes data_bytes
-    of_place true piece k f = subst AreBytes (some_same piece.bytes data_bytes f) k
-    of_place false piece k f = absurd cc
+    by : (t : Bool) (o : Option (List ℕ)) → ((x : List ℕ) → o ≡ Some x → AreBytes x) → (if t then Some (unwrap_or o [] ++ bytes) else o) ≡ Some data_bytes → AreBytes data_bytes
+    by true None h f = subst AreBytes (some_same ([] ++ bytes) data_bytes f) are
+    by true (Some x) h f = subst AreBytes (some_same (x ++ bytes) data_bytes f) (bytes_append x bytes (h x refl) are)
+    by false o h f = h data_bytes f
 
-    by : (r : Result Piece StreamFault) → piece_at c body ≡ r → option_and_then (λ piece. if piece.place == place then Some piece.bytes else None) (result_ok r) ≡ Some data_bytes → AreBytes data_bytes
-    by (Ok piece) is f = of_place (piece.place == place) piece (piece_bytes c body piece h is) f
-    by (Err fault) is f = absurd cc
-piece_said c place layout.Execute body data_bytes h e = absurd cc
-piece_said c place layout.Bulk body data_bytes h e = absurd cc
-piece_said c place layout.Reset body data_bytes h e = absurd cc
-piece_said c place layout.Close body data_bytes h e = absurd cc
-piece_said c place layout.Other body data_bytes h e = absurd cc
-
-payload_types : (c : Statement) (payload : List ℕ) → AreBytes payload → (word : Option Types) → said_by (speaks_of_types c) payload ≡ Some word → OwnCount (place_count c.query) word
-payload_types c [] h word e = absurd cc
-payload_types c (b ∷ body) h word e = types_said c (command_of b) body word (bytes_tail b body h) e
-
-payload_piece : (c : Statement) (place : ℕ) (payload : List ℕ) → AreBytes payload → (data_bytes : List ℕ) → said_by (speaks_of_place c place) payload ≡ Some data_bytes → AreBytes data_bytes
-payload_piece c place [] h data_bytes e = absurd cc
-payload_piece c place (b ∷ body) h data_bytes e = piece_said c place (command_of b) body data_bytes (bytes_tail b body h) e
-
--- ---- looking back
-
--- what holds before and of each word that is said holds of the last one
-said_from : {A : Type 0} (P : A → Type 0) (says : List ℕ → Option A) (before : A) (o : Option A) (payloads : List (List ℕ)) → ((payload : List ℕ) → AreBytes payload → (word : A) → says payload ≡ Some word → P word)
-    → AllByRecursion AreBytes payloads → P (unwrap_or o before) → P (unwrap_or (last_or o (filter_map says payloads)) before)
-said_from P says before o [] each h k = k
-said_from {A = A} P says before o (payload ∷ payloads) each h k = by (says payload) (λ next held. said_from P says before next payloads each h.1 held) refl
-  where
-    by : (word : Option A) → ((next : Option A) → P (unwrap_or next before) → P (unwrap_or (last_or next (filter_map says payloads)) before)) → says payload ≡ word
-        → P (unwrap_or (last_or o (cons_option word (filter_map says payloads))) before)
-    by None later e = later o k
-    by (Some word) later e = later (Some word) (each payload h.0 word e)
-
-pub all_append : {X : Type 0} (P : X → Type 0) (xs ys : List X) → AllByRecursion P xs → AllByRecursion P ys → AllByRecursion P (xs ++ ys)
-all_append P [] ys h k = k
-all_append P (x ∷ xs) ys h k = (h.0, all_append P xs ys h.1 k)
-
-all_since : {X : Type 0} (P : X → Type 0) (test : X → Bool) (xs : List X) → AllByRecursion P xs → AllByRecursion P (since test xs)
-all_since P test [] h = tt
-all_since P test (x ∷ xs) h = by (list_any test (x ∷ xs)) (all_since P test xs h.1)
-  where
-    by : (t : Bool) → AllByRecursion P (since test xs) → AllByRecursion P (if t then since test xs else x ∷ xs)
-    by true later = later
-    by false later = h
-
-all_said : (says : List ℕ → Option (List ℕ)) (payloads : List (List ℕ)) → ((payload : List ℕ) → AreBytes payload → (word : List ℕ) → says payload ≡ Some word → AreBytes word)
-    → AllByRecursion AreBytes payloads → AllByRecursion AreBytes (filter_map says payloads)
-all_said says [] each h = tt
-all_said says (payload ∷ payloads) each h = by (says payload) (all_said says payloads each h.1) refl
-  where
-    by : (word : Option (List ℕ)) → AllByRecursion AreBytes (filter_map says payloads) → says payload ≡ word → AllByRecursion AreBytes (cons_option word (filter_map says payloads))
-    by None later e = later
-    by (Some word) later e = (each payload h.0 word e, later)
-
-joined_bytes : (parts : List (List ℕ)) (data_bytes : List ℕ) → AllByRecursion AreBytes parts → joined parts ≡ Some data_bytes → AreBytes data_bytes
-joined_bytes [] data_bytes h e = absurd cc
-joined_bytes (x ∷ xs) data_bytes h e = subst AreBytes (some_same (flat_map (λ part. part) (x ∷ xs)) data_bytes e) (bytes_flat_map (λ part. part) (x ∷ xs) h)
-
--- the types in force are as many as the placeholders, and the pieces that wait are bytes
+-- the types in force are as many as the placeholders, and the long data that wait are bytes
 pub record IsInForce (c : Statement) (s : StatementState) : Type 0 where
   pub types : OwnCount (place_count c.query) s.types
-  pub pieces : (place : ℕ) (data_bytes : List ℕ) → s.pieces place ≡ Some data_bytes → AreBytes data_bytes
+  pub long_data : WaitAsBytes s.long_data
 
 pub nothing_in_force : (c : Statement) → IsInForce c nothing_yet
-nothing_in_force c = record { types = none_own (place_count c.query); pieces = λ place data_bytes e. absurd cc }
+nothing_in_force c = record { types = none_own (place_count c.query); long_data = λ place data_bytes e. absurd cc }
 
-waiting_bytes : (c : Statement) (before : Option (List ℕ)) (payloads : List (List ℕ)) (place : ℕ) (data_bytes : List ℕ) → ((other : List ℕ) → before ≡ Some other → AreBytes other)
-    → AllByRecursion AreBytes payloads → waiting_for c before payloads place ≡ Some data_bytes → AreBytes data_bytes
-waiting_bytes c before payloads place data_bytes held h e =
-    let later = all_said (said_by (speaks_of_place c place)) (since is_end payloads) (payload_piece c place) (all_since AreBytes is_end payloads h) in
-    let earlier = kept (list_any is_end payloads) before held in
-    joined_bytes (option_to_list (if list_any is_end payloads then None else before) ++ filter_map (said_by (speaks_of_place c place)) (since is_end payloads)) data_bytes
-    (all_append AreBytes (option_to_list (if list_any is_end payloads then None else before)) (filter_map (said_by (speaks_of_place c place)) (since is_end payloads)) earlier later) e
-  where
-    kept : (t : Bool) (o : Option (List ℕ)) → ((other : List ℕ) → o ≡ Some other → AreBytes other) → AllByRecursion AreBytes (option_to_list (if t then None else o))
-    kept true o k = tt
-    kept false None k = tt
-    kept false (Some x) k = (k x refl, tt)
+sent_stays : (c : Statement) (s : StatementState) (body : List ℕ) (r : Result PlaceData StreamFault) → place_data_at c body ≡ r → AreBytes body → IsInForce c s → IsInForce c (with_sent s r)
+sent_stays c s body (Err f) e h is = is
+sent_stays c s body (Ok sent) e h is = record { types = is.types; long_data = more_waits s.long_data sent.place sent.bytes (sent_bytes c body sent h e) is.long_data }
 
--- payloads of bytes keep it so
-pub stays_in_force : (c : Statement) (s : StatementState) (payloads : List (List ℕ)) → AllByRecursion AreBytes payloads → IsInForce c s → IsInForce c (state_after c s payloads)
-stays_in_force c s payloads h is = record {
-  types = said_from (OwnCount (place_count c.query)) (said_by (speaks_of_types c)) s.types None payloads (payload_types c) h is.types;
-  pieces = λ place data_bytes e. waiting_bytes c (s.pieces place) payloads place data_bytes (is.pieces place) h e;
+command_stays : (c : Statement) (s : StatementState) (k : Command) (body : List ℕ) → AreBytes body → IsInForce c s → IsInForce c (after_command c s k body)
+command_stays c s layout.Text body h is = is
+command_stays c s layout.Prepare body h is = record { types = none_own (place_count c.query); long_data = λ place data_bytes e. absurd cc }
+command_stays c s layout.LongData body h is = sent_stays c s body (place_data_at c body) refl h is
+command_stays c s layout.Execute body h is = record {
+  types = own_or (place_count c.query) (execute_types c body) s.types (head_types (place_count c.query) (λ (head : ExecuteHead). head.own) (execute_head c body) (λ head e. (execute_is_head c body head h e).own_count)) is.types;
+  long_data = λ place data_bytes e. absurd cc;
 }
+command_stays c s layout.Bulk body h is = record {
+  types = own_or (place_count c.query) (bulk_types c body) s.types (head_types (place_count c.query) (λ (head : BulkHead). head.own) (bulk_head c body) (λ head e. (bulk_is_head c body head h e).own_count)) is.types;
+  long_data = is.long_data;
+}
+command_stays c s layout.Reset body h is = record { types = is.types; long_data = λ place data_bytes e. absurd cc }
+command_stays c s layout.Close body h is = nothing_in_force c
+command_stays c s layout.Other body h is = is
+
+-- a payload of bytes keeps it so
+pub stays_in_force : (c : Statement) (s : StatementState) (payload : List ℕ) → AreBytes payload → IsInForce c s → IsInForce c (after c s payload)
+stays_in_force c s [] h is = is
+stays_in_force c s (b ∷ body) h is = command_stays c s (command_of b) body (bytes_tail b body h) is

@@ -34,7 +34,7 @@ use Rattle.mysql_recoding.specs.Recoding.{Recodes, RefusesRecoding}
 
 -- what it recodes by: the statement, the limit of payloads, and how many placeholders the statement has
 pub record Terms : Type 0 where
-  pub conversation : Statement
+  pub statement : Statement
   pub limit : ℕ
   pub places : ℕ
 
@@ -57,7 +57,7 @@ pub record Recoded : Type 0 where
 abbrev pub recoder_state : Recoded → RecoderState
 recoder_state r =
     record {
-      terms = record { conversation = r.receiver.conversation; limit = r.receiver.limit; places = r.places };
+      terms = record { statement = r.receiver.statement; limit = r.receiver.limit; places = r.places };
       received = receiver_state r.receiver;
       count = r.count;
       prepare = r.prepare;
@@ -79,7 +79,7 @@ answer_by (Some error) = Err error
 pub record IsNewRecoder (query : List ℕ) (id limit : ℕ) (r : RecoderState) : Type 0 where
   pub tokens : List (List ℕ)
   pub has : HasTokens query tokens
-  pub about : IsAbout r.terms.conversation query id
+  pub about : IsAbout r.terms.statement query id
   pub limit_is : r.terms.limit ≡ limit
   pub places : r.terms.places ≡ length (places_from query 0 tokens)
   pub none : query_cause Execute (statement_of query tokens id) (limit - 4) ≡ None
@@ -107,7 +107,7 @@ executions id sets = framings (flat_map (execution_payloads id) (values_of_sets 
 -- what sets append: their executions, and before the first set of all the prepare
 abbrev pub appended_of : RecoderState → List Set → List ℕ
 appended_of r [] = []
-appended_of r (set ∷ sets) = r.prepare ++ executions r.terms.conversation.id (set ∷ sets)
+appended_of r (set ∷ sets) = r.prepare ++ executions r.terms.statement.id (set ∷ sets)
 
 -- what is left of the prepare behind sets
 abbrev pub prepare_behind : RecoderState → List Set → List ℕ
@@ -121,7 +121,7 @@ executions_cause id places limit number sets =
     first_of_sets (set_cause (whole_execution id) places (limit - 4)) number (map Ok (values_of_sets sets))
 
 abbrev pub sets_cause : Terms → ℕ → List Set → Option Refusal
-sets_cause terms number sets = executions_cause terms.conversation.id terms.places terms.limit number sets
+sets_cause terms number sets = executions_cause terms.statement.id terms.places terms.limit number sets
 
 -- the first cause, in the order of the stream, against what it says from here on: against one of
 -- its sets, else how it ends
@@ -131,7 +131,7 @@ cause_from r audit = first_some (option_map error_for (sets_cause r.terms r.coun
 
 -- what is decided of the bytes to come
 abbrev pub Decides : Terms → ReceiverState → List ℕ → Audit → Type 0
-Decides terms state z audit = ReceiverDecides terms.conversation terms.limit state z audit
+Decides terms state z audit = ReceiverDecides terms.statement terms.limit state z audit
 
 -- A piece was recoded: nothing speaks against the sets of the payloads that stand whole with it,
 -- and they are appended. What is held then decides, over the bytes to come, what was decided before
@@ -139,7 +139,7 @@ Decides terms state z audit = ReceiverDecides terms.conversation terms.limit sta
 pub record RecodesPiece (terms : Terms) (old : RecoderState) (piece appended : List ℕ)
     (new : RecoderState) : Type 0 where
   pub sets : List Set
-  pub takes : TakesAll terms.conversation terms.limit old.received piece (with_taken new.received sets)
+  pub takes : TakesAll terms.statement terms.limit old.received piece (with_taken new.received sets)
   pub goes_on : (z : List ℕ) (audit : Audit) → AreBytes z → Decides terms new.received z audit →
       Decides terms old.received (piece ++ z) (with_sets sets audit)
   pub none : sets_cause terms old.count sets ≡ None

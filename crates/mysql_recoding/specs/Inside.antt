@@ -17,8 +17,8 @@ recoder_of r = record {
 
 -- it sends by its receiver's statement and limit, and that statement can be prepared
 pub record IsKept (r : Inside) : Type 0 where
-  pub query : IsQuery r.receiver.conversation.query
-  pub id_is : r.stmt_id ≡ r.receiver.conversation.id
+  pub query : IsQuery r.receiver.statement.query
+  pub id_is : r.stmt_id ≡ r.receiver.statement.id
   pub limit_is : r.limit ≡ r.receiver.limit
   pub room : 4 ≤ r.limit
   pub few : r.places ≤ 65535

@@ -35,7 +35,7 @@ pub record CanBePrepared (query : List ℕ) (id limit places : ℕ) (prepare : L
 abbrev pub EndsPiece : Received → List ℕ → List Set → Received → Option RecodeError → Type 0
 EndsPiece old piece sets new None =
     (new.fault ≡ None) × AreBytes new.partial ×
-    TakesAll old.conversation old.limit (receiver_state old) piece
+    TakesAll old.statement old.limit (receiver_state old) piece
     (with_taken (receiver_state new) sets)
 EndsPiece old piece sets new (Some error) = (fault : StreamFault) × (new.fault ≡ Some fault) ×
     (error ≡ recode_error.Stream new.count fault)
@@ -44,8 +44,8 @@ EndsPiece old piece sets new (Some error) = (fault : StreamFault) × (new.fault 
 pub record ReadsPiece (old : Received) (piece : List ℕ) (sets : List Set)
     (error : Option RecodeError) (new : Received) : Type 0 where
   pub goes_on : (z : List ℕ) (audit : Audit) → AreBytes z →
-      ReceiverDecides old.conversation old.limit (receiver_state new) z audit
-      → ReceiverDecides old.conversation old.limit (receiver_state old) (piece ++ z) (with_sets sets audit)
+      ReceiverDecides old.statement old.limit (receiver_state new) z audit
+      → ReceiverDecides old.statement old.limit (receiver_state old) (piece ++ z) (with_sets sets audit)
   pub none_held : new.sets ≡ []
   pub ends : EndsPiece old piece sets new error
 

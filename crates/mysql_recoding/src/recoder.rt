@@ -79,7 +79,7 @@ fn read_piece(
 ) -> Result<(Vec<Vec<Content>>, Option<RecodeError>), RecodeError>
     ensures ok { IfOk result (λ read. ReadsPiece receiver.old piece.now (sets_of read.0.items) read.1 receiver.new) }
     ensures err { IfErr result (λ error. error ≡ recode_error.Memory) }
-    ensures conversation { receiver.new.conversation ≡ receiver.old.conversation }
+    ensures statement { receiver.new.statement ≡ receiver.old.statement }
     ensures limit { receiver.new.limit ≡ receiver.old.limit }
 {
     match receiver.feed(piece) {

@@ -5,8 +5,7 @@
 
 ghost use Rattle.std.specs.Prelude.{◌≡◌, [], IfOk, None, IsOkUnless, false};
 ghost use Rattle.std.specs.Cow.{cow_slice_items, cow_str_bytes};
-ghost use Rattle.std.specs.Str.{encode_utf8_all};
-ghost use Rattle.bstr.specs.Utf8.{lossy_chars};
+ghost use Rattle.mysql_fields.specs.Texts.{lossy_text};
 ghost use Rattle.mysql_fields.specs.Laws.{unsized};
 ghost use Rattle.mysql_fields.specs.Wire.{TellsPart};
 ghost use Rattle.mysql_replication.specs.PacketLaws.{binlog_dump_at-back};
@@ -15,14 +14,13 @@ ghost use Rattle.mysql_replication.specs.Packets.{binlog_dump_fields_at};
 ghost use Rattle.mysql_replication.specs.Views.{binlog_dump_view};
 ghost use Rattle.mysql_fields.specs.declared.error.WireError.TheVariants as wire;
 
-use crate::fields::{LastText, copy_of, lossy};
 use crate::headers::ComBinlogDumpHeader;
 use mysql_buf::ParseBuf;
 use mysql_const::BinlogDumpFlags;
 use mysql_field_constants::Const;
 use mysql_fields::{
-    LeU16, LeU32, MyDeserialize, MySerialize, ParseExt, RawInt, Readable, ReadsBack, WireError,
-    in_order,
+    EofBytes, LeU16, LeU32, MyDeserialize, MySerialize, ParseExt, RawBytes, RawInt, Readable,
+    ReadsBack, WireError, copy_bytes, in_order, lossy_text,
 };
 use std::alloc::{AllocError, Global};
 use std::borrow::{CowSlice, CowStr};
@@ -114,9 +112,9 @@ impl<'a> ComBinlogDump<'a> {
     pub fn filename(&self, alloc: Global) -> Result<CowStr<'_>, WireError>
         ensures memory { IsOkUnless result wire.Memory }
         ensures value { IfOk result (λ text. cow_str_bytes text ≡
-            encode_utf8_all (lossy_chars (binlog_dump_view self.now).filename)) }
+            lossy_text (binlog_dump_view self.now).filename) }
     {
-        lossy(alloc, self.filename_raw())
+        lossy_text(alloc, self.filename_raw())
     }
 
     /// A copy, which borrows nothing.
@@ -126,7 +124,7 @@ impl<'a> ComBinlogDump<'a> {
     pub fn clone(&self, alloc: Global) -> Result<ComBinlogDump<'static>, AllocError>
         ensures { IfOk result (λ copy. binlog_dump_view copy ≡ binlog_dump_view self.now) }
     {
-        let filename = copy_of(alloc, self.filename.as_slice())?;
+        let filename = copy_bytes(alloc, self.filename.as_slice())?;
         Ok(ComBinlogDump {
             pos: self.pos,
             flags: self.flags,
@@ -145,7 +143,7 @@ impl<'a> MySerialize for ComBinlogDump<'a> {
         let pos: RawInt<LeU32> = RawInt::new(self.pos);
         let flags: RawInt<LeU16> = RawInt::new(self.flags.0);
         let server_id: RawInt<LeU32> = RawInt::new(self.server_id);
-        let filename = LastText(self.filename_raw());
+        let filename: RawBytes<EofBytes> = RawBytes::from(self.filename_raw());
         in_order!(header, pos, flags, server_id, filename).serialize(buf)
     }
 }
@@ -188,13 +186,9 @@ fn fields_from<'de>(
     ensures { TellsPart binlog_dump_view rest.new.0.now result (binlog_dump_fields_at rest.old.0.now) }
 {
     let _header: ComBinlogDumpHeader = rest.parse(alloc, ())?;
-    let Some(pos) = rest.checked_eat_u32_le() else {
-        return Err(WireError::UnexpectedEof);
-    };
+    let pos = rest.checked_eat_u32_le().ok_or(WireError::UnexpectedEof)?;
     let flags: Const<BinlogDumpFlags, LeU16> = rest.parse(alloc, ())?;
-    let Some(server_id) = rest.checked_eat_u32_le() else {
-        return Err(WireError::UnexpectedEof);
-    };
+    let server_id = rest.checked_eat_u32_le().ok_or(WireError::UnexpectedEof)?;
     let filename = CowSlice::Borrowed(rest.eat_all());
     Ok(ComBinlogDump {
         pos,

@@ -5,10 +5,9 @@
 
 ghost use Rattle.std.specs.Prelude.{◌≡◌, ◌^◌, ◌-◌, ◌++◌, ◌∷◌, [], Bool, IfOk, None, map, IsOkUnless};
 ghost use Rattle.std.specs.Cow.{cow_slice_items, cow_str_bytes};
-ghost use Rattle.std.specs.Str.{encode_utf8_all};
-ghost use Rattle.bstr.specs.Utf8.{lossy_chars};
 ghost use Rattle.mysql_buf.specs.Writing.{front};
 ghost use Rattle.mysql_gtid.specs.Sids.{sid_view};
+ghost use Rattle.mysql_fields.specs.Texts.{lossy_text};
 ghost use Rattle.mysql_fields.specs.Laws.{unsized};
 ghost use Rattle.mysql_fields.specs.Wire.{GivesPart, TellsPart};
 ghost use Rattle.mysql_replication.specs.PacketLaws.{binlog_dump_gtid_at-back};
@@ -18,15 +17,14 @@ ghost use Rattle.mysql_replication.specs.Packets.{binlog_dump_gtid_front_at, bin
 ghost use Rattle.mysql_replication.specs.Views.{binlog_dump_gtid_view, start_view};
 ghost use Rattle.mysql_fields.specs.declared.error.WireError.TheVariants as wire;
 
-use crate::fields::{LongText, copy_of, lossy};
 use crate::headers::ComBinlogDumpGtidHeader;
 use bitflags::Flags;
 use mysql_buf::{ParseBuf, front_of};
 use mysql_const::BinlogDumpFlags;
 use mysql_field_constants::Const;
 use mysql_fields::{
-    LeU16, LeU32, LeU64, MyDeserialize, MySerialize, ParseExt, RawInt, Readable, ReadsBack,
-    WireError, in_order,
+    LeU16, LeU32, LeU64, MyDeserialize, MySerialize, ParseExt, RawBytes, RawInt, Readable,
+    ReadsBack, U32Bytes, WireError, copy_bytes, in_order, lossy_text,
 };
 use mysql_gtid::{Sid, SidBlock};
 use std::alloc::{AllocError, Global};
@@ -182,10 +180,9 @@ impl<'a> ComBinlogDumpGtid<'a> {
     pub fn filename(&self, alloc: Global) -> Result<CowStr<'_>, WireError>
         ensures memory { IsOkUnless result wire.Memory }
         ensures value { IfOk result (λ text. cow_str_bytes text ≡
-            encode_utf8_all (lossy_chars
-            (front (binlog_dump_gtid_view self.now).filename (2 ^ 32 - 1)))) }
+            lossy_text (front (binlog_dump_gtid_view self.now).filename (2 ^ 32 - 1))) }
     {
-        lossy(alloc, self.filename_raw())
+        lossy_text(alloc, self.filename_raw())
     }
 
     /// The position.
@@ -209,7 +206,7 @@ impl<'a> ComBinlogDumpGtid<'a> {
     pub fn clone(&self, alloc: Global) -> Result<ComBinlogDumpGtid<'static>, AllocError>
         ensures { IfOk result (λ copy. binlog_dump_gtid_view copy ≡ binlog_dump_gtid_view self.now) }
     {
-        let filename = copy_of(alloc, self.filename.as_slice())?;
+        let filename = copy_bytes(alloc, self.filename.as_slice())?;
         let sids = copies_of(alloc, self.sids.as_slice())?;
         Ok(ComBinlogDumpGtid {
             flags: self.flags,
@@ -275,7 +272,7 @@ impl<'a> MySerialize for ComBinlogDumpGtid<'a> {
         let header = ComBinlogDumpGtidHeader::new();
         let flags: RawInt<LeU16> = RawInt::new(self.flags.0);
         let server_id: RawInt<LeU32> = RawInt::new(self.server_id);
-        let filename = LongText(self.filename.as_slice());
+        let filename: RawBytes<U32Bytes> = RawBytes::from(self.filename.as_slice());
         let pos: RawInt<LeU64> = RawInt::new(self.pos);
         let block = SidBlock(CowSlice::Borrowed(self.sids.as_slice()));
         let block_len: RawInt<LeU32> = RawInt::new(block.byte_len());
@@ -319,9 +316,7 @@ fn front_from(alloc: Global, rest: &mut ParseBuf) -> Result<(BinlogDumpFlags, u3
 {
     let _header: ComBinlogDumpGtidHeader = rest.parse(alloc, ())?;
     let flags: Const<BinlogDumpFlags, LeU16> = rest.parse(alloc, ())?;
-    let Some(server_id) = rest.checked_eat_u32_le() else {
-        return Err(WireError::UnexpectedEof);
-    };
+    let server_id = rest.checked_eat_u32_le().ok_or(WireError::UnexpectedEof)?;
     Ok((flags.0, server_id))
 }
 
@@ -337,15 +332,9 @@ struct Start<'a> {
 fn start_from<'de>(rest: &mut ParseBuf<'de>) -> Result<Start<'de>, WireError>
     ensures { TellsPart start_view rest.new.0.now result (binlog_dump_gtid_start_at rest.old.0.now) }
 {
-    let Some(filename) = rest.checked_eat_u32_str() else {
-        return Err(WireError::UnexpectedEof);
-    };
-    let Some(pos) = rest.checked_eat_u64_le() else {
-        return Err(WireError::UnexpectedEof);
-    };
-    let Some(block) = rest.checked_eat_u32_str() else {
-        return Err(WireError::UnexpectedEof);
-    };
+    let filename = rest.checked_eat_u32_str().ok_or(WireError::UnexpectedEof)?;
+    let pos = rest.checked_eat_u64_le().ok_or(WireError::UnexpectedEof)?;
+    let block = rest.checked_eat_u32_str().ok_or(WireError::UnexpectedEof)?;
     Ok(Start {
         filename,
         pos,

@@ -5,8 +5,7 @@
 
 ghost use Rattle.std.specs.Prelude.{◌≡◌, [], false, IfOk, map, IsOkUnless};
 ghost use Rattle.std.specs.Cow.{cow_slice_items, cow_str_bytes};
-ghost use Rattle.std.specs.Str.{encode_utf8_all};
-ghost use Rattle.bstr.specs.Utf8.{lossy_chars};
+ghost use Rattle.mysql_fields.specs.Texts.{lossy_text};
 ghost use Rattle.mysql_gtid.specs.Sids.{sid_view};
 ghost use Rattle.mysql_field_constants.specs.Either.{either_shown};
 ghost use Rattle.mysql_replication.specs.Packets.{packet_of};
@@ -15,11 +14,10 @@ ghost use Rattle.mysql_fields.specs.declared.error.WireError.TheVariants as wire
 
 use crate::binlog_dump::ComBinlogDump;
 use crate::binlog_dump_gtid::{ComBinlogDumpGtid, copies_of};
-use crate::fields::{copy_of, lossy};
 use bitflags::Flags;
 use mysql_const::BinlogDumpFlags;
 use mysql_field_constants::Either;
-use mysql_fields::WireError;
+use mysql_fields::{WireError, copy_bytes, lossy_text};
 use mysql_gtid::Sid;
 use std::alloc::{AllocError, Global};
 use std::borrow::{CowSlice, CowStr};
@@ -146,9 +144,9 @@ impl<'a> BinlogRequest<'a> {
     pub fn filename(&self, alloc: Global) -> Result<CowStr<'_>, WireError>
         ensures memory { IsOkUnless result wire.Memory }
         ensures value { IfOk result (λ text. cow_str_bytes text ≡
-            encode_utf8_all (lossy_chars (request_view self.now).filename)) }
+            lossy_text (request_view self.now).filename) }
     {
-        lossy(alloc, self.filename_raw())
+        lossy_text(alloc, self.filename_raw())
     }
 
     /// The position.
@@ -198,7 +196,7 @@ impl<'a> BinlogRequest<'a> {
     pub fn clone(&self, alloc: Global) -> Result<BinlogRequest<'static>, AllocError>
         ensures { IfOk result (λ copy. request_view copy ≡ request_view self.now) }
     {
-        let filename = copy_of(alloc, self.filename.as_slice())?;
+        let filename = copy_bytes(alloc, self.filename.as_slice())?;
         let sids = copies_of(alloc, self.sids.as_slice())?;
         Ok(BinlogRequest {
             server_id: self.server_id,

@@ -4,7 +4,6 @@
 pub mod binlog_dump;
 pub mod binlog_dump_gtid;
 pub mod binlog_request;
-mod fields;
 pub mod headers;
 pub mod laws;
 pub mod register_slave;

@@ -5,8 +5,7 @@
 
 ghost use Rattle.std.specs.Prelude.{◌≡◌, [], IfOk, None, IsOkUnless, false};
 ghost use Rattle.std.specs.Cow.{cow_slice_items, cow_str_bytes};
-ghost use Rattle.std.specs.Str.{encode_utf8_all};
-ghost use Rattle.bstr.specs.Utf8.{lossy_chars};
+ghost use Rattle.mysql_fields.specs.Texts.{lossy_text};
 ghost use Rattle.mysql_buf.specs.Writing.{front};
 ghost use Rattle.mysql_fields.specs.Laws.{unsized};
 ghost use Rattle.mysql_fields.specs.Wire.{TellsPart};
@@ -16,12 +15,11 @@ ghost use Rattle.mysql_replication.specs.Packets.{register_slave_fields_at, repl
 ghost use Rattle.mysql_replication.specs.Views.{names_view, numbers_view, register_slave_view};
 ghost use Rattle.mysql_fields.specs.declared.error.WireError.TheVariants as wire;
 
-use crate::fields::{ShortText, copy_of, lossy};
 use crate::headers::ComRegisterSlaveHeader;
 use mysql_buf::{ParseBuf, front_of};
 use mysql_fields::{
-    LeU16, LeU32, MyDeserialize, MySerialize, ParseExt, RawInt, Readable, ReadsBack, WireError,
-    in_order,
+    LeU16, LeU32, MyDeserialize, MySerialize, ParseExt, RawBytes, RawInt, Readable, ReadsBack,
+    U8Bytes, WireError, copy_bytes, in_order, lossy_text,
 };
 use std::alloc::{AllocError, Global};
 use std::borrow::{CowSlice, CowStr};
@@ -142,9 +140,9 @@ impl<'a> ComRegisterSlave<'a> {
     pub fn hostname(&self, alloc: Global) -> Result<CowStr<'_>, WireError>
         ensures memory { IsOkUnless result wire.Memory }
         ensures value { IfOk result (λ text. cow_str_bytes text ≡
-            encode_utf8_all (lossy_chars (front (register_slave_view self.now).hostname 255))) }
+            lossy_text (front (register_slave_view self.now).hostname 255)) }
     {
-        lossy(alloc, self.hostname_raw())
+        lossy_text(alloc, self.hostname_raw())
     }
 
     /// The bytes of the user's name: those that are written, at most 255.
@@ -161,9 +159,9 @@ impl<'a> ComRegisterSlave<'a> {
     pub fn user(&self, alloc: Global) -> Result<CowStr<'_>, WireError>
         ensures memory { IsOkUnless result wire.Memory }
         ensures value { IfOk result (λ text. cow_str_bytes text ≡
-            encode_utf8_all (lossy_chars (front (register_slave_view self.now).user 255))) }
+            lossy_text (front (register_slave_view self.now).user 255)) }
     {
-        lossy(alloc, self.user_raw())
+        lossy_text(alloc, self.user_raw())
     }
 
     /// The bytes of the password: those that are written, at most 255.
@@ -180,9 +178,9 @@ impl<'a> ComRegisterSlave<'a> {
     pub fn password(&self, alloc: Global) -> Result<CowStr<'_>, WireError>
         ensures memory { IsOkUnless result wire.Memory }
         ensures value { IfOk result (λ text. cow_str_bytes text ≡
-            encode_utf8_all (lossy_chars (front (register_slave_view self.now).password 255))) }
+            lossy_text (front (register_slave_view self.now).password 255)) }
     {
-        lossy(alloc, self.password_raw())
+        lossy_text(alloc, self.password_raw())
     }
 
     /// The port.
@@ -213,9 +211,9 @@ impl<'a> ComRegisterSlave<'a> {
     pub fn clone(&self, alloc: Global) -> Result<ComRegisterSlave<'static>, AllocError>
         ensures { IfOk result (λ copy. register_slave_view copy ≡ register_slave_view self.now) }
     {
-        let hostname = copy_of(alloc, self.hostname.as_slice())?;
-        let user = copy_of(alloc, self.user.as_slice())?;
-        let password = copy_of(alloc, self.password.as_slice())?;
+        let hostname = copy_bytes(alloc, self.hostname.as_slice())?;
+        let user = copy_bytes(alloc, self.user.as_slice())?;
+        let password = copy_bytes(alloc, self.password.as_slice())?;
         Ok(ComRegisterSlave {
             server_id: self.server_id,
             hostname,
@@ -235,9 +233,9 @@ impl<'a> MySerialize for ComRegisterSlave<'a> {
     fn serialize(&self, buf: &mut Vec<u8>) -> Result<(), AllocError> {
         let header = ComRegisterSlaveHeader::new();
         let server_id: RawInt<LeU32> = RawInt::new(self.server_id);
-        let hostname = ShortText(self.hostname.as_slice());
-        let user = ShortText(self.user.as_slice());
-        let password = ShortText(self.password.as_slice());
+        let hostname: RawBytes<U8Bytes> = RawBytes::from(self.hostname.as_slice());
+        let user: RawBytes<U8Bytes> = RawBytes::from(self.user.as_slice());
+        let password: RawBytes<U8Bytes> = RawBytes::from(self.password.as_slice());
         let port: RawInt<LeU16> = RawInt::new(self.port);
         let replication_rank: RawInt<LeU32> = RawInt::new(self.replication_rank);
         let master_id: RawInt<LeU32> = RawInt::new(self.master_id);
@@ -297,15 +295,9 @@ struct Names<'a> {
 fn names_from<'de>(rest: &mut ParseBuf<'de>) -> Result<Names<'de>, WireError>
     ensures { TellsPart names_view rest.new.0.now result (replica_names_at rest.old.0.now) }
 {
-    let Some(hostname) = rest.checked_eat_u8_str() else {
-        return Err(WireError::UnexpectedEof);
-    };
-    let Some(user) = rest.checked_eat_u8_str() else {
-        return Err(WireError::UnexpectedEof);
-    };
-    let Some(password) = rest.checked_eat_u8_str() else {
-        return Err(WireError::UnexpectedEof);
-    };
+    let hostname = rest.checked_eat_u8_str().ok_or(WireError::UnexpectedEof)?;
+    let user = rest.checked_eat_u8_str().ok_or(WireError::UnexpectedEof)?;
+    let password = rest.checked_eat_u8_str().ok_or(WireError::UnexpectedEof)?;
     Ok(Names {
         hostname,
         user,
@@ -325,15 +317,9 @@ struct Numbers {
 fn numbers_from(rest: &mut ParseBuf) -> Result<Numbers, WireError>
     ensures { TellsPart numbers_view rest.new.0.now result (replica_numbers_at rest.old.0.now) }
 {
-    let Some(port) = rest.checked_eat_u16_le() else {
-        return Err(WireError::UnexpectedEof);
-    };
-    let Some(replication_rank) = rest.checked_eat_u32_le() else {
-        return Err(WireError::UnexpectedEof);
-    };
-    let Some(master_id) = rest.checked_eat_u32_le() else {
-        return Err(WireError::UnexpectedEof);
-    };
+    let port = rest.checked_eat_u16_le().ok_or(WireError::UnexpectedEof)?;
+    let replication_rank = rest.checked_eat_u32_le().ok_or(WireError::UnexpectedEof)?;
+    let master_id = rest.checked_eat_u32_le().ok_or(WireError::UnexpectedEof)?;
     Ok(Numbers {
         port,
         replication_rank,
@@ -350,9 +336,7 @@ fn fields_from<'de>(
     ensures { TellsPart register_slave_view rest.new.0.now result (register_slave_fields_at rest.old.0.now) }
 {
     let _header: ComRegisterSlaveHeader = rest.parse(alloc, ())?;
-    let Some(server_id) = rest.checked_eat_u32_le() else {
-        return Err(WireError::UnexpectedEof);
-    };
+    let server_id = rest.checked_eat_u32_le().ok_or(WireError::UnexpectedEof)?;
     let names = names_from(rest)?;
     let numbers = numbers_from(rest)?;
     Ok(ComRegisterSlave {

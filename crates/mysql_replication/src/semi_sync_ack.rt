@@ -4,8 +4,7 @@
 
 ghost use Rattle.std.specs.Prelude.{◌≡◌, [], IfOk, None, IsOkUnless, false};
 ghost use Rattle.std.specs.Cow.{cow_slice_items, cow_str_bytes};
-ghost use Rattle.std.specs.Str.{encode_utf8_all};
-ghost use Rattle.bstr.specs.Utf8.{lossy_chars};
+ghost use Rattle.mysql_fields.specs.Texts.{lossy_text};
 ghost use Rattle.mysql_fields.specs.Laws.{unsized};
 ghost use Rattle.mysql_fields.specs.Wire.{TellsPart};
 ghost use Rattle.mysql_replication.specs.PacketLaws.{semi_sync_ack_at-back};
@@ -14,11 +13,11 @@ ghost use Rattle.mysql_replication.specs.Packets.{semi_sync_ack_fields_at};
 ghost use Rattle.mysql_replication.specs.Views.{semi_sync_ack_view};
 ghost use Rattle.mysql_fields.specs.declared.error.WireError.TheVariants as wire;
 
-use crate::fields::{LastText, lossy};
 use crate::headers::SemiSyncAckPacketPacketHeader;
 use mysql_buf::ParseBuf;
 use mysql_fields::{
-    LeU64, MyDeserialize, MySerialize, ParseExt, RawInt, Readable, ReadsBack, WireError, in_order,
+    EofBytes, LeU64, MyDeserialize, MySerialize, ParseExt, RawBytes, RawInt, Readable, ReadsBack,
+    WireError, in_order, lossy_text,
 };
 use std::alloc::{AllocError, Global};
 use std::borrow::{CowSlice, CowStr};
@@ -84,9 +83,9 @@ impl<'a> SemiSyncAckPacket<'a> {
     pub fn filename(&self, alloc: Global) -> Result<CowStr<'_>, WireError>
         ensures memory { IsOkUnless result wire.Memory }
         ensures value { IfOk result (λ text. cow_str_bytes text ≡
-            encode_utf8_all (lossy_chars (semi_sync_ack_view self.now).filename)) }
+            lossy_text (semi_sync_ack_view self.now).filename) }
     {
-        lossy(alloc, self.filename_raw())
+        lossy_text(alloc, self.filename_raw())
     }
 }
 
@@ -96,7 +95,7 @@ impl<'a> MySerialize for SemiSyncAckPacket<'a> {
 
     fn serialize(&self, buf: &mut Vec<u8>) -> Result<(), AllocError> {
         let position: RawInt<LeU64> = RawInt::new(self.position);
-        let filename = LastText(self.filename_raw());
+        let filename: RawBytes<EofBytes> = RawBytes::from(self.filename_raw());
         in_order!(SemiSyncAckPacketPacketHeader::new(), position, filename).serialize(buf)
     }
 }
@@ -139,9 +138,7 @@ fn fields_from<'de>(
     ensures { TellsPart semi_sync_ack_view rest.new.0.now result (semi_sync_ack_fields_at rest.old.0.now) }
 {
     let _header: SemiSyncAckPacketPacketHeader = rest.parse(alloc, ())?;
-    let Some(position) = rest.checked_eat_u64_le() else {
-        return Err(WireError::UnexpectedEof);
-    };
+    let position = rest.checked_eat_u64_le().ok_or(WireError::UnexpectedEof)?;
     let filename = CowSlice::Borrowed(rest.eat_all());
     Ok(SemiSyncAckPacket::new(position, filename))
 }

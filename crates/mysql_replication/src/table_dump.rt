@@ -4,8 +4,7 @@
 
 ghost use Rattle.std.specs.Prelude.{◌≡◌, IfOk, None, IsOkUnless, false};
 ghost use Rattle.std.specs.Cow.{cow_slice_items, cow_str_bytes};
-ghost use Rattle.std.specs.Str.{encode_utf8_all};
-ghost use Rattle.bstr.specs.Utf8.{lossy_chars};
+ghost use Rattle.mysql_fields.specs.Texts.{lossy_text};
 ghost use Rattle.mysql_buf.specs.Writing.{front};
 ghost use Rattle.mysql_fields.specs.Laws.{unsized};
 ghost use Rattle.mysql_replication.specs.PacketLaws.{table_dump_at-back};
@@ -13,11 +12,11 @@ ghost use Rattle.mysql_replication.specs.Packets.{IsTableDump, TableDump, table_
 ghost use Rattle.mysql_replication.specs.Views.{table_dump_view};
 ghost use Rattle.mysql_fields.specs.declared.error.WireError.TheVariants as wire;
 
-use crate::fields::{ShortText, copy_of, lossy};
 use crate::headers::ComTableDumpHeader;
 use mysql_buf::{ParseBuf, front_of};
 use mysql_fields::{
-    MyDeserialize, MySerialize, ParseExt, Readable, ReadsBack, WireError, in_order,
+    MyDeserialize, MySerialize, ParseExt, RawBytes, Readable, ReadsBack, U8Bytes, WireError,
+    copy_bytes, in_order, lossy_text,
 };
 use std::alloc::{AllocError, Global};
 use std::borrow::{CowSlice, CowStr};
@@ -61,9 +60,9 @@ impl<'a> ComTableDump<'a> {
     pub fn database(&self, alloc: Global) -> Result<CowStr<'_>, WireError>
         ensures memory { IsOkUnless result wire.Memory }
         ensures value { IfOk result (λ text. cow_str_bytes text ≡
-            encode_utf8_all (lossy_chars (front (table_dump_view self.now).database 255))) }
+            lossy_text (front (table_dump_view self.now).database 255)) }
     {
-        lossy(alloc, self.database_raw())
+        lossy_text(alloc, self.database_raw())
     }
 
     /// The bytes of the table's name: those that are written, at most 255.
@@ -80,9 +79,9 @@ impl<'a> ComTableDump<'a> {
     pub fn table(&self, alloc: Global) -> Result<CowStr<'_>, WireError>
         ensures memory { IsOkUnless result wire.Memory }
         ensures value { IfOk result (λ text. cow_str_bytes text ≡
-            encode_utf8_all (lossy_chars (front (table_dump_view self.now).table 255))) }
+            lossy_text (front (table_dump_view self.now).table 255)) }
     {
-        lossy(alloc, self.table_raw())
+        lossy_text(alloc, self.table_raw())
     }
 
     /// A copy, which borrows nothing.
@@ -92,8 +91,8 @@ impl<'a> ComTableDump<'a> {
     pub fn clone(&self, alloc: Global) -> Result<ComTableDump<'static>, AllocError>
         ensures { IfOk result (λ copy. table_dump_view copy ≡ table_dump_view self.now) }
     {
-        let database = copy_of(alloc, self.database.as_slice())?;
-        let table = copy_of(alloc, self.table.as_slice())?;
+        let database = copy_bytes(alloc, self.database.as_slice())?;
+        let table = copy_bytes(alloc, self.table.as_slice())?;
         Ok(ComTableDump { database, table })
     }
 }
@@ -103,8 +102,8 @@ impl<'a> MySerialize for ComTableDump<'a> {
     ghost written = { λ p. table_dump (table_dump_view p) };
 
     fn serialize(&self, buf: &mut Vec<u8>) -> Result<(), AllocError> {
-        let database = ShortText(self.database.as_slice());
-        let table = ShortText(self.table.as_slice());
+        let database: RawBytes<U8Bytes> = RawBytes::from(self.database.as_slice());
+        let table: RawBytes<U8Bytes> = RawBytes::from(self.table.as_slice());
         in_order!(ComTableDumpHeader::new(), database, table).serialize(buf)
     }
 }
@@ -158,12 +157,8 @@ impl<'de> MyDeserialize<'de> for ComTableDump<'de> {
     ) -> Result<ComTableDump<'de>, WireError> {
         let mut rest = *buf;
         let _header: ComTableDumpHeader = rest.parse(alloc, ())?;
-        let Some(database) = rest.checked_eat_u8_str() else {
-            return Err(WireError::UnexpectedEof);
-        };
-        let Some(table) = rest.checked_eat_u8_str() else {
-            return Err(WireError::UnexpectedEof);
-        };
+        let database = rest.checked_eat_u8_str().ok_or(WireError::UnexpectedEof)?;
+        let table = rest.checked_eat_u8_str().ok_or(WireError::UnexpectedEof)?;
         *buf = rest;
         Ok(ComTableDump::new(CowSlice::Borrowed(database), CowSlice::Borrowed(table)))
     }

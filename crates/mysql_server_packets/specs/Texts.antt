@@ -1,19 +1,14 @@
 -- The texts of errors and of progress reports, as they are shown.
 use Rattle.std.specs.Prelude.{ℕ, ◌/◌, ◌%◌, List, ◌++◌, codes, Option, Some, None}
 use Rattle.std.specs.Fmt.{decimal}
-use Rattle.std.specs.Str.{encode_utf8_all}
-use Rattle.bstr.specs.Utf8.{lossy_chars}
+use Rattle.mysql_fields.specs.Texts.{lossy_text}
 use Rattle.mysql_server_packets.specs.Packets.{Error, ErrPacket, Progress, ProgressReport, ServerError}
-
--- Bytes as text, where those that aren't UTF-8 are replaced.
-abbrev pub lossy : List ℕ → List ℕ
-lossy bytes = encode_utf8_all (lossy_chars bytes)
 
 -- An error's code, its state in brackets, where it has one, and its message.
 abbrev pub error_text : ℕ → Option (List ℕ) → List ℕ → List ℕ
-error_text code None message = codes "ERROR " ++ decimal code ++ codes ": " ++ lossy message
+error_text code None message = codes "ERROR " ++ decimal code ++ codes ": " ++ lossy_text message
 error_text code (Some state) message = codes "ERROR " ++ decimal code ++ codes " (" ++
-    lossy state ++ codes "): " ++ lossy message
+    lossy_text state ++ codes "): " ++ lossy_text message
 
 abbrev pub server_error_text : ServerError → List ℕ
 server_error_text e = error_text e.error_code e.sql_state e.error_message
@@ -26,7 +21,7 @@ share_text n = decimal (n / 1000) ++ codes "." ++ decimal (n / 100 % 10) ++ deci
 abbrev pub progress_report_text : ProgressReport → List ℕ
 progress_report_text r =
     codes "Stage: " ++ decimal r.stage ++ codes " of " ++ decimal r.max_stage ++ codes " '" ++
-    lossy r.progress_info ++ codes "'  " ++ share_text r.progress
+    lossy_text r.progress_info ++ codes "'  " ++ share_text r.progress
     ++ codes "% of stage done"
 
 abbrev pub err_packet_text : ErrPacket → List ℕ

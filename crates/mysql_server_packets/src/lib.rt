@@ -9,7 +9,6 @@ pub mod local_infile;
 pub mod progress_report;
 pub mod server_error;
 pub mod statement;
-mod texts;
 
 pub use err_packet::ErrPacket;
 pub use headers::{

@@ -9,15 +9,14 @@ ghost use Rattle.mysql_fields.specs.Laws.{unsized};
 ghost use Rattle.mysql_fields.specs.declared.error.WireError.TheVariants as wire;
 ghost use Rattle.mysql_server_packets.specs.PacketLaws.{local_infile_at-back};
 ghost use Rattle.mysql_server_packets.specs.Packets.{local_infile, local_infile_at};
-ghost use Rattle.mysql_server_packets.specs.Texts.{lossy};
+ghost use Rattle.mysql_fields.specs.Texts.{lossy_text};
 ghost use Rattle.mysql_server_packets.specs.Views.{local_infile_view};
 
 use crate::headers::LocalInfileHeader;
-use crate::texts::{copy_of, lossy};
 use mysql_buf::ParseBuf;
 use mysql_fields::{
     EofBytes, MyDeserialize, MySerialize, ParseExt, RawBytes, Readable, ReadsBack, WireError,
-    in_order,
+    copy_bytes, in_order, lossy_text, own_bytes,
 };
 use std::alloc::{AllocError, Global};
 use std::borrow::{CowSlice, CowStr};
@@ -54,9 +53,9 @@ impl<'a> LocalInfilePacket<'a> {
     /// - `Memory`.
     pub fn file_name_str(&self, alloc: Global) -> Result<CowStr<'_>, WireError>
         ensures memory { IsOkUnless result wire.Memory }
-        ensures value { IfOk result (λ text. cow_str_bytes text ≡ lossy (local_infile_view self.now)) }
+        ensures value { IfOk result (λ text. cow_str_bytes text ≡ lossy_text (local_infile_view self.now)) }
     {
-        lossy(alloc, self.file_name_ref())
+        lossy_text(alloc, self.file_name_ref())
     }
 
     /// The request in bytes of its own: it borrows nothing.
@@ -67,7 +66,7 @@ impl<'a> LocalInfilePacket<'a> {
         ensures { IfOk result (λ owned. local_infile_view owned ≡ local_infile_view self.entry) }
     {
         Ok(LocalInfilePacket {
-            file_name: CowSlice::Owned(self.file_name.into_owned(alloc)?),
+            file_name: own_bytes(alloc, self.file_name)?,
         })
     }
 
@@ -79,7 +78,7 @@ impl<'a> LocalInfilePacket<'a> {
         ensures { IfOk result (λ copy. local_infile_view copy ≡ local_infile_view self.now) }
     {
         Ok(LocalInfilePacket {
-            file_name: copy_of(alloc, self.file_name.as_slice())?,
+            file_name: copy_bytes(alloc, self.file_name.as_slice())?,
         })
     }
 }

@@ -12,15 +12,15 @@ ghost use Rattle.mysql_server_packets.specs.Packets.{IsProgressReport, ProgressR
 ghost use Rattle.mysql_server_packets.specs.Packets.{numbers_in};
 ghost use Rattle.mysql_server_packets.specs.Packets.{progress_body, progress_body_at, stage_progress};
 ghost use Rattle.mysql_server_packets.specs.Packets.{stage_progress_at};
-ghost use Rattle.mysql_server_packets.specs.Texts.{lossy, progress_report_text, share_text};
+ghost use Rattle.mysql_fields.specs.Texts.{lossy_text};
+ghost use Rattle.mysql_server_packets.specs.Texts.{progress_report_text, share_text};
 ghost use Rattle.mysql_server_packets.specs.Views.{progress_report_view, stage_progress_view};
 
-use crate::texts::{copy_of, lossy};
 use bstr::BStr;
 use mysql_buf::ParseBuf;
 use mysql_fields::{
     LeU24, LenEnc, MyDeserialize, MySerialize, ParseExt, RawBytes, RawInt, Readable, ReadsBack,
-    WireError, in_order,
+    WireError, copy_bytes, in_order, lossy_text, own_bytes,
 };
 use std::alloc::{AllocError, Global};
 use std::borrow::{CowSlice, CowStr};
@@ -102,9 +102,10 @@ impl<'a> ProgressReport<'a> {
     /// - `Memory`.
     pub fn stage_info_str(&self, alloc: Global) -> Result<CowStr<'_>, WireError>
         ensures memory { IsOkUnless result wire.Memory }
-        ensures value { IfOk result (λ text. cow_str_bytes text ≡ lossy (progress_report_view self.now).progress_info) }
+        ensures value { IfOk result (λ text. cow_str_bytes text ≡
+            lossy_text (progress_report_view self.now).progress_info) }
     {
-        lossy(alloc, self.stage_info_ref())
+        lossy_text(alloc, self.stage_info_ref())
     }
 
     /// The report in bytes of its own: it borrows nothing.
@@ -118,7 +119,7 @@ impl<'a> ProgressReport<'a> {
             stage: self.stage,
             max_stage: self.max_stage,
             progress: self.progress,
-            stage_info: CowSlice::Owned(self.stage_info.into_owned(alloc)?),
+            stage_info: own_bytes(alloc, self.stage_info)?,
         })
     }
 
@@ -133,7 +134,7 @@ impl<'a> ProgressReport<'a> {
             stage: self.stage,
             max_stage: self.max_stage,
             progress: self.progress,
-            stage_info: copy_of(alloc, self.stage_info.as_slice())?,
+            stage_info: copy_bytes(alloc, self.stage_info.as_slice())?,
         })
     }
 

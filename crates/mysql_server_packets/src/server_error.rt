@@ -12,16 +12,16 @@ ghost use Rattle.mysql_server_packets.specs.PacketLaws.{server_error_at-back, sq
 ghost use Rattle.mysql_server_packets.specs.Packets.{IsServerError, ServerError as ServerErrorFields, server_error};
 ghost use Rattle.mysql_server_packets.specs.Packets.{server_error_at, sql_state, sql_state_at, sql_state_fields_at};
 ghost use Rattle.mysql_server_packets.specs.Packets.{state_part, state_part_at};
-ghost use Rattle.mysql_server_packets.specs.Texts.{lossy, server_error_text};
+ghost use Rattle.mysql_fields.specs.Texts.{lossy_text};
+ghost use Rattle.mysql_server_packets.specs.Texts.{server_error_text};
 ghost use Rattle.mysql_server_packets.specs.Views.{server_error_view, sql_state_view};
 
 use crate::headers::SqlStateMarker;
-use crate::texts::{copy_of, lossy};
 use bstr::BStr;
 use mysql_buf::ParseBuf;
 use mysql_fields::{
     EofBytes, MyDeserialize, MySerialize, ParseExt, RawBytes, Readable, ReadsBack, WireError,
-    in_order,
+    copy_bytes, in_order, lossy_text, own_bytes,
 };
 use std::alloc::{AllocError, Global};
 use std::borrow::{CowSlice, CowStr};
@@ -56,9 +56,9 @@ impl SqlState {
     /// - `Memory`.
     pub fn as_str(&self, alloc: Global) -> Result<CowStr<'_>, WireError>
         ensures memory { IsOkUnless result wire.Memory }
-        ensures value { IfOk result (λ text. cow_str_bytes text ≡ lossy (sql_state_view self.now)) }
+        ensures value { IfOk result (λ text. cow_str_bytes text ≡ lossy_text (sql_state_view self.now)) }
     {
-        lossy(alloc, self.state.as_slice())
+        lossy_text(alloc, self.state.as_slice())
     }
 }
 
@@ -192,9 +192,10 @@ impl<'a> ServerError<'a> {
     /// - `Memory`.
     pub fn message_str(&self, alloc: Global) -> Result<CowStr<'_>, WireError>
         ensures memory { IsOkUnless result wire.Memory }
-        ensures value { IfOk result (λ text. cow_str_bytes text ≡ lossy (server_error_view self.now).error_message) }
+        ensures value { IfOk result (λ text. cow_str_bytes text ≡
+            lossy_text (server_error_view self.now).error_message) }
     {
-        lossy(alloc, self.message_ref())
+        lossy_text(alloc, self.message_ref())
     }
 
     /// The error in bytes of its own: it borrows nothing.
@@ -207,7 +208,7 @@ impl<'a> ServerError<'a> {
         Ok(ServerError {
             code: self.code,
             state: self.state,
-            message: CowSlice::Owned(self.message.into_owned(alloc)?),
+            message: own_bytes(alloc, self.message)?,
         })
     }
 
@@ -221,7 +222,7 @@ impl<'a> ServerError<'a> {
         Ok(ServerError {
             code: self.code,
             state: self.state,
-            message: copy_of(alloc, self.message.as_slice())?,
+            message: copy_bytes(alloc, self.message.as_slice())?,
         })
     }
 }

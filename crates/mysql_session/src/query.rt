@@ -323,7 +323,7 @@ impl<'q> Query<'q> {
     pub fn receiver(&self, alloc: Global, limit: usize) -> Result<Receiver, AllocError>
         requires { 4 ≤ limit }
         ensures fresh { IfOk result (λ r. receiver_state r ≡ fresh_receiver) }
-        ensures about { IfOk result (λ r. IsAbout r.conversation self.now.text self.now.id) }
+        ensures about { IfOk result (λ r. IsAbout r.statement self.now.text self.now.id) }
         ensures limit { IfOk result (λ r. r.limit ≡ limit) }
         ensures one_kind { HasMixed self.now.text false }
     {

@@ -13,14 +13,15 @@ ghost use Rattle.mysql_session_states.specs.SessionStates.{Change, IsReadBy, cha
 ghost use Rattle.mysql_session_states.specs.StateLaws.{change_at-back};
 ghost use Rattle.mysql_session_states.specs.Views.{change_view, variable_view};
 
-use crate::fields::{CountedText, text_from};
 use crate::members::{Gtids, Schema, TransactionCharacteristics, TransactionState, Unsupported};
 use crate::to_end::{parse_to_end, put_all};
 use crate::variable::SystemVariable;
-use mysql_buf::ParseBuf;
+use mysql_buf::{BufMutExt, ParseBuf};
 use mysql_const::SessionStateType;
 use mysql_field_lists::{Seq, Unknown};
-use mysql_fields::{MyDeserialize, MySerialize, ParseExt, Readable, ReadsBack, WireError};
+use mysql_fields::{
+    MyDeserialize, MySerialize, ParseExt, Readable, ReadsBack, WireError, read_lenenc_text,
+};
 use std::alloc::{AllocError, Global};
 use std::borrow::CowSlice;
 
@@ -161,8 +162,8 @@ impl<'a> MySerialize for SessionStateChange<'a> {
 
     fn serialize(&self, buf: &mut Vec<u8>) -> Result<(), AllocError> {
         match self {
-            SessionStateChange::IsTracked(true) => CountedText(b"1").serialize(buf),
-            SessionStateChange::IsTracked(false) => CountedText(b"0").serialize(buf),
+            SessionStateChange::IsTracked(true) => buf.put_lenenc_str(b"1"),
+            SessionStateChange::IsTracked(false) => buf.put_lenenc_str(b"0"),
             SessionStateChange::Schema(x) => x.serialize(buf),
             SessionStateChange::SystemVariables(all) => put_variables(all.as_slice(), buf),
             SessionStateChange::Gtids(x) => x.serialize(buf),
@@ -229,8 +230,8 @@ impl<'de> MyDeserialize<'de> for SessionStateChange<'de> {
                 SessionStateChange::Schema(buf.parse(alloc, ())?)
             }
             SessionStateType::SESSION_TRACK_STATE_CHANGE => {
-                let text = text_from(buf)?;
-                SessionStateChange::IsTracked(text.as_slice() == b"1".as_slice())
+                let text = read_lenenc_text(buf)?;
+                SessionStateChange::IsTracked(text == b"1".as_slice())
             }
             SessionStateType::SESSION_TRACK_GTIDS => {
                 SessionStateChange::Gtids(buf.parse(alloc, ())?)

@@ -16,12 +16,14 @@ ghost use Rattle.mysql_session_states.specs.StateLaws.{state_at-back};
 ghost use Rattle.mysql_session_states.specs.Views.{change_view, state_view};
 
 use crate::change::SessionStateChange;
-use crate::fields::{CountedText, copy_of, owned, text_from};
 use crate::to_end::{parse_to_end, put_all};
 use mysql_buf::ParseBuf;
 use mysql_const::SessionStateType;
 use mysql_field_constants::Const;
-use mysql_fields::{MyDeserialize, MySerialize, ParseExt, Readable, ReadsBack, WireError};
+use mysql_fields::{
+    LenEnc, MyDeserialize, MySerialize, ParseExt, RawBytes, Readable, ReadsBack, WireError,
+    copy_bytes, own_bytes, read_lenenc_text,
+};
 use std::alloc::{AllocError, Global};
 use std::borrow::CowSlice;
 
@@ -106,7 +108,7 @@ impl<'a> SessionStateInfo<'a> {
     {
         Ok(SessionStateInfo {
             data_type: self.data_type,
-            data: owned(alloc, self.data)?,
+            data: own_bytes(alloc, self.data)?,
         })
     }
 
@@ -119,7 +121,7 @@ impl<'a> SessionStateInfo<'a> {
     {
         Ok(SessionStateInfo {
             data_type: self.data_type,
-            data: copy_of(alloc, self.data.as_slice())?,
+            data: copy_bytes(alloc, self.data.as_slice())?,
         })
     }
 }
@@ -131,7 +133,7 @@ impl<'a> MySerialize for SessionStateInfo<'a> {
 
     fn serialize(&self, buf: &mut Vec<u8>) -> Result<(), AllocError> {
         let data_type: Const<SessionStateType, u8> = Const::new(self.data_type);
-        let data = CountedText(self.data.as_slice());
+        let data: RawBytes<LenEnc> = RawBytes::from(self.data.as_slice());
         (data_type, data).serialize(buf)
     }
 }
@@ -182,7 +184,7 @@ impl<'de> MyDeserialize<'de> for SessionStateInfo<'de> {
     ) -> Result<SessionStateInfo<'de>, WireError> {
         let mut rest = *buf;
         let data_type: Const<SessionStateType, u8> = rest.parse(alloc, ())?;
-        let data = text_from(&mut rest)?;
+        let data = CowSlice::Borrowed(read_lenenc_text(&mut rest)?);
         *buf = rest;
         Ok(SessionStateInfo {
             data_type: data_type.0,

@@ -2,7 +2,6 @@
 #![tactic(auto)]
 
 pub mod change;
-mod fields;
 pub mod info;
 pub mod laws;
 pub mod members;

@@ -2,8 +2,7 @@
 
 ghost use Rattle.std.specs.Prelude.{◌≡◌, ◌<◌, ◌^◌, IfOk, IsOkUnless, List, None, Ok, [], false, length, refl, ℕ};
 ghost use Rattle.std.specs.Cow.{cow_slice_items, cow_str_bytes};
-ghost use Rattle.std.specs.Str.{encode_utf8_all};
-ghost use Rattle.bstr.specs.Utf8.{lossy_chars};
+ghost use Rattle.mysql_fields.specs.Texts.{lossy_text};
 ghost use Rattle.mysql_buf.specs.Writing.{lenenc_str};
 ghost use Rattle.mysql_fields.specs.Laws.{unsized};
 ghost use Rattle.mysql_fields.specs.declared.error.WireError.TheVariants as wire;
@@ -13,9 +12,11 @@ ghost use Rattle.mysql_session_states.specs.SessionStates.{rest_at};
 ghost use Rattle.mysql_session_states.specs.Views.{characteristics_view, gtids_view, schema_view, transaction_view};
 ghost use Rattle.mysql_session_states.specs.Views.{unsupported_view};
 
-use crate::fields::{CountedText, copy_of, lossy, owned, text_from};
-use mysql_buf::ParseBuf;
-use mysql_fields::{MyDeserialize, MySerialize, Readable, ReadsBack, WireError};
+use mysql_buf::{BufMutExt, ParseBuf};
+use mysql_fields::{
+    MyDeserialize, MySerialize, Readable, ReadsBack, WireError, copy_bytes, lossy_text, own_bytes,
+    read_lenenc_text,
+};
 use std::alloc::{AllocError, Global};
 use std::borrow::{CowSlice, CowStr};
 
@@ -46,9 +47,9 @@ impl<'a> Gtids<'a> {
     /// - `Memory`.
     pub fn as_str(&self, alloc: Global) -> Result<CowStr<'_>, WireError>
         ensures memory { IsOkUnless result wire.Memory }
-        ensures value { IfOk result (λ text. cow_str_bytes text ≡ encode_utf8_all (lossy_chars (gtids_view self.now))) }
+        ensures value { IfOk result (λ text. cow_str_bytes text ≡ lossy_text (gtids_view self.now)) }
     {
-        lossy(alloc, self.0.as_slice())
+        lossy_text(alloc, self.0.as_slice())
     }
 
     /// The value in bytes of its own: it borrows nothing.
@@ -58,7 +59,7 @@ impl<'a> Gtids<'a> {
     pub fn into_owned(self, alloc: Global) -> Result<Gtids<'static>, AllocError>
         ensures { IfOk result (λ same. gtids_view same ≡ gtids_view self.entry) }
     {
-        Ok(Gtids(owned(alloc, self.0)?))
+        Ok(Gtids(own_bytes(alloc, self.0)?))
     }
 
     /// A copy, which borrows nothing.
@@ -68,7 +69,7 @@ impl<'a> Gtids<'a> {
     pub fn clone(&self, alloc: Global) -> Result<Gtids<'static>, AllocError>
         ensures { IfOk result (λ copy. gtids_view copy ≡ gtids_view self.now) }
     {
-        Ok(Gtids(copy_of(alloc, self.0.as_slice())?))
+        Ok(Gtids(copy_bytes(alloc, self.0.as_slice())?))
     }
 }
 
@@ -149,9 +150,9 @@ impl<'a> Schema<'a> {
     pub fn as_str(&self, alloc: Global) -> Result<CowStr<'_>, WireError>
         ensures memory { IsOkUnless result wire.Memory }
         ensures value { IfOk result (λ text. cow_str_bytes text ≡
-            encode_utf8_all (lossy_chars (schema_view self.now))) }
+            lossy_text (schema_view self.now)) }
     {
-        lossy(alloc, self.0.as_slice())
+        lossy_text(alloc, self.0.as_slice())
     }
 
     /// The value in bytes of its own: it borrows nothing.
@@ -161,7 +162,7 @@ impl<'a> Schema<'a> {
     pub fn into_owned(self, alloc: Global) -> Result<Schema<'static>, AllocError>
         ensures { IfOk result (λ same. schema_view same ≡ schema_view self.entry) }
     {
-        Ok(Schema(owned(alloc, self.0)?))
+        Ok(Schema(own_bytes(alloc, self.0)?))
     }
 
     /// A copy, which borrows nothing.
@@ -171,7 +172,7 @@ impl<'a> Schema<'a> {
     pub fn clone(&self, alloc: Global) -> Result<Schema<'static>, AllocError>
         ensures { IfOk result (λ copy. schema_view copy ≡ schema_view self.now) }
     {
-        Ok(Schema(copy_of(alloc, self.0.as_slice())?))
+        Ok(Schema(copy_bytes(alloc, self.0.as_slice())?))
     }
 }
 
@@ -179,7 +180,7 @@ impl<'a> MySerialize for Schema<'a> {
     ghost written = { λ text. lenenc_str (schema_view text) };
 
     fn serialize(&self, buf: &mut Vec<u8>) -> Result<(), AllocError> {
-        CountedText(self.0.as_slice()).serialize(buf)
+        buf.put_lenenc_str(self.0.as_slice())
     }
 }
 
@@ -220,7 +221,7 @@ impl<'de> MyDeserialize<'de> for Schema<'de> {
         _ctx: (),
         buf: &mut ParseBuf<'de>,
     ) -> Result<Schema<'de>, WireError> {
-        Ok(Schema(text_from(buf)?))
+        Ok(Schema(CowSlice::Borrowed(read_lenenc_text(buf)?)))
     }
 }
 
@@ -255,9 +256,9 @@ impl<'a> TransactionCharacteristics<'a> {
     pub fn as_str(&self, alloc: Global) -> Result<CowStr<'_>, WireError>
         ensures memory { IsOkUnless result wire.Memory }
         ensures value { IfOk result (λ text. cow_str_bytes text ≡
-            encode_utf8_all (lossy_chars (characteristics_view self.now))) }
+            lossy_text (characteristics_view self.now)) }
     {
-        lossy(alloc, self.0.as_slice())
+        lossy_text(alloc, self.0.as_slice())
     }
 
     /// The value in bytes of its own: it borrows nothing.
@@ -270,7 +271,7 @@ impl<'a> TransactionCharacteristics<'a> {
     ) -> Result<TransactionCharacteristics<'static>, AllocError>
         ensures { IfOk result (λ same. characteristics_view same ≡ characteristics_view self.entry) }
     {
-        Ok(TransactionCharacteristics(owned(alloc, self.0)?))
+        Ok(TransactionCharacteristics(own_bytes(alloc, self.0)?))
     }
 
     /// A copy, which borrows nothing.
@@ -280,7 +281,7 @@ impl<'a> TransactionCharacteristics<'a> {
     pub fn clone(&self, alloc: Global) -> Result<TransactionCharacteristics<'static>, AllocError>
         ensures { IfOk result (λ copy. characteristics_view copy ≡ characteristics_view self.now) }
     {
-        Ok(TransactionCharacteristics(copy_of(alloc, self.0.as_slice())?))
+        Ok(TransactionCharacteristics(copy_bytes(alloc, self.0.as_slice())?))
     }
 }
 
@@ -288,7 +289,7 @@ impl<'a> MySerialize for TransactionCharacteristics<'a> {
     ghost written = { λ text. lenenc_str (characteristics_view text) };
 
     fn serialize(&self, buf: &mut Vec<u8>) -> Result<(), AllocError> {
-        CountedText(self.0.as_slice()).serialize(buf)
+        buf.put_lenenc_str(self.0.as_slice())
     }
 }
 
@@ -329,7 +330,7 @@ impl<'de> MyDeserialize<'de> for TransactionCharacteristics<'de> {
         _ctx: (),
         buf: &mut ParseBuf<'de>,
     ) -> Result<TransactionCharacteristics<'de>, WireError> {
-        Ok(TransactionCharacteristics(text_from(buf)?))
+        Ok(TransactionCharacteristics(CowSlice::Borrowed(read_lenenc_text(buf)?)))
     }
 }
 
@@ -361,9 +362,9 @@ impl<'a> TransactionState<'a> {
     pub fn as_str(&self, alloc: Global) -> Result<CowStr<'_>, WireError>
         ensures memory { IsOkUnless result wire.Memory }
         ensures value { IfOk result (λ text. cow_str_bytes text ≡
-            encode_utf8_all (lossy_chars (transaction_view self.now))) }
+            lossy_text (transaction_view self.now)) }
     {
-        lossy(alloc, self.0.as_slice())
+        lossy_text(alloc, self.0.as_slice())
     }
 
     /// The value in bytes of its own: it borrows nothing.
@@ -373,7 +374,7 @@ impl<'a> TransactionState<'a> {
     pub fn into_owned(self, alloc: Global) -> Result<TransactionState<'static>, AllocError>
         ensures { IfOk result (λ same. transaction_view same ≡ transaction_view self.entry) }
     {
-        Ok(TransactionState(owned(alloc, self.0)?))
+        Ok(TransactionState(own_bytes(alloc, self.0)?))
     }
 
     /// A copy, which borrows nothing.
@@ -383,7 +384,7 @@ impl<'a> TransactionState<'a> {
     pub fn clone(&self, alloc: Global) -> Result<TransactionState<'static>, AllocError>
         ensures { IfOk result (λ copy. transaction_view copy ≡ transaction_view self.now) }
     {
-        Ok(TransactionState(copy_of(alloc, self.0.as_slice())?))
+        Ok(TransactionState(copy_bytes(alloc, self.0.as_slice())?))
     }
 }
 
@@ -391,7 +392,7 @@ impl<'a> MySerialize for TransactionState<'a> {
     ghost written = { λ text. lenenc_str (transaction_view text) };
 
     fn serialize(&self, buf: &mut Vec<u8>) -> Result<(), AllocError> {
-        CountedText(self.0.as_slice()).serialize(buf)
+        buf.put_lenenc_str(self.0.as_slice())
     }
 }
 
@@ -432,7 +433,7 @@ impl<'de> MyDeserialize<'de> for TransactionState<'de> {
         _ctx: (),
         buf: &mut ParseBuf<'de>,
     ) -> Result<TransactionState<'de>, WireError> {
-        Ok(TransactionState(text_from(buf)?))
+        Ok(TransactionState(CowSlice::Borrowed(read_lenenc_text(buf)?)))
     }
 }
 
@@ -464,9 +465,9 @@ impl<'a> Unsupported<'a> {
     pub fn as_str(&self, alloc: Global) -> Result<CowStr<'_>, WireError>
         ensures memory { IsOkUnless result wire.Memory }
         ensures value { IfOk result (λ text. cow_str_bytes text ≡
-            encode_utf8_all (lossy_chars (unsupported_view self.now))) }
+            lossy_text (unsupported_view self.now)) }
     {
-        lossy(alloc, self.0.as_slice())
+        lossy_text(alloc, self.0.as_slice())
     }
 
     /// The value in bytes of its own: it borrows nothing.
@@ -476,7 +477,7 @@ impl<'a> Unsupported<'a> {
     pub fn into_owned(self, alloc: Global) -> Result<Unsupported<'static>, AllocError>
         ensures { IfOk result (λ same. unsupported_view same ≡ unsupported_view self.entry) }
     {
-        Ok(Unsupported(owned(alloc, self.0)?))
+        Ok(Unsupported(own_bytes(alloc, self.0)?))
     }
 
     /// A copy, which borrows nothing.
@@ -486,7 +487,7 @@ impl<'a> Unsupported<'a> {
     pub fn clone(&self, alloc: Global) -> Result<Unsupported<'static>, AllocError>
         ensures { IfOk result (λ copy. unsupported_view copy ≡ unsupported_view self.now) }
     {
-        Ok(Unsupported(copy_of(alloc, self.0.as_slice())?))
+        Ok(Unsupported(copy_bytes(alloc, self.0.as_slice())?))
     }
 }
 
@@ -494,7 +495,7 @@ impl<'a> MySerialize for Unsupported<'a> {
     ghost written = { λ text. lenenc_str (unsupported_view text) };
 
     fn serialize(&self, buf: &mut Vec<u8>) -> Result<(), AllocError> {
-        CountedText(self.0.as_slice()).serialize(buf)
+        buf.put_lenenc_str(self.0.as_slice())
     }
 }
 
@@ -535,6 +536,6 @@ impl<'de> MyDeserialize<'de> for Unsupported<'de> {
         _ctx: (),
         buf: &mut ParseBuf<'de>,
     ) -> Result<Unsupported<'de>, WireError> {
-        Ok(Unsupported(text_from(buf)?))
+        Ok(Unsupported(CowSlice::Borrowed(read_lenenc_text(buf)?)))
     }
 }

@@ -2,17 +2,18 @@
 
 ghost use Rattle.std.specs.Prelude.{◌≡◌, IfOk, IsOkUnless, None, false};
 ghost use Rattle.std.specs.Cow.{cow_slice_items, cow_str_bytes};
-ghost use Rattle.std.specs.Str.{encode_utf8_all};
-ghost use Rattle.bstr.specs.Utf8.{lossy_chars};
+ghost use Rattle.mysql_fields.specs.Texts.{lossy_text};
 ghost use Rattle.mysql_fields.specs.Laws.{unsized};
 ghost use Rattle.mysql_fields.specs.declared.error.WireError.TheVariants as wire;
 ghost use Rattle.mysql_session_states.specs.SessionStates.{IsVariable, Variable, variable, variable_at};
 ghost use Rattle.mysql_session_states.specs.StateLaws.{variable_at-back};
 ghost use Rattle.mysql_session_states.specs.Views.{variable_view};
 
-use crate::fields::{CountedText, copy_of, lossy, owned, text_from};
 use mysql_buf::ParseBuf;
-use mysql_fields::{MyDeserialize, MySerialize, Readable, ReadsBack, WireError};
+use mysql_fields::{
+    LenEnc, MyDeserialize, MySerialize, RawBytes, Readable, ReadsBack, WireError, copy_bytes,
+    lossy_text, own_bytes, read_lenenc_text,
+};
 use std::alloc::{AllocError, Global};
 use std::borrow::{CowSlice, CowStr};
 
@@ -48,9 +49,9 @@ impl<'a> SystemVariable<'a> {
     pub fn name_str(&self, alloc: Global) -> Result<CowStr<'_>, WireError>
         ensures memory { IsOkUnless result wire.Memory }
         ensures value { IfOk result (λ text. cow_str_bytes text ≡
-            encode_utf8_all (lossy_chars (variable_view self.now).name)) }
+            lossy_text (variable_view self.now).name) }
     {
-        lossy(alloc, self.name.as_slice())
+        lossy_text(alloc, self.name.as_slice())
     }
 
     /// The value, as bytes.
@@ -67,9 +68,9 @@ impl<'a> SystemVariable<'a> {
     pub fn value_str(&self, alloc: Global) -> Result<CowStr<'_>, WireError>
         ensures memory { IsOkUnless result wire.Memory }
         ensures value { IfOk result (λ text. cow_str_bytes text ≡
-            encode_utf8_all (lossy_chars (variable_view self.now).value)) }
+            lossy_text (variable_view self.now).value) }
     {
-        lossy(alloc, self.value.as_slice())
+        lossy_text(alloc, self.value.as_slice())
     }
 
     /// The value in bytes of its own: it borrows nothing.
@@ -79,8 +80,8 @@ impl<'a> SystemVariable<'a> {
     pub fn into_owned<'b>(self, alloc: Global) -> Result<SystemVariable<'b>, AllocError>
         ensures { IfOk result (λ same. variable_view same ≡ variable_view self.entry) }
     {
-        let name = owned(alloc, self.name)?;
-        let value = owned(alloc, self.value)?;
+        let name = own_bytes(alloc, self.name)?;
+        let value = own_bytes(alloc, self.value)?;
         Ok(SystemVariable { name, value })
     }
 
@@ -91,8 +92,8 @@ impl<'a> SystemVariable<'a> {
     pub fn clone<'b>(&self, alloc: Global) -> Result<SystemVariable<'b>, AllocError>
         ensures { IfOk result (λ copy. variable_view copy ≡ variable_view self.now) }
     {
-        let name = copy_of(alloc, self.name.as_slice())?;
-        let value = copy_of(alloc, self.value.as_slice())?;
+        let name = copy_bytes(alloc, self.name.as_slice())?;
+        let value = copy_bytes(alloc, self.value.as_slice())?;
         Ok(SystemVariable { name, value })
     }
 }
@@ -103,8 +104,8 @@ impl<'a> MySerialize for SystemVariable<'a> {
     ghost written = { λ v. variable (variable_view v) };
 
     fn serialize(&self, buf: &mut Vec<u8>) -> Result<(), AllocError> {
-        let name = CountedText(self.name.as_slice());
-        let value = CountedText(self.value.as_slice());
+        let name: RawBytes<LenEnc> = RawBytes::from(self.name.as_slice());
+        let value: RawBytes<LenEnc> = RawBytes::from(self.value.as_slice());
         (name, value).serialize(buf)
     }
 }
@@ -151,8 +152,8 @@ impl<'de> MyDeserialize<'de> for SystemVariable<'de> {
         buf: &mut ParseBuf<'de>,
     ) -> Result<SystemVariable<'de>, WireError> {
         let mut rest = *buf;
-        let name = text_from(&mut rest)?;
-        let value = text_from(&mut rest)?;
+        let name = CowSlice::Borrowed(read_lenenc_text(&mut rest)?);
+        let value = CowSlice::Borrowed(read_lenenc_text(&mut rest)?);
         *buf = rest;
         Ok(SystemVariable { name, value })
     }

@@ -13,18 +13,25 @@ use Rattle.mysql_fields.specs.Wire.{Reading, from_block, ◌>>=◌}
 use Rattle.mysql_field_constants.specs.Constants.{constant_at}
 
 -- a command that says no more than a statement's id: its number, the id
-unfoldable pub by_id : Command → ℕ → List ℕ
-by_id command id = concat (little_bytes 1 (command_number command) ∷ little_bytes 4 id ∷ [])
+unfoldable pub alone : ℕ → ℕ → List ℕ
+alone number id = concat (little_bytes 1 number ∷ little_bytes 4 id ∷ [])
 
-unfoldable pub by_id_fields_at : Command → List ℕ → Reading ℕ
-by_id_fields_at command bytes = do
-  header ← constant_at 1 (command_number command) bytes
+unfoldable pub alone_fields_at : ℕ → List ℕ → Reading ℕ
+alone_fields_at number bytes = do
+  header ← constant_at 1 number bytes
   id ← fixed_number_at 4 header.1
   Ok (id.0, id.1)
 
 -- all five bytes are asked for first
-unfoldable pub by_id_at : Command → List ℕ → Reading ℕ
-by_id_at command bytes = from_block 5 (by_id_fields_at command) bytes
+unfoldable pub alone_at : ℕ → List ℕ → Reading ℕ
+alone_at number bytes = from_block 5 (alone_fields_at number) bytes
+
+-- those of a command by its name
+abbrev pub by_id : Command → ℕ → List ℕ
+by_id command id = alone (command_number command) id
+
+abbrev pub by_id_at : Command → List ℕ → Reading ℕ
+by_id_at command bytes = alone_at (command_number command) bytes
 
 -- a statement's id
 abbrev pub IsId : ℕ → Type 0

@@ -1,7 +1,6 @@
 //! Commands of prepared statements: executions, long data, closing and resetting.
 #![tactic(auto)]
 
-pub mod close;
 pub mod execute;
 pub mod has_value;
 pub mod headers;
@@ -9,9 +8,8 @@ mod in_room;
 pub mod laws;
 pub mod long_data;
 mod null_bits;
-pub mod reset;
+pub mod statement_alone;
 
-pub use close::ComStmtClose;
 pub use execute::{
     ComStmtExecuteRequest, ComStmtExecuteRequestBuilder, put_execution, size_within,
     size_without_floats,
@@ -23,4 +21,4 @@ pub use headers::{
     InvalidComStmtSendLongDataHeader, InvalidIterationCount, IterationCount,
 };
 pub use long_data::ComStmtSendLongData;
-pub use reset::ComStmtReset;
+pub use statement_alone::{ComStmtClose, ComStmtReset, StatementAlone};

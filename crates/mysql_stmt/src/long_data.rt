@@ -9,7 +9,7 @@ ghost use Rattle.mysql_stmt.specs.Commands.{long_data};
 ghost use Rattle.mysql_stmt.specs.Views.{long_data_view};
 
 use crate::headers::ComStmtSendLongDataHeader;
-use mysql_fields::{LeU16, LeU32, MySerialize, RawInt, in_order};
+use mysql_fields::{LeU16, LeU32, MySerialize, RawInt, copy_bytes, in_order, own_bytes};
 use std::alloc::{AllocError, Global};
 use std::borrow::CowSlice;
 
@@ -25,16 +25,6 @@ pub struct ComStmtSendLongData<'a> {
     stmt_id: u32,
     param_index: u16,
     bytes: CowSlice<'a, u8>,
-}
-
-// The same bytes, which borrow nothing.
-fn owned(alloc: Global, bytes: CowSlice<'_, u8>) -> Result<CowSlice<'static, u8>, AllocError>
-    ensures { IfOk result (λ same. cow_slice_items same ≡ cow_slice_items bytes.entry) }
-{
-    match bytes {
-        CowSlice::Borrowed(bytes) => Ok(CowSlice::Owned(Vec::from_slice(alloc, bytes)?)),
-        CowSlice::Owned(bytes) => Ok(CowSlice::Owned(bytes)),
-    }
 }
 
 impl<'a> ComStmtSendLongData<'a> {
@@ -62,7 +52,7 @@ impl<'a> ComStmtSendLongData<'a> {
             param_index,
             bytes,
         } = self;
-        let bytes = owned(alloc, bytes)?;
+        let bytes = own_bytes(alloc, bytes)?;
         Ok(ComStmtSendLongData {
             stmt_id,
             param_index,
@@ -77,7 +67,7 @@ impl<'a> ComStmtSendLongData<'a> {
     pub fn clone(&self, alloc: Global) -> Result<ComStmtSendLongData<'static>, AllocError>
         ensures { IfOk result (λ copy. long_data_view copy ≡ long_data_view self.now) }
     {
-        let bytes = CowSlice::Owned(Vec::from_slice(alloc, self.bytes.as_slice())?);
+        let bytes = copy_bytes(alloc, self.bytes.as_slice())?;
         Ok(ComStmtSendLongData {
             stmt_id: self.stmt_id,
             param_index: self.param_index,

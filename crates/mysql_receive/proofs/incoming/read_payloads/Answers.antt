@@ -11,7 +11,7 @@ pub packets-init : goal.packets-init
 packets-init c =
     let r = c.args.packets.now in
     record {
-      behind = behind_none c.reader_laws.ensures (statement_view c.args.conversation.now) r.limit c.args.progress.now (r.bytes ++ c.args.piece.now) (codec_by r) (r.bytes ++ c.args.piece.now) []
+      behind = behind_none c.reader_laws.ensures (statement_view c.args.statement.now) r.limit c.args.progress.now (r.bytes ++ c.args.piece.now) (codec_by r) (r.bytes ++ c.args.piece.now) []
           (piece_reads c.reader_laws.ensures r c.args.piece.now c.requires.open);
       limit = refl;
       number = c.requires.open.number;
@@ -26,7 +26,7 @@ pub packets-preserved : goal.packets-preserved
 packets-preserved c =
     let left : (c.read_in_place.new.self ≡ c.packets.packets) × (c.read_in_place.new.piece ≡ c.packets.rest) = search rules in
     let h = rw (left.0, left.1) at (rw c.in-Ok-true.field-0-test at c.in-Ok-true.ensures.ok) in
-    let k = statement_view c.args.conversation.now in
+    let k = statement_view c.args.statement.now in
     let r = c.args.packets.now in
     let one : ReadOne k c.packets.progress c.advance.new.self.payload c.read_one-in-Ok-true.new.self =
     subst (λ l. ReadOne k c.packets.progress l c.read_one-in-Ok-true.new.self) c.payload.ensures c.in_ok-read_one-in-Ok-true.ensures.by in
@@ -40,7 +40,7 @@ packets-preserved c =
 pub packets-preserved-in-Some : goal.packets-preserved-in-Some
 packets-preserved-in-Some c =
     let h = c.in-Some.ensures.found in
-    let k = statement_view c.args.conversation.now in
+    let k = statement_view c.args.statement.now in
     let r = c.args.packets.now in
     record {
       behind = placed_next c.reader_laws.ensures k r.limit c.args.progress.now (r.bytes ++ c.args.piece.now) c.packets.packets c.read_in_place.new.self c.reset_seq_id.new.self c.packets.rest.now c.read_in_place.new.piece.now
@@ -53,7 +53,7 @@ pub returns-in_err-read_one-clause-fed : goal.returns-in_err-read_one-clause-fed
 returns-in_err-read_one-clause-fed c =
     let h = c.in-Some.ensures.found in
     let p = err_from_is_err_and c.from_residual.result c.from_residual.ensures.1 in
-    let k = statement_view c.args.conversation.now in
+    let k = statement_view c.args.statement.now in
     let r = c.args.packets.now in
     let e = c.in_err-read_one.field-0.0 in
     rw (p.1, p.2)
@@ -68,7 +68,7 @@ returns-in_err-read_one-in-Ok-true-clause-fed c =
     let left : (c.read_in_place.new.self ≡ c.packets.packets) × (c.read_in_place.new.piece ≡ c.packets.rest) = search rules in
     let h = rw (left.0, left.1) at (rw c.in-Ok-true.field-0-test at c.in-Ok-true.ensures.ok) in
     let p = err_from_is_err_and c.from_residual-in_err-read_one-in-Ok-true.result c.from_residual-in_err-read_one-in-Ok-true.ensures.1 in
-    let k = statement_view c.args.conversation.now in
+    let k = statement_view c.args.statement.now in
     let r = c.args.packets.now in
     let e = c.in_err-read_one-in-Ok-true.field-0.0 in
     let one : OneBy k c.packets.progress c.advance.new.self.payload c.read_one-in-Ok-true.new.self (Err e) =
@@ -85,7 +85,7 @@ returns-in-Ok-false-clause-fed c =
     let left : (c.read_in_place.new.self ≡ c.packets.packets) × (c.read_in_place.new.piece ≡ c.packets.rest) = search rules in
     let w = rw (left.0, left.1) at (rw c.in-Ok-false.field-0-test at c.in-Ok-false.ensures.ok) in
     let same : c.advance.new.self ≡ record c.read_in_place.new.self { bytes = c.read_in_place.new.self.bytes ++ c.read_in_place.new.piece.now; payload = [] } = search rules in
-    let k = statement_view c.args.conversation.now in
+    let k = statement_view c.args.statement.now in
     let r = c.args.packets.now in
     piece_fed k r.limit c.args.progress.now r.bytes c.args.piece.now _
     (waits_fed c.reader_laws.ensures k r.limit c.args.progress.now (r.bytes ++ c.args.piece.now) c.packets.packets c.advance.new.self c.packets.rest.now c.advance.new.piece.now c.packets.progress
@@ -97,14 +97,14 @@ returns-in-Ok-false-clause-open c =
     let w = rw (left.0, left.1) at (rw c.in-Ok-false.field-0-test at c.in-Ok-false.ensures.ok) in
     let same : c.advance.new.self ≡ record c.read_in_place.new.self { bytes = c.read_in_place.new.self.bytes ++ c.read_in_place.new.piece.now; payload = [] } = search rules in
     let r = c.args.packets.now in
-    waits_open c.reader_laws.ensures (statement_view c.args.conversation.now) r.limit c.args.progress.now (r.bytes ++ c.args.piece.now) c.packets.packets c.advance.new.self c.packets.rest.now c.advance.new.piece.now c.packets.progress
+    waits_open c.reader_laws.ensures (statement_view c.args.statement.now) r.limit c.args.progress.now (r.bytes ++ c.args.piece.now) c.packets.packets c.advance.new.self c.packets.rest.now c.advance.new.piece.now c.packets.progress
     (bytes_append r.bytes c.args.piece.now c.requires.open.bytes (λ i. omega (arith, c.type_inv.piece i))) c.packets.invariant.number c.packets.invariant.behind w (rw (left.0, left.1) at same)
 
 pub returns-in-Err-clause-fed : goal.returns-in-Err-clause-fed
 returns-in-Err-clause-fed c =
     let left : (c.read_in_place.new.self ≡ c.packets.packets) × (c.read_in_place.new.piece ≡ c.packets.rest) = search rules in
     let refused = rw (left.0, left.1) at c.in-Err.ensures.refused in
-    let k = statement_view c.args.conversation.now in
+    let k = statement_view c.args.statement.now in
     let r = c.args.packets.now in
     rw c.refusal_of.ensures
     (piece_fed k r.limit c.args.progress.now r.bytes c.args.piece.now _

@@ -9,7 +9,7 @@ pub returns-then-take_within-clause-fed : goal.returns-then-take_within-clause-f
 returns-then-take_within-clause-fed c =
     let laws = c.reader_laws.ensures in
     let r = c.args.packets.now in
-    let k = statement_view c.args.conversation.now in
+    let k = statement_view c.args.statement.now in
     let piece = c.args.piece.now in
     piece_fed k r.limit c.args.progress.now r.bytes piece _
     (waits_fed laws k r.limit c.args.progress.now (r.bytes ++ piece) r c.take_within.new.self piece [] c.args.progress.now c.requires.open.number
@@ -20,7 +20,7 @@ pub returns-then-take_within-clause-open : goal.returns-then-take_within-clause-
 returns-then-take_within-clause-open c =
     let laws = c.reader_laws.ensures in
     let r = c.args.packets.now in
-    let k = statement_view c.args.conversation.now in
+    let k = statement_view c.args.statement.now in
     let piece = c.args.piece.now in
     waits_open laws k r.limit c.args.progress.now (r.bytes ++ piece) r c.take_within.new.self piece [] c.args.progress.now
     (bytes_append r.bytes piece c.requires.open.bytes (λ i. omega (arith, c.type_inv.piece i))) c.requires.open.number

@@ -1,5 +1,5 @@
-use Rattle.mysql_receive.proofs.Looking.{last_word}
+use Rattle.mysql_receive.proofs.Looking.{last_word_counts}
 use Rattle.mysql_receive.proofs.laws.last_word_counts.Goals as goal
 
 pub returns : goal.returns
-returns c = last_word
+returns c = last_word_counts

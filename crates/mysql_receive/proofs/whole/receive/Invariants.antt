@@ -7,7 +7,7 @@ use Rattle.mysql_receive.proofs.whole.receive.Given as goal
 -- what is held is what the pieces so far lead to
 abbrev pub invariant-pieces : goal.invariant-pieces
 invariant-pieces l = record {
-  about : IsAbout l.receiver.conversation l.fn.query l.fn.stmt_id;
+  about : IsAbout l.receiver.statement l.fn.query l.fn.stmt_id;
   limit : l.receiver.limit ≡ l.fn.limit;
-  so_far : SoFar l.receiver.conversation l.receiver.limit (map (λ piece. piece.now) (take l.piece-index l.pieces)) (receiver_state l.receiver);
+  so_far : SoFar l.receiver.statement l.receiver.limit (map (λ piece. piece.now) (take l.piece-index l.pieces)) (receiver_state l.receiver);
 }

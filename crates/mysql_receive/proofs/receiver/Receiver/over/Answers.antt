@@ -9,9 +9,9 @@ pub returns-clause-fresh : goal.returns-clause-fresh
 returns-clause-fresh c =
     receiver_state_is (record {
       alloc = c.args.alloc;
-      conversation = c.args.conversation;
+      statement = c.args.statement;
       packets = c.new.result;
-      progress = record { statement = record { prepared = false; types = None; pieces = c.new-2.result }; sets = c.new-3.result; count = 0 };
+      progress = record { state = record { prepared = false; types = None; long_data = c.new-2.result }; sets = c.new-3.result; count = 0 };
       fault = None;
     })
     ∙ holds_start c.new-2.result c.new-3.result c.new.result.bytes c.new-2.ensures.items c.new-3.ensures.items (ap (λ r. r.bytes) c.new.ensures)
