@@ -110,8 +110,7 @@ module _ (once : OneTokens) (road : Road) (apart : IsApart road) (query : List �
     refused : (refusal : Refusal) → RefusesOne road query id limit number (λ names. given_by names params) refusal → AreBytes (take (length buffered) more) → Appends mid new (take (length buffered) more)
         → Stops road query sets id limit old new (Refused refusal number)
     refused refusal why bytes taken =
-        let both = in_turn.refused_more road apart query (all_given sets) id limit number [] (w.written ++ buffered) (λ names. given_by names params) (in_turn.of_list sets number params inside at) w.carries refusal why in
-        (
+        let both = in_turn.refused_more road apart query (all_given sets) id limit number [] (w.written ++ buffered) (λ names. given_by names params) (in_turn.of_list sets number params inside at) w.carries refusal why in (
           both.0,
           inr (record {
             inside = inside;

@@ -1,5 +1,5 @@
 -- Sets whose rows one bulk request holds.
-use Rattle.std.proofs.Common.{◌≡◌, ℕ, ◌+◌, ◌-◌, ◌*◌, ◌<◌, ◌≤◌, ◌==◌, Bool, true, false, List, [], ◌∷◌, ◌++◌, length, map, take, drop, Option, Some, None, Result, Ok, Err, refl, sym, ◌∙◌, ap, arith, append_assoc, Bor, length-append}
+use Rattle.std.proofs.Common.{◌≡◌, ℕ, ◌+◌, ◌-◌, ◌*◌, ◌<◌, ◌≤◌, ◌==◌, Bool, true, false, List, [], ◌∷◌, ◌++◌, length, map, take, drop, Option, Some, None, Result, Ok, Err, refl, sym, ◌∙◌, ap, arith, append_assoc, Bor, length-append, length-take}
 use Rattle.std.specs.Prelude.{IfOk, is_some}
 use Rattle.std.specs.List.{flat_map}
 use Rattle.std.specs.Option.{option_map}
@@ -169,6 +169,13 @@ pub front_length : (id : ℕ) (firsts : Row) → length (front_bytes id true fir
 front_length id firsts =
     let types = flat_map param_type_bytes (types_by true firsts) in
     omega (arith, length-append (little_bytes 4 id) (little_bytes 2 (request_flags (typing_of true)) ++ types), length-append (little_bytes 2 (request_flags (typing_of true))) types, length-bytes_low_first 0 4 id, length-bytes_low_first 0 2 0x80, types_length firsts)
+
+-- what stands before a place stays where something is put from it on, and where nothing is left from it on
+pub front_stays : (start : ℕ) (out new piece : List ℕ) → start ≤ length out → new ≡ take start out ++ piece → take start new ≡ take start out
+front_stays start out new piece inside put = ap (λ l. take start l) put ∙ take_at (take start out) piece start (omega (arith, inside, length-take start out))
+
+pub front_left : (start : ℕ) (out new : List ℕ) → new ≡ take start out → take start new ≡ take start out
+front_left start out new put = ap (λ l. take start l) put ∙ take-take start start out (omega arith)
 
 -- the front is written over as many bytes
 pub front_written : (start n : ℕ) (bytes front out new : List ℕ) → bytes ≡ front → length front ≡ n → new ≡ take start out ++ (bytes ++ drop (start + length bytes) out) → new ≡ take start out ++ (front ++ drop (start + n) out)

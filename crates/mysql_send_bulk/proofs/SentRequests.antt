@@ -212,7 +212,7 @@ module _ (once : OneTokens) (query : List ℕ) (parsed : Parsed) (places : ℕ) 
         inr (record {
           tokens = s.tokens;
           has = s.has;
-          first = third_is (query_cause Bulk (statement_of query s.tokens id) (limit - 4)) _ _ refusal prepared given.none cause;
+          first = third_is (query_cause Bulk (statement_of query s.tokens id) (limit - 4)) _ _ refusal (no_query_cause some) given.none cause;
         })
 
     -- the prepare and the requests of all rows were sent

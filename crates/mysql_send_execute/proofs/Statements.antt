@@ -77,8 +77,12 @@ module _ (query : List ℕ) (parsed : Parsed) (places : ℕ) (s : IsStatement qu
   -- more placeholders than a statement can have
   pub too_many : max_places < places → RefusesPrepare query id room refusals.TooManyPlaces
   too_many over =
-      inr (s.tokens, s.has, too_many_cause (is_mixed (places_from query 0 s.tokens)) (nat_lt max_places (length (places_from query 0 s.tokens))) _ s.one_kind
-      (subst (λ (n : ℕ). nat_lt max_places n ≡ true) s.count (lt-ltb max_places places over)))
+      inr (
+        s.tokens,
+        s.has,
+        too_many_cause (is_mixed (places_from query 0 s.tokens)) (nat_lt max_places (length (places_from query 0 s.tokens))) _ s.one_kind
+            (subst (λ (n : ℕ). nat_lt max_places n ≡ true) s.count (lt-ltb max_places places over)),
+      )
 
   module _ (few : places ≤ max_places) where
     few_enough : nat_lt max_places (length (places_from query 0 s.tokens)) ≡ false
@@ -87,8 +91,12 @@ module _ (query : List ℕ) (parsed : Parsed) (places : ℕ) (s : IsStatement qu
     -- a prepare that is too long
     pub too_long : room ≤ length parsed.query → RefusesPrepare query id room refusals.PrepareTooLarge
     too_long over =
-        inr (s.tokens, s.has, too_long_cause (is_mixed (places_from query 0 s.tokens)) (nat_lt max_places (length (places_from query 0 s.tokens))) (nat_lt room (length (prepare_command statement.query.parsed))) _ s.one_kind few_enough
-        (subst (λ (l : List ℕ). nat_lt room (length (prepare_command l)) ≡ true) s.query_is (lt-ltb room (length (prepare_command parsed.query)) (omega (arith, over)))))
+        inr (
+          s.tokens,
+          s.has,
+          too_long_cause (is_mixed (places_from query 0 s.tokens)) (nat_lt max_places (length (places_from query 0 s.tokens))) (nat_lt room (length (prepare_command statement.query.parsed))) _ s.one_kind few_enough
+              (subst (λ (l : List ℕ). nat_lt room (length (prepare_command l)) ≡ true) s.query_is (lt-ltb room (length (prepare_command parsed.query)) (omega (arith, over)))),
+        )
 
     -- one that is not
     pub prepared : length parsed.query < room → (old mid more new : List ℕ) (start : ℕ) → start ≡ length old → mid ≡ old ++ (0 ∷ 0 ∷ 0 ∷ 0 ∷ 22 ∷ []) → more ≡ mid ++ parsed.query

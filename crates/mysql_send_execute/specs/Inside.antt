@@ -10,11 +10,11 @@ use Rattle.mysql_send_execute.specs.declared.statement.Statement.TheInside.{Insi
 -- what contracts see of it
 abbrev pub sent_statement : Inside → SentStatement
 sent_statement s = record {
-    text = s.query.text;
-    parsed = record { query = cow_slice_items s.marked; names = names_at s.query.text s.query.places };
-    places = length s.query.places;
-    id = s.id;
-  }
+  text = s.query.text;
+  parsed = record { query = cow_slice_items s.marked; names = names_at s.query.text s.query.places };
+  places = length s.query.places;
+  id = s.id;
+}
 
 -- it is the statement of its query
 abbrev pub IsFound : Inside → Type 0

@@ -408,7 +408,15 @@ pub fn put_executions(
     put_prepare(alloc, statement, limit - 4, out)?;
     let (mut values, mut command) = (Vec::new(alloc), Vec::new(alloc));
     'sets: for (set, params) in sets.iter().enumerate() {
-        put_set(statement, set, params, limit, &mut values, &mut command, out)?;
+        put_set(
+            statement,
+            set,
+            params,
+            limit,
+            &mut values,
+            &mut command,
+            out,
+        )?;
     }
     Ok(())
 }

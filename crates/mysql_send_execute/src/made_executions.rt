@@ -43,7 +43,15 @@ pub fn put_made_executions<S: SetMaker>(
     for number in 0..sets.len() {
         let params = made_set(alloc, sets, number)?;
         let mut values = Vec::new(alloc);
-        put_set(statement, number, &params, limit, &mut values, &mut command, out)?;
+        put_set(
+            statement,
+            number,
+            &params,
+            limit,
+            &mut values,
+            &mut command,
+            out,
+        )?;
     }
     Ok(())
 }

@@ -12,8 +12,8 @@ ghost use Rattle.mysql_send_execute.specs.Statement.{AppendsPrepare, IsStatement
 use mysql_command_rules::Refusal;
 use mysql_command_rules::in_turn::sent_in_turn;
 use mysql_const::Command;
-use mysql_values::laws::tokens_of_a_text;
 use mysql_queries::ParsedQuery;
+use mysql_values::laws::tokens_of_a_text;
 use mysql_wire::frame_in_place;
 use std::alloc::Global;
 use std::borrow::CowSlice;

@@ -243,8 +243,7 @@ module _ (slices : PiecesAreSlices) (once : OneTokens) (query : List ℕ) (place
     readable =
         let m : IsMeaning query params b.contents = b.meant in
         let over : values_over (names_of b.bound.tokens) params ≡ Ok m.values = ap (λ t. values_over (names_of t) params) (once query b.bound.tokens m.tokens b.bound.has m.has) ∙ m.over in
-        let same : m.values ≡ b.bound.values = one_value (values_over (names_of b.bound.tokens) params) m.values b.bound.values over b.bound.over in
-        (
+        let same : m.values ≡ b.bound.values = one_value (values_over (names_of b.bound.tokens) params) m.values b.bound.values over b.bound.over in (
           b.contents,
           ap (λ v. map content_of v) (sym same) ∙ m.each,
           subst (λ (l : List ℕ). TextReadsAs query l b.contents) (same_text b.text b.bound) b.reads,
@@ -254,8 +253,7 @@ module _ (slices : PiecesAreSlices) (once : OneTokens) (query : List ℕ) (place
     pub framed_query : length new - start ≤ limit → (out : List ℕ) → out ≡ take start new ++ framing (drop (start + 4) new) 0 → AppendsOne Text query id limit set given old out
     framed_query short out put =
         let fits : length (query_command b.text) ≤ limit - 4 = omega (arith, short, at, ap length (sym command_behind), length-drop (start + 4) new) in
-        let whole : out ≡ old ++ framing (query_command b.text) 0 = put ∙ ap (λ l. l ++ framing (drop (start + 4) new) 0) front_kept ∙ ap (λ l. old ++ framing l 0) command_behind in
-        (
+        let whole : out ≡ old ++ framing (query_command b.text) 0 = put ∙ ap (λ l. l ++ framing (drop (start + 4) new) 0) front_kept ∙ ap (λ l. old ++ framing l 0) command_behind in (
           b.bound.tokens,
           b.bound.has,
           record {

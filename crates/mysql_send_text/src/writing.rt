@@ -47,7 +47,15 @@ pub fn write_queries<W: Write>(
     let (mut buffer, mut values, mut spare) = (Vec::new(alloc), Vec::new(alloc), Vec::new(alloc));
     'sets: for (set, params) in sets.iter().enumerate() {
         let start = buffer.len();
-        let put = put_query(query, set, params, limit, &mut values, &mut spare, &mut buffer);
+        let put = put_query(
+            query,
+            set,
+            params,
+            limit,
+            &mut values,
+            &mut spare,
+            &mut buffer,
+        );
         flush_set(put, set, start, &mut buffer, to)?;
     }
     flush(&mut buffer, to)?;
