@@ -365,14 +365,17 @@ impl<'q> Query<'q> {
     {
         pieces_of_a_query();
         tokens_of_a_text();
+        // That the text's placeholders are of one kind the proof takes of these.
+        let _text = self.text();
         let query = self.statement.query();
+        let places = query.places();
         if let Some(place) = query.first_not_alone() {
             return Err(BindError::NotAlone(place));
         }
         let mut values = Vec::new(alloc);
         bind_text_over(
             query.text(),
-            query.places(),
+            places,
             query.names(),
             params,
             &mut values,

@@ -1,23 +1,12 @@
 use Rattle.std.proofs.Common.{List, subst, ℕ}
 use Rattle.mysql_command_rules.specs.declared.road.Road.TheVariants.{Text}
-use Rattle.std.specs.Prelude.{IfErr, OnOk}
+use Rattle.std.specs.Prelude.{OnOk}
 use Rattle.mysql_command_rules.specs.Reading.{SentReadable}
-use Rattle.mysql_command_rules.specs.Sending.{RefusesGiven}
 use Rattle.mysql_command_rules.specs.Sets.{all_given}
 use Rattle.mysql_session.specs.Kept.{KeptQuery}
-use Rattle.mysql_session.proofs.OnAnswers.{on_err, on_ok}
+use Rattle.mysql_session.proofs.OnAnswers.{on_ok}
 use Rattle.mysql_session.proofs.query.Query.send_sets.Goals.{in-Bulk, in-Execute, in-Text}
 use Rattle.mysql_session.proofs.query.Query.send_sets.Goals as goal
-
-pub returns-then-is_err-clause-refused : goal.returns-then-is_err-clause-refused
-returns-then-is_err-clause-refused c =
-    let query = c.self.inside in
-    subst (λ (k : KeptQuery). IfErr c.match-road.sent (RefusesGiven c.args.road k.text (all_given c.args.sets.now) k.id c.args.limit)) c.self.view_is
-    (elim c.match-road.branch [
-      | in-Text w ↦ rw (w.sent-is, w.in-Text.is) (on_err w.put_queries-sent.result (λ refusal why. subst (λ (text : List ℕ). RefusesGiven Text text (all_given c.args.sets.now) query.statement.id c.args.limit refusal) w.query.ensures.text (why query.statement.id)) w.put_queries-sent.ensures.err)
-      | in-Execute w ↦ rw (w.sent-is, w.in-Execute.is) w.put_executions-sent.ensures.err
-      | in-Bulk w ↦ rw (w.sent-is, w.in-Bulk.is) w.put_requests-sent.ensures.err
-    ])
 
 pub returns-else-is_err-clause-sent : goal.returns-else-is_err-clause-sent
 returns-else-is_err-clause-sent c =
