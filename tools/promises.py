@@ -10,7 +10,8 @@ from sources import CRATES, ROOT, crate
 LAYERS = ['mysql_buf', 'mysql_wire', 'mysql_values', 'mysql_convert', 'mysql_packets', 'mysql_session', 'mysql_login',
           'mysql_c']
 MANUAL = re.compile(r'\(?(Follows |MySQL|MariaDB)')
-DEFINITION = re.compile(r'^(?:(?:unfoldable|opaque|abbrev|data|record|pub|inductive|reducible) )+([^\s:({]+)', re.MULTILINE)
+DEFINITION = re.compile(
+    r'^(?:(?:unfoldable|opaque|abbrev|data|record|pub|inductive|reducible) )+([^\s:({]+)', re.MULTILINE)
 
 
 def needed():

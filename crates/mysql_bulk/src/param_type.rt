@@ -126,9 +126,7 @@ fn fields_from(alloc: Global, rest: &mut ParseBuf) -> Result<StmtBulkExecutePara
     ensures { TellsPart (λ t. t) rest.new.0.now result (param_type_fields_at rest.old.0.now) }
 {
     let column_type: Const<ColumnType, u8> = rest.parse(alloc, ())?;
-    let Some(bits) = rest.checked_eat_u8() else {
-        return Err(WireError::UnexpectedEof);
-    };
+    let bits = rest.checked_eat_u8().ok_or(WireError::UnexpectedEof)?;
     match param_flags(bits) {
         Some(flags) => Ok(StmtBulkExecuteParamType::new(column_type.get(), flags)),
         None => Err(WireError::UnknownValue),

@@ -35,12 +35,8 @@ fn head_of(alloc: Global, rest: &mut ParseBuf) -> Result<(u32, StmtBulkExecuteFl
     ensures { TellsPart (λ head. head) rest.new.0.now result (bulk_head_at rest.old.0.now) }
 {
     let _header: ComStmtBulkExecuteHeader = rest.parse(alloc, ())?;
-    let Some(id) = rest.checked_eat_u32_le() else {
-        return Err(WireError::UnexpectedEof);
-    };
-    let Some(bits) = rest.checked_eat_u16_le() else {
-        return Err(WireError::UnexpectedEof);
-    };
+    let id = rest.checked_eat_u32_le().ok_or(WireError::UnexpectedEof)?;
+    let bits = rest.checked_eat_u16_le().ok_or(WireError::UnexpectedEof)?;
     match bulk_flags(bits) {
         Some(flags) => Ok((id, flags)),
         None => Err(WireError::UnknownValue),

@@ -1,5 +1,5 @@
 -- One bulk request read back, and what it leaves in force.
-use Rattle.std.proofs.Common.{◌≡◌, ℕ, zero, suc, ◌+◌, ◌^◌, ◌<◌, ◌≤◌, ◌==◌, true, false, List, [], ◌∷◌, ◌++◌, length, get_or, map, take, drop, Option, None, Some, Result, Ok, refl, sym, ◌∙◌, ap, subst, arith, nat_lt, length-take, length-drop}
+use Rattle.std.proofs.Common.{◌≡◌, ℕ, zero, suc, ◌+◌, ◌^◌, ◌<◌, ◌≤◌, ◌==◌, true, false, List, [], ◌∷◌, ◌++◌, length, get_or, map, take, drop, Option, None, Some, Result, Ok, refl, sym, ◌∙◌, ap, subst, arith, length-take, length-drop}
 use Rattle.std.specs.Prelude.{if◌then◌else◌, not, ◌||◌}
 use Rattle.std.specs.List.{AllByRecursion, flat_map, range_with_len}
 use Rattle.std.specs.Option.{option_and_then, option_or}

@@ -4,7 +4,7 @@
 -- "COM_STMT_PREPARE", "COM_STMT_EXECUTE", "COM_STMT_SEND_LONG_DATA", "COM_STMT_RESET",
 -- "COM_STMT_CLOSE" and "Null-Bitmap"; MariaDB: "COM_STMT_BULK_EXECUTE".
 use Rattle.std.specs.Prelude.{◌≡◌, ℕ, ◌+◌, ◌/◌, ◌<◌, ◌≤◌, ◌^◌, Bool, true, false, List, [], ◌∷◌, ◌++◌, length, map}
-use Rattle.std.specs.Prelude.{Option, Some, None, IsTrue, flat_map, replicate, unwrap_or, ◌==◌, slice_get, slice_index}
+use Rattle.std.specs.Prelude.{Option, Some, None, IsTrue, flat_map, replicate, slice_get, slice_index}
 use Rattle.std.specs.Prelude.{slice_index_or, slice_range, if◌then◌else◌}
 use Rattle.std.specs.List.{AllByRecursion, AllZip, concat, range_with_len}
 use Rattle.byteorder.specs.Endian.{little_bytes}

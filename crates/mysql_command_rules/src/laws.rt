@@ -60,8 +60,10 @@ pub fn sent_values_are_carried()
     requests_read();
 }
 
-/// Sets that were sent are read back, each front of their stream reads as the sets that stand whole
-/// in it, and by bulk no requests could be fewer.
+/// Sets that were sent are read back.
+///
+/// Each front of their stream reads as the sets that stand whole in it, and by bulk no requests
+/// could be fewer.
 pub fn sent_sets_are_delivered()
     ensures { SentSetsAreDelivered }
 {
@@ -79,8 +81,9 @@ pub fn sets_mean_each()
     ensures { SetsMeanEach }
 {}
 
-/// Sets that are appended behind others, each by whichever road, read as all of them one after
-/// another: parameter sets or lists of objects behind either.
+/// Sets that are appended behind others read as all of them one after another.
+///
+/// That holds of each by whichever road, and of parameter sets or lists of objects behind either.
 pub fn sent_streams_join()
     ensures { SentStreamsJoin }
 {
@@ -88,9 +91,10 @@ pub fn sent_streams_join()
     whole_streams_join();
 }
 
-/// Sets that give a query the same read as the same contents, by whichever road they are sent: the
-/// same parameter sets, the same lists of objects, or lists of objects and the parameter sets that
-/// are made of them.
+/// Sets that give a query the same read as the same contents, by whichever road.
+///
+/// They may be the same parameter sets, the same lists of objects, or lists of objects and the
+/// parameter sets that are made of them.
 pub fn roads_read_equally()
     ensures { RoadsReadEqually }
 {

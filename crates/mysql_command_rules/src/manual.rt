@@ -8,10 +8,13 @@ use mysql_const::laws::names_are_read_back;
 use mysql_values::laws::{one_reading, pieces_of_a_query, tokens_of_a_text};
 use mysql_wire::laws::reader_laws;
 
-/// Of a statement of a query, a payload reads as these sets by what is in force exactly where the manual lays it
-/// out as a command that carries them; and what it leaves in force is what that command does.
+/// A payload reads as sets exactly where the manual lays it out as a command with them.
 ///
-/// Follows the MySQL Client/Server Protocol, "Command Phase", and MariaDB's "COM_STMT_BULK_EXECUTE".
+/// That is by what is in force, of a statement of a query; and what the payload leaves in force is
+/// what that command does.
+///
+/// Follows the MySQL Client/Server Protocol, "Command Phase", and MariaDB's
+/// "COM_STMT_BULK_EXECUTE".
 pub fn commands_are_laid_out()
     ensures some { EachLaidOutCommandReads }
     ensures only { OnlyLaidOutCommandsRead }
@@ -22,8 +25,10 @@ pub fn commands_are_laid_out()
     tokens_of_a_text();
 }
 
-/// A COM_QUERY reads as a set exactly where its text is the query's pieces, from placeholder to placeholder, with a
-/// literal of each of the set's contents between two of them.
+/// A COM_QUERY reads as a set exactly where its text is the query's pieces with the set's literals.
+///
+/// The pieces go from placeholder to placeholder, and a literal of each of the set's contents
+/// stands between two of them.
 ///
 /// Follows the MySQL Client/Server Protocol, "COM_QUERY".
 pub fn texts_are_filled_queries()
@@ -35,8 +40,10 @@ pub fn texts_are_filled_queries()
     tokens_of_a_text();
 }
 
-/// A stream audits as whole with these sets exactly where it is the framings of commands that the manual lays out one
-/// after another, each by what those before it leave in force, with no data that waits at the end.
+/// A stream audits as whole with sets exactly where it is the framings of commands with them.
+///
+/// The manual lays out these commands one after another, each by what those before it leave in
+/// force, with no data that waits at the end.
 ///
 /// Follows the MySQL Client/Server Protocol, "MySQL Packets" and "Command Phase".
 pub fn whole_streams_are_framed_commands()

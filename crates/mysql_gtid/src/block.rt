@@ -140,9 +140,7 @@ fn tag_text<'a>(sid: &'a Sid<'_>) -> &'a [u8]
 fn text_from<'de>(rest: &mut ParseBuf<'de>) -> Result<&'de [u8], WireError>
     ensures { TellsPart (λ text. text.now) rest.new.0.now result (varlen_text_at rest.old.0.now) }
 {
-    let Some(count) = read_varlen_uint(rest) else {
-        return Err(WireError::UnexpectedEof);
-    };
+    let count = read_varlen_uint(rest).ok_or(WireError::UnexpectedEof)?;
     match rest.checked_eat(count as usize) {
         Some(text) => Ok(text),
         None => Err(WireError::UnexpectedEof),

@@ -525,9 +525,7 @@ fn flags_of(
     ensures { TellsPart (λ flags. (flags.0.0, flags.1, flags.2.0)) block.new.0.now result (flags_at block.old.0.now) }
 {
     let low: RawInt<LeU32LowerHalf> = block.parse(alloc, ())?;
-    let Some(default_collation) = block.checked_eat_u8() else {
-        return Err(WireError::UnexpectedEof);
-    };
+    let default_collation = block.checked_eat_u8().ok_or(WireError::UnexpectedEof)?;
     let status_flags: Const<StatusFlags, LeU16> = block.parse(alloc, ())?;
     let high: RawInt<LeU32UpperHalf> = block.parse(alloc, ())?;
     // All 32 bits have names.
@@ -540,15 +538,11 @@ fn flags_of(
 fn fixed_block_of(alloc: Global, block: &mut ParseBuf) -> Result<FixedBlock, WireError>
     ensures { TellsPart fixed_view block.new.0.now result (fixed_at block.old.0.now) }
 {
-    let Some(connection_id) = block.checked_eat_u32_le() else {
-        return Err(WireError::UnexpectedEof);
-    };
+    let connection_id = block.checked_eat_u32_le().ok_or(WireError::UnexpectedEof)?;
     let scramble_1 = eight_bytes(block)?;
     let _filler: Skip<1> = block.parse(alloc, ())?;
     let (capabilities, default_collation, status_flags) = flags_of(alloc, block)?;
-    let Some(auth_plugin_data_len) = block.checked_eat_u8() else {
-        return Err(WireError::UnexpectedEof);
-    };
+    let auth_plugin_data_len = block.checked_eat_u8().ok_or(WireError::UnexpectedEof)?;
     let _reserved: Skip<6> = block.parse(alloc, ())?;
     let mariadb: RawFlags<MariadbCapabilities, LeU32> = block.parse(alloc, ())?;
     Ok(FixedBlock {
@@ -612,9 +606,7 @@ fn handshake_of<'a>(
 ) -> Result<HandshakePacket<'a>, WireError>
     ensures { TellsPart handshake_view rest.new.0.now result (handshake_at rest.old.0.now) }
 {
-    let Some(protocol_version) = rest.checked_eat_u8() else {
-        return Err(WireError::UnexpectedEof);
-    };
+    let protocol_version = rest.checked_eat_u8().ok_or(WireError::UnexpectedEof)?;
     let server_version: RawBytes<'a, NullBytes> = rest.parse(alloc, ())?;
     let fixed = fixed_of(alloc, rest)?;
     let scramble_2 = scramble_2_of(alloc, fixed.capabilities, fixed.auth_plugin_data_len, rest)?;

@@ -288,6 +288,14 @@ fn bytes_found<'p>(found: Option<Result<&'p [u8], ValueRef>>) -> &'p [u8] {
     }
 }
 
+/// The bytes in the cell of this name, where they lie.
+fn bytes_named<'p, R: RowRefExt<'p>>(
+    row: &R,
+    name: &str,
+) -> Option<Result<&'p [u8], ValueRef<'p>>> {
+    row.get_opt(name)
+}
+
 /// The text that a conversion gave.
 pub fn text_found<'p>(found: Option<Result<&'p str, ValueRef>>) -> &'p [u8] {
     match found {
@@ -303,9 +311,9 @@ fn named(assert: &impl Assert, alloc: Global) -> Result<(), AllocError> {
     match reader.row(b"\x02hi\x01\xff\x017") {
         Ok(row_ref) => {
             assert.holds(text_found(row_ref.get_opt("a")) == b"hi".as_slice());
-            assert.holds(bytes_found(row_ref.get_opt("b")) == b"\xff".as_slice());
+            assert.holds(bytes_found(bytes_named(&row_ref, "b")) == b"\xff".as_slice());
             assert.holds(text_found(row_ref.get_opt("b")) == b"none".as_slice());
-            assert.holds(bytes_found(row_ref.get_opt("c")) == b"none".as_slice());
+            assert.holds(bytes_found(bytes_named(&row_ref, "c")) == b"none".as_slice());
         }
         Err(_) => assert.holds(false),
     }

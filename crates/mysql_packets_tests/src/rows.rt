@@ -149,9 +149,9 @@ fn taken_once(rt: HostRuntime) {
 }
 
 /// The number in the cell of this name, copied.
-pub fn copy_of(
+pub fn copy_of<R: RowExt>(
     alloc: Global,
-    row: &Row,
+    row: &R,
     name: &str,
 ) -> Result<Option<Result<u64, FromValueError>>, AllocError> {
     row.get_opt(alloc, name)

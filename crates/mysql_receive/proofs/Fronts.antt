@@ -1,6 +1,6 @@
 -- Streams that are cut off, and streams that are joined.
-use Rattle.std.proofs.Common.{◌≡◌, ℕ, zero, suc, ◌+◌, ◌^◌, ◌<◌, ◌≤◌, ◌⊎◌, Bool, true, false, cond, List, [], ◌∷◌, ◌++◌, length, get_or, Option, Some, None, Result, Ok, Err, refl, sym, ap, subst, ◌∙◌, arith, inl, inr, take}
-use Rattle.std.specs.Prelude.{bytes_eq, unwrap_or, is_some, ◌==◌, ◌||◌, if◌then◌else◌, nat_lt, not}
+use Rattle.std.proofs.Common.{◌≡◌, ℕ, zero, suc, ◌+◌, ◌^◌, ◌<◌, ◌≤◌, ◌⊎◌, Bool, true, false, cond, List, [], ◌∷◌, ◌++◌, length, Option, Some, None, Result, Ok, Err, refl, sym, ap, subst, ◌∙◌, arith, inl, inr, take}
+use Rattle.std.specs.Prelude.{bytes_eq, unwrap_or, is_some, ◌==◌, ◌||◌, nat_lt, not}
 use Rattle.std.specs.List.{flat_map, list_any, range_with_len}
 use Rattle.std.specs.Option.{option_or, ok_or}
 use Rattle.std.proofs.lemmas.Bool.{cases_lt, ne_eqb, or_parts, ltb-true}
@@ -22,7 +22,7 @@ use Rattle.mysql_wire.specs.Stream.{Rest, IsSplit, IsRest, with_payloads, after_
 use Rattle.mysql_wire.specs.Stream.Rest.{Empty as EmptyRest, TooLarge as TooLargeRest, OutOfSync as OutOfSyncRest, Open as OpenRest}
 use Rattle.mysql_wire.specs.Stream.Numbering.{EachFromZero}
 use Rattle.mysql_receive.specs.Laws.{FrontsReadOn, WholeStreamsJoin}
-use Rattle.mysql_receive.specs.Audit.{Audit, Audited, Reads, nothing, next, Ends, faulty, all_read, Audits, end_by_rest, IsNoFault}
+use Rattle.mysql_receive.specs.Audit.{Audit, Reads, nothing, next, Ends, faulty, all_read, Audits, end_by_rest, IsNoFault}
 use Rattle.mysql_receive.specs.declared.audit.End.{End}
 use Rattle.mysql_receive.specs.declared.audit.End.TheVariants as ends
 use Rattle.mysql_receive.proofs.Auditing.{no_fault_by_rest, one_audit, audits_append, audits_whole}

@@ -5,8 +5,8 @@ use Rattle.std.specs.List.{list_any, range_with_len}
 use Rattle.std.proofs.lemmas.Bool.{eqb-true}
 use Rattle.std.proofs.lemmas.List.{append-nil, drop_all}
 use Rattle.mysql_receive.specs.declared.fault.StreamFault.{StreamFault}
-use Rattle.mysql_receive.specs.declared.refusal.Refusal.{Refusal}
-use Rattle.mysql_receive.specs.declared.refusal.Refusal.TheVariants as refusal
+use Rattle.mysql_receive.specs.declared.read_error.ReadError.{ReadError}
+use Rattle.mysql_receive.specs.declared.read_error.ReadError.TheVariants as read_error
 use Rattle.mysql_wire.specs.Wire.{◌>>=◌}
 use Rattle.mysql_receive.specs.Layout.{Types, type_at, types_at}
 use Rattle.mysql_receive.specs.declared.fault.StreamFault.TheVariants.{BadExecute}
@@ -32,11 +32,11 @@ types_go_on before short count i bytes n after total lt h so_far =
     let one : with_front before (types_at short (count - i) bytes) ≡ with_front (before ++ n ∷ []) (types_at short (count - (i + 1)) after) = rw (k, h) (regroup before n (types_at short (count - (i + 1)) after)) in
     sym one ∙ so_far
 
-pub types_end : (e : Refusal) (before : Types) (short : StreamFault) (count i : ℕ) (bytes : List ℕ) (total : Result (Types × List ℕ) StreamFault) → i < count → Fails e (type_at short bytes)
+pub types_end : (e : ReadError) (before : Types) (short : StreamFault) (count i : ℕ) (bytes : List ℕ) (total : Result (Types × List ℕ) StreamFault) → i < count → Fails e (type_at short bytes)
     → with_front before (types_at short (count - i) bytes) ≡ total → Fails e total
 unfolding types_at
-types_end refusal.Memory before short count i bytes total lt h so_far = tt
-types_end (refusal.Fault f) before short count i bytes total lt h so_far =
+types_end read_error.Memory before short count i bytes total lt h so_far = tt
+types_end (read_error.Fault f) before short count i bytes total lt h so_far =
     let k : count - i ≡ suc (count - (i + 1)) = omega arith in
     let one : with_front before (types_at short (count - i) bytes) ≡ Err f = rw (k, h) refl in
     sym so_far ∙ one
@@ -73,12 +73,12 @@ module _ (pieces : ℕ → Option (List ℕ)) (nulls : List ℕ) (types : List P
       rw (e, here) (behind_one before n (set_at pieces nulls (place + 1) (drop (place + 1) types) after)) in
       sym one ∙ so_far
 
-  pub set_ends : (r : Refusal) (before : Set) (place : ℕ) (t : ParamType) (null : Bool) (rest : List ℕ) → drop place types ≡ t ∷ drop (place + 1) types
+  pub set_ends : (r : ReadError) (before : Set) (place : ℕ) (t : ParamType) (null : Bool) (rest : List ℕ) → drop place types ≡ t ∷ drop (place + 1) types
       → null ≡ is_null_at 0 nulls place → Fails r (parameter_at (pieces place) null t rest)
       → behind before (set_at pieces nulls place (drop place types) rest) ≡ total → Fails r total
   unfolding set_at
-  set_ends refusal.Memory before place t null rest e bit h so_far = tt
-  set_ends (refusal.Fault f) before place t null rest e bit h so_far =
+  set_ends read_error.Memory before place t null rest e bit h so_far = tt
+  set_ends (read_error.Fault f) before place t null rest e bit h so_far =
       let here : parameter_at (pieces place) (is_null_at 0 nulls place) t rest ≡ Err f = ap (λ b. parameter_at (pieces place) b t rest) (sym bit) ∙ h in
       let one : behind before (set_at pieces nulls place (drop place types) rest) ≡ Err f = rw (e, here) refl in
       sym so_far ∙ one
@@ -114,11 +114,11 @@ module _ (types : List ParamType) (total : Result (Set × List ℕ) StreamFault)
       rw (e, h) (regroup before n (columns_at (drop (i + 1) types) after)) in
       sym one ∙ so_far
 
-  pub columns_end : (r : Refusal) (before : Set) (i : ℕ) (t : ParamType) (rest : List ℕ) → drop i types ≡ t ∷ drop (i + 1) types → Fails r (column_at t rest)
+  pub columns_end : (r : ReadError) (before : Set) (i : ℕ) (t : ParamType) (rest : List ℕ) → drop i types ≡ t ∷ drop (i + 1) types → Fails r (column_at t rest)
       → with_front before (columns_at (drop i types) rest) ≡ total → Fails r total
   unfolding columns_at
-  columns_end refusal.Memory before i t rest e h so_far = tt
-  columns_end (refusal.Fault f) before i t rest e h so_far =
+  columns_end read_error.Memory before i t rest e h so_far = tt
+  columns_end (read_error.Fault f) before i t rest e h so_far =
       let one : with_front before (columns_at (drop i types) rest) ≡ Err f = rw (e, h) refl in
       sym so_far ∙ one
 

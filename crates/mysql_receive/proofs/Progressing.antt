@@ -1,9 +1,8 @@
 -- A run over the payloads that a codec hands out.
-use Rattle.std.proofs.Common.{◌≡◌, ℕ, ◌+◌, ◌-◌, ◌^◌, ◌<◌, true, false, List, [], ◌∷◌, ◌++◌, length, take, get_or, Some, None, Err, refl, sym, ap, subst, ◌∙◌, arith, inl, inr, append_assoc}
+use Rattle.std.proofs.Common.{◌≡◌, ℕ, ◌+◌, ◌-◌, ◌^◌, ◌<◌, true, false, List, [], ◌∷◌, ◌++◌, length, Some, None, Err, refl, sym, ap, subst, ◌∙◌, arith, inr, append_assoc}
 use Rattle.std.specs.List.{flat_map}
-use Rattle.std.proofs.lemmas.List.{append-nil, length-append, get_or-append-add}
+use Rattle.std.proofs.lemmas.List.{append-nil, length-append}
 use Rattle.std.proofs.lemmas.List.Concat.{flat_map-append}
-use Rattle.std.proofs.Math.Seq.{take-append_seam}
 use Rattle.mysql_wire.specs.Bytes.{AreBytes}
 use Rattle.mysql_wire.specs.Codec.{Codec, HandsOut, RefusesBy, IsDue, held, packet_number, error_of}
 use Rattle.mysql_wire.specs.Incoming.{Incoming, ReadsOn, codec_by}
@@ -16,8 +15,8 @@ use Rattle.mysql_wire.specs.declared.codec.Refusal.TheVariants as codec_refusal
 use Rattle.mysql_wire.specs.declared.codec.PacketCodecError.{PacketCodecError}
 use Rattle.mysql_wire.specs.GoingOn.{ReaderLaws}
 use Rattle.mysql_receive.specs.declared.fault.StreamFault.TheVariants.{Memory}
-use Rattle.mysql_receive.specs.declared.refusal.Refusal.{Refusal}
-use Rattle.mysql_receive.specs.declared.refusal.Refusal.TheVariants as refusal
+use Rattle.mysql_receive.specs.declared.read_error.ReadError.{ReadError}
+use Rattle.mysql_receive.specs.declared.read_error.ReadError.TheVariants as read_error
 use Rattle.mysql_receive.specs.declared.progress.Progress.{Progress}
 use Rattle.mysql_receive.specs.Query.{Statement}
 use Rattle.mysql_receive.specs.InForce.{StatementState, after as behind_one, state_after}
@@ -27,14 +26,14 @@ use Rattle.mysql_receive.specs.Views.{state_of, sets_of, PayloadJudged}
 use Rattle.mysql_receive.specs.GoingOn.{ReceiverState, Fed, fault_of_rest}
 use Rattle.mysql_receive.specs.GoingOn as going
 use Rattle.mysql_receive.specs.Steps.{ReadOne, OneBy}
-use Rattle.mysql_receive.specs.Parts.{state_of_parts, fault_by, refusal_by, IsOpen}
+use Rattle.mysql_receive.specs.Parts.{state_of_parts, fault_by, read_error_by, IsOpen}
 use Rattle.mysql_receive.proofs.Looking.{state_after_append}
 use Rattle.mysql_receive.proofs.Auditing.{reads_length, reads_append, one_read, all_reads}
 use Rattle.mysql_receive.proofs.Splits.{some_split, bytes_behind, each_stays}
 
-pub fails_first : (c : Statement) (old new : Progress) (payload : List ℕ) (r : Refusal) → old.count < 2 ^ 64 - 1 → PayloadJudged c (state_of old.state) payload (Err r) → OneBy c old payload new (Err r)
-fails_first c old new payload refusal.Memory few h = tt
-fails_first c old new payload (refusal.Fault f) few h = inr (few, h)
+pub fails_first : (c : Statement) (old new : Progress) (payload : List ℕ) (r : ReadError) → old.count < 2 ^ 64 - 1 → PayloadJudged c (state_of old.state) payload (Err r) → OneBy c old payload new (Err r)
+fails_first c old new payload read_error.Memory few h = tt
+fails_first c old new payload (read_error.Fault f) few h = inr (few, h)
 
 -- so many payloads of the bytes were handed out, and they were read
 pub record Behind (c : Statement) (limit : ℕ) (old : Progress) (bytes : List ℕ) (codec : Codec) (src packet : List ℕ) (now : Progress) : Type 0 where
@@ -163,11 +162,11 @@ module _ (wire : ReaderLaws) (c : Statement) (limit : ℕ) (old : Progress) (byt
 
   -- the codec refuses
   pub refused_fed : (codec next : Codec) (src packet partial : List ℕ) (error : PacketCodecError) (now : Progress) → AreBytes bytes → Behind c limit old bytes codec src packet now → RefusesBy codec src packet next error
-      → Fed c limit (state_of_parts old [] None) bytes (state_of_parts now partial (fault_by (Err (refusal_by error))))
+      → Fed c limit (state_of_parts old [] None) bytes (state_of_parts now partial (fault_by (Err (read_error_by error))))
   refused_fed codec next src packet partial error now are b r =
-      subst (λ (e : PacketCodecError). Fed c limit (state_of_parts old [] None) bytes (state_of_parts now partial (fault_by (Err (refusal_by e))))) (sym r.answered) (by r.refusal (r.due b.taken.refused))
+      subst (λ (e : PacketCodecError). Fed c limit (state_of_parts old [] None) bytes (state_of_parts now partial (fault_by (Err (read_error_by e))))) (sym r.answered) (by r.refusal (r.due b.taken.refused))
     where
-      by : (x : CodecRefusal) → IsDue codec src packet x → Fed c limit (state_of_parts old [] None) bytes (state_of_parts now partial (fault_by (Err (refusal_by (error_of x)))))
+      by : (x : CodecRefusal) → IsDue codec src packet x → Fed c limit (state_of_parts old [] None) bytes (state_of_parts now partial (fault_by (Err (read_error_by (error_of x)))))
       by codec_refusal.TooLarge due =
           record {
             split = record { payloads = b.payloads; rest_bytes = held codec src packet; rest = TooLargeRest };
@@ -191,11 +190,11 @@ module _ (wire : ReaderLaws) (c : Statement) (limit : ℕ) (old : Progress) (byt
       by codec_refusal.Memory due = memory_fed codec src packet partial now now are b refl refl
 
   -- a payload is refused
-  pub payload_fed : (codec : Codec) (src packet : List ℕ) (next : Codec) (after payload partial : List ℕ) (mid now : Progress) (r : Refusal) → AreBytes bytes → Behind c limit old bytes codec src packet mid → HandsOut codec src packet next after payload
+  pub payload_fed : (codec : Codec) (src packet : List ℕ) (next : Codec) (after payload partial : List ℕ) (mid now : Progress) (r : ReadError) → AreBytes bytes → Behind c limit old bytes codec src packet mid → HandsOut codec src packet next after payload
       → OneBy c mid payload now (Err r) → sets_of now.sets.items ≡ sets_of mid.sets.items → now.count ≡ mid.count
       → Fed c limit (state_of_parts old [] None) bytes (state_of_parts now partial (fault_by (Err r)))
-  payload_fed codec src packet next after payload partial mid now refusal.Memory are b h one sets count = memory_fed codec src packet partial mid now are b sets count
-  payload_fed codec src packet next after payload partial mid now (refusal.Fault f) are b h one sets count =
+  payload_fed codec src packet next after payload partial mid now read_error.Memory are b h one sets count = memory_fed codec src packet partial mid now are b sets count
+  payload_fed codec src packet next after payload partial mid now (read_error.Fault f) are b h one sets count =
       let s = some_split wire limit bytes are in
       let taken = (wire.takes limit bytes b.payloads codec next src packet after payload h).1 b.taken in
       let found = wire.come_first limit EachFromZero (b.payloads ++ payload ∷ []) bytes (held (record next { number = 0 }) after []) s.0 taken.within taken.joined s.1 in

@@ -1,5 +1,5 @@
 -- From a receiver's fields to what it holds and decides.
-use Rattle.std.proofs.Common.{◌≡◌, ℕ, zero, suc, ◌+◌, ◌<◌, map, Bool, true, false, cond, List, [], ◌∷◌, ◌++◌, length, Option, Some, None, Result, Err, refl, sym, ap, subst, ◌∙◌, arith, inl, inr, append_assoc, take, get_or}
+use Rattle.std.proofs.Common.{◌≡◌, ℕ, zero, suc, ◌+◌, ◌<◌, map, Bool, true, false, cond, List, [], ◌∷◌, ◌++◌, length, Option, Some, None, Result, Err, refl, sym, ap, subst, ◌∙◌, arith, append_assoc, take, get_or}
 use Rattle.std.specs.Prelude.{◌==◌, not, if◌then◌else◌, IfSome, OnOk}
 use Rattle.std.specs.Global.{Vec}
 use Rattle.std.proofs.lemmas.Bool.{ne_eqb}
@@ -21,7 +21,7 @@ use Rattle.mysql_receive.specs.declared.audit.End.{End}
 use Rattle.mysql_receive.specs.declared.audit.End.TheVariants as ends
 use Rattle.mysql_receive.specs.declared.receiver.Receiver.TheInside.{Inside}
 use Rattle.mysql_receive.specs.Query.{Statement}
-use Rattle.mysql_receive.specs.InForce.{StatementState, is_waiting, state_after, nothing_yet}
+use Rattle.mysql_receive.specs.InForce.{StatementState, is_waiting, state_after}
 use Rattle.mysql_receive.specs.GoingOn as going
 use Rattle.mysql_receive.specs.Audit as audits
 use Rattle.mysql_receive.specs.Audit.{Audit, Reads, nothing, Audited, OutOfMemory, IsNoFault, end_by_rest}

@@ -23,8 +23,8 @@ use Rattle.mysql_receive.specs.declared.param_type.ParamType.{ParamType}
 use Rattle.mysql_receive.specs.Fields.{must, number_or}
 use Rattle.mysql_receive.specs.Layout.{Types}
 use Rattle.mysql_receive.specs.Reading.{Set, or_cell_fault, content_at, column_at, columns_at, row_at, RowsAt, FaultyRow}
-use Rattle.mysql_receive.specs.declared.refusal.Refusal.{Refusal}
-use Rattle.mysql_receive.specs.declared.refusal.Refusal.TheVariants as refusal
+use Rattle.mysql_receive.specs.declared.read_error.ReadError.{ReadError}
+use Rattle.mysql_receive.specs.declared.read_error.ReadError.TheVariants as read_error
 use Rattle.mysql_receive.specs.Views.{Fails, Finds}
 use Rattle.mysql_receive.proofs.Binds.{bind_ok}
 
@@ -160,10 +160,10 @@ row_fails types bytes sets [] f so_far some h = absurd cc
 row_fails types bytes sets (b ∷ rest) f so_far some h = record { before = sets; first = b; rest = rest; rows = so_far; fault = h }
 
 -- a row is refused, or memory runs out over it
-pub row_refused : {X : Type 0} (view : X → List Set) (Reads : List Set → Type 0) (e : Refusal) (types : Types) (bytes : List ℕ) (sets : List Set) (rest : List ℕ) → RowsAt types bytes sets rest → false ≡ (length rest == 0)
+pub row_refused : {X : Type 0} (view : X → List Set) (Reads : List Set → Type 0) (e : ReadError) (types : Types) (bytes : List ℕ) (sets : List Set) (rest : List ℕ) → RowsAt types bytes sets rest → false ≡ (length rest == 0)
     → Fails e (row_at types rest) → Finds view (Err e) Reads (FaultyRow types bytes)
-row_refused view Reads refusal.Memory types bytes sets rest so_far some h = tt
-row_refused view Reads (refusal.Fault f) types bytes sets rest so_far some h = row_fails types bytes sets rest f so_far some h
+row_refused view Reads read_error.Memory types bytes sets rest so_far some h = tt
+row_refused view Reads (read_error.Fault f) types bytes sets rest so_far some h = row_fails types bytes sets rest f so_far some h
 
 -- ---- rows read, or one of them is faulty
 

@@ -1,8 +1,8 @@
 -- Words of the receiver's own body, which no public call's clause has: what the reading of one
 -- payload leaves. MySQL: Client/Server Protocol, "Command Phase".
 use Rattle.std.specs.Prelude.{◌≡◌, ℕ, ◌+◌, List, ◌++◌, Result, Ok, Err}
-use Rattle.mysql_receive.specs.declared.refusal.Refusal.{Refusal}
-use Rattle.mysql_receive.specs.declared.refusal.Refusal.TheVariants as refusal
+use Rattle.mysql_receive.specs.declared.read_error.ReadError.{ReadError}
+use Rattle.mysql_receive.specs.declared.read_error.ReadError.TheVariants as read_error
 use Rattle.mysql_receive.specs.declared.progress.Progress.{Progress}
 use Rattle.mysql_receive.specs.Query.{Statement}
 use Rattle.mysql_receive.specs.InForce.{after}
@@ -17,7 +17,7 @@ pub record ReadOne (statement : Statement) (old : Progress) (payload : List ℕ)
   pub count : new.count ≡ old.count + 1
   pub state : state_of new.state ≡ after statement (state_of old.state) payload
 
-abbrev pub OneBy : Statement → Progress → List ℕ → Progress → Result (Unit {0}) Refusal → Type 0
+abbrev pub OneBy : Statement → Progress → List ℕ → Progress → Result (Unit {0}) ReadError → Type 0
 OneBy statement old payload new (Ok done) = ReadOne statement old payload new
-OneBy statement old payload new (Err refusal.Memory) = Unit {0}
-OneBy statement old payload new (Err (refusal.Fault f)) = Faulty statement (state_of old.state) old.count payload f
+OneBy statement old payload new (Err read_error.Memory) = Unit {0}
+OneBy statement old payload new (Err (read_error.Fault f)) = Faulty statement (state_of old.state) old.count payload f

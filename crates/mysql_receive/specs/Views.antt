@@ -5,8 +5,8 @@ use Rattle.std.specs.Prelude.{◌≡◌, ℕ, List, [], ◌∷◌, map, Option, 
 use Rattle.std.specs.Option.{option_map, option_and_then}
 use Rattle.mysql_values.specs.Content.{Content}
 use Rattle.mysql_receive.specs.declared.fault.StreamFault.{StreamFault}
-use Rattle.mysql_receive.specs.declared.refusal.Refusal.{Refusal}
-use Rattle.mysql_receive.specs.declared.refusal.Refusal.TheVariants as refusal
+use Rattle.mysql_receive.specs.declared.read_error.ReadError.{ReadError}
+use Rattle.mysql_receive.specs.declared.read_error.ReadError.TheVariants as read_error
 use Rattle.mysql_receive.specs.declared.carried.Carried.{Carried}
 use Rattle.mysql_receive.specs.declared.carried.Carried.TheVariants as carried
 use Rattle.mysql_receive.specs.declared.param_type.ParamType.{ParamType}
@@ -74,27 +74,27 @@ state_of state = record {
 }
 
 -- what a function returned, seen by a view, is what reading gives, unless memory ran out
-abbrev pub Fails : {Y : Type 0} → Refusal → Result Y StreamFault → Type 0
-Fails refusal.Memory read = Unit {0}
-Fails (refusal.Fault f) read = read ≡ Err f
+abbrev pub Fails : {Y : Type 0} → ReadError → Result Y StreamFault → Type 0
+Fails read_error.Memory read = Unit {0}
+Fails (read_error.Fault f) read = read ≡ Err f
 
-abbrev pub Gives : {X Y : Type 0} → (X → Y) → Result X Refusal → Result Y StreamFault → Type 0
+abbrev pub Gives : {X Y : Type 0} → (X → Y) → Result X ReadError → Result Y StreamFault → Type 0
 Gives view (Ok x) read = read ≡ Ok (view x)
 Gives view (Err e) read = Fails e read
 
 -- what a function found: a value, seen by a view, of which the one is said, or a fault of which the
 -- other is, unless memory ran out
-abbrev pub Finds : {X Y : Type 0} → (X → Y) → Result X Refusal → (Y → Type 0) → (StreamFault → Type 0) → Type 0
+abbrev pub Finds : {X Y : Type 0} → (X → Y) → Result X ReadError → (Y → Type 0) → (StreamFault → Type 0) → Type 0
 Finds view (Ok x) Reads IsFaulty = Reads (view x)
-Finds view (Err refusal.Memory) Reads IsFaulty = Unit {0}
-Finds view (Err (refusal.Fault f)) Reads IsFaulty = IsFaulty f
+Finds view (Err read_error.Memory) Reads IsFaulty = Unit {0}
+Finds view (Err (read_error.Fault f)) Reads IsFaulty = IsFaulty f
 
 -- what a command was found to be: the sets that it reads as, or its fault
-abbrev pub Judged : Statement → StatementState → Command → List ℕ → Result Carried Refusal → Type 0
+abbrev pub Judged : Statement → StatementState → Command → List ℕ → Result Carried ReadError → Type 0
 Judged statement state command body result =
     Finds sets_carried result (CommandReadsAs statement state command body) (CommandFaulty statement state command body)
 
-abbrev pub PayloadJudged : Statement → StatementState → List ℕ → Result Carried Refusal → Type 0
+abbrev pub PayloadJudged : Statement → StatementState → List ℕ → Result Carried ReadError → Type 0
 PayloadJudged statement state payload result =
     Finds sets_carried result (PayloadReadsAs statement state payload)
     (PayloadFaulty statement state payload)

@@ -1,3 +1,5 @@
+//! What a stream of commands says.
+
 use crate::fault::StreamFault;
 use mysql_values::Content;
 use std::fmt;
@@ -26,7 +28,9 @@ impl fmt::Display for End {
     }
 }
 
-/// What a stream of commands says: the parameter sets of all payloads before the end, place by place, and the end.
+/// What a stream of commands says: the parameter sets before its end, and the end.
+///
+/// The sets are those of all payloads before the end, place by place.
 #[derive(Debug, Drop)]
 pub struct Audit {
     pub sets: Vec<Vec<Content>>,

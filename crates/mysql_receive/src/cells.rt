@@ -7,7 +7,7 @@ ghost use Rattle.mysql_receive.specs.Views.{Gives};
 
 use crate::fault::StreamFault;
 use crate::param_type::ParamType;
-use crate::refusal::Refusal;
+use crate::read_error::ReadError;
 use mysql_const::ColumnType;
 use mysql_values::{ByteString, Content, Value, read_cell};
 use mysql_wire::{ParseBuf, WireError};
@@ -24,38 +24,38 @@ fn is_float(number: u8) -> bool
     number == ColumnType::MYSQL_TYPE_FLOAT as u8 || number == ColumnType::MYSQL_TYPE_DOUBLE as u8
 }
 
-/// The value of the cell that stands first. Where bytes are missing it is the fault `short`.
+/// Reads the value of the cell that stands first. Where bytes are missing it is the fault `short`.
 fn read_value(
     alloc: Global,
     short: StreamFault,
     kind: ParamType,
     bytes: &[u8],
-) -> Result<(Value, &[u8]), Refusal>
+) -> Result<(Value, &[u8]), ReadError>
     ensures { Gives (λ x. (x.0, x.1.now)) result (or_cell_fault short (cell_at kind.number kind.unsigned bytes.now)) }
 {
     let mut buf = ParseBuf(bytes);
     match read_cell(alloc, kind.number, kind.unsigned, &mut buf) {
         Ok(value) => Ok((value, buf.0)),
-        Err(WireError::Memory) => Err(Refusal::Memory),
-        Err(WireError::UnsupportedType) => Err(Refusal::Fault(StreamFault::BadType)),
-        Err(_) => Err(Refusal::Fault(short)),
+        Err(WireError::Memory) => Err(ReadError::Memory),
+        Err(WireError::UnsupportedType) => Err(ReadError::Fault(StreamFault::BadType)),
+        Err(_) => Err(ReadError::Fault(short)),
     }
 }
 
-/// The content of eight bytes that stand first, as a whole number.
+/// Reads eight bytes that stand first as a whole number.
 #[inline(always)]
 #[tactic(auto, unfolding(crate::specs::Reading::content_at, mysql_cells::specs::Cells::cell_at))]
 fn read_number(
     short: StreamFault,
     unsigned: bool,
     bytes: &[u8],
-) -> Result<(Content, &[u8]), Refusal>
+) -> Result<(Content, &[u8]), ReadError>
     ensures { Gives (λ x. (x.0, x.1.now)) result
         (content_at short (record { number = 8; unsigned = unsigned }) bytes.now) }
 {
     let mut buf = ParseBuf(bytes);
     let Some(bits) = buf.checked_eat_u64_le() else {
-        return Err(Refusal::Fault(short));
+        return Err(ReadError::Fault(short));
     };
     let number = if unsigned {
         i128::from(bits)
@@ -65,26 +65,26 @@ fn read_number(
     Ok((Content::Number(number), buf.0))
 }
 
-/// The content of length-encoded bytes that stand first.
+/// Reads length-encoded bytes that stand first.
 #[inline(always)]
 #[tactic(auto, unfolding(crate::specs::Reading::content_at, mysql_cells::specs::Cells::cell_at))]
 fn read_counted(
     alloc: Global,
     short: StreamFault,
     bytes: &[u8],
-) -> Result<(Content, &[u8]), Refusal>
+) -> Result<(Content, &[u8]), ReadError>
     ensures { (unsigned : Bool) →
         Gives (λ x. (x.0, x.1.now)) result
         (content_at short (record { number = 253; unsigned = unsigned }) bytes.now) }
 {
     let mut buf = ParseBuf(bytes);
     let Some(held) = buf.checked_eat_lenenc_str() else {
-        return Err(Refusal::Fault(short));
+        return Err(ReadError::Fault(short));
     };
     Ok((Content::Bytes(ByteString::copy(alloc, held)?), buf.0))
 }
 
-/// The content of the cell that stands first, of any type.
+/// Reads the content of the cell that stands first, of any type.
 #[inline(never)]
 #[tactic(auto, unfolding(crate::specs::Reading::content_at))]
 fn read_any(
@@ -92,27 +92,27 @@ fn read_any(
     short: StreamFault,
     kind: ParamType,
     bytes: &[u8],
-) -> Result<(Content, &[u8]), Refusal>
+) -> Result<(Content, &[u8]), ReadError>
     ensures { Gives (λ x. (x.0, x.1.now)) result (content_at short kind bytes.now) }
 {
     if is_float(kind.number) {
-        return Err(Refusal::Fault(StreamFault::Float));
+        return Err(ReadError::Fault(StreamFault::Float));
     }
     let (value, rest) = read_value(alloc, short, kind, bytes)?;
     match value.into_content(alloc)? {
         Some(content) => Ok((content, rest)),
-        None => Err(Refusal::Fault(StreamFault::Float)),
+        None => Err(ReadError::Fault(StreamFault::Float)),
     }
 }
 
-/// The content of the cell that stands first. The types that most values are sent by come first.
+/// Reads the content of the cell that stands first. The types that most values are sent by come first.
 #[inline(always)]
 pub fn read_content(
     alloc: Global,
     short: StreamFault,
     kind: ParamType,
     bytes: &[u8],
-) -> Result<(Content, &[u8]), Refusal>
+) -> Result<(Content, &[u8]), ReadError>
     ensures { Gives (λ x. (x.0, x.1.now)) result (content_at short kind bytes.now) }
 {
     match kind.number {

@@ -28,7 +28,9 @@ pub enum StreamFault {
     NotPrepared,
     /// Another statement's id.
     WrongId,
-    /// An execute has a cursor, a count other than 1, a bound flag above 1, too few bytes, or bytes left over.
+    /// An execute has a cursor, another count than 1, a bound flag above 1, or a wrong length.
+    ///
+    /// That is too few bytes, or bytes left over.
     BadExecute,
     /// An execute or a bulk has no types, and none are kept.
     NoTypes,

@@ -6,51 +6,51 @@ ghost use Rattle.mysql_receive.specs.Layout.{is_type};
 ghost use Rattle.mysql_receive.specs.Views.{Gives};
 
 use crate::fault::StreamFault;
-use crate::refusal::Refusal;
+use crate::read_error::ReadError;
 use mysql_const::ColumnType;
 use mysql_wire::ParseBuf;
 
-/// The first bytes, and the rest.
-pub fn read_bytes(fault: StreamFault, n: usize, bytes: &[u8]) -> Result<(&[u8], &[u8]), Refusal>
+/// Reads the first bytes, and answers them and the rest.
+pub fn read_bytes(fault: StreamFault, n: usize, bytes: &[u8]) -> Result<(&[u8], &[u8]), ReadError>
     ensures { Gives (λ x. (x.0.now, x.1.now)) result (bytes_or fault n bytes.now) }
 {
     let mut buf = ParseBuf(bytes);
     match buf.checked_eat(n) {
         Some(front) => Ok((front, buf.0)),
-        None => Err(Refusal::Fault(fault)),
+        None => Err(ReadError::Fault(fault)),
     }
 }
 
-/// The number in the first byte, and the rest.
-pub fn read_u8(fault: StreamFault, bytes: &[u8]) -> Result<(u8, &[u8]), Refusal>
+/// Reads the number in the first byte, and answers it and the rest.
+pub fn read_u8(fault: StreamFault, bytes: &[u8]) -> Result<(u8, &[u8]), ReadError>
     ensures { Gives (λ x. (x.0, x.1.now)) result (number_or fault 1 bytes.now) }
 {
     let mut buf = ParseBuf(bytes);
     match buf.checked_eat_u8() {
         Some(number) => Ok((number, buf.0)),
-        None => Err(Refusal::Fault(fault)),
+        None => Err(ReadError::Fault(fault)),
     }
 }
 
-/// The number in the first two bytes, and the rest.
-pub fn read_u16(fault: StreamFault, bytes: &[u8]) -> Result<(u16, &[u8]), Refusal>
+/// Reads the number in the first two bytes, the lowest first.
+pub fn read_u16(fault: StreamFault, bytes: &[u8]) -> Result<(u16, &[u8]), ReadError>
     ensures { Gives (λ x. (x.0, x.1.now)) result (number_or fault 2 bytes.now) }
 {
     let mut buf = ParseBuf(bytes);
     match buf.checked_eat_u16_le() {
         Some(number) => Ok((number, buf.0)),
-        None => Err(Refusal::Fault(fault)),
+        None => Err(ReadError::Fault(fault)),
     }
 }
 
-/// The number in the first four bytes, and the rest.
-pub fn read_u32(fault: StreamFault, bytes: &[u8]) -> Result<(u32, &[u8]), Refusal>
+/// Reads the number in the first four bytes, the lowest first.
+pub fn read_u32(fault: StreamFault, bytes: &[u8]) -> Result<(u32, &[u8]), ReadError>
     ensures { Gives (λ x. (x.0, x.1.now)) result (number_or fault 4 bytes.now) }
 {
     let mut buf = ParseBuf(bytes);
     match buf.checked_eat_u32_le() {
         Some(number) => Ok((number, buf.0)),
-        None => Err(Refusal::Fault(fault)),
+        None => Err(ReadError::Fault(fault)),
     }
 }
 

@@ -1,28 +1,27 @@
 //! Packets of commands, whose bytes come in pieces.
 
-ghost use Rattle.std.specs.Prelude.{◌≡◌, [], OnErr, OnOk, None};
+ghost use Rattle.std.specs.Prelude.{◌≡◌};
 ghost use Rattle.mysql_receive.specs.Query.{IsQuery};
 ghost use Rattle.mysql_receive.specs.Views.{statement_view};
-ghost use Rattle.mysql_receive.specs.GoingOn.{Fed};
-ghost use Rattle.mysql_receive.specs.Parts.{state_of_parts, fault_by, refusal_by, IsOpen};
+ghost use Rattle.mysql_receive.specs.Parts.{IsOpen, ReadsPiece, read_error_by};
 
 use crate::fault::StreamFault;
 use crate::progress::Progress;
-use crate::refusal::Refusal;
+use crate::read_error::ReadError;
 use crate::statement::Statement;
 use mysql_wire::laws::reader_laws;
 use mysql_wire::{PacketCodecError, PacketReader};
 use std::alloc::Global;
 
 /// The refusal that a codec's error is.
-fn refusal_of(error: PacketCodecError) -> Refusal
-    ensures { result ≡ refusal_by error }
+fn read_error_of(error: PacketCodecError) -> ReadError
+    ensures { result ≡ read_error_by error }
 {
     match error {
-        PacketCodecError::PacketTooLarge => Refusal::Fault(StreamFault::TooLarge),
-        PacketCodecError::PacketsOutOfSync => Refusal::Fault(StreamFault::OutOfSync),
-        PacketCodecError::Io(_) => Refusal::Memory,
-        PacketCodecError::Memory => Refusal::Memory,
+        PacketCodecError::PacketTooLarge => ReadError::Fault(StreamFault::TooLarge),
+        PacketCodecError::PacketsOutOfSync => ReadError::Fault(StreamFault::OutOfSync),
+        PacketCodecError::Io(_) => ReadError::Memory,
+        PacketCodecError::Memory => ReadError::Memory,
     }
 }
 
@@ -34,15 +33,11 @@ fn read_payloads(
     statement: &Statement,
     progress: &mut Progress,
     piece: &[u8],
-) -> Result<(), Refusal>
+) -> Result<(), ReadError>
     requires query { IsQuery (statement_view statement.now).query }
     requires open { IsOpen packets.old }
-    ensures fed { Fed (statement_view statement.now) packets.old.limit
-        (state_of_parts progress.old packets.old.bytes None) piece.now
-        (state_of_parts progress.new packets.new.bytes (fault_by result)) }
-    ensures open { OnOk result (IsOpen packets.new) }
-    ensures stopped { OnErr result (packets.new.bytes ≡ []) }
-    ensures limit { packets.new.limit ≡ packets.old.limit }
+    ensures { ReadsPiece (statement_view statement.now) packets.old progress.old piece.now
+        packets.new progress.new result }
 {
     reader_laws();
     let mut rest = piece;
@@ -58,7 +53,7 @@ fn read_payloads(
                 progress.read_one(alloc, statement, packets.payload())?;
                 packets.reset_seq_id();
             }
-            Err(error) => return Err(refusal_of(error)),
+            Err(error) => return Err(read_error_of(error)),
         }
     }
 }
@@ -71,15 +66,11 @@ pub fn read_piece(
     statement: &Statement,
     progress: &mut Progress,
     piece: &[u8],
-) -> Result<(), Refusal>
+) -> Result<(), ReadError>
     requires query { IsQuery (statement_view statement.now).query }
     requires open { IsOpen packets.old }
-    ensures fed { Fed (statement_view statement.now) packets.old.limit
-        (state_of_parts progress.old packets.old.bytes None) piece.now
-        (state_of_parts progress.new packets.new.bytes (fault_by result)) }
-    ensures open { OnOk result (IsOpen packets.new) }
-    ensures stopped { OnErr result (packets.new.bytes ≡ []) }
-    ensures limit { packets.new.limit ≡ packets.old.limit }
+    ensures { ReadsPiece (statement_view statement.now) packets.old progress.old piece.now
+        packets.new progress.new result }
 {
     reader_laws();
     if packets.take_within(piece) {

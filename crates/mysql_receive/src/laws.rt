@@ -8,13 +8,17 @@ ghost use Rattle.mysql_receive.specs.Laws.{ThereIsOneAudit, WholeStreamsJoin, Wr
 use mysql_values::laws::{cells_read_back, one_reading, texts_are_decided, tokens_of_a_text};
 use mysql_wire::laws::{fronts_split, reader_laws};
 
-/// Looking back over two lists of payloads, one after the other, is looking back over the second from what is in
-/// force behind the first.
+/// Looking back over joined payloads is looking back over the second ones from the first.
+///
+/// What is in force behind the first list is what looking back over the second begins with.
 pub fn looking_back_goes_on()
     ensures { LookingBackGoesOn }
 {}
 
-/// The types in force are those of the last payload that speaks of types.
+/// What is in force can be found by looking back.
+///
+/// A payload that says something, with none behind it that says anything, decides: the types in
+/// force are those of the last payload that speaks of types.
 pub fn last_word_counts()
     ensures { LastWordCounts }
 {}
@@ -67,8 +71,9 @@ pub fn start_decides_the_audit()
     ensures { StartDecidesTheAudit }
 {}
 
-/// What is held after a piece decides what was decided before it over the piece and the bytes still to come, or memory
-/// ran out over the piece.
+/// What is held after a piece decides what was decided before it, over the piece too.
+///
+/// That is over the piece and the bytes still to come; or memory ran out over the piece.
 pub fn feeding_goes_on()
     ensures { FeedingGoesOn }
 {
@@ -80,15 +85,16 @@ pub fn pieces_go_on()
     ensures { PiecesGoOn }
 {}
 
-/// Pieces that were read one after another were read as one piece, also where memory ran out over the last.
+/// Pieces that were read one after another were read as one piece, also where memory ran out.
 pub fn pieces_are_taken()
     ensures { PiecesAreTaken }
 {
     reader_laws();
 }
 
-/// All sets that were taken of a receiver while it was fed, and behind them those of its end, are
-/// the audit of what it was fed, or of its first payloads where memory ran out.
+/// The sets that were taken of a receiver and those of its end are, joined, the audit.
+///
+/// It is the audit of all that the receiver was fed, or of its first payloads where memory ran out.
 pub fn taken_sets_are_the_audit()
     ensures { TakenSetsAreTheAudit }
 {

@@ -14,7 +14,7 @@ ghost use Rattle.mysql_receive.specs.Views.{types_carried, types_kept, some_type
 use crate::fault::StreamFault;
 use crate::fields::{is_type_number, read_bytes, read_u8, read_u16, read_u32};
 use crate::param_type::{OwnTypes, ParamType};
-use crate::refusal::Refusal;
+use crate::read_error::ReadError;
 use crate::statement::Statement;
 use mysql_wire::ParseBuf;
 use std::alloc::Global;
@@ -54,19 +54,19 @@ pub struct PlaceData<'a> {
 }
 
 /// Reads a type and its flag.
-pub fn read_type(short: StreamFault, bytes: &[u8]) -> Result<(ParamType, &[u8]), Refusal>
+pub fn read_type(short: StreamFault, bytes: &[u8]) -> Result<(ParamType, &[u8]), ReadError>
     ensures { Gives (λ x. (x.0, x.1.now)) result (type_at short bytes.now) }
 {
     let (number, rest) = read_u8(short, bytes)?;
     if !is_type_number(number) {
-        return Err(Refusal::Fault(StreamFault::BadType));
+        return Err(ReadError::Fault(StreamFault::BadType));
     }
     let (flags, rest) = read_u8(short, rest)?;
     let unsigned = flags == UNSIGNED;
     if unsigned || flags == 0 {
         Ok((ParamType { number, unsigned }, rest))
     } else {
-        Err(Refusal::Fault(StreamFault::BadType))
+        Err(ReadError::Fault(StreamFault::BadType))
     }
 }
 
@@ -76,7 +76,7 @@ pub fn read_types(
     short: StreamFault,
     count: usize,
     bytes: &[u8],
-) -> Result<(Vec<ParamType>, &[u8]), Refusal>
+) -> Result<(Vec<ParamType>, &[u8]), ReadError>
     ensures { Gives (λ x. (x.0.items, x.1.now)) result (types_at short count bytes.now) }
 {
     let mut types = Vec::new(alloc);
@@ -125,7 +125,7 @@ fn read_own_types<'a>(
     count: usize,
     kept: &Option<Vec<ParamType>>,
     bytes: &'a [u8],
-) -> Result<(OwnTypes, &'a [u8]), Refusal>
+) -> Result<(OwnTypes, &'a [u8]), ReadError>
     ensures { Gives (λ x. (types_carried (types_kept kept.now) x.0, x.1.now)) result
         (some_types (types_at short count bytes.now)) }
 {
@@ -141,33 +141,31 @@ fn read_own_types<'a>(
 }
 
 /// Reads the statement's id, and answers the bytes behind it.
-pub fn check_id<'a>(statement: &Statement, bytes: &'a [u8]) -> Result<&'a [u8], Refusal>
+pub fn check_id<'a>(statement: &Statement, bytes: &'a [u8]) -> Result<&'a [u8], ReadError>
     ensures { Gives (λ x. x.now) result (id_at (statement_view statement.now) bytes.now) }
 {
     let (id, rest) = read_u32(StreamFault::WrongId, bytes)?;
     if id == statement.id {
         Ok(rest)
     } else {
-        Err(Refusal::Fault(StreamFault::WrongId))
+        Err(ReadError::Fault(StreamFault::WrongId))
     }
 }
 
-/// Reads the body of a long data command:
-///
-/// ```text
-/// int<4>      statement_id
-/// int<2>      param_id: the place
-/// string<EOF> data
-/// ```
-pub fn read_long_data<'a>(statement: &Statement, body: &'a [u8]) -> Result<PlaceData<'a>, Refusal>
+/// Reads the body of a long data command.
+pub fn read_long_data<'a>(statement: &Statement, body: &'a [u8]) -> Result<PlaceData<'a>, ReadError>
     ensures { Gives place_data_of result (place_data_at (statement_view statement.now) body.now) }
 {
+    // COM_STMT_SEND_LONG_DATA:
+    //   int<4>       statement_id
+    //   int<2>       param_id, the place
+    //   string<EOF>  data
     let rest = check_id(statement, body)?;
     let (place, bytes) = read_u16(StreamFault::BadPlace, rest)?;
     if (place as usize) < statement.places.len() {
         Ok(PlaceData { place, bytes })
     } else {
-        Err(Refusal::Fault(StreamFault::BadPlace))
+        Err(ReadError::Fault(StreamFault::BadPlace))
     }
 }
 
@@ -178,19 +176,23 @@ fn bitmap_len(places: usize) -> usize
     places.div_ceil(8)
 }
 
+/// Reads the NULL bitmap and the types of an execute.
 #[tactic(auto, unfolding(crate::specs::Layout::binding_at))]
 fn read_binding<'a>(
     alloc: Global,
     places: usize,
     kept: &Option<Vec<ParamType>>,
     bytes: &'a [u8],
-) -> Result<ExecuteHead<'a>, Refusal>
+) -> Result<ExecuteHead<'a>, ReadError>
     ensures { Gives (execute_head_of (types_kept kept.now)) result (binding_at places bytes.now) }
 {
+    // binary<var>  null_bitmap, a bit for each parameter
+    // int<1>       new_params_bind_flag
+    // (int<1> type, int<1> flag) for each parameter, behind a flag of 1
     let (nulls, rest) = read_bytes(StreamFault::BadExecute, bitmap_len(places), bytes)?;
     let (bound, rest) = read_u8(StreamFault::BadExecute, rest)?;
     if bound > 1 {
-        return Err(Refusal::Fault(StreamFault::BadExecute));
+        return Err(ReadError::Fault(StreamFault::BadExecute));
     }
     if bound == 0 {
         return Ok(ExecuteHead {
@@ -203,34 +205,31 @@ fn read_binding<'a>(
     Ok(ExecuteHead { nulls, own, cells })
 }
 
-/// Reads what stands before an execute's cells:
-///
-/// ```text
-/// int<4>       statement_id
-/// int<1>       flags: CURSOR_TYPE_NO_CURSOR
-/// int<4>       iteration_count: 1
-/// binary<var>  null_bitmap, where there are parameters, and what follows
-/// int<1>       new_params_bind_flag
-/// binary<var>  parameter_type and a flag byte, for each parameter, behind a flag of 1
-/// ```
+/// Reads what stands before an execute's cells.
 #[tactic(auto, unfolding(crate::specs::Layout::execute_head))]
 pub fn read_execute_head<'a>(
     alloc: Global,
     statement: &Statement,
     kept: &Option<Vec<ParamType>>,
     body: &'a [u8],
-) -> Result<ExecuteHead<'a>, Refusal>
+) -> Result<ExecuteHead<'a>, ReadError>
     ensures { Gives (execute_head_of (types_kept kept.now)) result
         (execute_head (statement_view statement.now) body.now) }
 {
+    // COM_STMT_EXECUTE:
+    //   int<4>  statement_id
+    //   int<1>  flags: CURSOR_TYPE_NO_CURSOR
+    //   int<4>  iteration_count: 1
+    //   ..      null_bitmap and types, where there are parameters (`read_binding`)
+    //   ..      parameter values
     let rest = check_id(statement, body)?;
     let (cursor, rest) = read_u8(StreamFault::BadExecute, rest)?;
     if cursor != NO_CURSOR {
-        return Err(Refusal::Fault(StreamFault::BadExecute));
+        return Err(ReadError::Fault(StreamFault::BadExecute));
     }
     let (count, rest) = read_u32(StreamFault::BadExecute, rest)?;
     if count != 1 {
-        return Err(Refusal::Fault(StreamFault::BadExecute));
+        return Err(ReadError::Fault(StreamFault::BadExecute));
     }
     let places = statement.places.len();
     if places == 0 {
@@ -253,26 +252,25 @@ fn are_bulk_flags(flags: u16) -> bool
         || flags == SEND_UNIT_RESULTS + SEND_TYPES_TO_SERVER
 }
 
-/// Reads what stands before a bulk's rows:
-///
-/// ```text
-/// int<4>       statement_id
-/// int<2>       bulk_flags: SEND_UNIT_RESULTS, SEND_TYPES_TO_SERVER
-/// binary<var>  parameter type and a flag byte, for each parameter, where types are sent
-/// ```
+/// Reads what stands before a bulk's rows.
 #[tactic(auto, unfolding(crate::specs::Layout::bulk_head))]
 pub fn read_bulk_head<'a>(
     alloc: Global,
     statement: &Statement,
     kept: &Option<Vec<ParamType>>,
     body: &'a [u8],
-) -> Result<BulkHead<'a>, Refusal>
+) -> Result<BulkHead<'a>, ReadError>
     ensures { Gives (bulk_head_of (types_kept kept.now)) result (bulk_head (statement_view statement.now) body.now) }
 {
+    // COM_STMT_BULK_EXECUTE:
+    //   int<4>       statement_id
+    //   int<2>       bulk_flags: SEND_UNIT_RESULTS, SEND_TYPES_TO_SERVER
+    //   (int<1> type, int<1> flag) for each parameter, where types are sent
+    //   ..           rows: an indicator and a value for each parameter
     let rest = check_id(statement, body)?;
     let (flags, rest) = read_u16(StreamFault::BadBulk, rest)?;
     if !are_bulk_flags(flags) {
-        return Err(Refusal::Fault(StreamFault::BadBulk));
+        return Err(ReadError::Fault(StreamFault::BadBulk));
     }
     if flags & SEND_TYPES_TO_SERVER != SEND_TYPES_TO_SERVER {
         return Ok(BulkHead {

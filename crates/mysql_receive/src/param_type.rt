@@ -1,3 +1,5 @@
+//! Types of parameters, as commands carry them.
+
 /// A parameter's type as it is sent: its number, and whether it is unsigned.
 #[derive(Clone, Copy, Debug, PartialEq, Eq)]
 pub struct ParamType {

@@ -5,7 +5,7 @@ ghost use Rattle.mysql_receive.specs.Query.{IsQuery};
 ghost use Rattle.mysql_receive.specs.Views.{statement_view, sets_of};
 
 use crate::fault::StreamFault;
-use crate::refusal::Refusal;
+use crate::read_error::ReadError;
 use crate::statement::{Statement, StatementState};
 use crate::step::step;
 use mysql_values::Content;
@@ -28,14 +28,14 @@ impl Progress {
         alloc: Global,
         statement: &Statement,
         payload: &[u8],
-    ) -> Result<(), Refusal>
+    ) -> Result<(), ReadError>
         requires { IsQuery (statement_view statement.now).query }
         ensures by { OneBy (statement_view statement.now) self.old payload.now self.new result }
         ensures sets { OnErr result (sets_of self.new.sets.items ≡ sets_of self.old.sets.items) }
         ensures count { OnErr result (self.new.count ≡ self.old.count) }
     {
         if self.count == u64::MAX {
-            return Err(Refusal::Fault(StreamFault::TooLarge));
+            return Err(ReadError::Fault(StreamFault::TooLarge));
         }
         let more = step(alloc, statement, &mut self.state, payload)?;
         more.append_to(&mut self.sets)?;

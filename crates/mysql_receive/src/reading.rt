@@ -16,18 +16,18 @@ use crate::fault::StreamFault;
 use crate::fields::read_u8;
 use crate::layout::{BulkHead, ExecuteHead, read_bulk_head, read_execute_head};
 use crate::param_type::{OwnTypes, ParamType};
-use crate::refusal::Refusal;
+use crate::read_error::ReadError;
 use crate::statement::{Statement, StatementState};
 use mysql_field_lists::{ClientSide, NullBitmap, NullBits};
 use mysql_values::{ByteString, Content};
 use std::alloc::Global;
 
-/// The types that count.
+/// The types that count: the command's own, else those in force.
 fn find_types<'a>(
     statement: &Statement,
     state: &'a StatementState,
     own: &'a OwnTypes,
-) -> Result<&'a [ParamType], Refusal>
+) -> Result<&'a [ParamType], ReadError>
     ensures { Gives (λ x. x.now) result
         (types_in_force (statement_view statement.now) (state_of state.now)
         (types_carried (types_kept state.now.types) own.now)) }
@@ -39,12 +39,12 @@ fn find_types<'a>(
         OwnTypes::Anew(types) => Ok(types.as_slice()),
         OwnTypes::Kept | OwnTypes::Without => match &state.types {
             Some(types) => Ok(types.as_slice()),
-            None => Err(Refusal::Fault(StreamFault::NoTypes)),
+            None => Err(ReadError::Fault(StreamFault::NoTypes)),
         },
     }
 }
 
-/// What a place of an execute holds.
+/// Reads what a place of an execute holds.
 #[tactic(auto, unfolding(crate::specs::Reading::content_at))]
 #[inline(always)]
 fn read_parameter<'a>(
@@ -54,7 +54,7 @@ fn read_parameter<'a>(
     is_null: bool,
     kind: ParamType,
     bytes: &'a [u8],
-) -> Result<(Content, &'a [u8]), Refusal>
+) -> Result<(Content, &'a [u8]), ReadError>
     ensures { Gives (λ x. (x.0, x.1.now)) result
         (parameter_at (data_waiting state.now.long_data.items place) is_null kind bytes.now) }
 {
@@ -84,14 +84,14 @@ fn next_bit(bits: &mut NullBits<'_>) -> bool
     bits.next().unwrap_or(false)
 }
 
-/// What all places hold.
+/// Reads what all places of an execute hold.
 fn read_set(
     alloc: Global,
     state: &StatementState,
     nulls: &[u8],
     types: &[ParamType],
     cells: &[u8],
-) -> Result<Vec<Content>, Refusal>
+) -> Result<Vec<Content>, ReadError>
     ensures { Gives (λ x. x.items) result
         (set_at (data_waiting state.now.long_data.items) nulls.now 0 types.now cells.now) }
 {
@@ -106,17 +106,17 @@ fn read_set(
         rest = after;
     }
     if !rest.is_empty() {
-        return Err(Refusal::Fault(StreamFault::BadExecute));
+        return Err(ReadError::Fault(StreamFault::BadExecute));
     }
     Ok(set)
 }
 
-/// Columns of a row, one after another.
+/// Reads the columns of a row, one after another.
 fn read_columns<'a>(
     alloc: Global,
     types: &[ParamType],
     bytes: &'a [u8],
-) -> Result<(Vec<Content>, &'a [u8]), Refusal>
+) -> Result<(Vec<Content>, &'a [u8]), ReadError>
     ensures { Gives (λ x. (x.0.items, x.1.now)) result (columns_at types.now bytes.now) }
 {
     let mut set = Vec::with_capacity(alloc, types.len())?;
@@ -129,38 +129,42 @@ fn read_columns<'a>(
     Ok((set, rest))
 }
 
-/// A column of a row: an indicator, and a cell or nothing.
+/// Reads a column of a row: an indicator, and a cell or nothing.
 fn read_column<'a>(
     alloc: Global,
     kind: ParamType,
     bytes: &'a [u8],
-) -> Result<(Content, &'a [u8]), Refusal>
+) -> Result<(Content, &'a [u8]), ReadError>
     ensures { Gives (λ x. (x.0, x.1.now)) result (column_at kind bytes.now) }
 {
     let (indicator, rest) = read_u8(StreamFault::BadBulk, bytes)?;
     match indicator {
         0 => read_content(alloc, StreamFault::BadBulk, kind, rest),
         1 => Ok((Content::Null, rest)),
-        _ => Err(Refusal::Fault(StreamFault::Indicator)),
+        _ => Err(ReadError::Fault(StreamFault::Indicator)),
     }
 }
 
-/// A row of a bulk: a column for each type, at least one.
+/// Reads a row of a bulk: a column for each type, at least one.
 fn read_row<'a>(
     alloc: Global,
     types: &[ParamType],
     bytes: &'a [u8],
-) -> Result<(Vec<Content>, &'a [u8]), Refusal>
+) -> Result<(Vec<Content>, &'a [u8]), ReadError>
     ensures { Gives (λ x. (x.0.items, x.1.now)) result (row_at types.now bytes.now) }
 {
     match types {
-        [] => Err(Refusal::Fault(StreamFault::BadBulk)),
+        [] => Err(ReadError::Fault(StreamFault::BadBulk)),
         [_, ..] => read_columns(alloc, types, bytes),
     }
 }
 
-/// Rows to the end of the bytes.
-fn read_rows(alloc: Global, types: &[ParamType], bytes: &[u8]) -> Result<Vec<Vec<Content>>, Refusal>
+/// Reads rows to the end of the bytes.
+fn read_rows(
+    alloc: Global,
+    types: &[ParamType],
+    bytes: &[u8],
+) -> Result<Vec<Vec<Content>>, ReadError>
     ensures { Finds (λ x. sets_of x.items) result (λ sets. RowsAt types.now bytes.now sets [])
         (FaultyRow types.now bytes.now) }
 {
@@ -174,21 +178,21 @@ fn read_rows(alloc: Global, types: &[ParamType], bytes: &[u8]) -> Result<Vec<Vec
     Ok(sets)
 }
 
-/// An execute, as one set.
+/// Reads an execute, as one set.
 #[tactic(auto, unfolding(crate::specs::Reading::execute_at))]
 pub fn read_execute(
     alloc: Global,
     statement: &Statement,
     state: &StatementState,
     body: &[u8],
-) -> Result<(Vec<Content>, OwnTypes), Refusal>
+) -> Result<(Vec<Content>, OwnTypes), ReadError>
     ensures set { Gives (λ x. x.0.items) result
         (execute_at (statement_view statement.now) (state_of state.now) body.now) }
     ensures own { IfOk result (λ x. types_carried (types_kept state.now.types) x.1 ≡
         execute_types (statement_view statement.now) body.now) }
 {
     if !state.prepared {
-        return Err(Refusal::Fault(StreamFault::NotPrepared));
+        return Err(ReadError::Fault(StreamFault::NotPrepared));
     }
     let head = read_execute_head(alloc, statement, &state.types, body)?;
     let types = find_types(statement, state, &head.own)?;
@@ -201,14 +205,14 @@ pub fn read_execute(
     Ok((set, own))
 }
 
-/// A bulk, as its rows.
+/// Reads a bulk, as its rows.
 #[tactic(auto, unfolding(crate::specs::Reading::bulk_rows))]
 pub fn read_bulk(
     alloc: Global,
     statement: &Statement,
     state: &StatementState,
     body: &[u8],
-) -> Result<(Vec<Vec<Content>>, OwnTypes), Refusal>
+) -> Result<(Vec<Vec<Content>>, OwnTypes), ReadError>
     ensures sets { Finds (λ x. sets_of x.0.items) result
         (BulkReadsAs (statement_view statement.now) (state_of state.now) body.now)
         (BulkFaulty (statement_view statement.now) (state_of state.now) body.now) }
@@ -216,18 +220,18 @@ pub fn read_bulk(
         bulk_types (statement_view statement.now) body.now) }
 {
     if !state.prepared {
-        return Err(Refusal::Fault(StreamFault::NotPrepared));
+        return Err(ReadError::Fault(StreamFault::NotPrepared));
     }
     if has_waiting_data(statement, state) {
-        return Err(Refusal::Fault(StreamFault::PiecesBeforeBulk));
+        return Err(ReadError::Fault(StreamFault::PiecesBeforeBulk));
     }
     if statement.places.len() == 0 {
-        return Err(Refusal::Fault(StreamFault::BadBulk));
+        return Err(ReadError::Fault(StreamFault::BadBulk));
     }
     let head = read_bulk_head(alloc, statement, &state.types, body)?;
     let types = find_types(statement, state, &head.own)?;
     if head.rows.is_empty() {
-        return Err(Refusal::Fault(StreamFault::NoRows));
+        return Err(ReadError::Fault(StreamFault::NoRows));
     }
     let sets = read_rows(alloc, types, head.rows)?;
     let BulkHead { own, rows: _ } = head;

@@ -1,6 +1,7 @@
-//! Reading a stream of commands back.
+//! Reading a stream of commands back as it comes, piece by piece.
 
 ghost use Rattle.std.specs.Prelude.{◌≡◌, ◌≢◌, ◌≤◌, ◌⊎◌, [], true, false, None, Err, IfErr, IfOk, IfSome, OnOk, length};
+ghost use Rattle.std.specs.List.{list_all};
 ghost use Rattle.mysql_wire.specs.Bytes.{AreBytes};
 ghost use Rattle.mysql_wire.specs.Incoming.{bytes_kept};
 ghost use Rattle.mysql_values.specs.Queries.{HasMixed, HasPlaces, IsParsed};
@@ -20,13 +21,14 @@ use crate::audit::{Audit, End};
 use crate::fault::StreamFault;
 use crate::incoming::read_piece;
 use crate::progress::Progress;
+use crate::read_error::ReadError;
 use crate::reading::has_waiting_data;
-use crate::refusal::Refusal;
 use crate::statement::{Statement, StatementState};
+use mysql_queries::ParsedQuery;
 use mysql_values::laws::tokens_of_a_text;
-use mysql_values::{Content, NamedParamsError, ParsedNamedParams, Place, places};
+use mysql_values::{Content, Place};
+use mysql_wire::PacketReader;
 use mysql_wire::laws::reader_laws;
-use mysql_wire::{PacketReader, WireError};
 use std::alloc::{AllocError, Global};
 use std::marker::Model;
 use std::mem;
@@ -51,54 +53,30 @@ impl From<AllocError> for ReceiverError {
     }
 }
 
-// What is read of a query is refused for want of memory alone.
-impl From<WireError> for ReceiverError {
-    ghost from_gives = { λ _ e. e ≡ receiver_error.Memory };
-
-    fn from(_e: WireError) -> ReceiverError {
-        ReceiverError::Memory
-    }
-}
-
-/// The parsed text of a query with these placeholders.
-fn parsed<'a>(
-    alloc: Global,
-    query: &'a [u8],
-    places: &[Place],
-) -> Result<ParsedNamedParams<'a>, ReceiverError>
-    requires { HasPlaces query.now places.now }
-    ensures query { IfOk result (λ parsed. IsParsed query.entry.now parsed.query) }
-    ensures one_kind { OnOk result (HasMixed query.entry.now false) }
-    ensures mixed { IfErr result (λ e. (e ≡ receiver_error.Memory) ⊎
-        ((e ≡ receiver_error.Mixed) × HasMixed query.entry.now true)) }
+/// Whether each place stands alone.
+fn all_alone(places: &[Place]) -> bool
+    ensures { result ≡ list_all (λ place. place.alone) places.now }
 {
-    match ParsedNamedParams::parse_at(alloc, query, places) {
-        Ok(parsed) => Ok(parsed),
-        Err(NamedParamsError::Mixed(_)) => Err(ReceiverError::Mixed),
-        Err(NamedParamsError::Memory) => Err(ReceiverError::Memory),
-    }
+    places.iter().all(|place| place.alone)
 }
 
 /// The statement of a query, with this id.
 fn make_statement(alloc: Global, query: &[u8], stmt_id: u32) -> Result<Statement, ReceiverError>
-    ensures query { IfOk result (λ c. IsQuery (statement_view c).query) }
-    ensures about { IfOk result (λ c. IsAbout (statement_view c) query.now stmt_id) }
+    ensures query { IfOk result (λ statement. IsQuery (statement_view statement).query) }
+    ensures about { IfOk result (λ statement. IsAbout (statement_view statement) query.now stmt_id) }
     ensures one_kind { OnOk result (HasMixed query.now false) }
     ensures mixed { IfErr result (λ e. (e ≡ receiver_error.Memory) ⊎
         ((e ≡ receiver_error.Mixed) × HasMixed query.now true)) }
 {
-    tokens_of_a_text();
-    let places = places(alloc, query)?;
-    let parsed = parsed(alloc, query, &places)?;
-    Ok(Statement {
-        query: Vec::from_slice(alloc, query)?,
-        parsed: Vec::from_slice(alloc, parsed.query())?,
-        places,
-        id: stmt_id,
-    })
+    let found = ParsedQuery::new(alloc, query)?;
+    if found.is_mixed() {
+        return Err(ReceiverError::Mixed);
+    }
+    let parsed = found.with_marks(alloc)?;
+    Ok(copied_statement(alloc, query, parsed.as_slice(), found.places(), stmt_id)?)
 }
 
-/// The statement of a query with this parsed text and these placeholders, of which it holds copies, with this id.
+/// The statement of a query with this parsed text and these placeholders, which are copied.
 fn copied_statement(
     alloc: Global,
     query: &[u8],
@@ -108,19 +86,28 @@ fn copied_statement(
 ) -> Result<Statement, AllocError>
     requires parsed { IsParsed query.now parsed.now }
     requires places { HasPlaces query.now places.now }
-    ensures query { IfOk result (λ c. IsQuery (statement_view c).query) }
-    ensures about { IfOk result (λ c. IsAbout (statement_view c) query.now stmt_id) }
+    ensures query { IfOk result (λ statement. IsQuery (statement_view statement).query) }
+    ensures about { IfOk result (λ statement. IsAbout (statement_view statement) query.now stmt_id) }
 {
     tokens_of_a_text();
+    let places = Vec::from_slice(alloc, places)?;
     Ok(Statement {
         query: Vec::from_slice(alloc, query)?,
         parsed: Vec::from_slice(alloc, parsed)?,
-        places: Vec::from_slice(alloc, places)?,
+        alone: all_alone(&places),
+        places,
         id: stmt_id,
     })
 }
 
 /// Reads a stream of commands about one query that is handed over in pieces.
+///
+///     let mut receiver = Receiver::new(alloc, b"SELECT :a", 1, 1 << 24)?;
+///     while let Some(piece) = next_piece()? {
+///         receiver.feed(piece)?;
+///         for set in receiver.take_sets() { .. }
+///     }
+///     let audit = receiver.finish();
 ///
 /// Contracts see what it holds in place of the bytes that it was fed: the payloads read, what is in
 /// force behind them, the bytes of the packet that isn't whole, the sets so far, and the fault.
@@ -145,13 +132,13 @@ impl Model for Receiver {
     ghost invariant = { IsKept };
 }
 
-/// The fault that a refusal is.
-fn fault_of(refusal: Refusal) -> StreamFault
-    ensures { result ≡ fault_from refusal }
+/// The fault that an error is.
+fn fault_of(error: ReadError) -> StreamFault
+    ensures { result ≡ fault_from error }
 {
-    match refusal {
-        Refusal::Memory => StreamFault::Memory,
-        Refusal::Fault(fault) => fault,
+    match error {
+        ReadError::Memory => StreamFault::Memory,
+        ReadError::Fault(fault) => fault,
     }
 }
 
@@ -179,12 +166,11 @@ fn end_now(
 impl Receiver {
     /// A receiver of a stream of commands about this query, whose statement was given this id.
     ///
-    /// The limit is the `max_allowed_packet` of the side that the packets go to, and at least 4.
-    /// Calls that write count 4 bytes for a packet's header in it: a payload has at most `limit -
-    /// 4` bytes. Calls that read count the payload alone: it has at most `limit` bytes.
+    /// `limit` is the most bytes of a payload: the `max_allowed_packet` of this side, at least 4.
     ///
     /// # Errors
-    /// `Mixed` where both names and question marks occur in the query, `Memory`.
+    /// - `Mixed` where both names and question marks occur in the query.
+    /// - `Memory`.
     pub fn new(
         alloc: Global,
         query: &[u8],
@@ -200,12 +186,16 @@ impl Receiver {
             ((e ≡ receiver_error.Mixed) × HasMixed query.now true)) }
     {
         let statement = make_statement(alloc, query, stmt_id)?;
-        Ok(Receiver::over(alloc, statement, limit))
+        Ok(Receiver::of_statement(alloc, statement, limit))
     }
 
-    /// [`Receiver::new`] over what was found of the query before: its placeholders, as
-    /// `mysql_values::places` lists them, and its text with a question mark for each, as
-    /// `ParsedNamedParams` makes it. They are copied. Refused for want of memory alone.
+    /// [`Receiver::new`] over what was found of the query before.
+    ///
+    /// That is its placeholders, as `mysql_values::places` lists them, and its text with a question
+    /// mark for each, as `ParsedNamedParams` makes it. They are copied.
+    ///
+    /// # Errors
+    /// - `AllocError` for want of memory.
     pub fn of_places(
         alloc: Global,
         query: &[u8],
@@ -223,11 +213,11 @@ impl Receiver {
         ensures limit { IfOk result (λ r. r.limit ≡ limit) }
     {
         let statement = copied_statement(alloc, query, parsed, places, stmt_id)?;
-        Ok(Receiver::over(alloc, statement, limit))
+        Ok(Receiver::of_statement(alloc, statement, limit))
     }
 
     /// A receiver that was fed nothing.
-    fn over(alloc: Global, statement: Statement, limit: usize) -> Receiver
+    fn of_statement(alloc: Global, statement: Statement, limit: usize) -> Receiver
         requires { IsQuery (statement_view statement).query }
         ensures fresh { receiver_state result ≡ fresh_receiver }
         ensures statement { result.statement ≡ statement_view statement }
@@ -257,10 +247,15 @@ impl Receiver {
     /// piece and them. No more is held of the bytes than the packet that isn't whole. A fault that
     /// needs no more bytes is answered at once: after `Ok` what came ends without one.
     ///
+    /// Promise: what is held decides, over all bytes to come, what was decided before over the
+    /// piece and them; after a fault it answers that fault and changes nothing (`HasFoundNoFault`,
+    /// `TakesAll`, `RunsShort`).
+    ///
     /// # Errors
-    /// The first fault of the stream, [`StreamFault::Memory`] where a growth was refused. From then
-    /// on each call answers that fault and changes nothing. Where memory ran out, what was read of
-    /// the payloads before stays.
+    /// - The first fault of the stream, [`StreamFault::Memory`] where a growth was refused.
+    ///
+    /// From then on each call answers that fault and changes nothing. Where memory ran out, what
+    /// was read of the payloads before stays.
     ///
     /// Follows the MySQL Client/Server Protocol, "MySQL Packets" and "Command Phase".
     pub fn feed(&mut self, piece: &[u8]) -> Result<(), StreamFault>
@@ -293,18 +288,23 @@ impl Receiver {
             piece,
         ) {
             Ok(()) => Ok(()),
-            Err(refusal) => {
-                let fault = fault_of(refusal);
+            Err(error) => {
+                let fault = fault_of(error);
                 self.fault = Some(fault);
                 Err(fault)
             }
         }
     }
 
-    /// How many bytes are held of the packet that isn't whole: those that came of it, but for the
-    /// headers of its chunks, of which only one that doesn't stand whole is held. They are fewer
-    /// than the limit; where the limit has room for full chunks and at most three bytes more, up to
-    /// three more than those chunks hold. After a fault none are held. It takes no memory.
+    /// How many bytes are held of the packet that isn't whole. It takes no memory.
+    ///
+    /// They are those that came of it, but for the headers of its chunks, of which only one that
+    /// doesn't stand whole is held. They are fewer than the limit; where the limit has room for
+    /// full chunks and at most three bytes more, up to three more than those chunks hold. After a
+    /// fault none are held.
+    ///
+    /// Promise: the count is stated in closed form, and is at most `most_kept limit`; it is 0 after
+    /// a fault (`bytes_kept`, `most_kept`).
     ///
     /// Follows the MySQL Client/Server Protocol, "MySQL Packets".
     pub fn kept(&self) -> usize
@@ -331,14 +331,17 @@ impl Receiver {
         &self.progress.sets
     }
 
-    /// Takes the sets that were read and not taken yet, in their order, place by place; also after a fault, and after
-    /// [`StreamFault::Memory`]. It takes no memory.
+    /// Takes the sets that were read and not taken yet, in their order. It takes no memory.
     ///
+    /// They are handed out place by place, also after a fault, and after [`StreamFault::Memory`].
     /// What is handed out isn't held any more, and nothing else changes: the next sets, and those
     /// of `finish`, follow on it, and all of them in a row are those of the audit of what was fed.
     /// So a receiver from which sets are taken as they come holds of a stream of any length at most
     /// one packet within the limit ([`Receiver::kept`]), the long data that waits for an execution,
     /// and the types in force.
+    ///
+    /// Promise: the sets that stand and weren't taken are handed out in order, and nothing else
+    /// changes (`HandsOut`).
     ///
     /// Follows the MySQL Client/Server Protocol, "Command Phase".
     pub fn take_sets(&mut self) -> Vec<Vec<Content>>
@@ -351,12 +354,13 @@ impl Receiver {
         mem::replace(&mut self.progress.sets, none)
     }
 
-    /// The audit of what was fed, but for the sets that were taken before
-    /// ([`Receiver::take_sets`]). It takes no memory.
+    /// The audit of what was fed, but for the sets that were taken before. It takes no memory.
     ///
-    /// After [`StreamFault::Memory`] its sets, behind those that were taken, are those of the
-    /// stream's first payloads, as many as its end counts: at least those that stood whole before
-    /// the `feed` that answered it.
+    /// [`Receiver::take_sets`] takes them. After [`StreamFault::Memory`] its sets, behind those
+    /// that were taken, are those of the stream's first payloads, as many as its end counts: at
+    /// least those that stood whole before the `feed` that answered it.
+    ///
+    /// Promise: the answer is the audit that is decided over no more bytes (`AuditOf`).
     pub fn finish(self) -> Audit
         ensures { ReceiverDecides self.statement self.limit (receiver_state self) [] (audit_of result) }
     {

@@ -1,5 +1,8 @@
 //! A statement, and what is in force of it.
 
+ghost use Rattle.std.specs.Prelude.{◌≡◌};
+ghost use Rattle.std.specs.List.{list_all};
+
 use crate::param_type::ParamType;
 use mysql_values::Place;
 
@@ -9,7 +12,9 @@ pub struct Statement {
     pub query: Vec<u8>,
     pub parsed: Vec<u8>,
     pub places: Vec<Place>,
+    pub alone: bool,
     pub id: u32,
+    ghost alone_is: { alone ≡ list_all (λ place. place.alone) places.items },
 }
 
 /// What is in force behind the payloads that were read.

@@ -3,7 +3,7 @@
 ghost use Rattle.std.specs.Prelude.{◌≡◌, ℕ, ◌+◌, ◌<◌, ◌^◌, List, [], ◌∷◌, Option, Some, None, Ok, IfOk, OnOk, OnErr};
 ghost use Rattle.std.specs.Prelude.{length, vec_len};
 ghost use Rattle.std.specs.Option.{option_or};
-ghost use Rattle.mysql_receive.specs.Query.{IsQuery, all_alone as is_all_alone};
+ghost use Rattle.mysql_receive.specs.Query.{IsQuery};
 ghost use Rattle.mysql_receive.specs.Layout.{Prepare, Text, Execute, Bulk, LongData, Reset, Close, command_of};
 ghost use Rattle.mysql_receive.specs.InForce.{StatementState as InForce, after, after_command, freshly_prepared};
 ghost use Rattle.mysql_receive.specs.InForce.{nothing_yet, more_data, with_data, with_types, without_data};
@@ -16,8 +16,8 @@ use crate::carried::Carried;
 use crate::fault::StreamFault;
 use crate::layout::{PlaceData, check_id, read_long_data};
 use crate::param_type::OwnTypes;
+use crate::read_error::ReadError;
 use crate::reading::{read_bulk, read_execute};
-use crate::refusal::Refusal;
 use crate::statement::{Statement, StatementState};
 use mysql_const::Command;
 use mysql_values::read_text;
@@ -72,36 +72,32 @@ impl StatementState {
     }
 }
 
-/// Whether each place stands alone.
-fn all_alone(statement: &Statement) -> bool
-    ensures { result ≡ is_all_alone (statement_view statement.now).query }
-{
-    statement.places.iter().all(|place| place.alone)
-}
-
-/// A text.
-fn read_text_query(alloc: Global, statement: &Statement, body: &[u8]) -> Result<Carried, Refusal>
+/// Reads a text query.
+fn read_text_query(alloc: Global, statement: &Statement, body: &[u8]) -> Result<Carried, ReadError>
     requires { IsQuery (statement_view statement.now).query }
     ensures { (s : InForce) → Judged (statement_view statement.now) s Text body.now result }
 {
-    if !all_alone(statement) {
-        return Err(Refusal::Fault(StreamFault::NotAlone));
+    if !statement.alone {
+        return Err(ReadError::Fault(StreamFault::NotAlone));
     }
     match read_text(alloc, &statement.query, &statement.places, body)? {
         Some(set) => Ok(Carried::One(set)),
-        None => Err(Refusal::Fault(StreamFault::TextMismatch)),
+        None => Err(ReadError::Fault(StreamFault::TextMismatch)),
     }
 }
 
-/// A prepare.
-fn check_prepare(statement: &Statement, body: &[u8]) -> Result<Carried, Refusal>
+/// The most placeholders that a statement can have.
+const MAX_PLACES: usize = 65535;
+
+/// Checks that a prepare is that of the statement's query.
+fn check_prepare(statement: &Statement, body: &[u8]) -> Result<Carried, ReadError>
     ensures { (s : InForce) → Judged (statement_view statement.now) s Prepare body.now result }
 {
     if body != statement.parsed.as_slice() {
-        return Err(Refusal::Fault(StreamFault::PrepareMismatch));
+        return Err(ReadError::Fault(StreamFault::PrepareMismatch));
     }
-    if statement.places.len() > 65535 {
-        return Err(Refusal::Fault(StreamFault::TooManyPlaces));
+    if statement.places.len() > MAX_PLACES {
+        return Err(ReadError::Fault(StreamFault::TooManyPlaces));
     }
     Ok(Carried::Nothing)
 }
@@ -163,7 +159,7 @@ fn on_prepare(
     statement: &Statement,
     state: &mut StatementState,
     body: &[u8],
-) -> Result<Carried, Refusal>
+) -> Result<Carried, ReadError>
     ensures judged { Judged (statement_view statement.now) (state_of state.old) Prepare body.now result }
     ensures ok { OnOk result (state_of state.new ≡
         after_command (statement_view statement.now) (state_of state.old) Prepare body.now) }
@@ -180,7 +176,7 @@ fn on_execute(
     statement: &Statement,
     state: &mut StatementState,
     body: &[u8],
-) -> Result<Carried, Refusal>
+) -> Result<Carried, ReadError>
     ensures judged { Judged (statement_view statement.now) (state_of state.old) Execute body.now result }
     ensures ok { OnOk result (state_of state.new ≡
         after_command (statement_view statement.now) (state_of state.old) Execute body.now) }
@@ -197,7 +193,7 @@ fn on_bulk(
     statement: &Statement,
     state: &mut StatementState,
     body: &[u8],
-) -> Result<Carried, Refusal>
+) -> Result<Carried, ReadError>
     ensures judged { Judged (statement_view statement.now) (state_of state.old) Bulk body.now result }
     ensures ok { OnOk result (state_of state.new ≡
         after_command (statement_view statement.now) (state_of state.old) Bulk body.now) }
@@ -214,12 +210,12 @@ fn read_prepared_data<'a>(
     statement: &Statement,
     state: &StatementState,
     body: &'a [u8],
-) -> Result<PlaceData<'a>, Refusal>
+) -> Result<PlaceData<'a>, ReadError>
     ensures { Gives place_data_of result
         (prepared_data (statement_view statement.now) (state_of state.now) body.now) }
 {
     if !state.prepared {
-        return Err(Refusal::Fault(StreamFault::NotPrepared));
+        return Err(ReadError::Fault(StreamFault::NotPrepared));
     }
     read_long_data(statement, body)
 }
@@ -231,7 +227,7 @@ fn on_long_data(
     statement: &Statement,
     state: &mut StatementState,
     body: &[u8],
-) -> Result<Carried, Refusal>
+) -> Result<Carried, ReadError>
     ensures judged { Judged (statement_view statement.now) (state_of state.old) LongData body.now result }
     ensures ok { OnOk result (state_of state.new ≡
         after_command (statement_view statement.now) (state_of state.old) LongData body.now) }
@@ -244,16 +240,20 @@ fn on_long_data(
 
 /// Reads the body of a reset or a close.
 #[tactic(auto, unfolding(crate::specs::Reading::statement_alone_at))]
-fn check_id_alone(statement: &Statement, state: &StatementState, body: &[u8]) -> Result<(), Refusal>
+fn check_id_alone(
+    statement: &Statement,
+    state: &StatementState,
+    body: &[u8],
+) -> Result<(), ReadError>
     ensures { Gives (λ _. []) result
         (statement_alone_at (statement_view statement.now) (state_of state.now) body.now) }
 {
     if !state.prepared {
-        return Err(Refusal::Fault(StreamFault::NotPrepared));
+        return Err(ReadError::Fault(StreamFault::NotPrepared));
     }
     let rest = check_id(statement, body)?;
     if !rest.is_empty() {
-        return Err(Refusal::Fault(StreamFault::WrongId));
+        return Err(ReadError::Fault(StreamFault::WrongId));
     }
     Ok(())
 }
@@ -263,7 +263,7 @@ fn on_reset(
     statement: &Statement,
     state: &mut StatementState,
     body: &[u8],
-) -> Result<Carried, Refusal>
+) -> Result<Carried, ReadError>
     ensures judged { Judged (statement_view statement.now) (state_of state.old) Reset body.now result }
     ensures ok { OnOk result (state_of state.new ≡
         after_command (statement_view statement.now) (state_of state.old) Reset body.now) }
@@ -279,7 +279,7 @@ fn on_close(
     statement: &Statement,
     state: &mut StatementState,
     body: &[u8],
-) -> Result<Carried, Refusal>
+) -> Result<Carried, ReadError>
     ensures judged { Judged (statement_view statement.now) (state_of state.old) Close body.now result }
     ensures ok { OnOk result (state_of state.new ≡
         after_command (statement_view statement.now) (state_of state.old) Close body.now) }
@@ -312,7 +312,7 @@ fn on_command(
     state: &mut StatementState,
     command: u8,
     body: &[u8],
-) -> Result<Carried, Refusal>
+) -> Result<Carried, ReadError>
     requires { IsQuery (statement_view statement.now).query }
     ensures judged { Judged (statement_view statement.now) (state_of state.old)
         (command_of command) body.now result }
@@ -328,7 +328,7 @@ fn on_command(
         COM_STMT_BULK_EXECUTE => on_bulk(alloc, statement, state, body),
         COM_STMT_RESET => on_reset(statement, state, body),
         COM_STMT_CLOSE => on_close(statement, state, body),
-        _ => Err(Refusal::Fault(StreamFault::OtherCommand)),
+        _ => Err(ReadError::Fault(StreamFault::OtherCommand)),
     }
 }
 
@@ -338,7 +338,7 @@ pub fn step(
     statement: &Statement,
     state: &mut StatementState,
     payload: &[u8],
-) -> Result<Carried, Refusal>
+) -> Result<Carried, ReadError>
     requires { IsQuery (statement_view statement.now).query }
     ensures judged { PayloadJudged (statement_view statement.now) (state_of state.old) payload.now result }
     ensures ok { OnOk result (state_of state.new ≡
@@ -346,7 +346,7 @@ pub fn step(
     ensures err { OnErr result (state_of state.new ≡ state_of state.old) }
 {
     match payload {
-        [] => Err(Refusal::Fault(StreamFault::EmptyCommand)),
+        [] => Err(ReadError::Fault(StreamFault::EmptyCommand)),
         [command, body @ ..] => on_command(alloc, statement, state, *command, body),
     }
 }

@@ -1,35 +1,33 @@
-//! A whole stream of commands.
+//! A whole stream of commands, in however many pieces.
+//!
+//!     let audit = receive(alloc, b"SELECT :a", stmt_id, limit, &[&first, &second])?;
+//!     if audit.end == End::Whole { .. audit.sets .. }
 
 ghost use Rattle.std.specs.Prelude.{◌≡◌, ◌≤◌, ◌⊎◌, true, false, IfErr, IfOk, OnOk, map};
-ghost use Rattle.mysql_wire.specs.Bytes.{AreBytes};
 ghost use Rattle.mysql_values.specs.Queries.{HasMixed};
 ghost use Rattle.mysql_receive.specs.declared.receiver.ReceiverError.TheVariants as receiver_error;
 ghost use Rattle.mysql_receive.specs.Receiving.{IsReceived, audit_of};
 
 use crate::audit::Audit;
 use crate::receiver::{Receiver, ReceiverError};
+use mysql_buf::laws::are_bytes;
 use mysql_wire::laws::reader_laws;
 use std::alloc::Global;
 
-/// A slice holds bytes: a fact that the proof below uses.
-fn are_bytes(bytes: &[u8])
-    ensures { AreBytes bytes.now }
-{
-    let _first = bytes.first();
-}
-
-/// The audit of the stream of commands whose bytes are those of the pieces, one after another, however they are cut.
+/// The audit of the stream of commands that these pieces are, however they are cut.
 ///
 /// The statement was given the id `stmt_id`. Where memory runs out over a piece, the audit's end is
 /// a fault by that name, and its sets are those of the first payloads, as many as the end counts:
 /// at least those that stand whole in the pieces before.
 ///
-/// The limit is the `max_allowed_packet` of the side that the packets go to, and at least 4. Calls
-/// that write count 4 bytes for a packet's header in it: a payload has at most `limit - 4` bytes.
-/// Calls that read count the payload alone: it has at most `limit` bytes.
+/// `limit` is the most bytes of a payload: the `max_allowed_packet` of this side, at least 4.
+///
+/// Promise: of any bytes in any pieces the answer is exactly the audit: the sets of all payloads
+/// before the first faulty one, and the end (`AuditOf`, `OutOfMemoryIn`).
 ///
 /// # Errors
-/// `Mixed` where both names and question marks occur in the query, `Memory`.
+/// - `Mixed` where both names and question marks occur in the query.
+/// - `Memory`.
 pub fn receive(
     alloc: Global,
     query: &[u8],

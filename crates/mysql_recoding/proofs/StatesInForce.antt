@@ -164,7 +164,7 @@ sent_bytes : (c : Statement) (body : List ℕ) (sent : PlaceData) → AreBytes b
 sent_bytes c body sent h e =
     let a = bind_ok (id_at c body) (λ rest. number_or BadPlace 2 rest >>= λ place. must BadPlace (nat_lt place.0 (place_count c.query)) >>= λ _. Ok (record { place = place.0; bytes = place.1 })) sent e in
     let b = bind_ok (number_or BadPlace 2 a.0) (λ place. must BadPlace (nat_lt place.0 (place_count c.query)) >>= λ _. Ok (record { place = place.0; bytes = place.1 })) sent a.2 in
-    let d = bind_ok (must BadPlace (nat_lt b.0.0 (place_count c.query))) (λ _. Ok (record { place = b.0.0; bytes = b.0.1 })) piece b.2 in
+    let d = bind_ok (must BadPlace (nat_lt b.0.0 (place_count c.query))) (λ _. Ok (record { place = b.0.0; bytes = b.0.1 })) sent b.2 in
     subst (λ (x : PlaceData). AreBytes x.bytes) (ok_same {F = StreamFault} (record { place = b.0.0; bytes = b.0.1 }) sent d.2) (number_rest BadPlace 2 a.0 b.0 (id_rest c body a.0 h a.1) b.1)
 
 -- what waits for each place are bytes

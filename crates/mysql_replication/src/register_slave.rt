@@ -378,10 +378,8 @@ impl<'de> MyDeserialize<'de> for ComRegisterSlave<'de> {
             return Err(WireError::UnexpectedEof);
         }
         let mut rest = *buf;
-        let answer = fields_from(alloc, &mut rest);
-        if answer.is_ok() {
-            *buf = rest;
-        }
-        answer
+        let packet = fields_from(alloc, &mut rest)?;
+        *buf = rest;
+        Ok(packet)
     }
 }

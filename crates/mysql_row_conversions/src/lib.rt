@@ -4,7 +4,6 @@
 
 mod booleans;
 pub mod from_value_ref;
-mod integers;
 mod numbers;
 pub mod row_ext;
 pub mod row_ref_ext;

@@ -159,9 +159,7 @@ fn error_code(alloc: Global, rest: &mut ParseBuf) -> Result<u16, WireError>
 {
     let mut block = rest.parse::<ParseBuf>(alloc, 3)?;
     let _header: ErrPacketHeader = block.parse(alloc, ())?;
-    let Some(code) = block.checked_eat_u16_le() else {
-        return Err(WireError::UnexpectedEof);
-    };
+    let code = block.checked_eat_u16_le().ok_or(WireError::UnexpectedEof)?;
     Ok(code)
 }
 

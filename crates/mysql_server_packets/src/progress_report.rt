@@ -20,7 +20,7 @@ use bstr::BStr;
 use mysql_buf::ParseBuf;
 use mysql_fields::{
     LeU24, LenEnc, MyDeserialize, MySerialize, ParseExt, RawBytes, RawInt, Readable, ReadsBack,
-    WireError, copy_bytes, in_order, lossy_text, own_bytes,
+    WireError, copy_bytes, in_order, lossy_text, own_bytes, read_lenenc_text,
 };
 use std::alloc::{AllocError, Global};
 use std::borrow::{CowSlice, CowStr};
@@ -175,18 +175,10 @@ impl MySerialize for StageProgress {
 fn stage_progress(block: &mut ParseBuf) -> Result<StageProgress, WireError>
     ensures { TellsPart stage_progress_view block.new.0.now result (stage_progress_at block.old.0.now) }
 {
-    let Some(_) = block.checked_eat_u8() else {
-        return Err(WireError::UnexpectedEof);
-    };
-    let Some(stage) = block.checked_eat_u8() else {
-        return Err(WireError::UnexpectedEof);
-    };
-    let Some(max_stage) = block.checked_eat_u8() else {
-        return Err(WireError::UnexpectedEof);
-    };
-    let Some(progress) = block.checked_eat_u24_le() else {
-        return Err(WireError::UnexpectedEof);
-    };
+    let _ = block.checked_eat_u8().ok_or(WireError::UnexpectedEof)?;
+    let stage = block.checked_eat_u8().ok_or(WireError::UnexpectedEof)?;
+    let max_stage = block.checked_eat_u8().ok_or(WireError::UnexpectedEof)?;
+    let progress = block.checked_eat_u24_le().ok_or(WireError::UnexpectedEof)?;
     Ok(StageProgress {
         stage,
         max_stage,
@@ -254,9 +246,7 @@ impl<'de> MyDeserialize<'de> for ProgressReport<'de> {
         let mut rest = *buf;
         let mut block = rest.parse::<ParseBuf>(alloc, 6)?;
         let numbers = stage_progress(&mut block)?;
-        let Some(info) = rest.checked_eat_lenenc_str() else {
-            return Err(WireError::UnexpectedEof);
-        };
+        let info = read_lenenc_text(&mut rest)?;
         *buf = rest;
         Ok(ProgressReport {
             stage: numbers.stage,

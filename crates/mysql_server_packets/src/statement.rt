@@ -92,19 +92,11 @@ fn statement_fields(alloc: Global, buf: &mut ParseBuf) -> Result<StmtPacket, Wir
     ensures { TellsPart prepare_ok_view buf.new.0.now result (prepare_ok_fields_at buf.old.0.now) }
 {
     let _status: StmtPacketStatus = buf.parse(alloc, ())?;
-    let Some(statement_id) = buf.checked_eat_u32_le() else {
-        return Err(WireError::UnexpectedEof);
-    };
-    let Some(num_columns) = buf.checked_eat_u16_le() else {
-        return Err(WireError::UnexpectedEof);
-    };
-    let Some(num_params) = buf.checked_eat_u16_le() else {
-        return Err(WireError::UnexpectedEof);
-    };
+    let statement_id = buf.checked_eat_u32_le().ok_or(WireError::UnexpectedEof)?;
+    let num_columns = buf.checked_eat_u16_le().ok_or(WireError::UnexpectedEof)?;
+    let num_params = buf.checked_eat_u16_le().ok_or(WireError::UnexpectedEof)?;
     let _filler: Skip<1> = buf.parse(alloc, ())?;
-    let Some(warning_count) = buf.checked_eat_u16_le() else {
-        return Err(WireError::UnexpectedEof);
-    };
+    let warning_count = buf.checked_eat_u16_le().ok_or(WireError::UnexpectedEof)?;
     Ok(StmtPacket {
         statement_id,
         num_columns,

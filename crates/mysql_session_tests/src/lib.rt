@@ -20,8 +20,6 @@ mod kept;
 #[cfg(test)]
 mod large;
 #[cfg(test)]
-mod lent;
-#[cfg(test)]
 mod many;
 #[cfg(test)]
 mod memory;
@@ -45,6 +43,8 @@ mod replies;
 mod reply_prefixes;
 #[cfg(test)]
 mod resets;
+#[cfg(test)]
+mod row_refs;
 #[cfg(test)]
 mod rows;
 #[cfg(test)]

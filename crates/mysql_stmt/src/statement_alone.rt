@@ -95,9 +95,7 @@ fn read_fields<const NUMBER: u8>(
     ensures { TellsPart (λ p. p.stmt_id) rest.new.0.now result (alone_fields_at NUMBER rest.old.0.now) }
 {
     let _header: ConstU8<(), NUMBER> = rest.parse(alloc, ())?;
-    let Some(stmt_id) = rest.checked_eat_u32_le() else {
-        return Err(WireError::UnexpectedEof);
-    };
+    let stmt_id = rest.checked_eat_u32_le().ok_or(WireError::UnexpectedEof)?;
     Ok(StatementAlone::new(stmt_id))
 }
 

@@ -1,6 +1,7 @@
 //! Placeholders of a query, and the query as it is parsed.
 
 use crate::support::{Asserting, parsed};
+use mysql_values::bind::ParsedQuery;
 use mysql_values::{MixedParamsError, NamedParamsError, ParsedNamedParams, Place, places};
 use tests_support::{Assert, assert_answer, assert_bytes, once_more};
 
@@ -92,4 +93,78 @@ fn names_and_marks_together(rt: HostRuntime) {
         Some(NamedParamsError::Memory),
         Some(NamedParamsError::Mixed(MixedParamsError)),
     );
+}
+
+/// Queries, the places and names found of them, whether both kinds occur, and the first that isn't alone.
+const FOUND: [(&[u8], &[Expected], &[&[u8]], bool, Option<usize>, &[u8]); 4] = [
+    (
+        b":a :b-",
+        &[(0, 2, true, true), (3, 5, true, true)],
+        &[b"a", b"b"],
+        false,
+        None,
+        b"? ?-",
+    ),
+    (
+        b"(?,??)",
+        &[
+            (1, 2, false, true),
+            (3, 4, false, false),
+            (4, 5, false, false),
+        ],
+        &[],
+        false,
+        Some(1),
+        b"(?,??)",
+    ),
+    (
+        b"? :a",
+        &[(0, 1, false, true), (2, 4, true, true)],
+        &[b"a"],
+        true,
+        None,
+        b"? ?",
+    ),
+    (b"SELECT 1", &[], &[], false, None, b"SELECT 1"),
+];
+
+fn assert_found(
+    assert: &impl Assert,
+    query: &ParsedQuery<'_>,
+    text: &[u8],
+    places: &[Expected],
+    names: &[&[u8]],
+) {
+    assert_bytes(assert, query.text(), text);
+    assert_places(assert, query.places(), places);
+    assert.holds(query.names().len() == names.len());
+    for (name, expected) in query.names().iter().zip(names.iter()) {
+        assert_bytes(assert, name.as_slice(), expected);
+    }
+}
+
+#[test]
+fn queries_with_what_is_found(rt: HostRuntime) {
+    let assert = Asserting(&rt);
+    for (text, places, names, mixed, not_alone, marked) in FOUND {
+        let alloc = rt.alloc();
+        let found = once_more(
+            &assert,
+            ParsedQuery::new(alloc, text),
+            ParsedQuery::new(alloc, text),
+        );
+        assert_found(&assert, &found, text, places, names);
+        assert.holds(found.is_mixed() == mixed);
+        assert.holds(found.first_not_alone() == not_alone);
+        let copy = once_more(&assert, found.clone(alloc), found.clone(alloc));
+        let marks = once_more(&assert, found.with_marks(alloc), found.with_marks(alloc));
+        assert_bytes(&assert, marks.as_slice(), marked);
+        drop(marks);
+        drop(found);
+        assert_found(&assert, &copy, text, places, names);
+        let marks = once_more(&assert, copy.with_marks(alloc), copy.with_marks(alloc));
+        assert_bytes(&assert, marks.as_slice(), marked);
+        drop(marks);
+        drop(copy);
+    }
 }

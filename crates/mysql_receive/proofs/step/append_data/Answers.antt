@@ -1,4 +1,4 @@
-use Rattle.std.proofs.Common.{◌≡◌, List, ℕ, None, sym, get_or}
+use Rattle.std.proofs.Common.{◌≡◌, None, sym, get_or}
 use Rattle.mysql_receive.proofs.LongData.{kept_set}
 use Rattle.mysql_receive.proofs.step.append_data.Goals as goal
 

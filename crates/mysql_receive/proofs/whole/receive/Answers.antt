@@ -24,7 +24,7 @@ pieces-preserved c =
       about = subst (λ k. IsAbout k c.args.query.now c.args.stmt_id) (sym c.feed-answer.ensures.statement) inv.about;
       limit = c.feed-answer.ensures.limit ∙ inv.limit;
       so_far = received_next c.reader_laws.ensures mid new (map (λ piece. piece.now) (take c.pieces.piece-index c.args.pieces.now)) _ (map (λ piece. piece.now) (take (c.pieces.piece-index + 1) c.args.pieces.now))
-          c.feed-answer.ensures.statement c.feed-answer.ensures.limit c.are_bytes.ensures
+          c.feed-answer.ensures.statement c.feed-answer.ensures.limit c.are_bytes.ensures.bytes
           (pieces_more (λ piece. piece.now) c.args.pieces.now c.pieces.piece-index (record { ref_ptr = (0, 0); now = [] }) (omega arith))
           inv.so_far (feeds_of mid new _ c.feed-answer.result c.feed-answer.ensures.answer c.feed-answer.ensures.goes_on c.feed-answer.ensures.short c.feed-answer.ensures.takes c.feed-answer.ensures.stays);
     }

@@ -27,4 +27,4 @@ returns-in-Ok-clause-takes c =
     fed_takes c.self.inside (record c.self.inside { packets = c.read_piece.new.packets; progress = c.read_piece.new.progress }) c.args.self.now c.args.piece.now c.self.view_is c.in_default.is c.in_default.is c.in-Ok.ensures.fed
 
 pub returns-in-Ok-clause-no_fault : goal.returns-in-Ok-clause-no_fault
-returns-in-Ok-clause-no_fault c = found_none c.reader_laws.ensures (record c.self.inside { packets = c.read_piece.new.packets; progress = c.read_piece.new.progress }) c.in_default.is c.in-Ok.ensures.open
+returns-in-Ok-clause-no_fault c = found_none c.reader_laws.ensures (record c.self.inside { packets = c.read_piece.new.packets; progress = c.read_piece.new.progress }) c.in_default.is c.in-Ok.ensures.is_open

@@ -1,6 +1,6 @@
 use Rattle.std.proofs.Common.{◌∙◌, ap, false, None}
 use Rattle.mysql_receive.proofs.Receiving.{receiver_state_is, holds_start, start_open}
-use Rattle.mysql_receive.proofs.receiver.Receiver.over.Goals as goal
+use Rattle.mysql_receive.proofs.receiver.Receiver.of_statement.Goals as goal
 
 pub invariant_of-result : goal.invariant_of-result
 invariant_of-result c = record { query = c.requires; stays = λ e. start_open c.reader_laws.ensures c.new.result c.args.limit c.new.ensures; stopped = tt }

@@ -1,4 +1,4 @@
-//! Rows of replies that are lent, beside the same replies read with their rows.
+//! Rows of replies that borrow the stream, beside the same replies read with their rows.
 
 use crate::audits::joined;
 use crate::expected::Start;
@@ -11,9 +11,9 @@ use mysql_session::{
 use std::alloc::Global;
 use tests_support::Assert;
 
-/// Whether a lent value is this one.
-fn is_value(lent: ValueRef, wanted: &Value) -> bool {
-    match (lent, wanted) {
+/// Whether a value by reference is this one.
+fn is_value(found: ValueRef, wanted: &Value) -> bool {
+    match (found, wanted) {
         (ValueRef::NULL, Value::NULL) => true,
         (ValueRef::Bytes(found), Value::Bytes(bytes)) => found == bytes.as_slice(),
         (ValueRef::Int(found), Value::Int(number)) => found == *number,
@@ -21,10 +21,10 @@ fn is_value(lent: ValueRef, wanted: &Value) -> bool {
     }
 }
 
-/// Whether a lent row is this one.
-fn is_row(lent: RowRef, wanted: &RowOf) -> bool {
+/// Whether a row by reference is this one.
+fn is_row(found: RowRef, wanted: &RowOf) -> bool {
     for i in 0..wanted.len() {
-        match (lent.as_ref(i), wanted.as_ref(i)) {
+        match (found.as_ref(i), wanted.as_ref(i)) {
             (Some(found), Some(value)) => {
                 if !is_value(found, value) {
                     return false;
@@ -33,7 +33,7 @@ fn is_row(lent: RowRef, wanted: &RowOf) -> bool {
             _ => return false,
         }
     }
-    lent.len() == wanted.len()
+    found.len() == wanted.len()
 }
 
 /// The rows of a result.
@@ -57,13 +57,13 @@ fn count_rows(results: &[ReplyResult]) -> usize {
     count
 }
 
-/// Whether a lent row is the one of this number among all rows of these results.
-fn is_row_at(lent: RowRef, results: &[ReplyResult], number: usize) -> bool {
+/// Whether a row by reference is the one of this number among all rows of these results.
+fn is_row_at(found: RowRef, results: &[ReplyResult], number: usize) -> bool {
     let mut left = number;
     for result in results {
         let rows = rows_of(result);
         if left < rows.len() {
-            return is_row(lent, &rows[left]);
+            return is_row(found, &rows[left]);
         }
         left -= rows.len();
     }
@@ -113,12 +113,12 @@ fn listed(reader: &ReplyReader) -> usize {
     count_rows(reader.results()).wrapping_add(reader.rows().len())
 }
 
-/// Lends the rows of a piece: each is the next one of the reply. They are counted.
-fn lend_piece(
+/// Reads the rows of a piece: each is the next one of the reply. They are counted.
+fn borrow_piece(
     assert: &impl Assert,
     reader: &mut ReplyReader,
     piece: &[u8],
-    lent: &mut usize,
+    borrowed: &mut usize,
     wanted: &Reply,
 ) -> Result<(), ReplyFault> {
     let kept = listed(reader);
@@ -127,9 +127,9 @@ fn lend_piece(
     for _ in 0..=piece.len() {
         match reader.next_row(&mut rest)? {
             Some(row) => {
-                let number = lent.wrapping_add(kept);
+                let number = borrowed.wrapping_add(kept);
                 assert.holds(is_row_at(row, wanted.results.as_slice(), number));
-                *lent = lent.wrapping_add(1);
+                *borrowed = borrowed.wrapping_add(1);
             }
             None => {
                 assert.holds(rest.is_empty());
@@ -144,7 +144,7 @@ fn lend_piece(
 /// How a piece is read.
 #[derive(Clone, Copy, PartialEq, Eq)]
 enum Way {
-    Lent,
+    Borrowed,
     Fed,
 }
 
@@ -154,13 +154,13 @@ fn read_piece(
     reader: &mut ReplyReader,
     piece: &[u8],
     way: Way,
-    lent: &mut usize,
+    borrowed: &mut usize,
     wanted: &Reply,
 ) -> Result<(), ReplyFault> {
     match way {
-        Way::Lent => {
+        Way::Borrowed => {
             let before = listed(reader);
-            let answer = lend_piece(assert, reader, piece, lent, wanted);
+            let answer = borrow_piece(assert, reader, piece, borrowed, wanted);
             assert.holds(listed(reader) == before);
             answer
         }
@@ -168,8 +168,8 @@ fn read_piece(
     }
 }
 
-/// Asserts what a reader says at the end that lent so many rows: whether memory sufficed.
-fn says(assert: &impl Assert, reader: ReplyReader, lent: usize, wanted: &Reply) -> bool {
+/// Asserts what a reader says at the end of which so many rows were borrowed: whether memory sufficed.
+fn says(assert: &impl Assert, reader: ReplyReader, borrowed: usize, wanted: &Reply) -> bool {
     let reply = reader.finish();
     if let ReplyEnd::Fault(_, ReplyFault::Memory) = reply.end {
         return false;
@@ -178,7 +178,7 @@ fn says(assert: &impl Assert, reader: ReplyReader, lent: usize, wanted: &Reply) 
     let wanted_results = wanted.results.as_slice();
     assert.holds(reply.end == wanted.end);
     assert.holds(are_like(results, wanted_results));
-    assert.holds(count_rows(results).wrapping_add(lent) == count_rows(wanted_results));
+    assert.holds(count_rows(results).wrapping_add(borrowed) == count_rows(wanted_results));
     true
 }
 
@@ -187,7 +187,7 @@ fn reader_of(alloc: Global, (kind, capabilities, first_id): Start) -> ReplyReade
 }
 
 /// Whether memory sufficed where the bytes come one by one, the first in this way and each behind it in that one.
-fn is_lent_by_bytes(
+fn is_borrowed_by_bytes(
     assert: &impl Assert,
     alloc: Global,
     start: Start,
@@ -196,17 +196,17 @@ fn is_lent_by_bytes(
     wanted: &Reply,
 ) -> bool {
     let mut reader = reader_of(alloc, start);
-    let mut lent = 0;
+    let mut borrowed = 0;
     let [mut way, mut next] = ways;
     for byte in stream {
-        let _answer = read_piece(assert, &mut reader, &[*byte], way, &mut lent, wanted);
+        let _answer = read_piece(assert, &mut reader, &[*byte], way, &mut borrowed, wanted);
         (way, next) = (next, way);
     }
-    says(assert, reader, lent, wanted)
+    says(assert, reader, borrowed, wanted)
 }
 
 /// The same where they come in two pieces.
-fn is_lent_in_two(
+fn is_borrowed_in_two(
     assert: &impl Assert,
     alloc: Global,
     start: Start,
@@ -215,9 +215,9 @@ fn is_lent_in_two(
     wanted: &Reply,
 ) -> bool {
     let mut reader = reader_of(alloc, start);
-    let mut lent = 0;
-    let _first = read_piece(assert, &mut reader, front, way, &mut lent, wanted);
-    let second = read_piece(assert, &mut reader, back, next, &mut lent, wanted);
+    let mut borrowed = 0;
+    let _first = read_piece(assert, &mut reader, front, way, &mut borrowed, wanted);
+    let second = read_piece(assert, &mut reader, back, next, &mut borrowed, wanted);
     let mut rest = back;
     match second {
         Ok(()) => {}
@@ -227,17 +227,17 @@ fn is_lent_in_two(
             assert.holds(rest.len() == back.len());
         }
     }
-    says(assert, reader, lent, wanted)
+    says(assert, reader, borrowed, wanted)
 }
 
 const WAYS: [[Way; 2]; 3] = [
-    [Way::Lent, Way::Lent],
-    [Way::Fed, Way::Lent],
-    [Way::Lent, Way::Fed],
+    [Way::Borrowed, Way::Borrowed],
+    [Way::Fed, Way::Borrowed],
+    [Way::Borrowed, Way::Fed],
 ];
 
-/// Asserts that rows are lent where the bytes come in two pieces, and once more where memory was refused.
-fn assert_lent_in_two(
+/// Asserts that rows are borrowed where the bytes come in two pieces, and once more where memory was refused.
+fn assert_borrowed_in_two(
     assert: &impl Assert,
     alloc: Global,
     start: Start,
@@ -245,21 +245,27 @@ fn assert_lent_in_two(
     wanted: &Reply,
 ) {
     for ways in &WAYS {
-        let first = is_lent_in_two(assert, alloc, start, pieces, *ways, wanted);
-        assert.holds(first || is_lent_in_two(assert, alloc, start, pieces, *ways, wanted));
+        let first = is_borrowed_in_two(assert, alloc, start, pieces, *ways, wanted);
+        assert.holds(first || is_borrowed_in_two(assert, alloc, start, pieces, *ways, wanted));
     }
 }
 
-/// Asserts that the rows of a reply are lent: byte by byte, and cut in two at each place.
-fn assert_lent(assert: &impl Assert, alloc: Global, start: Start, stream: &[u8], wanted: &Reply) {
+/// Asserts that the rows of a reply are borrowed: byte by byte, and cut in two at each place.
+fn assert_borrowed(
+    assert: &impl Assert,
+    alloc: Global,
+    start: Start,
+    stream: &[u8],
+    wanted: &Reply,
+) {
     for ways in &WAYS {
-        let first = is_lent_by_bytes(assert, alloc, start, stream, *ways, wanted);
-        assert.holds(first || is_lent_by_bytes(assert, alloc, start, stream, *ways, wanted));
+        let first = is_borrowed_by_bytes(assert, alloc, start, stream, *ways, wanted);
+        assert.holds(first || is_borrowed_by_bytes(assert, alloc, start, stream, *ways, wanted));
     }
     for at in 0..=stream.len() {
         match (stream.get(..at), stream.get(at..)) {
             (Some(front), Some(back)) => {
-                assert_lent_in_two(assert, alloc, start, [front, back], wanted)
+                assert_borrowed_in_two(assert, alloc, start, [front, back], wanted)
             }
             _ => assert.holds(false),
         }
@@ -422,7 +428,7 @@ const STREAMS: [Stream; 9] = [
     ),
 ];
 
-/// Asserts that the rows of a stream are lent as they are read.
+/// Asserts that the rows of a stream are borrowed as they are read.
 fn assert_stream(
     assert: &impl Assert,
     alloc: Global,
@@ -433,7 +439,7 @@ fn assert_stream(
     let wanted = reply_of(alloc, start, stream.as_slice());
     assert.holds(wanted.end == end);
     assert.holds(count_rows(wanted.results.as_slice()) == rows);
-    assert_lent(assert, alloc, start, stream.as_slice(), &wanted);
+    assert_borrowed(assert, alloc, start, stream.as_slice(), &wanted);
 }
 
 #[test]
