@@ -15,5 +15,5 @@ returns-clause-delivered c =
 pub returns-clause-never_mixed : goal.returns-clause-never_mixed
 returns-clause-never_mixed c =
     on_err c.send_sets-sent.result
-    (λ refusal why. never_mixed c.tokens_of_a_text.ensures.one c.args.road c.args.self.now.text (all_given c.args.sets.now) c.args.self.now.id c.args.limit refusal c.text-_text.ensures.one_kind why)
+    (λ refusal why. never_mixed c.tokens_of_a_text.ensures.one c.args.road c.args.self.now.text (all_given c.args.sets.now) c.args.self.now.id c.args.limit refusal c.text-text.ensures.one_kind why)
     c.send_sets-sent.ensures.refused
