@@ -9,8 +9,8 @@ use Rattle.mysql_session.proofs.sender.put_sets.Goals as goal
 
 pub returns-in_ok-statement-in-Bulk-clause-refused : goal.returns-in_ok-statement-in-Bulk-clause-refused
 returns-in_ok-statement-in-Bulk-clause-refused c =
-    over_same (λ text id. IfErr c.put_requests.result (RefusesGiven Bulk text (all_given c.args.sets.now) id c.args.limit)) _ _ _ _ c.in_ok-statement-in-Bulk.ensures.text c.in_ok-statement-in-Bulk.ensures.id c.put_requests.ensures.err
+    rw c.in-Bulk.is (over_same (λ text id. IfErr c.put_requests.result (RefusesGiven Bulk text (all_given c.args.sets.now) id c.args.limit)) _ _ _ _ c.in_ok-statement-in-Bulk.ensures.text c.in_ok-statement-in-Bulk.ensures.id c.put_requests.ensures.err)
 
 pub returns-in_ok-statement-in-Bulk-clause-sent : goal.returns-in_ok-statement-in-Bulk-clause-sent
 returns-in_ok-statement-in-Bulk-clause-sent c =
-    over_same (λ text id. OnOk c.put_requests.result (SentReadable Bulk text (all_given c.args.sets.now) id c.args.limit c.args.out.now.items c.put_requests.new.out.items)) _ _ _ _ c.in_ok-statement-in-Bulk.ensures.text c.in_ok-statement-in-Bulk.ensures.id c.put_requests.ensures.ok
+    rw c.in-Bulk.is (over_same (λ text id. OnOk c.put_requests.result (SentReadable Bulk text (all_given c.args.sets.now) id c.args.limit c.args.out.now.items c.put_requests.new.out.items)) _ _ _ _ c.in_ok-statement-in-Bulk.ensures.text c.in_ok-statement-in-Bulk.ensures.id c.put_requests.ensures.ok)

@@ -26,5 +26,5 @@ pub returns-clause-never_mixed : goal.returns-clause-never_mixed
 returns-clause-never_mixed c =
     on_err c.bind_text_over.result
     (λ error why. never_mixed_text c.tokens_of_a_text.ensures.one c.args.self.now.text c.args.params.now error c.text-text.ensures.one_kind
-    (subst (λ (t : List ℕ). (error ≡ bind_error.Memory) ⊎ IsBindCause t c.args.params.now error) (c.text-2.ensures ∙ c.query-query.ensures.text ∙ ap (λ (k : KeptQuery). k.text) c.self.view_is) why))
+    (subst (λ (t : List ℕ). (error ≡ bind_error.Memory) ⊎ IsBindCause t c.args.params.now error) (c.text.ensures ∙ c.query-query.ensures.text ∙ ap (λ (k : KeptQuery). k.text) c.self.view_is) why))
     c.bind_text_over.ensures.err
