@@ -22,7 +22,7 @@ use Rattle.mysql_command_rules.specs.Reading.{AreMeanings, HaveContents, IsReada
 use Rattle.mysql_command_rules.specs.Reading.{SentReadable, StreamReadsAs}
 
 -- What is sent reads, payload by payload, as the contents of the sets that stand whole with each,
--- and no piece waits behind it.
+-- and no long data wait behind it.
 pub record ReadsEach (statement : Statement) (limit : ℕ) (sent : List SentPayload) : Type 0 where
   pub within : AllByRecursion (λ payload. length payload ≤ limit) (payloads_of sent)
   pub reads : List (List Set)
