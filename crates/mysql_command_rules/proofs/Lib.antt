@@ -34,3 +34,5 @@ pub mod Fillings
 pub mod Leaving
 pub mod Commands
 pub mod Streams
+pub mod InTurn
+pub mod WrittenInTurn

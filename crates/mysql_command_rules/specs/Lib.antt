@@ -8,3 +8,9 @@ pub mod Laws
 pub mod Cells
 pub mod Manual
 pub mod ManualLaws
+pub mod MadeSets
+pub mod OneSet
+pub mod InTurn
+pub mod Buffering
+pub mod Writing
+pub mod WritingLaws

@@ -1,3 +1,5 @@
+//! Why parameter sets are not sent.
+
 ghost use Rattle.std.specs.Prelude.{◌≡◌};
 ghost use Rattle.mysql_command_rules.specs.declared.refusal.Refusal.TheVariants as refusal;
 
@@ -61,17 +63,41 @@ impl Refusal {
     /// The text before the place and behind it; the text of `Params` is its error's.
     fn text(&self) -> (&'static str, &'static str) {
         match self {
-            Refusal::Mixed => ("the query has both named and positional parameters", ""),
-            Refusal::NotAlone(_) => ("placeholder ", " does not stand alone"),
-            Refusal::TooManyPlaces => ("the query has more than 65535 placeholders", ""),
-            Refusal::PrepareTooLarge => ("the prepare is larger than max_allowed_packet", ""),
-            Refusal::NoPlaces => ("the query has no placeholders", ""),
+            Refusal::Mixed => (
+                "the query has both named and positional parameters: use one kind",
+                "",
+            ),
+            Refusal::NotAlone(_) => (
+                "placeholder ",
+                " does not stand alone: put blanks around it",
+            ),
+            Refusal::TooManyPlaces => (
+                "the query has more than 65535 placeholders: split it, or send it as text",
+                "",
+            ),
+            Refusal::PrepareTooLarge => (
+                "the prepare is larger than max_allowed_packet: raise it, or shorten the query",
+                "",
+            ),
+            Refusal::NoPlaces => (
+                "the query has no placeholders: send it by execute, or as text",
+                "",
+            ),
             Refusal::Params(_, _) => ("", ""),
             Refusal::WrongCount(_) => ("the values are not as many as the placeholders", ""),
-            Refusal::Float(_, _) => ("the value at place ", " is a float"),
-            Refusal::PacketTooLarge(_) => ("its command is larger than max_allowed_packet", ""),
-            Refusal::MixedKinds(_, _) => ("the value at place ", " is of another kind"),
-            Refusal::RowTooLarge(_) => ("its row is larger than max_allowed_packet", ""),
+            Refusal::Float(_, _) => ("the value at place ", " is a float: give it as a text"),
+            Refusal::PacketTooLarge(_) => (
+                "its command is larger than max_allowed_packet: raise it, or send less in a set",
+                "",
+            ),
+            Refusal::MixedKinds(_, _) => (
+                "the value at place ",
+                " is of another kind than those before it: use one kind, or send by execute",
+            ),
+            Refusal::RowTooLarge(_) => (
+                "its row is larger than max_allowed_packet: raise it, or split the row",
+                "",
+            ),
             Refusal::Memory => ("out of memory", ""),
         }
     }

@@ -14,8 +14,8 @@ use crate::errors::RecodeError;
 use crate::whole::{refused, values_of_all};
 use mysql_receive::laws::there_is_one_audit;
 use mysql_receive::{Content, Receiver, StreamFault};
-use mysql_senders::put_more_executions;
-use mysql_senders::statement::{put_prepare, statement_of};
+use mysql_send_execute::{Statement, put_more_executions, put_prepare};
+use mysql_values::laws::tokens_of_a_text;
 use mysql_wire::laws::one_split;
 use std::alloc::Global;
 use std::marker::Model;
@@ -59,13 +59,14 @@ fn prepared(
     ensures few { IfOk result (λ found. found.0 ≤ 65535) }
     ensures err { IfErr result (RefusesQuery query.now stmt_id limit) }
 {
-    let statement = match statement_of(alloc, query, stmt_id) {
+    tokens_of_a_text();
+    let statement = match Statement::new(alloc, query, stmt_id) {
         Ok(statement) => statement,
         Err(refusal) => return Err(refused(refusal)),
     };
     let mut prepare = Vec::new(alloc);
     match put_prepare(alloc, &statement, limit - 4, &mut prepare) {
-        Ok(()) => Ok((statement.places, prepare)),
+        Ok(()) => Ok((statement.place_count(), prepare)),
         Err(refusal) => Err(refused(refusal)),
     }
 }

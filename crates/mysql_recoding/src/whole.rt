@@ -17,9 +17,10 @@ ghost use Rattle.mysql_recoding.specs.Recoding.{Recodes, RefusesRecoding};
 
 use crate::errors::RecodeError;
 use mysql_command_rules::Refusal;
+use mysql_command_rules::in_turn::sent_in_turn;
 use mysql_receive::laws::stream_has_one_audit;
 use mysql_receive::{Audit, Content, receive};
-use mysql_senders::put_executions_of_values;
+use mysql_send_execute::{Statement, put_executions_of_values};
 use mysql_to_values::ToValue;
 use mysql_values::Value;
 use std::alloc::Global;
@@ -100,9 +101,11 @@ pub fn send_contents(
         (all_given_in_places (values_of_sets (sets_of sets.items))) stmt_id limit) }
     ensures kept { OnErr result (out.new.items ≡ out.old.items) }
 {
+    sent_in_turn();
     let start = out.len();
     let values = values_of_all(alloc, sets)?;
-    match put_executions_of_values(alloc, query, &values, stmt_id, limit, out) {
+    let statement = Statement::new(alloc, query, stmt_id)?;
+    match put_executions_of_values(alloc, &statement, &values, limit, out) {
         Ok(()) => Ok(()),
         Err(refusal) => {
             out.truncate(start);

@@ -162,9 +162,7 @@ impl ReplyReader {
     ///
     /// The reply's first chunk has the number `first_id`.
     ///
-    /// The limit is the `max_allowed_packet` of the side that the packets go to, and at least 4.
-    /// Calls that write count 4 bytes for a packet's header in it: a payload has at most `limit -
-    /// 4` bytes. Calls that read count the payload alone: it has at most `limit` bytes.
+    /// `limit` is the most bytes of a payload: the `max_allowed_packet` of this side, at least 4.
     pub fn new(
         alloc: Global,
         kind: ReplyKind,
@@ -292,9 +290,7 @@ impl ReplyReader {
 /// is `Fault(p, Memory)`, and it has the results and the reports of the first p payloads: at least
 /// of those that stand whole in the pieces before it.
 ///
-/// The limit is the `max_allowed_packet` of the side that the packets go to, and at least 4. Calls
-/// that write count 4 bytes for a packet's header in it: a payload has at most `limit - 4` bytes.
-/// Calls that read count the payload alone: it has at most `limit` bytes.
+/// `limit` is the most bytes of a payload: the `max_allowed_packet` of this side, at least 4.
 ///
 /// Promise: of any bytes in any pieces the answer is exactly what the grammar gives: results,
 /// progress reports, and how the reply ends (`IsReplyOf`, `IsShortReplyOf`).

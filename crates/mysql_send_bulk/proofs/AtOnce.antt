@@ -1,5 +1,5 @@
 -- Sets whose rows one bulk request holds.
-use Rattle.std.proofs.Common.{◌≡◌, ℕ, ◌+◌, ◌-◌, ◌*◌, ◌<◌, ◌≤◌, ◌==◌, Bool, true, false, List, [], ◌∷◌, ◌++◌, length, map, take, drop, Option, Some, None, Result, Ok, Err, refl, sym, ◌∙◌, ap, arith, append_assoc, Bor, length-append}
+use Rattle.std.proofs.Common.{◌≡◌, ℕ, ◌+◌, ◌-◌, ◌*◌, ◌<◌, ◌≤◌, ◌==◌, Bool, true, false, List, [], ◌∷◌, ◌++◌, length, map, take, drop, Option, Some, None, Result, Ok, Err, refl, sym, ◌∙◌, ap, arith, append_assoc, Bor, length-append, length-take}
 use Rattle.std.specs.Prelude.{IfOk, is_some}
 use Rattle.std.specs.List.{flat_map}
 use Rattle.std.specs.Option.{option_map}
@@ -30,9 +30,8 @@ use Rattle.mysql_send_bulk.specs.BulkSets.{AppendsAll, AppendsRow, AppendsRows, 
 use Rattle.mysql_send_bulk.proofs.RequestBytes.{command_is, stays_before}
 use Rattle.mysql_send_bulk.proofs.SentRequests.{types_are}
 use Rattle.mysql_send_bulk.proofs.SetRows.{RowsSoFar, all_rows, no_rows, row_more}
-use Rattle.mysql_senders.proofs.Pieces.{short_framing}
-use Rattle.mysql_senders.specs.OneSet.{Limits}
-use Rattle.mysql_senders.proofs.SentSets.{one_framed}
+use Rattle.mysql_send_execute.specs.Executions.{Limits}
+use Rattle.mysql_send_bulk.proofs.Lists.{one_framed}
 
 -- what holds where both answers are yes
 pub both_yes : {E P Q R : Type 0} (answer : Result Bool E) → (P → Q → R) → IfOk answer (λ yes. yes ≡ true → P) → IfOk answer (λ yes. yes ≡ true → Q) → IfOk answer (λ yes. yes ≡ true → R)
@@ -171,15 +170,12 @@ front_length id firsts =
     let types = flat_map param_type_bytes (types_by true firsts) in
     omega (arith, length-append (little_bytes 4 id) (little_bytes 2 (request_flags (typing_of true)) ++ types), length-append (little_bytes 2 (request_flags (typing_of true))) types, length-bytes_low_first 0 4 id, length-bytes_low_first 0 2 0x80, types_length firsts)
 
--- a payload behind the header of its packet, in place of the four bytes before it
-pub header_put : (start size : ℕ) (header out new : List ℕ) → start + 4 ≤ length out → length out < start + 16777219 → size ≡ length out - start - 4 → header ≡ little_bytes 3 size ++ 0 ∷ [] → length header ≡ 4 →
-    new ≡ take start out ++ (header ++ drop (start + length header) out) → new ≡ take start out ++ framing (drop (start + 4) out) 0
-header_put start size header out new inside short is_size is_header four put =
-    let payload : List ℕ = drop (start + 4) out in
-    let long : size ≡ length payload = omega (arith, is_size, length-drop (start + 4) out) in
-    put ∙ ap (λ n. take start out ++ (header ++ drop (start + n) out)) four
-    ∙ ap (λ h. take start out ++ (h ++ payload)) (is_header ∙ ap (λ n. little_bytes 3 n ++ 0 ∷ []) long)
-    ∙ ap (λ l. take start out ++ l) (append_assoc (little_bytes 3 (length payload)) (0 ∷ []) payload ∙ short_framing payload (omega (arith, short, inside, long, is_size)))
+-- what stands before a place stays where something is put from it on, and where nothing is left from it on
+pub front_stays : (start : ℕ) (out new piece : List ℕ) → start ≤ length out → new ≡ take start out ++ piece → take start new ≡ take start out
+front_stays start out new piece inside put = ap (λ l. take start l) put ∙ take_at (take start out) piece start (omega (arith, inside, length-take start out))
+
+pub front_left : (start : ℕ) (out new : List ℕ) → new ≡ take start out → take start new ≡ take start out
+front_left start out new put = ap (λ l. take start l) put ∙ take-take start start out (omega arith)
 
 -- the front is written over as many bytes
 pub front_written : (start n : ℕ) (bytes front out new : List ℕ) → bytes ≡ front → length front ≡ n → new ≡ take start out ++ (bytes ++ drop (start + length bytes) out) → new ≡ take start out ++ (front ++ drop (start + n) out)

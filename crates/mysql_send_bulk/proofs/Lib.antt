@@ -1,3 +1,4 @@
+pub mod Lists
 pub mod RequestBytes
 pub mod SetRows
 pub mod SentRequests

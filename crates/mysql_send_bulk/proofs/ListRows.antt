@@ -23,8 +23,8 @@ use Rattle.mysql_bulk_builder.proofs.FirstValues.{Filled, filled, first_here, fi
 use Rattle.mysql_command_rules.specs.declared.refusal.Refusal.{Refusal}
 use Rattle.mysql_command_rules.specs.declared.refusal.Refusal.TheVariants as refusals
 use Rattle.mysql_command_rules.specs.Sets.{given_by}
-use Rattle.mysql_senders.specs.OneSet.{Limits}
-use Rattle.mysql_senders.proofs.SentSets.{next_set}
+use Rattle.mysql_send_execute.specs.Executions.{Limits}
+use Rattle.mysql_send_bulk.proofs.Lists.{next_set}
 use Rattle.mysql_send_bulk.specs.BulkSets.{AppendsRow, JoinsColumn, PutsRow, row_bytes}
 use Rattle.mysql_send_bulk.proofs.SetRows.{Fit, all_push, gives_row}
 

@@ -4,7 +4,7 @@ use Rattle.std.specs.Prelude.{nat_lt, sum_by}
 use Rattle.std.specs.List.{range_with_len}
 use Rattle.std.specs.Option.{option_or}
 use Rattle.std.proofs.lemmas.Bool.{le-ltb, ne_eqb}
-use Rattle.std.proofs.lemmas.List.{drop-map, drop-take, take-append-drop, take-append-le, take-map, take-take}
+use Rattle.std.proofs.lemmas.List.{append-nil, drop-map, drop-take, take-append-drop, take-append-le, take-map, take-take}
 use Rattle.std.proofs.lemmas.List.Sums.{sum_by-cons}
 use Rattle.std.proofs.lemmas.Simd.{map-map}
 use Rattle.mysql_wire.specs.Framing.{framing}
@@ -12,6 +12,7 @@ use Rattle.mysql_wire.specs.Stream.{framings}
 use Rattle.mysql_wire.specs.Stream.Numbering.{EachFromZero}
 use Rattle.mysql_values.specs.declared.params.Params.{Params}
 use Rattle.mysql_values.specs.declared.params.SetError.{SetError}
+use Rattle.mysql_values.specs.Laws.{OneTokens}
 use Rattle.mysql_values.specs.Parsed.{Parsed, names_of}
 use Rattle.mysql_values.specs.Queries.{is_mixed, places_from}
 use Rattle.mysql_values.specs.Value.{Value}
@@ -28,12 +29,14 @@ use Rattle.mysql_command_rules.specs.declared.refusal.Refusal.TheVariants as ref
 use Rattle.mysql_command_rules.specs.declared.road.Road.TheVariants.{Bulk}
 use Rattle.mysql_command_rules.specs.Commands.{bulk_request, prepare_command}
 use Rattle.mysql_command_rules.specs.Sets.{Given, given_up_to, values_of}
-use Rattle.mysql_command_rules.specs.Sent.{as_requests, payloads_of, prepare_of}
+use Rattle.mysql_command_rules.specs.Sent.{as_requests, payloads_of, prepare_of, stream_of}
 use Rattle.mysql_command_rules.specs.Cause.{bulk_cause, cause_if, first_of_sets, max_places, prepare_cause, query_cause, set_cause}
 use Rattle.mysql_command_rules.specs.Sending.{RefusesGiven}
 use Rattle.mysql_command_rules.specs.Reading.{SentReadable}
-use Rattle.mysql_senders.specs.OneSet.{IsStatement, RefusesSets, limits_of}
-use Rattle.mysql_senders.proofs.SentSets.{first_is}
+use Rattle.mysql_send_execute.specs.Executions.{limits_of}
+use Rattle.mysql_send_execute.specs.Statement.{AppendsPrepare, IsStatement, RefusesPrepare}
+use Rattle.mysql_send_bulk.specs.BulkSets.{RefusesSets}
+use Rattle.mysql_send_bulk.proofs.Lists.{first_is}
 use Rattle.mysql_send_bulk.specs.BulkSets.{AppendsRequests, GivesRows, RefusesAll, RefusesRows, no_command, request_flags, request_types, requests_from, types_by}
 
 -- ---- one part
@@ -101,9 +104,8 @@ kept_more old out new piece le kept put = ap (λ l. take (length old) l) put ∙
 -- ---- behind the prepare
 
 -- where the statement can be prepared and has placeholders, nothing speaks against the query
-query_none : (mixed many long none : Bool) → mixed ≡ false → many ≡ false → long ≡ false → none ≡ false →
-    option_or (option_or (cause_if mixed refusals.Mixed) (option_or (cause_if many refusals.TooManyPlaces) (option_or (cause_if long refusals.PrepareTooLarge) None))) (cause_if none refusals.NoPlaces) ≡ None
-query_none mixed many long none one few short some = rw (one, few, short, some) refl
+query_none : (prepare : Option Refusal) (none : Bool) → prepare ≡ None → none ≡ false → option_or prepare (cause_if none refusals.NoPlaces) ≡ None
+query_none prepare none prepared some = rw (prepared, some) refl
 
 -- the second of three causes, where the first is none
 second_is : (first second third : Option Refusal) (refusal : Refusal) → first ≡ None → second ≡ Some refusal → option_or first (option_or second (option_or third None)) ≡ Some refusal
@@ -128,47 +130,51 @@ payloads_are : (id columns : ℕ) (rows : List Row) (parts : List (ℕ × Part))
 payloads_are id columns rows [] = refl
 payloads_are id columns rows (p ∷ parts) = ap (λ l. bulk_request id columns rows p.0 p.1.typing p.1.count ∷ l) (payloads_are id columns rows parts)
 
+-- what is said over a number, a count and names is said over equal ones
+pub said_over : (P : ℕ → ℕ → List (List ℕ) → Type 0) (number id count places : ℕ) (names those : List (List ℕ)) → number ≡ id → count ≡ places → names ≡ those → P number count names → P id places those
+said_over P number id count places names those one many named holds = subst (λ (l : List (List ℕ)). P id places l) named (subst (λ (n : ℕ). P id n names) many (subst (λ (n : ℕ). P n count names) one holds))
+
 -- what speaks against the prepare is the first cause
-pub refused_prepare : (query : List ℕ) (parsed : Parsed) (places : ℕ) (s : IsStatement query parsed places) (sets : List (List ℕ) → List Given) (id limit : ℕ) (refusal : Refusal) →
-    prepare_cause (statement_of query s.tokens id).query (limit - 4) ≡ Some refusal → RefusesGiven Bulk query sets id limit refusal
-refused_prepare query parsed places s sets id limit refusal this =
+pub refused_prepare : (query : List ℕ) (sets : List (List ℕ) → List Given) (id limit : ℕ) (refusal : Refusal) → RefusesPrepare query id (limit - 4) refusal → RefusesGiven Bulk query sets id limit refusal
+refused_prepare query sets id limit refusal (inl memory) = inl memory
+refused_prepare query sets id limit refusal (inr why) =
     inr (record {
-      tokens = s.tokens;
-      has = s.has;
-      first = first_is (query_cause Bulk (statement_of query s.tokens id) (limit - 4)) _ refusal
-          (first_is (prepare_cause (statement_of query s.tokens id).query (limit - 4)) (cause_if (length (places_from query 0 s.tokens) == 0) refusals.NoPlaces) refusal this);
+      tokens = why.0;
+      has = why.1;
+      first = first_is (query_cause Bulk (statement_of query why.0 id) (limit - 4)) _ refusal
+          (first_is (prepare_cause (statement_of query why.0 id).query (limit - 4)) (cause_if (length (places_from query 0 why.0) == 0) refusals.NoPlaces) refusal why.2);
     })
 
 -- no placeholders are the cause where nothing speaks against the prepare
-no_places_cause : (mixed many long none : Bool) → mixed ≡ false → many ≡ false → long ≡ false → none ≡ true →
-    option_or (option_or (cause_if mixed refusals.Mixed) (option_or (cause_if many refusals.TooManyPlaces) (option_or (cause_if long refusals.PrepareTooLarge) None))) (cause_if none refusals.NoPlaces) ≡ Some refusals.NoPlaces
-no_places_cause mixed many long none one few short empty = rw (one, few, short, empty) refl
+no_places_cause : (prepare : Option Refusal) (none : Bool) → prepare ≡ None → none ≡ true → option_or prepare (cause_if none refusals.NoPlaces) ≡ Some refusals.NoPlaces
+no_places_cause prepare none prepared empty = rw (prepared, empty) refl
 
--- a query without placeholders is refused
-pub refused_no_places : (query : List ℕ) (parsed : Parsed) (places : ℕ) (s : IsStatement query parsed places) (most : places ≤ max_places) (sets : List (List ℕ) → List Given) (id limit : ℕ) →
-    length (prepare_command parsed.query) ≤ limit - 4 → places ≡ 0 → RefusesGiven Bulk query sets id limit refusals.NoPlaces
-refused_no_places query parsed places s most sets id limit short none =
-    inr (record {
-      tokens = s.tokens;
-      has = s.has;
-      first = first_is (query_cause Bulk (statement_of query s.tokens id) (limit - 4)) _ refusals.NoPlaces
-          (no_places_cause (is_mixed (places_from query 0 s.tokens)) (nat_lt max_places (length (places_from query 0 s.tokens))) (nat_lt (limit - 4) (length (prepare_command (statement_of query s.tokens id).query.parsed))) (length (places_from query 0 s.tokens) == 0)
-          s.one_kind (le-ltb max_places (length (places_from query 0 s.tokens)) (omega (arith, most, s.count)))
-          (subst (λ (l : List ℕ). nat_lt (limit - 4) (length (prepare_command l)) ≡ false) s.query_is (le-ltb (limit - 4) (length (prepare_command parsed.query)) short))
-          (subst (λ (n : ℕ). (n == 0) ≡ true) (sym none ∙ s.count) refl));
-    })
+module _ (once : OneTokens) (query : List ℕ) (parsed : Parsed) (places : ℕ) (s : IsStatement query parsed places) (sets : List Params) (stop : Option SetError) (id limit : ℕ) (old mid : List ℕ) (p : AppendsPrepare query id (limit - 4) old mid) where
+  same : p.0 ≡ s.tokens
+  same = once query p.0 s.tokens p.1 s.has
 
-module _ (query : List ℕ) (parsed : Parsed) (places : ℕ) (s : IsStatement query parsed places) (most : places ≤ max_places) (sets : List Params) (stop : Option SetError) (id limit : ℕ) (short : length (prepare_command parsed.query) ≤ limit - 4) (some : places ≢ 0) where
-  -- the placeholders are few enough
-  few : nat_lt max_places (length (places_from query 0 s.tokens)) ≡ false
-  few = le-ltb max_places (length (places_from query 0 s.tokens)) (omega (arith, most, s.count))
+  -- nothing speaks against the prepare, which is appended
+  prepared : prepare_cause (statement_of query s.tokens id).query (limit - 4) ≡ None
+  prepared = subst (λ (t : List (List ℕ)). prepare_cause (statement_of query t id).query (limit - 4) ≡ None) same p.2
+
+  prepare : mid ≡ old ++ framing (prepare_command (statement_of query s.tokens id).query.parsed) 0
+  prepare =
+      subst (λ (t : List (List ℕ)). mid ≡ old ++ stream_of (prepare_of (statement_of query t id) ∷ [])) same p.3
+      ∙ ap (λ l. old ++ l) (append-nil (framing (prepare_command (statement_of query s.tokens id).query.parsed) 0))
+
+  -- a query without placeholders is refused
+  pub refused_no_places : places ≡ 0 → RefusesGiven Bulk query (given_up_to sets stop) id limit refusals.NoPlaces
+  refused_no_places none =
+      inr (record {
+        tokens = s.tokens;
+        has = s.has;
+        first = first_is (query_cause Bulk (statement_of query s.tokens id) (limit - 4)) _ refusals.NoPlaces
+            (no_places_cause (prepare_cause (statement_of query s.tokens id).query (limit - 4)) (length (places_from query 0 s.tokens) == 0) prepared (subst (λ (n : ℕ). (n == 0) ≡ true) (sym none ∙ s.count) refl));
+      })
 
   -- nothing speaks against the query
-  prepared : query_cause Bulk (statement_of query s.tokens id) (limit - 4) ≡ None
-  prepared =
-      query_none (is_mixed (places_from query 0 s.tokens)) (nat_lt max_places (length (places_from query 0 s.tokens))) (nat_lt (limit - 4) (length (prepare_command (statement_of query s.tokens id).query.parsed))) (length (places_from query 0 s.tokens) == 0) s.one_kind few
-      (subst (λ (l : List ℕ). nat_lt (limit - 4) (length (prepare_command l)) ≡ false) s.query_is (le-ltb (limit - 4) (length (prepare_command parsed.query)) short))
-      (subst (λ (n : ℕ). (n == 0) ≡ false) s.count (ne_eqb places 0 some))
+  no_query_cause : places ≢ 0 → query_cause Bulk (statement_of query s.tokens id) (limit - 4) ≡ None
+  no_query_cause some = query_none (prepare_cause (statement_of query s.tokens id).query (limit - 4)) (length (places_from query 0 s.tokens) == 0) prepared (subst (λ (n : ℕ). (n == 0) ≡ false) s.count (ne_eqb places 0 some))
 
   -- what was said over the statement's names and count is said over the tokens'
   over_tokens : (P : ℕ → List Given → Type 0) → P places (given_up_to sets stop parsed.names) → P (length (places_from query 0 s.tokens)) (given_up_to sets stop (names_of s.tokens))
@@ -177,15 +183,15 @@ module _ (query : List ℕ) (parsed : Parsed) (places : ℕ) (s : IsStatement qu
       (subst (λ (n : ℕ). P n (given_up_to sets stop parsed.names)) s.count holds)
 
   -- a set is refused
-  pub refused_sets : (refusal : Refusal) → RefusesSets no_command (record { places = places; bytes = limit - 4 }) (given_up_to sets stop parsed.names) refusal → RefusesGiven Bulk query (given_up_to sets stop) id limit refusal
-  refused_sets refusal (inl memory) = inl memory
-  refused_sets refusal (inr this) =
+  refused_sets : places ≢ 0 → (refusal : Refusal) → RefusesSets (record { places = places; bytes = limit - 4 }) (given_up_to sets stop parsed.names) refusal → RefusesGiven Bulk query (given_up_to sets stop) id limit refusal
+  refused_sets some refusal (inl memory) = inl memory
+  refused_sets some refusal (inr this) =
       let cause : first_of_sets (set_cause no_command (length (places_from query 0 s.tokens)) (limit - 4)) 0 (given_up_to sets stop (names_of s.tokens)) ≡ Some refusal =
       over_tokens (λ n given. first_of_sets (set_cause no_command n (limit - 4)) 0 given ≡ Some refusal) this in
       inr (record {
         tokens = s.tokens;
         has = s.has;
-        first = second_is (query_cause Bulk (statement_of query s.tokens id) (limit - 4)) _ _ refusal prepared cause;
+        first = second_is (query_cause Bulk (statement_of query s.tokens id) (limit - 4)) _ _ refusal (no_query_cause some) cause;
       })
 
   module _ (rows : List Row) (g : GivesRows (record { places = places; bytes = limit - 4 }) (given_up_to sets stop parsed.names) rows) where
@@ -198,22 +204,21 @@ module _ (query : List ℕ) (parsed : Parsed) (places : ℕ) (s : IsStatement qu
     values = ap (λ l. values_of l) given.gives ∙ values_back rows
 
     -- the rows are refused
-    pub refused_rows : (refusal : Refusal) → RefusesRows places (limit - 4) rows refusal → RefusesGiven Bulk query (given_up_to sets stop) id limit refusal
-    refused_rows refusal (inl memory) = inl memory
-    refused_rows refusal (inr this) =
+    refused_rows : places ≢ 0 → (refusal : Refusal) → RefusesRows places (limit - 4) rows refusal → RefusesGiven Bulk query (given_up_to sets stop) id limit refusal
+    refused_rows some refusal (inl memory) = inl memory
+    refused_rows some refusal (inr this) =
         let cause : bulk_cause (length (places_from query 0 s.tokens)) (limit - 4) (values_of (given_up_to sets stop (names_of s.tokens))) ≡ Some refusal =
         ap (λ l. bulk_cause (length (places_from query 0 s.tokens)) (limit - 4) l) values ∙ ap (λ n. bulk_cause n (limit - 4) rows) (sym s.count) ∙ this in
         inr (record {
           tokens = s.tokens;
           has = s.has;
-          first = third_is (query_cause Bulk (statement_of query s.tokens id) (limit - 4)) _ _ refusal prepared given.none cause;
+          first = third_is (query_cause Bulk (statement_of query s.tokens id) (limit - 4)) _ _ refusal (no_query_cause some) given.none cause;
         })
 
     -- the prepare and the requests of all rows were sent
-    pub all_requested : (old mid new : List ℕ) → mid ≡ old ++ framing (prepare_command parsed.query) 0 → AppendsRequests id places (limit - 4) rows mid new → SentReadable Bulk query (given_up_to sets stop) id limit old new
-    all_requested old mid new put sent =
+    pub all_requested : places ≢ 0 → (new : List ℕ) → AppendsRequests id places (limit - 4) rows mid new → SentReadable Bulk query (given_up_to sets stop) id limit old new
+    all_requested some new sent =
         let a : AppendsRequests id (length (places_from query 0 s.tokens)) (limit - 4) rows mid new = subst (λ (n : ℕ). AppendsRequests id n (limit - 4) rows mid new) s.count sent in
-        let prepare : mid ≡ old ++ framing (prepare_command (statement_of query s.tokens id).query.parsed) 0 = put ∙ ap (λ l. old ++ framing (prepare_command l) 0) s.query_is in
         let columns = length (places_from query 0 s.tokens) in
         let requests = framings (requests_from id columns rows 0 a.cut) EachFromZero in
         record {
@@ -222,7 +227,7 @@ module _ (query : List ℕ) (parsed : Parsed) (places : ℕ) (s : IsStatement qu
             has = s.has;
             values = rows;
             given = given.gives;
-            none = none_is (query_cause Bulk (statement_of query s.tokens id) (limit - 4)) _ _ prepared given.none (ap (λ l. bulk_cause columns (limit - 4) l) values ∙ a.none);
+            none = none_is (query_cause Bulk (statement_of query s.tokens id) (limit - 4)) _ _ (no_query_cause some) given.none (ap (λ l. bulk_cause columns (limit - 4) l) values ∙ a.none);
             sent = prepare_of (statement_of query s.tokens id) ∷ as_requests (statement_of query s.tokens id) rows a.cut;
             are_sent = (a.cut, a.tight, refl);
             appended = a.appended ∙ ap (λ l. l ++ requests) prepare ∙ append_assoc old (framing (prepare_command (statement_of query s.tokens id).query.parsed) 0) requests
@@ -232,6 +237,6 @@ module _ (query : List ℕ) (parsed : Parsed) (places : ℕ) (s : IsStatement qu
         }
 
   -- the sets or their rows are refused
-  pub refused_all : (refusal : Refusal) → RefusesAll (record { places = places; bytes = limit - 4 }) (given_up_to sets stop parsed.names) refusal → RefusesGiven Bulk query (given_up_to sets stop) id limit refusal
-  refused_all refusal (inl this) = refused_sets refusal this
-  refused_all refusal (inr this) = refused_rows this.0 this.1 refusal this.2
+  pub refused_all : places ≢ 0 → (refusal : Refusal) → RefusesAll (record { places = places; bytes = limit - 4 }) (given_up_to sets stop parsed.names) refusal → RefusesGiven Bulk query (given_up_to sets stop) id limit refusal
+  refused_all some refusal (inl this) = refused_sets some refusal this
+  refused_all some refusal (inr this) = refused_rows this.0 this.1 some refusal this.2

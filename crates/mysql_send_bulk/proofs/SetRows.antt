@@ -26,9 +26,11 @@ use Rattle.mysql_command_rules.specs.declared.refusal.Refusal.{Refusal}
 use Rattle.mysql_command_rules.specs.declared.refusal.Refusal.TheVariants as refusals
 use Rattle.mysql_command_rules.specs.Sets.{Given, given_by, given_up_to}
 use Rattle.mysql_command_rules.specs.Cause.{cause_if, first_of_sets, set_cause}
-use Rattle.mysql_senders.specs.OneSet.{Limits, RefusesSet, RefusesSets, behind, refusal_of}
+use Rattle.mysql_send_execute.specs.Executions.{Limits, refusal_of}
+use Rattle.mysql_send_bulk.specs.BulkSets.{RefusesSet, RefusesSets}
+use Rattle.mysql_send_bulk.proofs.Lists.{behind}
 use Rattle.mysql_send_bulk.specs.BulkSets.{AreRows, GivesRow, GivesRows, no_command}
-use Rattle.mysql_senders.proofs.Contents.{gives_values, given_is}
+use Rattle.mysql_send_bulk.proofs.Lists.{gives_values, given_is}
 
 -- the numbers of the values fit their fields
 abbrev pub Fit : Row → Type 0
@@ -66,7 +68,7 @@ module _ (names : List (List ℕ)) (params : Params) (limits : Limits) (set : �
 
   -- the values are refused
   pub refuses_values : (values : List Value) (refusal : Refusal) → values_over names params ≡ Ok values → values_cause (refusals.WrongCount set) (λ place. refusals.Float set place) limits.places values ≡ Some refusal →
-      RefusesSet no_command limits set (given_by names params) refusal
+      RefusesSet limits set (given_by names params) refusal
   refuses_values values refusal over cause =
       inr (ap (λ g. set_cause no_command limits.places limits.bytes set g) (gives_values names params values over) ∙ first_is (values_cause (refusals.WrongCount set) (λ place. refusals.Float set place) limits.places values) _ refusal cause)
     where
@@ -74,14 +76,14 @@ module _ (names : List (List ℕ)) (params : Params) (limits : Limits) (set : �
       first_is first rest this some = rw some refl
 
   -- the set gives no values
-  pub refuses_set : (refusal : Refusal) → (refusal ≡ refusals.Memory) ⊎ ((e : ParamsError) × (values_over names params ≡ Err e) × (refusal ≡ refusal_of set e)) → RefusesSet no_command limits set (given_by names params) refusal
+  pub refuses_set : (refusal : Refusal) → (refusal ≡ refusals.Memory) ⊎ ((e : ParamsError) × (values_over names params ≡ Err e) × (refusal ≡ refusal_of set e)) → RefusesSet limits set (given_by names params) refusal
   refuses_set refusal (inl memory) = inl memory
   refuses_set refusal (inr why) = by why.0 why.1 why.2
     where
       given : (e : ParamsError) → values_over names params ≡ Err e → given_by names params ≡ Err (set_error.Params e)
       given e over = ap (λ (o : Result (List Value) ParamsError). result_map_both (λ values. values) (λ error. set_error.Params error) o) over
 
-      by : (e : ParamsError) → values_over names params ≡ Err e → refusal ≡ refusal_of set e → RefusesSet no_command limits set (given_by names params) refusal
+      by : (e : ParamsError) → values_over names params ≡ Err e → refusal ≡ refusal_of set e → RefusesSet limits set (given_by names params) refusal
       by params_error.Memory over is = inl is
       by (params_error.Missing name) over is = inr (ap (λ g. set_cause no_command limits.places limits.bytes set g) (given (params_error.Missing name) over) ∙ ap (λ r. Some r) (sym is))
       by (params_error.Confusion confusion) over is = inr (ap (λ g. set_cause no_command limits.places limits.bytes set g) (given (params_error.Confusion confusion) over) ∙ ap (λ r. Some r) (sym is))
@@ -118,7 +120,7 @@ module _ (names : List (List ℕ)) (limits : Limits) (sets : List Params) (rows 
         }
 
     -- a set is refused
-    pub refused_at : (stop : Option SetError) (refusal : Refusal) → RefusesSet no_command limits i (given_by names params) refusal → RefusesSets no_command limits (given_up_to sets stop names) refusal
+    pub refused_at : (stop : Option SetError) (refusal : Refusal) → RefusesSet limits i (given_by names params) refusal → RefusesSets limits (given_up_to sets stop names) refusal
     refused_at stop refusal (inl memory) = inl memory
     refused_at stop refusal (inr this) =
         inr (ap (λ l. first_of_sets (set_cause no_command limits.places limits.bytes) 0 l) (given_is sets stop names) ∙ from_here (behind stop)
@@ -145,7 +147,7 @@ module _ (names : List (List ℕ)) (limits : Limits) (sets : List Params) (rows 
         }
 
     -- the set behind them is refused
-    pub stopped_behind : (stop : Option SetError) (e : SetError) (refusal : Refusal) (n : ℕ) → stop ≡ Some e → n ≡ i → refusal ≡ refusals.Params n e → RefusesSets no_command limits (given_up_to sets stop names) refusal
+    pub stopped_behind : (stop : Option SetError) (e : SetError) (refusal : Refusal) (n : ℕ) → stop ≡ Some e → n ≡ i → refusal ≡ refusals.Params n e → RefusesSets limits (given_up_to sets stop names) refusal
     stopped_behind stop e refusal n stops same is =
         inr (ap (λ o. first_of_sets (set_cause no_command limits.places limits.bytes) 0 (given_up_to sets o names)) stops ∙ cause_behind (Err e ∷ []) ∙ ap (λ k. Some (refusals.Params k e)) (sym same) ∙ ap (λ r. Some r) (sym is))
 

@@ -21,7 +21,7 @@ use Rattle.mysql_command_rules.specs.declared.refusal.Refusal.{Refusal}
 use Rattle.mysql_command_rules.specs.declared.refusal.Refusal.TheVariants as refusals
 use Rattle.mysql_command_rules.specs.Commands.{bulk_request}
 use Rattle.mysql_command_rules.specs.Sets.{Given}
-use Rattle.mysql_senders.specs.OneSet.{Limits, RefusesSets}
+use Rattle.mysql_send_execute.specs.Executions.{Limits}
 use Rattle.mysql_command_rules.specs.Cause.{bulk_cause, first_of_sets, set_cause}
 
 -- values are those of rows of so many columns, one row after another
@@ -32,6 +32,16 @@ pub record AreRows (columns : ℕ) (values : List Value) (rows : List Row) : Typ
 -- sets share requests: no command carries one by itself
 abbrev pub no_command : List Value → List ℕ
 no_command values = []
+
+-- why a set gives no row: Memory, or the cause that speaks against it
+abbrev pub RefusesSet : Limits → ℕ → Given → Refusal → Type 0
+RefusesSet limits set given refusal = (refusal ≡ refusals.Memory) ⊎
+    (set_cause no_command limits.places limits.bytes set given ≡ Some refusal)
+
+-- why sets give no rows: Memory, or the first cause that speaks against one of them
+abbrev pub RefusesSets : Limits → List Given → Refusal → Type 0
+RefusesSets limits given refusal = (refusal ≡ refusals.Memory) ⊎
+    (first_of_sets (set_cause no_command limits.places limits.bytes) 0 given ≡ Some refusal)
 
 -- a set gives a row against which nothing speaks, and its numbers fit their fields
 pub record GivesRow (limits : Limits) (set : ℕ) (given : Given) (row : Row) : Type 0 where
@@ -143,6 +153,6 @@ pub record AppendsAll (id : ℕ) (limits : Limits) (given : List Given) (old new
 
 -- Memory, or the first cause that speaks against the sets: against one of them, or against the rows that they give
 abbrev pub RefusesAll : Limits → List Given → Refusal → Type 0
-RefusesAll limits given refusal = RefusesSets no_command limits given refusal ⊎
+RefusesAll limits given refusal = RefusesSets limits given refusal ⊎
     ((rows : List Row) × GivesRows limits given rows ×
     RefusesRows limits.places limits.bytes rows refusal)

@@ -2,7 +2,8 @@
 //! need more requests, and sets that are refused, are left to the general way.
 
 ghost use Rattle.std.specs.Prelude.{◌≡◌, ◌+◌, ◌*◌, ◌<◌, ◌≤◌, ◌++◌, IfErr, IfOk, None, OnErr, OnOk, [], drop, false};
-ghost use Rattle.std.specs.Prelude.{length, replicate, take, true};
+ghost use Rattle.std.specs.Cow.{cow_slice_items};
+ghost use Rattle.std.specs.Prelude.{length, map, replicate, take, true};
 ghost use Rattle.std.specs.Prelude.{Ok as Gives};
 ghost use Rattle.std.specs.List.{AllByRecursion};
 ghost use Rattle.mysql_values.specs.AsSql.{FitsFields};
@@ -17,16 +18,15 @@ ghost use Rattle.mysql_send_bulk.specs.BulkSets.{AppendsAll, AppendsRow, Appends
 
 use crate::command::{put_front, put_row};
 use crate::list_rows::put_given_list;
+use crate::target::Target;
 use mysql_bulk_builder::laws::{one_more_mixes_none, whole_is_tight};
 use mysql_bulk_builder::{no_first_values, place_of_other};
 use mysql_command_rules::Refusal;
 use mysql_command_rules::laws::requests_have_their_size;
-use mysql_const::MAX_PAYLOAD_LEN;
-use mysql_senders::packet_header;
-use mysql_senders::set_values::{check_values, list_values_for, values_fit, values_in_order};
-use mysql_senders::statement::Statement;
-use mysql_values::{Params, SetError, Value};
-use mysql_wire::packet_to_chunks;
+use mysql_send_execute::set_values::{check_values, values_fit, values_in_order};
+use mysql_values::params::list_values_over_names;
+use mysql_values::{Params, ParamsError, SetError, Value};
+use mysql_wire::frame_in_place;
 use std::alloc::{AllocError, Global};
 
 /// What a request has up to its types, with the header of its packet: the header, the command's
@@ -35,18 +35,17 @@ const FRONT_LEN: usize = 4 + 1 + 4 + 2;
 
 /// Lists the values that a set gives the statement, in place of what the list holds, and says whether it gives any.
 fn gives_values<'a>(
-    statement: &Statement<'_>,
-    set: usize,
+    statement: &Target<'_>,
     params: &'a Params,
     values: &mut Vec<&'a Value>,
 ) -> Result<bool, Refusal>
     ensures ok { IfOk result (λ gives. gives ≡ true →
-        values_over statement.now.parsed.names params.entry.now ≡ Gives (row_in values.new.items)) }
+        values_over (map cow_slice_items statement.now.names.now) params.entry.now ≡ Gives (row_in values.new.items)) }
     ensures err { IfErr result (λ refusal. refusal ≡ refusals.Memory) }
 {
-    match list_values_for(statement, set, params, values) {
+    match list_values_over_names(params, statement.names, values) {
         Ok(()) => Ok(true),
-        Err(Refusal::Memory) => Err(Refusal::Memory),
+        Err(ParamsError::Memory) => Err(Refusal::Memory),
         Err(_) => Ok(false),
     }
 }
@@ -68,7 +67,7 @@ fn are_good(values: &[&Value], places: usize, set: usize) -> bool
 /// Lists the values of the row that a set gives the statement, in place of what the list holds, and
 /// says whether nothing speaks against it.
 fn gives_row<'a>(
-    statement: &Statement<'_>,
+    statement: &Target<'_>,
     set: usize,
     params: &'a Params,
     room: usize,
@@ -76,11 +75,11 @@ fn gives_row<'a>(
 ) -> Result<bool, Refusal>
     ensures ok { IfOk result (λ gives. gives ≡ true →
         GivesRow (record { places = statement.now.places; bytes = room }) set
-        (given_by statement.now.parsed.names params.entry.now) (row_in values.new.items)) }
+        (given_by (map cow_slice_items statement.now.names.now) params.entry.now) (row_in values.new.items)) }
     ensures wide { IfOk result (λ gives. gives ≡ true → length (row_in values.new.items) ≡ statement.now.places) }
     ensures err { IfErr result (λ refusal. refusal ≡ refusals.Memory) }
 {
-    let gives = gives_values(statement, set, params, values)?;
+    let gives = gives_values(statement, params, values)?;
     if !gives {
         return Ok(false);
     }
@@ -94,7 +93,7 @@ fn gives_row<'a>(
 /// before. The first values are then those with this row.
 #[inline(never)]
 fn put_row_looked_up<'a>(
-    statement: &Statement<'_>,
+    statement: &Target<'_>,
     set: usize,
     params: &'a Params,
     room: usize,
@@ -105,7 +104,7 @@ fn put_row_looked_up<'a>(
     requires { length firsts.old ≡ statement.now.places }
     ensures ok { IfOk result (λ put. put ≡ true →
         AppendsRow (record { places = statement.now.places; bytes = room }) set
-        (given_by statement.now.parsed.names params.entry.now) (row_in firsts.old)
+        (given_by (map cow_slice_items statement.now.names.now) params.entry.now) (row_in firsts.old)
         (row_in firsts.new) out.old.items out.new.items) }
     ensures err { IfErr result (λ refusal. refusal ≡ refusals.Memory) }
     ensures kept { take (length out.old.items) out.new.items ≡ out.old.items }
@@ -128,7 +127,7 @@ fn put_row_looked_up<'a>(
 /// then those with this row.
 #[inline(always)]
 fn put_row_of_set<'a>(
-    statement: &Statement<'_>,
+    statement: &Target<'_>,
     set: usize,
     params: &'a Params,
     room: usize,
@@ -139,12 +138,12 @@ fn put_row_of_set<'a>(
     requires { length firsts.old ≡ statement.now.places }
     ensures ok { IfOk result (λ put. put ≡ true →
         AppendsRow (record { places = statement.now.places; bytes = room }) set
-        (given_by statement.now.parsed.names params.entry.now) (row_in firsts.old)
+        (given_by (map cow_slice_items statement.now.names.now) params.entry.now) (row_in firsts.old)
         (row_in firsts.new) out.old.items out.new.items) }
     ensures err { IfErr result (λ refusal. refusal ≡ refusals.Memory) }
     ensures kept { take (length out.old.items) out.new.items ≡ out.old.items }
 {
-    match values_in_order(statement, params) {
+    match values_in_order(statement.names, params) {
         Some(list) => {
             let put = put_given_list(list, firsts, out)?;
             Ok(put)
@@ -157,7 +156,7 @@ fn put_row_of_set<'a>(
 /// and no column mixes kinds. It is given up as soon as `out` has more than `most` bytes.
 fn put_rows_of_sets<'a>(
     alloc: Global,
-    statement: &Statement<'_>,
+    statement: &Target<'_>,
     sets: &'a [Params],
     room: usize,
     most: usize,
@@ -167,7 +166,7 @@ fn put_rows_of_sets<'a>(
     requires { row_in firsts.old ≡ first_values statement.now.places [] }
     ensures ok { IfOk result (λ put. put ≡ true →
         AppendsRows (record { places = statement.now.places; bytes = room })
-        (given_up_to sets.entry.now None statement.now.parsed.names) (row_in firsts.new)
+        (given_up_to sets.entry.now None (map cow_slice_items statement.now.names.now)) (row_in firsts.new)
         out.old.items out.new.items) }
     ensures err { IfErr result (λ refusal. refusal ≡ refusals.Memory) }
     ensures kept { take (length out.old.items) out.new.items ≡ out.old.items }
@@ -251,41 +250,6 @@ fn write_front(
     Ok(())
 }
 
-/// Frames the payload that stands from a place on behind four bytes, as one packet that holds it.
-fn frame_short(start: usize, out: &mut Vec<u8>)
-    requires { (start + 4 ≤ length out.old.items) × (length out.old.items < start + 16777219) }
-    ensures { out.new.items ≡ take start out.old.items ++ framing (drop (start + 4) out.old.items) 0 }
-{
-    let size = out.len() - start - 4;
-    write_over(start, &packet_header(size as u32), out);
-}
-
-/// Frames the payload that stands from a place on behind four bytes. What stands before stays after a refusal too.
-fn frame_long(alloc: Global, start: usize, out: &mut Vec<u8>) -> Result<(), AllocError>
-    requires { start + 4 ≤ length out.old.items }
-    ensures ok { OnOk result (out.new.items ≡ take start out.old.items ++ framing (drop (start + 4) out.old.items) 0) }
-    ensures kept { take start out.new.items ≡ take start out.old.items }
-{
-    let payload = Vec::from_slice(alloc, &out[start + 4..])?;
-    out.truncate(start);
-    packet_to_chunks(0, &payload, out)?;
-    Ok(())
-}
-
-/// The same by whether one packet holds it.
-fn frame_from(alloc: Global, start: usize, out: &mut Vec<u8>) -> Result<(), AllocError>
-    requires { start + 4 ≤ length out.old.items }
-    ensures ok { OnOk result (out.new.items ≡ take start out.old.items ++ framing (drop (start + 4) out.old.items) 0) }
-    ensures kept { take start out.new.items ≡ take start out.old.items }
-{
-    if out.len() - start - 4 < MAX_PAYLOAD_LEN {
-        frame_short(start, out);
-        Ok(())
-    } else {
-        frame_long(alloc, start, out)
-    }
-}
-
 /// Finishes a request whose rows stand behind the room left from a place on, framed, and says
 /// whether it has at most so many bytes. What stands before stays in any case.
 fn finish(
@@ -308,7 +272,7 @@ fn finish(
         return Ok(false);
     }
     write_front(alloc, id, firsts, start + 4, out)?;
-    frame_from(alloc, start, out)?;
+    frame_in_place(0, start, &mut Vec::new(alloc), out)?;
     Ok(true)
 }
 
@@ -317,7 +281,7 @@ fn finish(
 /// before stands in front in any case.
 fn put_whole(
     alloc: Global,
-    statement: &Statement<'_>,
+    statement: &Target<'_>,
     sets: &[Params],
     room: usize,
     out: &mut Vec<u8>,
@@ -325,7 +289,7 @@ fn put_whole(
     requires { 0 < length sets.now }
     ensures ok { IfOk result (λ put. put ≡ true →
         AppendsAll statement.now.id (record { places = statement.now.places; bytes = room })
-        (given_up_to sets.now None statement.now.parsed.names) out.old.items out.new.items) }
+        (given_up_to sets.now None (map cow_slice_items statement.now.names.now)) out.old.items out.new.items) }
     ensures err { IfErr result (λ refusal. refusal ≡ refusals.Memory) }
     ensures kept { take (length out.old.items) out.new.items ≡ out.old.items }
 {
@@ -348,7 +312,7 @@ fn put_whole(
 /// bytes. Else nothing is appended.
 pub(crate) fn put_at_once(
     alloc: Global,
-    statement: &Statement<'_>,
+    statement: &Target<'_>,
     sets: &[Params],
     stop: &Option<SetError>,
     room: usize,
@@ -356,7 +320,7 @@ pub(crate) fn put_at_once(
 ) -> Result<bool, Refusal>
     ensures ok { IfOk result (λ put. put ≡ true →
         AppendsAll statement.now.id (record { places = statement.now.places; bytes = room })
-        (given_up_to sets.now stop.now statement.now.parsed.names) out.old.items out.new.items) }
+        (given_up_to sets.now stop.now (map cow_slice_items statement.now.names.now)) out.old.items out.new.items) }
     ensures not { IfOk result (λ put. put ≡ false → out.new.items ≡ out.old.items) }
     ensures err { IfErr result (λ refusal. refusal ≡ refusals.Memory) }
     ensures kept { OnErr result (out.new.items ≡ out.old.items) }

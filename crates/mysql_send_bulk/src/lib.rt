@@ -6,5 +6,6 @@ mod command;
 mod list_rows;
 mod requests;
 mod rows;
+mod target;
 
-pub use requests::{put_requests, put_requests_over};
+pub use requests::put_requests;

@@ -7,6 +7,7 @@ ghost use Rattle.mysql_bulk_builder.specs.ValueTypes.{is_null, same_kind};
 ghost use Rattle.mysql_send_bulk.specs.BulkSets.{JoinsColumn, PutsRow};
 
 use crate::command::put_value;
+use mysql_cells::value::is_float;
 use mysql_values::Value;
 use mysql_values::laws::fields_fit;
 use std::alloc::AllocError;
@@ -15,12 +16,6 @@ fn is_null(value: &Value) -> bool
     ensures { result ≡ is_null value.now }
 {
     matches!(value, Value::NULL)
-}
-
-fn is_float(value: &Value) -> bool
-    ensures { result ≡ is_none (content_of value.now) }
-{
-    matches!(value, Value::Float(_) | Value::Double(_))
 }
 
 /// Whether a value is NULL, or of the kind of its column's first value and no float.

@@ -1,7 +1,8 @@
 //! Parameter sets as bulk requests.
 
 ghost use Rattle.std.specs.Prelude.{◌≡◌, ◌⊎◌, ◌+◌, ◌<◌, ◌≤◌, ◌++◌, ℕ, All, IfErr, IfOk, IfSome, List, None, OnErr};
-ghost use Rattle.std.specs.Prelude.{OnOk, Some, false, length, sum_by, take};
+ghost use Rattle.std.specs.Cow.{cow_slice_items};
+ghost use Rattle.std.specs.Prelude.{OnOk, Some, false, length, map, sum_by, take};
 ghost use Rattle.mysql_wire.specs.Framing.{framing};
 ghost use Rattle.mysql_wire.specs.Stream.{framings};
 ghost use Rattle.mysql_wire.specs.Stream.Numbering.{EachFromZero};
@@ -16,18 +17,19 @@ ghost use Rattle.mysql_command_rules.specs.Sending.{RefusesGiven};
 ghost use Rattle.mysql_command_rules.specs.Sets.{given_up_to};
 ghost use Rattle.mysql_command_rules.specs.declared.refusal.Refusal.TheVariants as refusals;
 ghost use Rattle.mysql_command_rules.specs.declared.road.Road.TheVariants as roads;
-ghost use Rattle.mysql_senders.specs.MadeSets.{is_want_of_memory};
-ghost use Rattle.mysql_senders.specs.OneSet.{IsStatement};
+ghost use Rattle.mysql_command_rules.specs.MadeSets.{is_want_of_memory};
 ghost use Rattle.mysql_send_bulk.specs.BulkSets.{AppendsAll, AppendsRequests, RefusesAll, RefusesRows, requests_from};
 
 use crate::at_once::put_at_once;
 use crate::command::put_request;
 use crate::rows::{lent_rows, values_of_sets};
+use crate::target::Target;
 use mysql_bulk_builder::{
     BulkCutError, BulkPart, bulk_cut, mixed_kinds, no_first_values, put_first_values,
 };
 use mysql_command_rules::Refusal;
-use mysql_senders::statement::{Statement, check_count, found_statement, put_prepare};
+use mysql_send_execute::{Statement, put_prepare};
+use mysql_values::laws::tokens_of_a_text;
 use mysql_values::{Params, SetError, Value};
 use mysql_wire::packet_to_chunks;
 use std::alloc::{AllocError, Global};
@@ -146,7 +148,7 @@ fn put_rows(
 /// before they are written. After a refusal what stood before stands in front.
 fn put_checked_sets(
     alloc: Global,
-    statement: &Statement<'_>,
+    statement: &Target<'_>,
     sets: &[Params],
     stop: Option<SetError>,
     room: usize,
@@ -155,10 +157,10 @@ fn put_checked_sets(
     requires { 0 < statement.now.places }
     ensures ok { OnOk result (AppendsAll statement.now.id
         (record { places = statement.now.places; bytes = room })
-        (given_up_to sets.now stop statement.now.parsed.names) out.old.items out.new.items) }
+        (given_up_to sets.now stop (map cow_slice_items statement.now.names.now)) out.old.items out.new.items) }
     ensures err { IfErr result
         (RefusesAll (record { places = statement.now.places; bytes = room })
-        (given_up_to sets.now stop statement.now.parsed.names)) }
+        (given_up_to sets.now stop (map cow_slice_items statement.now.names.now))) }
     ensures kept { take (length out.old.items) out.new.items ≡ out.old.items }
 {
     let values = values_of_sets(alloc, statement, sets, stop, room)?;
@@ -170,7 +172,7 @@ fn put_checked_sets(
 /// else as few as there can be. After a refusal what stood before stands in front.
 fn put_sets(
     alloc: Global,
-    statement: &Statement<'_>,
+    statement: &Target<'_>,
     sets: &[Params],
     stop: Option<SetError>,
     room: usize,
@@ -179,10 +181,10 @@ fn put_sets(
     requires { 0 < statement.now.places }
     ensures ok { OnOk result (AppendsAll statement.now.id
         (record { places = statement.now.places; bytes = room })
-        (given_up_to sets.now stop statement.now.parsed.names) out.old.items out.new.items) }
+        (given_up_to sets.now stop (map cow_slice_items statement.now.names.now)) out.old.items out.new.items) }
     ensures err { IfErr result
         (RefusesAll (record { places = statement.now.places; bytes = room })
-        (given_up_to sets.now stop statement.now.parsed.names)) }
+        (given_up_to sets.now stop (map cow_slice_items statement.now.names.now))) }
     ensures kept { take (length out.old.items) out.new.items ≡ out.old.items }
 {
     let whole = put_at_once(alloc, statement, sets, &stop, room, out)?;
@@ -190,41 +192,6 @@ fn put_sets(
         return Ok(());
     }
     put_checked_sets(alloc, statement, sets, stop, room, out)
-}
-
-/// The same as [`put_requests`] over the statement of the query, as
-/// [`statement_over`](mysql_senders::statement::statement_over) finds it.
-///
-/// # Errors
-/// Those of [`put_requests`] but for `Mixed`, in its order.
-///
-/// MariaDB: Client/Server Protocol, "COM_STMT_BULK_EXECUTE"; MySQL: Client/Server Protocol, "COM_STMT_PREPARE".
-pub fn put_requests_over(
-    alloc: Global,
-    statement: &Statement<'_>,
-    sets: &[Params],
-    stop: Option<SetError>,
-    limit: usize,
-    out: &mut Vec<u8>,
-) -> Result<(), Refusal>
-    requires limit { 4 ≤ limit }
-    requires stop { IfSome stop (λ error. is_want_of_memory error ≡ false) }
-    // This holds of each query whose statement it is.
-    ensures ok { OnOk result ((query : List ℕ) →
-        IsStatement query statement.now.parsed statement.now.places →
-        SentReadable roads.Bulk query (given_up_to sets.now stop) statement.now.id limit
-        out.old.items out.new.items) }
-    ensures err { IfErr result (λ refusal. (query : List ℕ) →
-        IsStatement query statement.now.parsed statement.now.places →
-        RefusesGiven roads.Bulk query (given_up_to sets.now stop) statement.now.id limit refusal) }
-    ensures kept { take (length out.old.items) out.new.items ≡ out.old.items }
-{
-    check_count(statement.places)?;
-    put_prepare(alloc, statement, limit - 4, out)?;
-    if statement.places == 0 {
-        return Err(Refusal::NoPlaces);
-    }
-    put_sets(alloc, statement, sets, stop, limit - 4, out)
 }
 
 /// Appends the commands that carry parameter sets of a query to a server as bulk requests, each
@@ -236,27 +203,37 @@ pub fn put_requests_over(
 /// in front of `out`.
 ///
 /// # Errors
-/// The first cause that holds, in the order of [`Refusal`]: `Mixed`, `TooManyPlaces`,
-/// `PrepareTooLarge`, `NoPlaces`; set by set `Params`, `WrongCount`, `Float`; `Params` for the set
+/// The first cause that holds, in the order of [`Refusal`]: `TooManyPlaces`, `PrepareTooLarge`,
+/// `NoPlaces`; set by set `Params`, `WrongCount`, `Float`; `Params` for the set
 /// that stops; over all sets `MixedKinds`, `RowTooLarge`; `Memory` where a growth was refused.
 ///
 /// MariaDB: Client/Server Protocol, "COM_STMT_BULK_EXECUTE"; MySQL: Client/Server Protocol, "COM_STMT_PREPARE".
 pub fn put_requests(
     alloc: Global,
-    query: &[u8],
+    statement: &Statement<'_>,
     sets: &[Params],
     stop: Option<SetError>,
-    stmt_id: u32,
     limit: usize,
     out: &mut Vec<u8>,
 ) -> Result<(), Refusal>
     requires limit { 4 ≤ limit }
     requires stop { IfSome stop (λ error. is_want_of_memory error ≡ false) }
-    ensures ok { OnOk result (SentReadable roads.Bulk query.now (given_up_to sets.now stop) stmt_id
+    ensures ok { OnOk result
+        (SentReadable roads.Bulk statement.now.text (given_up_to sets.now stop) statement.now.id
         limit out.old.items out.new.items) }
-    ensures err { IfErr result (RefusesGiven roads.Bulk query.now (given_up_to sets.now stop) stmt_id limit) }
+    ensures err { IfErr result
+        (RefusesGiven roads.Bulk statement.now.text (given_up_to sets.now stop) statement.now.id limit) }
     ensures kept { take (length out.old.items) out.new.items ≡ out.old.items }
 {
-    let statement = found_statement(alloc, query, stmt_id)?;
-    put_requests_over(alloc, &statement, sets, stop, limit, out)
+    tokens_of_a_text();
+    put_prepare(alloc, statement, limit - 4, out)?;
+    let target = Target {
+        names: statement.names(),
+        places: statement.place_count(),
+        id: statement.id(),
+    };
+    if target.places == 0 {
+        return Err(Refusal::NoPlaces);
+    }
+    put_sets(alloc, &target, sets, stop, limit - 4, out)
 }

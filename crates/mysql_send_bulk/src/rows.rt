@@ -1,6 +1,7 @@
 //! Parameter sets as rows of bulk requests.
 
 ghost use Rattle.std.specs.Prelude.{◌≡◌, ◌<◌, ◌++◌, ◌⊎◌, All, IfErr, IfOk, List, None, Ok, Err, OnOk, Some, length};
+ghost use Rattle.std.specs.Cow.{cow_slice_items};
 ghost use Rattle.std.specs.Prelude.{map};
 ghost use Rattle.mysql_values.specs.Params.{values_over};
 ghost use Rattle.mysql_values.specs.declared.params.ParamsError.{ParamsError as ParamsErrorOf};
@@ -9,12 +10,13 @@ ghost use Rattle.mysql_bulk_builder.specs.Cut.{Row};
 ghost use Rattle.mysql_bulk_builder.specs.RowLists.{row_in, rows_in};
 ghost use Rattle.mysql_command_rules.specs.Sets.{given_by, given_up_to};
 ghost use Rattle.mysql_command_rules.specs.declared.refusal.Refusal.TheVariants as refusals;
-ghost use Rattle.mysql_send_bulk.specs.BulkSets.{AreRows, GivesRow, GivesRows, no_command};
-ghost use Rattle.mysql_senders.specs.OneSet.{RefusesSet, RefusesSets, refusal_of};
+ghost use Rattle.mysql_send_bulk.specs.BulkSets.{AreRows, GivesRow, GivesRows, RefusesSet, RefusesSets, no_command};
+ghost use Rattle.mysql_send_execute.specs.Executions.{refusal_of};
 
+use crate::target::Target;
 use mysql_command_rules::Refusal;
-use mysql_senders::set_values::{check_values, values_fit, values_for};
-use mysql_senders::statement::Statement;
+use mysql_send_execute::set_values::{check_values, refused, values_fit};
+use mysql_values::params::list_values_over_names;
 use mysql_values::{Params, SetError, Value};
 use std::alloc::{AllocError, Global};
 
@@ -42,25 +44,28 @@ fn put_references<'a>(row: &[&'a Value], values: &mut Vec<&'a Value>) -> Result<
 /// Appends the values that a set gives the statement.
 fn put_values_for<'a>(
     alloc: Global,
-    statement: &Statement<'_>,
+    statement: &Target<'_>,
     set: usize,
     params: &'a Params,
     values: &mut Vec<&'a Value>,
 ) -> Result<(), Refusal>
     ensures ok { OnOk result ((row : Row) ×
-        (values_over statement.now.parsed.names params.entry.now ≡ Ok row) ×
+        (values_over (map cow_slice_items statement.now.names.now) params.entry.now ≡ Ok row) ×
         (row_in values.new.items ≡ row_in values.old.items ++ row)) }
     ensures err { IfErr result (λ refusal. (refusal ≡ refusals.Memory) ⊎
-        ((e : ParamsErrorOf) × (values_over statement.now.parsed.names params.entry.now ≡ Err e) ×
+        ((e : ParamsErrorOf) × (values_over (map cow_slice_items statement.now.names.now) params.entry.now ≡ Err e) ×
         (refusal ≡ refusal_of set e))) }
 {
     match params {
-        Params::Positional(list) if statement.parsed.params().is_empty() => {
+        Params::Positional(list) if statement.names.is_empty() => {
             put_list(list, values)?;
             Ok(())
         }
         _ => {
-            let row = values_for(alloc, statement, set, params)?;
+            let mut row = Vec::new(alloc);
+            if let Err(error) = list_values_over_names(params, statement.names, &mut row) {
+                return Err(refused(set, error));
+            }
             put_references(&row, values)?;
             Ok(())
         }
@@ -70,7 +75,7 @@ fn put_values_for<'a>(
 /// Appends the row that a set gives the statement.
 fn put_row_of_set<'a>(
     alloc: Global,
-    statement: &Statement<'_>,
+    statement: &Target<'_>,
     set: usize,
     params: &'a Params,
     room: usize,
@@ -78,12 +83,12 @@ fn put_row_of_set<'a>(
 ) -> Result<(), Refusal>
     ensures ok { OnOk result ((row : Row) ×
         GivesRow (record { places = statement.now.places; bytes = room }) set
-        (given_by statement.now.parsed.names params.entry.now) row ×
+        (given_by (map cow_slice_items statement.now.names.now) params.entry.now) row ×
         (length row ≡ statement.now.places) ×
         (row_in values.new.items ≡ row_in values.old.items ++ row)) }
     ensures err { IfErr result
-        (RefusesSet no_command (record { places = statement.now.places; bytes = room }) set
-        (given_by statement.now.parsed.names params.entry.now)) }
+        (RefusesSet (record { places = statement.now.places; bytes = room }) set
+        (given_by (map cow_slice_items statement.now.names.now) params.entry.now)) }
 {
     let start = values.len();
     put_values_for(alloc, statement, set, params, values)?;
@@ -108,18 +113,18 @@ fn check_stop(stop: Option<SetError>, sets: usize) -> Result<(), Refusal>
 /// one more set behind these gives no values, where there is one.
 pub(crate) fn values_of_sets<'a>(
     alloc: Global,
-    statement: &Statement<'_>,
+    statement: &Target<'_>,
     sets: &'a [Params],
     stop: Option<SetError>,
     room: usize,
 ) -> Result<Vec<&'a Value>, Refusal>
     ensures ok { IfOk result (λ values. (rows : List Row) ×
         GivesRows (record { places = statement.now.places; bytes = room })
-        (given_up_to sets.entry.now stop statement.now.parsed.names) rows ×
+        (given_up_to sets.entry.now stop (map cow_slice_items statement.now.names.now)) rows ×
         AreRows statement.now.places (row_in values.items) rows) }
     ensures err { IfErr result
-        (RefusesSets no_command (record { places = statement.now.places; bytes = room })
-        (given_up_to sets.entry.now stop statement.now.parsed.names)) }
+        (RefusesSets (record { places = statement.now.places; bytes = room })
+        (given_up_to sets.entry.now stop (map cow_slice_items statement.now.names.now))) }
 {
     let mut values = Vec::new(alloc);
     'sets: for (set, params) in sets.iter().enumerate() {

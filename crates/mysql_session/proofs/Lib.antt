@@ -1,5 +1,5 @@
 pub mod OnAnswers
 pub mod ObjectSets
 pub mod Deliveries
-pub mod Handing
+pub mod WritingTo
 pub mod OneKind

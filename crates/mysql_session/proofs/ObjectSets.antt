@@ -26,7 +26,7 @@ use Rattle.mysql_command_rules.specs.Sent.{whole_command}
 use Rattle.mysql_command_rules.specs.Cause.{cause_of, first_of_sets, query_cause, set_cause, sets_cause}
 use Rattle.mysql_command_rules.specs.Reading.{SentReadable}
 use Rattle.mysql_command_rules.specs.Sending.{RefusesGiven, SendsGiven}
-use Rattle.mysql_senders.specs.MadeSets.{IsSetAt, given_by_made}
+use Rattle.mysql_command_rules.specs.MadeSets.{IsSetAt, given_by_made}
 use Rattle.mysql_session.specs.Made.{AreLeft, AreMadeUpTo}
 
 -- ---- one list

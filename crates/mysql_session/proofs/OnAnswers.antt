@@ -1,5 +1,5 @@
 -- What holds of an answer is taken on.
-use Rattle.std.proofs.Common.{Result, Ok, Err}
+use Rattle.std.proofs.Common.{◌≡◌, List, Result, Ok, Err, subst, ℕ}
 use Rattle.std.specs.Prelude.{IfErr, IfOk, OnOk}
 
 pub on_ok : {E P Q : Type 0} (answer : Result (Unit {0}) E) → (P → Q) → OnOk answer P → OnOk answer Q
@@ -13,3 +13,7 @@ if_ok (Err error) step holds = tt
 pub on_err : {E : Type 0} {P Q : E → Type 0} (answer : Result (Unit {0}) E) → ((e : E) → P e → Q e) → IfErr answer P → IfErr answer Q
 on_err (Ok done) step holds = tt
 on_err (Err error) step holds = step error holds
+
+-- what is said over a text and an id is said over equal ones
+pub over_same : (P : List ℕ → ℕ → Type 0) (text other : List ℕ) (id number : ℕ) → text ≡ other → id ≡ number → P text id → P other number
+over_same P text other id number same one holds = subst (λ (n : ℕ). P other n) one (subst (λ (t : List ℕ). P t id) same holds)

@@ -4,7 +4,7 @@ use Rattle.std.specs.Option.{option_map, option_or}
 use Rattle.mysql_values.specs.Binding.{IsBindCause, alone_cause, given_cause, values_cause}
 use Rattle.mysql_values.specs.Laws.{OneTokens}
 use Rattle.mysql_values.specs.Params.{values_over}
-use Rattle.mysql_values.specs.Parsed.{Parsed, names_of}
+use Rattle.mysql_values.specs.Parsed.{names_of}
 use Rattle.mysql_values.specs.Place.{Place}
 use Rattle.mysql_values.specs.Queries.{HasMixed, HasPlaces, first_not_alone, is_mixed, places_from}
 use Rattle.mysql_values.specs.Tokens.{HasTokens}
@@ -24,7 +24,6 @@ use Rattle.mysql_command_rules.specs.Commands.{prepare_command}
 use Rattle.mysql_command_rules.specs.Sending.{RefusesGiven}
 use Rattle.mysql_command_rules.specs.Sent.{whole_command}
 use Rattle.mysql_command_rules.specs.Sets.{Given, values_of}
-use Rattle.mysql_senders.specs.OneSet.{IsStatement}
 
 -- a cause, if any, is not that both kinds occur
 abbrev NotMixed : Option Refusal → Type 0
@@ -104,9 +103,17 @@ one_kind once query tokens has mixed =
     let found : HasPlaces query mixed.0 = mixed.1 in
     ap (λ t. is_mixed (places_from query 0 t)) (once query tokens found.0 has found.1) ∙ ap is_mixed (sym found.2) ∙ sym mixed.2
 
--- so are those of a query that is found to be a statement
-pub of_statement : (query : List ℕ) (parsed : Parsed) (places : ℕ) → IsStatement query parsed places → HasMixed query false
-of_statement query parsed places is = (places_from query 0 is.tokens, (is.tokens, is.has, refl), sym is.one_kind)
+-- so are those that were found of it
+pub one_kind_of : OneTokens → (query : List ℕ) (places : List Place) → HasPlaces query places → HasMixed query false → is_mixed places ≡ false
+one_kind_of once query places has mixed = ap is_mixed has.2 ∙ one_kind once query has.0 has.1 mixed
+
+-- where one of them doesn't stand alone no text is bound
+pub not_alone : (query : List ℕ) (places : List Place) (params : Params) (place : ℕ) → HasPlaces query places → is_mixed places ≡ false → first_not_alone places ≡ Some place → IsBindCause query params (bind_error.NotAlone place)
+not_alone query places params place has one apart =
+    (has.0, has.1, by (is_mixed (places_from query 0 has.0)) (first_not_alone (places_from query 0 has.0)) _ (ap is_mixed (sym has.2) ∙ one) (ap first_not_alone (sym has.2) ∙ apart))
+  where
+    by : (mixed : Bool) (found : Option ℕ) (rest : Option BindError) → mixed ≡ false → found ≡ Some place → (if mixed then Some bind_error.Mixed else alone_cause found rest) ≡ Some (bind_error.NotAlone place)
+    by mixed found rest kind here = rw (kind, here) refl
 
 pub never_mixed : OneTokens → (road : Road) (query : List ℕ) (sets : List (List ℕ) → List Given) (id limit : ℕ) (refusal : Refusal) → HasMixed query false → RefusesGiven road query sets id limit refusal → refusal ≢ refusals.Mixed
 never_mixed once road query sets id limit refusal one (inl memory) = λ same. cc (sym memory ∙ same)

@@ -9,7 +9,7 @@ use Rattle.mysql_values.specs.Value.{Value}
 use Rattle.mysql_command_rules.specs.Cause.{max_places}
 use Rattle.mysql_command_rules.specs.declared.refusal.Refusal.{Refusal}
 use Rattle.mysql_command_rules.specs.declared.refusal.Refusal.TheVariants.{TooManyPlaces}
-use Rattle.mysql_senders.specs.OneSet.{AppendsMore, RefusesMore, limits_of}
+use Rattle.mysql_send_execute.specs.Executions.{AppendsMore, RefusesMore, limits_of}
 
 -- its text, and the id of its statement
 pub record KeptQuery : Type 0 where

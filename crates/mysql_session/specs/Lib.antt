@@ -8,5 +8,5 @@ pub mod Objects
 pub mod Made
 pub mod Laws
 pub mod Kept
-pub mod Handing
+pub mod WritingTo
 pub mod Inside

@@ -1,7 +1,7 @@
 //! The laws of the crates below, of sets that are delivered, and of lists of objects. A function
 //! without a result does nothing: its contract is the law.
 
-ghost use Rattle.mysql_session.specs.Handing.{FailedWritersAreRead};
+ghost use Rattle.mysql_session.specs.WritingTo.{FailedWritersAreRead};
 ghost use Rattle.mysql_session.specs.Laws.{DeliveriesAreReadBack, DeliveriesAreReceived, FurtherSetsAreDelivered};
 ghost use Rattle.mysql_session.specs.Laws.{MadeSetsGiveTheSame, ReadableSetsAreDelivered, RecodingsAreDelivered};
 
@@ -15,8 +15,8 @@ use mysql_recoding::laws::recodings_are_sent;
 pub use mysql_replies::laws as replies;
 pub use mysql_reply_rules::{fronts as reply_fronts, laws as reply_packets};
 pub use mysql_reply_writer::laws as reply_writer;
-pub use mysql_senders::laws as senders;
-use mysql_senders::laws::further_sets_are_sent;
+pub use mysql_send_execute::laws as senders;
+use mysql_send_execute::laws::further_sets_are_sent;
 pub use mysql_values::laws as values;
 use mysql_values::laws::tokens_of_a_text;
 pub use mysql_wire::laws as wire;

@@ -7,7 +7,7 @@ mod query;
 mod sender;
 
 pub use bitflags::Flags;
-pub use mysql_command_rules::{Refusal, Road};
+pub use mysql_command_rules::{Refusal, Road, SendToError};
 pub use mysql_const::{CapabilityFlags, StatusFlags};
 pub use mysql_convert::{
     FromValue, FromValueError, Intermediate, IntoParams, ParseIr, ToValue, ToValueError,
@@ -29,7 +29,6 @@ pub use mysql_row_refs::{
     ValueRef,
 };
 pub use mysql_rows::{ColumnIndex, Row};
-pub use mysql_set_writer::SendToError;
 pub use mysql_values::{
     BindError, ByteString, Content, MissingNamedParameterError, Params, ParamsConfusionError,
     ParamsError, SetError, Value,

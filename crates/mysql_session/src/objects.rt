@@ -7,17 +7,19 @@ ghost use Rattle.mysql_convert.specs.Sets.Parts.{InOrder};
 ghost use Rattle.mysql_session.specs.Delivery.{Delivers};
 ghost use Rattle.mysql_session.specs.Made.{AreMadeUpTo};
 ghost use Rattle.mysql_session.specs.Objects.{all_given_by_objects};
-ghost use Rattle.mysql_senders.specs.MadeSets.{is_want_of_memory};
+ghost use Rattle.mysql_command_rules.specs.MadeSets.{is_want_of_memory};
 ghost use Rattle.mysql_command_rules.specs.Reading.{SentReadable};
 ghost use Rattle.mysql_command_rules.specs.Sending.{RefusesGiven};
 ghost use Rattle.mysql_command_rules.specs.declared.road.Road.TheVariants as roads;
 
 use crate::laws::readable_sets_are_delivered;
 use crate::sender::are_bytes;
-use mysql_command_rules::{Refusal, Road};
+use mysql_command_rules::{Refusal, Road, SetMaker};
 use mysql_convert::{IntoParams, ToValue};
 use mysql_send_bulk::put_requests;
-use mysql_senders::{SetMaker, put_made_executions, put_made_queries};
+use mysql_send_execute::{Statement, put_made_executions};
+use mysql_send_text::put_made_queries;
+use mysql_values::bind::ParsedQuery;
 use mysql_values::{Params, SetError};
 use std::alloc::{AllocError, Global};
 
@@ -113,11 +115,13 @@ fn put_held_sets(
     ensures kept { take (length out.old.items) out.new.items ≡ out.old.items }
 {
     let MadeSets { sets, refusal } = sets_of_objects(alloc, lists)?;
-    put_requests(alloc, query, &sets, refusal, stmt_id, limit, out)
+    let statement = Statement::new(alloc, query, stmt_id)?;
+    put_requests(alloc, &statement, &sets, refusal, limit, out)
 }
 
-/// Sends the sets of lists of objects: but by bulk each is made when its turn comes.
-fn send_lists(
+/// Appends the commands of the sets of lists of objects: but by bulk each is made when its turn
+/// comes. After a refusal what stood before stands in front of `out`.
+fn put_lists(
     alloc: Global,
     query: &[u8],
     lists: &[Vec<Box<dyn ToValue + Drop>>],
@@ -131,23 +135,24 @@ fn send_lists(
         (RefusesGiven road query.now
         (all_given_by_objects (map (λ list. map (λ object. as_value object) list.items) lists.now))
         stmt_id limit) }
-    ensures kept { OnErr result (out.new.items ≡ out.old.items) }
+    ensures kept { take (length out.old.items) out.new.items ≡ out.old.items }
     ensures sent { OnOk result
         (SentReadable road query.now
         (all_given_by_objects (map (λ list. map (λ object. as_value object) list.items) lists.now))
         stmt_id limit out.old.items out.new.items) }
 {
-    let start = out.len();
     let sets = Lists { lists };
-    let sent = match road {
-        Road::Text => put_made_queries(alloc, query, &sets, limit, out),
-        Road::Execute => put_made_executions(alloc, query, &sets, stmt_id, limit, out),
+    match road {
+        Road::Text => {
+            let query = ParsedQuery::new(alloc, query)?;
+            put_made_queries(alloc, &query, &sets, limit, out)
+        }
+        Road::Execute => {
+            let statement = Statement::new(alloc, query, stmt_id)?;
+            put_made_executions(alloc, &statement, &sets, limit, out)
+        }
         Road::Bulk => put_held_sets(alloc, query, lists, stmt_id, limit, out),
-    };
-    if sent.is_err() {
-        out.truncate(start);
     }
-    sent
 }
 
 /// Appends to `out` the commands that carry lists of objects to a server: what
@@ -192,7 +197,11 @@ pub fn send_values(
         out.old.items out.new.items) }
 {
     readable_sets_are_delivered();
-    let sent = send_lists(alloc, query, sets, road, stmt_id, limit, out);
+    let start = out.len();
+    let sent = put_lists(alloc, query, sets, road, stmt_id, limit, out);
     are_bytes(out);
+    if sent.is_err() {
+        out.truncate(start);
+    }
     sent
 }

@@ -14,8 +14,8 @@ ghost use Rattle.mysql_receive.specs.GoingOn.{fresh_receiver};
 ghost use Rattle.mysql_receive.specs.Received.{receiver_state};
 ghost use Rattle.mysql_session.specs.Delivery.{Delivers};
 ghost use Rattle.mysql_session.specs.Kept.{AppendsFurther, RefusesFurther};
-ghost use Rattle.mysql_session.specs.Handing.{DeliversTo, StopsSending};
-ghost use Rattle.mysql_set_writer.specs.Writing.{Writes};
+ghost use Rattle.mysql_session.specs.WritingTo.{DeliversTo, StopsSending};
+ghost use Rattle.mysql_command_rules.specs.Writing.{Writes};
 ghost use Rattle.mysql_command_rules.specs.declared.road.Road.TheVariants as roads;
 ghost use Rattle.mysql_command_rules.specs.Reading.{SentReadable};
 ghost use Rattle.mysql_command_rules.specs.Sending.{RefusesGiven};
@@ -24,15 +24,16 @@ ghost use Rattle.mysql_command_rules.specs.declared.refusal.Refusal.TheVariants 
 
 use crate::laws::{further_sets_are_delivered, readable_sets_are_delivered};
 use crate::sender::are_bytes;
-use mysql_command_rules::{Refusal, Road};
+use mysql_command_rules::{Refusal, Road, SendToError, flush};
 use mysql_receive::Receiver;
-use mysql_send_bulk::put_requests_over;
-use mysql_senders::statement::{Statement, check_count, statement_over};
-use mysql_senders::{put_executions_over, put_more_executions, put_queries_over};
-use mysql_set_writer::{SendToError, hand_on, write_executions_over, write_queries_over};
+use mysql_send_bulk::put_requests;
+use mysql_send_execute::{
+    Statement, check_count, put_executions, put_more_executions, write_executions,
+};
+use mysql_send_text::{put_queries, write_queries};
 use mysql_values::bind::bind_text_over;
 use mysql_values::laws::{pieces_of_a_query, tokens_of_a_text};
-use mysql_values::{BindError, Params, Place, Value, first_not_alone, places};
+use mysql_values::{BindError, Params, Value};
 use std::alloc::{AllocError, Global};
 use std::io::Write;
 use std::marker::Model;
@@ -43,8 +44,6 @@ use std::marker::Model;
 /// once.
 #[derive(Drop)]
 pub struct Query<'q> {
-    text: &'q [u8],
-    places: Vec<Place>,
     statement: Statement<'q>,
 }
 
@@ -53,11 +52,9 @@ impl<'q> Model for Query<'q> {
 
     ghost Value = { KeptQuery };
 
-    ghost use Rattle.mysql_session.specs.Inside.{kept_query, IsFound};
+    ghost use Rattle.mysql_session.specs.Inside.{kept_query};
 
     ghost view = { kept_query };
-
-    ghost invariant = { IsFound };
 }
 
 impl<'q> Query<'q> {
@@ -74,18 +71,8 @@ impl<'q> Query<'q> {
         ensures mixed { IfErr result (λ refusal. (refusal ≡ refusals.Memory) ⊎
             ((refusal ≡ refusals.Mixed) × HasMixed text.entry.now true)) }
     {
-        tokens_of_a_text();
-        let Ok(places) = places(alloc, text) else {
-            return Err(Refusal::Memory);
-        };
-        match statement_over(alloc, text, &places, stmt_id) {
-            Ok(statement) => Ok(Query {
-                text,
-                places,
-                statement,
-            }),
-            Err(refusal) => Err(refusal),
-        }
+        let statement = Statement::new(alloc, text, stmt_id)?;
+        Ok(Query { statement })
     }
 
     /// The text, in which not both names and question marks occur.
@@ -93,21 +80,21 @@ impl<'q> Query<'q> {
         ensures text { result.now ≡ self.now.text }
         ensures one_kind { HasMixed self.now.text false }
     {
-        self.text
+        self.statement.text()
     }
 
     /// The id of the statement.
     pub fn stmt_id(&self) -> u32
         ensures { result ≡ self.now.id }
     {
-        self.statement.id
+        self.statement.id()
     }
 
     /// How many placeholders the text has.
     pub fn place_count(&self) -> usize
         ensures { (places : List PlaceOf) × HasPlaces self.now.text places × (result ≡ length places) }
     {
-        self.places.len()
+        self.statement.query().places().len()
     }
 
     /// Sends sets by the calls over what was found.
@@ -126,21 +113,12 @@ impl<'q> Query<'q> {
             (SentReadable road self.now.text (all_given sets.now) self.now.id limit out.old.items
             out.new.items) }
     {
-        pieces_of_a_query();
         let start = out.len();
         let statement = &self.statement;
         let sent = match road {
-            Road::Text => put_queries_over(
-                alloc,
-                self.text,
-                &self.places,
-                statement.parsed.params(),
-                sets,
-                limit,
-                out,
-            ),
-            Road::Execute => put_executions_over(alloc, statement, sets, limit, out),
-            Road::Bulk => put_requests_over(alloc, statement, sets, None, limit, out),
+            Road::Text => put_queries(alloc, statement.query(), sets, limit, out),
+            Road::Execute => put_executions(alloc, statement, sets, limit, out),
+            Road::Bulk => put_requests(alloc, statement, sets, None, limit, out),
         };
         if sent.is_err() {
             out.truncate(start);
@@ -177,7 +155,8 @@ impl<'q> Query<'q> {
     {
         readable_sets_are_delivered();
         tokens_of_a_text();
-        let _id = self.statement.id;
+        // That the id is below 2^32, and the text of one kind, the proof takes of these.
+        let (_id, _text) = (self.statement.id(), self.text());
         let sent = self.send_sets(alloc, sets, road, limit, out);
         are_bytes(out);
         sent
@@ -199,7 +178,7 @@ impl<'q> Query<'q> {
         ensures err { IfErr result (RefusesFurther self.now limit first (map (λ set. set.items) sets.now)) }
         ensures kept { OnErr result (out.new.items ≡ out.old.items) }
     {
-        let (id, places) = (self.statement.id, self.statement.places);
+        let (id, places) = (self.statement.id(), self.statement.place_count());
         check_count(places)?;
         let stood = out.len();
         let sent = put_more_executions(alloc, id, places, first, sets, limit, out);
@@ -245,7 +224,7 @@ impl<'q> Query<'q> {
             out.new.items) }
     {
         further_sets_are_delivered();
-        let _id = self.statement.id;
+        let _id = self.statement.id();
         let sent = self.put_further(alloc, first, sets, limit, out);
         are_bytes(out);
         sent
@@ -268,8 +247,8 @@ impl<'q> Query<'q> {
             (W.contents to.new)) }
     {
         let mut requests = Vec::new(alloc);
-        match put_requests_over(alloc, &self.statement, sets, None, limit, &mut requests) {
-            Ok(()) => Ok(hand_on(&mut requests, to)?),
+        match put_requests(alloc, &self.statement, sets, None, limit, &mut requests) {
+            Ok(()) => Ok(flush(&mut requests, to)?),
             Err(refusal) => Err(SendToError::Refused(refusal, 0)),
         }
     }
@@ -291,18 +270,9 @@ impl<'q> Query<'q> {
             (StopsSending road self.now.text sets.now self.now.id limit (W.contents to.old)
             (W.contents to.new)) }
     {
-        pieces_of_a_query();
         match road {
-            Road::Text => write_queries_over(
-                alloc,
-                self.text,
-                &self.places,
-                self.statement.parsed.params(),
-                sets,
-                limit,
-                to,
-            ),
-            Road::Execute => write_executions_over(alloc, &self.statement, sets, limit, to),
+            Road::Text => write_queries(alloc, self.statement.query(), sets, limit, to),
+            Road::Execute => write_executions(alloc, &self.statement, sets, limit, to),
             Road::Bulk => self.send_requests_to(alloc, sets, limit, to),
         }
     }
@@ -342,7 +312,7 @@ impl<'q> Query<'q> {
             (W.contents to.new)) }
     {
         readable_sets_are_delivered();
-        let _id = self.statement.id;
+        let _id = self.statement.id();
         self.send_sets_to(alloc, sets, road, limit, to)
     }
 
@@ -357,12 +327,13 @@ impl<'q> Query<'q> {
         ensures limit { IfOk result (λ r. r.limit ≡ limit) }
         ensures one_kind { HasMixed self.now.text false }
     {
+        let statement = &self.statement;
         Receiver::of_places(
             alloc,
-            self.text,
-            self.statement.parsed.query(),
-            &self.places,
-            self.statement.id,
+            statement.text(),
+            statement.marked(),
+            statement.query().places(),
+            statement.id(),
             limit,
         )
     }
@@ -394,14 +365,18 @@ impl<'q> Query<'q> {
     {
         pieces_of_a_query();
         tokens_of_a_text();
-        if let Some(place) = first_not_alone(&self.places) {
+        // That the text's placeholders are of one kind the proof takes of these.
+        let _text = self.text();
+        let query = self.statement.query();
+        let places = query.places();
+        if let Some(place) = query.first_not_alone() {
             return Err(BindError::NotAlone(place));
         }
         let mut values = Vec::new(alloc);
         bind_text_over(
-            self.text,
-            &self.places,
-            self.statement.parsed.params(),
+            query.text(),
+            places,
+            query.names(),
             params,
             &mut values,
             out,

@@ -1,6 +1,6 @@
 //! Parameter sets as commands.
 
-ghost use Rattle.std.specs.Prelude.{◌≡◌, ◌<◌, ◌≤◌, ◌^◌, IfErr, OnErr, OnOk, length};
+ghost use Rattle.std.specs.Prelude.{◌≡◌, ◌<◌, ◌≤◌, ◌^◌, IfErr, OnErr, OnOk, length, take};
 ghost use Rattle.mysql_wire.specs.Bytes.{AreBytes};
 ghost use Rattle.mysql_session.specs.Delivery.{Delivers};
 ghost use Rattle.mysql_command_rules.specs.Reading.{SentReadable};
@@ -10,8 +10,10 @@ ghost use Rattle.mysql_command_rules.specs.Sets.{all_given};
 use crate::laws::readable_sets_are_delivered;
 use mysql_command_rules::{Refusal, Road};
 use mysql_send_bulk::put_requests;
-use mysql_senders::{put_executions, put_queries};
+use mysql_send_execute::{Statement, put_executions};
+use mysql_send_text::put_queries;
 use mysql_values::Params;
+use mysql_values::bind::ParsedQuery;
 use std::alloc::Global;
 
 /// A list of bytes holds bytes, and fewer than 2^64: facts that the proofs of what is delivered use.
@@ -23,8 +25,8 @@ pub(crate) fn are_bytes(out: &Vec<u8>)
     let _first = out.first();
 }
 
-/// Sends sets.
-fn send_sets(
+/// Appends the commands of sets. After a refusal what stood before stands in front of `out`.
+fn put_sets(
     alloc: Global,
     query: &[u8],
     sets: &[Params],
@@ -35,20 +37,24 @@ fn send_sets(
 ) -> Result<(), Refusal>
     requires { 4 ≤ limit }
     ensures refused { IfErr result (RefusesGiven road query.now (all_given sets.now) stmt_id limit) }
-    ensures kept { OnErr result (out.new.items ≡ out.old.items) }
     ensures sent { OnOk result
         (SentReadable road query.now (all_given sets.now) stmt_id limit out.old.items out.new.items) }
+    ensures kept { take (length out.old.items) out.new.items ≡ out.old.items }
 {
-    let start = out.len();
-    let sent = match road {
-        Road::Text => put_queries(alloc, query, sets, limit, out),
-        Road::Execute => put_executions(alloc, query, sets, stmt_id, limit, out),
-        Road::Bulk => put_requests(alloc, query, sets, None, stmt_id, limit, out),
-    };
-    if sent.is_err() {
-        out.truncate(start);
+    match road {
+        Road::Text => {
+            let query = ParsedQuery::new(alloc, query)?;
+            put_queries(alloc, &query, sets, limit, out)
+        }
+        Road::Execute => {
+            let statement = Statement::new(alloc, query, stmt_id)?;
+            put_executions(alloc, &statement, sets, limit, out)
+        }
+        Road::Bulk => {
+            let statement = Statement::new(alloc, query, stmt_id)?;
+            put_requests(alloc, &statement, sets, None, limit, out)
+        }
     }
-    sent
 }
 
 /// Appends to `out` the commands that carry parameter sets of a query to a server, as framed
@@ -101,7 +107,11 @@ pub fn send(
         (Delivers road query.now (all_given sets.now) stmt_id limit out.old.items out.new.items) }
 {
     readable_sets_are_delivered();
-    let sent = send_sets(alloc, query, sets, road, stmt_id, limit, out);
+    let start = out.len();
+    let sent = put_sets(alloc, query, sets, road, stmt_id, limit, out);
     are_bytes(out);
+    if sent.is_err() {
+        out.truncate(start);
+    }
     sent
 }

@@ -1,4 +1,5 @@
-use Rattle.std.proofs.Common.{◌≡◌, None, subst, ap}
+use Rattle.std.specs.Cow.{cow_slice_items}
+use Rattle.std.proofs.Common.{map, ◌≡◌, None, subst, ap}
 use Rattle.std.specs.List.{AllByRecursion}
 use Rattle.mysql_values.specs.AsSql.{FitsFields}
 use Rattle.mysql_values.specs.Binding.{values_cause}
@@ -12,7 +13,7 @@ pub returns-clause-ok : goal.returns-clause-ok
 returns-clause-ok c = λ yes.
     let places = c.args.statement.now.places in
     let same = ap (λ l. row_in l) c.as_slice-row.ensures.value in
-    gives_row c.args.statement.now.parsed.names c.args.params.now (record { places = places; bytes = c.args.room }) c.args.set (row_in c.gives_values.new.values.items)
+    gives_row (map cow_slice_items c.args.statement.now.names.now) c.args.params.now (record { places = places; bytes = c.args.room }) c.args.set (row_in c.gives_values.new.values.items)
     (c.in_ok-gives.ensures.ok c.if-not-gives.false)
     (subst (λ (l : Row). values_cause (refusals.WrongCount c.args.set) (λ place. refusals.Float c.args.set place) places l ≡ None) same (c.are_good-good.ensures.cause yes))
     (subst (λ (l : Row). AllByRecursion (λ value. FitsFields value) l) same (c.are_good-good.ensures.fit yes))

@@ -1,4 +1,5 @@
-use Rattle.std.proofs.Common.{length, sym, ◌∙◌, ap, subst, arith, Bor, List}
+use Rattle.std.specs.Cow.{cow_slice_items}
+use Rattle.std.proofs.Common.{map, length, sym, ◌∙◌, ap, subst, arith, Bor, List}
 use Rattle.std.proofs.lemmas.List.{length-map}
 use Rattle.mysql_values.specs.Value.{Value}
 use Rattle.mysql_bulk_builder.specs.RowLists.{row_in}
@@ -13,7 +14,7 @@ place_of_other-other-requires c =
 
 pub returns-clause-ok : goal.returns-clause-ok
 returns-clause-ok c = λ yes.
-    let names = c.args.statement.now.parsed.names in
+    let names = (map cow_slice_items c.args.statement.now.names.now) in
     let none = nothing c.place_of_other-other.result c.is_some.result c.is_some.ensures c.if-is_some.false in
     row_appended (record { places = c.args.statement.now.places; bytes = c.args.room }) c.args.set (given_by names c.args.params.now) c.as_slice-row.result.now c.args.firsts.now c.place_of_other-other.new.firsts
     c.args.out.now.items c.put_row.new.command.items c.requires

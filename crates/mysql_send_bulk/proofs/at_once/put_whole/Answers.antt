@@ -1,11 +1,12 @@
-use Rattle.std.proofs.Common.{◌≡◌, ℕ, ◌+◌, ◌*◌, ◌++◌, Bor, List, None, length, drop, replicate, true, sym, ◌∙◌, ap, subst, arith, length-append}
+use Rattle.std.specs.Cow.{cow_slice_items}
+use Rattle.std.proofs.Common.{map, ◌≡◌, ℕ, ◌+◌, ◌*◌, ◌++◌, Bor, List, None, length, drop, replicate, true, sym, ◌∙◌, ap, subst, arith, length-append}
 use Rattle.std.specs.List.{flat_map}
 use Rattle.std.proofs.lemmas.List.{length-map, length-replicate, take_at}
 use Rattle.mysql_values.specs.Value.{Value}
 use Rattle.mysql_bulk_builder.specs.RowLists.{row_in}
 use Rattle.mysql_command_rules.specs.Sets.{given_up_to}
-use Rattle.mysql_senders.proofs.StatementSets.{kept_behind}
-use Rattle.mysql_senders.specs.OneSet.{Limits}
+use Rattle.mysql_send_bulk.proofs.Lists.{kept_behind}
+use Rattle.mysql_send_execute.specs.Executions.{Limits}
 use Rattle.mysql_send_bulk.specs.BulkSets.{AppendsRows, front_bytes, row_bytes}
 use Rattle.mysql_send_bulk.proofs.AtOnce.{all_appended, both_yes, finished, front_length, length_behind, room_inside, stays}
 use Rattle.mysql_send_bulk.proofs.at_once.put_whole.Goals as goal
@@ -21,7 +22,7 @@ returns-then-not-whole-clause-kept c =
 pub finish-requires : goal.finish-requires
 finish-requires c =
     let limits : Limits = record { places = c.args.statement.now.places; bytes = c.args.room } in
-    let names = c.args.statement.now.parsed.names in
+    let names = (map cow_slice_items c.args.statement.now.names.now) in
     let old = c.args.out.now.items in
     let out = c.put_rows_of_sets.new.out.items in
     let len : length c.put_rows_of_sets.new.firsts ≡ c.in_ok-firsts.firsts.len = omega (arith, c.put_rows_of_sets.auto.firsts, ap length c.deref_mut.ensures.value, c.in_ok-firsts.firsts.ok.0) in
@@ -38,7 +39,7 @@ finish-requires c =
 pub returns-clause-kept : goal.returns-clause-kept
 returns-clause-kept c =
     let limits : Limits = record { places = c.args.statement.now.places; bytes = c.args.room } in
-    let names = c.args.statement.now.parsed.names in
+    let names = (map cow_slice_items c.args.statement.now.names.now) in
     let old = c.args.out.now.items in
     let out = c.put_rows_of_sets.new.out.items in
     let len : length c.put_rows_of_sets.new.firsts ≡ c.in_ok-firsts.firsts.len = omega (arith, c.put_rows_of_sets.auto.firsts, ap length c.deref_mut.ensures.value, c.in_ok-firsts.firsts.ok.0) in
@@ -55,7 +56,7 @@ returns-clause-kept c =
 pub returns-clause-ok : goal.returns-clause-ok
 returns-clause-ok c =
     let limits : Limits = record { places = c.args.statement.now.places; bytes = c.args.room } in
-    let names = c.args.statement.now.parsed.names in
+    let names = (map cow_slice_items c.args.statement.now.names.now) in
     let old = c.args.out.now.items in
     let out = c.put_rows_of_sets.new.out.items in
     let len : length c.put_rows_of_sets.new.firsts ≡ c.in_ok-firsts.firsts.len = omega (arith, c.put_rows_of_sets.auto.firsts, ap length c.deref_mut.ensures.value, c.in_ok-firsts.firsts.ok.0) in

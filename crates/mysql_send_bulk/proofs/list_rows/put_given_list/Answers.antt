@@ -1,5 +1,5 @@
 use Rattle.std.proofs.Common.{take, arith}
-use Rattle.mysql_senders.proofs.StatementSets.{kept_behind}
+use Rattle.mysql_send_bulk.proofs.Lists.{kept_behind}
 use Rattle.mysql_send_bulk.specs.BulkSets.{row_bytes}
 use Rattle.mysql_send_bulk.proofs.ListRows.{all_values_put, one_value}
 use Rattle.mysql_send_bulk.proofs.list_rows.put_given_list.Goals as goal

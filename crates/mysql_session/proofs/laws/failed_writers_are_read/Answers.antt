@@ -1,4 +1,4 @@
-use Rattle.mysql_session.proofs.Handing.{failed_writers_are_read}
+use Rattle.mysql_session.proofs.WritingTo.{failed_writers_are_read}
 use Rattle.mysql_session.proofs.laws.failed_writers_are_read.Goals as goal
 
 pub returns : goal.returns

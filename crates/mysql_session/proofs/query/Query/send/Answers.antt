@@ -1,9 +1,8 @@
-use Rattle.std.proofs.Common.{◌<◌, ◌^◌, false, subst, arith}
-use Rattle.mysql_values.specs.Queries.{HasMixed}
+use Rattle.std.proofs.Common.{◌<◌, ◌^◌, subst, arith}
 use Rattle.mysql_command_rules.specs.Sets.{all_given}
 use Rattle.mysql_session.specs.Kept.{KeptQuery}
 use Rattle.mysql_session.proofs.OnAnswers.{on_err, on_ok}
-use Rattle.mysql_session.proofs.OneKind.{never_mixed, of_statement}
+use Rattle.mysql_session.proofs.OneKind.{never_mixed}
 use Rattle.mysql_session.proofs.query.Query.send.Goals as goal
 
 pub returns-clause-delivered : goal.returns-clause-delivered
@@ -15,8 +14,6 @@ returns-clause-delivered c =
 
 pub returns-clause-never_mixed : goal.returns-clause-never_mixed
 returns-clause-never_mixed c =
-    let query = c.self.inside in
-    let one = subst (λ (k : KeptQuery). HasMixed k.text false) c.self.view_is (of_statement query.text.now query.statement.parsed query.statement.places c.self.invariant.statement) in
     on_err c.send_sets-sent.result
-    (λ refusal why. never_mixed c.tokens_of_a_text.ensures.one c.args.road c.args.self.now.text (all_given c.args.sets.now) c.args.self.now.id c.args.limit refusal one why)
+    (λ refusal why. never_mixed c.tokens_of_a_text.ensures.one c.args.road c.args.self.now.text (all_given c.args.sets.now) c.args.self.now.id c.args.limit refusal c.text-text.ensures.one_kind why)
     c.send_sets-sent.ensures.refused

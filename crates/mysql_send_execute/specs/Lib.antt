@@ -1,0 +1,4 @@
+pub mod Statement
+pub mod Inside
+pub mod Executions
+pub mod Laws

@@ -1,0 +1,87 @@
+//! The values that a set gives a statement.
+
+ghost use Rattle.std.specs.Prelude.{◌≡◌, ◌⊎◌, Err, IfErr, IfOk, IfSome, None, Ok, OnOk, Some, is_none, map};
+ghost use Rattle.std.specs.Cow.{cow_slice_items};
+ghost use Rattle.std.specs.List.{AllByRecursion};
+ghost use Rattle.mysql_values.specs.AsSql.{FitsFields};
+ghost use Rattle.mysql_values.specs.Binding.{values_cause};
+ghost use Rattle.mysql_values.specs.Params.{values_over};
+ghost use Rattle.mysql_values.specs.Values.{content_of, first_float as float_at};
+ghost use Rattle.mysql_values.specs.declared.params.ParamsError.{ParamsError as ParamsErrorOf};
+ghost use Rattle.mysql_command_rules.specs.declared.refusal.Refusal.TheVariants as refusals;
+ghost use Rattle.mysql_send_execute.specs.Executions.{refusal_of};
+
+use mysql_cells::value::is_float;
+use mysql_command_rules::Refusal;
+use mysql_stmt::HasValue;
+use mysql_values::laws::fields_fit;
+use mysql_values::{Params, ParamsError, SetError, Value};
+use std::borrow::CowSlice;
+
+/// The first value that is a float.
+fn first_float<V: HasValue>(values: &[V]) -> Option<usize>
+    ensures { result ≡ float_at (map V.value values.now) }
+{
+    for (place, value) in values.iter().enumerate() {
+        if is_float(value.value()) {
+            return Some(place);
+        }
+    }
+    None
+}
+
+/// The refusal of a set that gives no values.
+pub fn refused(set: usize, error: ParamsError) -> Refusal
+    ensures { result ≡ refusal_of set error }
+{
+    match error {
+        ParamsError::Memory => Refusal::Memory,
+        ParamsError::Missing(name) => {
+            Refusal::Params(set, SetError::Params(ParamsError::Missing(name)))
+        }
+        ParamsError::Confusion(confusion) => {
+            Refusal::Params(set, SetError::Params(ParamsError::Confusion(confusion)))
+        }
+    }
+}
+
+/// The values of a set that is a list, where a statement has no names: they lie in the order of its
+/// placeholders.
+#[inline(always)]
+pub fn values_in_order<'a>(names: &[CowSlice<'_, u8>], params: &'a Params) -> Option<&'a [Value]>
+    ensures { IfSome result (λ values. values_over (map cow_slice_items names.now) params.entry.now ≡ Ok values.now) }
+{
+    match params {
+        Params::Positional(values) if names.is_empty() => Some(values.as_slice()),
+        _ => None,
+    }
+}
+
+/// Checks that the values of the set of this number are as many as the placeholders, and none is a float.
+///
+/// # Errors
+/// `WrongCount`, then `Float` with the least place.
+pub fn check_values<V: HasValue>(values: &[V], places: usize, set: usize) -> Result<(), Refusal>
+    ensures ok { OnOk result (values_cause (refusals.WrongCount set)
+        (λ place. refusals.Float set place) places (map V.value values.now) ≡ None) }
+    ensures err { IfErr result
+        (λ refusal. values_cause (refusals.WrongCount set) (λ place. refusals.Float set place)
+        places (map V.value values.now) ≡ Some refusal) }
+{
+    if values.len() != places {
+        return Err(Refusal::WrongCount(set));
+    }
+    match first_float(values) {
+        Some(place) => Err(Refusal::Float(set, place)),
+        None => Ok(()),
+    }
+}
+
+/// The numbers of values fit their fields.
+pub fn values_fit<V: HasValue>(values: &[V])
+    ensures { AllByRecursion (λ value. FitsFields value) (map V.value values.now) }
+{
+    for value in values {
+        fields_fit(value.value());
+    }
+}

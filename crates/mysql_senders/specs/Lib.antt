@@ -1,3 +1,0 @@
-pub mod OneSet
-pub mod MadeSets
-pub mod Laws

@@ -1,2 +1,0 @@
-pub mod Lots
-pub mod Writing
