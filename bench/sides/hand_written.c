@@ -215,12 +215,12 @@ static size_t send_execute_kept(const Value *all, size_t count, size_t times) {
     return written / times;
 }
 
-// All sets to a writer: packets are gathered in one buffer, which is handed on once it has so many bytes.
+// All sets to a writer: packets are gathered in one buffer, which is flushed once it has so many bytes.
 
-enum { LOT = 8192 };
+enum { BUFFER_LEN = 8192 };
 
 // The writer counts the bytes and keeps none.
-__attribute__((noinline)) static void hand_on(Out *out, size_t *written) {
+__attribute__((noinline)) static void flush(Out *out, size_t *written) {
     __asm__ volatile("" : : "r"(out->at) : "memory");
     *written += out->len, out->len = 0;
 }
@@ -233,9 +233,9 @@ static size_t send_text_to(Bytes query, const Value *all, size_t count, size_t t
         written = 0;
         for (size_t i = 0; i < count; i++) {
             put_query(&out, &command, query, &marks, all + i * WIDTH);
-            if (out.len >= LOT) hand_on(&out, &written);
+            if (out.len >= BUFFER_LEN) flush(&out, &written);
         }
-        hand_on(&out, &written);
+        flush(&out, &written);
     }
     free(command.at), free(out.at);
     return written;
@@ -249,9 +249,9 @@ static size_t send_execute_to(Bytes query, const Value *all, size_t count, size_
         put_prepare(&out, &command, query);
         for (size_t i = 0; i < count; i++) {
             put_execution(&out, &command, all + i * WIDTH);
-            if (out.len >= LOT) hand_on(&out, &written);
+            if (out.len >= BUFFER_LEN) flush(&out, &written);
         }
-        hand_on(&out, &written);
+        flush(&out, &written);
     }
     free(command.at), free(out.at);
     return written;

@@ -5,7 +5,7 @@ use std::time::Instant;
 const WIDTH: usize = 4;
 const PIECE: usize = 65_536;
 const FULL: usize = 16_777_215;
-const LOT: usize = 8_192;
+const BUFFER_LEN: usize = 8_192;
 const KINDS: [u8; WIDTH] = [8, 253, 253, 8];
 const NAMES: [&str; WIDTH] = ["id", "name", "note", "age"];
 
@@ -298,12 +298,12 @@ fn send_execute_kept(sets: &[Vec<Value>], times: usize) -> usize {
 
 /// What stands in the buffer goes to a writer that counts the bytes and keeps none.
 #[inline(never)]
-fn hand_on(out: &mut Vec<u8>, written: &mut usize) {
+fn flush(out: &mut Vec<u8>, written: &mut usize) {
     *written += black_box(&out[..]).len();
     out.clear();
 }
 
-/// All sets to a writer: packets are gathered in one buffer, which is handed on once it has so many bytes.
+/// All sets to a writer: packets are gathered in one buffer, which is flushed once it has so many bytes.
 fn send_text_to(query: &[u8], sets: &[Vec<Value>], times: usize) -> usize {
     let (mut out, mut command, mut written) = (Vec::new(), Vec::new(), 0);
     let marks = marks(query);
@@ -314,11 +314,11 @@ fn send_text_to(query: &[u8], sets: &[Vec<Value>], times: usize) -> usize {
             command.push(3);
             bind(query, &marks, set, &mut command);
             packet_to_chunks(0, &command, &mut out);
-            if out.len() >= LOT {
-                hand_on(&mut out, &mut written);
+            if out.len() >= BUFFER_LEN {
+                flush(&mut out, &mut written);
             }
         }
-        hand_on(&mut out, &mut written);
+        flush(&mut out, &mut written);
     }
     written
 }
@@ -330,11 +330,11 @@ fn send_execute_to(query: &[u8], sets: &[Vec<Value>], times: usize) -> usize {
         put_prepare(query, &mut command, &mut out);
         for set in sets {
             put_execution(set, &mut command, &mut out);
-            if out.len() >= LOT {
-                hand_on(&mut out, &mut written);
+            if out.len() >= BUFFER_LEN {
+                flush(&mut out, &mut written);
             }
         }
-        hand_on(&mut out, &mut written);
+        flush(&mut out, &mut written);
     }
     written
 }
